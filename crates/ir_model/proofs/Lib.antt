@@ -1,0 +1,12 @@
+pub mod Names
+pub mod Graphs
+pub mod MadeLemmas
+pub mod Walks
+pub mod Tables
+pub mod Restrict
+pub mod Rows
+pub mod Round
+pub mod Canonical
+pub mod Pigeonhole
+pub mod Fewest
+pub mod Partial

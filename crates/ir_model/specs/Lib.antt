@@ -1,0 +1,11 @@
+pub mod Graph
+pub mod Made
+pub mod Text
+pub mod Network
+pub mod Walk
+pub mod Table
+pub mod Numbering
+pub mod Subtree
+pub mod Interval
+pub mod Row
+pub mod Compiled

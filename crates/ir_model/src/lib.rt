@@ -1,0 +1,44 @@
+//! The definitions that every crate of the network shares: texts and graphs, networks and walks, full tables,
+//! depth-first numberings, cyclic intervals and rows. They stand in `specs/`; here are the limits, the plain
+//! records that contracts and getters speak of, and the laws that a reader would expect of the definitions.
+#![tactic(auto)]
+
+/// The most nodes of a graph.
+pub const MAX_NODES: usize = 1_024;
+
+/// The most edges of a graph.
+pub const MAX_EDGES: usize = 8_192;
+
+/// The most bytes of a node's name.
+pub const MAX_NAME_BYTES: usize = 64;
+
+/// The greatest weight of an edge.
+pub const MAX_WEIGHT: u32 = 65_535;
+
+/// What is wrong with a line of a topology text.
+#[derive(Clone, Copy, Debug, PartialEq, Eq)]
+pub enum Fault {
+    BadByte = 1,
+    BadName = 2,
+    BadRow = 3,
+    BadWeight = 4,
+    TooManyNodes = 5,
+    TooManyEdges = 6,
+    NoMemory = 7,
+}
+
+/// A link between two nodes, the smaller one first.
+#[derive(Clone, Copy, Debug, PartialEq, Eq)]
+pub struct Link {
+    pub low: u16,
+    pub high: u16,
+    pub weight: u32,
+}
+
+/// A port of a node: the neighbour that it leads to, and the link to it.
+#[derive(Clone, Copy, Debug, PartialEq, Eq)]
+pub struct Hop {
+    pub node: u16,
+    pub link: u16,
+    pub weight: u32,
+}
