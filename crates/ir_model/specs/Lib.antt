@@ -6,6 +6,8 @@ pub mod Walk
 pub mod Table
 pub mod Numbering
 pub mod Subtree
+pub mod Tree
 pub mod Interval
 pub mod Row
 pub mod Compiled
+pub mod Scheme

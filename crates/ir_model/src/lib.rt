@@ -42,3 +42,11 @@ pub struct Hop {
     pub link: u16,
     pub weight: u32,
 }
+
+/// How a plan routes: along the tree of its depth-first numbers (Santoro and Khatib 1985), or along shortest ways
+/// (van Leeuwen and Tan 1987).
+#[derive(Clone, Copy, Debug, PartialEq, Eq)]
+pub enum Kind {
+    Tree,
+    Shortest,
+}

@@ -1,0 +1,75 @@
+-- What contracts see of one epoch's plan: labels, the full table, and the rows of starts that stand for it.
+use Rattle.std.specs.Prelude.{◌≡◌, ℕ, ◌<◌, ◌≤◌, Option, None, List, [], length, map, slice_index, slice_index_or, option_and_then}
+use Rattle.ir_model.specs.declared.Hop.{Hop}
+use Rattle.ir_model.specs.declared.Kind.{Kind}
+use Rattle.ir_model.specs.declared.Kind.TheVariants.{Tree, Shortest}
+use Rattle.ir_model.specs.Network.{Network, node_count, port_at, IsNetwork}
+use Rattle.ir_model.specs.Walk.{IsConnected}
+use Rattle.ir_model.specs.Table.{IsShortestTable, IsPrescribedWalk}
+use Rattle.ir_model.specs.Numbering.{IsDepthFirst, neighbors_of}
+use Rattle.ir_model.specs.Tree.{IsTreeTable}
+use Rattle.ir_model.specs.Row.{Start}
+use Rattle.ir_model.specs.Compiled.{IsCanonical}
+
+-- A routing scheme by intervals: the kind and root that it was built with, its network, the nodes by label, the
+-- label of each node, the full table's port at each node, by destination, and each node's row.
+pub record Scheme : Type 0 where
+  pub kind : Kind
+  pub root : ℕ
+  pub network : Network
+  pub order : List ℕ
+  pub labels : List ℕ
+  pub table : List (List (Option ℕ))
+  pub rows : List (List Start)
+
+-- the label of a node, and the node with a label
+abbrev pub label_in : Scheme → ℕ → ℕ
+label_in s u = slice_index s.labels u
+
+abbrev pub node_in : Scheme → ℕ → ℕ
+node_in s a = slice_index s.order a
+
+-- the full table's port at (u, d)
+abbrev pub table_port : Scheme → ℕ → ℕ → Option ℕ
+table_port s u d = slice_index_or (slice_index_or s.table u []) d None
+
+-- where the full table sends on what is at u for d
+abbrev pub next_hop : Scheme → ℕ → ℕ → Option Hop
+next_hop s u d = option_and_then (λ p. port_at s.network u p) (table_port s u d)
+
+-- the row of a node
+abbrev pub row_in : Scheme → ℕ → List Start
+row_in s u = slice_index_or s.rows u []
+
+-- the ports of u by label: the destination list that its row stands for
+abbrev pub by_label : Scheme → ℕ → List (Option ℕ)
+by_label s u = map (table_port s u) s.order
+
+-- the full table of a kind over a network: the shortest table, or the tree table of a numbering
+abbrev pub IsTableOf : Kind → Network → List ℕ → List ℕ → (ℕ → ℕ → Option ℕ) → Type 0
+IsTableOf Shortest net order parents table = IsShortestTable net table
+IsTableOf Tree net order parents table = IsTreeTable net order parents table
+
+-- Each node's label is its place in the order.
+pub record AreLabels (n : ℕ) (order labels : List ℕ) : Type 0 where
+  pub every_node : length labels ≡ n
+  pub every_label : length order ≡ n
+  pub node : (a : ℕ) → a < n → slice_index order a < n
+  pub label : (u : ℕ) → u < n → slice_index labels u < n
+  pub there : (u : ℕ) → u < n → slice_index order (slice_index labels u) ≡ u
+  pub back : (a : ℕ) → a < n → slice_index labels (slice_index order a) ≡ a
+
+-- What is true of every plan: its labels are depth-first numbers from the root, its table is the full table of its
+-- kind over its network, whose prescribed walks exist and are short, and its rows are the canonical ones of that table.
+pub record IsScheme (s : Scheme) : Type 0 where
+  pub network : IsNetwork s.network
+  pub connected : IsConnected s.network
+  pub root_in : s.root < node_count s.network
+  pub parents : List ℕ
+  pub numbering : IsDepthFirst (neighbors_of s.network) (node_count s.network) s.root s.order parents
+  pub labels : AreLabels (node_count s.network) s.order s.labels
+  pub table : IsTableOf s.kind s.network s.order parents (table_port s)
+  pub walks : (u d : ℕ) → u < node_count s.network → d < node_count s.network
+      → (walk : List ℕ) × IsPrescribedWalk s.network (table_port s) u d walk × (length walk ≤ node_count s.network)
+  pub row_of_each : length s.rows ≡ node_count s.network
+  pub rows : (u : ℕ) → u < node_count s.network → IsCanonical (node_count s.network) (label_in s u) (by_label s u) (row_in s u)
