@@ -1,0 +1,273 @@
+//! A channel, its two ends, and what is left at the end.
+//!
+//! The account of a channel is this project's own rule. The queue is crossbeam's bounded one, under a rule of ours.
+ghost use Rattle.std.specs.Prelude.{◌≡◌, ◌<◌, ◌+◌, ◌≤◌, List, [], ◌∷◌, ◌++◌, length, All, IfOk, IfSome, None, true, MatchOption, MatchResult, vec_len, vec_capacity};
+ghost use Rattle.crossbeam_queue.specs.Passes.{view as pass_view, IsSamePass, IsPassOf, ruled_capacity};
+ghost use Rattle.ir_links.specs.Ends.{WasFull, WasEmpty};
+ghost use Rattle.ir_links.specs.Rule.{terms_of, known, knows_base, knows_both};
+
+use crate::rule::{Bound, Empties, InOrder, Named, Naming, Roles, Sends, Takes, View};
+use atomic_table::{Perch, Seat};
+use crossbeam_queue::{Pass, RuledArrayQueue};
+use std::alloc::{AllocError, Global};
+use std::marker::{Brand, Model};
+use std::sync::{Arc, Wait};
+
+type Queue<T, P> = RuledArrayQueue<T, View<T, P>, InOrder>;
+
+/// The perch of a pass's kind: a pass rests there until one caller takes it, with no lock.
+pub trait Rests {
+    type On;
+}
+
+impl<S, V> Rests for Seat<S, V> {
+    type On = Perch<S, V>;
+}
+
+#[derive(Drop)]
+struct Shared<T: Bound> {
+    queue: RuledArrayQueue<T, View<T, T::Place>, InOrder>,
+    place: T::Place,
+}
+
+/// Carries items to one place, oldest first, and holds at most its capacity of them.
+///
+/// Contracts see its `Line`: which queue it is, its place, and its capacity in items.
+#[derive(Drop)]
+pub struct Channel<T: Bound> {
+    shared: Arc<Shared<T>, Global>,
+    base: <Pass<T, View<T, T::Place>> as Rests>::On,
+}
+
+impl<T: Bound> Model for Channel<T> {
+    ghost use Rattle.std.specs.Prelude.{◌≡◌};
+    ghost use Rattle.std.specs.Arc.{arc_value};
+    ghost use Rattle.crossbeam_queue.specs.Passes.{ruled_capacity};
+    ghost use Rattle.ir_links.specs.Ends.{Line};
+    ghost use Rattle.ir_links.specs.Rule.{knows_base};
+
+    ghost Value = { Line T.Place };
+
+    ghost view = { λ c. record { name = c.base.table_id; place = (arc_value c.shared).place; capacity = ruled_capacity (arc_value c.shared).queue } };
+
+    ghost invariant = { λ c. (c.base.table_id ≡ (arc_value c.shared).queue.table.shared.table_id)
+        × (c.base.view.client ≡ knows_base (arc_value c.shared).place (ruled_capacity (arc_value c.shared).queue)) };
+}
+
+/// The channel was full: the item comes back as it was.
+#[derive(Drop)]
+pub struct Full<T> {
+    pub item: T,
+}
+
+/// The end that sends. Contracts see the channel's `Line`, and the list of all that was sent.
+#[derive(Drop)]
+pub struct Sender<T: Bound> {
+    shared: Arc<Shared<T>, Global>,
+    pass: Pass<T, View<T, T::Place>>,
+}
+
+impl<T: Bound> Model for Sender<T> {
+    ghost use Rattle.std.specs.Prelude.{◌≡◌};
+    ghost use Rattle.std.specs.Arc.{arc_value};
+    ghost use Rattle.crossbeam_queue.specs.Passes.{view as pass_view, IsPassOf, ruled_capacity};
+    ghost use Rattle.ir_links.specs.Ends.{Sending};
+    ghost use Rattle.ir_links.specs.Rule.{knows_sent};
+
+    ghost Value = { Sending T.Place T };
+
+    ghost view = { λ s. record { line = record { name = s.pass.table_id; place = (arc_value s.shared).place; capacity = ruled_capacity (arc_value s.shared).queue }; sent = (pass_view s.pass).sent } };
+
+    ghost invariant = { λ s. IsPassOf (arc_value s.shared).queue s.pass
+        × (pass_view s.pass ≡ knows_sent (arc_value s.shared).place (ruled_capacity (arc_value s.shared).queue) (pass_view s.pass).sent) };
+}
+
+/// The end that takes. Contracts see the channel's `Line`, and the list of all that was taken.
+#[derive(Drop)]
+pub struct Taker<T: Bound> {
+    shared: Arc<Shared<T>, Global>,
+    pass: Pass<T, View<T, T::Place>>,
+}
+
+impl<T: Bound> Model for Taker<T> {
+    ghost use Rattle.std.specs.Prelude.{◌≡◌};
+    ghost use Rattle.std.specs.Arc.{arc_value};
+    ghost use Rattle.crossbeam_queue.specs.Passes.{view as pass_view, IsPassOf, ruled_capacity};
+    ghost use Rattle.ir_links.specs.Ends.{Taking};
+    ghost use Rattle.ir_links.specs.Rule.{knows_taken};
+
+    ghost Value = { Taking T.Place T };
+
+    ghost view = { λ s. record { line = record { name = s.pass.table_id; place = (arc_value s.shared).place; capacity = ruled_capacity (arc_value s.shared).queue }; taken = (pass_view s.pass).taken } };
+
+    ghost invariant = { λ s. IsPassOf (arc_value s.shared).queue s.pass
+        × (pass_view s.pass ≡ knows_taken (arc_value s.shared).place (ruled_capacity (arc_value s.shared).queue) (pass_view s.pass).taken) };
+}
+
+// Tells the rule where the channel leads and how much it holds.
+fn name<T: Bound, K: Naming<T::Place>>(
+    queue: &Queue<T, T::Place>,
+    pass: &mut Pass<T, View<T, T::Place>>,
+    _place: &T::Place,
+)
+    requires queue { IsPassOf queue.now pass.old }
+    requires fresh { pass_view pass.old ≡ known true true None [] [] }
+    requires terms { K.terms ≡ terms_of _place.now (ruled_capacity queue.now) }
+    ensures queue { IsSamePass pass.old pass.new }
+    ensures named { pass_view pass.new ≡ knows_base _place.now (ruled_capacity queue.now) }
+{
+    queue.another::<Named<K>>(pass);
+}
+
+impl<T: Bound> Channel<T> {
+    /// A channel to `place` that holds nothing, and at most `capacity` items.
+    ///
+    /// An error means that there is no memory for its slots.
+    pub fn new(alloc: Global, capacity: usize, place: T::Place) -> Result<Channel<T>, AllocError>
+        requires { 0 < capacity }
+        ensures { IfOk result (λ c. (c.place ≡ place) × (c.capacity ≡ capacity)) }
+    {
+        let (queue, mut pass) = RuledArrayQueue::ruled(alloc, capacity)?;
+        name::<T, Brand>(&queue, &mut pass, &place);
+        let base = Perch::new(&pass, 0);
+        let _ = base.give(pass, 0, 2);
+        let shared = Arc::new(alloc, Shared { queue, place })?;
+        Ok(Channel { shared, base })
+    }
+
+    /// The two ends, once, and then `None`; after an error `None` too. It neither waits nor allocates.
+    ///
+    /// An error means that the count of the channel's owners is full. That the first call gives the ends is shown by
+    /// test.
+    pub fn ends(&self) -> Result<Option<(Sender<T>, Taker<T>)>, AllocError>
+        ensures { IfOk result (λ given. IfSome given (λ ends. (ends.0 ≡ record { line = self.now; sent = [] }) × (ends.1 ≡ record { line = self.now; taken = [] }))) }
+    {
+        let (_, resting) = self.base.take(0);
+        let Some(mut pass) = resting else {
+            return Ok(None);
+        };
+        let ours = Arc::try_clone(&self.shared)?;
+        let theirs = Arc::try_clone(&self.shared)?;
+        let taking = self.shared.queue.another::<Roles>(&mut pass);
+        Ok(Some((
+            Sender { shared: ours, pass },
+            Taker {
+                shared: theirs,
+                pass: taking,
+            },
+        )))
+    }
+}
+
+impl<T: Bound> Sender<T> {
+    /// Where the channel leads.
+    pub fn place(&self) -> &T::Place
+        ensures { result.now ≡ self.now.line.place }
+    {
+        &self.shared.place
+    }
+
+    /// Puts the item behind those in the channel, or gives it back.
+    ///
+    /// The sent list grows by the item exactly where the answer is `Ok`. It is `Full` only where the channel held as
+    /// many items as it can at one moment of the call, and they are then the last of the sent list.
+    pub fn send<R: Wait>(&mut self, rt: &R, item: T) -> Result<(), Full<T>>
+        requires { T.goes_to item self.old.line.place }
+        ensures sent { MatchResult result
+            (λ _. self.new ≡ record self.old { sent = self.old.sent ++ item ∷ [] })
+            (λ full. (full.item ≡ item) × (self.new ≡ self.old) × WasFull self.old) }
+        ensures line { self.new.line ≡ self.old.line }
+    {
+        let queue = &self.shared.queue;
+        let answer = queue.push_as::<Sends, R>(rt, &mut self.pass, item);
+        answer.map_err(|item| Full { item })
+    }
+}
+
+impl<T: Bound> Taker<T> {
+    /// The most items that the channel holds.
+    pub fn capacity(&self) -> usize
+        ensures { result ≡ self.now.line.capacity }
+    {
+        self.shared.queue.capacity()
+    }
+
+    /// Takes the oldest item in the channel.
+    ///
+    /// The taken list grows by that item, which goes to the channel's place. `None` comes only where the queue held
+    /// nothing at one moment of the call, when the taken list was all that had been sent; since no list of the taker's
+    /// shows how much that was, it is a test that refuses a body that always answers `None`.
+    pub fn take<R: Wait>(&mut self, rt: &R) -> Option<T>
+        ensures taken { MatchOption result
+            ((self.new ≡ self.old) × WasEmpty self.old)
+            (λ item. (self.new ≡ record self.old { taken = self.old.taken ++ item ∷ [] }) × T.goes_to item self.old.line.place) }
+        ensures line { self.new.line ≡ self.old.line }
+    {
+        self.shared.queue.pop_as::<Takes, R>(rt, &mut self.pass)
+    }
+}
+
+// Pops until nothing is left.
+fn empty<T: Bound, R: Wait>(
+    rt: &R,
+    shared: &Shared<T>,
+    pass: &mut Pass<T, View<T, T::Place>>,
+    into: &mut Vec<T>,
+)
+    requires queue { IsPassOf shared.now.queue pass.old }
+    requires knows { pass_view pass.old ≡ knows_both shared.now.place (ruled_capacity shared.now.queue) (pass_view pass.old).sent (pass_view pass.old).taken }
+    requires room { vec_len into.old + ruled_capacity shared.now.queue ≤ vec_capacity into.old }
+    ensures left { (left : List T) × (into.new.items ≡ into.old.items ++ left) × ((pass_view pass.old).sent ≡ (pass_view pass.old).taken ++ left) × All (λ x. T.goes_to x shared.now.place) left }
+    ensures room { (vec_capacity into.new ≡ vec_capacity into.old) × (vec_len into.new ≤ vec_len into.old + ruled_capacity shared.now.queue) }
+{
+    shared.queue.learn_as::<Empties>(pass);
+    for _ in rt.forever() {
+        match shared.queue.pop_as::<Empties, R>(rt, pass) {
+            Some(item) => into.push_reserved(item),
+            None => break,
+        }
+    }
+}
+
+/// Appends what is left in the channel to `into`, oldest first. Both ends are of one channel, and `into` has room for
+/// the channel's capacity, so this takes no memory.
+///
+/// What was sent is what was taken and then what is left, and each item that is left goes to the channel's place.
+pub fn settle_into<T: Bound, R: Wait>(rt: &R, sender: Sender<T>, taker: Taker<T>, into: &mut Vec<T>)
+    requires one { sender.line ≡ taker.line }
+    requires room { vec_len into.old + taker.line.capacity ≤ vec_capacity into.old }
+    ensures left { (left : List T) × (into.new.items ≡ into.old.items ++ left) × (sender.sent ≡ taker.taken ++ left) × All (λ x. T.goes_to x taker.line.place) left }
+    ensures room { (vec_capacity into.new ≡ vec_capacity into.old) × (vec_len into.new ≤ vec_len into.old + taker.line.capacity) }
+{
+    let Sender {
+        shared: _,
+        mut pass,
+    } = sender;
+    let Taker {
+        shared,
+        pass: taking,
+    } = taker;
+    shared.queue.absorb::<Roles>(&mut pass, taking);
+    empty(rt, &shared, &mut pass, into);
+}
+
+/// What is left in the channel, oldest first, by the account of `settle_into`.
+///
+/// Where there is no memory for the list the two ends come back as they were.
+pub fn settle<T: Bound, R: Wait>(
+    rt: &R,
+    alloc: Global,
+    sender: Sender<T>,
+    taker: Taker<T>,
+) -> Result<Vec<T>, (Sender<T>, Taker<T>)>
+    requires { sender.line ≡ taker.line }
+    ensures { MatchResult result
+        (λ left. (sender.sent ≡ taker.taken ++ left.items) × All (λ x. T.goes_to x taker.line.place) left.items)
+        (λ ends. (ends.0 ≡ sender) × (ends.1 ≡ taker)) }
+{
+    let Ok(mut left) = Vec::with_capacity(alloc, taker.capacity()) else {
+        return Err((sender, taker));
+    };
+    settle_into(rt, sender, taker, &mut left);
+    Ok(left)
+}
