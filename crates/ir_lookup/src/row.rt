@@ -1,0 +1,175 @@
+ghost use Rattle.std.specs.Prelude.{◌≡◌, ◌<◌, ◌≤◌, ◌+◌, ◌*◌, ◌^◌, ℕ, length, slice_index, IsTrue, ◌↔◌};
+ghost use Rattle.ir_model.specs.Row.{IsAscending, HasPort, labels, start_ports};
+ghost use Rattle.ir_lookup.specs.Words.{starts_of};
+
+use crate::WORD_BASE;
+use crate::halving::place_counted;
+use crate::steps::Steps;
+use std::marker::{Brand, Model};
+use std::sync::ledger::{Blank, Ledger};
+
+/// The starts of a node's intervals, ascending, each packed into a word with its port.
+#[derive(Drop)]
+pub struct Starts {
+    words: Vec<u32>,
+}
+
+impl Model for Starts {
+    ghost use Rattle.std.specs.Prelude.{List};
+    ghost use Rattle.ir_model.specs.Row.{Start, IsAscending};
+    ghost use Rattle.ir_lookup.specs.Words.{starts_of};
+
+    ghost Value = { List Start };
+
+    ghost view = { λ s. starts_of s.words.items };
+
+    ghost invariant = { λ s. IsAscending (starts_of s.words.items) };
+}
+
+impl Starts {
+    /// How many there are.
+    pub fn len(&self) -> usize
+        ensures len { result ≡ length self.now }
+        ensures ascending { IsAscending self.now }
+    {
+        self.words.len()
+    }
+
+    /// Whether the start at a place is above `d`. It alone shows the look-up a start, and counts and ticks each time.
+    pub fn is_above<L: Ledger>(
+        &self,
+        i: usize,
+        d: u16,
+        count: &mut u32,
+        steps: &mut Steps<L>,
+    ) -> bool
+        requires place { i < length self.now }
+        requires room { count.old < 2 ^ 31 }
+        ensures above { IsTrue result ↔ (d < slice_index (labels self.now) i) }
+        ensures counted { count.new ≡ count.old + 1 }
+        ensures ticked { steps.new ≡ steps.old + 1 }
+    {
+        *count += 1;
+        steps.tick();
+        d < self.start(i)
+    }
+
+    // The label of the start at a place.
+    fn start(&self, i: usize) -> u16
+        requires { i < length self.now }
+        ensures { result ≡ slice_index (labels self.now) i }
+    {
+        (self.words[i] / WORD_BASE) as u16
+    }
+
+    // The port of the start at a place.
+    fn port(&self, i: usize) -> u16
+        requires { i < length self.now }
+        ensures { result ≡ slice_index (start_ports self.now) i }
+    {
+        (self.words[i] % WORD_BASE) as u16
+    }
+}
+
+/// A row: the starts of a node's intervals in ascending order, each with the port of its interval. An interval ends
+/// where the next start in cyclic order begins.
+#[derive(Drop)]
+pub struct Row {
+    starts: Starts,
+}
+
+impl Model for Row {
+    ghost use Rattle.std.specs.Prelude.{List};
+    ghost use Rattle.ir_model.specs.Row.{Start};
+
+    ghost Value = { List Start };
+
+    ghost view = { λ r. r.starts };
+}
+
+impl Row {
+    /// Takes over the words of a row, each the label of a start times `WORD_BASE`, and its port. The labels ascend
+    /// strictly; a row of no words meets that.
+    pub fn of(words: Vec<u32>) -> Self
+        requires { IsAscending (starts_of words.items) }
+        ensures { result ≡ starts_of words.items }
+    {
+        Row {
+            starts: Starts { words },
+        }
+    }
+
+    /// How many starts there are. They are sorted.
+    pub fn len(&self) -> usize
+        ensures len { result ≡ length self.now }
+        ensures ascending { IsAscending self.now }
+    {
+        self.starts.len()
+    }
+
+    /// Whether there is no start.
+    pub fn is_empty(&self) -> bool
+        ensures { IsTrue result ↔ (length self.now ≡ 0) }
+    {
+        self.starts.len() == 0
+    }
+
+    /// The label of the start at a place below `len()`.
+    pub fn start(&self, i: usize) -> u16
+        requires { i < length self.now }
+        ensures { result ≡ slice_index (labels self.now) i }
+    {
+        self.starts.start(i)
+    }
+
+    /// The port of the start at a place below `len()`.
+    pub fn port(&self, i: usize) -> u16
+        requires { i < length self.now }
+        ensures { result ≡ slice_index (start_ports self.now) i }
+    {
+        self.starts.port(i)
+    }
+
+    /// The port of the interval that has the label `d`, of any number of labels above `d`. The row is not empty.
+    pub fn find(&self, d: u16) -> u16
+        requires { 0 < length self.now }
+        ensures { (n : ℕ) → d < n → HasPort n self.now d result }
+    {
+        let (port, _) = self.find_counted(d);
+        port
+    }
+
+    /// What `find` answers, and the number of starts that were compared with `d`: at most as many as `len()` has
+    /// binary digits.
+    pub fn find_counted(&self, d: u16) -> (u16, u32)
+        requires { 0 < length self.now }
+        ensures port { (n : ℕ) → d < n → HasPort n self.now d result.0 }
+        ensures count { 2 ^ result.1 ≤ 2 * length self.now }
+    {
+        counted_from::<Brand>(self, d, Blank::new(1))
+    }
+
+    /// What `find_counted` answers, with a tick for each start compared.
+    pub fn find_steps<L: Ledger>(&self, d: u16, steps: &mut Steps<L>) -> (u16, u32)
+        requires { 0 < length self.now }
+        ensures port { (n : ℕ) → d < n → HasPort n self.now d result.0 }
+        ensures count { 2 ^ result.1 ≤ 2 * length self.now }
+        ensures ticks { steps.new ≡ steps.old + result.1 }
+    {
+        let (place, count) = place_counted(&self.starts, d, steps);
+        (self.port(place), count)
+    }
+}
+
+// The same with a ledger of its own.
+fn counted_from<L: Ledger>(row: &Row, d: u16, blank: Blank) -> (u16, u32)
+    requires filled { 0 < length row.now }
+    requires name { blank.name ≡ L.name }
+    requires parts { blank.parts ≡ L.parts }
+    requires some { 0 < blank.parts }
+    ensures port { (n : ℕ) → d < n → HasPort n row.now d result.0 }
+    ensures count { 2 ^ result.1 ≤ 2 * length row.now }
+{
+    let mut steps = Steps::<L>::new(blank);
+    row.find_steps(d, &mut steps)
+}
