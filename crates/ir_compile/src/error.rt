@@ -1,0 +1,31 @@
+ghost use Rattle.std.specs.Prelude.{◌≡◌};
+ghost use Rattle.ir_compile.specs.Code.{code_of};
+ghost use Rattle.ir_compile.specs.declared.error.CompileError.TheVariants.{NoMemory};
+
+use std::alloc::AllocError;
+
+/// Why no row was made.
+#[derive(Clone, Copy, Debug, PartialEq, Eq)]
+pub enum CompileError {
+    /// The ports are not one for each label but the own.
+    BadRow = 1,
+    /// A growth was refused.
+    NoMemory = 2,
+}
+
+impl CompileError {
+    /// The number of the refusal.
+    pub fn code(self) -> u32
+        ensures { result ≡ code_of self }
+    {
+        self as u32
+    }
+}
+
+impl From<AllocError> for CompileError {
+    ghost from_gives = { λ _ e. e ≡ NoMemory };
+
+    fn from(_error: AllocError) -> CompileError {
+        CompileError::NoMemory
+    }
+}
