@@ -1,6 +1,7 @@
 pub mod Names
 pub mod Graphs
 pub mod MadeLemmas
+pub mod Pieces
 pub mod Walks
 pub mod Tables
 pub mod Restrict

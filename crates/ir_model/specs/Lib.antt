@@ -1,6 +1,7 @@
 pub mod Graph
 pub mod Made
 pub mod Text
+pub mod Edgelist
 pub mod Network
 pub mod Walk
 pub mod Table

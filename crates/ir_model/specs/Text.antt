@@ -92,4 +92,3 @@ or_later n None later = later
 abbrev pub first_fault : List (List ℕ) → List (List ℕ) → Option (ℕ × Fault)
 first_fault before [] = None
 first_fault before (l ∷ ls) = or_later (length before + 1) (line_fault before l) (first_fault (before ++ l ∷ []) ls)
-
