@@ -1,0 +1,83 @@
+use Rattle.std.proofs.Common.{◌≡◌, ◌≤◌, ◌<◌, ◌+◌, ◌∙◌, sym, ap, subst, arith, true, rules, length, None, is_some}
+use Rattle.std.proofs.lemmas.Bool.{and_from, le-leb}
+use Rattle.ir_model.specs.Graph.{is_name, is_weight, with_node, with_edge, weight_of, edges}
+use Rattle.ir_model.specs.declared.TheConstants.{MAX_NODES, MAX_EDGES, MAX_WEIGHT}
+use Rattle.ir_graph.specs.Faults.{edge_fault}
+use Rattle.ir_graph.specs.View.{rows_view}
+use Rattle.ir_graph.specs.Kept.{IsKept}
+use Rattle.ir_graph.proofs.Joined.{has_node-weight_of}
+use Rattle.ir_graph.proofs.Keeping.{kept-new_edge, kept-old_edge, length-edges-new, length-edges-old, edge_fault-none, edge_fault-edges, with_nodes-there}
+use Rattle.ir_graph.proofs.Graph.add_edge.Goals as goal
+
+pub invariant_of-self : goal.invariant_of-self
+invariant_of-self c =
+    let g = rows_view c.self.inside.rows in
+    let weighed : is_weight c.args.weight ≡ true = and_from _ _ (le-leb 1 c.args.weight (omega arith)) (le-leb c.args.weight MAX_WEIGHT (omega arith)) in
+    subst (λ g. IsKept g c.self.inside.edge_count) (sym c.set_link.ensures.set)
+    (kept-old_edge g c.self.inside.edge_count c.args.u.now c.args.v.now c.args.weight c.set_link.ensures.differ weighed (ap is_some (sym c.in-Some.ensures)) c.self.invariant)
+
+pub returns-in-Some-clause-ok : goal.returns-in-Some-clause-ok
+returns-in-Some-clause-ok c =
+    let g = rows_view c.self.inside.rows in
+    let u = c.args.u.now in
+    let v = c.args.v.now in
+    let weighed : is_weight c.args.weight ≡ true = and_from _ _ (le-leb 1 c.args.weight (omega arith)) (le-leb c.args.weight MAX_WEIGHT (omega arith)) in
+    let named_u : is_name u ≡ true = search rules in
+    let named_v : is_name v ≡ true = search rules in
+    let there : is_some (weight_of g u v) ≡ true = ap is_some (sym c.in-Some.ensures) in
+    let back : is_some (weight_of g v u) ≡ true = ap is_some (c.self.invariant.both_ways v u) ∙ there in
+    let same : with_node (with_node g u) v ≡ g = with_nodes-there g u v (has_node-weight_of g u v there) (has_node-weight_of g v u back) in
+    let room : length (with_node (with_node g u) v) ≤ MAX_NODES = omega (arith, ap length same, c.self.invariant.node_limit) in
+    let fits : length (edges (with_edge g u v c.args.weight)) ≤ MAX_EDGES = omega (arith, length-edges-old g u v c.args.weight c.set_link.ensures.differ c.self.invariant.both_ways there, c.self.invariant.counted, c.self.invariant.edge_limit) in
+    ap (λ g. edge_fault g u v c.args.weight) (sym c.self.view_is) ∙ edge_fault-none g u v c.args.weight named_u named_v weighed room fits
+
+pub returns-then-self-ge-MAX_EDGES-clause-refused : goal.returns-then-self-ge-MAX_EDGES-clause-refused
+returns-then-self-ge-MAX_EDGES-clause-refused c =
+    let g = rows_view c.self.inside.rows in
+    let u = c.args.u.now in
+    let v = c.args.v.now in
+    let weighed : is_weight c.args.weight ≡ true = and_from _ _ (le-leb 1 c.args.weight (omega arith)) (le-leb c.args.weight MAX_WEIGHT (omega arith)) in
+    let named_u : is_name u ≡ true = search rules in
+    let named_v : is_name v ≡ true = search rules in
+    let absent : weight_of g u v ≡ None = search rules in
+    let room : length (with_node (with_node g u) v) ≤ MAX_NODES = omega (arith, c.len_with.ensures.len) in
+    let over : MAX_EDGES < length (edges (with_edge g u v c.args.weight)) = omega (arith, length-edges-new g u v c.args.weight c.len_with.ensures.differ c.self.invariant.both_ways absent, c.self.invariant.counted) in
+    ap (λ g. edge_fault g u v c.args.weight) (sym c.self.view_is) ∙ edge_fault-edges g u v c.args.weight named_u named_v weighed room over
+
+pub invariant_of-self-in-Ok : goal.invariant_of-self-in-Ok
+invariant_of-self-in-Ok c =
+    let g = rows_view c.self.inside.rows in
+    let weighed : is_weight c.args.weight ≡ true = and_from _ _ (le-leb 1 c.args.weight (omega arith)) (le-leb c.args.weight MAX_WEIGHT (omega arith)) in
+    let named_u : is_name c.args.u.now ≡ true = search rules in
+    let named_v : is_name c.args.v.now ≡ true = search rules in
+    let absent : weight_of g c.args.u.now c.args.v.now ≡ None = search rules in
+    let room : length (with_node (with_node g c.args.u.now) c.args.v.now) ≤ MAX_NODES = omega (arith, c.len_with.ensures.len) in
+    let fits : c.self.inside.edge_count < MAX_EDGES = omega arith in
+    subst (λ g. IsKept g (c.self.inside.edge_count + 1)) (sym c.in-Ok.ensures.ok)
+    (kept-new_edge g c.self.inside.edge_count c.args.u.now c.args.v.now c.args.weight c.len_with.ensures.differ named_u named_v weighed absent room fits c.self.invariant)
+
+pub returns-in-Ok-clause-ok : goal.returns-in-Ok-clause-ok
+returns-in-Ok-clause-ok c =
+    let g = rows_view c.self.inside.rows in
+    let u = c.args.u.now in
+    let v = c.args.v.now in
+    let weighed : is_weight c.args.weight ≡ true = and_from _ _ (le-leb 1 c.args.weight (omega arith)) (le-leb c.args.weight MAX_WEIGHT (omega arith)) in
+    let named_u : is_name u ≡ true = search rules in
+    let named_v : is_name v ≡ true = search rules in
+    let absent : weight_of g u v ≡ None = search rules in
+    let room : length (with_node (with_node g u) v) ≤ MAX_NODES = omega (arith, c.len_with.ensures.len) in
+    let fits : length (edges (with_edge g u v c.args.weight)) ≤ MAX_EDGES = omega (arith, length-edges-new g u v c.args.weight c.len_with.ensures.differ c.self.invariant.both_ways absent, c.self.invariant.counted) in
+    ap (λ g. edge_fault g u v c.args.weight) (sym c.self.view_is) ∙ edge_fault-none g u v c.args.weight named_u named_v weighed room fits
+
+pub returns-in-Err-clause-refused : goal.returns-in-Err-clause-refused
+returns-in-Err-clause-refused c =
+    let g = rows_view c.self.inside.rows in
+    let u = c.args.u.now in
+    let v = c.args.v.now in
+    let weighed : is_weight c.args.weight ≡ true = and_from _ _ (le-leb 1 c.args.weight (omega arith)) (le-leb c.args.weight MAX_WEIGHT (omega arith)) in
+    let named_u : is_name u ≡ true = search rules in
+    let named_v : is_name v ≡ true = search rules in
+    let absent : weight_of g u v ≡ None = search rules in
+    let room : length (with_node (with_node g u) v) ≤ MAX_NODES = omega (arith, c.len_with.ensures.len) in
+    let fits : length (edges (with_edge g u v c.args.weight)) ≤ MAX_EDGES = omega (arith, length-edges-new g u v c.args.weight c.len_with.ensures.differ c.self.invariant.both_ways absent, c.self.invariant.counted) in
+    ap (λ g. edge_fault g u v c.args.weight) (sym c.self.view_is) ∙ edge_fault-none g u v c.args.weight named_u named_v weighed room fits

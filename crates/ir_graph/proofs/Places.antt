@@ -1,0 +1,214 @@
+-- Laws of places: which node stands at a place, and what its neighbours are.
+use Rattle.std.proofs.Common.{◌≡◌, ◌<◌, ◌≤◌, ◌+◌, ℕ, zero, suc, Bool, true, false, not, cond, ◌||◌, List, [], ◌∷◌, map, length, take, Option, Some, None, is_some, option_map, slice_get, unwrap_or, nat_lt, position, refl, sym, ap, subst, ◌∙◌, bytes_eq, arith, one-add}
+use Rattle.std.specs.Option.{option_map_or}
+use Rattle.std.specs.List.{position_or_len, IsDistinct, list_all}
+use Rattle.std.specs.Map.{lookup, keys_of}
+use Rattle.std.specs.Cmp.Lexicographic.{nat_list_eq_equiv}
+use Rattle.std.proofs.lemmas.Map.Entries.{lookup_from_place, place_from_lookup}
+use Rattle.std.proofs.lemmas.Option.{cond_some, same_Some, none-some, slice_get_within, slice_get-map}
+use Rattle.std.proofs.lemmas.List.{length-map}
+use Rattle.std.proofs.lemmas.Bool.{le-ltb, lt-ltb, ltb-true, ltb-false, and_parts}
+use Rattle.ir_model.specs.Graph.{Name, Neighbors, Adjacency, names, among, has_node, neighbors, weight_of, is_name, is_weight, is_row, IsGraph}
+use Rattle.ir_model.proofs.Names.{same_names, bytes_eq-same}
+use Rattle.ir_graph.specs.Places.{place_of, neighbors_at, link_at}
+use Rattle.ir_graph.proofs.Joined.{one_place, has_node-weight_of}
+
+-- ---- the place of a name
+
+pub named_place : (ks : List Name) (x : Name) → among ks x ≡ true → slice_get ks (position_or_len (bytes_eq x) ks) ≡ Some x
+named_place [] x h = cc
+named_place (k ∷ ks) x h = by (bytes_eq x k) refl h (named_place ks x)
+  where
+    by : (b : Bool) → bytes_eq x k ≡ b → (b || among ks x) ≡ true → (among ks x ≡ true → slice_get ks (position_or_len (bytes_eq x) ks) ≡ Some x) → slice_get (k ∷ ks) (cond (not b) (1 + position_or_len (bytes_eq x) ks) 0) ≡ Some x
+    by true t h later = ap (λ n. Some n) (sym (same_names x k t))
+    by false t h later = rw one-add (later h)
+
+lt_one : (a b : ℕ) → nat_lt (1 + a) (suc b) ≡ nat_lt a b
+lt_one a b = by (nat_lt a b) refl
+  where
+    by : (t : Bool) → nat_lt a b ≡ t → nat_lt (1 + a) (suc b) ≡ t
+    by true e = let h : a < b = ltb-true a b e in lt-ltb (1 + a) (suc b) (omega arith)
+    by false e = let h : b ≤ a = ltb-false a b e in le-ltb (1 + a) (suc b) (omega arith)
+
+-- a name is among the first i where its place is below i
+pub among-take : (ks : List Name) (x : Name) (i : ℕ) → i ≤ length ks → among (take i ks) x ≡ nat_lt (position_or_len (bytes_eq x) ks) i
+among-take [] x zero h = refl
+among-take [] x (suc i) h = absurd (omega (arith, h))
+among-take (k ∷ ks) x zero h = sym (le-ltb (position_or_len (bytes_eq x) (k ∷ ks)) 0 (omega arith))
+among-take (k ∷ ks) x (suc i) h = by (bytes_eq x k) (among-take ks x i (omega (arith, h)))
+  where
+    by : (b : Bool) → among (take i ks) x ≡ nat_lt (position_or_len (bytes_eq x) ks) i → (b || among (take i ks) x) ≡ nat_lt (cond (not b) (1 + position_or_len (bytes_eq x) ks) 0) (suc i)
+    by true later = sym (lt-ltb 0 (suc i) (omega arith))
+    by false later = later ∙ sym (lt_one (position_or_len (bytes_eq x) ks) i)
+
+position-map : {X Y : Type 0} (f : X → Y) (test : Y → Bool) (xs : List X) → position_or_len test (map f xs) ≡ position_or_len (λ x. test (f x)) xs
+position-map f test [] = refl
+position-map f test (x ∷ xs) = ap (λ n. cond (not (test (f x))) (1 + n) 0) (position-map f test xs)
+
+-- the place among the keys is the place among their names
+pub place-map : {X Y : Type 0} (f : X → Y) (test : Y → Bool) (xs : List X) → position test (map f xs) ≡ position (λ x. test (f x)) xs
+place-map f test xs =
+    ap (λ n. cond (nat_lt n (length (map f xs))) (Some n) None) (position-map f test xs)
+    ∙ ap (λ k. cond (nat_lt (position_or_len (λ x. test (f x)) xs) k) (Some (position_or_len (λ x. test (f x)) xs)) None) (length-map xs f)
+
+-- what a look-up of a place says
+pub place_found : (ks : List Name) (x : Name) (i : ℕ) → Some i ≡ position (bytes_eq x) ks → i ≡ position_or_len (bytes_eq x) ks
+place_found ks x i e = sym (cond_some _ _ _ (sym e)).1
+
+pub place_missing : (ks : List Name) (x : Name) → None ≡ position (bytes_eq x) ks → length ks ≤ position_or_len (bytes_eq x) ks
+place_missing ks x e = by (nat_lt (position_or_len (bytes_eq x) ks) (length ks)) refl e
+  where
+    by : (b : Bool) → nat_lt (position_or_len (bytes_eq x) ks) (length ks) ≡ b → None ≡ cond b (Some (position_or_len (bytes_eq x) ks)) None → length ks ≤ position_or_len (bytes_eq x) ks
+    by true t h = absurd (none-some _ h)
+    by false t h = ltb-false _ _ t
+
+pub among-has_node : (g : Adjacency) (x : Name) → among (names g) x ≡ has_node g x
+among-has_node [] x = refl
+among-has_node (r ∷ rs) x = elim (bytes_eq x r.0) as (λ b. (b || among (names rs) x) ≡ is_some (cond b (Some r.1) (lookup (bytes_eq x) rs))) [ true ↦ refl | false ↦ among-has_node rs x ]
+
+-- a node stands at its place
+pub at_place_of : (g : Adjacency) (x : Name) → has_node g x ≡ true → slice_get (names g) (place_of g x) ≡ Some x
+at_place_of g x h = named_place (names g) x (among-has_node g x ∙ h)
+
+pub place_of_within : (g : Adjacency) (x : Name) → has_node g x ≡ true → place_of g x < length g
+place_of_within g x h = subst (λ n. place_of g x < n) (length-map g (λ (r : Name × Neighbors). r.0)) (slice_get_within (names g) (place_of g x) x (at_place_of g x h))
+
+pub has_node_at : (g : Adjacency) (i : ℕ) (x : Name) → slice_get (names g) i ≡ Some x → has_node g x ≡ true
+has_node_at [] i x h = absurd (none-some x h)
+has_node_at (r ∷ rs) zero x h = ap (λ b. is_some (cond b (Some r.1) (lookup (bytes_eq x) rs))) (ap (bytes_eq x) (same_Some r.0 x h) ∙ bytes_eq-same x)
+has_node_at (r ∷ rs) (suc i) x h = by (bytes_eq x r.0) (has_node_at rs i x h)
+  where
+    by : (b : Bool) → has_node rs x ≡ true → is_some (cond b (Some r.1) (lookup (bytes_eq x) rs)) ≡ true
+    by true later = refl
+    by false later = later
+
+-- ---- what stands at a place
+
+pub name_there : (g : Adjacency) (i : ℕ) → i < length g → (x : Name) × (slice_get (names g) i ≡ Some x)
+name_there [] i h = absurd (omega (arith, h))
+name_there (r ∷ rs) zero h = (r.0, refl)
+name_there (r ∷ rs) (suc i) h = name_there rs i (omega (arith, h))
+
+module _ (g : Adjacency) (differ : IsDistinct bytes_eq (names g)) where
+  pub place_of_at : (i : ℕ) (x : Name) → slice_get (names g) i ≡ Some x → place_of g x ≡ i
+  place_of_at i x at = one_place (names g) (place_of g x) i x differ (at_place_of g x (has_node_at g i x at)) at
+
+  -- the neighbours by place are those by name
+  pub neighbors_at-named : (i : ℕ) (x : Name) → slice_get (names g) i ≡ Some x → neighbors_at g i ≡ neighbors g x
+  neighbors_at-named i x at = by (slice_get g i) refl (sym (slice_get-map (λ (r : Name × Neighbors). r.0) g i) ∙ at)
+    where
+      by : (o : Option (Name × Neighbors)) → slice_get g i ≡ o → option_map (λ (r : Name × Neighbors). r.0) o ≡ Some x → option_map_or (λ (r : Name × Neighbors). r.1) o [] ≡ neighbors g x
+      by None e n = absurd (none-some x n)
+      by (Some r) e n =
+          let found : lookup (bytes_eq r.0) g ≡ Some r.1 = lookup_from_place nat_list_eq_equiv g i r.0 r.1 differ e in
+          sym (ap (λ y. neighbors g y) (sym (same_Some r.0 x n)) ∙ ap (λ o. unwrap_or o []) found)
+
+-- ---- links by place
+
+-- what stands in a row is found in it
+found_at : (es : Neighbors) (p : ℕ) (e : Name × ℕ) → slice_get es p ≡ Some e → is_some (lookup (bytes_eq e.0) es) ≡ true
+found_at [] p e h = absurd (none-some e h)
+found_at (f ∷ es) zero e h = ap (λ b. is_some (cond b (Some f.1) (lookup (bytes_eq e.0) es))) (ap (λ (n : Name × ℕ). bytes_eq e.0 n.0) (same_Some f e h) ∙ bytes_eq-same e.0)
+found_at (f ∷ es) (suc p) e h = by (bytes_eq e.0 f.0) (found_at es p e h)
+  where
+    by : (b : Bool) → is_some (lookup (bytes_eq e.0) es) ≡ true → is_some (cond b (Some f.1) (lookup (bytes_eq e.0) es)) ≡ true
+    by true later = refl
+    by false later = later
+
+-- the neighbour at a place is a node
+pub neighbor_is_node : (g : Adjacency) → IsDistinct bytes_eq (names g) → ((x y : Name) → weight_of g x y ≡ weight_of g y x) → (i p : ℕ) (e : Name × ℕ) → slice_get (neighbors_at g i) p ≡ Some e → has_node g e.0 ≡ true
+neighbor_is_node g differ both i p e at = by (slice_get g i) refl at
+  where
+    by : (o : Option (Name × Neighbors)) → slice_get g i ≡ o → slice_get (option_map_or (λ (r : Name × Neighbors). r.1) o []) p ≡ Some e → has_node g e.0 ≡ true
+    by None f h = absurd (none-some e h)
+    by (Some r) f h =
+        let named : slice_get (names g) i ≡ Some r.0 = slice_get-map (λ (r : Name × Neighbors). r.0) g i ∙ ap (option_map (λ (r : Name × Neighbors). r.0)) f in
+        let row : slice_get (neighbors g r.0) p ≡ Some e = sym (ap (λ es. slice_get es p) (neighbors_at-named g differ i r.0 named)) ∙ at in
+        has_node-weight_of g e.0 r.0 (ap is_some (both e.0 r.0) ∙ found_at (neighbors g r.0) p e row)
+
+-- a link by place is one by name
+pub record LinkFacts (g : Adjacency) (i j w : ℕ) : Type 0 where
+  pub from : Name
+  pub to : Name
+  pub from_at : slice_get (names g) i ≡ Some from
+  pub to_at : slice_get (names g) j ≡ Some to
+  pub weight : weight_of g from to ≡ Some w
+
+module _ (g : Adjacency) (graph : IsGraph g) where
+  pub link_facts : (i p j w : ℕ) → link_at g i p ≡ Some (j, w) → LinkFacts g i j w
+  link_facts i p j w at = by (slice_get (neighbors_at g i) p) refl at
+    where
+      row : (o : Option (Name × Neighbors)) → slice_get g i ≡ o → (e : Name × ℕ) → slice_get (option_map_or (λ (r : Name × Neighbors). r.1) o []) p ≡ Some e → (x : Name) × (slice_get (names g) i ≡ Some x)
+      row None f e h = absurd (none-some e h)
+      row (Some r) f e h = (r.0, slice_get-map (λ (r : Name × Neighbors). r.0) g i ∙ ap (option_map (λ (r : Name × Neighbors). r.0)) f)
+
+      by : (o : Option (Name × ℕ)) → slice_get (neighbors_at g i) p ≡ o → option_map {U = ℕ × ℕ} (λ (e : Name × ℕ). (place_of g e.0, e.1)) o ≡ Some (j, w) → LinkFacts g i j w
+      by None f h = absurd (none-some _ h)
+      by (Some e) f h =
+          let x = row (slice_get g i) refl e f in
+          let same = same_Some _ _ h in
+          let here : slice_get (neighbors g x.0) p ≡ Some e = sym (ap (λ es. slice_get es p) (neighbors_at-named g graph.nodes_differ i x.0 x.1)) ∙ f in
+          record {
+            from = x.0;
+            to = e.0;
+            from_at = x.1;
+            to_at = subst (λ (k : ℕ). slice_get (names g) k ≡ Some e.0) (ap (λ (t : ℕ × ℕ). t.0) same) (at_place_of g e.0 (neighbor_is_node g graph.nodes_differ graph.both_ways i p e f));
+            weight = lookup_from_place nat_list_eq_equiv (neighbors g x.0) p e.0 e.1 (graph.neighbors_differ x.0) here ∙ ap (λ (t : ℕ × ℕ). Some t.1) same;
+          }
+
+  -- and a link by name one by place
+  pub link_there : (i j w : ℕ) (x y : Name) → slice_get (names g) i ≡ Some x → slice_get (names g) j ≡ Some y → weight_of g x y ≡ Some w → (p : ℕ) × (link_at g i p ≡ Some (j, w))
+  link_there i j w x y at_i at_j e =
+      let found = place_from_lookup (bytes_eq y) (neighbors g x) w e in
+      let named : y ≡ found.1 = same_names y found.1 found.3 in
+      let row : slice_get (neighbors_at g i) found.0 ≡ Some (found.1, w) = ap (λ es. slice_get es found.0) (neighbors_at-named g graph.nodes_differ i x at_i) ∙ found.2 in
+      (found.0, ap (option_map {U = ℕ × ℕ} (λ (e : Name × ℕ). (place_of g e.0, e.1))) row ∙ ap (λ (n : ℕ). Some (n, w)) (ap (place_of g) (sym named) ∙ place_of_at g graph.nodes_differ j y at_j))
+
+  -- the neighbour has a link back, of the same weight
+  pub link_back : (i p j w : ℕ) → link_at g i p ≡ Some (j, w) → (q : ℕ) × (link_at g j q ≡ Some (i, w))
+  link_back i p j w at =
+      let facts = link_facts i p j w at in
+      link_there j i w facts.to facts.from facts.to_at facts.from_at (graph.both_ways facts.to facts.from ∙ facts.weight)
+
+  -- two places in a row lead to two nodes
+  pub link_single : (i p q j w v : ℕ) → link_at g i p ≡ Some (j, w) → link_at g i q ≡ Some (j, v) → p ≡ q
+  link_single i p q j w v at_p at_q = by (slice_get (neighbors_at g i) p) (slice_get (neighbors_at g i) q) refl refl at_p at_q
+    where
+      keys_at : (n : ℕ) (e : Name × ℕ) → slice_get (neighbors_at g i) n ≡ Some e → slice_get (keys_of (neighbors_at g i)) n ≡ Some e.0
+      keys_at n e f = slice_get-map (λ (e : Name × ℕ). e.0) (neighbors_at g i) n ∙ ap (option_map (λ (e : Name × ℕ). e.0)) f
+
+      by : (a b : Option (Name × ℕ)) → slice_get (neighbors_at g i) p ≡ a → slice_get (neighbors_at g i) q ≡ b
+          → option_map {U = ℕ × ℕ} (λ (e : Name × ℕ). (place_of g e.0, e.1)) a ≡ Some (j, w) → option_map {U = ℕ × ℕ} (λ (e : Name × ℕ). (place_of g e.0, e.1)) b ≡ Some (j, v) → p ≡ q
+      by None b f h m n = absurd (none-some _ m)
+      by (Some d) None f h m n = absurd (none-some _ n)
+      by (Some d) (Some e) f h m n =
+          let from = link_facts i p j w at_p in
+          let named_d : slice_get (names g) j ≡ Some d.0 = subst (λ (k : ℕ). slice_get (names g) k ≡ Some d.0) (ap (λ (t : ℕ × ℕ). t.0) (same_Some _ _ m)) (at_place_of g d.0 (neighbor_is_node g graph.nodes_differ graph.both_ways i p d f)) in
+          let named_e : slice_get (names g) j ≡ Some e.0 = subst (λ (k : ℕ). slice_get (names g) k ≡ Some e.0) (ap (λ (t : ℕ × ℕ). t.0) (same_Some _ _ n)) (at_place_of g e.0 (neighbor_is_node g graph.nodes_differ graph.both_ways i q e h)) in
+          let same : d.0 ≡ e.0 = same_Some d.0 e.0 (sym named_d ∙ named_e) in
+          let row_differs : IsDistinct bytes_eq (keys_of (neighbors_at g i)) = subst (λ es. IsDistinct bytes_eq (keys_of es)) (sym (neighbors_at-named g graph.nodes_differ i from.from from.from_at)) (graph.neighbors_differ from.from) in
+          one_place (keys_of (neighbors_at g i)) p q d.0 row_differs (keys_at p d f) (keys_at q e h ∙ ap (λ (n : Name). Some n) (sym same))
+
+-- ---- names and weights are valid
+
+holds_at : {X : Type 0} (p : X → Bool) (xs : List X) (i : ℕ) (x : X) → list_all p xs ≡ true → slice_get xs i ≡ Some x → p x ≡ true
+holds_at p [] i x all at = absurd (none-some x at)
+holds_at p (y ∷ ys) zero x all at = ap p (sym (same_Some y x at)) ∙ (and_parts (p y) (list_all p ys) all).0
+holds_at p (y ∷ ys) (suc i) x all at = holds_at p ys i x (and_parts (p y) (list_all p ys) all).1 at
+
+pub valid_name_at : (g : Adjacency) → IsGraph g → (i : ℕ) (x : Name) → slice_get (names g) i ≡ Some x → is_name x ≡ true
+valid_name_at g graph i x at = by (slice_get g i) refl (sym (slice_get-map (λ (r : Name × Neighbors). r.0) g i) ∙ at)
+  where
+    by : (o : Option (Name × Neighbors)) → slice_get g i ≡ o → option_map (λ (r : Name × Neighbors). r.0) o ≡ Some x → is_name x ≡ true
+    by None e n = absurd (none-some x n)
+    by (Some r) e n = ap is_name (sym (same_Some r.0 x n)) ∙ (and_parts (is_name r.0) (list_all (λ (e : Name × ℕ). is_weight e.1) r.1) (holds_at is_row g i r graph.rows e)).0
+
+pub valid_weight : (g : Adjacency) → IsGraph g → (x y : Name) (w : ℕ) → weight_of g x y ≡ Some w → is_weight w ≡ true
+valid_weight g graph x y w e = by (lookup (bytes_eq x) g) refl e
+  where
+    by : (o : Option Neighbors) → lookup (bytes_eq x) g ≡ o → lookup (bytes_eq y) (unwrap_or o []) ≡ Some w → is_weight w ≡ true
+    by None f h = absurd (none-some w h)
+    by (Some es) f h =
+        let row = place_from_lookup (bytes_eq x) g es f in
+        let entry = place_from_lookup (bytes_eq y) es w h in
+        holds_at (λ (e : Name × ℕ). is_weight e.1) es entry.0 (entry.1, w) (and_parts (is_name row.1) (list_all (λ (e : Name × ℕ). is_weight e.1) es) (holds_at is_row g row.0 (row.1, es) graph.rows row.2)).1 entry.2

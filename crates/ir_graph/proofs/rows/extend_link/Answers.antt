@@ -1,0 +1,26 @@
+use Rattle.std.proofs.Common.{◌≡◌, ◌∙◌, sym, ap, subst, slice_get, Some, bytes_eq}
+use Rattle.std.specs.Map.{lookup}
+use Rattle.ir_model.specs.Graph.{names, weight_of, with_node, linked}
+use Rattle.ir_model.proofs.Graphs.{each_row, neighbors-with_node}
+use Rattle.ir_graph.specs.View.{rows_view}
+use Rattle.ir_graph.proofs.Joined.{apart_at, joined-linked, place-with_node}
+use Rattle.ir_graph.proofs.rows.extend_link.Goals as goal
+
+pub join_rows-requires-clause-apart : goal.join_rows-requires-clause-apart
+join_rows-requires-clause-apart c =
+    let u = c.args.u.now in
+    let v = c.args.v.now in
+    let at_u = subst (λ g. slice_get (names g) c.in_ok-i.i ≡ Some u) (sym c.in_ok-j.ensures.ok) (place-with_node (rows_view c.place.new.rows) v u c.in_ok-i.i c.in_ok-i.ensures.found) in
+    apart_at (rows_view c.place-2.new.rows) c.in_ok-i.i u v c.in_ok-j.ensures.differ at_u
+    (ap (λ g. weight_of g u v) (c.in_ok-j.ensures.ok ∙ ap (λ g. with_node g v) c.in_ok-i.ensures.ok)
+    ∙ ap (lookup (bytes_eq v)) (neighbors-with_node (with_node (rows_view c.args.rows.now) u) v u ∙ neighbors-with_node (rows_view c.args.rows.now) u u)
+    ∙ c.requires.apart)
+
+pub returns-clause-ok : goal.returns-clause-ok
+returns-clause-ok c =
+    let u = c.args.u.now in
+    let v = c.args.v.now in
+    let at_u = subst (λ g. slice_get (names g) c.in_ok-i.i ≡ Some u) (sym c.in_ok-j.ensures.ok) (place-with_node (rows_view c.place.new.rows) v u c.in_ok-i.i c.in_ok-i.ensures.found) in
+    c.in_ok-join_rows.ensures.ok
+    ∙ joined-linked u v c.args.weight (rows_view c.place-2.new.rows) c.in_ok-i.i c.in_ok-j.j c.in_ok-j.ensures.differ at_u c.in_ok-j.ensures.found
+    ∙ ap (each_row (linked u v c.args.weight)) (c.in_ok-j.ensures.ok ∙ ap (λ g. with_node g v) c.in_ok-i.ensures.ok)
