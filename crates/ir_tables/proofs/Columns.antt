@@ -1,0 +1,77 @@
+-- A table made of columns.
+use Rattle.std.proofs.Common.{◌≡◌, ℕ, ◌+◌, ◌<◌, ◌≤◌, List, [], ◌∷◌, ◌++◌, length, map, sym, subst, ◌∙◌, arith, ⊎_elim, slice_index_or}
+use Rattle.std.proofs.lemmas.List.{get_or-map, length-map, get_or_append_left, get_or_push}
+use Rattle.std.proofs.lemmas.Bool.{cases_lt}
+use Rattle.ir_model.specs.Network.{Network, node_count}
+use Rattle.ir_model.specs.Walk.{IsConnected}
+use Rattle.ir_model.specs.Table.{FullTable, table_size, IsSquare, IsShortest}
+use Rattle.ir_tables.specs.declared.table.Column.{Column}
+use Rattle.ir_tables.specs.Relaxation.{IsColumn}
+
+-- the full table of its columns
+abbrev pub of_columns : List Column → FullTable
+of_columns cols = record { ports = map (λ c. c.ports.items) cols; weights = map (λ c. c.weights.items) cols }
+
+-- a list within which k lies has an element to stand for one past its end
+some_column : (cols : List Column) (k : ℕ) → k < length cols → Column
+some_column [] k lt = absurd (omega arith)
+some_column (c ∷ cols) k lt = c
+
+-- the rows of a table, by its columns
+pub port_row : (cols : List Column) (k : ℕ) (e : Column) → k < length cols → slice_index_or (of_columns cols).ports k [] ≡ (slice_index_or cols k e).ports.items
+port_row cols k e lt = get_or-map (λ (c : Column). c.ports.items) cols k e [] lt
+
+pub weight_row : (cols : List Column) (k : ℕ) (e : Column) → k < length cols → slice_index_or (of_columns cols).weights k [] ≡ (slice_index_or cols k e).weights.items
+weight_row cols k e lt = get_or-map (λ (c : Column). c.weights.items) cols k e [] lt
+
+-- each column is the shortest table's
+pub record AreColumns (net : Network) (cols : List Column) : Type 0 where
+  pub len : length cols ≡ node_count net
+  pub columns : (k : ℕ) (e : Column) → k < length cols → IsColumn net k (slice_index_or cols k e).ports.items (slice_index_or cols k e).weights.items
+
+-- the column for d, in the words of a table
+column_of : (net : Network) (cols : List Column) → AreColumns net cols → (d : ℕ) → d < length cols → IsColumn net d (slice_index_or (of_columns cols).ports d []) (slice_index_or (of_columns cols).weights d [])
+column_of net cols are d lt =
+    let e : Column = some_column cols d lt in
+    rw (port_row cols d e lt, weight_row cols d e lt) (are.columns d e lt)
+
+pub size_of_columns : (cols : List Column) → table_size (of_columns cols) ≡ length cols
+size_of_columns cols = length-map cols (λ c. c.ports.items)
+
+pub columns_square : (net : Network) (cols : List Column) → AreColumns net cols → IsSquare (of_columns cols)
+columns_square net cols are =
+    let size : table_size (of_columns cols) ≡ length cols = size_of_columns cols in
+    let weights : length (of_columns cols).weights ≡ length cols = length-map cols (λ c. c.weights.items) in
+    record {
+      weights_len = weights ∙ sym size;
+      port_rows = λ d lt. (column_of net cols are d (omega (arith, size, lt))).ports_len ∙ (sym are.len ∙ sym size);
+      weight_rows = λ d lt. (column_of net cols are d (omega (arith, size, lt))).weights_len ∙ (sym are.len ∙ sym size);
+    }
+
+pub columns_shortest : (net : Network) (cols : List Column) → AreColumns net cols → IsShortest net (of_columns cols)
+columns_shortest net cols are = record {
+  size = size_of_columns cols ∙ are.len;
+  ports = record {
+    own = λ d d_in. (column_of net cols are d (omega (arith, are.len))).own;
+    port = λ u d u_in d_in other. (column_of net cols are d (omega (arith, are.len))).port u u_in other;
+  };
+  weights = λ u d u_in d_in. (column_of net cols are d (omega (arith, are.len))).weight u u_in;
+}
+
+pub columns_connected : (net : Network) (cols : List Column) → AreColumns net cols → IsConnected net
+columns_connected net cols are u d u_in d_in =
+    let far = (columns_shortest net cols are).weights u d u_in d_in in (far.reached.0, far.reached.1)
+
+-- one more column
+pub columns_push : (net : Network) (cols : List Column) (d : ℕ) (column : Column) → length cols ≡ d
+    → ((k : ℕ) (e : Column) → k < d → IsColumn net k (slice_index_or cols k e).ports.items (slice_index_or cols k e).weights.items)
+    → IsColumn net d column.ports.items column.weights.items
+    → (k : ℕ) (e : Column) → k < d + 1 → IsColumn net k (slice_index_or (cols ++ column ∷ []) k e).ports.items (slice_index_or (cols ++ column ∷ []) k e).weights.items
+columns_push net cols d column len before here k e lt =
+    let P : ℕ → Column → Type 0 = λ j c. IsColumn net j c.ports.items c.weights.items in
+    ⊎_elim (λ (less : k < d). let left : slice_index_or (cols ++ column ∷ []) k e ≡ slice_index_or cols k e = get_or_append_left cols (column ∷ []) e k (omega (arith, less, len)) in
+    subst (P k) (sym left) (before k e less))
+    (λ (ge : d ≤ k). let same : k ≡ d = omega (arith, lt, ge) in
+    let right : slice_index_or (cols ++ column ∷ []) k e ≡ column = get_or_push cols column e k (omega (arith, same, len)) in
+    let Q : ℕ → Type 0 = λ j. P j column in
+    subst (P k) (sym right) (subst Q (sym same) here)) (cases_lt k d)

@@ -1,0 +1,6 @@
+pub mod Numbered
+pub mod Settled
+pub mod Rounds
+pub mod Columns
+pub mod Offering
+pub mod OfGraph

@@ -1,0 +1,31 @@
+use Rattle.std.proofs.Common.{◌≡◌, ◌≤◌, ◌<◌, ◌++◌, ◌∷◌, [], ℕ, List, Some, not, length, sym, ap, ◌∙◌, arith, take, slice_get}
+use Rattle.std.proofs.lemmas.List.Sums.{prefix_len-le-length}
+use Rattle.ir_model.specs.declared.Hop.{Hop}
+use Rattle.ir_model.specs.declared.TheConstants.{MAX_EDGES}
+use Rattle.ir_graph.specs.Places.{neighbors_at, link_at}
+use Rattle.ir_tables.specs.Numbered.{Numbers, joins_nodes, link_between, port_to, ports_at}
+use Rattle.ir_tables.specs.OfGraph.{row_numbers}
+use Rattle.ir_tables.proofs.OfGraph.{next_entry, ports_more, ports_same}
+use Rattle.ir_tables.proofs.adjacency.ports_of.Goals as goal
+use Rattle.ir_tables.proofs.adjacency.ports_of.Goals.{then-v-u+in_ok-push, else-v-u}
+
+pub overflow_cast-link : goal.overflow_cast-link
+overflow_cast-link c =
+    let le : link_between c.args.links.now c.args.u c.unwrap-v.result.0 ≤ length c.args.links.now = prefix_len-le-length (λ x. not (joins_nodes c.args.u c.unwrap-v.result.0 x)) c.args.links.now in
+    omega (arith, le, c.link_between-link.ensures, c.requires.few)
+
+pub loop-place-preserved : goal.loop-place-preserved
+loop-place-preserved c =
+    let u : ℕ = c.args.u in
+    let row : Numbers = row_numbers c.args.graph.now (neighbors_at c.args.graph.now u) in
+    let entry : slice_get row c.loop-place.place ≡ Some c.unwrap-v.result = next_entry c.args.graph.now u c.loop-place.place c.unwrap-v.result (sym c.neighbor_at.ensures.at ∙ c.unwrap-v.ensures) in
+    elim c.if-v-u.branch [
+      | then-v-u+in_ok-push w ↦
+          let hop : Hop = record { node = c.unwrap-v.result.0; link = w.link_between-link.result; weight = c.unwrap-v.result.1 } in
+          let more = ports_more c.args.links.now u row c.loop-place.place c.unwrap-v.result entry w.if-v-u.true in
+          let port = ap (λ (l : ℕ). ◌++◌ {A = Hop} (ports_at c.args.links.now u (take c.loop-place.place row)) (record { node = c.unwrap-v.result.0; link = l; weight = c.unwrap-v.result.1 } ∷ [])) w.link_between-link.ensures in
+          ap (λ v. v.items) w.ports-is ∙ w.in_ok-push.ensures.items ∙ ap (λ (xs : List Hop). xs ++ hop ∷ []) c.loop-place.invariant ∙ port ∙ sym more
+      | else-v-u w ↦
+          let same = ports_same c.args.links.now u row c.loop-place.place c.unwrap-v.result entry w.if-v-u.false in
+          ap (λ v. v.items) w.ports-is ∙ c.loop-place.invariant ∙ sym same
+    ]

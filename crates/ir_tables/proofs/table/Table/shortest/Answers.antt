@@ -1,0 +1,39 @@
+use Rattle.std.proofs.Common.{◌≡◌, ◌+◌, ◌++◌, ◌∷◌, [], arith, ap, ◌∙◌}
+use Rattle.std.proofs.lemmas.List.{length_push}
+use Rattle.ir_model.specs.Network.{node_count}
+use Rattle.ir_model.proofs.Tables.{shortest_routed}
+use Rattle.ir_tables.proofs.Columns.{of_columns, AreColumns, columns_push, columns_square, columns_shortest, columns_connected}
+use Rattle.ir_tables.proofs.table.Table.shortest.Goals as goal
+
+pub loop-d-preserved : goal.loop-d-preserved
+loop-d-preserved c =
+    let items : c.push.new.self.items ≡ c.loop-d.columns.items ++ c.in-Some.column ∷ [] = c.in_ok-push-in-Some.ensures.items in
+    let here = rw c.in-Some.is at c.in_ok-column.ensures.column in
+    rw items (record {
+      len = length_push c.loop-d.columns.items c.in-Some.column ∙ ap (λ k. k + 1) c.loop-d.invariant.len;
+      columns = columns_push c.args.topology.now c.loop-d.columns.items c.loop-d.d c.in-Some.column c.loop-d.invariant.len c.loop-d.invariant.columns here;
+    })
+
+pub invariant_of-result : goal.invariant_of-result
+invariant_of-result c =
+    let all : c.loop-d.d ≡ node_count c.args.topology.now = omega (arith, c.nodes-nodes.ensures.count) in
+    let are : AreColumns c.args.topology.now c.loop-d.columns.items = record { len = c.loop-d.invariant.len ∙ all; columns = λ k e lt. c.loop-d.invariant.columns k e (omega (arith, c.loop-d.invariant.len, lt)) } in
+    columns_square c.args.topology.now c.loop-d.columns.items are
+
+pub returns-clause-shortest : goal.returns-clause-shortest
+returns-clause-shortest c =
+    let all : c.loop-d.d ≡ node_count c.args.topology.now = omega (arith, c.nodes-nodes.ensures.count) in
+    let are : AreColumns c.args.topology.now c.loop-d.columns.items = record { len = c.loop-d.invariant.len ∙ all; columns = λ k e lt. c.loop-d.invariant.columns k e (omega (arith, c.loop-d.invariant.len, lt)) } in
+    columns_shortest c.args.topology.now c.loop-d.columns.items are
+
+pub returns-clause-routed : goal.returns-clause-routed
+returns-clause-routed c =
+    let all : c.loop-d.d ≡ node_count c.args.topology.now = omega (arith, c.nodes-nodes.ensures.count) in
+    let are : AreColumns c.args.topology.now c.loop-d.columns.items = record { len = c.loop-d.invariant.len ∙ all; columns = λ k e lt. c.loop-d.invariant.columns k e (omega (arith, c.loop-d.invariant.len, lt)) } in
+    shortest_routed c.args.topology.now c.nodes-nodes.ensures.network (of_columns c.loop-d.columns.items) (columns_shortest c.args.topology.now c.loop-d.columns.items are)
+
+pub returns-clause-connected : goal.returns-clause-connected
+returns-clause-connected c =
+    let all : c.loop-d.d ≡ node_count c.args.topology.now = omega (arith, c.nodes-nodes.ensures.count) in
+    let are : AreColumns c.args.topology.now c.loop-d.columns.items = record { len = c.loop-d.invariant.len ∙ all; columns = λ k e lt. c.loop-d.invariant.columns k e (omega (arith, c.loop-d.invariant.len, lt)) } in
+    columns_connected c.args.topology.now c.loop-d.columns.items are

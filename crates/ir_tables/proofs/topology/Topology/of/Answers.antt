@@ -1,0 +1,45 @@
+use Rattle.std.proofs.Common.{◌≡◌, ◌≤◌, ◌++◌, ◌∷◌, [], ℕ, List, Vec, Global, length, map, sym, ap, subst, ◌∙◌, arith, take}
+use Rattle.std.proofs.lemmas.List.{map-append}
+use Rattle.ir_model.specs.declared.Link.{Link}
+use Rattle.ir_model.specs.declared.Hop.{Hop}
+use Rattle.ir_model.specs.Graph.{Adjacency}
+use Rattle.ir_model.specs.Network.{Network, IsNetwork}
+use Rattle.ir_graph.specs.Places.{neighbors_at}
+use Rattle.ir_tables.specs.Numbered.{ports_at, ports_from}
+use Rattle.ir_tables.specs.OfGraph.{network_of_graph, row_numbers, rows_of}
+use Rattle.ir_tables.proofs.OfGraph.{graph_few, graph_network, graph_made, ports_step, ports_whole}
+use Rattle.ir_tables.proofs.topology.Topology.of.Goals as goal
+
+pub ports_of-requires-clause-few : goal.ports_of-requires-clause-few
+ports_of-requires-clause-few c =
+    omega (arith, ap length c.as_slice.ensures.value, ap length c.in_ok-links.ensures, graph_few c.args.graph.now c.number_of_nodes-nodes.ensures.graph)
+
+pub loop-u-preserved : goal.loop-u-preserved
+loop-u-preserved c =
+    let g : Adjacency = c.args.graph.now in
+    let u : ℕ = c.loop-u.u in
+    let links : List Link = c.in_ok-links.links.items in
+    let row : Vec Hop Global = c.in_ok-ports_of.field-0 in
+    let step = ports_step g links u (omega (arith, c.number_of_nodes-nodes.ensures.len)) in
+    let here : row.items ≡ ports_at links u (row_numbers g (neighbors_at g u)) = c.in_ok-ports_of.ensures ∙ ap (λ ls. ports_at ls u (row_numbers g (neighbors_at g u))) c.as_slice.ensures.value in
+    ap (map (λ (v : Vec Hop Global). v.items)) c.in_ok-push.ensures.items
+    ∙ map-append (λ (v : Vec Hop Global). v.items) c.loop-u.ports.items (row ∷ [])
+    ∙ ap (λ xs. xs ++ row.items ∷ []) c.loop-u.invariant
+    ∙ ap (λ x. take u (ports_from links 0 (rows_of g)) ++ x ∷ []) here
+    ∙ sym step
+
+pub invariant_of-result : goal.invariant_of-result
+invariant_of-result c =
+    let g : Adjacency = c.args.graph.now in
+    let links : List Link = c.in_ok-links.links.items in
+    let ports = c.loop-u.invariant ∙ ports_whole g links c.loop-u.u (omega (arith, c.number_of_nodes-nodes.ensures.len)) in
+    let made = graph_made g c.number_of_nodes-nodes.ensures.graph links (map (λ (v : Vec Hop Global). v.items) c.loop-u.ports.items) c.in_ok-links.ensures ports in
+    let P : Network → Type 0 = λ net. IsNetwork net in
+    subst P (sym made) (graph_network g c.number_of_nodes-nodes.ensures.graph)
+
+pub returns : goal.returns
+returns c =
+    let g : Adjacency = c.args.graph.now in
+    let links : List Link = c.in_ok-links.links.items in
+    let ports = c.loop-u.invariant ∙ ports_whole g links c.loop-u.u (omega (arith, c.number_of_nodes-nodes.ensures.len)) in
+    graph_made g c.number_of_nodes-nodes.ensures.graph links (map (λ (v : Vec Hop Global). v.items) c.loop-u.ports.items) c.in_ok-links.ensures ports

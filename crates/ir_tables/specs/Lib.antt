@@ -1,0 +1,6 @@
+pub mod Views
+pub mod Relaxation
+pub mod Frontier
+pub mod Errors
+pub mod Numbered
+pub mod OfGraph

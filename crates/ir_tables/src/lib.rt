@@ -1,0 +1,16 @@
+//! Topologies and their full tables.
+//!
+//! A topology is a network of numbered nodes, numbered links and the ports of each node. A full table holds for each
+//! node and destination the port to take and the weight of the way.
+#![tactic(auto)]
+
+mod adjacency;
+mod frontier;
+mod relaxation;
+mod table;
+mod topology;
+
+pub use ir_model::{Hop, Link};
+pub use relaxation::weights_by_rounds;
+pub use table::{Table, TableError};
+pub use topology::Topology;

@@ -1,0 +1,158 @@
+ghost use Rattle.std.specs.Prelude.{◌≡◌, ◌↔◌, ◌<◌, IfOk, IfSome, IfNone};
+ghost use Rattle.ir_model.specs.Network.{node_count};
+ghost use Rattle.ir_model.specs.Walk.{IsConnected, IsDisconnected};
+ghost use Rattle.ir_model.specs.Table.{table_size, port_in, weight_in, IsShortest, IsRouted};
+ghost use Rattle.ir_tables.specs.Relaxation.{IsColumn, HasNoWalk};
+
+use crate::frontier::weights_to;
+use crate::relaxation::{UNREACHED, first_port};
+use crate::topology::Topology;
+use std::alloc::{AllocError, AllocFailed, Global};
+use std::marker::Model;
+
+/// Why there is no table.
+#[derive(Clone, Copy, Debug, PartialEq, Eq)]
+pub enum TableError {
+    /// The topology has no node.
+    Empty,
+    /// Some node has no walk to some node.
+    Disconnected,
+    /// A growth was refused.
+    NoMemory,
+}
+
+impl TableError {
+    ghost use Rattle.std.specs.Prelude.{◌≡◌};
+    ghost use Rattle.ir_tables.specs.Errors.{code_of};
+
+    /// The number of the error, from 1 to 3.
+    pub fn code(self) -> u8
+        ensures { result ≡ code_of self }
+    {
+        match self {
+            TableError::Empty => 1,
+            TableError::Disconnected => 2,
+            TableError::NoMemory => 3,
+        }
+    }
+}
+
+impl From<AllocError> for TableError {
+    ghost use Rattle.std.specs.Prelude.{◌≡◌};
+    ghost use Rattle.ir_tables.specs.declared.table.TableError.TheVariants.{NoMemory};
+
+    ghost from_gives = { λ _ e. e ≡ NoMemory };
+
+    fn from(_error: AllocError) -> TableError {
+        TableError::NoMemory
+    }
+}
+
+impl<T: Drop> From<AllocFailed<T>> for TableError {
+    ghost use Rattle.std.specs.Prelude.{◌≡◌};
+    ghost use Rattle.ir_tables.specs.declared.table.TableError.TheVariants.{NoMemory};
+
+    ghost from_gives = { λ _ e. e ≡ NoMemory };
+
+    fn from(_error: AllocFailed<T>) -> TableError {
+        TableError::NoMemory
+    }
+}
+
+/// What a table holds for one destination, by node.
+#[derive(Drop)]
+struct Column {
+    ports: Vec<Option<u16>>,
+    weights: Vec<u32>,
+}
+
+/// A full table: for each node and destination the port to take, and the weight of the way.
+#[derive(Drop)]
+pub struct Table {
+    columns: Vec<Column>,
+}
+
+impl Model for Table {
+    ghost use Rattle.ir_model.specs.Table.{FullTable, IsSquare};
+
+    ghost Value = { FullTable };
+
+    ghost use Rattle.ir_tables.specs.Views.{table_of};
+
+    ghost view = { table_of };
+
+    ghost invariant = { λ t. IsSquare (table_of t) };
+}
+
+/// The column of the shortest table for `d`, or none where some node has no walk to `d`.
+fn shortest_column(
+    alloc: Global,
+    topology: &Topology,
+    d: usize,
+) -> Result<Option<Column>, AllocError>
+    requires { d < node_count topology.now }
+    ensures column { IfOk result (λ found. IfSome found (λ c. IsColumn topology.now d c.ports.items c.weights.items)) }
+    ensures none { IfOk result (λ found. IfNone found (HasNoWalk topology.now d)) }
+{
+    let nodes = topology.nodes();
+    let weights = weights_to(alloc, topology, d)?;
+    let mut ports = Vec::with_capacity(alloc, nodes)?;
+    for u in 0..nodes {
+        let own = weights[u];
+        if own == UNREACHED {
+            return Ok(None);
+        }
+        ports.push(first_port(topology.ports(u), weights.as_slice(), own))?;
+    }
+    Ok(Some(Column { ports, weights }))
+}
+
+impl Table {
+    /// The shortest table of a topology: at each node and destination the least port to a neighbour from which the
+    /// way goes on shortest, and the distance (van Leeuwen and Tan 1987).
+    ///
+    /// It is refused as `Empty` without a node, as `Disconnected` where some pair has no walk, and as `NoMemory`,
+    /// which may come before `Disconnected` is known.
+    pub fn shortest(alloc: Global, topology: &Topology) -> Result<Table, TableError>
+        ensures shortest { IfOk result (λ table. IsShortest topology.now table) }
+        ensures routed { IfOk result (λ table. IsRouted topology.now table) }
+        ensures connected { IfOk result (λ table. IsConnected topology.now) }
+        ensures empty { (result ≡ Err TableError.Empty) ↔ (node_count topology.now ≡ 0) }
+        ensures disconnected { result ≡ Err TableError.Disconnected → IsDisconnected topology.now }
+    {
+        let nodes = topology.nodes();
+        if nodes == 0 {
+            return Err(TableError::Empty);
+        }
+        let mut columns = Vec::with_capacity(alloc, nodes)?;
+        for d in 0..nodes {
+            match shortest_column(alloc, topology, d)? {
+                Some(column) => columns.push(column)?,
+                None => return Err(TableError::Disconnected),
+            }
+        }
+        Ok(Table { columns })
+    }
+
+    /// The port that the table holds at node `u` for the destination `d`, and none where they are one node.
+    /// Condition: both are nodes.
+    pub fn next(&self, u: u16, d: u16) -> Option<u16>
+        requires u { u < table_size self.now }
+        requires d { d < table_size self.now }
+        ensures { result ≡ port_in self.now u d }
+    {
+        let column = &self.columns[d as usize];
+        column.ports[u as usize]
+    }
+
+    /// The weight of the walk that the table prescribes from node `u` to the destination `d`. Condition: both are
+    /// nodes.
+    pub fn distance(&self, u: u16, d: u16) -> u32
+        requires u { u < table_size self.now }
+        requires d { d < table_size self.now }
+        ensures { result ≡ weight_in self.now u d }
+    {
+        let column = &self.columns[d as usize];
+        column.weights[u as usize]
+    }
+}

@@ -1,0 +1,139 @@
+ghost use Rattle.std.specs.Prelude.{◌≡◌, ℕ, ◌<◌, ◌≤◌, Some, length, filter, slice_get, slice_index_or, IfOk, IfSome, IsSomeAnd};
+ghost use Rattle.ir_model.specs.Network.{Network, IsNetwork, node_count, ports_of, port_at, is_up, restrict};
+ghost use Rattle.ir_model.specs.declared.Hop.{Hop};
+ghost use Rattle.ir_tables.specs.OfGraph.{network_of_graph};
+
+use crate::adjacency::{links_of, ports_of};
+use ir_graph::Graph;
+use ir_model::{Hop, Link};
+use std::alloc::{AllocError, Global};
+use std::marker::Model;
+
+/// A network: nodes 0 to n-1, numbered links between two different nodes, and the ports of each node. A port leads to
+/// a neighbour over the link between them.
+#[derive(Drop)]
+pub struct Topology {
+    links: Vec<Link>,
+    ports: Vec<Vec<Hop>>,
+}
+
+impl Model for Topology {
+    ghost use Rattle.std.specs.Prelude.{map};
+    ghost use Rattle.ir_model.specs.Network.{Network, IsNetwork};
+
+    ghost Value = { Network };
+
+    ghost use Rattle.ir_tables.specs.Views.{network_of};
+
+    ghost view = { network_of };
+
+    ghost invariant = { λ t. IsNetwork (network_of t) };
+}
+
+impl Topology {
+    /// The topology of a graph. Its nodes are places in node order. Its links are the edges that are no self-loops, in
+    /// edge order. The ports of a node are its other neighbours, in adjacency order. A graph with no node is accepted;
+    /// it is refused for memory alone.
+    pub fn of(alloc: Global, graph: &Graph) -> Result<Topology, AllocError>
+        ensures { IfOk result (λ t. t ≡ network_of_graph graph.now) }
+    {
+        let nodes = graph.number_of_nodes();
+        let links = links_of(alloc, graph)?;
+        let mut ports = Vec::with_capacity(alloc, nodes)?;
+        for u in 0..nodes {
+            ports.push(ports_of(alloc, graph, links.as_slice(), u)?)?;
+        }
+        Ok(Topology { links, ports })
+    }
+
+    /// How many nodes there are.
+    pub fn nodes(&self) -> usize
+        ensures count { result ≡ node_count self.now }
+        ensures network { IsNetwork self.now }
+    {
+        self.ports.len()
+    }
+
+    /// How many links are numbered, those that are gone from an `only` among them.
+    pub fn links(&self) -> usize
+        ensures count { result ≡ length self.now.links }
+    {
+        self.links.len()
+    }
+
+    /// The two ends of a link, the smaller node first. Condition: the number is below `links()`.
+    pub fn ends(&self, l: u16) -> (u16, u16)
+        requires { l < length self.now.links }
+        ensures { IsSomeAnd (slice_get self.now.links l) (λ link. (result.0 ≡ link.low) × (result.1 ≡ link.high)) }
+    {
+        let link = &self.links[l as usize];
+        (link.low, link.high)
+    }
+
+    /// How many ports a node has. Condition: the number is below `nodes()`.
+    pub fn degree(&self, u: u16) -> usize
+        requires { u < node_count self.now }
+        ensures { result ≡ length (ports_of self.now u) }
+    {
+        self.ports[u as usize].len()
+    }
+
+    /// Where port `p` of node `u` leads: the neighbour, the link and its weight. Condition: `u` is below `nodes()` and
+    /// `p` below the degree of `u`.
+    pub fn port(&self, u: u16, p: u16) -> Hop
+        requires node { u < node_count self.now }
+        requires port { p < length (ports_of self.now u) }
+        ensures { port_at self.now u p ≡ Some result }
+    {
+        self.ports[u as usize][p as usize]
+    }
+
+    /// The ports of a node, in order. Condition: the number is below `nodes()`.
+    pub fn ports(&self, u: usize) -> &[Hop]
+        requires { u < node_count self.now }
+        ensures { result.now ≡ ports_of self.now u }
+    {
+        self.ports[u].as_slice()
+    }
+
+    /// The topology over the links that are marked as up. Nodes and links keep their numbers, and `links()` and `ends`
+    /// stay; ports are numbered anew over the links that remain. Condition: one mark for each link. It is refused for
+    /// memory alone.
+    pub fn only(&self, alloc: Global, up: &[bool]) -> Result<Topology, AllocError>
+        requires { length up.now ≡ length self.now.links }
+        ensures { IfOk result (λ kept. kept ≡ restrict up.now self.now) }
+    {
+        let links = Vec::from_slice(alloc, self.links.as_slice())?;
+        let mut ports = Vec::with_capacity(alloc, self.ports.len())?;
+        for u in 0..self.nodes() {
+            ports.push(ports_up(alloc, self.ports(u), up)?)?;
+        }
+        Ok(Topology { links, ports })
+    }
+
+    /// A topology with the same nodes, links and ports. It is refused for memory alone.
+    pub fn try_clone(&self, alloc: Global) -> Result<Topology, AllocError>
+        ensures { IfOk result (λ copy. copy ≡ self.now) }
+    {
+        let links = Vec::from_slice(alloc, self.links.as_slice())?;
+        let mut ports = Vec::with_capacity(alloc, self.ports.len())?;
+        for u in 0..self.nodes() {
+            ports.push(Vec::from_slice(alloc, self.ports(u))?)?;
+        }
+        Ok(Topology { links, ports })
+    }
+}
+
+/// The ports whose links are up, in order.
+fn ports_up(alloc: Global, ports: &[Hop], up: &[bool]) -> Result<Vec<Hop>, AllocError>
+    requires { (p : ℕ) (hop : Hop) → slice_get ports.now p ≡ Some hop → hop.link < length up.now }
+    ensures { IfOk result (λ kept. kept.items ≡ filter (is_up up.now) ports.now) }
+{
+    let mut kept = Vec::new(alloc);
+    for hop in ports {
+        if up[hop.link as usize] {
+            kept.push(*hop)?;
+        }
+    }
+    Ok(kept)
+}
