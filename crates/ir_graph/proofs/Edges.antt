@@ -7,7 +7,7 @@ use Rattle.std.proofs.lemmas.List.Filters.{length-filter_more}
 use Rattle.std.proofs.lemmas.List.{length-map}
 use Rattle.std.proofs.lemmas.Option.{same_Some, none-some, slice_get_within, slice_get-map, get_or_from_slice_get}
 use Rattle.ir_model.specs.Graph.{Name, Neighbors, Adjacency, names, among, edges_after}
-use Rattle.ir_graph.specs.Places.{neighbors_at, later_neighbors}
+use Rattle.ir_model.specs.Places.{neighbors_at, later_neighbors}
 use Rattle.ir_graph.proofs.Joined.{place-append}
 use Rattle.ir_graph.proofs.Keeping.{at_row}
 

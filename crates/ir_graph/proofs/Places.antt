@@ -10,7 +10,7 @@ use Rattle.std.proofs.lemmas.List.{length-map}
 use Rattle.std.proofs.lemmas.Bool.{le-ltb, lt-ltb, ltb-true, ltb-false, and_parts}
 use Rattle.ir_model.specs.Graph.{Name, Neighbors, Adjacency, names, among, has_node, neighbors, weight_of, is_name, is_weight, is_row, IsGraph}
 use Rattle.ir_model.proofs.Names.{same_names, bytes_eq-same}
-use Rattle.ir_graph.specs.Places.{place_of, neighbors_at, link_at}
+use Rattle.ir_model.specs.Places.{place_of, neighbors_at, link_at}
 use Rattle.ir_graph.proofs.Joined.{one_place, has_node-weight_of}
 
 -- ---- the place of a name

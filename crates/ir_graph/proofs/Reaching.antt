@@ -8,7 +8,7 @@ use Rattle.std.proofs.lemmas.Option.{same_Some, none-some, slice_get_within}
 use Rattle.std.proofs.lemmas.Map.Keys.{IsDistinct-cons}
 use Rattle.std.proofs.lemmas.Map.Steps.{length-le_from_distinct_below, le-length_from_below}
 use Rattle.ir_model.specs.Graph.{Name, Neighbors, Adjacency, names, has_node, has_edge, weight_of, IsGraph}
-use Rattle.ir_graph.specs.Places.{place_of, neighbors_at, link_at}
+use Rattle.ir_model.specs.Places.{place_of, neighbors_at, link_at}
 use Rattle.ir_graph.specs.Paths.{IsPath, IsConnected}
 use Rattle.ir_graph.specs.Reached.{HasPlace, HasWay, HasNeighbors, AreReached, AreClosed, GoesOn}
 use Rattle.ir_graph.proofs.Removing.{or-false}

@@ -12,7 +12,7 @@ use Rattle.ir_model.proofs.Names.{bytes_eq-same}
 use Rattle.ir_model.specs.Graph.{Name, Neighbors, Adjacency, names, has_node, neighbors, weight_of, with_node, put, without}
 use Rattle.std.specs.Option.{option_map_or}
 use Rattle.ir_graph.specs.View.{rows_view, row_view, change_row}
-use Rattle.ir_graph.specs.Places.{neighbors_at}
+use Rattle.ir_model.specs.Places.{neighbors_at}
 use Rattle.ir_graph.proofs.Places.{place-map}
 
 module _ {K X L Y : Type 0} (key : K → L) (value : X → Y) where

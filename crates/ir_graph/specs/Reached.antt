@@ -2,7 +2,7 @@
 use Rattle.std.specs.Prelude.{◌≡◌, ◌<◌, ◌++◌, ℕ, nat_eq, true, length, List, Some, slice_get}
 use Rattle.std.specs.List.{list_any, IsDistinct}
 use Rattle.ir_model.specs.Graph.{Name, Adjacency, names}
-use Rattle.ir_graph.specs.Places.{link_at, neighbors_at}
+use Rattle.ir_model.specs.Places.{link_at, neighbors_at}
 use Rattle.ir_graph.specs.Paths.{IsPath}
 
 -- the place is among these

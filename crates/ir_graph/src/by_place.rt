@@ -2,7 +2,7 @@
 ghost use Rattle.std.specs.Prelude.{◌≡◌, ◌<◌, ◌+◌, ℕ, List, Some, true, false, IfSome, IfNone, MatchResult, length, take, option_map, slice_get};
 ghost use Rattle.ir_model.specs.Graph.{edges, names, among};
 ghost use Rattle.ir_graph.specs.View.{rows_view};
-ghost use Rattle.ir_graph.specs.Places.{neighbors_at, link_at, later_neighbors, IsBothWays};
+ghost use Rattle.ir_model.specs.Places.{neighbors_at, link_at, later_neighbors, IsBothWays};
 
 use crate::rows::{Rows, name_at, row_index};
 

@@ -66,7 +66,7 @@ fn is_valid_name(name: &str) -> bool
 impl Graph {
     ghost use Rattle.ir_graph.specs.Faults.{node_fault, edge_fault, Refuses};
     ghost use Rattle.ir_graph.specs.Paths.{IsConnected, RefusesEmpty};
-    ghost use Rattle.ir_graph.specs.Places.{link_at, neighbors_at};
+    ghost use Rattle.ir_model.specs.Places.{link_at, neighbors_at};
     ghost use Rattle.ir_model.specs.Graph.{IsGraph};
     ghost use Rattle.std.specs.Prelude.{ℕ, List, position};
 

@@ -2,7 +2,7 @@
 ghost use Rattle.std.specs.Prelude.{◌≡◌, ◌<◌, IfOk, OnOk, length};
 ghost use Rattle.ir_model.specs.Graph.{IsGraph};
 ghost use Rattle.ir_graph.specs.View.{rows_view};
-ghost use Rattle.ir_graph.specs.Places.{neighbors_at};
+ghost use Rattle.ir_model.specs.Places.{neighbors_at};
 ghost use Rattle.ir_graph.specs.Reached.{AreReached, AreClosed, HasNeighbors, HasPlace, GoesOn};
 
 use crate::by_place::{neighbor_at, neighbor_count};

@@ -1,8 +1,10 @@
 pub mod Graph
+pub mod Places
 pub mod Made
 pub mod Text
 pub mod Edgelist
 pub mod Network
+pub mod OfGraph
 pub mod Walk
 pub mod Table
 pub mod Numbering

@@ -15,11 +15,12 @@ use Rattle.ir_model.specs.Graph.{Name, Neighbors, Adjacency, names, among, has_n
 use Rattle.ir_model.specs.Made.{Pair, joins}
 use Rattle.ir_model.specs.Network.{Network, IsNetwork}
 use Rattle.ir_model.proofs.Names.{same_names, bytes_eq-swap}
-use Rattle.ir_graph.specs.Places.{place_of, neighbors_at, link_at}
+use Rattle.ir_model.specs.Places.{place_of, neighbors_at, link_at}
 use Rattle.ir_graph.proofs.Places.{place_of_at, at_place_of, neighbor_is_node, link_facts, link_back, neighbors_at-named}
 use Rattle.ir_graph.proofs.Joined.{one_place}
 use Rattle.ir_tables.specs.Numbered.{Numbers, links_at, links_from, joins_nodes, link_between, port_to, ports_at, ports_from, network_of_rows}
-use Rattle.ir_tables.specs.OfGraph.{link_edges, link_of, link_number, port_of, node_ports, network_of_graph, row_numbers, rows_of}
+use Rattle.ir_model.specs.OfGraph.{link_edges, link_of, link_number, port_of, node_ports, network_of_graph}
+use Rattle.ir_tables.specs.ByPlace.{row_numbers, rows_of}
 use Rattle.ir_tables.proofs.Numbered.{row_get, IsNumbered, rows_network, ports_row, length-ports_from}
 
 -- ---- on numbers

@@ -3,4 +3,4 @@ pub mod Relaxation
 pub mod Frontier
 pub mod Errors
 pub mod Numbered
-pub mod OfGraph
+pub mod ByPlace

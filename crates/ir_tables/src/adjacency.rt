@@ -1,9 +1,9 @@
 //! The links and ports that the adjacency of a graph gives, by the places of its nodes.
 ghost use Rattle.std.specs.Prelude.{◌≡◌, ◌<◌, ◌≤◌, ◌++◌, length, IfOk, OnOk};
 ghost use Rattle.ir_model.specs.declared.TheConstants.{MAX_EDGES};
-ghost use Rattle.ir_graph.specs.Places.{neighbors_at};
+ghost use Rattle.ir_model.specs.Places.{neighbors_at};
 ghost use Rattle.ir_tables.specs.Numbered.{joins_nodes, link_between, links_at, links_from, ports_at};
-ghost use Rattle.ir_tables.specs.OfGraph.{row_numbers, rows_of};
+ghost use Rattle.ir_tables.specs.ByPlace.{row_numbers, rows_of};
 
 use ir_graph::Graph;
 use ir_model::{Hop, Link};

@@ -1,7 +1,7 @@
 ghost use Rattle.std.specs.Prelude.{◌≡◌, ℕ, ◌<◌, ◌≤◌, Some, length, filter, slice_get, slice_index_or, IfOk, IfSome, IsSomeAnd};
 ghost use Rattle.ir_model.specs.Network.{Network, IsNetwork, node_count, ports_of, port_at, is_up, restrict};
 ghost use Rattle.ir_model.specs.declared.Hop.{Hop};
-ghost use Rattle.ir_tables.specs.OfGraph.{network_of_graph};
+ghost use Rattle.ir_model.specs.OfGraph.{network_of_graph};
 
 use crate::adjacency::{links_of, ports_of};
 use ir_graph::Graph;

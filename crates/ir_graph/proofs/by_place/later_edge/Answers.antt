@@ -1,7 +1,7 @@
 use Rattle.std.proofs.Common.{◌≡◌, ◌≤◌, ◌<◌, ◌+◌, ◌∙◌, ℕ, ap, true, not, arith, take, length, filter}
 use Rattle.ir_model.specs.Graph.{Name, names, among}
 use Rattle.ir_graph.specs.View.{rows_view}
-use Rattle.ir_graph.specs.Places.{neighbors_at}
+use Rattle.ir_model.specs.Places.{neighbors_at}
 use Rattle.ir_graph.proofs.Edges.{left_passed, left_skipped, place_passed, there_then}
 use Rattle.ir_graph.proofs.by_place.later_edge.Goals as goal
 use Rattle.ir_graph.proofs.by_place.later_edge.Goals.{in-Some+else-left-eq0, in_default}

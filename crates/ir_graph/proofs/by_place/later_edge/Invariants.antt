@@ -1,7 +1,7 @@
 use Rattle.std.proofs.Common.{◌≡◌, ◌+◌, length, take, filter, not}
 use Rattle.ir_model.specs.Graph.{names, among}
 use Rattle.ir_graph.specs.View.{rows_view}
-use Rattle.ir_graph.specs.Places.{neighbors_at}
+use Rattle.ir_model.specs.Places.{neighbors_at}
 use Rattle.ir_graph.proofs.by_place.later_edge.Given as goal
 
 -- the edges so far and the places left are the place

@@ -2,7 +2,7 @@ use Rattle.std.proofs.Common.{◌≡◌, ◌∙◌, ℕ, sym, ap, subst, Some, n
 use Rattle.std.specs.List.{IsDistinct}
 use Rattle.std.proofs.lemmas.Option.{none-some, same_Some}
 use Rattle.ir_graph.specs.View.{rows_view}
-use Rattle.ir_graph.specs.Places.{link_at}
+use Rattle.ir_model.specs.Places.{link_at}
 use Rattle.ir_graph.specs.Reached.{HasPlace, AreReached, GoesOn}
 use Rattle.ir_graph.proofs.Reaching.{IsPut, goes_on_put, has_put, kept_place, reached_put, neighbors_more, goes_on_none}
 use Rattle.ir_graph.proofs.reach.reach_neighbors.Goals as goal

@@ -1,6 +1,6 @@
 use Rattle.std.proofs.Common.{◌≡◌, length}
 use Rattle.ir_graph.specs.View.{rows_view}
-use Rattle.ir_graph.specs.Places.{neighbors_at}
+use Rattle.ir_model.specs.Places.{neighbors_at}
 use Rattle.ir_graph.specs.Reached.{AreReached, HasNeighbors, GoesOn}
 use Rattle.ir_graph.proofs.reach.reach_neighbors.Given as goal
 

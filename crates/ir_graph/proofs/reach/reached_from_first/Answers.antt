@@ -2,7 +2,7 @@ use Rattle.std.proofs.Common.{◌≡◌, ◌+◌, ◌∙◌, sym, ap, subst, nat
 use Rattle.indexmap.specs.IndexSet.{insert_key}
 use Rattle.ir_graph.specs.View.{rows_view}
 use Rattle.ir_graph.specs.Reached.{HasPlace, HasNeighbors, AreReached, GoesOn}
-use Rattle.ir_graph.specs.Places.{neighbors_at}
+use Rattle.ir_model.specs.Places.{neighbors_at}
 use Rattle.ir_graph.proofs.Views.{length-rows_view}
 use Rattle.ir_graph.proofs.Reaching.{ClosedBefore, place_there, kept_place, reached_first, closed_more, closed_past, closed_all}
 use Rattle.ir_graph.proofs.reach.reached_from_first.Goals as goal

@@ -1,6 +1,6 @@
 use Rattle.std.proofs.Common.{◌≡◌, ◌<◌, ℕ, length, Some, slice_get}
 use Rattle.ir_graph.specs.View.{rows_view}
-use Rattle.ir_graph.specs.Places.{neighbors_at}
+use Rattle.ir_model.specs.Places.{neighbors_at}
 use Rattle.ir_graph.specs.Reached.{AreReached, HasNeighbors, HasPlace}
 use Rattle.ir_graph.proofs.reach.reached_from_first.Given as goal
 

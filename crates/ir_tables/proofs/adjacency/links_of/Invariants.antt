@@ -1,6 +1,6 @@
 use Rattle.std.proofs.Common.{◌≡◌, ◌++◌, drop}
 use Rattle.ir_tables.specs.Numbered.{links_from}
-use Rattle.ir_tables.specs.OfGraph.{rows_of}
+use Rattle.ir_tables.specs.ByPlace.{rows_of}
 use Rattle.ir_tables.proofs.adjacency.links_of.Given as goal
 
 abbrev pub invariant-loop-u : goal.invariant-loop-u

@@ -1,7 +1,7 @@
 use Rattle.std.proofs.Common.{◌≡◌, ◌++◌, take}
-use Rattle.ir_graph.specs.Places.{neighbors_at}
+use Rattle.ir_model.specs.Places.{neighbors_at}
 use Rattle.ir_tables.specs.Numbered.{links_at}
-use Rattle.ir_tables.specs.OfGraph.{row_numbers}
+use Rattle.ir_tables.specs.ByPlace.{row_numbers}
 use Rattle.ir_tables.proofs.adjacency.push_links.Given as goal
 
 abbrev pub invariant-loop-place : goal.invariant-loop-place

@@ -1,6 +1,6 @@
 use Rattle.std.proofs.Common.{◌≡◌, take, map}
 use Rattle.ir_tables.specs.Numbered.{ports_from}
-use Rattle.ir_tables.specs.OfGraph.{rows_of}
+use Rattle.ir_tables.specs.ByPlace.{rows_of}
 use Rattle.ir_tables.proofs.topology.Topology.of.Given as goal
 
 abbrev pub invariant-loop-u : goal.invariant-loop-u

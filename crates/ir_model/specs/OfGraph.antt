@@ -6,8 +6,7 @@ use Rattle.ir_model.specs.declared.Hop.{Hop}
 use Rattle.ir_model.specs.Graph.{Name, Neighbors, Adjacency, edges}
 use Rattle.ir_model.specs.Made.{Pair, joins}
 use Rattle.ir_model.specs.Network.{Network}
-use Rattle.ir_graph.specs.Places.{place_of}
-use Rattle.ir_tables.specs.Numbered.{Numbers}
+use Rattle.ir_model.specs.Places.{place_of}
 
 -- the edges that make links, in edge order: all but the self-loops
 abbrev pub link_edges : Adjacency → List Pair
@@ -33,13 +32,3 @@ node_ports g x es = map (port_of g x) (filter (λ e. not (bytes_eq x e.0)) es)
 -- order, and the ports of a node are its other neighbours in adjacency order.
 abbrev pub network_of_graph : Adjacency → Network
 network_of_graph g = record { links = map (link_of g) (link_edges g); ports = map (λ r. node_ports g r.0 r.1) g }
-
--- ---- by numbers
-
--- neighbours by their places
-abbrev pub row_numbers : Adjacency → Neighbors → Numbers
-row_numbers g es = map {B = ℕ × ℕ} (λ e. (place_of g e.0, e.1)) es
-
--- the neighbours of each node, by their places
-abbrev pub rows_of : Adjacency → List Numbers
-rows_of g = map (λ r. row_numbers g r.1) g
