@@ -187,7 +187,7 @@ impl Graph {
         if rows::has_row(&self.rows, name) {
             return Ok(false);
         }
-        if self.rows.len() >= MAX_NODES {
+        if self.number_of_nodes() >= MAX_NODES {
             return Err(GraphError::TooManyNodes);
         }
         match rows::add_row(self.alloc, &mut self.rows, name) {
