@@ -1,12 +1,16 @@
 -- A table made of columns.
-use Rattle.std.proofs.Common.{◌≡◌, ℕ, ◌+◌, ◌<◌, ◌≤◌, List, [], ◌∷◌, ◌++◌, length, map, sym, subst, ◌∙◌, arith, ⊎_elim, slice_index_or}
+use Rattle.std.proofs.Common.{◌≡◌, ℕ, ◌+◌, ◌<◌, ◌≤◌, List, [], ◌∷◌, ◌++◌, length, map, Option, Some, refl, ap, sym, subst, ◌∙◌, arith, ⊎_elim, slice_index_or}
 use Rattle.std.proofs.lemmas.List.{get_or-map, length-map, get_or_append_left, get_or_push}
 use Rattle.std.proofs.lemmas.Bool.{cases_lt}
-use Rattle.ir_model.specs.Network.{Network, node_count}
+use Rattle.ir_model.specs.Network.{Network, node_count, port_at, IsNetwork}
+use Rattle.std.specs.Prelude.{option_map, option_and_then}
+use Rattle.ir_model.specs.declared.Hop.{Hop}
 use Rattle.ir_model.specs.Walk.{IsConnected}
-use Rattle.ir_model.specs.Table.{FullTable, table_size, IsSquare, IsShortest}
+use Rattle.ir_model.specs.Table.{FullTable, table_size, port_in, weight_in, IsSquare, IsShortest, IsRouted, next_node, Continues}
 use Rattle.ir_tables.specs.declared.table.Column.{Column}
 use Rattle.ir_tables.specs.Relaxation.{IsColumn}
+use Rattle.ir_tables.specs.Listed.{listed_port, IsPortList, IsListed, IsWay, IsListedColumn}
+use Rattle.ir_tables.proofs.Ways.{continues_short, next_in}
 
 -- the full table of its columns
 abbrev pub of_columns : List Column → FullTable
@@ -63,15 +67,63 @@ columns_connected net cols are u d u_in d_in =
     let far = (columns_shortest net cols are).weights u d u_in d_in in (far.reached.0, far.reached.1)
 
 -- one more column
-pub columns_push : (net : Network) (cols : List Column) (d : ℕ) (column : Column) → length cols ≡ d
-    → ((k : ℕ) (e : Column) → k < d → IsColumn net k (slice_index_or cols k e).ports.items (slice_index_or cols k e).weights.items)
-    → IsColumn net d column.ports.items column.weights.items
-    → (k : ℕ) (e : Column) → k < d + 1 → IsColumn net k (slice_index_or (cols ++ column ∷ []) k e).ports.items (slice_index_or (cols ++ column ∷ []) k e).weights.items
-columns_push net cols d column len before here k e lt =
-    let P : ℕ → Column → Type 0 = λ j c. IsColumn net j c.ports.items c.weights.items in
+pub columns_push : (P : ℕ → List (Option ℕ) → List ℕ → Type 0) (cols : List Column) (d : ℕ) (column : Column) → length cols ≡ d
+    → ((k : ℕ) (e : Column) → k < d → P k (slice_index_or cols k e).ports.items (slice_index_or cols k e).weights.items)
+    → P d column.ports.items column.weights.items
+    → (k : ℕ) (e : Column) → k < d + 1 → P k (slice_index_or (cols ++ column ∷ []) k e).ports.items (slice_index_or (cols ++ column ∷ []) k e).weights.items
+columns_push P cols d column len before here k e lt =
+    let Q : ℕ → Column → Type 0 = λ j c. P j c.ports.items c.weights.items in
     ⊎_elim (λ (less : k < d). let left : slice_index_or (cols ++ column ∷ []) k e ≡ slice_index_or cols k e = get_or_append_left cols (column ∷ []) e k (omega (arith, less, len)) in
-    subst (P k) (sym left) (before k e less))
+    subst (Q k) (sym left) (before k e less))
     (λ (ge : d ≤ k). let same : k ≡ d = omega (arith, lt, ge) in
     let right : slice_index_or (cols ++ column ∷ []) k e ≡ column = get_or_push cols column e k (omega (arith, same, len)) in
-    let Q : ℕ → Type 0 = λ j. P j column in
-    subst (P k) (sym right) (subst Q (sym same) here)) (cases_lt k d)
+    let R : ℕ → Type 0 = λ j. Q j column in
+    subst (Q k) (sym right) (subst R (sym same) here)) (cases_lt k d)
+
+-- ---- columns of listed ports
+
+-- each column is that of the listed ports
+pub record AreListed (net : Network) (list : List (Option ℕ)) (cols : List Column) : Type 0 where
+  pub len : length cols ≡ node_count net
+  pub columns : (k : ℕ) (e : Column) → k < length cols → IsListedColumn net list k (slice_index_or cols k e).ports.items (slice_index_or cols k e).weights.items
+
+listed_of : (net : Network) (list : List (Option ℕ)) (cols : List Column) → AreListed net list cols → (d : ℕ) → d < length cols → IsListedColumn net list d (slice_index_or (of_columns cols).ports d []) (slice_index_or (of_columns cols).weights d [])
+listed_of net list cols are d lt =
+    let e : Column = some_column cols d lt in
+    rw (port_row cols d e lt, weight_row cols d e lt) (are.columns d e lt)
+
+pub listed_square : (net : Network) (list : List (Option ℕ)) (cols : List Column) → AreListed net list cols → IsSquare (of_columns cols)
+listed_square net list cols are =
+    let size : table_size (of_columns cols) ≡ length cols = size_of_columns cols in
+    let weights : length (of_columns cols).weights ≡ length cols = length-map cols (λ c. c.weights.items) in
+    record {
+      weights_len = weights ∙ sym size;
+      port_rows = λ d lt. (listed_of net list cols are d (omega (arith, size, lt))).ports_len ∙ (sym are.len ∙ sym size);
+      weight_rows = λ d lt. (listed_of net list cols are d (omega (arith, size, lt))).weights_are.len ∙ (sym are.len ∙ sym size);
+    }
+
+pub listed_table : (net : Network) (list : List (Option ℕ)) (cols : List Column) → AreListed net list cols → IsListed net list (of_columns cols)
+listed_table net list cols are = record {
+  size = size_of_columns cols ∙ are.len;
+  held = λ u d u_in d_in. (listed_of net list cols are d (omega (arith, are.len))).held u u_in;
+}
+
+-- tables that agree at the nodes go on alike
+continues_agree : (net : Network) → IsNetwork net → (table other : ℕ → ℕ → Option ℕ) (d : ℕ) → ((x : ℕ) → x < node_count net → table x d ≡ other x d)
+    → (x : ℕ) → x < node_count net → (rest : List ℕ) → Continues net table d x rest → Continues net other d x rest
+continues_agree net ok table other d agree x x_in [] way = way
+continues_agree net ok table other d agree x x_in (y ∷ rest) way =
+    let next : next_node net other x d ≡ Some y = ap (λ o. option_and_then (λ p. option_map (λ (hop : Hop). hop.node) (port_at net x p)) o) (sym (agree x x_in)) ∙ way.1 in
+    (way.0, next, continues_agree net ok table other d agree y (next_in net ok table x d y way.1) rest way.2)
+
+pub listed_routed : (net : Network) → IsNetwork net → (list : List (Option ℕ)) (cols : List Column) → IsPortList net list → AreListed net list cols → IsRouted net (of_columns cols)
+listed_routed net ok list cols is are =
+    let table : IsListed net list (of_columns cols) = listed_table net list cols are in
+    record {
+      size = table.size;
+      own = λ d d_in. table.held d d d_in d_in ∙ is.own d d_in;
+      walks = λ u d u_in d_in.
+          let way : IsWay net (listed_port (node_count net) list) d u (weight_in (of_columns cols) u d) = (listed_of net list cols are d (omega (arith, are.len))).weights_are.ways u u_in in
+          let same = continues_agree net ok (listed_port (node_count net) list) (port_in (of_columns cols)) d (λ x x_in. sym (table.held x d x_in d_in)) u u_in way.rest way.continues in
+          (u ∷ way.rest, (refl, same), continues_short net ok (listed_port (node_count net) list) d u u_in way.rest way.continues, way.weighs);
+    }

@@ -1,13 +1,12 @@
 -- Neighbours by number make a network.
-use Rattle.std.proofs.Common.{◌≡◌, ◌≢◌, ℕ, zero, suc, ◌+◌, ◌<◌, ◌≤◌, ◌==◌, ◌||◌, ◌&&◌, Bool, true, false, not, cond, List, [], ◌∷◌, ◌++◌, length, map, filter, Option, Some, None, unwrap_or, refl, ap, sym, subst, ◌∙◌, arith, get_or, slice_get, slice_index_or, eqb, ltb, inl, inr, ◌⊎◌, ⊎_elim}
-use Rattle.std.specs.List.{position_or_len}
-use Rattle.std.proofs.lemmas.Bool.{cases_Bool, cases_lt, cases_order, eq-eqb, ne_eqb, eqb-true, eqb-false, or_cases, and_parts, and_from, not-true, ltb-true, lt-ltb}
+use Rattle.std.proofs.Common.{◌≡◌, ◌≢◌, ℕ, zero, suc, ◌+◌, ◌<◌, ◌≤◌, ◌==◌, ◌||◌, ◌&&◌, Bool, true, false, not, List, [], ◌∷◌, ◌++◌, length, map, filter, Option, Some, unwrap_or, refl, ap, sym, subst, ◌∙◌, arith, slice_get, slice_index_or, ltb, inl, inr, ◌⊎◌, ⊎_elim}
+use Rattle.std.proofs.lemmas.Bool.{cases_Bool, cases_order, eq-eqb, ne_eqb, eqb-true, eqb-false, or_cases, and_parts, not-true, ltb-true, lt-ltb}
 use Rattle.std.proofs.lemmas.List.Folds.{find_at}
 use Rattle.std.specs.List.{find}
 use Rattle.ir_model.specs.declared.TheConstants.{MAX_NODES, MAX_EDGES, MAX_WEIGHT}
 use Rattle.ir_model.specs.declared.Link.{Link}
 use Rattle.ir_model.specs.declared.Hop.{Hop}
-use Rattle.ir_model.specs.Network.{Network, node_count, ports_of, port_at, IsLink, Joins, IsPort, IsNetwork, port_back}
+use Rattle.ir_model.specs.Network.{Network, node_count, port_at, Joins, IsPort, IsNetwork, port_back}
 use Rattle.ir_tables.specs.Numbered.{Numbers, links_at, links_from, joins_nodes, link_between, port_to, ports_at, ports_from, network_of_rows}
 
 -- what a mapped filter gives comes from an element that passes

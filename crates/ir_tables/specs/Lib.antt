@@ -4,3 +4,4 @@ pub mod Frontier
 pub mod Errors
 pub mod Numbered
 pub mod ByPlace
+pub mod Listed

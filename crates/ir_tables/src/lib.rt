@@ -6,6 +6,7 @@
 
 mod adjacency;
 mod frontier;
+mod listed;
 mod relaxation;
 mod table;
 mod topology;

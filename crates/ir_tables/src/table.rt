@@ -3,8 +3,10 @@ ghost use Rattle.ir_model.specs.Network.{node_count};
 ghost use Rattle.ir_model.specs.Walk.{IsConnected, IsDisconnected};
 ghost use Rattle.ir_model.specs.Table.{table_size, port_in, weight_in, IsShortest, IsRouted};
 ghost use Rattle.ir_tables.specs.Relaxation.{IsColumn, HasNoWalk};
+ghost use Rattle.ir_tables.specs.Listed.{IsPortList, IsListed, IsListedColumn};
 
 use crate::frontier::weights_to;
+use crate::listed::walk_weights;
 use crate::relaxation::{UNREACHED, first_port};
 use crate::topology::Topology;
 use std::alloc::{AllocError, AllocFailed, Global};
@@ -107,6 +109,29 @@ fn shortest_column(
     Ok(Some(Column { ports, weights }))
 }
 
+/// The column of the listed ports for `d`.
+fn listed_column(
+    alloc: Global,
+    topology: &Topology,
+    ports: &[Option<u16>],
+    d: usize,
+) -> Result<Column, AllocError>
+    requires list { IsPortList topology.now ports.now }
+    requires end { d < node_count topology.now }
+    ensures { IfOk result (λ c. IsListedColumn topology.now ports.now d c.ports.items c.weights.items) }
+{
+    let nodes = topology.nodes();
+    let weights = walk_weights(alloc, topology, ports, d)?;
+    let mut held = Vec::with_capacity(alloc, nodes)?;
+    for u in 0..nodes {
+        held.push(ports[u * nodes + d])?;
+    }
+    Ok(Column {
+        ports: held,
+        weights,
+    })
+}
+
 impl Table {
     /// The shortest table of a topology: at each node and destination the least port to a neighbour from which the
     /// way goes on shortest, and the distance (van Leeuwen and Tan 1987).
@@ -130,6 +155,28 @@ impl Table {
                 Some(column) => columns.push(column)?,
                 None => return Err(TableError::Disconnected),
             }
+        }
+        Ok(Table { columns })
+    }
+
+    /// The table of a list of ports: place `u * n + d` of the list holds the port at node `u` for the destination `d`,
+    /// where there are `n` nodes. Its distances are the weights of the walks that the list prescribes.
+    ///
+    /// Condition: the list has `n * n` entries, none stands exactly where `u` is `d`, each other entry is a port of `u`,
+    /// and from each node the ports lead to each destination. It is refused for memory alone.
+    pub fn from_ports(
+        alloc: Global,
+        topology: &Topology,
+        ports: Vec<Option<u16>>,
+    ) -> Result<Table, AllocError>
+        requires { IsPortList topology.now ports.items }
+        ensures listed { IfOk result (λ table. IsListed topology.now ports.items table) }
+        ensures routed { IfOk result (λ table. IsRouted topology.now table) }
+    {
+        let nodes = topology.nodes();
+        let mut columns = Vec::with_capacity(alloc, nodes)?;
+        for d in 0..nodes {
+            columns.push(listed_column(alloc, topology, ports.as_slice(), d)?)?;
         }
         Ok(Table { columns })
     }

@@ -1,6 +1,5 @@
-use Rattle.std.proofs.Common.{◌≡◌, ◌<◌, ℕ, length, ◌∙◌, sym, ap, arith}
+use Rattle.std.proofs.Common.{length, ◌∙◌, sym, arith}
 use Rattle.std.proofs.lemmas.List.Sums.{position_or_len_is}
-use Rattle.ir_model.specs.declared.Link.{Link}
 use Rattle.ir_tables.specs.Numbered.{joins_nodes}
 use Rattle.ir_tables.proofs.Numbered.{past_link}
 use Rattle.ir_tables.proofs.adjacency.link_between.Goals as goal

@@ -1,10 +1,10 @@
-use Rattle.std.proofs.Common.{◌≡◌, ◌<◌, ◌++◌, ◌+◌, ℕ, List, length, sym, ap, ◌∙◌, arith, drop, append_assoc}
+use Rattle.std.proofs.Common.{◌≡◌, ◌++◌, ◌+◌, ℕ, List, sym, ap, ◌∙◌, arith, drop, append_assoc}
 use Rattle.ir_model.specs.declared.Link.{Link}
 use Rattle.ir_model.specs.Graph.{Adjacency}
 use Rattle.ir_model.specs.Places.{neighbors_at}
 use Rattle.ir_tables.specs.Numbered.{links_at, links_from}
 use Rattle.ir_tables.specs.ByPlace.{row_numbers, rows_of}
-use Rattle.ir_tables.proofs.OfGraph.{rows_more}
+use Rattle.ir_tables.proofs.Of.{rows_more}
 use Rattle.ir_tables.proofs.adjacency.links_of.Goals as goal
 
 pub loop-u-preserved : goal.loop-u-preserved

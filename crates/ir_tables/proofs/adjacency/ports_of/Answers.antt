@@ -1,11 +1,10 @@
-use Rattle.std.proofs.Common.{◌≡◌, ◌≤◌, ◌<◌, ◌++◌, ◌∷◌, [], ℕ, List, Some, not, length, sym, ap, ◌∙◌, arith, take, slice_get}
+use Rattle.std.proofs.Common.{◌≡◌, ◌≤◌, ◌++◌, ◌∷◌, [], ℕ, List, Some, not, length, sym, ap, ◌∙◌, arith, take, slice_get}
 use Rattle.std.proofs.lemmas.List.Sums.{prefix_len-le-length}
 use Rattle.ir_model.specs.declared.Hop.{Hop}
-use Rattle.ir_model.specs.declared.TheConstants.{MAX_EDGES}
-use Rattle.ir_model.specs.Places.{neighbors_at, link_at}
-use Rattle.ir_tables.specs.Numbered.{Numbers, joins_nodes, link_between, port_to, ports_at}
+use Rattle.ir_model.specs.Places.{neighbors_at}
+use Rattle.ir_tables.specs.Numbered.{Numbers, joins_nodes, link_between, ports_at}
 use Rattle.ir_tables.specs.ByPlace.{row_numbers}
-use Rattle.ir_tables.proofs.OfGraph.{next_entry, ports_more, ports_same}
+use Rattle.ir_tables.proofs.Of.{next_entry, ports_more, ports_same}
 use Rattle.ir_tables.proofs.adjacency.ports_of.Goals as goal
 use Rattle.ir_tables.proofs.adjacency.ports_of.Goals.{then-v-u+in_ok-push, else-v-u}
 

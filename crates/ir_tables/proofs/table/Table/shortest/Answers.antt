@@ -2,6 +2,7 @@ use Rattle.std.proofs.Common.{◌≡◌, ◌+◌, ◌++◌, ◌∷◌, [], arith
 use Rattle.std.proofs.lemmas.List.{length_push}
 use Rattle.ir_model.specs.Network.{node_count}
 use Rattle.ir_model.proofs.Tables.{shortest_routed}
+use Rattle.ir_tables.specs.Relaxation.{IsColumn}
 use Rattle.ir_tables.proofs.Columns.{of_columns, AreColumns, columns_push, columns_square, columns_shortest, columns_connected}
 use Rattle.ir_tables.proofs.table.Table.shortest.Goals as goal
 
@@ -11,7 +12,7 @@ loop-d-preserved c =
     let here = rw c.in-Some.is at c.in_ok-column.ensures.column in
     rw items (record {
       len = length_push c.loop-d.columns.items c.in-Some.column ∙ ap (λ k. k + 1) c.loop-d.invariant.len;
-      columns = columns_push c.args.topology.now c.loop-d.columns.items c.loop-d.d c.in-Some.column c.loop-d.invariant.len c.loop-d.invariant.columns here;
+      columns = columns_push (IsColumn c.args.topology.now) c.loop-d.columns.items c.loop-d.d c.in-Some.column c.loop-d.invariant.len c.loop-d.invariant.columns here;
     })
 
 pub invariant_of-result : goal.invariant_of-result

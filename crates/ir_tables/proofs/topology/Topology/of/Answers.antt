@@ -1,4 +1,4 @@
-use Rattle.std.proofs.Common.{◌≡◌, ◌≤◌, ◌++◌, ◌∷◌, [], ℕ, List, Vec, Global, length, map, sym, ap, subst, ◌∙◌, arith, take}
+use Rattle.std.proofs.Common.{◌≡◌, ◌++◌, ◌∷◌, [], ℕ, List, Vec, Global, length, map, sym, ap, subst, ◌∙◌, arith, take}
 use Rattle.std.proofs.lemmas.List.{map-append}
 use Rattle.ir_model.specs.declared.Link.{Link}
 use Rattle.ir_model.specs.declared.Hop.{Hop}
@@ -6,9 +6,8 @@ use Rattle.ir_model.specs.Graph.{Adjacency}
 use Rattle.ir_model.specs.Network.{Network, IsNetwork}
 use Rattle.ir_model.specs.Places.{neighbors_at}
 use Rattle.ir_tables.specs.Numbered.{ports_at, ports_from}
-use Rattle.ir_model.specs.OfGraph.{network_of_graph}
 use Rattle.ir_tables.specs.ByPlace.{row_numbers, rows_of}
-use Rattle.ir_tables.proofs.OfGraph.{graph_few, graph_network, graph_made, ports_step, ports_whole}
+use Rattle.ir_tables.proofs.Of.{graph_few, graph_network, graph_made, ports_step, ports_whole}
 use Rattle.ir_tables.proofs.topology.Topology.of.Goals as goal
 
 pub ports_of-requires-clause-few : goal.ports_of-requires-clause-few

@@ -1,9 +1,9 @@
 -- The network of a graph is that of its neighbours by number.
-use Rattle.std.proofs.Common.{◌≡◌, ◌≢◌, ℕ, zero, suc, ◌+◌, ◌<◌, ◌≤◌, ◌==◌, ◌||◌, ◌&&◌, min, max, Bool, true, false, not, cond, List, [], ◌∷◌, ◌++◌, length, map, filter, Option, Some, None, option_map, refl, ap, sym, subst, ◌∙◌, arith, get_or, slice_get, slice_index_or, take, drop, append-nil, add-one, drop-cons, eqb, ltb, nat_lt, leb, inl, inr, ◌⊎◌, ⊎_elim, bytes_eq}
+use Rattle.std.proofs.Common.{◌≡◌, ◌≢◌, ℕ, zero, suc, ◌+◌, ◌<◌, ◌≤◌, ◌==◌, ◌||◌, ◌&&◌, min, max, Bool, true, false, not, cond, List, [], ◌∷◌, ◌++◌, length, map, filter, Option, Some, None, option_map, refl, ap, sym, subst, ◌∙◌, arith, get_or, slice_get, slice_index_or, take, drop, append-nil, add-one, drop-cons, ltb, nat_lt, leb, ⊎_elim, bytes_eq}
 use Rattle.std.specs.Option.{option_map_or}
 use Rattle.std.specs.List.{position_or_len, list_all, IsDistinct}
 use Rattle.std.specs.Map.{keys_of}
-use Rattle.std.proofs.lemmas.Bool.{cases_Bool, cases_lt, cases_order, eq-eqb, ne_eqb, eqb-true, eqb-false, and_parts, ltb-true, lt-ltb, le-ltb, leb-true, both_ways}
+use Rattle.std.proofs.lemmas.Bool.{cases_Bool, cases_lt, cases_order, eq-eqb, ne_eqb, and_parts, ltb-true, lt-ltb, le-ltb, leb-true, both_ways}
 use Rattle.std.proofs.lemmas.List.{length-map, map-append, take_more, take_all}
 use Rattle.std.proofs.lemmas.List.Elements.{filter-append, filter_more}
 use Rattle.std.proofs.lemmas.List.Sums.{passes_at_first, length-filter, count_by-le-length}
@@ -11,7 +11,7 @@ use Rattle.std.proofs.lemmas.Option.{slice_get-map, slice_get_within, get_or_fro
 use Rattle.ir_model.specs.declared.TheConstants.{MAX_EDGES, MAX_WEIGHT}
 use Rattle.ir_model.specs.declared.Link.{Link}
 use Rattle.ir_model.specs.declared.Hop.{Hop}
-use Rattle.ir_model.specs.Graph.{Name, Neighbors, Adjacency, names, among, has_node, neighbors, edges_after, edges, is_weight, is_row, IsGraph}
+use Rattle.ir_model.specs.Graph.{Name, Neighbors, Adjacency, names, among, has_node, edges_after, edges, is_weight, is_row, IsGraph}
 use Rattle.ir_model.specs.Made.{Pair, joins}
 use Rattle.ir_model.specs.Network.{Network, IsNetwork}
 use Rattle.ir_model.proofs.Names.{same_names, bytes_eq-swap}

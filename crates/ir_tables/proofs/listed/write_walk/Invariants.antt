@@ -1,0 +1,7 @@
+use Rattle.ir_model.specs.Network.{node_count}
+use Rattle.ir_tables.specs.Listed.{listed_port}
+use Rattle.ir_tables.proofs.Ways.{IsWritten}
+use Rattle.ir_tables.proofs.listed.write_walk.Given as goal
+
+abbrev pub invariant-loop-step : goal.invariant-loop-step
+invariant-loop-step l = IsWritten l.topology (listed_port (node_count l.topology) l.ports) l.d l.u l.x l.left l._step l.initial.weights l.weights
