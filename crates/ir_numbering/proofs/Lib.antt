@@ -1,0 +1,11 @@
+pub mod Lists
+pub mod Neighbors
+pub mod Traversal
+pub mod Nested
+pub mod Ways
+pub mod ParentPorts
+pub mod Cells
+pub mod Routes
+pub mod TreePorts
+pub mod TreeRow
+pub mod Subtrees

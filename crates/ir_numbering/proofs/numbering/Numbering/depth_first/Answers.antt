@@ -1,0 +1,29 @@
+use Rattle.std.proofs.Common.{◌≡◌, ◌≢◌, ◌+◌, ◌<◌, ◌≤◌, ℕ, List, length, arith, subst, sym, ap, ◌∙◌}
+use Rattle.ir_model.specs.Network.{node_count}
+use Rattle.ir_model.specs.Scheme.{AreLabels}
+use Rattle.ir_numbering.proofs.ParentPorts.{sound_numbers}
+use Rattle.ir_numbering.proofs.Ways.{tree_connects}
+use Rattle.ir_numbering.proofs.numbering.Numbering.depth_first.Goals as goal
+
+pub returns-then-len-nodes-clause-disconnected : goal.returns-then-len-nodes-clause-disconnected
+returns-then-len-nodes-clause-disconnected c = λ e.
+    let n = c.nodes-2.ensures.count in
+    let cut = c.in_ok-order.ensures.some (omega arith) in
+    (c.args.root, cut.0, let r = c.if-root-nodes.false in let m = c.nodes.ensures.count in omega arith, cut.1, cut.2)
+
+pub invariant_of-result : goal.invariant_of-result
+invariant_of-result c =
+    let n = c.nodes-2.ensures.count in
+    let is = c.in_ok-order.ensures.all (omega arith) in
+    let labels = rw c.as_slice.ensures.value at c.in_ok-labels.ensures in
+    let there = subst (λ (k : ℕ). AreLabels k c.in_ok-order.field-0.nodes.items c.in_ok-labels.labels.items) is.every labels in
+    let ports = rw (c.as_slice-2.ensures.value, c.as_slice-3.ensures.value) at c.in_ok-ports.ensures in
+    sound_numbers c.args.topology.now c.nodes-2.ensures.network c.args.root c.in_ok-order.field-0.nodes.items c.in_ok-order.field-0.parents.items c.in_ok-labels.labels.items is there c.in_ok-ports.ports.items ports
+
+pub returns-clause-connected : goal.returns-clause-connected
+returns-clause-connected c =
+    let n = c.nodes-2.ensures.count in
+    let is = c.in_ok-order.ensures.all (omega arith) in
+    let labels = rw c.as_slice.ensures.value at c.in_ok-labels.ensures in
+    let there = subst (λ (k : ℕ). AreLabels k c.in_ok-order.field-0.nodes.items c.in_ok-labels.labels.items) is.every labels in
+    tree_connects c.args.topology.now c.nodes-2.ensures.network c.args.root c.in_ok-order.field-0.nodes.items c.in_ok-order.field-0.parents.items is c.in_ok-labels.labels.items there

@@ -1,0 +1,13 @@
+//! Depth-first numbers, and the tables that route along the tree of a numbering.
+#![tactic(auto)]
+
+mod error;
+mod laws;
+mod numbering;
+mod parents;
+mod search;
+mod tree;
+
+pub use error::NumberError;
+pub use laws::{subtrees_are_intervals, tree_rows_start_at_sons};
+pub use numbering::{Numbering, tree_table};

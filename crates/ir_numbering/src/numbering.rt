@@ -1,0 +1,138 @@
+ghost use Rattle.std.specs.Prelude.{◌≡◌, ◌<◌, ◌≤◌, ◌↔◌, None, length, slice_index, slice_index_or, IfOk, OnOk};
+ghost use Rattle.ir_model.specs.Network.{node_count};
+ghost use Rattle.ir_model.specs.Walk.{IsConnected, IsDisconnected};
+ghost use Rattle.ir_model.specs.Numbering.{neighbors_of, IsDepthFirst};
+ghost use Rattle.ir_model.specs.Subtree.{IsSubtree};
+ghost use Rattle.ir_model.specs.Table.{port_in, IsRouted};
+ghost use Rattle.ir_model.specs.Tree.{IsTreeTable};
+ghost use Rattle.ir_numbering.specs.Numbers.{IsNumberingOf};
+
+use crate::error::NumberError;
+use crate::parents::{labels_of, parent_ports, subtree_size};
+use crate::search::{Order, search};
+use crate::tree::tree_ports;
+use ir_tables::{Table, Topology};
+use std::alloc::{AllocError, Global};
+use std::marker::Model;
+
+/// Depth-first numbers of a topology: the label of each node, and its parent in the tree of the numbering.
+#[derive(Drop)]
+pub struct Numbering {
+    order: Vec<u16>,
+    parents: Vec<usize>,
+    labels: Vec<u16>,
+    ports: Vec<Option<u16>>,
+}
+
+impl Model for Numbering {
+    ghost use Rattle.ir_numbering.specs.Numbers.{Numbers, IsSound};
+    ghost use Rattle.ir_numbering.specs.Views.{numbers_of};
+
+    ghost Value = { Numbers };
+
+    ghost view = { numbers_of };
+
+    ghost invariant = { λ s. IsSound (numbers_of s) };
+}
+
+impl Numbering {
+    /// Numbers the nodes depth first from the root. The next node is the first neighbour, in port order, without a
+    /// number of the node that was numbered last and still has one.
+    ///
+    /// NoNode exactly where the root is no node of the topology, then Disconnected where some node has no walk to
+    /// some node; NoMemory where a growth was refused, which may come before Disconnected is known.
+    pub fn depth_first(
+        alloc: Global,
+        topology: &Topology,
+        root: u16,
+    ) -> Result<Numbering, NumberError>
+        ensures no_node { (result ≡ Err NumberError.NoNode) ↔ (node_count topology.now ≤ root) }
+        ensures depth_first { IfOk result (λ numbers. IsDepthFirst (neighbors_of topology.now) (node_count topology.now) root numbers.order numbers.parents) }
+        ensures numbering { IfOk result (λ numbers. IsNumberingOf topology.now numbers) }
+        ensures connected { OnOk result (IsConnected topology.now) }
+        ensures disconnected { result ≡ Err NumberError.Disconnected → IsDisconnected topology.now }
+    {
+        if root as usize >= topology.nodes() {
+            return Err(NumberError::NoNode);
+        }
+        let Order {
+            nodes: order,
+            parents,
+        } = search(alloc, topology, root)?;
+        if order.len() < topology.nodes() {
+            return Err(NumberError::Disconnected);
+        }
+        let labels = labels_of(alloc, order.as_slice())?;
+        let ports = parent_ports(
+            alloc,
+            topology,
+            order.as_slice(),
+            parents.as_slice(),
+            labels.as_slice(),
+        )?;
+        Ok(Numbering {
+            order,
+            parents,
+            labels,
+            ports,
+        })
+    }
+
+    /// The label of a node: its place in the depth-first order.
+    pub fn label_of(&self, u: u16) -> u16
+        requires { u < length self.now.order }
+        ensures { result ≡ slice_index self.now.labels u }
+    {
+        self.labels[u as usize]
+    }
+
+    /// The node with a label.
+    pub fn node_of(&self, label: u16) -> u16
+        requires { label < length self.now.order }
+        ensures { result ≡ slice_index self.now.order label }
+    {
+        self.order[label as usize]
+    }
+
+    /// The port of a node that leads to its parent; none at the root.
+    pub fn parent(&self, u: u16) -> Option<u16>
+        requires { u < length self.now.order }
+        ensures { result ≡ slice_index_or self.now.ports u None }
+    {
+        self.ports[u as usize]
+    }
+
+    /// How many nodes are in the subtree of a node, itself included. Their labels follow one another from the
+    /// node's own label on (Santoro and Khatib 1985).
+    pub fn subtree(&self, u: u16) -> usize
+        requires { u < length self.now.order }
+        ensures { IsSubtree (length self.now.order) self.now.parents (slice_index self.now.labels u) result }
+    {
+        let label = self.label_of(u);
+        subtree_size(self.parents.as_slice(), label as usize)
+    }
+}
+
+/// The tree table of a numbering of this topology: at a node and a destination the port to the second node of the path
+/// between them in the tree of the numbering, and none where they are one node. Its distances weigh these paths.
+///
+/// Condition: the numbering is of the topology. It is refused for want of memory alone.
+pub fn tree_table(
+    alloc: Global,
+    topology: &Topology,
+    numbering: &Numbering,
+) -> Result<Table, AllocError>
+    requires { IsNumberingOf topology.now numbering.now }
+    ensures tree { IfOk result (λ table. IsTreeTable topology.now numbering.now.order numbering.now.parents (port_in table)) }
+    ensures routed { IfOk result (λ table. IsRouted topology.now table) }
+{
+    let ports = tree_ports(
+        alloc,
+        topology,
+        numbering.order.as_slice(),
+        numbering.parents.as_slice(),
+        numbering.labels.as_slice(),
+        numbering.ports.as_slice(),
+    )?;
+    Table::from_ports(alloc, topology, ports)
+}
