@@ -1,0 +1,5 @@
+pub mod RowPorts
+pub mod Standing
+pub mod TreePlans
+pub mod Counting
+pub mod TreeStarts

@@ -1,0 +1,193 @@
+-- The scheme of numbers and rows stands for the full table that the rows were compiled from.
+use Rattle.std.proofs.Common.{◌≡◌, ◌≢◌, ℕ, suc, ◌*◌, ◌<◌, ◌≤◌, zero-add, List, [], ◌∷◌, length, map, Option, Some, None, get_or, refl, ap, sym, ◌∙◌, subst, inl, inr, arith}
+use Rattle.std.specs.Prelude.{slice_index, slice_index_or, IsSome, option_map, option_and_then, sum_by, All}
+use Rattle.std.specs.List.{range_with_len}
+use Rattle.std.proofs.lemmas.Bool.{cases_eq, eq-eqb, ne_eqb}
+use Rattle.std.proofs.lemmas.List.{get_or-map, length-map, get_or_default}
+use Rattle.std.proofs.lemmas.List.Elements.{Contains-get_or}
+use Rattle.std.proofs.lemmas.List.Sums.{sum_by-le}
+use Rattle.std.proofs.lemmas.List.FromFn.{get_or-map-range_with_len, get_or-range_with_len, length-range_with_len}
+use Rattle.ir_model.specs.declared.Hop.{Hop}
+use Rattle.ir_model.specs.declared.Kind.{Kind}
+use Rattle.ir_model.specs.declared.Kind.TheVariants.{Tree, Shortest}
+use Rattle.ir_model.specs.Network.{Network, IsNetwork, node_count, port_at}
+use Rattle.ir_model.specs.Walk.{IsConnected}
+use Rattle.ir_model.specs.Table.{IsPrescribedWalk, Continues, next_node}
+use Rattle.ir_model.specs.Numbering.{IsDepthFirst, neighbors_of}
+use Rattle.ir_model.specs.Row.{Start, labels as start_labels}
+use Rattle.ir_model.specs.Compiled.{IsDestinations, IsCanonical, port_to}
+use Rattle.ir_model.specs.Scheme.{Scheme, IsScheme, IsTableOf, AreLabels, table_port, label_in, by_label, row_in}
+use Rattle.ir_model.proofs.Canonical.{canonical_fits}
+use Rattle.ir_model.proofs.Pigeonhole.{length-le_from_places}
+use Rattle.ir_model.proofs.Rows.{rises}
+use Rattle.ir_model.proofs.Round.{start_is_label}
+use Rattle.ir_model.proofs.Walks.{port_facts}
+use Rattle.ir_plan.specs.Shown.{row_port, shown_port, shown_table, scheme_with, AreRows, IsFull}
+use Rattle.ir_plan.proofs.RowPorts.{shown_fits, shown_some}
+
+-- the port at a place of the shown table
+pub shown_at : (n : ℕ) (labels : List ℕ) (rows : List (List Start)) (u d : ℕ) → u < n → d < n
+    → slice_index_or (slice_index_or (shown_table n labels rows) u []) d None ≡ shown_port labels rows u d
+unfolding shown_table
+shown_at n labels rows u d hu hd =
+    let row : get_or (map (λ (v : ℕ). map (shown_port labels rows v) (range_with_len 0 n)) (range_with_len 0 n)) u [] ≡ map (shown_port labels rows u) (range_with_len 0 n) =
+    get_or-map-range_with_len (λ (v : ℕ). map (shown_port labels rows v) (range_with_len 0 n)) 0 n u u [] hu (omega arith) in
+    ap (λ (xs : List (Option ℕ)). get_or xs d None) row ∙ get_or-map-range_with_len (shown_port labels rows u) 0 n d d None hd (omega arith)
+
+-- the port to a label, in a list of ports by label
+port_at_label : (order : List ℕ) (table : ℕ → ℕ → Option ℕ) (u a : ℕ) → a < length order → port_to (map (table u) order) a ≡ table u (slice_index order a)
+port_at_label order table u a h = get_or-map (table u) order a 0 None h
+
+-- ports of a full table, by label, are a list of destinations
+pub destinations : (n : ℕ) (order labels : List ℕ) (table : ℕ → ℕ → Option ℕ) → AreLabels n order labels → IsFull n table
+    → (u : ℕ) → u < n → IsDestinations n (slice_index labels u) (map (table u) order)
+destinations n order labels table named full u hu =
+    let len : length (map (table u) order) ≡ n = length-map order (table u) ∙ named.every_label in
+    record {
+      every = len;
+      has_own = named.label u hu;
+      none = port_at_label order table u (slice_index labels u) (rw named.every_label (named.label u hu)) ∙ ap (table u) (named.there u hu) ∙ full.own u hu;
+      some = λ d hd ne.
+          let other : u ≢ slice_index order d = λ e. ne (sym (ap (slice_index labels) e ∙ named.back d hd)) in
+          rw (port_at_label order table u d (rw named.every_label hd)) (full.some u (slice_index order d) hu (named.node d hd) other);
+    }
+
+module _ (n : ℕ) (order labels : List ℕ) (table : ℕ → ℕ → Option ℕ) (rows : List (List Start)) (named : AreLabels n order labels) (full : IsFull n table) (stand : AreRows n order labels table rows) where
+  -- the rows show the table's port
+  pub shown_same : (u d : ℕ) → u < n → d < n → shown_port labels rows u d ≡ table u d
+  shown_same u d hu hd =
+      elim (cases_eq u d) [
+        | inl e ↦ rw (eq-eqb u d e) (sym (subst (λ (x : ℕ). table u x ≡ None) e (full.own u hu)))
+        | inr ne ↦
+            let ports = map (table u) order in
+            let dest = destinations n order labels table named full u hu in
+            let fits = canonical_fits n (slice_index labels u) ports dest (slice_index_or rows u []) (stand.canonical u hu) in
+            let other : slice_index labels d ≢ slice_index labels u = λ e. ne (sym (sym (named.there d hd) ∙ ap (slice_index order) e ∙ named.there u hu)) in
+            rw (ne_eqb u d ne)
+            (shown_fits n (slice_index labels d) (named.label d hd) (slice_index labels u) ports (slice_index_or rows u []) fits other
+            ∙ port_at_label order table u (slice_index labels d) (rw named.every_label (named.label d hd))
+            ∙ ap (table u) (named.there d hd))
+      ]
+
+-- what follows on a prescribed walk is a node
+next_inside : (net : Network) → IsNetwork net → (t : ℕ → ℕ → Option ℕ) (x d y : ℕ) → next_node net t x d ≡ Some y → y < node_count net
+next_inside net ok t x d y e = of_port (t x d) e
+  where
+    of_hop : (p : ℕ) (h : Option Hop) → port_at net x p ≡ h → option_map (λ hop. hop.node) h ≡ Some y → y < node_count net
+    of_hop p None at f = absurd (cc f)
+    of_hop p (Some hop) at f = let same : hop.node ≡ y = cc f in subst (λ (v : ℕ). v < node_count net) same (port_facts net ok x p hop at).to
+
+    of_port : (o : Option ℕ) → option_and_then (λ p. option_map (λ hop. hop.node) (port_at net x p)) o ≡ Some y → y < node_count net
+    of_port None f = absurd (cc f)
+    of_port (Some p) f = of_hop p (port_at net x p) refl f
+
+-- tables that agree on the nodes prescribe the same walks
+same_way : (net : Network) → IsNetwork net → (t s : ℕ → ℕ → Option ℕ) (d : ℕ) → ((x : ℕ) → x < node_count net → s x d ≡ t x d)
+    → (x : ℕ) → x < node_count net → (rest : List ℕ) → Continues net t d x rest → Continues net s d x rest
+same_way net ok t s d same x hx [] way = way
+same_way net ok t s d same x hx (y ∷ rest) way =
+    let next : next_node net s x d ≡ Some y = ap (λ (o : Option ℕ). option_and_then (λ p. option_map (λ (hop : Hop). hop.node) (port_at net x p)) o) (same x hx) ∙ way.1 in
+    (way.0, next, same_way net ok t s d same y (next_inside net ok t x d y way.1) rest way.2)
+
+same_walk : (net : Network) → IsNetwork net → (t s : ℕ → ℕ → Option ℕ) (d : ℕ) → ((x : ℕ) → x < node_count net → s x d ≡ t x d)
+    → (u : ℕ) → u < node_count net → (walk : List ℕ) → IsPrescribedWalk net t u d walk → IsPrescribedWalk net s u d walk
+same_walk net ok t s d same u hu [] is = is
+same_walk net ok t s d same u hu (x ∷ rest) is = (is.0, same_way net ok t s d same u hu rest is.1)
+
+-- tables that agree on the nodes are both of a kind
+same_table : (kind : Kind) (net : Network) (order parents : List ℕ) (t s : ℕ → ℕ → Option ℕ)
+    → ((u d : ℕ) → u < node_count net → d < node_count net → s u d ≡ t u d) → IsTableOf kind net order parents t → IsTableOf kind net order parents s
+same_table Tree net order parents t s same is = record {
+  own = λ d hd. same d d hd hd ∙ is.own d hd;
+  port = λ u d hu hd ne. let w = is.port u d hu hd ne in (w.0, w.1, w.2, same u d hu hd ∙ w.3, w.4, w.5);
+}
+same_table Shortest net order parents t s same is = record {
+  own = λ d hd. same d d hd hd ∙ is.own d hd;
+  port = λ u d hu hd ne. let w = is.port u d hu hd ne in (w.0, same u d hu hd ∙ w.1, w.2);
+}
+
+-- a table of either kind is full
+pub full_table : (kind : Kind) (net : Network) (order parents : List ℕ) (t : ℕ → ℕ → Option ℕ) → IsTableOf kind net order parents t → IsFull (node_count net) t
+full_table Tree net order parents t is = record { own = is.own; some = λ u d hu hd ne. rw (is.port u d hu hd ne).3 refl }
+full_table Shortest net order parents t is = record { own = is.own; some = λ u d hu hd ne. rw (is.port u d hu hd ne).1 refl }
+
+-- maps by functions that agree on the list's numbers
+map_same : (n : ℕ) (f g : ℕ → Option ℕ) → ((x : ℕ) → x < n → f x ≡ g x) → (xs : List ℕ) → ((k : ℕ) → k < length xs → get_or xs k 0 < n) → map f xs ≡ map g xs
+map_same n f g same [] small = refl
+map_same n f g same (x ∷ xs) small =
+    let here : f x ≡ g x = same x (small 0 (omega arith)) in
+    let rest : map f xs ≡ map g xs = map_same n f g same xs (λ k h. small (suc k) (omega arith)) in
+    rw (here, rest) refl
+
+-- the numbers and rows of a full table make a scheme
+pub scheme_stands : (kind : Kind) (root : ℕ) (net : Network) (order parents labels : List ℕ) (table : ℕ → ℕ → Option ℕ) (rows : List (List Start))
+    → IsNetwork net → IsConnected net → root < node_count net → IsDepthFirst (neighbors_of net) (node_count net) root order parents
+    → AreLabels (node_count net) order labels → IsTableOf kind net order parents table
+    → ((u d : ℕ) → u < node_count net → d < node_count net → (walk : List ℕ) × IsPrescribedWalk net table u d walk × (length walk ≤ node_count net))
+    → AreRows (node_count net) order labels table rows → IsScheme (scheme_with kind root net order labels rows)
+scheme_stands kind root net order parents labels table rows ok connected in_range first named is walks stand =
+    let n = node_count net in
+    let s = scheme_with kind root net order labels rows in
+    let full = full_table kind net order parents table is in
+    let same : (u d : ℕ) → u < n → d < n → table_port s u d ≡ table u d =
+    λ u d hu hd. shown_at n labels rows u d hu hd ∙ shown_same n order labels table rows named full stand u d hu hd in
+    record {
+      network = ok;
+      connected = connected;
+      root_in = in_range;
+      parents = parents;
+      numbering = first;
+      labels = named;
+      table = same_table kind net order parents table (table_port s) same is;
+      walks = λ u d hu hd.
+          let w = walks u d hu hd in
+          (w.0, same_walk net ok table (table_port s) d (λ x hx. same x d hx hd) u hu w.0 w.1, w.2);
+      row_of_each = stand.every;
+      rows = λ u hu.
+          let ports : map (table u) order ≡ by_label s u = map_same n (table u) (table_port s u) (λ d hd. sym (same u d hu hd)) order (λ k h. named.node k (rw (sym named.every_label) h)) in
+          subst (λ (xs : List (Option ℕ)). IsCanonical n (slice_index labels u) xs (slice_index_or rows u [])) ports (stand.canonical u hu);
+    }
+
+module _ (kind : Kind) (root : ℕ) (net : Network) (order labels : List ℕ) (rows : List (List Start)) (is : IsScheme (scheme_with kind root net order labels rows)) (u a : ℕ) (hu : u < node_count net) (ha : a < node_count net) (other : a ≢ slice_index labels u) where
+  -- the scheme's port to the node with a label is the one that the row shows at the label
+  pub port_shown : table_port (scheme_with kind root net order labels rows) u (slice_index order a) ≡ row_port (slice_index_or rows u []) a
+  port_shown =
+      let named = is.labels in
+      let apart : u ≢ slice_index order a = λ e. other (sym (ap (slice_index labels) e ∙ named.back a ha)) in
+      shown_at (node_count net) labels rows u (slice_index order a) hu (named.node a ha)
+      ∙ rw (ne_eqb u (slice_index order a) apart) (ap (row_port (slice_index_or rows u [])) (named.back a ha))
+
+  -- the row has a start
+  pub row_filled : 0 < length (slice_index_or rows u [])
+  row_filled =
+      let named = is.labels in
+      let s = scheme_with kind root net order labels rows in
+      let apart : u ≢ slice_index order a = λ e. other (sym (ap (slice_index labels) e ∙ named.back a ha)) in
+      let some = (full_table kind net order is.parents (table_port s) is.table).some u (slice_index order a) hu (named.node a ha) apart in
+      shows (row_port (slice_index_or rows u []) a) refl (rw (sym port_shown) some)
+    where
+      shows : (o : Option ℕ) → row_port (slice_index_or rows u []) a ≡ o → IsSome o → 0 < length (slice_index_or rows u [])
+      shows None e h = absurd (cc h)
+      shows (Some p) e h = shown_some (slice_index_or rows u []) a p e
+
+-- a canonical row has at most as many starts as there are labels
+pub short_row : (n own : ℕ) (ports : List (Option ℕ)) (row : List Start) → IsCanonical n own ports row → length row ≤ n
+short_row n own ports row is =
+    let len : length (start_labels row) ≡ length row = length-map row (λ (s : Start). s.label) in
+    let all = length-range_with_len 0 n in
+    let le = length-le_from_places (start_labels row) (range_with_len 0 n)
+    (λ i j l h e. let r = rises (start_labels row) is.ascending i j l h in omega arith)
+    (λ k h.
+    let below : get_or (start_labels row) k 0 < n = start_is_label n own ports (get_or (start_labels row) k 0) ((is.starts (get_or (start_labels row) k 0)).0 (Contains-get_or (start_labels row) k 0 h)) in
+    (get_or (start_labels row) k 0, omega arith, get_or-range_with_len 0 n (get_or (start_labels row) k 0) 0 below ∙ zero-add (get_or (start_labels row) k 0))) in
+    omega arith
+
+-- all rows together have at most n times n starts
+pub few_starts : (s : Scheme) → IsScheme s → sum_by length s.rows ≤ node_count s.network * node_count s.network
+few_starts s is =
+    let n = node_count s.network in
+    let short : All (λ (row : List Start). length row ≤ n) s.rows = λ u d h.
+    let hu : u < n = omega (arith, is.row_of_each) in
+    subst (λ (row : List Start). length row ≤ n) (get_or_default s.rows u [] d h) (short_row n (label_in s u) (by_label s u) (row_in s u) (is.rows u hu)) in
+    let le = sum_by-le (λ (row : List Start). length row) n s.rows short in
+    subst (λ (m : ℕ). sum_by length s.rows ≤ m * n) is.row_of_each le

@@ -1,0 +1,66 @@
+ghost use Rattle.std.specs.Prelude.{◌≡◌};
+ghost use Rattle.ir_plan.specs.Refusals.{code_of, from_number, from_table};
+ghost use Rattle.ir_plan.specs.declared.error.PlanError.TheVariants.{NoMemory};
+
+use ir_numbering::NumberError;
+use ir_tables::TableError;
+use std::alloc::AllocError;
+
+/// Why there is no plan.
+#[derive(Clone, Copy, Debug, PartialEq, Eq)]
+pub enum PlanError {
+    /// The root is no node of the topology.
+    NoNode,
+    /// The topology has no node.
+    Empty,
+    /// Some node has no walk to some node.
+    Disconnected,
+    /// A growth was refused.
+    NoMemory,
+}
+
+impl PlanError {
+    /// The number of the refusal: 1 NoNode, 2 Empty, 3 Disconnected, 4 NoMemory.
+    pub fn code(self) -> u8
+        ensures { result ≡ code_of self }
+    {
+        match self {
+            PlanError::NoNode => 1,
+            PlanError::Empty => 2,
+            PlanError::Disconnected => 3,
+            PlanError::NoMemory => 4,
+        }
+    }
+}
+
+impl From<AllocError> for PlanError {
+    ghost from_gives = { λ _ e. e ≡ NoMemory };
+
+    fn from(_error: AllocError) -> PlanError {
+        PlanError::NoMemory
+    }
+}
+
+impl From<NumberError> for PlanError {
+    ghost from_gives = { λ n e. e ≡ from_number n };
+
+    fn from(error: NumberError) -> PlanError {
+        match error {
+            NumberError::NoNode => PlanError::NoNode,
+            NumberError::Disconnected => PlanError::Disconnected,
+            NumberError::NoMemory => PlanError::NoMemory,
+        }
+    }
+}
+
+impl From<TableError> for PlanError {
+    ghost from_gives = { λ t e. e ≡ from_table t };
+
+    fn from(error: TableError) -> PlanError {
+        match error {
+            TableError::Empty => PlanError::Empty,
+            TableError::Disconnected => PlanError::Disconnected,
+            TableError::NoMemory => PlanError::NoMemory,
+        }
+    }
+}

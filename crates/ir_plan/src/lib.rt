@@ -1,0 +1,10 @@
+//! One epoch's plan: depth-first labels, and each node's row of interval starts in place of a full table.
+#![tactic(auto)]
+
+mod error;
+mod plan;
+mod rows;
+
+pub use error::PlanError;
+pub use ir_model::{Hop, Kind};
+pub use plan::Plan;
