@@ -27,7 +27,7 @@ impl GraphError {
     ghost use Rattle.ir_graph.specs.Faults.{code_of};
 
     /// The number of the error, from 1 to 8.
-    pub fn code(self) -> u32
+    pub fn code(self) -> u8
         ensures { result ≡ code_of self }
     {
         match self {
