@@ -1,0 +1,13 @@
+pub mod Names
+pub mod Refusals
+pub mod Reading
+pub mod Meaning
+pub mod EdgeMeaning
+pub mod Writing
+pub mod Spelling
+pub mod Found
+pub mod EdgesFound
+pub mod Fitting
+pub mod Sound
+pub mod AdjlistRead
+pub mod EdgelistRead

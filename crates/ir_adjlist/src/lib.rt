@@ -1,0 +1,119 @@
+//! The two texts of a topology: adjacency lists and weighted edge lists, in NetworkX's formats.
+#![tactic(auto)]
+
+ghost use Rattle.std.specs.Prelude.{◌≡◌, [], None, IfOk, IfErr};
+ghost use Rattle.ir_model.specs.Made.{graph_of};
+ghost use Rattle.ir_model.specs.Text.{lines, names_in, pairs_in, first_fault};
+ghost use Rattle.ir_model.specs.Edgelist.{edges_in, graph_of_edges, first_edge_fault};
+ghost use Rattle.ir_adjlist.specs.RoundTrip.{IsReadAsAdjlist, IsReadAsEdgelist};
+ghost use Rattle.ir_adjlist.specs.Told.{Tells, told_at};
+ghost use Rattle.ir_adjlist.specs.Written.{adjlist_text, edgelist_text};
+
+mod edges;
+mod rows;
+mod scan;
+mod weights;
+mod writer;
+
+use ir_graph::Graph;
+pub use ir_model::Fault;
+use std::alloc::{AllocError, Global};
+
+/// Why a text is refused. Want of memory has line 0.
+#[derive(Clone, Copy, Debug, PartialEq, Eq)]
+pub struct TextError {
+    pub line: usize,
+    pub kind: Fault,
+}
+
+impl TextError {
+    ghost use Rattle.ir_adjlist.specs.Told.{code_of};
+
+    /// The number of the kind, from 1 for `BadByte` to 7 for `NoMemory`.
+    pub fn code(self) -> u8
+        ensures { result ≡ code_of self.kind }
+    {
+        self.kind as u8
+    }
+}
+
+/// The error for a fault in a line.
+fn error_at(line: usize, kind: Fault) -> TextError
+    ensures { result ≡ told_at line kind }
+{
+    match kind {
+        Fault::NoMemory => TextError { line: 0, kind },
+        _ => TextError { line, kind },
+    }
+}
+
+/// The graph that an adjacency list names: the first word of a line is a source and the further words its targets, each
+/// linked to it with weight 1. What stands behind a `#` is a comment. Nodes and neighbours stand by first appearance.
+/// A text with a fault is refused with its first faulty line, counted from 1, and that line's first fault: `BadByte`,
+/// `BadName`, and then `TooManyNodes` or `TooManyEdges` in the order of adding.
+pub fn parse_adjlist(alloc: Global, text: &[u8]) -> Result<Graph, TextError>
+    ensures parsed { IfOk result (λ g. (first_fault [] (lines text.now) ≡ None) × (g ≡ graph_of (names_in (lines text.now)) (pairs_in (lines text.now)))) }
+    ensures fault { IfErr result (λ e. Tells e (first_fault [] (lines text.now))) }
+{
+    let mut graph = Graph::new(alloc);
+    let mut rest = text;
+    let mut line = 0;
+    while !rest.is_empty() {
+        let (current, after) = scan::next_line(rest);
+        line += 1;
+        if let Err(kind) = rows::read_line(&mut graph, current) {
+            return Err(error_at(line, kind));
+        }
+        rest = after;
+    }
+    Ok(graph)
+}
+
+/// The graph that a weighted edge list names: a line has two ends and a weight, decimal digits of value 1 to 65,535 behind
+/// which a point and zeros may stand. A line of fewer than two words is skipped, and what stands behind a `#` is a comment.
+/// Nodes and neighbours stand by first appearance, and an edge has its last weight. A text with a fault is refused with
+/// its first faulty line, counted from 1, and that line's first fault: `BadByte`, `BadName`, `BadRow`, `BadWeight`,
+/// `TooManyNodes`, `TooManyEdges`.
+pub fn parse_weighted_edgelist(alloc: Global, text: &[u8]) -> Result<Graph, TextError>
+    ensures parsed { IfOk result (λ g. (first_edge_fault (lines text.now) ≡ None) × (g ≡ graph_of_edges (edges_in (lines text.now)))) }
+    ensures fault { IfErr result (λ e. Tells e (first_edge_fault (lines text.now))) }
+{
+    let mut graph = Graph::new(alloc);
+    let mut rest = text;
+    let mut line = 0;
+    while !rest.is_empty() {
+        let (current, after) = scan::next_line(rest);
+        line += 1;
+        if let Err(fault) = edges::read_line(&mut graph, current) {
+            return Err(error_at(line, fault));
+        }
+        rest = after;
+    }
+    Ok(graph)
+}
+
+/// The adjacency list of a graph: a line for each node in order, with the node and then those of its neighbours, in order,
+/// that have no line before it. So each edge stands once. Refused for want of memory alone.
+pub fn generate_adjlist(alloc: Global, graph: &Graph) -> Result<Vec<u8>, AllocError>
+    ensures text { IfOk result (λ text. text.items ≡ adjlist_text graph.now) }
+    ensures read { IfOk result (λ text. IsReadAsAdjlist graph.now text.items) }
+{
+    let mut text = Vec::new(alloc);
+    for place in 0..graph.number_of_nodes() {
+        writer::put_row_at(&mut text, graph, place)?;
+    }
+    Ok(text)
+}
+
+/// The weighted edge list of a graph: a line for each edge in order, with its ends and its weight. Refused for want of
+/// memory alone.
+pub fn generate_weighted_edgelist(alloc: Global, graph: &Graph) -> Result<Vec<u8>, AllocError>
+    ensures text { IfOk result (λ text. text.items ≡ edgelist_text graph.now) }
+    ensures read { IfOk result (λ text. IsReadAsEdgelist graph.now text.items) }
+{
+    let mut text = Vec::new(alloc);
+    for place in 0..graph.number_of_nodes() {
+        writer::put_edges_at(alloc, &mut text, graph, place)?;
+    }
+    Ok(text)
+}
