@@ -3,5 +3,5 @@ pub mod Settled
 pub mod Rounds
 pub mod Columns
 pub mod Offering
-pub mod Of
+pub mod OfGraph
 pub mod Ways

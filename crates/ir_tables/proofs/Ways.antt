@@ -12,7 +12,7 @@ use Rattle.ir_model.specs.Walk.{link_weight, LeadsTo, weight_from}
 use Rattle.ir_model.specs.Table.{next_node, Continues, IsPrescribedWalk}
 use Rattle.ir_model.proofs.Walks.{link_weight_at, PortFacts, port_facts, way_light}
 use Rattle.ir_tables.specs.Relaxation.{at, unreached}
-use Rattle.ir_tables.specs.Listed.{listed_port, IsPortList, IsNext, IsWay, IsFilled}
+use Rattle.ir_tables.specs.Listed.{listed_port, hop_in, HasWalk, IsPortList, IsNext, IsWay, IsFilled}
 
 -- ---- ways
 
@@ -29,6 +29,14 @@ next_of net table x d y e = by (table x d) refl e
 
 is_next : (net : Network) (table : ℕ → ℕ → Option ℕ) (x d : ℕ) (hop : Hop) → IsNext net table x d hop → next_node net table x d ≡ Some hop.node
 is_next net table x d hop next = rw (next.held, next.there) refl
+
+-- what is held is next
+next_at : (net : Network) (table : ℕ → ℕ → Option ℕ) (x d : ℕ) (hop : Hop) → hop_in net table x d ≡ Some hop → IsNext net table x d hop
+next_at net table x d hop e = by (table x d) refl e
+  where
+    by : (o : Option ℕ) → table x d ≡ o → option_and_then (λ p. port_at net x p) o ≡ Some hop → IsNext net table x d hop
+    by None held h = absurd (cc h)
+    by (Some p) held h = record { port = p; held = held; there = h }
 
 -- the table names one hop
 one_next : (net : Network) (table : ℕ → ℕ → Option ℕ) (x d : ℕ) (hop other : Hop) → IsNext net table x d hop → IsNext net table x d other → hop ≡ other
@@ -263,3 +271,64 @@ filled_start net table d d_in =
           let far : at blank x ≡ unreached = get_or-replicate (node_count net) x unreached 0 x_in in absurd (omega (arith, same, far, lt)))
           (cases_eq x d);
     }
+
+-- ---- whether a list is one
+
+-- the walk from u, after some steps: x is there, a way from x makes one from u, and a way from u leaves a short one from x
+pub record IsFollowed (net : Network) (table : ℕ → ℕ → Option ℕ) (d u x step : ℕ) : Type 0 where
+  pub in_net : x < node_count net
+  pub comes : (rest : List ℕ) → Continues net table d x rest → (all : List ℕ) × Continues net table d u all
+  pub goes : (all : List ℕ) → Continues net table d u all → (left : ℕ) × (left + step + 1 ≡ node_count net) × IsShortWay net table d x left
+
+pub followed_start : (net : Network) → IsNetwork net → (table : ℕ → ℕ → Option ℕ) (d u : ℕ) → u < node_count net → IsFollowed net table d u u 0
+followed_start net ok table d u u_in = record {
+  in_net = u_in;
+  comes = λ rest way. (rest, way);
+  goes = λ all way. let short : length (u ∷ all) ≤ node_count net = continues_short net ok table d u u_in all way in
+      (node_count net - 1, omega (arith, u_in), record { rest = all; continues = way; short = omega (arith, short) });
+}
+
+pub followed_step : (net : Network) → IsNetwork net → (table : ℕ → ℕ → Option ℕ) (d u x step : ℕ) (hop : Hop) → IsFollowed net table d u x step → x ≢ d → hop_in net table x d ≡ Some hop
+    → IsFollowed net table d u hop.node (step + 1)
+followed_step net ok table d u x step hop so_far other at =
+    let next : IsNext net table x d hop = next_at net table x d hop at in
+    record {
+      in_net = (port_facts net ok x next.port hop next.there).to;
+      comes = λ rest way. so_far.comes (hop.node ∷ rest) (other, is_next net table x d hop next, way);
+      goes = λ all way.
+          let before = so_far.goes all way in
+          let some : 0 < before.0 = ⊎_elim (λ (none : before.0 ≡ 0). absurd (let P : ℕ → Type 0 = λ k. IsShortWay net table d x k in other (short_end net table d x (subst P none before.2))))
+          (λ (some : before.0 ≢ 0). (let lt : 0 < before.0 = omega arith in lt)) (cases_eq before.0 0) in
+          let one_less : before.0 ≡ (before.0 - 1) + 1 = omega arith in
+          let P : ℕ → Type 0 = λ k. IsShortWay net table d x k in
+          (before.0 - 1, omega (arith, before.1, some), short_on net ok table d x (before.0 - 1) hop other next (subst P one_less before.2));
+    }
+
+-- the way from u, where x is d
+pub followed_there : (net : Network) (table : ℕ → ℕ → Option ℕ) (d u x step : ℕ) → IsFollowed net table d u x step → x ≡ d → HasWalk net table u d
+followed_there net table d u x step so_far same = let all = so_far.comes [] same in (u ∷ all.0, (refl, all.1))
+
+-- the rest of a prescribed walk
+pub walk_rest : (net : Network) (table : ℕ → ℕ → Option ℕ) (d u : ℕ) → HasWalk net table u d → (all : List ℕ) × Continues net table d u all
+walk_rest net table d u walk = by walk.0 walk.1
+  where
+    by : (walk : List ℕ) → IsPrescribedWalk net table u d walk → (all : List ℕ) × Continues net table d u all
+    by [] is = absurd is
+    by (x ∷ rest) is = (rest, is.1)
+
+-- there is none where no hop is held at x
+pub followed_lost : (net : Network) (table : ℕ → ℕ → Option ℕ) (d u x step : ℕ) → IsFollowed net table d u x step → x ≢ d → hop_in net table x d ≡ None → HasWalk net table u d → ⊥
+followed_lost net table d u x step so_far other at walk =
+    let all = walk_rest net table d u walk in
+    let way = (so_far.goes all.0 all.1).2 in
+    by way.rest way.continues
+  where
+    by : (rest : List ℕ) → Continues net table d x rest → ⊥
+    by [] way = other way
+    by (y ∷ rest) way = let next = next_of net table x d y way.1 in let there : hop_in net table x d ≡ Some next.0 = rw (next.1.held, next.1.there) refl in cc (there, at)
+
+-- and none after as many steps as there are nodes
+pub followed_long : (net : Network) (table : ℕ → ℕ → Option ℕ) (d u x step : ℕ) → IsFollowed net table d u x step → node_count net ≤ step → HasWalk net table u d → ⊥
+followed_long net table d u x step so_far ge walk =
+    let all = walk_rest net table d u walk in
+    omega (arith, (so_far.goes all.0 all.1).1, ge)

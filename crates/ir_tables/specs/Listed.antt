@@ -1,5 +1,5 @@
 -- Tables given as a list of ports.
-use Rattle.std.specs.Prelude.{◌≡◌, ℕ, ◌+◌, ◌*◌, ◌<◌, Option, Some, None, List, length, slice_index_or}
+use Rattle.std.specs.Prelude.{◌≡◌, ℕ, ◌+◌, ◌*◌, ◌<◌, Option, Some, None, List, length, slice_index_or, option_and_then}
 use Rattle.ir_model.specs.declared.Hop.{Hop}
 use Rattle.ir_model.specs.Network.{Network, node_count, port_at}
 use Rattle.ir_model.specs.Walk.{weight_from}
@@ -10,13 +10,16 @@ use Rattle.ir_tables.specs.Relaxation.{at, unreached}
 abbrev pub listed_port : ℕ → List (Option ℕ) → ℕ → ℕ → Option ℕ
 listed_port n ports u d = slice_index_or ports (u * n + d) None
 
+-- the table prescribes a walk from u to d
+abbrev pub HasWalk : Network → (ℕ → ℕ → Option ℕ) → ℕ → ℕ → Type 0
+HasWalk net table u d = (walk : List ℕ) × IsPrescribedWalk net table u d walk
+
 -- The list has an entry for each node and destination, none where they are one node, and prescribes a walk for each two
 -- nodes. So each other entry is a port.
 pub record IsPortList (net : Network) (ports : List (Option ℕ)) : Type 0 where
   pub len : length ports ≡ node_count net * node_count net
   pub own : (d : ℕ) → d < node_count net → listed_port (node_count net) ports d d ≡ None
-  pub walks : (u d : ℕ) → u < node_count net → d < node_count net
-      → (walk : List ℕ) × IsPrescribedWalk net (listed_port (node_count net) ports) u d walk
+  pub walks : (u d : ℕ) → u < node_count net → d < node_count net → HasWalk net (listed_port (node_count net) ports) u d
 
 -- A table of that many nodes with the ports of the list.
 pub record IsListed (net : Network) (ports : List (Option ℕ)) (table : FullTable) : Type 0 where
@@ -24,6 +27,15 @@ pub record IsListed (net : Network) (ports : List (Option ℕ)) (table : FullTab
   pub held : (u d : ℕ) → u < node_count net → d < node_count net → port_in table u d ≡ listed_port (node_count net) ports u d
 
 -- ---- ways to a destination
+
+-- no port is held at d, and the table prescribes a walk to d from each node
+pub record IsLedTo (net : Network) (table : ℕ → ℕ → Option ℕ) (d : ℕ) : Type 0 where
+  pub own : table d d ≡ None
+  pub walks : (u : ℕ) → u < node_count net → HasWalk net table u d
+
+-- where the port that the table holds at (x, d) leads
+abbrev pub hop_in : Network → (ℕ → ℕ → Option ℕ) → ℕ → ℕ → Option Hop
+hop_in net table x d = option_and_then (λ p. port_at net x p) (table x d)
 
 -- the port that the table holds at (x, d)
 pub record IsNext (net : Network) (table : ℕ → ℕ → Option ℕ) (x d : ℕ) (hop : Hop) : Type 0 where

@@ -12,6 +12,7 @@ mod table;
 mod topology;
 
 pub use ir_model::{Hop, Link};
+pub use listed::is_port_list;
 pub use relaxation::weights_by_rounds;
 pub use table::{Table, TableError};
 pub use topology::Topology;

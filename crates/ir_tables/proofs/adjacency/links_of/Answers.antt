@@ -4,7 +4,7 @@ use Rattle.ir_model.specs.Graph.{Adjacency}
 use Rattle.ir_model.specs.Places.{neighbors_at}
 use Rattle.ir_tables.specs.Numbered.{links_at, links_from}
 use Rattle.ir_tables.specs.ByPlace.{row_numbers, rows_of}
-use Rattle.ir_tables.proofs.Of.{rows_more}
+use Rattle.ir_tables.proofs.OfGraph.{rows_more}
 use Rattle.ir_tables.proofs.adjacency.links_of.Goals as goal
 
 pub loop-u-preserved : goal.loop-u-preserved

@@ -4,7 +4,7 @@ use Rattle.ir_model.specs.declared.Hop.{Hop}
 use Rattle.ir_model.specs.Places.{neighbors_at}
 use Rattle.ir_tables.specs.Numbered.{Numbers, joins_nodes, link_between, ports_at}
 use Rattle.ir_tables.specs.ByPlace.{row_numbers}
-use Rattle.ir_tables.proofs.Of.{next_entry, ports_more, ports_same}
+use Rattle.ir_tables.proofs.OfGraph.{next_entry, ports_more, ports_same}
 use Rattle.ir_tables.proofs.adjacency.ports_of.Goals as goal
 use Rattle.ir_tables.proofs.adjacency.ports_of.Goals.{then-v-u+in_ok-push, else-v-u}
 

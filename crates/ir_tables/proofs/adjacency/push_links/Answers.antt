@@ -3,7 +3,7 @@ use Rattle.ir_model.specs.declared.Link.{Link}
 use Rattle.ir_model.specs.Places.{neighbors_at}
 use Rattle.ir_tables.specs.Numbered.{Numbers, links_at}
 use Rattle.ir_tables.specs.ByPlace.{row_numbers}
-use Rattle.ir_tables.proofs.Of.{next_entry, links_more, links_same}
+use Rattle.ir_tables.proofs.OfGraph.{next_entry, links_more, links_same}
 use Rattle.ir_tables.proofs.adjacency.push_links.Goals as goal
 use Rattle.ir_tables.proofs.adjacency.push_links.Goals.{then-u-v+in_ok-push, else-u-v}
 

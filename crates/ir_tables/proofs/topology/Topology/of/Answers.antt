@@ -7,7 +7,7 @@ use Rattle.ir_model.specs.Network.{Network, IsNetwork}
 use Rattle.ir_model.specs.Places.{neighbors_at}
 use Rattle.ir_tables.specs.Numbered.{ports_at, ports_from}
 use Rattle.ir_tables.specs.ByPlace.{row_numbers, rows_of}
-use Rattle.ir_tables.proofs.Of.{graph_few, graph_network, graph_made, ports_step, ports_whole}
+use Rattle.ir_tables.proofs.OfGraph.{graph_few, graph_network, graph_made, ports_step, ports_whole}
 use Rattle.ir_tables.proofs.topology.Topology.of.Goals as goal
 
 pub ports_of-requires-clause-few : goal.ports_of-requires-clause-few
