@@ -1,12 +1,12 @@
 -- Two rows that were changed by place are two rows that were changed by name.
-use Rattle.std.proofs.Common.{add-one, drop, ◌+◌, ◌≡◌, ◌<◌, ◌≤◌, ℕ, zero, suc, Bool, true, false, cond, List, [], ◌∷◌, ◌++◌, length, take, Option, Some, None, is_some, option_map, unwrap_or, IfSome, slice_get, refl, sym, ap, subst, ◌∙◌, bytes_eq, arith, nat_eq, length-append}
+use Rattle.std.proofs.Common.{add-one, drop, ◌+◌, ◌≡◌, ◌<◌, ℕ, zero, suc, Bool, true, false, cond, List, [], ◌∷◌, ◌++◌, length, take, Option, Some, None, is_some, option_map, unwrap_or, IfSome, slice_get, refl, sym, ap, subst, ◌∙◌, bytes_eq, arith, nat_eq}
 use Rattle.std.specs.Map.{lookup}
 use Rattle.std.specs.List.{AllByRecursion, IsDistinct}
 use Rattle.std.specs.Cmp.Lexicographic.{nat_list_eq_equiv}
 use Rattle.std.proofs.lemmas.Map.Keys.{IsDistinct-head, IsDistinct-tail}
 use Rattle.std.proofs.lemmas.Map.Entries.{lookup_from_place}
 use Rattle.std.proofs.lemmas.Option.{same_Some, none-some, slice_get_within, slice_get-map}
-use Rattle.std.proofs.lemmas.List.{take-append-le, length-map, map-append}
+use Rattle.std.proofs.lemmas.List.{length-map, map-append}
 use Rattle.std.proofs.lemmas.Bool.{both_ways, eqb-false, eqb-true, ne_eqb}
 use Rattle.ir_model.specs.Graph.{Name, Neighbors, Adjacency, names, neighbors, weight_of, has_node, put, linked, with_node, with_edge, without, unlinked, without_edge}
 use Rattle.ir_model.proofs.Names.{same_names, bytes_eq-same, bytes_eq-swap}
@@ -86,15 +86,6 @@ module _ (u v : Name) (w : ℕ) where
           no : (b : Bool) → bytes_eq u v ≡ b → b ≡ false
           no true s = absurd (eqb-false i j t (one_place (names g) i j u differ at_i (at_j ∙ ap (λ n. Some n) (sym (same_names u v s)))))
           no false s = refl
-
--- a new node goes behind the others
-pub take-with_node : (g : Adjacency) (x : Name) (n : ℕ) → n ≤ length g → take n (with_node g x) ≡ take n g
-take-with_node g x n h =
-    elim (has_node g x) as (λ b. take n (cond b g (g ++ (x, []) ∷ [])) ≡ take n g) [ true ↦ refl | false ↦ take-append-le n g ((x, []) ∷ []) h ]
-
-pub length-with_node : (g : Adjacency) (x : Name) → length g ≤ length (with_node g x)
-length-with_node g x =
-    elim (has_node g x) as (λ b. length g ≤ length (cond b g (g ++ (x, []) ∷ []))) [ true ↦ omega arith | false ↦ omega (arith, length-append g ((x, []) ∷ [])) ]
 
 -- what stands in a list stands at the same place where more comes behind it
 pub place-append : {X : Type 0} (xs ys : List X) (i : ℕ) (x : X) → slice_get xs i ≡ Some x → slice_get (xs ++ ys) i ≡ Some x

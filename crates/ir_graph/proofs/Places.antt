@@ -1,14 +1,14 @@
 -- Laws of places: which node stands at a place, and what its neighbours are.
 use Rattle.std.proofs.Common.{◌≡◌, ◌<◌, ◌≤◌, ◌+◌, ℕ, zero, suc, Bool, true, false, not, cond, ◌||◌, List, [], ◌∷◌, map, length, take, Option, Some, None, is_some, option_map, slice_get, unwrap_or, nat_lt, position, refl, sym, ap, subst, ◌∙◌, bytes_eq, arith, one-add}
 use Rattle.std.specs.Option.{option_map_or}
-use Rattle.std.specs.List.{position_or_len, IsDistinct, list_all}
-use Rattle.std.specs.Map.{lookup, keys_of}
+use Rattle.std.specs.List.{position_or_len, IsDistinct}
+use Rattle.std.specs.Map.{lookup}
 use Rattle.std.specs.Cmp.Lexicographic.{nat_list_eq_equiv}
 use Rattle.std.proofs.lemmas.Map.Entries.{lookup_from_place, place_from_lookup}
 use Rattle.std.proofs.lemmas.Option.{cond_some, same_Some, none-some, slice_get_within, slice_get-map}
 use Rattle.std.proofs.lemmas.List.{length-map}
-use Rattle.std.proofs.lemmas.Bool.{le-ltb, lt-ltb, ltb-true, ltb-false, and_parts}
-use Rattle.ir_model.specs.Graph.{Name, Neighbors, Adjacency, names, among, has_node, neighbors, weight_of, is_name, is_weight, is_row, IsGraph}
+use Rattle.std.proofs.lemmas.Bool.{le-ltb, lt-ltb, ltb-true, ltb-false}
+use Rattle.ir_model.specs.Graph.{Name, Neighbors, Adjacency, names, among, has_node, neighbors, weight_of, IsGraph}
 use Rattle.ir_model.proofs.Names.{same_names, bytes_eq-same}
 use Rattle.ir_model.specs.Places.{place_of, neighbors_at, link_at}
 use Rattle.ir_graph.proofs.Joined.{one_place, has_node-weight_of}
@@ -169,46 +169,3 @@ module _ (g : Adjacency) (graph : IsGraph g) where
   link_back i p j w at =
       let facts = link_facts i p j w at in
       link_there j i w facts.to facts.from facts.to_at facts.from_at (graph.both_ways facts.to facts.from ∙ facts.weight)
-
-  -- two places in a row lead to two nodes
-  pub link_single : (i p q j w v : ℕ) → link_at g i p ≡ Some (j, w) → link_at g i q ≡ Some (j, v) → p ≡ q
-  link_single i p q j w v at_p at_q = by (slice_get (neighbors_at g i) p) (slice_get (neighbors_at g i) q) refl refl at_p at_q
-    where
-      keys_at : (n : ℕ) (e : Name × ℕ) → slice_get (neighbors_at g i) n ≡ Some e → slice_get (keys_of (neighbors_at g i)) n ≡ Some e.0
-      keys_at n e f = slice_get-map (λ (e : Name × ℕ). e.0) (neighbors_at g i) n ∙ ap (option_map (λ (e : Name × ℕ). e.0)) f
-
-      by : (a b : Option (Name × ℕ)) → slice_get (neighbors_at g i) p ≡ a → slice_get (neighbors_at g i) q ≡ b
-          → option_map {U = ℕ × ℕ} (λ (e : Name × ℕ). (place_of g e.0, e.1)) a ≡ Some (j, w) → option_map {U = ℕ × ℕ} (λ (e : Name × ℕ). (place_of g e.0, e.1)) b ≡ Some (j, v) → p ≡ q
-      by None b f h m n = absurd (none-some _ m)
-      by (Some d) None f h m n = absurd (none-some _ n)
-      by (Some d) (Some e) f h m n =
-          let from = link_facts i p j w at_p in
-          let named_d : slice_get (names g) j ≡ Some d.0 = subst (λ (k : ℕ). slice_get (names g) k ≡ Some d.0) (ap (λ (t : ℕ × ℕ). t.0) (same_Some _ _ m)) (at_place_of g d.0 (neighbor_is_node g graph.nodes_differ graph.both_ways i p d f)) in
-          let named_e : slice_get (names g) j ≡ Some e.0 = subst (λ (k : ℕ). slice_get (names g) k ≡ Some e.0) (ap (λ (t : ℕ × ℕ). t.0) (same_Some _ _ n)) (at_place_of g e.0 (neighbor_is_node g graph.nodes_differ graph.both_ways i q e h)) in
-          let same : d.0 ≡ e.0 = same_Some d.0 e.0 (sym named_d ∙ named_e) in
-          let row_differs : IsDistinct bytes_eq (keys_of (neighbors_at g i)) = subst (λ es. IsDistinct bytes_eq (keys_of es)) (sym (neighbors_at-named g graph.nodes_differ i from.from from.from_at)) (graph.neighbors_differ from.from) in
-          one_place (keys_of (neighbors_at g i)) p q d.0 row_differs (keys_at p d f) (keys_at q e h ∙ ap (λ (n : Name). Some n) (sym same))
-
--- ---- names and weights are valid
-
-holds_at : {X : Type 0} (p : X → Bool) (xs : List X) (i : ℕ) (x : X) → list_all p xs ≡ true → slice_get xs i ≡ Some x → p x ≡ true
-holds_at p [] i x all at = absurd (none-some x at)
-holds_at p (y ∷ ys) zero x all at = ap p (sym (same_Some y x at)) ∙ (and_parts (p y) (list_all p ys) all).0
-holds_at p (y ∷ ys) (suc i) x all at = holds_at p ys i x (and_parts (p y) (list_all p ys) all).1 at
-
-pub valid_name_at : (g : Adjacency) → IsGraph g → (i : ℕ) (x : Name) → slice_get (names g) i ≡ Some x → is_name x ≡ true
-valid_name_at g graph i x at = by (slice_get g i) refl (sym (slice_get-map (λ (r : Name × Neighbors). r.0) g i) ∙ at)
-  where
-    by : (o : Option (Name × Neighbors)) → slice_get g i ≡ o → option_map (λ (r : Name × Neighbors). r.0) o ≡ Some x → is_name x ≡ true
-    by None e n = absurd (none-some x n)
-    by (Some r) e n = ap is_name (sym (same_Some r.0 x n)) ∙ (and_parts (is_name r.0) (list_all (λ (e : Name × ℕ). is_weight e.1) r.1) (holds_at is_row g i r graph.rows e)).0
-
-pub valid_weight : (g : Adjacency) → IsGraph g → (x y : Name) (w : ℕ) → weight_of g x y ≡ Some w → is_weight w ≡ true
-valid_weight g graph x y w e = by (lookup (bytes_eq x) g) refl e
-  where
-    by : (o : Option Neighbors) → lookup (bytes_eq x) g ≡ o → lookup (bytes_eq y) (unwrap_or o []) ≡ Some w → is_weight w ≡ true
-    by None f h = absurd (none-some w h)
-    by (Some es) f h =
-        let row = place_from_lookup (bytes_eq x) g es f in
-        let entry = place_from_lookup (bytes_eq y) es w h in
-        holds_at (λ (e : Name × ℕ). is_weight e.1) es entry.0 (entry.1, w) (and_parts (is_name row.1) (list_all (λ (e : Name × ℕ). is_weight e.1) es) (holds_at is_row g row.0 (row.1, es) graph.rows row.2)).1 entry.2

@@ -22,12 +22,6 @@ module _ {K X L Y : Type 0} (key : K → L) (value : X → Y) where
       elim (test (key e.0)) as (λ b. cond b (Some (value e.1)) (lookup test (map (λ e. (key e.0, value e.1)) es)) ≡ option_map value (cond b (Some e.1) (lookup (λ k. test (key k)) es)))
       [ true ↦ refl | false ↦ lookup-view test es ]
 
-  pub remove_entry-view : (test : L → Bool) (es : List (K × X)) → remove_entry test (map (λ e. (key e.0, value e.1)) es) ≡ map (λ e. (key e.0, value e.1)) (remove_entry (λ k. test (key k)) es)
-  remove_entry-view test [] = refl
-  remove_entry-view test (e ∷ es) =
-      elim (test (key e.0)) as (λ b. cond b (map (λ e. (key e.0, value e.1)) es) ((key e.0, value e.1) ∷ remove_entry test (map (λ e. (key e.0, value e.1)) es)) ≡ map (λ e. (key e.0, value e.1)) (cond b es (e ∷ remove_entry (λ k. test (key k)) es)))
-      [ true ↦ refl | false ↦ ap (λ t. (key e.0, value e.1) ∷ t) (remove_entry-view test es) ]
-
   pub filter-view : (test : L → Bool) (es : List (K × X)) → filter (λ (e : L × Y). not (test e.0)) (map (λ e. (key e.0, value e.1)) es) ≡ map (λ e. (key e.0, value e.1)) (filter (λ (e : K × X). not (test (key e.0))) es)
   filter-view test [] = refl
   filter-view test (e ∷ es) =
