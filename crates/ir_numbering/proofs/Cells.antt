@@ -1,19 +1,17 @@
 -- What a tree table holds, place by place.
-use Rattle.std.proofs.Common.{◌≡◌, ◌≢◌, ℕ, zero, suc, ◌+◌, ◌*◌, ◌-◌, ◌<◌, ◌≤◌, List, [], ◌∷◌, ◌++◌, length, get_or, refl, ap, sym, ◌∙◌, subst, inl, inr, ◌⊎◌, arith, map, Option, Some, None}
+use Rattle.std.proofs.Common.{◌≡◌, ◌≢◌, ℕ, ◌+◌, ◌*◌, ◌<◌, List, [], ◌∷◌, ◌++◌, length, get_or, refl, ap, sym, ◌∙◌, subst, inl, inr, arith, map, Option, Some, None}
 use Rattle.std.specs.Prelude.{slice_index, slice_index_or, IsSomeAnd}
-use Rattle.std.proofs.lemmas.Bool.{cases_lt, cases_eq}
+use Rattle.std.proofs.lemmas.Bool.{cases_eq}
 use Rattle.std.proofs.lemmas.List.{get_or-map, length-map, get_or_append_left, get_or-append-add, length-append, length_push}
 use Rattle.std.proofs.lemmas.Nat.{mul-add-lt}
 use Rattle.ir_model.specs.Network.{Network, node_count, IsNetwork}
-use Rattle.ir_model.specs.Walk.{Linked}
 use Rattle.ir_model.specs.Numbering.{neighbors_of, IsDepthFirst}
 use Rattle.ir_model.specs.Subtree.{IsUnder, itself, child, IsNested}
 use Rattle.ir_model.specs.Scheme.{AreLabels}
-use Rattle.ir_numbering.specs.Numbers.{IsPortTo, IsParentPort, AreParentPorts}
+use Rattle.ir_numbering.specs.Numbers.{IsPortTo, IsParentPort}
 use Rattle.ir_numbering.specs.Cells.{IsTreeCell, AreTreeCells, AreTreeRows}
 use Rattle.ir_numbering.proofs.Lists.{each_push}
 use Rattle.ir_numbering.proofs.Nested.{depth_first_nests, under_above, parent_under, same_place, same_son}
-use Rattle.ir_numbering.proofs.Ways.{parent_linked}
 
 module _ (net : Network) (ok : IsNetwork net) (order parents : List ℕ)
     (is : IsDepthFirst (neighbors_of net) (node_count net) (slice_index order 0) order parents) (a : ℕ) (own : a < node_count net) where

@@ -1,6 +1,6 @@
 -- The neighbours of a node, and its ports.
-use Rattle.std.proofs.Common.{◌≡◌, ℕ, ◌+◌, ◌<◌, ◌≤◌, List, length, get_or, map, Option, Some, None, refl, ap, sym, ◌∙◌, subst, arith, slice_get}
-use Rattle.std.specs.Prelude.{All, Contains, slice_index}
+use Rattle.std.proofs.Common.{◌≡◌, ℕ, ◌<◌, length, get_or, Some, refl, ap, sym, ◌∙◌, subst, arith}
+use Rattle.std.specs.Prelude.{All, slice_index}
 use Rattle.std.proofs.lemmas.List.{get_or-map, length-map, get_or_default}
 use Rattle.std.proofs.lemmas.Option.{slice_get_within, get_or_from_slice_get, slice_get-get_or}
 use Rattle.ir_model.specs.declared.Hop.{Hop}
@@ -30,11 +30,6 @@ port_of_neighbor net u p h =
     let none : Hop = record { node = 0; link = 0; weight = 0 } in
     let within : p < length (ports_of net u) = omega arith in
     (get_or (ports_of net u) p none, slice_get-get_or (ports_of net u) p none within, sym (get_or-map (λ (hop : Hop). hop.node) (ports_of net u) p none 0 within))
-
-pub linked_contains : (net : Network) (u v : ℕ) → Linked net u v → Contains (neighbors_of net u) v
-linked_contains net u v l =
-    let at = neighbor_at net u l.0 l.1 l.2 in
-    (l.0, at.0, get_or_default (neighbors_of net u) l.0 v 0 at.0 ∙ at.1 ∙ l.3)
 
 pub contains_linked : (net : Network) (u k : ℕ) → k < length (neighbors_of net u) → Linked net u (slice_index (neighbors_of net u) k)
 contains_linked net u k h = let w = port_of_neighbor net u k h in (k, w.0, w.1, w.2)

@@ -1,9 +1,9 @@
 -- Subtrees are runs of places.
-use Rattle.std.proofs.Common.{◌≡◌, ◌≢◌, ℕ, zero, suc, ◌+◌, ◌-◌, ◌<◌, ◌≤◌, List, [], ◌∷◌, length, get_or, take, refl, ap, sym, ◌∙◌, subst, inl, inr, ◌⊎◌, arith}
+use Rattle.std.proofs.Common.{◌≡◌, ◌≢◌, ℕ, zero, suc, ◌+◌, ◌-◌, ◌<◌, ◌≤◌, List, length, get_or, take, refl, sym, ◌∙◌, subst, inl, inr, ◌⊎◌, arith}
 use Rattle.std.specs.Prelude.{Contains, slice_index}
 use Rattle.std.proofs.lemmas.Bool.{cases_lt, cases_eq}
-use Rattle.std.proofs.lemmas.List.{get_or-take, length-take-le, get_or_default}
-use Rattle.ir_model.specs.Numbering.{IsFirstOutside, NoneOutside, IsNext, IsDepthFirst}
+use Rattle.std.proofs.lemmas.List.{get_or-take, length-take-le}
+use Rattle.ir_model.specs.Numbering.{NoneOutside, IsDepthFirst}
 use Rattle.ir_model.specs.Subtree.{IsUnder, itself, child, IsSubtree, IsNested}
 
 longer_take : (xs : List ℕ) (k i x : ℕ) → k ≤ i → i ≤ length xs → Contains (take k xs) x → Contains (take i xs) x

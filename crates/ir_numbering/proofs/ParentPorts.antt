@@ -1,13 +1,12 @@
 -- Labels, and the ports to parents.
-use Rattle.std.proofs.Common.{◌≡◌, ◌≢◌, ℕ, ◌+◌, ◌<◌, ◌≤◌, List, length, get_or, refl, ap, sym, ◌∙◌, subst, arith, Option, Some, None}
+use Rattle.std.proofs.Common.{◌≡◌, ◌≢◌, ℕ, ◌<◌, List, get_or, refl, ap, sym, ◌∙◌, subst, arith, Option, Some, None}
 use Rattle.std.specs.Prelude.{slice_index, IsSomeAnd}
 use Rattle.ir_model.specs.Network.{Network, node_count, IsNetwork}
 use Rattle.ir_model.specs.Walk.{Linked}
 use Rattle.ir_model.specs.Numbering.{neighbors_of, IsDepthFirst}
-use Rattle.ir_model.specs.Tree.{IsParent}
 use Rattle.ir_model.specs.Subtree.{IsNested}
 use Rattle.ir_model.specs.Scheme.{AreLabels}
-use Rattle.ir_numbering.specs.Numbers.{Numbers, IsListing, IsPortTo, IsParentPort, AreParentPorts, IsSound}
+use Rattle.ir_numbering.specs.Numbers.{IsPortTo, IsParentPort, AreParentPorts, IsSound}
 use Rattle.ir_numbering.proofs.Nested.{depth_first_nests}
 use Rattle.ir_numbering.proofs.Ways.{child_linked}
 

@@ -1,17 +1,16 @@
 -- A table of tree cells routes along the tree.
-use Rattle.std.proofs.Common.{◌≡◌, ◌≢◌, ℕ, zero, suc, ◌+◌, ◌-◌, ◌<◌, ◌≤◌, List, [], ◌∷◌, length, get_or, refl, ap, sym, ◌∙◌, subst, inl, inr, ◌⊎◌, arith, map, Option, Some, None}
-use Rattle.std.specs.Prelude.{slice_index, slice_index_or, AllPairs, All}
+use Rattle.std.proofs.Common.{◌≡◌, ◌≢◌, ℕ, ◌<◌, List, [], ◌∷◌, refl, ap, sym, ◌∙◌, subst, inl, inr, arith, map, Option, Some, None}
+use Rattle.std.specs.Prelude.{slice_index, AllPairs, All}
 use Rattle.std.specs.List.{AllByRecursion}
-use Rattle.std.proofs.lemmas.Bool.{cases_lt, cases_eq}
 use Rattle.std.proofs.lemmas.List.Kept.{AllPairs-cons}
 use Rattle.std.proofs.lemmas.List.Elements.{All-cons}
 use Rattle.ir_model.specs.declared.Hop.{Hop}
 use Rattle.ir_model.specs.Network.{Network, node_count, port_at}
 use Rattle.ir_model.specs.Numbering.{neighbors_of, IsDepthFirst}
-use Rattle.ir_model.specs.Subtree.{IsUnder, itself, child, IsNested}
+use Rattle.ir_model.specs.Subtree.{IsUnder, itself, IsNested}
 use Rattle.ir_model.specs.Scheme.{AreLabels}
 use Rattle.ir_model.specs.Table.{FullTable, port_in, next_node, Continues, IsPrescribedWalk}
-use Rattle.ir_model.specs.Tree.{IsParent, IsTreeStep, LeadsInTree, IsTreePath, IsTreeTable}
+use Rattle.ir_model.specs.Tree.{IsTreeStep, LeadsInTree, IsTreePath, IsTreeTable}
 use Rattle.ir_numbering.specs.Numbers.{IsPortTo}
 use Rattle.ir_numbering.specs.Cells.{IsTreeCell, AreTreeRows}
 use Rattle.ir_tables.specs.Listed.{listed_port, IsPortList, IsListed}

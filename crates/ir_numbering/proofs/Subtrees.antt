@@ -1,15 +1,13 @@
 -- Subtrees and tree rows in words of nodes.
-use Rattle.std.proofs.Common.{◌≡◌, ◌≢◌, ℕ, zero, suc, ◌+◌, ◌-◌, ◌<◌, ◌≤◌, List, length, get_or, refl, ap, sym, ◌∙◌, subst, inl, inr, ◌⊎◌, arith, map, Option}
-use Rattle.std.specs.Prelude.{slice_index, ◌↔◌, Contains}
+use Rattle.std.proofs.Common.{◌≡◌, ◌≢◌, ℕ, ◌+◌, ◌-◌, ◌<◌, ◌≤◌, List, refl, ap, sym, ◌∙◌, subst, inl, inr, ◌⊎◌, arith, map}
+use Rattle.std.specs.Prelude.{slice_index, ◌↔◌}
 use Rattle.std.proofs.lemmas.Bool.{cases_lt, cases_eq}
 use Rattle.ir_model.specs.Network.{node_count}
 use Rattle.ir_model.specs.Numbering.{IsDepthFirst, neighbors_of}
 use Rattle.ir_model.specs.Interval.{InInterval}
-use Rattle.ir_model.specs.Subtree.{IsUnder, itself, child, IsSubtree, IsNested}
+use Rattle.ir_model.specs.Subtree.{IsUnder, itself, child, IsNested}
 use Rattle.ir_model.specs.Scheme.{AreLabels}
-use Rattle.ir_model.specs.Row.{Start, labels}
-use Rattle.ir_model.specs.Compiled.{label_after, IsCanonical}
-use Rattle.ir_model.specs.Tree.{IsParent, IsTreeTable}
+use Rattle.ir_model.specs.Tree.{IsParent}
 use Rattle.ir_numbering.specs.Laws.{IsBelow, at, from_parent, end_label, SubtreesAreIntervals, OthersAreAnInterval, TreeRowsStartAtSons}
 use Rattle.ir_numbering.proofs.Nested.{depth_first_nests}
 use Rattle.ir_numbering.proofs.TreePorts.{tree_ports}

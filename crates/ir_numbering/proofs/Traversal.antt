@@ -1,14 +1,13 @@
 -- What a search keeps that has a stack of the places on its way.
-use Rattle.std.proofs.Common.{◌≡◌, ◌≢◌, ℕ, zero, suc, ◌+◌, ◌-◌, ◌*◌, ◌<◌, ◌≤◌, List, [], ◌∷◌, ◌++◌, length, get_or, set, replicate, take, refl, ap, sym, ◌∙◌, subst, inl, inr, ◌⊎◌, arith, Option, Some, None, Bool, true, false}
-use Rattle.std.specs.Prelude.{All, AllPairs, Contains, slice_get, slice_index, slice_index_or}
-use Rattle.std.specs.List.Sorted.{IsStrictlyIncreasing}
-use Rattle.std.proofs.lemmas.Bool.{cases_lt, cases_eq, false≢true}
-use Rattle.std.proofs.lemmas.List.{length_push, get_or_append_left, get_or_push, take-append-le, take_at, get_or_default, get_or-set_same, get_or-set_other, length-set, length-replicate, get_or-replicate, get_or-map, get_or_read}
+use Rattle.std.proofs.Common.{◌≡◌, ◌≢◌, ℕ, zero, suc, ◌<◌, ◌≤◌, List, [], ◌∷◌, ◌++◌, length, get_or, set, replicate, take, refl, ap, sym, ◌∙◌, subst, inl, inr, ◌⊎◌, arith, Bool, true, false}
+use Rattle.std.specs.Prelude.{All, AllPairs, Contains, slice_index}
+use Rattle.std.proofs.lemmas.Bool.{cases_eq, false≢true}
+use Rattle.std.proofs.lemmas.List.{length_push, get_or_append_left, get_or_push, take-append-le, take_at, get_or_default, get_or-set_same, get_or-set_other, length-set, length-replicate, get_or-replicate, get_or_read}
 use Rattle.std.proofs.lemmas.List.Elements.{Contains-get_or, Contains-append_left, Contains-push, Contains-push_cases, All-push}
 use Rattle.std.proofs.lemmas.List.Quantifiers.{all_pairs_push}
 use Rattle.ir_model.proofs.Pigeonhole.{length-le_from_places}
 use Rattle.ir_model.specs.Network.{Network, node_count, IsNetwork}
-use Rattle.ir_model.specs.Numbering.{neighbors_of, IsFirstOutside, NoneOutside, IsNext, IsDepthFirst}
+use Rattle.ir_model.specs.Numbering.{neighbors_of, IsFirstOutside, NoneOutside, IsNext}
 use Rattle.ir_model.specs.Walk.{LeadsTo, IsWalk}
 use Rattle.ir_model.specs.Scheme.{AreLabels}
 use Rattle.ir_numbering.specs.Search.{IsFirstUnmarked, AllMarked}
@@ -129,17 +128,6 @@ begun adjacent n root label = record {
   rising = λ i j lt h. absurd (omega arith);
   places = λ k d h. let e : k ≡ 0 = omega arith in rw e (omega arith);
   finished = λ k h off. let e : 0 ≡ k = omega arith in absurd (off (0, omega arith, e));
-}
-
--- where all nodes are seen, the order is depth first
-pub all_seen : (adjacent : ℕ → List ℕ) (n root : ℕ) (order parents stack : List ℕ) → IsTraversal adjacent n root order parents stack → length order ≡ n → IsDepthFirst adjacent n root order parents
-all_seen adjacent n root order parents stack t e = record {
-  every = e;
-  parented = t.parented ∙ e;
-  nodes = t.nodes;
-  once = t.once;
-  root_first = t.root_first;
-  next = λ i from h. t.next i from (omega arith);
 }
 
 -- where every neighbour of a node seen is seen, so is each node that a walk leads to

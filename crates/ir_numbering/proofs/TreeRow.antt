@@ -1,11 +1,11 @@
 -- Where the starts of a node of a tree stand.
-use Rattle.std.proofs.Common.{◌≡◌, ◌≢◌, ℕ, zero, suc, ◌+◌, ◌-◌, ◌<◌, ◌≤◌, List, [], ◌∷◌, length, get_or, refl, ap, sym, ◌∙◌, subst, inl, inr, ◌⊎◌, arith, Option, Some, None}
+use Rattle.std.proofs.Common.{◌≡◌, ◌≢◌, ℕ, ◌+◌, ◌-◌, ◌<◌, ◌≤◌, List, refl, ap, sym, ◌∙◌, subst, inl, inr, ◌⊎◌, arith, Option, Some}
 use Rattle.std.specs.Prelude.{◌↔◌, Contains, slice_index}
 use Rattle.std.proofs.lemmas.Bool.{cases_lt, cases_eq}
 use Rattle.std.proofs.lemmas.Bool.Decides.{nat_tests}
 use Rattle.ir_model.specs.Row.{Start, labels}
-use Rattle.ir_model.specs.Compiled.{port_to, label_after, label_before, predecessor, AllAlike, IsChange, IsStart, IsCanonical}
-use Rattle.ir_model.proofs.Round.{shown, shown_own, shown_other, option_cases, before_differs}
+use Rattle.ir_model.specs.Compiled.{port_to, label_after, label_before, predecessor, IsChange, IsStart, IsCanonical}
+use Rattle.ir_model.proofs.Round.{shown, shown_own, shown_other, option_cases}
 use Rattle.ir_model.proofs.Fewest.{predecessor_is_label, predecessor_differs}
 use Rattle.ir_model.specs.Subtree.{IsUnder, itself, child, IsSubtree, IsNested, IsTreePorts}
 use Rattle.ir_numbering.proofs.Nested.{under_above, under_run, son_above, outside_means}

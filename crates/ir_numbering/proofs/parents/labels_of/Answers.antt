@@ -1,4 +1,4 @@
-use Rattle.std.proofs.Common.{◌≡◌, ◌<◌, ◌≤◌, ◌+◌, ℕ, length, List, arith, sym, ap, ◌∙◌}
+use Rattle.std.proofs.Common.{length, arith}
 use Rattle.ir_numbering.proofs.Traversal.{are_labels}
 use Rattle.ir_numbering.proofs.parents.labels_of.Goals as goal
 

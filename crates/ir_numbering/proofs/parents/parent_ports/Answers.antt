@@ -1,4 +1,4 @@
-use Rattle.std.proofs.Common.{◌≡◌, ◌+◌, ◌<◌, ◌≤◌, ◌++◌, ◌∷◌, [], ℕ, List, length, arith, Option, None}
+use Rattle.std.proofs.Common.{◌≡◌, ◌++◌, ◌∷◌, [], arith, None}
 use Rattle.std.proofs.lemmas.List.{length_push}
 use Rattle.ir_numbering.specs.Numbers.{IsParentPort}
 use Rattle.ir_numbering.proofs.Lists.{each_push}

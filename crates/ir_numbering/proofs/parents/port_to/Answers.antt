@@ -1,7 +1,6 @@
-use Rattle.std.proofs.Common.{◌≡◌, ◌<◌, ◌≤◌, ◌+◌, ℕ, length, List, Option, Some, None, get_or, inl, inr, arith, sym, ap, ◌∙◌, subst, slice_get, rules}
+use Rattle.std.proofs.Common.{◌≡◌, ℕ, length, List, Some, get_or, inl, inr, arith, sym, ap, ◌∙◌, subst, slice_get}
 use Rattle.std.proofs.lemmas.Option.{slice_get_within, slice_get-get_or, get_or_from_slice_get}
 use Rattle.ir_model.specs.declared.Hop.{Hop}
-use Rattle.ir_model.specs.Network.{Network, node_count, port_at, ports_of, IsNetwork}
 use Rattle.ir_model.proofs.Walks.{degree_bound}
 use Rattle.std.proofs.lemmas.Bool.{cases_eq}
 use Rattle.ir_numbering.proofs.Neighbors.{node_in}

@@ -1,4 +1,4 @@
-use Rattle.std.proofs.Common.{◌≡◌, ◌<◌, ◌≤◌, ℕ, Some, slice_get}
+use Rattle.std.proofs.Common.{◌≡◌, ◌≤◌, ℕ, Some, slice_get}
 use Rattle.ir_model.specs.declared.Hop.{Hop}
 use Rattle.ir_numbering.proofs.parents.port_to.Given as goal
 

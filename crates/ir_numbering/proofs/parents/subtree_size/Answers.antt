@@ -1,4 +1,4 @@
-use Rattle.std.proofs.Common.{◌≡◌, ◌<◌, ◌≤◌, length, arith}
+use Rattle.std.proofs.Common.{◌<◌, length, arith}
 use Rattle.std.specs.Prelude.{slice_index}
 use Rattle.ir_numbering.proofs.Nested.{subtree_ends}
 use Rattle.ir_numbering.proofs.parents.subtree_size.Goals as goal

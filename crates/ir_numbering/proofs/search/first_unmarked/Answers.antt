@@ -1,4 +1,4 @@
-use Rattle.std.proofs.Common.{◌≡◌, ◌<◌, ℕ, length, map, List, true, false, arith, below_more}
+use Rattle.std.proofs.Common.{◌<◌, length, arith, below_more}
 use Rattle.std.proofs.lemmas.List.{get_or-map}
 use Rattle.ir_model.specs.declared.Hop.{Hop}
 use Rattle.ir_numbering.proofs.search.first_unmarked.Goals as goal

@@ -1,12 +1,12 @@
-use Rattle.std.proofs.Common.{◌≡◌, ◌<◌, ◌≤◌, ◌+◌, ◌-◌, ◌++◌, ℕ, List, [], ◌∷◌, length, arith, rules, subst, sym, ap, ◌∙◌, vec_len, refl, set, replicate, false, true, Bool, map}
+use Rattle.std.proofs.Common.{◌≡◌, ◌<◌, ◌++◌, ℕ, List, [], ◌∷◌, length, arith, rules, subst, sym, ap, ◌∙◌, replicate, false, Bool, map}
 use Rattle.std.specs.Prelude.{All}
 use Rattle.std.proofs.lemmas.List.{length_push, nil_from_length}
 use Rattle.ir_model.specs.declared.Hop.{Hop}
-use Rattle.ir_model.specs.Network.{Network, node_count, ports_of}
+use Rattle.ir_model.specs.Network.{node_count}
 use Rattle.ir_model.specs.Numbering.{neighbors_of}
 use Rattle.ir_numbering.specs.Search.{AllMarked, IsFirstUnmarked}
 use Rattle.ir_numbering.proofs.Neighbors.{ports_below}
-use Rattle.ir_numbering.proofs.Traversal.{IsTraversal, IsMarked, begun, popped, pushed, goes_back, goes_on, marks_one, marks_more, marked_none, marked_first, top_below, node_below, walk_is_seen, some_unseen, all_seen}
+use Rattle.ir_numbering.proofs.Traversal.{begun, goes_back, goes_on, marks_one, marks_more, top_below, node_below, walk_is_seen, some_unseen}
 use Rattle.ir_numbering.proofs.search.search.Goals as goal
 use Rattle.ir_numbering.proofs.search.search.Goals.{else-search-test, then-search-test+in_default}
 

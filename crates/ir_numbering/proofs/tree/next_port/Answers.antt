@@ -1,4 +1,4 @@
-use Rattle.std.proofs.Common.{◌≡◌, ◌≢◌, ◌+◌, ◌<◌, ◌≤◌, ℕ, List, length, arith, Option, Some, None, subst, sym, ap, ◌∙◌, refl, get_or}
+use Rattle.std.proofs.Common.{ℕ, length, arith, None, subst, sym, ◌∙◌}
 use Rattle.std.specs.Prelude.{slice_index}
 use Rattle.ir_model.specs.Walk.{Linked}
 use Rattle.ir_numbering.specs.Cells.{IsTreeCell}

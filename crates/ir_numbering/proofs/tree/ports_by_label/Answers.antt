@@ -1,5 +1,5 @@
-use Rattle.std.proofs.Common.{◌≡◌, ◌+◌, ◌<◌, ◌≤◌, ◌++◌, ◌∷◌, [], ℕ, List, length, arith, Option, None, subst, sym, ap, ◌∙◌}
-use Rattle.ir_numbering.specs.Cells.{IsTreeCell, AreTreeCells}
+use Rattle.std.proofs.Common.{◌≡◌, ◌++◌, ◌∷◌, [], ℕ, List, length, Option, subst, ap, ◌∙◌}
+use Rattle.ir_numbering.specs.Cells.{IsTreeCell}
 use Rattle.ir_numbering.proofs.Cells.{cell_added}
 use Rattle.ir_numbering.proofs.tree.ports_by_label.Goals as goal
 

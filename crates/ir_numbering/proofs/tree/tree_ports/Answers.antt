@@ -1,4 +1,4 @@
-use Rattle.std.proofs.Common.{◌≡◌, ◌+◌, ◌<◌, ◌≤◌, ◌++◌, ◌∷◌, [], ℕ, List, length, arith, Option, None, subst, sym, rules}
+use Rattle.std.proofs.Common.{arith}
 use Rattle.ir_numbering.proofs.Cells.{row_added}
 use Rattle.ir_numbering.proofs.tree.tree_ports.Goals as goal
 

@@ -1,5 +1,4 @@
-use Rattle.std.proofs.Common.{◌≡◌, ◌≢◌, ◌+◌, ◌<◌, ◌≤◌, ℕ, List, length, arith, subst, sym, ap, ◌∙◌}
-use Rattle.ir_model.specs.Network.{node_count}
+use Rattle.std.proofs.Common.{ℕ, arith, subst}
 use Rattle.ir_model.specs.Scheme.{AreLabels}
 use Rattle.ir_numbering.proofs.ParentPorts.{sound_numbers}
 use Rattle.ir_numbering.proofs.Ways.{tree_connects}
