@@ -1,4 +1,8 @@
-//! The two texts of a topology: adjacency lists and weighted edge lists, in NetworkX's formats.
+//! The two texts of a topology, in the formats of NetworkX: adjacency lists and weighted edge lists, read and written.
+//!
+//! A line ends with a line feed or with the text. What stands behind a `#` is a comment and holds any bytes; outside a
+//! comment each byte is a blank (space, tab, carriage return, vertical tab, form feed) or one of `!` to `~`. A name is a
+//! word of 1 to 64 bytes. A line with no word is skipped.
 #![tactic(auto)]
 
 ghost use Rattle.std.specs.Prelude.{◌≡◌, [], None, IfOk, IfErr};
@@ -11,7 +15,7 @@ ghost use Rattle.ir_adjlist.specs.Written.{adjlist_text, edgelist_text};
 
 mod edges;
 mod rows;
-mod scan;
+pub mod scan;
 mod weights;
 mod writer;
 
@@ -19,7 +23,7 @@ use ir_graph::Graph;
 pub use ir_model::Fault;
 use std::alloc::{AllocError, Global};
 
-/// Why a text is refused. Want of memory has line 0.
+/// Why a text is refused: its first faulty line, counted from 1, and that line's first fault. Want of memory has line 0.
 #[derive(Clone, Copy, Debug, PartialEq, Eq)]
 pub struct TextError {
     pub line: usize,
@@ -47,10 +51,10 @@ fn error_at(line: usize, kind: Fault) -> TextError
     }
 }
 
-/// The graph that an adjacency list names: the first word of a line is a source and the further words its targets, each
-/// linked to it with weight 1. What stands behind a `#` is a comment. Nodes and neighbours stand by first appearance.
-/// A text with a fault is refused with its first faulty line, counted from 1, and that line's first fault: `BadByte`,
-/// `BadName`, and then `TooManyNodes` or `TooManyEdges` in the order of adding.
+/// The graph that an adjacency list names. The first word of a line is a source, and the further words are its targets;
+/// each is linked to it with weight 1, and a target that is the source is a self-loop. Nodes and neighbours stand by
+/// first appearance. The faults of a line, in order: `BadByte`; `BadName` of any word; then `TooManyNodes` and
+/// `TooManyEdges`, whichever comes first as the words are added.
 pub fn parse_adjlist(alloc: Global, text: &[u8]) -> Result<Graph, TextError>
     ensures parsed { IfOk result (λ g. (first_fault [] (lines text.now) ≡ None) × (g ≡ graph_of (names_in (lines text.now)) (pairs_in (lines text.now)))) }
     ensures fault { IfErr result (λ e. Tells e (first_fault [] (lines text.now))) }
@@ -69,11 +73,10 @@ pub fn parse_adjlist(alloc: Global, text: &[u8]) -> Result<Graph, TextError>
     Ok(graph)
 }
 
-/// The graph that a weighted edge list names: a line has two ends and a weight, decimal digits of value 1 to 65,535 behind
-/// which a point and zeros may stand. A line of fewer than two words is skipped, and what stands behind a `#` is a comment.
-/// Nodes and neighbours stand by first appearance, and an edge has its last weight. A text with a fault is refused with
-/// its first faulty line, counted from 1, and that line's first fault: `BadByte`, `BadName`, `BadRow`, `BadWeight`,
-/// `TooManyNodes`, `TooManyEdges`.
+/// The graph that a weighted edge list names. A line has two ends and a weight: decimal digits of value 1 to 65,535,
+/// behind which a point and zeros may stand. A line of fewer than two words is skipped. Nodes and neighbours stand by
+/// first appearance, and an edge has its last weight. The faults of a line, in order: `BadByte`; `BadName` of an end;
+/// `BadRow` where the words are not three; `BadWeight`; `TooManyNodes`; `TooManyEdges`.
 pub fn parse_weighted_edgelist(alloc: Global, text: &[u8]) -> Result<Graph, TextError>
     ensures parsed { IfOk result (λ g. (first_edge_fault (lines text.now) ≡ None) × (g ≡ graph_of_edges (edges_in (lines text.now)))) }
     ensures fault { IfErr result (λ e. Tells e (first_edge_fault (lines text.now))) }
@@ -92,8 +95,9 @@ pub fn parse_weighted_edgelist(alloc: Global, text: &[u8]) -> Result<Graph, Text
     Ok(graph)
 }
 
-/// The adjacency list of a graph: a line for each node in order, with the node and then those of its neighbours, in order,
-/// that have no line before it. So each edge stands once. Refused for want of memory alone.
+/// The adjacency list of a graph: a line for each node in order, with the node and then its neighbours, in order, that
+/// have no line before it. So each edge stands once, and no weight. It is read again as the same nodes and the same
+/// edges, each of weight 1; the orders are then those of the text. Refused for want of memory alone.
 pub fn generate_adjlist(alloc: Global, graph: &Graph) -> Result<Vec<u8>, AllocError>
     ensures text { IfOk result (λ text. text.items ≡ adjlist_text graph.now) }
     ensures read { IfOk result (λ text. IsReadAsAdjlist graph.now text.items) }
@@ -105,8 +109,9 @@ pub fn generate_adjlist(alloc: Global, graph: &Graph) -> Result<Vec<u8>, AllocEr
     Ok(text)
 }
 
-/// The weighted edge list of a graph: a line for each edge in order, with its ends and its weight. Refused for want of
-/// memory alone.
+/// The weighted edge list of a graph: a line for each edge in order, with its ends and its weight in decimal. It is read
+/// again as the same edges and weights, and as the same nodes where no node is without an edge; the orders are then
+/// those of the text. Refused for want of memory alone.
 pub fn generate_weighted_edgelist(alloc: Global, graph: &Graph) -> Result<Vec<u8>, AllocError>
     ensures text { IfOk result (λ text. text.items ≡ edgelist_text graph.now) }
     ensures read { IfOk result (λ text. IsReadAsEdgelist graph.now text.items) }
