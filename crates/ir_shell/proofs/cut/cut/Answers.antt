@@ -1,0 +1,43 @@
+use Rattle.std.proofs.Common.{◌≡◌, ◌+◌, ◌-◌, ◌∙◌, sym, ap, true, false, bytes_eq, drop, take, length, arith}
+use Rattle.std.specs.List.{prefix_len}
+use Rattle.std.proofs.lemmas.List.{take_rest}
+use Rattle.ir_model.specs.Text.{lines}
+use Rattle.ir_shell.specs.Cut.{is_cut}
+use Rattle.ir_shell.proofs.Cutting.{is_text, before_more, at_cut, no_cut}
+use Rattle.ir_shell.proofs.cut.cut.Goals as goal
+
+pub loop-at-preserved : goal.loop-at-preserved
+loop-at-preserved c =
+    let input = c.args.input.now in
+    let at = c.loop-at.at in
+    let n = c.line_len-len.result in
+    let rest : take (length input - at) (drop at input) ≡ drop at input = take_rest input at in
+    let len : prefix_len is_text (drop at input) ≡ n = sym (c.line_len-len.ensures.len ∙ ap (prefix_len is_text) rest) in
+    let other : is_cut (take n (drop at input)) ≡ false = ap (λ bs. is_cut (take n bs)) (sym rest) ∙ ap (λ l. bytes_eq (take n (take (length input - at) (drop at input))) l) (sym c.as_slice.ensures) ∙ sym c.if-eq.ensures in
+    before_more input at n c.loop-at.invariant (omega arith) len other
+
+pub returns-then-eq-clause-script : goal.returns-then-eq-clause-script
+returns-then-eq-clause-script c =
+    let input = c.args.input.now in
+    let at = c.loop-at.at in
+    let n = c.line_len-len.result in
+    let rest : take (length input - at) (drop at input) ≡ drop at input = take_rest input at in
+    let len : prefix_len is_text (drop at input) ≡ n = sym (c.line_len-len.ensures.len ∙ ap (prefix_len is_text) rest) in
+    let same : is_cut (take n (drop at input)) ≡ true = ap (λ bs. is_cut (take n bs)) (sym rest) ∙ ap (λ l. bytes_eq (take n (take (length input - at) (drop at input))) l) (sym c.as_slice.ensures) ∙ sym c.if-eq.ensures in
+    ap lines (c.behind_line.ensures ∙ ap (drop (n + 1)) rest) ∙ (at_cut input at n c.loop-at.invariant (omega arith) len same).1
+
+pub returns-then-eq-clause-topology : goal.returns-then-eq-clause-topology
+returns-then-eq-clause-topology c =
+    let input = c.args.input.now in
+    let at = c.loop-at.at in
+    let n = c.line_len-len.result in
+    let rest : take (length input - at) (drop at input) ≡ drop at input = take_rest input at in
+    let len : prefix_len is_text (drop at input) ≡ n = sym (c.line_len-len.ensures.len ∙ ap (prefix_len is_text) rest) in
+    let same : is_cut (take n (drop at input)) ≡ true = ap (λ bs. is_cut (take n bs)) (sym rest) ∙ ap (λ l. bytes_eq (take n (take (length input - at) (drop at input))) l) (sym c.as_slice.ensures) ∙ sym c.if-eq.ensures in
+    (at_cut input at n c.loop-at.invariant (omega arith) len same).0
+
+pub returns-clause-topology : goal.returns-clause-topology
+returns-clause-topology c = (no_cut c.args.input.now c.loop-at.at c.loop-at.invariant (omega arith)).0
+
+pub returns-clause-script : goal.returns-clause-script
+returns-clause-script c = (no_cut c.args.input.now c.loop-at.at c.loop-at.invariant (omega arith)).1

@@ -1,0 +1,10 @@
+use Rattle.std.proofs.Common.{◌∙◌, ◌++◌, ◌∷◌, [], ap, decimal, string_bytes}
+use Rattle.ir_shell.specs.Words.{spaced}
+use Rattle.ir_shell.proofs.Tracing.{line_pieces}
+use Rattle.ir_shell.proofs.text.push_line.Goals as goal
+
+pub returns : goal.returns
+returns c =
+    c.in_ok-push_str-2.ensures.bytes
+    ∙ ap (λ t. t ++ 10 ∷ []) (c.in_ok-push_word.ensures ∙ ap (λ t. t ++ spaced c.args.name.now) (c.in_ok-push_next_number.ensures ∙ ap (λ t. t ++ spaced (decimal c.args.line)) c.in_ok-push_str.ensures.bytes))
+    ∙ line_pieces (string_bytes c.args.text.now) c.args.what.now (spaced (decimal c.args.line)) (spaced c.args.name.now) (10 ∷ [])

@@ -1,0 +1,15 @@
+pub mod Cut
+pub mod Command
+pub mod Words
+pub mod Script
+pub mod Packets
+pub mod Trace
+pub mod Rows
+pub mod Traced
+pub mod Lines
+pub mod Opening
+pub mod Answer
+pub mod Replies
+pub mod Writing
+pub mod Replied
+pub mod Ending

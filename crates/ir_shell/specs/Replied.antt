@@ -1,0 +1,15 @@
+-- How a run ends with an answer.
+use Rattle.std.specs.Prelude.{ℕ, List, Option}
+use Rattle.std.specs.Io.KnownBytes.{Appends, Keeps}
+use Rattle.ir_shell.specs.declared.ending.Ending.{Ending}
+use Rattle.ir_shell.specs.declared.ending.Ending.TheVariants as endings
+use Rattle.ir_shell.specs.Answer.{Answer, Ran, Refused}
+use Rattle.ir_shell.specs.Lines.{unwritable_line}
+use Rattle.ir_shell.specs.Writing.{AppendsFront}
+
+-- what the writers took of an answer
+abbrev pub RepliesAs : Ending → Answer → (out out' told told' : Option (List ℕ)) → Type 0
+RepliesAs endings.Done (Ran trace refusals) out out' told told' = Appends out out' trace × AppendsFront told told' refusals
+RepliesAs endings.Unwritable (Ran trace refusals) out out' told told' = AppendsFront out out' trace × AppendsFront told told' unwritable_line
+RepliesAs endings.Refused (Refused line) out out' told told' = Keeps out out' × AppendsFront told told' line
+RepliesAs ending answer out out' told told' = ⊥

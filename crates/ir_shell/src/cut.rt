@@ -1,0 +1,49 @@
+//! One input for two texts.
+ghost use Rattle.std.specs.Prelude.{◌≡◌, ◌≤◌, ◌==◌, not, length, position, drop, ◌+◌};
+ghost use Rattle.std.specs.List.{prefix_len};
+ghost use Rattle.ir_model.specs.Text.{lines};
+ghost use Rattle.ir_shell.specs.Cut.{topology_part, script_part};
+
+/// The place of the first line feed.
+fn find_end(text: &[u8]) -> Option<usize>
+    ensures { result ≡ position (λ b. b == 10) text.now }
+{
+    text.iter().position(|byte| *byte == b'\n')
+}
+
+/// How many bytes the line at the front has.
+fn line_len(text: &[u8]) -> usize
+    ensures len { result ≡ prefix_len (λ b. not (b == 10)) text.now }
+    ensures within { result ≤ length text.now }
+{
+    find_end(text).unwrap_or(text.len())
+}
+
+/// What stands behind the line at the front, which has so many bytes.
+fn behind_line(text: &[u8], len: usize) -> &[u8]
+    ensures { result.now ≡ drop (len + 1) text.now }
+{
+    if len < text.len() {
+        &text[len + 1..]
+    } else {
+        &[]
+    }
+}
+
+/// The texts before and behind the first line that is exactly `%%`.
+pub fn cut(input: &[u8]) -> (&[u8], &[u8])
+    ensures topology { lines result.0.now ≡ topology_part (lines input.now) }
+    ensures script { lines result.1.now ≡ script_part (lines input.now) }
+{
+    let mut at = 0;
+    while at < input.len() {
+        let rest = &input[at..];
+        let len = line_len(rest);
+        let line = &rest[..len];
+        if line == b"%%".as_slice() {
+            return (&input[..at], behind_line(rest, len));
+        }
+        at = at + len + 1;
+    }
+    (input, &[])
+}

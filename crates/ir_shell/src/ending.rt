@@ -1,0 +1,27 @@
+//! How a run ends.
+ghost use Rattle.std.specs.Prelude.{◌≡◌};
+ghost use Rattle.ir_shell.specs.Ending.{status_of};
+
+/// How a run ends.
+#[derive(Clone, Copy, Debug, PartialEq, Eq)]
+pub enum Ending {
+    /// All is written.
+    Done,
+    Unreadable,
+    TooLarge,
+    /// The input is refused.
+    Refused,
+    Unwritable,
+    NoMemory,
+}
+
+/// The exit status.
+pub fn status_of(ending: Ending) -> u8
+    ensures { result ≡ status_of ending }
+{
+    match ending {
+        Ending::Done => 0,
+        Ending::Unreadable | Ending::TooLarge | Ending::Refused | Ending::Unwritable => 1,
+        Ending::NoMemory => 3,
+    }
+}
