@@ -17,7 +17,7 @@ use Rattle.ir_adjlist.proofs.Names.{list_all-imp}
 use Rattle.ir_adjlist.proofs.Meaning.{CoveredIn, CoveredIn-push, names_in-push, pairs_in-push}
 use Rattle.ir_adjlist.proofs.Spelling.{Row, is_row_of_names, line_of, text_of, lines_of_rows, row_plain, row_words, name_len}
 use Rattle.ir_adjlist.proofs.Found.{or_else, found, has_node-graph_of, weight_of-graph_of}
-use Rattle.ir_adjlist.proofs.EdgesFound.{RowsAreOf, rows_of, is_some-among, edges_found}
+use Rattle.ir_adjlist.proofs.EdgesFound.{RowsAreOf, rows_of, is_some-among, or_true, edges_found}
 use Rattle.ir_adjlist.proofs.Fitting.{nodes_fit, edges_fit}
 use Rattle.ir_adjlist.proofs.Sound.{same_bool, among_holds, all_kept, node_names, node_is_name, row_neighbors, row_nodes}
 
@@ -141,10 +141,6 @@ names_cover : (written : List Name) (rs : Adjacency) (x : Name) → among (names
 names_cover written [] x h = cc
 names_cover written (r ∷ rs) x h = by (bytes_eq x r.0) h (names_cover (r.0 ∷ written) rs x)
   where
-    or_true : (a : Bool) → (a || true) ≡ true
-    or_true true = refl
-    or_true false = refl
-
     by : (b : Bool) → (b || among (names rs) x) ≡ true → (among (names rs) x ≡ true → among (row_names (rows_behind (r.0 ∷ written) rs)) x ≡ true)
         → (b || among (targets_behind written r.1 ++ row_names (rows_behind (r.0 ∷ written) rs)) x) ≡ true
     by true h later = refl

@@ -7,7 +7,7 @@ use Rattle.ir_model.specs.Graph.{Name, Neighbors, Adjacency, names, among, has_n
 use Rattle.ir_model.specs.Made.{joins}
 use Rattle.ir_model.proofs.Names.{same_names, bytes_eq-swap}
 use Rattle.ir_adjlist.proofs.Writing.{row_at}
-use Rattle.ir_adjlist.proofs.Found.{or_else, found, found-append, row_edges_of, found_row, found_none}
+use Rattle.ir_adjlist.proofs.Found.{or_else, or_else-none, found, found-append, row_edges_of, found_row, found_none}
 
 module _ {X : Type 0} where
   pub all_by_places : (P : X → Type 0) (xs : List X) → ((i : ℕ) (x : X) → slice_get xs i ≡ Some x → P x) → AllByRecursion P xs
@@ -47,7 +47,7 @@ or_parts false b h = (refl, h)
 or_from : (a b : Bool) → a ≡ false → b ≡ false → (a || b) ≡ false
 or_from a b p q = ap (λ t. t || b) p ∙ q
 
-or_true : (a : Bool) → (a || true) ≡ true
+pub or_true : (a : Bool) → (a || true) ≡ true
 or_true true = refl
 or_true false = refl
 
@@ -113,10 +113,6 @@ module _ (g : Adjacency) (both_ways : (x y : Name) → weight_of g x y ≡ weigh
       not_walked : (a : Name) → bytes_eq a r.0 ≡ true → among walked a ≡ false
       not_walked a e = ap (among walked) (same_names a r.0 e) ∙ fresh.0
 
-      nothing_else : (o : Option ℕ) → or_else o None ≡ o
-      nothing_else None = refl
-      nothing_else (Some w) = refl
-
       by : (a b : Bool) → bytes_eq x r.0 ≡ a → bytes_eq y r.0 ≡ b → or_else (cond ((a || among walked x) || (b || among walked y)) None (weight_of g x y)) (found x y (row_edges_of walked r.0 r.1)) ≡ cond (among walked x || among walked y) None (weight_of g x y)
       by true b ea eb =
           found_row walked r.0 x y y (joins_first x y r.0 ea) r.1 row_differ
@@ -129,7 +125,7 @@ module _ (g : Adjacency) (both_ways : (x y : Name) → weight_of g x y ≡ weigh
           ∙ sym (ap (λ t. cond t None (weight_of g x y)) (ap (λ t. among walked x || t) (not_walked y eb) ∙ or_false (among walked x)))
       by false false ea eb =
           ap (or_else (cond (among walked x || among walked y) None (weight_of g x y))) (found_none walked r.0 x y (joins_neither x y r.0 ea eb) r.1)
-          ∙ nothing_else (cond (among walked x || among walked y) None (weight_of g x y))
+          ∙ or_else-none (cond (among walked x || among walked y) None (weight_of g x y))
 
 none_walked : (ns : List Name) → AllByRecursion (λ n. among [] n ≡ false) ns
 none_walked [] = tt

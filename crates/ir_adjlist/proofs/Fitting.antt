@@ -15,6 +15,7 @@ use Rattle.ir_model.proofs.MadeLemmas.{Covered, Covered-pair, distinct-push, IsD
 use Rattle.ir_graph.proofs.Keeping.{length-edges-new, length-edges-old}
 use Rattle.ir_adjlist.proofs.Found.{found-swap, weight_of-graph_of}
 use Rattle.ir_adjlist.proofs.EdgesFound.{all_and, is_some-among}
+use Rattle.ir_adjlist.proofs.Sound.{all_kept}
 
 -- ---- different names among others are no more than these
 
@@ -43,15 +44,9 @@ no_more_names (x ∷ ds) ks d h =
 -- ---- nodes
 
 module _ (p : Name → Bool) where
-  list_all-kept : (q : Name → Bool) (ks : List Name) → list_all p ks ≡ true → list_all p (filter q ks) ≡ true
-  list_all-kept q [] h = refl
-  list_all-kept q (k ∷ ks) h =
-      let a = and_parts (p k) (list_all p ks) h in
-      elim (q k) as (λ b. list_all p (cond b (k ∷ filter q ks) (filter q ks)) ≡ true) [ true ↦ and_from _ _ a.0 (list_all-kept q ks a.1) | false ↦ list_all-kept q ks a.1 ]
-
   all_distinct : (ks : List Name) → list_all p ks ≡ true → list_all p (distinct ks) ≡ true
   all_distinct [] h = refl
-  all_distinct (k ∷ ks) h = let a = and_parts (p k) (list_all p ks) h in and_from _ _ a.0 (list_all-kept (λ y. not (bytes_eq k y)) (distinct ks) (all_distinct ks a.1))
+  all_distinct (k ∷ ks) h = let a = and_parts (p k) (list_all p ks) h in and_from _ _ a.0 (all_kept p (λ y. not (bytes_eq k y)) (distinct ks) (all_distinct ks a.1))
 
 all_among : (g : Adjacency) (ks : List Name) → list_all (has_node g) ks ≡ true → AllByRecursion (λ k. among (names g) k ≡ true) ks
 all_among g [] h = tt

@@ -14,17 +14,17 @@ abbrev pub or_else : Option ℕ → Option ℕ → Option ℕ
 or_else (Some w) o = Some w
 or_else None o = o
 
+pub or_else-none : (o : Option ℕ) → or_else o None ≡ o
+or_else-none None = refl
+or_else-none (Some w) = refl
+
 -- the weight of the last pair that joins x and y
 abbrev pub found : Name → Name → List Pair → Option ℕ
 found x y [] = None
 found x y (p ∷ ps) = or_else (found x y ps) (cond (joins x y p) (Some p.2) None)
 
 pub found-append : (x y : Name) (ps qs : List Pair) → found x y (ps ++ qs) ≡ or_else (found x y qs) (found x y ps)
-found-append x y [] qs = by (found x y qs)
-  where
-    by : (o : Option ℕ) → o ≡ or_else o None
-    by None = refl
-    by (Some w) = refl
+found-append x y [] qs = sym (or_else-none (found x y qs))
 found-append x y (p ∷ ps) qs = ap (λ o. or_else o (cond (joins x y p) (Some p.2) None)) (found-append x y ps qs) ∙ by (found x y qs) (found x y ps) (cond (joins x y p) (Some p.2) None)
   where
     by : (o q r : Option ℕ) → or_else (or_else o q) r ≡ or_else o (or_else q r)
@@ -148,10 +148,6 @@ found_row walked z x y q j (e ∷ es) d = by (bytes_eq q e.0) (among walked e.0)
     absent : bytes_eq q e.0 ≡ true → lookup (bytes_eq q) es ≡ None
     absent s = lookup_absent es q (subst (λ n. AllByRecursion (λ k. bytes_eq n k ≡ false) (keys_of es)) (sym (same_names q e.0 s)) (IsDistinct-head bytes_eq e.0 (keys_of es) d))
 
-    nothing_else : (o : Option ℕ) → or_else o None ≡ o
-    nothing_else None = refl
-    nothing_else (Some w) = refl
-
     either_none : (b : Bool) → ◌≡◌ {A = Option ℕ} (cond b None None) None
     either_none true = refl
     either_none false = refl
@@ -166,7 +162,7 @@ found_row walked z x y q j (e ∷ es) d = by (bytes_eq q e.0) (among walked e.0)
         let none : found x y (row_edges_of walked z es) ≡ None = later ∙ ap (cond (among walked q) None) (absent es') ∙ either_none (among walked q) in
         ap (λ o. or_else o (cond (joins x y (z, e.0, e.1)) (Some e.1) None)) none ∙ ap (λ b. cond b (Some e.1) None) (j e.0 e.1 ∙ es') ∙ sym (ap (λ b. cond b None (Some e.1)) here)
     by false true es' eb later = later
-    by false false es' eb later = ap (λ b. or_else (found x y (row_edges_of walked z es)) (cond b (Some e.1) None)) (j e.0 e.1 ∙ es') ∙ nothing_else (found x y (row_edges_of walked z es)) ∙ later
+    by false false es' eb later = ap (λ b. or_else (found x y (row_edges_of walked z es)) (cond b (Some e.1) None)) (j e.0 e.1 ∙ es') ∙ or_else-none (found x y (row_edges_of walked z es)) ∙ later
 
 pub found_none : (walked : List Name) (z x y : Name) → ((k : Name) (w : ℕ) → joins x y (z, k, w) ≡ false) → (es : Neighbors) → found x y (row_edges_of walked z es) ≡ None
 found_none walked z x y j [] = refl
