@@ -154,7 +154,8 @@ fn all_lead(topology: &Topology, ports: &[Option<u16>], d: usize) -> bool
 }
 
 /// Whether `Table::from_ports` takes the list: it has an entry for each node and destination, none where they are one
-/// node, and from each node its ports lead to each destination.
+/// node, and from each node its ports lead to each destination. Each walk is followed, so it takes as many steps as all
+/// walks together.
 pub fn is_port_list(topology: &Topology, ports: &[Option<u16>]) -> bool
     ensures { IsTrue result ↔ IsPortList topology.now ports.now }
 {
