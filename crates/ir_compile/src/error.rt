@@ -15,10 +15,10 @@ pub enum CompileError {
 
 impl CompileError {
     /// The number of the refusal.
-    pub fn code(self) -> u32
+    pub fn code(self) -> u8
         ensures { result ≡ code_of self }
     {
-        self as u32
+        self as u8
     }
 }
 

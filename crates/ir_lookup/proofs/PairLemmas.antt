@@ -1,5 +1,6 @@
 -- The labels and the ports of two vectors.
-use Rattle.std.proofs.Common.{◌≡◌, ℕ, ◌<◌, List, [], ◌∷◌, length, get_or, ap, ◌∙◌, sym, arith, refl, subst}
+use Rattle.std.proofs.Common.{◌≡◌, ℕ, ◌<◌, List, [], ◌∷◌, length, get_or, take, ap, ◌∙◌, sym, arith, refl, subst}
+use Rattle.std.proofs.Math.Seq.{take-length}
 use Rattle.std.specs.List.Sorted.{IsStrictlyIncreasing}
 use Rattle.std.proofs.lemmas.List.{length-map, get_or_read}
 use Rattle.ir_model.specs.Row.{Start, labels, start_ports, IsAscending}
@@ -34,3 +35,14 @@ module _ (ls ps : List ℕ) (row : List Start) (is : starts_with ls ps ≡ row) 
 
   pub port_is : (i x : ℕ) → i < length row → x ≡ get_or ps i x → x ≡ get_or (start_ports row) i 0
   port_is i x h read = get_or_read ps i x (omega (arith, length_is)) read 0 ∙ ap (λ (xs : List ℕ). get_or xs i 0) (sym (start_ports_with ls ps same) ∙ ap start_ports is)
+
+pub starts_of_both : (row : List Start) → starts_with (labels row) (start_ports row) ≡ row
+starts_of_both [] = refl
+starts_of_both (s ∷ row) = ap (λ (rest : List Start). s ∷ rest) (starts_of_both row)
+
+-- the labels and ports of all places
+pub starts_to_the_end : (row : List Start) (ls ps : List ℕ) (i : ℕ) → i ≡ length row → ls ≡ take i (labels row) → ps ≡ take i (start_ports row) → starts_with ls ps ≡ row
+starts_to_the_end row ls ps i all el ep =
+    let el' : ls ≡ labels row = el ∙ ap (λ (k : ℕ). take k (labels row)) (all ∙ sym (length-map row (λ (s : Start). s.label))) ∙ take-length (labels row) in
+    let ep' : ps ≡ start_ports row = ep ∙ ap (λ (k : ℕ). take k (start_ports row)) (all ∙ sym (length-map row (λ (s : Start). s.port))) ∙ take-length (start_ports row) in
+    rw (el', ep') (starts_of_both row)

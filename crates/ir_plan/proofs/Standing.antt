@@ -14,10 +14,11 @@ use Rattle.ir_model.specs.Network.{Network, IsNetwork, node_count, port_at}
 use Rattle.ir_model.specs.Walk.{IsConnected}
 use Rattle.ir_model.specs.Table.{IsPrescribedWalk, Continues, next_node}
 use Rattle.ir_model.specs.Numbering.{IsDepthFirst, neighbors_of}
-use Rattle.ir_model.specs.Row.{Start, labels as start_labels}
-use Rattle.ir_model.specs.Compiled.{IsDestinations, IsCanonical, port_to}
+use Rattle.ir_model.specs.Row.{Start, labels as start_labels, intervals_of}
+use Rattle.ir_model.specs.Compiled.{IsDestinations, IsCanonical, port_to, Fits, IsFewest}
 use Rattle.ir_model.specs.Scheme.{Scheme, IsScheme, IsTableOf, AreLabels, table_port, label_in, by_label, row_in}
 use Rattle.ir_model.proofs.Canonical.{canonical_fits}
+use Rattle.ir_model.proofs.Fewest.{canonical_is_fewest}
 use Rattle.ir_model.proofs.Pigeonhole.{length-le_from_places}
 use Rattle.ir_model.proofs.Rows.{rises}
 use Rattle.ir_model.proofs.Round.{start_is_label}
@@ -169,6 +170,18 @@ module _ (kind : Kind) (root : ℕ) (net : Network) (order labels : List ℕ) (r
       shows : (o : Option ℕ) → row_port (slice_index_or rows u []) a ≡ o → IsSome o → 0 < length (slice_index_or rows u [])
       shows None e h = absurd (cc h)
       shows (Some p) e h = shown_some (slice_index_or rows u []) a p e
+
+-- the ports of a node, by label, are a list of destinations, which its row fits with the fewest intervals
+module _ (s : Scheme) (is : IsScheme s) (u : ℕ) (hu : u < node_count s.network) where
+  pub row_destinations : IsDestinations (node_count s.network) (label_in s u) (by_label s u)
+  row_destinations =
+      destinations (node_count s.network) s.order s.labels (table_port s) is.labels (full_table s.kind s.network s.order is.parents (table_port s) is.table) u hu
+
+  pub row_fits : Fits (node_count s.network) (label_in s u) (by_label s u) (intervals_of (row_in s u))
+  row_fits = canonical_fits (node_count s.network) (label_in s u) (by_label s u) row_destinations (row_in s u) (is.rows u hu)
+
+  pub row_fewest : IsFewest (node_count s.network) (label_in s u) (by_label s u) (length (row_in s u))
+  row_fewest = canonical_is_fewest (node_count s.network) (label_in s u) (by_label s u) row_destinations (row_in s u) (is.rows u hu)
 
 -- a canonical row has at most as many starts as there are labels
 pub short_row : (n own : ℕ) (ports : List (Option ℕ)) (row : List Start) → IsCanonical n own ports row → length row ≤ n

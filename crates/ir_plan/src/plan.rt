@@ -2,7 +2,9 @@ ghost use Rattle.std.specs.Prelude.{◌-◌, ◌*◌, ◌≡◌, ◌↔◌, ◌<
 ghost use Rattle.ir_model.specs.Network.{IsNetwork, node_count, port_at, ports_of};
 ghost use Rattle.ir_model.specs.Walk.{IsConnected, IsDisconnected};
 ghost use Rattle.ir_model.specs.Table.{port_in, IsRouted};
-ghost use Rattle.ir_model.specs.Scheme.{IsScheme, IsTableOf, label_in, node_in, table_port, row_in};
+ghost use Rattle.ir_model.specs.Scheme.{IsScheme, IsTableOf, by_label, label_in, node_in, table_port, row_in};
+ghost use Rattle.ir_model.specs.Row.{intervals_of};
+ghost use Rattle.ir_model.specs.Compiled.{Fits, IsFewest};
 ghost use Rattle.ir_numbering.specs.Numbers.{IsNumberingOf};
 ghost use Rattle.ir_plan.specs.Shown.{scheme_with};
 ghost use Rattle.ir_plan.specs.TreeRows.{HasTreeRow};
@@ -146,11 +148,14 @@ impl Plan {
         self.topology.port(u, p)
     }
 
-    /// The row of a node. In a tree plan it has exactly one start for each port to a son or the father, and no other
-    /// (Santoro and Khatib 1985).
+    /// The row of a node. It gives each address but the own its port in the full table, by the fewest intervals that do.
+    /// In a tree plan it has exactly one start for each port to a son or the father, and no other (Santoro and Khatib
+    /// 1985).
     pub fn row(&self, u: u16) -> &Row
         requires { u < node_count self.now.network }
         ensures row { result.now ≡ row_in self.now u }
+        ensures fits { Fits (node_count self.now.network) (label_in self.now u) (by_label self.now u) (intervals_of result.now) }
+        ensures fewest { IsFewest (node_count self.now.network) (label_in self.now u) (by_label self.now u) (length result.now) }
         ensures tree { self.now.kind ≡ Kind.Tree → HasTreeRow self.now u }
     {
         &self.rows[u as usize]
