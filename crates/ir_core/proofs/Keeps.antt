@@ -1,0 +1,521 @@
+use Rattle.std.proofs.Common.{◌≡◌, ◌≢◌, ℕ, zero, suc, ◌+◌, ◌-◌, ◌<◌, ◌≤◌, max, List, [], ◌∷◌, ◌++◌, length, drop, slice_get, slice_index, slice_index_or, slice_set, Option, Some, None, refl, sym, ap, ◌∙◌, subst, arith, true, false, Bool, nat_lt, ◌⊎◌, inl, inr}
+use Rattle.std.proofs.lemmas.Grind.{common_steps}
+use Rattle.std.proofs.lemmas.List.{length-set, length-append, get_or_push, length_push, get_or_read, get_or_append_left}
+use Rattle.std.proofs.lemmas.Option.{none-some, slice_get_read, get_or_from_slice_get}
+use Rattle.ir_model.specs.declared.Hop.{Hop}
+use Rattle.ir_model.specs.Scheme.{Scheme, next_hop, label_in, node_in}
+use Rattle.ir_core.specs.declared.TheConstants.{MAX_NODES, MAX_CAPACITY, MAX_CHANGES, MAX_EPOCHS}
+use Rattle.ir_core.specs.declared.event.Way.{Way}
+use Rattle.ir_core.specs.declared.event.Way.TheVariants.{Inbox, Link}
+use Rattle.ir_core.specs.declared.event.Verdict.{Verdict}
+use Rattle.ir_core.specs.declared.event.Verdict.TheVariants.{CameByDown, BelowFloor, Arrives, LeavesByDown, NoRoom, GoesOn}
+use Rattle.ir_core.specs.declared.board.Board.{Board}
+use Rattle.ir_core.specs.Journey.{Journey}
+use Rattle.ir_core.specs.declared.packet.Held.{Held}
+use Rattle.ir_core.specs.Board.{opening_board, installed}
+use Rattle.ir_model.specs.Network.{node_count}
+use Rattle.ir_core.specs.Setting.{Setting, IsPlanFor, channel_of, into, no_scheme, nodes_of}
+use Rattle.ir_core.specs.Entry.{Entry, DidAct, DidTake, acted, fresh, judged, reply_after}
+use Rattle.ir_core.specs.declared.event.Reply.{Reply}
+use Rattle.ir_core.specs.declared.event.Reply.TheVariants.{Settled, Taken}
+use Rattle.ir_core.specs.declared.event.Refused.{Refused}
+use Rattle.std.specs.Prelude.{Result, Ok, nat_le, is_some}
+use Rattle.ir_core.specs.Meaning.{plan_of, newest_of, record_at, board_at, verdict_on, is_full_towards, acts, takes}
+use Rattle.ir_core.specs.State.{State, IsState, ArePlaced, IsPacket, Place, Waits, InHand, put_into, taken_from, sent_on, sight_in, open_verdict_on, LeadsIn, IsBeginning, IsDue, FitsPlace, IsAnswer, after}
+use Rattle.ir_core.proofs.Channels.{channel_within, into_is, hop_leads}
+use Rattle.ir_core.proofs.Lists.{or_set}
+use Rattle.ir_core.specs.Sound.{last_of}
+use Rattle.ir_core.proofs.Walks.{next_hop-away, next_hop-there, walk_of, IsBeginning-push, first-push, prefix}
+use Rattle.std.proofs.lemmas.Bool.{cases_eq}
+use Rattle.ir_core.proofs.Verdicts.{Means, judged_means, if_full, judged-if_full}
+use Rattle.ir_core.proofs.Placed.{moved, place_after, placed_inject, placed_take, ended, sent}
+
+-- what is true of a world, with these places
+abbrev pub KeptWith : State → (ℕ → Place) → Type 0
+KeptWith s place = (kept : IsState s) × ((id : ℕ) → kept.place id ≡ place id)
+
+pub keep_read_place : (s : State) (ok : IsState s) → (u k : ℕ) → u < (nodes_of s.opening) → k < length s.boards → KeptWith (record s { views = slice_set s.views u k }) ok.place
+keep_read_place s ok u k u_in k_in = (
+  record {
+    opening = ok.opening;
+    views = length-set s.views u k ∙ ok.views;
+    hands = ok.hands;
+    channels = ok.channels;
+    boards = ok.boards;
+    plans = ok.plans;
+    views_in = λ v. view_of v (or_set s.views u v k 0 (omega (arith, ok.views)));
+    learnt_above = ok.learnt_above;
+    learnt_in = ok.learnt_in;
+    few_packets = ok.few_packets;
+    place = ok.place;
+    placed = ok.placed;
+  },
+  λ id. refl,
+)
+  where
+    view_of : (v : ℕ) → ((v ≡ u) × (slice_index_or (slice_set s.views u k) v 0 ≡ k)) ⊎ ((v ≢ u) × (slice_index_or (slice_set s.views u k) v 0 ≡ slice_index_or s.views v 0)) → slice_index (slice_set s.views u k) v < length s.boards
+    view_of v (inl p) = rw p.1 k_in
+    view_of v (inr p) = rw p.1 (ok.views_in v)
+
+pub keep_read : (s : State) → IsState s → (u k : ℕ) → u < nodes_of s.opening → k < length s.boards → IsState (record s { views = slice_set s.views u k })
+keep_read s ok u k u_in k_in = (keep_read_place s ok u k u_in k_in).0
+
+pub keep_learn : (s : State) → IsState s → (e : ℕ) → e ≤ length s.plans → IsState (record s { learnt = max s.learnt e })
+keep_learn s ok e e_in = record {
+  opening = ok.opening;
+  views = ok.views;
+  hands = ok.hands;
+  channels = ok.channels;
+  boards = ok.boards;
+  plans = ok.plans;
+  views_in = ok.views_in;
+  learnt_above = let a = ok.learnt_above in omega arith;
+  learnt_in = let a = ok.learnt_in in omega arith;
+  few_packets = ok.few_packets;
+  place = ok.place;
+  placed = ok.placed;
+}
+
+newest-push : (boards : List Board) (b : Board) → newest_of (boards ++ b ∷ []) ≡ b
+newest-push boards b = rw length_push (get_or_push boards b opening_board (length boards + 1 - 1) (omega arith))
+
+pub keep_change : (s : State) → IsState s → (b : Board) → b.version ≡ (newest_of s.boards).version + 1 → (newest_of s.boards).version < MAX_CHANGES →
+    b.current ≡ (newest_of s.boards).current → b.floor ≤ b.current → IsState (record s { boards = s.boards ++ b ∷ [] })
+keep_change s ok b version room current floor = record {
+  opening = ok.opening;
+  views = ok.views;
+  hands = ok.hands;
+  channels = ok.channels;
+  boards = record {
+    some = rw length_push (omega arith);
+    version = rw (newest-push s.boards b) (rw length_push (let v = ok.boards.version in omega arith));
+    few = rw (newest-push s.boards b) (omega arith);
+    current = rw (newest-push s.boards b) (current ∙ ok.boards.current);
+    floor = rw (newest-push s.boards b) (let c = ok.boards.current in omega arith);
+  };
+  plans = ok.plans;
+  views_in = λ u. let v = ok.views_in u in rw length_push (omega arith);
+  learnt_above = ok.learnt_above;
+  learnt_in = ok.learnt_in;
+  few_packets = ok.few_packets;
+  place = ok.place;
+  placed = ok.placed;
+}
+
+pub keep_take_place : (s : State) (ok : IsState s) (u : ℕ) (way : Way) (c id : ℕ) → u < (nodes_of s.opening) → channel_of s.opening u way ≡ Some c → slice_get (slice_index_or s.channels c []) 0 ≡ Some id → slice_index_or s.hands u None ≡ None →
+    KeptWith (record s { hands = slice_set s.hands u (Some (record { id = id; way = way })); channels = taken_from s.channels c }) (moved ok.place id (InHand u way))
+keep_take_place s ok u way c id u_in there first empty =
+    let c_in = channel_within s.opening u way c u_in there in (
+      record {
+        opening = ok.opening;
+        views = ok.views;
+        hands = length-set s.hands u (Some (record { id = id; way = way })) ∙ ok.hands;
+        channels = length-set s.channels c (drop 1 (slice_index_or s.channels c [])) ∙ ok.channels;
+        boards = ok.boards;
+        plans = ok.plans;
+        views_in = ok.views_in;
+        learnt_above = ok.learnt_above;
+        learnt_in = ok.learnt_in;
+        few_packets = ok.few_packets;
+        place = moved ok.place id (InHand u way);
+        placed = placed_take s.opening s.plans s.hands s.channels s.records ok.place u way c id ok.placed u_in (omega (arith, ok.hands)) (omega (arith, ok.channels)) there first empty;
+      },
+      λ j. refl,
+    )
+
+pub keep_take : (s : State) → IsState s → (u : ℕ) (way : Way) (c id : ℕ) → u < (nodes_of s.opening) → channel_of s.opening u way ≡ Some c → slice_get (slice_index_or s.channels c []) 0 ≡ Some id → slice_index_or s.hands u None ≡ None →
+    IsState (record s { hands = slice_set s.hands u (Some (record { id = id; way = way })); channels = taken_from s.channels c })
+keep_take s ok u way c id u_in there first empty = (keep_take_place s ok u way c id u_in there first empty).0
+
+pub keep_inject : (s : State) → IsState s → (source dest : ℕ) → source < (nodes_of s.opening) → dest < (nodes_of s.opening) → length s.records < s.opening.max_packets →
+    IsState (record s { channels = put_into s.channels source (length s.records); records = s.records ++ fresh (length s.records) s.learnt source dest ∷ [] })
+keep_inject s ok source dest s_in d_in room = record {
+  opening = ok.opening;
+  views = ok.views;
+  hands = ok.hands;
+  channels = length-set s.channels source (slice_index_or s.channels source [] ++ length s.records ∷ []) ∙ ok.channels;
+  boards = ok.boards;
+  plans = ok.plans;
+  views_in = ok.views_in;
+  learnt_above = ok.learnt_above;
+  learnt_in = ok.learnt_in;
+  few_packets = rw length_push (omega arith);
+  place = moved ok.place (length s.records) (Waits source Inbox);
+  placed = placed_inject s.opening s.plans s.hands s.channels s.records ok.place s.learnt source dest ok.placed s_in d_in ok.learnt_above ok.learnt_in (omega (arith, ok.channels));
+}
+
+pub newest_known : (s now : State) → s ≡ now → (b : Board) → b ≡ newest_of now.boards → b ≡ newest_of s.boards
+newest_known s now e b n = n ∙ ap (λ (x : State). newest_of x.boards) (sym e)
+
+not_some : {X : Type 0} (x : Option X) → is_some x ≡ false → x ≡ None
+not_some None e = refl
+not_some (Some y) e = cc
+
+-- the same as keep_take, from what the code read
+pub keep_take_at : (s : State) → IsState s → (u : ℕ) (way : Way) (c id : ℕ) (seen was now : List ℕ) → u < (nodes_of s.opening) → Some c ≡ channel_of s.opening u way →
+    seen ≡ slice_index_or s.channels c seen → Some id ≡ slice_get seen 0 → was ≡ slice_index_or s.channels c was → now ≡ drop 1 was → (hand : Option Held) → hand ≡ slice_index_or s.hands u hand → is_some hand ≡ false →
+    IsState (record s { hands = slice_set s.hands u (Some (record { id = id; way = way })); channels = slice_set s.channels c now })
+keep_take_at s ok u way c id seen was now u_in there read first read_again left hand hand_is none =
+    let c_in = channel_within s.opening u way c u_in (sym there) in
+    let lt : c < length s.channels = omega (arith, ok.channels) in
+    let held : seen ≡ slice_index_or s.channels c [] = get_or_read s.channels c seen lt read [] in
+    let again : was ≡ slice_index_or s.channels c [] = get_or_read s.channels c was lt read_again [] in
+    let empty : slice_index_or s.hands u None ≡ None = sym (get_or_read s.hands u hand (omega (arith, ok.hands)) hand_is None) ∙ not_some hand none in
+    rw (left, again) (keep_take s ok u way c id u_in (sym there) (ap (λ (l : List ℕ). slice_get l 0) (sym held) ∙ sym first) empty)
+
+-- what a Take comes to, from what the code read
+pub take_done : (s now : State) → s ≡ now → IsState s → (u : ℕ) (way : Way) (c id : ℕ) (seen was left : List ℕ) → u < nodes_of s.opening → Some c ≡ channel_of s.opening u way →
+    seen ≡ slice_index_or s.channels c seen → Some id ≡ slice_get seen 0 → was ≡ slice_index_or s.channels c was → left ≡ drop 1 was → (hand : Option Held) → hand ≡ slice_index_or s.hands u hand → is_some hand ≡ false →
+    IsAnswer now (record s { hands = slice_set s.hands u (Some (record { id = id; way = way })); channels = slice_set s.channels c left }) (takes now.opening (sight_in now) u way) (Ok (Taken id))
+take_done s now e ok u way c id seen was left u_in there read first read_again is_left hand hand_is none =
+    let c_in = channel_within s.opening u way c u_in (sym there) in
+    let lt : c < length s.channels = omega (arith, ok.channels) in
+    let held : seen ≡ slice_index_or s.channels c [] = get_or_read s.channels c seen lt read [] in
+    let again : was ≡ slice_index_or s.channels c [] = get_or_read s.channels c was lt read_again [] in
+    let empty : slice_index_or s.hands u None ≡ None = sym (get_or_read s.hands u hand (omega (arith, ok.hands)) hand_is None) ∙ not_some hand none in
+    let within : nat_lt u (nodes_of s.opening) ≡ true = grind (arith, common_steps) in
+    let top : slice_get (slice_index_or s.channels c []) 0 ≡ Some id = ap (λ (l : List ℕ). slice_get l 0) (sym held) ∙ sym first in
+    let number : into s.opening u way ≡ c = into_is s.opening u way c (sym there) in
+    let new = record s { hands = slice_set s.hands u (Some (record { id = id; way = way })); channels = slice_set s.channels c left } in
+    let comes : takes s.opening (sight_in s) u way ≡ Ok (DidTake u way id) = rw (within, ← there, empty, top) refl in
+    let to : new ≡ after s (DidTake u way id) = rw (number, is_left, again) refl in
+    subst (λ (x : State). IsAnswer x new (takes x.opening (sight_in x) u way) (Ok (Taken id))) e
+    (subst (λ (w : Result Entry Refused). IsAnswer s new w (Ok (Taken id))) (sym comes) (refl, to))
+
+-- the same as keep_inject, from what the code read
+pub keep_inject_at : (s : State) → IsState s → (source dest id : ℕ) (new : Journey) (was now : List ℕ) (mid records : List Journey) → source < nodes_of s.opening → dest < nodes_of s.opening →
+    length s.records < s.opening.max_packets → id ≡ length s.records → new ≡ fresh id s.learnt source dest → was ≡ slice_index_or s.channels source was → now ≡ was ++ id ∷ [] →
+    mid ≡ s.records → records ≡ mid ++ new ∷ [] → IsState (record s { channels = slice_set s.channels source now; records = records })
+keep_inject_at s ok source dest id new was now mid records s_in d_in room is_id one read put same pushed =
+    let lt : source < length s.channels = omega (arith, ok.channels) in
+    let again : was ≡ slice_index_or s.channels source [] = get_or_read s.channels source was lt read [] in
+    rw (pushed, put, again, same, one, is_id) (keep_inject s ok source dest s_in d_in room)
+
+-- what is known of the packet in a node's hand
+pub record InHandOf (s : State) (u : ℕ) (held : Held) (r : Journey) : Type 0 where
+  pub id_in : held.id < length s.records
+  pub is_record : slice_get s.records held.id ≡ Some r
+  pub packet : IsPacket s.opening s.plans r (InHand u held.way)
+
+pub in_hand_of : (s now : State) → s ≡ now → IsState s → (u : ℕ) (held : Held) → slice_index_or now.hands u None ≡ Some held → (r : Journey) → r ≡ slice_index_or s.records held.id r → InHandOf s u held r
+in_hand_of s now e ok u held h r read =
+    let holds : slice_index_or s.hands u None ≡ Some held = ap (λ (x : State). slice_index_or x.hands u None) e ∙ h in
+    let q = ok.placed.held u held holds in
+    let is_record = slice_get_read s.records (length s.records) held.id r refl q.0 read in
+    record {
+      id_in = q.0;
+      is_record = is_record;
+      packet = subst (λ (x : Place). IsPacket s.opening s.plans r x) q.1 (ok.placed.each held.id r is_record);
+    }
+
+pub held_in : (s now : State) → s ≡ now → IsState s → (u : ℕ) (held : Held) → slice_index_or now.hands u None ≡ Some held → held.id < length s.records
+held_in s now e ok u held h = (ok.placed.held u held (ap (λ (x : State). slice_index_or x.hands u None) e ∙ h)).0
+
+-- the scheme of an epoch, from what the code read
+pub plan_known : (s now : State) → s ≡ now → IsState s → (e : ℕ) (t : Scheme) → t ≡ plan_of now.opening now.plans e → (t ≡ plan_of s.opening s.plans e) × IsPlanFor s.opening t
+plan_known s now known ok e t is =
+    let same : t ≡ plan_of s.opening s.plans e = is ∙ ap (λ (x : State). plan_of x.opening x.plans e) (sym known) in
+    (same, subst (λ (x : Scheme). IsPlanFor s.opening x) (sym same) (ok.plans.each (e - 1)))
+
+-- the destination's label leads back to it
+pub label_back : (o : Setting) (t : Scheme) → IsPlanFor o t → (d address : ℕ) → d < nodes_of o → address ≡ label_in t d → (address < node_count t.network) × (node_in t address ≡ d)
+label_back o t k d address d_in is =
+    let here : d < node_count t.network = omega (arith, k.nodes) in
+    let there = k.scheme.labels.label d here in
+    (omega arith, ap (λ (x : ℕ). node_in t x) is ∙ k.scheme.labels.there d here)
+
+record_read : (s : State) (id : ℕ) (r : Journey) → slice_get s.records id ≡ Some r → record_at (sight_in s) id ≡ r
+record_read s id r e = rw e refl
+
+-- the open verdict, from what the code read
+pub open_read : (s now : State) → s ≡ now → IsState s → (u : ℕ) (held : Held) (r : Journey) (t : Scheme) (k : ℕ) (b : Board) (v : Verdict) (address : ℕ) → InHandOf s u held r → u < nodes_of s.opening →
+    t ≡ plan_of now.opening now.plans r.epoch → k ≡ slice_index_or s.views u k → b ≡ slice_index_or s.boards k b → address ≡ label_in t r.dest →
+    v ≡ judged t b (λ _. false) held.way u r.epoch (node_in t address) → v ≡ open_verdict_on now u held
+open_read s now e ok u held r t k b v address p u_in t_read k_read b_read labelled is =
+    let plan = plan_known s now e ok r.epoch t t_read in
+    let home = (label_back s.opening t plan.1 r.dest address p.packet.dest_in labelled).1 in
+    let is_view : k ≡ slice_index_or s.views u 0 = get_or_read s.views u k (omega (arith, ok.views)) k_read 0 in
+    let k_in : k < length s.boards = let w = ok.views_in u in omega arith in
+    let is_board : b ≡ slice_index_or s.boards k opening_board = get_or_read s.boards k b k_in b_read opening_board in
+    let is_record = record_read s held.id r p.is_record in
+    let here : v ≡ judged t b (λ _. false) held.way u r.epoch r.dest = is ∙ ap (λ (x : ℕ). judged t b (λ _. false) held.way u r.epoch x) home in
+    let known : v ≡ judged (plan_of s.opening s.plans r.epoch) b (λ _. false) held.way u r.epoch r.dest = here ∙ ap (λ (x : Scheme). judged x b (λ _. false) held.way u r.epoch r.dest) plan.0 in
+    subst (λ (x : State). v ≡ open_verdict_on x u held) e (rw (is_record, ← is_view, ← is_board) known)
+
+-- a record that the code read, opened
+pub opened_read : (items : List Journey) (id : ℕ) (x r : Journey) → x ≡ slice_index_or items id x → r ≡ x → r ≡ slice_index_or items id r
+opened_read items id x r read is = subst (λ (y : Journey). y ≡ slice_index_or items id y) (sym is) read
+
+-- no hop means the destination
+none_means : (o : Setting) (t : Scheme) (u d : ℕ) → IsPlanFor o t → u < nodes_of o → d < nodes_of o → next_hop t u d ≡ None → u ≡ d
+none_means o t u d k u_in d_in e = chosen (cases_eq u d)
+  where
+    chosen : ((u ≡ d) ⊎ (u ≡ d → ⊥)) → u ≡ d
+    chosen (inl s) = s
+    chosen (inr ne) =
+        let h = next_hop-there t k.scheme u d (omega (arith, k.nodes)) (omega (arith, k.nodes)) ne in
+        absurd (none-some h.0 (sym e ∙ h.1))
+
+away_from : (o : Setting) (t : Scheme) → IsPlanFor o t → (d : ℕ) → d < nodes_of o → (x : ℕ) (h : Hop) → next_hop t x d ≡ Some h → x ≢ d
+away_from o t k d d_in x h e = next_hop-away t k.scheme x d (omega (arith, k.nodes)) h e
+
+-- what the verdict on the packet in hand says
+pub record Acting (s : State) (u : ℕ) (held : Held) (r : Journey) (full : Hop → Bool) (v : Verdict) : Type 0 where
+  pub hand : InHandOf s u held r
+  pub table : IsPlanFor s.opening (plan_of s.opening s.plans r.epoch)
+  pub means : Means (plan_of s.opening s.plans r.epoch) full u held.way r.dest v
+  pub node_in : u < (nodes_of s.opening)
+
+pub acting_of : (s : State) → IsState s → (u : ℕ) (held : Held) (r : Journey) (full : Hop → Bool) (b : Board) (v : Verdict) → InHandOf s u held r → u < (nodes_of s.opening) →
+    v ≡ judged (plan_of s.opening s.plans r.epoch) b full held.way u r.epoch r.dest → Acting s u held r full v
+acting_of s ok u held r full b v p u_in e = record {
+  hand = p;
+  table = ok.plans.each (r.epoch - 1);
+  means = subst (λ (x : Verdict). Means (plan_of s.opening s.plans r.epoch) full u held.way r.dest x) (sym e)
+      (judged_means (plan_of s.opening s.plans r.epoch) b full held.way u r.epoch r.dest (none_means s.opening (plan_of s.opening s.plans r.epoch) u r.dest (ok.plans.each (r.epoch - 1)) u_in p.packet.dest_in));
+  node_in = u_in;
+}
+
+pub leads_to : (s : State) → IsState s → (u : ℕ) (held : Held) (r : Journey) (full : Hop → Bool) (h : Hop) → Acting s u held r full (GoesOn h) →
+    (h.node < nodes_of s.opening) × ((c : ℕ) × (channel_of s.opening h.node (Link h.link) ≡ Some c) × (c < length s.channels))
+leads_to s ok u held r full h a =
+    let k = hop_leads s.opening (plan_of s.opening s.plans r.epoch) a.table u r.dest h a.means.0 in
+    let within = channel_within s.opening h.node (Link h.link) k.1.0 k.0 k.1.1 in
+    (k.0, (k.1.0, k.1.1, omega (arith, ok.channels, within)))
+
+pub leads_in : (s : State) → IsState s → (u : ℕ) (held : Held) (r : Journey) (full : Hop → Bool) (v : Verdict) → Acting s u held r full v → LeadsIn s v
+leads_in s ok u held r full (GoesOn h) a = (leads_to s ok u held r full h a).1
+leads_in s ok u held r full (CameByDown l) a = tt
+leads_in s ok u held r full BelowFloor a = tt
+leads_in s ok u held r full Arrives a = tt
+leads_in s ok u held r full (LeavesByDown l) a = tt
+leads_in s ok u held r full (NoRoom h) a = tt
+
+pub open_leads : (s now : State) → s ≡ now → IsState s → (u : ℕ) (held : Held) (r : Journey) (v : Verdict) → InHandOf s u held r → u < (nodes_of s.opening) → v ≡ open_verdict_on now u held → LeadsIn now v
+open_leads s now e ok u held r v p u_in is =
+    let here : v ≡ open_verdict_on s u held = is ∙ ap (λ (x : State). open_verdict_on x u held) (sym e) in
+    let known : v ≡ judged (plan_of s.opening s.plans r.epoch) (board_at (sight_in s) (slice_index s.views u)) (λ _. false) held.way u r.epoch r.dest = rw (record_read s held.id r p.is_record) at here in
+    subst (λ (x : State). LeadsIn x v) e (leads_in s ok u held r (λ _. false) v (acting_of s ok u held r (λ _. false) (board_at (sight_in s) (slice_index s.views u)) v p u_in known))
+
+pub verdict_from_open : (s : State) (u : ℕ) (held : Held) (v : Verdict) → v ≡ open_verdict_on s u held →
+    if_full (is_full_towards s.opening (sight_in s)) v ≡ verdict_on s.opening (sight_in s) u held.way (record_at (sight_in s) held.id)
+verdict_from_open s u held v e =
+    let r = record_at (sight_in s) held.id in
+    ap (if_full (is_full_towards s.opening (sight_in s))) e ∙ sym (judged-if_full (plan_of s.opening s.plans r.epoch) (board_at (sight_in s) (slice_index s.views u)) (is_full_towards s.opening (sight_in s)) held.way u r.epoch r.dest)
+
+-- where the table led a packet on, its hops are fewer than the nodes
+pub hops_below : (o : Setting) (t : Scheme) (r : Journey) (u l : ℕ) → IsPlanFor o t → r.source < nodes_of o → r.dest < nodes_of o → slice_get r.hops 0 ≡ Some r.source → IsBeginning t r.dest r.hops → IsDue t r u (Link l) → length r.hops < nodes_of o
+hops_below o t r u l k s_in d_in first from due =
+    let more = IsBeginning-push t r.dest r.hops u from (away_from o t k r.dest d_in (last_of r.hops) due.0 due.1) (due.0, due.1, due.3) in
+    let w = k.scheme.walks r.source r.dest (omega (arith, k.nodes)) (omega (arith, k.nodes)) in
+    let walk = walk_of t r.source r.dest w.0 w.1 in
+    let p = prefix t r.dest (r.hops ++ u ∷ []) w.0 r.source (first-push r.hops r.source u first) walk.begins more walk.steps in
+    let lengths = ap length p.1 in
+    omega (arith, w.2, k.nodes, length-append (r.hops ++ u ∷ []) p.0, length-append r.hops (u ∷ []), lengths)
+
+-- a record's hops leave room for one more
+hops_fit : (o : Setting) (t : Scheme) (r : Journey) (u : ℕ) (way : Way) → nodes_of o ≤ MAX_NODES → IsPlanFor o t → r.source < nodes_of o → r.dest < nodes_of o → slice_get r.hops 0 ≡ Some r.source → IsBeginning t r.dest r.hops → IsDue t r u way → length r.hops < MAX_NODES
+hops_fit o t r u Inbox few k s_in d_in first from due = rw due.0 (omega arith)
+hops_fit o t r u (Link l) few k s_in d_in first from due = let lt = hops_below o t r u l k s_in d_in first from due in omega arith
+
+pub short : (s : State) → IsState s → (u : ℕ) (held : Held) (r : Journey) → InHandOf s u held r → length r.hops < MAX_NODES
+short s ok u held r p =
+    hops_fit s.opening (plan_of s.opening s.plans r.epoch) r u held.way ok.opening.few_nodes (ok.plans.each (r.epoch - 1)) p.packet.source_in p.packet.dest_in p.packet.begins p.packet.follows p.packet.fits.1
+
+-- the world after an Act
+pub keep_act_place : (s : State) (ok : IsState s) (u : ℕ) (held : Held) (r : Journey) (full : Hop → Bool) (v : Verdict) → slice_index_or s.hands u None ≡ Some held → Acting s u held r full v →
+    KeptWith (record s { hands = slice_set s.hands u None; channels = sent_on s.opening s.channels v held.id; records = slice_set s.records held.id (acted u held.way v r) }) (moved ok.place held.id (place_after v))
+keep_act_place s ok u held r full v holds a = (
+  record {
+    opening = ok.opening;
+    views = ok.views;
+    hands = length-set s.hands u None ∙ ok.hands;
+    channels = same_channels v ∙ ok.channels;
+    boards = ok.boards;
+    plans = ok.plans;
+    views_in = ok.views_in;
+    learnt_above = ok.learnt_above;
+    learnt_in = ok.learnt_in;
+    few_packets = rw length-set ok.few_packets;
+    place = moved ok.place held.id (place_after v);
+    placed = placed_after v a;
+  },
+  λ j. refl,
+)
+  where
+    u_in : u < length s.hands
+    u_in = let n = a.node_in in omega (arith, ok.hands)
+
+    same_channels : (w : Verdict) → length (sent_on s.opening s.channels w held.id) ≡ length s.channels
+    same_channels (GoesOn h) = length-set s.channels (into s.opening h.node (Link h.link)) _
+    same_channels (CameByDown l) = refl
+    same_channels BelowFloor = refl
+    same_channels Arrives = refl
+    same_channels (LeavesByDown l) = refl
+    same_channels (NoRoom h) = refl
+
+    placed_after : (w : Verdict) → Acting s u held r full w →
+        ArePlaced s.opening s.plans (slice_set s.hands u None) (sent_on s.opening s.channels w held.id) (slice_set s.records held.id (acted u held.way w r)) (moved ok.place held.id (place_after w))
+    placed_after (GoesOn h) b =
+        let to = leads_to s ok u held r full h b in
+        subst (λ (c : ℕ). ArePlaced s.opening s.plans (slice_set s.hands u None) (put_into s.channels c held.id) (slice_set s.records held.id (acted u held.way (GoesOn h) r)) (moved ok.place held.id (place_after (GoesOn h))))
+        (sym (into_is s.opening h.node (Link h.link) to.1.0 to.1.1))
+        (sent s.opening s.plans s.hands s.channels s.records ok.place u held (GoesOn h) r full ok.placed u_in holds b.hand.is_record b.means (away_from s.opening (plan_of s.opening s.plans r.epoch) b.table r.dest b.hand.packet.dest_in) h to.1.0 refl to.0 to.1.1 to.1.2)
+    placed_after (CameByDown l) b = ended s.opening s.plans s.hands s.channels s.records ok.place u held (CameByDown l) r full ok.placed u_in holds b.hand.is_record b.means (away_from s.opening (plan_of s.opening s.plans r.epoch) b.table r.dest b.hand.packet.dest_in) refl
+    placed_after BelowFloor b = ended s.opening s.plans s.hands s.channels s.records ok.place u held BelowFloor r full ok.placed u_in holds b.hand.is_record b.means (away_from s.opening (plan_of s.opening s.plans r.epoch) b.table r.dest b.hand.packet.dest_in) refl
+    placed_after Arrives b = ended s.opening s.plans s.hands s.channels s.records ok.place u held Arrives r full ok.placed u_in holds b.hand.is_record b.means (away_from s.opening (plan_of s.opening s.plans r.epoch) b.table r.dest b.hand.packet.dest_in) refl
+    placed_after (LeavesByDown l) b = ended s.opening s.plans s.hands s.channels s.records ok.place u held (LeavesByDown l) r full ok.placed u_in holds b.hand.is_record b.means (away_from s.opening (plan_of s.opening s.plans r.epoch) b.table r.dest b.hand.packet.dest_in) refl
+    placed_after (NoRoom h) b = ended s.opening s.plans s.hands s.channels s.records ok.place u held (NoRoom h) r full ok.placed u_in holds b.hand.is_record b.means (away_from s.opening (plan_of s.opening s.plans r.epoch) b.table r.dest b.hand.packet.dest_in) refl
+
+pub keep_act : (s : State) → IsState s → (u : ℕ) (held : Held) (r : Journey) (full : Hop → Bool) (v : Verdict) → slice_index_or s.hands u None ≡ Some held → Acting s u held r full v →
+    IsState (record s { hands = slice_set s.hands u None; channels = sent_on s.opening s.channels v held.id; records = slice_set s.records held.id (acted u held.way v r) })
+keep_act s ok u held r full v holds a = (keep_act_place s ok u held r full v holds a).0
+
+pub acting_now : (s now : State) → s ≡ now → IsState s → (u : ℕ) (held : Held) (r : Journey) (v : Verdict) → slice_index_or now.hands u None ≡ Some held → r ≡ slice_index_or s.records held.id r → u < (nodes_of s.opening) →
+    v ≡ verdict_on now.opening (sight_in now) u held.way (record_at (sight_in now) held.id) → Acting s u held r (is_full_towards s.opening (sight_in s)) v
+acting_now s now e ok u held r v holds read u_in is =
+    let p = in_hand_of s now e ok u held holds r read in
+    let here : v ≡ verdict_on s.opening (sight_in s) u held.way (record_at (sight_in s) held.id) =
+    is ∙ ap (λ (x : State). verdict_on x.opening (sight_in x) u held.way (record_at (sight_in x) held.id)) (sym e) in
+    let known : v ≡ verdict_on s.opening (sight_in s) u held.way r = here ∙ ap (λ (x : Journey). verdict_on s.opening (sight_in s) u held.way x) (record_read s held.id r p.is_record) in
+    acting_of s ok u held r (is_full_towards s.opening (sight_in s)) (board_at (sight_in s) (slice_index s.views u)) v p u_in known
+
+pub room_for : (s : State) → IsState s → (u : ℕ) (held : Held) (r : Journey) (h : Hop) (c : ℕ) (q : List ℕ) → Acting s u held r (is_full_towards s.opening (sight_in s)) (GoesOn h) →
+    c ≡ into s.opening h.node (Link h.link) → q ≡ slice_index_or s.channels c q → (c < length s.channels) × (length q < MAX_CAPACITY) × (q ≡ slice_index_or s.channels c [])
+room_for s ok u held r h c q a is read =
+    let to = leads_to s ok u held r (is_full_towards s.opening (sight_in s)) h a in
+    let number : c ≡ to.1.0 = is ∙ into_is s.opening h.node (Link h.link) to.1.0 to.1.1 in
+    let within = to.1.2 in
+    let c_in : c < length s.channels = omega arith in
+    let old : q ≡ slice_index_or s.channels c [] = get_or_read s.channels c q c_in read [] in
+    let unfilled : nat_le s.opening.capacity (length (slice_index_or s.channels c [])) ≡ false = rw is a.means.1 in
+    let most = ok.opening.capacity in
+    let few : length (slice_index_or s.channels c []) < s.opening.capacity = grind (arith, common_steps) in
+    (c_in, rw old (omega arith), old)
+
+unsent : (o : Setting) (channels : List (List ℕ)) (v : Verdict) (id : ℕ) → ((h : Hop) → v ≡ GoesOn h → ⊥) → (sent_on o channels v id ≡ channels) × (reply_after id v ≡ Settled id)
+unsent o channels (GoesOn h) id n = absurd (n h refl)
+unsent o channels (CameByDown l) id n = (refl, refl)
+unsent o channels BelowFloor id n = (refl, refl)
+unsent o channels Arrives id n = (refl, refl)
+unsent o channels (LeavesByDown l) id n = (refl, refl)
+unsent o channels (NoRoom h) id n = (refl, refl)
+
+-- what an Act comes to
+pub acts_is : (now : State) (u : ℕ) (held : Held) (v : Verdict) → u < (nodes_of now.opening) → slice_index_or now.hands u None ≡ Some held →
+    v ≡ verdict_on now.opening (sight_in now) u held.way (record_at (sight_in now) held.id) → acts now.opening (sight_in now) u ≡ Ok (DidAct u held.id held.way v)
+acts_is now u held v u_in holds is =
+    let t : nat_lt u (nodes_of now.opening) ≡ true = grind (arith, common_steps) in
+    rw (t, holds) (ap (λ (x : Verdict). Ok (DidAct u held.id held.way x)) (sym is))
+
+answer_of : (now new : State) (x y : Result Entry Refused) (result : Result Reply Refused) → x ≡ y → IsAnswer now new y result → IsAnswer now new x result
+answer_of now new x y result e a = subst (λ (z : Result Entry Refused). IsAnswer now new z result) (sym e) a
+
+-- the world after an Act, from what the code read and wrote
+abbrev pub acted_state : State → ℕ → ℕ → Journey → List (List ℕ) → State
+acted_state s u id r channels = record s { hands = slice_set s.hands u None; channels = channels; records = slice_set s.records id r }
+
+acted_is : (s : State) → IsState s → (u : ℕ) (held : Held) (r : Journey) (v : Verdict) (full : Hop → Bool) (r' : Journey) (channels : List (List ℕ)) → Acting s u held r full v →
+    r' ≡ acted u held.way v r → channels ≡ sent_on s.opening s.channels v held.id → acted_state s u held.id r' channels ≡ after s (DidAct u held.id held.way v)
+acted_is s ok u held r v full r' channels a e f =
+    let same : r ≡ slice_index_or s.records held.id (fresh held.id 0 0 0) = sym (get_or_from_slice_get s.records held.id r (fresh held.id 0 0 0) a.hand.is_record) in
+    rw (e, f) (ap (λ (x : Journey). acted_state s u held.id (acted u held.way v x) (sent_on s.opening s.channels v held.id)) same)
+
+-- an Act is answered, and the invariant holds after it
+pub act_done : (s now : State) → s ≡ now → IsState s → (u : ℕ) (held : Held) (r : Journey) (v : Verdict) (r' : Journey) (channels : List (List ℕ)) (reply : Reply) → slice_index_or now.hands u None ≡ Some held → r ≡ slice_index_or s.records held.id r → u < (nodes_of s.opening) →
+    v ≡ verdict_on now.opening (sight_in now) u held.way (record_at (sight_in now) held.id) → r' ≡ acted u held.way v r → channels ≡ sent_on s.opening s.channels v held.id → reply ≡ reply_after held.id v →
+    IsState (acted_state s u held.id r' channels) × IsAnswer now (acted_state s u held.id r' channels) (acts now.opening (sight_in now) u) (Ok reply)
+act_done s now e ok u held r v r' channels reply holds read u_in is wrote sends says =
+    let a = acting_now s now e ok u held r v holds read u_in is in
+    let here : slice_index_or s.hands u None ≡ Some held = ap (λ (x : State). slice_index_or x.hands u None) e ∙ holds in
+    let kept : IsState (acted_state s u held.id r' channels) = rw (wrote, sends) (keep_act s ok u held r (is_full_towards s.opening (sight_in s)) v here a) in
+    let n : u < (nodes_of now.opening) = let m = ap (λ (x : State). nodes_of x.opening) e in omega arith in
+    let to : acted_state s u held.id r' channels ≡ after now (DidAct u held.id held.way v) =
+    acted_is s ok u held r v (is_full_towards s.opening (sight_in s)) r' channels a wrote sends ∙ ap (λ (x : State). after x (DidAct u held.id held.way v)) e in
+    (kept, answer_of now _ _ (Ok (DidAct u held.id held.way v)) (Ok reply) (acts_is now u held v n holds is) (ap (λ (x : Reply). Ok x) says, to))
+
+pub not_sent : (s : State) (u : ℕ) (held : Held) (v : Verdict) → ((h : Hop) → v ≡ GoesOn h → ⊥) → (s.channels ≡ sent_on s.opening s.channels v held.id) × (Settled held.id ≡ reply_after held.id v)
+not_sent s u held v n = let q = unsent s.opening s.channels v held.id n in (sym q.0, sym q.1)
+
+pub hand_read : (s now : State) → s ≡ now → IsState s → (u : ℕ) (x : Option Held) (held : Held) → u < (nodes_of s.opening) → x ≡ slice_index_or s.hands u x → x ≡ Some held → slice_index_or now.hands u None ≡ Some held
+hand_read s now e ok u x held u_in read is =
+    let known : x ≡ slice_index_or s.hands u None = get_or_read s.hands u x (omega (arith, ok.hands)) read None in
+    ap (λ (y : State). slice_index_or y.hands u None) (sym e) ∙ sym known ∙ is
+
+-- what the channels are after a put, from what the code read and wrote
+pub put_read : (s : State) → IsState s → (u : ℕ) (held : Held) (r : Journey) (h : Hop) (c : ℕ) (q q' : List ℕ) → Acting s u held r (is_full_towards s.opening (sight_in s)) (GoesOn h) →
+    c ≡ into s.opening h.node (Link h.link) → q ≡ slice_index_or s.channels c q → q' ≡ q ++ held.id ∷ [] → slice_set s.channels c q' ≡ sent_on s.opening s.channels (GoesOn h) held.id
+put_read s ok u held r h c q q' a is read put =
+    let old = (room_for s ok u held r h c q a is read).2 in
+    rw (put, old) (ap (λ (x : ℕ). put_into s.channels x held.id) is)
+
+-- a new plan changes no table that a packet goes by
+table_more : (o : Setting) (plans : List Scheme) (t : Scheme) (e : ℕ) → 0 < e → e ≤ length plans → plan_of o (plans ++ t ∷ []) e ≡ plan_of o plans e
+table_more o plans t e above within = get_or_append_left plans (t ∷ []) o.first (e - 1) (omega arith)
+
+packet_more : (o : Setting) (plans : List Scheme) (t : Scheme) (r : Journey) (place : Place) → IsPacket o plans r place → IsPacket o (plans ++ t ∷ []) r place
+packet_more o plans t r place p =
+    let same = sym (table_more o plans t r.epoch p.epoch_above p.epoch_in) in
+    let e_in = p.epoch_in in
+    record {
+      source_in = p.source_in;
+      dest_in = p.dest_in;
+      epoch_above = p.epoch_above;
+      epoch_in = rw length_push (omega arith);
+      begins = p.begins;
+      follows = subst (λ (x : Scheme). IsBeginning x r.dest r.hops) same p.follows;
+      fits = subst (λ (x : Scheme). FitsPlace x r place) same p.fits;
+    }
+
+plan_each : (o : Setting) (plans : List Scheme) (t : Scheme) → ((k : ℕ) → IsPlanFor o (slice_index_or plans k o.first)) → IsPlanFor o t → (k : ℕ) → IsPlanFor o (slice_index_or (plans ++ t ∷ []) k o.first)
+plan_each o [] t each is zero = is
+plan_each o [] t each is (suc k) = each k
+plan_each o (p ∷ plans) t each is zero = each zero
+plan_each o (p ∷ plans) t each is (suc k) = plan_each o plans t (λ j. each (suc j)) is k
+
+pub keep_install : (s : State) → IsState s → (t : Scheme) (b : Board) → IsPlanFor s.opening t → length s.plans < MAX_EPOCHS → b.version ≡ (newest_of s.boards).version + 1 → (newest_of s.boards).version < MAX_CHANGES →
+    b.current ≡ length s.plans + 1 → b.floor ≡ (newest_of s.boards).floor → IsState (record s { boards = s.boards ++ b ∷ []; plans = s.plans ++ t ∷ [] })
+keep_install s ok t b is few version room current floor = record {
+  opening = ok.opening;
+  views = ok.views;
+  hands = ok.hands;
+  channels = ok.channels;
+  boards = record {
+    some = rw length_push (omega arith);
+    version = rw (newest-push s.boards b) (rw length_push (let v = ok.boards.version in omega arith));
+    few = rw (newest-push s.boards b) (omega arith);
+    current = rw (newest-push s.boards b) (rw length_push current);
+    floor = rw (newest-push s.boards b) (rw length_push (let f = ok.boards.floor in omega arith));
+  };
+  plans = record { some = rw length_push (omega arith); few = rw length_push (omega arith); each = plan_each s.opening s.plans t ok.plans.each is };
+  views_in = λ u. let v = ok.views_in u in rw length_push (omega arith);
+  learnt_above = ok.learnt_above;
+  learnt_in = let l = ok.learnt_in in rw length_push (omega arith);
+  few_packets = ok.few_packets;
+  place = ok.place;
+  placed = record {
+    each = λ id r e. packet_more s.opening s.plans t r (ok.place id) (ok.placed.each id r e);
+    waiting = ok.placed.waiting;
+    once = ok.placed.once;
+    stands = ok.placed.stands;
+    rests = ok.placed.rests;
+    held = ok.placed.held;
+  };
+}
+
+-- the opening stays, though its first plan is read from the list of plans
+pub first_same : (plans : List Scheme) (t d : Scheme) → 0 < length plans → slice_index_or (plans ++ t ∷ []) 0 d ≡ slice_index_or plans 0 d
+first_same plans t d some = get_or_append_left plans (t ∷ []) d 0 some
+
+-- the same as keep_install, from what the code read
+pub installed_at : (s : State) → IsState s → s.opening.first ≡ slice_index_or s.plans 0 no_scheme → (epoch : ℕ) (newest next : Board) (t : Scheme) (mid boards : List Board) (plans : List Scheme) →
+    newest ≡ newest_of s.boards → length s.plans < MAX_EPOCHS → newest.version < MAX_CHANGES → epoch ≡ length s.plans + 1 →
+    IsPlanFor s.opening t → next ≡ installed newest epoch → mid ≡ s.boards → boards ≡ mid ++ next ∷ [] → plans ≡ s.plans ++ t ∷ [] →
+    IsState (record s { opening = record s.opening { first = slice_index_or plans 0 no_scheme }; boards = boards; plans = plans })
+installed_at s ok first epoch newest next t mid boards plans n few room is_epoch is made same more pushed =
+    let version = ap (λ (b : Board). b.version) n in
+    let kept : IsState (record s { boards = s.boards ++ installed newest epoch ∷ []; plans = s.plans ++ t ∷ [] }) =
+    keep_install s ok t (installed newest epoch) is few (ap (λ (k : ℕ). k + 1) version) (omega arith)
+    is_epoch (ap (λ (b : Board). b.floor) n) in
+    let one : slice_index_or (s.plans ++ t ∷ []) 0 no_scheme ≡ s.opening.first = first_same s.plans t no_scheme ok.plans.some ∙ sym first in
+    rw (pushed, more, same, made) (subst (λ (f : Scheme). IsState (record s { opening = record s.opening { first = f }; boards = s.boards ++ installed newest epoch ∷ []; plans = s.plans ++ t ∷ [] })) (sym one) kept)

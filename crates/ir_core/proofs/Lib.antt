@@ -1,0 +1,15 @@
+pub mod Lists
+pub mod Walks
+pub mod Channels
+pub mod Verdicts
+pub mod Placed
+pub mod Keeps
+pub mod Installs
+pub mod Shown
+pub mod Accepted
+pub mod Theorem
+pub mod Opens
+pub mod Runs
+pub mod Loads
+pub mod Quiets
+pub mod Rounds

@@ -1,0 +1,16 @@
+use Rattle.std.proofs.Common.{Bool, sym, subst}
+use Rattle.ir_core.proofs.Quiets.{ActDone, act_done_by}
+use Rattle.ir_core.proofs.world.World.try_act.Goals as goal
+
+pub returns-clause-moves : goal.returns-clause-moves
+returns-clause-moves c =
+    (subst (λ (b : Bool). ActDone c.args.self.now c.args.node c.act.new.self b) (sym c.is_ok.ensures.value)
+    (act_done_by c.args.self.now c.act.new.self c.nodes-nodes.ensures.state c.args.node c.requires c.act.result c.act.ensures)).moves
+
+pub returns-clause-idle : goal.returns-clause-idle
+returns-clause-idle c =
+    (subst (λ (b : Bool). ActDone c.args.self.now c.args.node c.act.new.self b) (sym c.is_ok.ensures.value)
+    (act_done_by c.args.self.now c.act.new.self c.nodes-nodes.ensures.state c.args.node c.requires c.act.result c.act.ensures)).idle
+
+pub returns-clause-hand : goal.returns-clause-hand
+returns-clause-hand c = (act_done_by c.args.self.now c.act.new.self c.nodes-nodes.ensures.state c.args.node c.requires c.act.result c.act.ensures).hand

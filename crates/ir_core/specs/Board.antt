@@ -1,0 +1,24 @@
+-- Boards, and what a change makes of one.
+use Rattle.std.specs.Prelude.{ℕ, ◌+◌, Bool, true, get_or, slice_set, replicate}
+use Rattle.ir_core.specs.declared.TheConstants.{MAX_LINKS}
+use Rattle.ir_core.specs.declared.board.Board.{Board}
+
+-- the board before any change: epoch 1 is current and live, and all links are up
+abbrev pub opening_board : Board
+opening_board = record { version = 0; current = 1; floor = 1; up = replicate MAX_LINKS true }
+
+-- a number that is no link counts as up
+abbrev pub is_up : Board → ℕ → Bool
+is_up b l = get_or b.up l true
+
+-- the board after one link was marked
+abbrev pub marked : Board → ℕ → Bool → Board
+marked b l up = record b { version = b.version + 1; up = slice_set b.up l up }
+
+-- the board after the epochs below a floor were retired
+abbrev pub retired_below : Board → ℕ → Board
+retired_below b f = record b { version = b.version + 1; floor = f }
+
+-- the board after this epoch was made current
+abbrev pub installed : Board → ℕ → Board
+installed b e = record b { version = b.version + 1; current = e }

@@ -1,0 +1,109 @@
+-- Verdicts, and the entries of a history.
+use Rattle.std.specs.Prelude.{ℕ, Bool, true, false, not, nat_lt, Option, Some, None, unwrap_or, List, [], ◌∷◌, ◌++◌, if◌then◌else◌, ◌==◌}
+use Rattle.ir_model.specs.declared.Hop.{Hop}
+use Rattle.ir_model.specs.Scheme.{Scheme, next_hop, table_port}
+use Rattle.ir_core.specs.declared.event.Way.{Way}
+use Rattle.ir_core.specs.declared.event.Way.TheVariants.{Inbox, Link}
+use Rattle.ir_core.specs.declared.event.Action.{Action}
+use Rattle.ir_core.specs.declared.event.Action.TheVariants.{Deliver, Send, DropRetired, DropDown}
+use Rattle.ir_core.specs.declared.event.Reply.{Reply}
+use Rattle.ir_core.specs.declared.event.Reply.TheVariants.{Injected, Learnt, Taken, Viewed, Sent, Settled, Changed, Installed}
+use Rattle.ir_core.specs.declared.board.Board.{Board}
+use Rattle.ir_core.specs.Journey.{Journey}
+use Rattle.ir_core.specs.declared.packet.Fate.{Fate}
+use Rattle.ir_core.specs.declared.packet.Fate.TheVariants.{Delivered, Retired, Down, Full, Left}
+use Rattle.ir_core.specs.declared.event.Verdict.{Verdict}
+use Rattle.ir_core.specs.declared.event.Verdict.TheVariants.{CameByDown, BelowFloor, Arrives, LeavesByDown, NoRoom, GoesOn}
+use Rattle.ir_core.specs.Board.{is_up}
+
+-- The first line that holds. The full table is looked up by the destination.
+abbrev pub onward : Board → (Hop → Bool) → Option Hop → Verdict
+onward b is_full None = Arrives
+onward b is_full (Some h) =
+    if not (is_up b h.link) then LeavesByDown h.link else if is_full h then NoRoom h else GoesOn h
+
+abbrev pub judged_here : Scheme → Board → (Hop → Bool) → ℕ → ℕ → ℕ → Verdict
+judged_here t b is_full at stamp dest =
+    if nat_lt stamp b.floor then BelowFloor
+    else if at == dest then Arrives
+    else onward b is_full (next_hop t at dest)
+
+abbrev pub judged : Scheme → Board → (Hop → Bool) → Way → ℕ → ℕ → ℕ → Verdict
+judged t b is_full Inbox at stamp dest = judged_here t b is_full at stamp dest
+judged t b is_full (Link l) at stamp dest =
+    if not (is_up b l) then CameByDown l else judged_here t b is_full at stamp dest
+
+-- the fate of a packet after this verdict
+abbrev pub fate_of : Verdict → Fate
+fate_of (CameByDown l) = Down l
+fate_of BelowFloor = Retired
+fate_of Arrives = Delivered
+fate_of (LeavesByDown l) = Down l
+fate_of (NoRoom h) = Full h.link h.node
+fate_of (GoesOn h) = Left
+
+-- the node is a hop, unless the packet came from the inbox or the first two lines ended its way
+abbrev pub is_hop : Way → Verdict → Bool
+is_hop Inbox v = false
+is_hop (Link l) (CameByDown k) = false
+is_hop (Link l) BelowFloor = false
+is_hop (Link l) Arrives = true
+is_hop (Link l) (LeavesByDown k) = true
+is_hop (Link l) (NoRoom h) = true
+is_hop (Link l) (GoesOn h) = true
+
+abbrev pub hops_after : Way → Verdict → ℕ → List ℕ → List ℕ
+hops_after way v u hops = if is_hop way v then hops ++ u ∷ [] else hops
+
+-- a packet's record after a node acted on it
+abbrev pub acted : ℕ → Way → Verdict → Journey → Journey
+acted u way v r = record r { hops = hops_after way v u r.hops; fate = fate_of v }
+
+-- a packet's record after its injection
+abbrev pub fresh : ℕ → ℕ → ℕ → ℕ → Journey
+fresh id epoch source dest =
+    record { id = id; epoch = epoch; source = source; dest = dest; hops = source ∷ []; fate = Left }
+
+-- An accepted event, with what came of it.
+pub data Entry : Type 0 where
+  DidInject : (id epoch source dest : ℕ) → Entry
+  DidLearn : (epoch : ℕ) → Entry
+  DidTake : (node : ℕ) → (way : Way) → (id : ℕ) → Entry
+  DidRead : (node version : ℕ) → Entry
+  DidAct : (node id : ℕ) → (way : Way) → (verdict : Verdict) → Entry
+  DidChange : (board : Board) → Entry
+  DidInstall : (epoch : ℕ) → (scheme : Scheme) → (board : Board) → Entry
+
+abbrev pub reply_after : ℕ → Verdict → Reply
+reply_after id (GoesOn h) = Sent id h.node
+reply_after id (CameByDown l) = Settled id
+reply_after id BelowFloor = Settled id
+reply_after id Arrives = Settled id
+reply_after id (LeavesByDown l) = Settled id
+reply_after id (NoRoom h) = Settled id
+
+abbrev pub reply_of : Entry → Reply
+reply_of (DidInject id epoch source dest) = Injected id
+reply_of (DidLearn epoch) = Learnt
+reply_of (DidTake node way id) = Taken id
+reply_of (DidRead node version) = Viewed
+reply_of (DidAct node id way verdict) = reply_after id verdict
+reply_of (DidChange board) = Changed
+reply_of (DidInstall epoch scheme board) = Installed epoch
+
+-- what a node does by this verdict, before it is known whether there is room: it sends the packet over this port
+abbrev pub action_of : ℕ → Verdict → Action
+action_of port (CameByDown l) = DropDown l
+action_of port BelowFloor = DropRetired
+action_of port Arrives = Deliver
+action_of port (LeavesByDown l) = DropDown l
+action_of port (NoRoom h) = Send port
+action_of port (GoesOn h) = Send port
+
+-- what a node does with a packet, where each channel has room
+abbrev pub decided : Scheme → Board → Way → ℕ → ℕ → ℕ → Action
+decided s b way at stamp dest = action_of (unwrap_or (table_port s at dest) 0) (judged s b (λ _. false) way at stamp dest)
+
+abbrev pub way_of : Option ℕ → Way
+way_of None = Inbox
+way_of (Some l) = Link l

@@ -1,0 +1,17 @@
+pub mod Codes
+pub mod Board
+pub mod Journey
+pub mod Recorded
+pub mod Setting
+pub mod Entry
+pub mod History
+pub mod Meaning
+pub mod Sound
+pub mod State
+pub mod Shows
+pub mod Drain
+pub mod Run
+pub mod Quiet
+pub mod Handled
+pub mod Inside
+pub mod Opened

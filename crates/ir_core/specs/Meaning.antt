@@ -1,0 +1,171 @@
+-- What an event comes to, or its first refusal.
+use Rattle.std.specs.Prelude.{◌≡◌, ℕ, ◌+◌, ◌-◌, Bool, true, false, not, ◌&&◌, ◌||◌, nat_lt, nat_le, Option, Some, None, Result, Ok, Err, unwrap_or, is_some, List, ◌∷◌, length, take, slice_get, slice_index_or, if◌then◌else◌, ◌==◌}
+use Rattle.ir_model.specs.declared.Hop.{Hop}
+use Rattle.ir_model.specs.declared.Kind.{Kind}
+use Rattle.ir_model.specs.Network.{Network, restrict}
+use Rattle.ir_model.specs.Walk.{IsDisconnected}
+use Rattle.ir_model.specs.Scheme.{Scheme, IsScheme}
+use Rattle.ir_core.specs.declared.TheConstants.{MAX_EPOCHS, MAX_CHANGES}
+use Rattle.ir_core.specs.declared.event.Way.{Way}
+use Rattle.ir_core.specs.declared.event.Way.TheVariants.{Inbox, Link}
+use Rattle.ir_core.specs.declared.event.Event.{Event}
+use Rattle.ir_core.specs.declared.event.Event.TheVariants as event
+use Rattle.ir_core.specs.declared.event.Refused.{Refused}
+use Rattle.ir_core.specs.declared.event.Refused.TheVariants.{NoNode, NoLink, NoChannel, NoEpoch, HandFull, HandEmpty, Empty, BadView, Same, EpochsFull, Disconnected, TooManyPackets, InboxFull, TooManyChanges}
+use Rattle.ir_core.specs.declared.board.Board.{Board}
+use Rattle.ir_core.specs.declared.packet.Held.{Held}
+use Rattle.ir_core.specs.declared.event.Verdict.{Verdict}
+use Rattle.ir_core.specs.Journey.{Journey}
+use Rattle.ir_core.specs.Board.{opening_board, is_up, marked, retired_below, installed}
+use Rattle.ir_core.specs.Setting.{Setting, nodes_of, links_of, channel_of, into}
+use Rattle.ir_core.specs.Entry.{Entry, DidInject, DidLearn, DidTake, DidRead, DidAct, DidChange, DidInstall, judged, fresh}
+use Rattle.ir_core.specs.History as history
+
+-- What an event is judged by.
+pub record Sight : Type 0 where
+  pub injected : ℕ
+  pub learnt : ℕ
+  pub boards : List Board
+  pub plans : List Scheme
+  pub view : ℕ → ℕ
+  pub hand : ℕ → Option Held
+  pub waiting : ℕ → List ℕ
+  pub packet : ℕ → Option Journey
+
+-- what stands after a history
+abbrev pub sight_after : Setting → List Entry → Sight
+sight_after o log = record {
+  injected = history.injected log;
+  learnt = history.learnt log;
+  boards = history.boards log;
+  plans = history.plans o log;
+  view = λ u. history.view u log;
+  hand = λ u. history.hand u log;
+  waiting = λ c. history.waiting o c log;
+  packet = λ id. history.packet id log;
+}
+
+abbrev pub newest_of : List Board → Board
+newest_of boards = slice_index_or boards (length boards - 1) opening_board
+
+abbrev pub newest : Sight → Board
+newest s = newest_of s.boards
+
+abbrev pub board_at : Sight → ℕ → Board
+board_at s k = slice_index_or s.boards k opening_board
+
+-- the scheme of an epoch
+abbrev pub plan_of : Setting → List Scheme → ℕ → Scheme
+plan_of o plans e = slice_index_or plans (e - 1) o.first
+
+abbrev pub record_at : Sight → ℕ → Journey
+record_at s id = unwrap_or (s.packet id) (fresh id 0 0 0)
+
+abbrev pub is_full : Setting → Sight → ℕ → Bool
+is_full o s c = nat_le o.capacity (length (s.waiting c))
+
+-- the channel into which this hop leads is full
+abbrev pub is_full_towards : Setting → Sight → Hop → Bool
+is_full_towards o s h = is_full o s (into o h.node (Link h.link))
+
+-- the verdict when u acts on this packet
+abbrev pub verdict_on : Setting → Sight → ℕ → Way → Journey → Verdict
+verdict_on o s u way r =
+    judged (plan_of o s.plans r.epoch) (board_at s (s.view u)) (is_full_towards o s) way u r.epoch r.dest
+
+-- what an event comes to, or its first refusal
+abbrev pub injects : Setting → Sight → ℕ → ℕ → Result Entry Refused
+injects o s source dest =
+    if not (nat_lt source (nodes_of o) && nat_lt dest (nodes_of o)) then Err NoNode
+    else if nat_le o.max_packets s.injected then Err TooManyPackets
+    else if is_full o s (into o source Inbox) then Err InboxFull
+    else Ok (DidInject s.injected s.learnt source dest)
+
+abbrev pub learns : Sight → ℕ → Result Entry Refused
+learns s e = if (e == 0) || nat_lt (newest s).current e then Err NoEpoch else Ok (DidLearn e)
+
+abbrev pub takes_first : ℕ → Way → Option ℕ → Result Entry Refused
+takes_first u way None = Err Empty
+takes_first u way (Some id) = Ok (DidTake u way id)
+
+abbrev pub takes_from : Sight → ℕ → Way → Option ℕ → Result Entry Refused
+takes_from s u way None = Err NoChannel
+takes_from s u way (Some c) =
+    if is_some (s.hand u) then Err HandFull else takes_first u way (slice_get (s.waiting c) 0)
+
+abbrev pub takes : Setting → Sight → ℕ → Way → Result Entry Refused
+takes o s u way = if not (nat_lt u (nodes_of o)) then Err NoNode else takes_from s u way (channel_of o u way)
+
+abbrev pub reads : Setting → Sight → ℕ → ℕ → Result Entry Refused
+reads o s u k =
+    if not (nat_lt u (nodes_of o)) then Err NoNode
+    else if nat_lt k (s.view u) || nat_le (length s.boards) k then Err BadView
+    else Ok (DidRead u k)
+
+abbrev pub acts_on : Setting → Sight → ℕ → Option Held → Result Entry Refused
+acts_on o s u None = Err HandEmpty
+acts_on o s u (Some held) = Ok (DidAct u held.id held.way (verdict_on o s u held.way (record_at s held.id)))
+
+abbrev pub acts : Setting → Sight → ℕ → Result Entry Refused
+acts o s u = if not (nat_lt u (nodes_of o)) then Err NoNode else acts_on o s u (s.hand u)
+
+abbrev pub retires : Sight → ℕ → Result Entry Refused
+retires s f =
+    if nat_lt (newest s).current f then Err NoEpoch
+    else if nat_le f (newest s).floor then Err Same
+    else if nat_le MAX_CHANGES (newest s).version then Err TooManyChanges
+    else Ok (DidChange (retired_below (newest s) f))
+
+abbrev pub marks : Setting → Sight → ℕ → Bool → Result Entry Refused
+marks o s l up =
+    if not (nat_lt l (links_of o)) then Err NoLink
+    else if (if up then is_up (newest s) l else not (is_up (newest s) l)) then Err Same
+    else if nat_le MAX_CHANGES (newest s).version then Err TooManyChanges
+    else Ok (DidChange (marked (newest s) l up))
+
+-- the network over the links that are up in the newest version
+abbrev pub network_up : Setting → Sight → Network
+network_up o s = restrict (take (links_of o) (newest s).up) o.network
+
+-- a scheme of this kind and root over the network, or none where the network is disconnected
+abbrev pub IsMade : Kind → ℕ → Network → Option Scheme → Type 0
+IsMade kind root net None = IsDisconnected net
+IsMade kind root net (Some s) = (s.kind ≡ kind) × (s.root ≡ root) × (s.network ≡ net) × IsScheme s
+
+-- the entry of an install, once the scheme is made
+abbrev pub installs_made : Sight → Option Scheme → Result Entry Refused
+installs_made s None = Err Disconnected
+installs_made s (Some t) = Ok (DidInstall (length s.plans + 1) t (installed (newest s) (length s.plans + 1)))
+
+-- why an install is refused before any scheme is made
+abbrev pub install_refused : Setting → Sight → ℕ → Option Refused
+install_refused o s root =
+    if not (nat_lt root (nodes_of o)) then Some NoNode
+    else if nat_le MAX_EPOCHS (length s.plans) then Some EpochsFull
+    else if nat_le MAX_CHANGES (newest s).version then Some TooManyChanges
+    else None
+
+abbrev pub InstallsUnless : Setting → Sight → Kind → ℕ → Result Entry Refused → Option Refused → Type 0
+InstallsUnless o s kind root wanted (Some e) = wanted ≡ Err e
+InstallsUnless o s kind root wanted None = (made : Option Scheme) × IsMade kind root (network_up o s) made × (wanted ≡ installs_made s made)
+
+abbrev pub Installs : Setting → Sight → Kind → ℕ → Result Entry Refused → Type 0
+Installs o s kind root wanted = InstallsUnless o s kind root wanted (install_refused o s root)
+
+-- What an event comes to: its entry, or its first refusal. Of an install it says which scheme is made, and the scheme
+-- is any of that kind and root over the links that are up.
+abbrev pub ComesTo : Setting → Sight → Event → Result Entry Refused → Type 0
+ComesTo o s (event.Inject source dest) wanted = wanted ≡ injects o s source dest
+ComesTo o s (event.Learn e) wanted = wanted ≡ learns s e
+ComesTo o s (event.Take u way) wanted = wanted ≡ takes o s u way
+ComesTo o s (event.Read u k) wanted = wanted ≡ reads o s u k
+ComesTo o s (event.Act u) wanted = wanted ≡ acts o s u
+ComesTo o s (event.Install kind root) wanted = Installs o s kind root wanted
+ComesTo o s (event.Retire f) wanted = wanted ≡ retires s f
+ComesTo o s (event.Down l) wanted = wanted ≡ marks o s l false
+ComesTo o s (event.Up l) wanted = wanted ≡ marks o s l true
+
+-- the history with one more event, if it is accepted
+abbrev pub with_entry : List Entry → Result Entry Refused → List Entry
+with_entry log (Ok entry) = entry ∷ log
+with_entry log (Err _) = log

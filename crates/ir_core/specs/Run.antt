@@ -1,0 +1,40 @@
+-- How a run of steps goes.
+use Rattle.std.specs.Prelude.{◌≡◌, List, [], ◌∷◌, Result, Ok}
+use Rattle.ir_core.specs.declared.event.Step.{Step}
+use Rattle.ir_core.specs.declared.event.Step.TheVariants as step
+use Rattle.ir_core.specs.declared.event.Reply.{Reply}
+use Rattle.ir_core.specs.declared.event.Reply.TheVariants.{Changed}
+use Rattle.ir_core.specs.declared.event.Refused.{Refused}
+use Rattle.ir_core.specs.Setting.{Setting}
+use Rattle.ir_core.specs.Entry.{Entry}
+use Rattle.ir_core.specs.History as history
+use Rattle.ir_core.specs.State.{State}
+use Rattle.ir_core.specs.Shows.{Shows, IsAnswered}
+use Rattle.ir_core.specs.Sound.{AllSound}
+use Rattle.ir_core.specs.Drain.{IsDrained}
+
+-- the reply to a step after a history, and the later history
+abbrev pub IsStepAnswered : Setting → List Entry → Step → Result Reply Refused → List Entry → Type 0
+IsStepAnswered o log (step.Event e) reply later = IsAnswered o log e reply later
+IsStepAnswered o log step.Drain reply later = (reply ≡ Ok Changed) × IsDrained o log later
+
+-- the later world is that of the history after the step and its reply
+abbrev pub StepsAfter : List Entry → Step → Result Reply Refused → Setting → State → Type 0
+StepsAfter log s reply o new = (later : List Entry) × IsStepAnswered o log s reply later × Shows later new
+
+-- A run goes from one history to another: each reply is that to its step after the history so far.
+abbrev pub IsRun : Setting → List Entry → List Step → List (Result Reply Refused) → List Entry → Type 0
+IsRun o log [] [] later = later ≡ log
+IsRun o log [] (reply ∷ replies) later = ⊥
+IsRun o log (s ∷ steps) [] later = ⊥
+IsRun o log (s ∷ steps) (reply ∷ replies) later =
+    (mid : List Entry) × IsStepAnswered o log s reply mid × IsRun o mid steps replies later
+
+-- A world was played to from the empty history: by these steps with these replies. It is the world of that history,
+-- in which every record is sound, and no packet is concerned after its end.
+pub record IsPlayed (o : Setting) (steps : List Step) (replies : List (Result Reply Refused)) (s : State) : Type 0 where
+  pub log : List Entry
+  pub run : IsRun o [] steps replies log
+  pub shows : Shows log s
+  pub sound : AllSound o log
+  pub ends_once : history.NothingAfterTheEnd log

@@ -1,0 +1,65 @@
+-- What a world was opened with, and the numbers of its channels.
+use Rattle.std.specs.Prelude.{◌≡◌, ℕ, ◌+◌, ◌*◌, ◌<◌, ◌≤◌, [], length, slice_get, Option, Some, None, unwrap_or, if◌then◌else◌, ◌==◌}
+use Rattle.ir_model.specs.declared.Link.{Link as Edge}
+use Rattle.ir_model.specs.declared.Hop.{Hop}
+use Rattle.ir_model.specs.declared.Kind.TheVariants.{Tree}
+use Rattle.ir_model.specs.Network.{Network, node_count, port_at, IsNetwork}
+use Rattle.ir_model.specs.Scheme.{Scheme, IsScheme}
+use Rattle.ir_core.specs.declared.TheConstants.{MAX_NODES, MAX_LINKS, MAX_CAPACITY, MAX_PACKETS}
+use Rattle.ir_core.specs.declared.event.Way.{Way}
+use Rattle.ir_core.specs.declared.event.Way.TheVariants.{Inbox, Link}
+
+-- A network, the scheme of its first epoch, the capacity of each channel, and the most packets.
+pub record Setting : Type 0 where
+  pub network : Network
+  pub first : Scheme
+  pub capacity : ℕ
+  pub max_packets : ℕ
+
+-- the scheme that stands where there is none
+abbrev pub no_scheme : Scheme
+no_scheme = record { kind = Tree; root = 0; network = record { links = []; ports = [] }; order = []; labels = []; table = []; rows = [] }
+
+-- how many nodes and links there are
+abbrev pub nodes_of : Setting → ℕ
+nodes_of o = node_count o.network
+
+abbrev pub links_of : Setting → ℕ
+links_of o = length o.network.links
+
+-- the channel of a link into one of its ends, of the two that begin at this number
+abbrev pub channel_into : ℕ → ℕ → Option Edge → Option ℕ
+channel_into first u None = None
+channel_into first u (Some link) =
+    if link.low == u then Some first else if link.high == u then Some (first + 1) else None
+
+-- The number of the channel that a node takes from by this way, if there is one: the inboxes by node come first, then
+-- for each link the channel into its first end and the channel into its second.
+abbrev pub channel_in : Network → ℕ → Way → Option ℕ
+channel_in net u Inbox = Some u
+channel_in net u (Link l) = channel_into (node_count net + 2 * l) u (slice_get net.links l)
+
+abbrev pub channel_of : Setting → ℕ → Way → Option ℕ
+channel_of o u way = channel_in o.network u way
+
+abbrev pub into : Setting → ℕ → Way → ℕ
+into o u way = unwrap_or (channel_of o u way) 0
+
+-- a scheme over the nodes and numbered links of the network, and some of its ports
+pub record IsPlanFor (o : Setting) (s : Scheme) : Type 0 where
+  pub scheme : IsScheme s
+  pub nodes : node_count s.network ≡ nodes_of o
+  pub links : s.network.links ≡ o.network.links
+  pub ports : (u p : ℕ) (hop : Hop) → port_at s.network u p ≡ Some hop → (q : ℕ) × (port_at o.network u q ≡ Some hop)
+
+-- What is true of every world's setting.
+pub record IsSetting (o : Setting) : Type 0 where
+  pub some_nodes : 0 < nodes_of o
+  pub few_nodes : nodes_of o ≤ MAX_NODES
+  pub few_links : links_of o ≤ MAX_LINKS
+  pub some_capacity : 0 < o.capacity
+  pub capacity : o.capacity ≤ MAX_CAPACITY
+  pub some_packets : 0 < o.max_packets
+  pub max_packets : o.max_packets ≤ MAX_PACKETS
+  pub network : IsNetwork o.network
+  pub first : IsPlanFor o o.first

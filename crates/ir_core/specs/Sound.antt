@@ -1,0 +1,64 @@
+-- What makes a packet's record sound: it follows the walk that the full table of its one epoch prescribes.
+use Rattle.std.specs.Prelude.{◌≡◌, ℕ, ◌<◌, ◌≤◌, List, [], ◌∷◌, ◌++◌, length, Some}
+use Rattle.ir_model.specs.declared.Hop.{Hop}
+use Rattle.ir_model.specs.declared.Kind.{Kind}
+use Rattle.ir_model.specs.declared.Kind.TheVariants.{Tree, Shortest}
+use Rattle.ir_model.specs.Walk.{walk_weight, IsDistance}
+use Rattle.ir_model.specs.Table.{IsPrescribedWalk}
+use Rattle.ir_model.specs.Scheme.{Scheme, next_hop, table_port, IsScheme}
+use Rattle.ir_core.specs.Journey.{Journey}
+use Rattle.ir_core.specs.declared.packet.Fate.{Fate}
+use Rattle.ir_core.specs.declared.packet.Fate.TheVariants.{Delivered, Retired, Down, Full, Left}
+use Rattle.ir_core.specs.Setting.{Setting}
+use Rattle.ir_core.specs.Entry.{Entry}
+use Rattle.ir_core.specs.History as history
+use Rattle.ir_core.specs.Meaning.{plan_of}
+
+abbrev pub IsPrefixOf : List ℕ → List ℕ → Type 0
+IsPrefixOf xs ys = (rest : List ℕ) × (xs ++ rest ≡ ys)
+
+abbrev pub last_of : List ℕ → ℕ
+last_of [] = 0
+last_of (x ∷ []) = x
+last_of (x ∷ y ∷ rest) = last_of (y ∷ rest)
+
+-- the scheme's table sends the packet on from its last hop, along this link to this node
+abbrev pub LeadsOn : Scheme → Journey → ℕ → ℕ → Type 0
+LeadsOn t r link node = (h : Hop) × (next_hop t (last_of r.hops) r.dest ≡ Some h) × (h.link ≡ link) × (h.node ≡ node)
+
+-- the walk goes on after the hops, along this link to this node
+abbrev pub GoesOnAlong : Scheme → Journey → List ℕ → ℕ → ℕ → Type 0
+GoesOnAlong t r walk link node = IsPrefixOf (r.hops ++ node ∷ []) walk × LeadsOn t r link node
+
+-- with kind Shortest, the hops weigh the distance from the source to the destination
+abbrev pub WeighsTheDistance : Kind → Scheme → Journey → Type 0
+WeighsTheDistance Shortest t r = IsDistance t.network r.source r.dest (walk_weight t.network r.hops)
+WeighsTheDistance Tree t r = Unit {0}
+
+-- what a fate says of the hops and of the prescribed walk
+abbrev pub FateFits : Scheme → Journey → List ℕ → Fate → Type 0
+FateFits t r walk Delivered = (r.hops ≡ walk) × WeighsTheDistance t.kind t r
+FateFits t r walk Retired = Unit {0}
+FateFits t r walk (Down l) = (node : ℕ) × GoesOnAlong t r walk l node
+FateFits t r walk (Full l node) = GoesOnAlong t r walk l node
+FateFits t r walk Left = Unit {0}
+
+-- A record is sound by the scheme of its epoch: its hops are a prefix of the prescribed walk, not empty, and its fate
+-- fits.
+pub record IsSound (t : Scheme) (r : Journey) : Type 0 where
+  pub scheme : IsScheme t
+  pub walk : List ℕ
+  pub prescribed : IsPrescribedWalk t.network (table_port t) r.source r.dest walk
+  pub not_empty : 0 < length r.hops
+  pub follows : IsPrefixOf r.hops walk
+  pub fate : FateFits t r walk r.fate
+
+-- The record's stamp is an epoch that was installed, and the record is sound by its scheme.
+pub record IsSoundAmong (o : Setting) (plans : List Scheme) (r : Journey) : Type 0 where
+  pub epoch_above : 0 < r.epoch
+  pub epoch_in : r.epoch ≤ length plans
+  pub sound : IsSound (plan_of o plans r.epoch) r
+
+-- Every record of a history is sound.
+abbrev pub AllSound : Setting → List Entry → Type 0
+AllSound o log = (id : ℕ) (r : Journey) → history.packet id log ≡ Some r → IsSoundAmong o (history.plans o log) r

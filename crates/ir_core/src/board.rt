@@ -1,0 +1,102 @@
+ghost use Rattle.std.specs.Prelude.{◌≡◌, ◌<◌};
+
+use crate::MAX_LINKS;
+
+/// The published board of one version: which epochs are live, and which links are up.
+#[derive(Clone, Copy, Debug, PartialEq, Eq)]
+pub struct Board {
+    version: u32,
+    current: u32,
+    floor: u32,
+    up: [bool; MAX_LINKS],
+}
+
+impl Board {
+    ghost use Rattle.ir_core.specs.declared.TheConstants.{MAX_LINKS, MAX_CHANGES};
+    ghost use Rattle.ir_core.specs.Board.{opening_board, is_up, marked, retired_below, installed};
+
+    /// The board before any change: version 0, epoch 1 current and live, all links up.
+    pub fn opening() -> Board
+        ensures { result ≡ opening_board }
+    {
+        Board {
+            version: 0,
+            current: 1,
+            floor: 1,
+            up: [true; MAX_LINKS],
+        }
+    }
+
+    /// How many changes were made.
+    pub fn version(&self) -> u32
+        ensures { result ≡ self.now.version }
+    {
+        self.version
+    }
+
+    /// The newest epoch.
+    pub fn current(&self) -> u32
+        ensures { result ≡ self.now.current }
+    {
+        self.current
+    }
+
+    /// The least epoch that is live; those below it are retired.
+    pub fn floor(&self) -> u32
+        ensures { result ≡ self.now.floor }
+    {
+        self.floor
+    }
+
+    /// Whether a link is up; true where the number is no link.
+    pub fn is_up(&self, link: u16) -> bool
+        ensures { result ≡ is_up self.now link }
+    {
+        if (link as usize) < MAX_LINKS {
+            self.up[link as usize]
+        } else {
+            true
+        }
+    }
+
+    /// The marks of all links, up or down, by number.
+    pub fn marks(&self) -> &[bool]
+        ensures { result.now ≡ self.now.up }
+    {
+        &self.up
+    }
+
+    /// The next board, with one link marked up or down.
+    pub fn marked(&self, link: u16, up: bool) -> Board
+        requires link_in { link < MAX_LINKS }
+        requires room { self.now.version < MAX_CHANGES }
+        ensures { result ≡ marked self.now link up }
+    {
+        let mut next = *self;
+        next.version += 1;
+        next.up[link as usize] = up;
+        next
+    }
+
+    /// The next board, with this epoch as the current one.
+    pub fn installed(&self, epoch: u32) -> Board
+        requires { self.now.version < MAX_CHANGES }
+        ensures { result ≡ installed self.now epoch }
+    {
+        let mut next = *self;
+        next.version += 1;
+        next.current = epoch;
+        next
+    }
+
+    /// The next board, with the epochs below a floor retired.
+    pub fn retired_below(&self, floor: u32) -> Board
+        requires { self.now.version < MAX_CHANGES }
+        ensures { result ≡ retired_below self.now floor }
+    {
+        let mut next = *self;
+        next.version += 1;
+        next.floor = floor;
+        next
+    }
+}

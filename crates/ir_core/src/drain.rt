@@ -1,0 +1,118 @@
+ghost use Rattle.std.specs.Prelude.{◌≡◌, ℕ, ◌<◌, true, false, ◌||◌, List, Some};
+ghost use Rattle.ir_model.specs.Network.{ports_of};
+ghost use Rattle.ir_core.specs.Setting.{nodes_of, channel_of};
+ghost use Rattle.ir_core.specs.Entry.{Entry};
+ghost use Rattle.ir_core.specs.Shows.{Shows};
+ghost use Rattle.ir_core.specs.Drain.{after_read, after_act, after_way, after_ports, after_visit, after_round};
+ghost use Rattle.ir_core.specs.Quiet.{IsHandEmpty, IsEmptyAt, ArePortsEmpty, IsQuietAt, IsQuiet, IsNoneLeft, Moves, ShowsDrained};
+
+use crate::event::Way;
+use crate::world::World;
+
+impl World {
+    /// Rounds over the nodes 0 to n-1, until a round has no Act. In a round each node reads the newest version of the
+    /// board, acts on what it holds, then takes a packet from its inbox and acts, then from the channel of each port in
+    /// port order of the opening's topology and acts. After it no packet is under way. It takes no memory.
+    pub fn drain(&mut self)
+        // For every history whose world this is, what it does is the drain of the definition.
+        ensures history { (log : List Entry) → Shows log self.old → ShowsDrained log self.old.opening self.new }
+        ensures none_left { IsNoneLeft self.new }
+        ensures same_opening { self.new.opening ≡ self.old.opening }
+    {
+        let _nodes = self.nodes();
+        'rounds: loop {
+            let acted = self.round();
+            if !acted {
+                let _left = self.nodes();
+                return;
+            }
+        }
+    }
+
+    /// A round over all nodes; tells whether it had an Act.
+    fn round(&mut self) -> bool
+        ensures moves { Moves (after_round self.old.opening) result self.old self.new }
+        ensures quiet { result ≡ false → IsQuiet self.new }
+    {
+        let nodes = self.nodes();
+        let mut acted = false;
+        for node in 0..nodes {
+            let sent = self.visit(node);
+            acted = either(acted, sent);
+        }
+        acted
+    }
+
+    /// A visit of a node; tells whether it had an Act.
+    fn visit(&mut self, node: u16) -> bool
+        requires { node < nodes_of self.old.opening }
+        ensures moves { Moves (after_visit self.old.opening node) result self.old self.new }
+        ensures quiet { result ≡ false → IsQuietAt self.new node }
+    {
+        self.read_newest(node);
+        let held = self.try_act(node);
+        let taken = self.try_way(node, Way::Inbox);
+        let came = self.try_ports(node);
+        either(either(held, taken), came)
+    }
+
+    /// A node takes from the channel of each of its ports, in order, and acts.
+    fn try_ports(&mut self, node: u16) -> bool
+        requires node_in { node < nodes_of self.old.opening }
+        requires hand { IsHandEmpty self.old node }
+        ensures moves { Moves (after_ports self.old.opening node (ports_of self.old.opening.network node)) result self.old self.new }
+        ensures idle { result ≡ false → ArePortsEmpty self.new node }
+    {
+        let count = self.ports(node).len();
+        let mut acted = false;
+        for port in 0..count {
+            let _nodes = self.nodes();
+            let link = self.ports(node)[port].link;
+            let sent = self.try_way(node, Way::Link(link));
+            acted = either(acted, sent);
+        }
+        acted
+    }
+
+    /// A node takes the first packet of a channel, if there is one, and acts on it; tells whether it did.
+    fn try_way(&mut self, node: u16, way: Way) -> bool
+        requires node_in { node < nodes_of self.old.opening }
+        requires channel { (c : ℕ) × (channel_of self.old.opening node way ≡ Some c) }
+        requires hand { IsHandEmpty self.old node }
+        ensures moves { Moves (after_way self.old.opening node way) result self.old self.new }
+        ensures idle { result ≡ false → IsEmptyAt self.new node way }
+        ensures hand { IsHandEmpty self.new node }
+    {
+        let _nodes = self.nodes();
+        let _ = self.take(node, way);
+        self.try_act(node)
+    }
+
+    /// A node acts on what it holds, if it holds a packet; tells whether it did.
+    fn try_act(&mut self, node: u16) -> bool
+        requires { node < nodes_of self.old.opening }
+        ensures moves { Moves (after_act self.old.opening node) result self.old self.new }
+        ensures idle { result ≡ false → (self.new ≡ self.old) × IsHandEmpty self.old node }
+        ensures hand { IsHandEmpty self.new node }
+    {
+        let _nodes = self.nodes();
+        self.act(node).is_ok()
+    }
+
+    /// A node reads the newest version of the board.
+    fn read_newest(&mut self, node: u16)
+        requires { node < nodes_of self.old.opening }
+        ensures { Moves (after_read self.old.opening node) false self.old self.new }
+    {
+        let _nodes = self.nodes();
+        let version = self.board_versions().len() - 1;
+        let _ = self.read(node, version);
+    }
+}
+
+/// Whether one of the two is true.
+fn either(a: bool, b: bool) -> bool
+    ensures { result ≡ a || b }
+{
+    a || b
+}

@@ -1,0 +1,166 @@
+use ir_model::{Hop, Kind};
+
+/// Where a node takes a packet from: its inbox, or a link by number.
+#[derive(Clone, Copy, Debug, PartialEq, Eq)]
+pub enum Way {
+    Inbox,
+    Link(u16),
+}
+
+/// One atomic step of one actor: the injector, a node or the controller.
+#[derive(Clone, Copy, Debug, PartialEq, Eq)]
+pub enum Event {
+    /// A packet from a source to a destination, stamped with the greatest epoch learnt.
+    Inject(u16, u16),
+    /// The injector learns an epoch.
+    Learn(u32),
+    /// A node takes the first packet of a channel into its hand.
+    Take(u16, Way),
+    /// A node reads a version of the board.
+    Read(u16, usize),
+    /// A node acts on the packet in its hand.
+    Act(u16),
+    /// A plan of a kind and root over the links that are up becomes the current epoch.
+    Install(Kind, u16),
+    /// The epochs below this one are retired.
+    Retire(u32),
+    /// A link goes down.
+    Down(u16),
+    /// A link comes up.
+    Up(u16),
+}
+
+/// One step of a run.
+#[derive(Clone, Copy, Debug, PartialEq, Eq)]
+pub enum Step {
+    Event(Event),
+    /// Rounds over all nodes, until a round has no Act.
+    Drain,
+}
+
+/// What an accepted event answers.
+#[derive(Clone, Copy, Debug, PartialEq, Eq)]
+pub enum Reply {
+    Injected(u32),
+    Learnt,
+    Taken(u32),
+    Viewed,
+    /// The packet went on to this node.
+    Sent(u32, u16),
+    /// The packet was delivered or dropped; its record tells which.
+    Settled(u32),
+    Installed(u32),
+    Changed,
+}
+
+/// Why an event was refused.
+#[derive(Clone, Copy, Debug, PartialEq, Eq)]
+pub enum Refused {
+    NoNode,
+    NoLink,
+    NoChannel,
+    NoEpoch,
+    HandFull,
+    HandEmpty,
+    Empty,
+    BadView,
+    Same,
+    EpochsFull,
+    Disconnected,
+    TooManyPackets,
+    NoMemory,
+    InboxFull,
+    TooManyChanges,
+    /// From a live run alone: a fresh cell of the registry refused its plan.
+    Used,
+}
+
+impl Refused {
+    ghost use Rattle.std.specs.Prelude.{◌≡◌};
+    ghost use Rattle.ir_core.specs.Codes.{refusal_code};
+
+    /// The refusal's number.
+    pub fn code(self) -> u8
+        ensures { result ≡ refusal_code self }
+    {
+        match self {
+            Refused::NoNode => 1,
+            Refused::NoLink => 2,
+            Refused::NoChannel => 3,
+            Refused::NoEpoch => 4,
+            Refused::HandFull => 5,
+            Refused::HandEmpty => 6,
+            Refused::Empty => 7,
+            Refused::BadView => 8,
+            Refused::Same => 9,
+            Refused::EpochsFull => 10,
+            Refused::Disconnected => 11,
+            Refused::TooManyPackets => 12,
+            Refused::NoMemory => 13,
+            Refused::InboxFull => 14,
+            Refused::TooManyChanges => 15,
+            Refused::Used => 16,
+        }
+    }
+}
+
+/// Why no world was opened.
+#[derive(Clone, Copy, Debug, PartialEq, Eq)]
+pub enum OpenError {
+    /// The root is no node.
+    NoNode,
+    /// The topology has no node.
+    Empty,
+    /// Some node has no walk to some node.
+    Disconnected,
+    /// Too many nodes or links, or a capacity or a number of packets that is 0 or too great.
+    TooLarge,
+    /// A growth was refused.
+    NoMemory,
+}
+
+impl OpenError {
+    ghost use Rattle.std.specs.Prelude.{◌≡◌};
+    ghost use Rattle.ir_core.specs.Codes.{open_code};
+
+    /// The refusal's number.
+    pub fn code(self) -> u8
+        ensures { result ≡ open_code self }
+    {
+        match self {
+            OpenError::NoNode => 1,
+            OpenError::Empty => 2,
+            OpenError::Disconnected => 3,
+            OpenError::TooLarge => 4,
+            OpenError::NoMemory => 5,
+        }
+    }
+}
+
+/// What a node does with a packet.
+#[derive(Clone, Copy, Debug, PartialEq, Eq)]
+pub enum Action {
+    Deliver,
+    /// Sends it over this port.
+    Send(u16),
+    DropRetired,
+    /// Drops it since this link is down.
+    DropDown(u16),
+}
+
+/// What comes of a packet when a node acts on it.
+#[derive(Clone, Copy, Debug, PartialEq, Eq)]
+pub enum Verdict {
+    /// The link that it came by is down.
+    CameByDown(u16),
+    /// Its epoch is retired.
+    BelowFloor,
+    /// It is at its destination.
+    Arrives,
+    /// The link that it is to leave by is down.
+    LeavesByDown(u16),
+    /// The channel that it is to leave by is full.
+    NoRoom(Hop),
+    /// It is sent.
+    GoesOn(Hop),
+}

@@ -1,0 +1,64 @@
+ghost use Rattle.std.specs.Prelude.{◌≡◌, ◌<◌, false};
+ghost use Rattle.ir_model.specs.Network.{node_count};
+ghost use Rattle.ir_model.specs.Scheme.{node_in};
+ghost use Rattle.ir_core.specs.Entry.{judged, decided, way_of};
+
+use crate::board::Board;
+use crate::event::{Action, Verdict, Way};
+use ir_plan::Plan;
+
+/// What comes of a packet, where each channel has room.
+pub fn judge(plan: &Plan, board: &Board, way: Way, at: u16, stamp: u32, address: u16) -> Verdict
+    requires at_in { at < node_count plan.now.network }
+    requires address_in { address < node_count plan.now.network }
+    ensures { result ≡ judged plan.now board.now (λ _. false) way at stamp (node_in plan.now address) }
+{
+    if let Way::Link(link) = way
+        && !board.is_up(link)
+    {
+        return Verdict::CameByDown(link);
+    }
+    if stamp < board.floor() {
+        return Verdict::BelowFloor;
+    }
+    let _nodes = plan.nodes();
+    let Some(port) = plan.port(at, address) else {
+        return Verdict::Arrives;
+    };
+    let hop = plan.hop(at, port);
+    if board.is_up(hop.link) {
+        Verdict::GoesOn(hop)
+    } else {
+        Verdict::LeavesByDown(hop.link)
+    }
+}
+
+/// What a node does with a packet that it took from its inbox (`None`) or by a link, given the plan of the packet's
+/// stamp and the board of the node's view: the first of the link that it came by being down, its epoch being retired,
+/// its own label being the address, the link that it is to leave by being down, and the port to send it over. Whether
+/// the channel of that port has room is not asked. `at` is a node and `address` a label of the plan.
+pub fn decide(
+    plan: &Plan,
+    board: &Board,
+    came_by: Option<u16>,
+    at: u16,
+    stamp: u32,
+    address: u16,
+) -> Action
+    requires at_in { at < node_count plan.now.network }
+    requires address_in { address < node_count plan.now.network }
+    ensures { result ≡ decided plan.now board.now (way_of came_by) at stamp (node_in plan.now address) }
+{
+    let way = match came_by {
+        None => Way::Inbox,
+        Some(link) => Way::Link(link),
+    };
+    match judge(plan, board, way, at, stamp, address) {
+        Verdict::CameByDown(link) | Verdict::LeavesByDown(link) => Action::DropDown(link),
+        Verdict::BelowFloor => Action::DropRetired,
+        Verdict::Arrives => Action::Deliver,
+        Verdict::NoRoom(_) | Verdict::GoesOn(_) => Action::Send(
+            plan.port(at, address).unwrap_or(0),
+        ),
+    }
+}

@@ -1,0 +1,595 @@
+ghost use Rattle.std.specs.Prelude.{◌≡◌, ℕ, ◌+◌, ◌<◌, ◌≤◌, List, [], ◌∷◌, ◌++◌, length, replicate, IfOk, IfErr, IfSome, take, slice_get, slice_index, slice_index_or, unwrap_or, option_copied, Some, None};
+ghost use Rattle.ir_model.specs.Network.{node_count, ports_of, restrict};
+ghost use Rattle.ir_core.specs.declared.TheConstants.{MAX_LINKS, MAX_CHANGES};
+ghost use Rattle.ir_core.specs.declared.event.Way.TheVariants.{Link as WayLink};
+ghost use Rattle.ir_core.specs.Meaning.{IsMade};
+ghost use Rattle.ir_core.specs.Opened.{is_small, open_refused};
+ghost use Rattle.ir_core.specs.Setting.{channel_in, channel_of};
+
+use crate::board::Board;
+use crate::event::{Event, OpenError, Refused, Reply, Step, Verdict, Way};
+use crate::packet::{Held, Record};
+use crate::queue::Queue;
+use crate::verdict::judge;
+use crate::{MAX_CAPACITY, MAX_CHANGES, MAX_EPOCHS, MAX_LINKS, MAX_NODES, MAX_PACKETS};
+use ir_model::{Hop, Kind};
+use ir_plan::{Plan, PlanError};
+use ir_tables::Topology;
+use std::alloc::{AllocError, Global};
+use std::marker::Model;
+
+/// All that stands after a history: the boards and plans so far, each node's view and hand, the channels, and the
+/// packets' records.
+#[derive(Drop)]
+pub struct World {
+    alloc: Global,
+    topology: Topology,
+    capacity: usize,
+    max_packets: usize,
+    boards: Vec<Board>,
+    plans: Vec<Plan>,
+    learnt: u32,
+    views: Vec<usize>,
+    hands: Vec<Option<Held>>,
+    channels: Vec<Queue>,
+    records: Vec<Record>,
+}
+
+impl Model for World {
+    ghost use Rattle.ir_core.specs.State.{State};
+
+    ghost Value = { State };
+
+    ghost use Rattle.ir_core.specs.Inside.{state_of, IsKept};
+
+    ghost view = { state_of };
+
+    ghost invariant = { IsKept };
+}
+
+impl World {
+    ghost use Rattle.ir_core.specs.Setting.{Setting, IsSetting, nodes_of};
+    ghost use Rattle.ir_core.specs.Opened.{IsOpenedWith, IsOpenRefusal};
+    ghost use Rattle.ir_core.specs.Meaning.{newest, learns, reads, takes, acts, retires, marks, injects, verdict_on, record_at, is_full_towards, plan_of};
+    ghost use Rattle.ir_core.specs.Entry.{Entry};
+    ghost use Rattle.ir_core.specs.History.{boards};
+    ghost use Rattle.ir_core.specs.Shows.{Shows, AnswersAfter};
+    ghost use Rattle.ir_core.specs.Run.{StepsAfter};
+    ghost use Rattle.ir_core.specs.Sound.{AllSound};
+    ghost use Rattle.ir_core.specs.State.{IsState, sight_in, IsAnswer, open_verdict_on, LeadsIn};
+    ghost use Rattle.ir_core.specs.Handled.{IsAnswerOr, IsAnswerTo, IsInstallAnswer};
+
+    /// The world of the empty history. Epoch 1 has a plan of this kind and root over all links of the topology. Each
+    /// channel and inbox holds `capacity` packets, from 1 to 1,024, and there may be `max_packets` packets, from 1 to
+    /// 4,096. Refused are, in this order: no node (`Empty`), a root that is no node, more than 64 nodes or 256 links
+    /// or another number out of its range (`TooLarge`), some node without a walk to some node, want of memory.
+    pub fn new(
+        alloc: Global,
+        topology: Topology,
+        kind: Kind,
+        root: u16,
+        capacity: usize,
+        max_packets: usize,
+    ) -> Result<World, OpenError>
+        ensures opened { IfOk result (λ w. IsOpenedWith topology kind root capacity max_packets w.opening) }
+        ensures history { IfOk result (λ w. Shows [] w) }
+        ensures accepted { IfOk result (λ _. open_refused topology root capacity max_packets ≡ None) }
+        ensures refused { IfErr result (λ e. IsOpenRefusal topology root capacity max_packets e) }
+    {
+        if let Some(error) = open_refusal(&topology, root, capacity, max_packets) {
+            return Err(error);
+        }
+        let Ok(over) = topology.try_clone(alloc) else {
+            return Err(OpenError::NoMemory);
+        };
+        let plan = match plan_over(alloc, over, kind, root) {
+            Ok(plan) => plan,
+            Err(BuildError::Disconnected) => return Err(OpenError::Disconnected),
+            Err(BuildError::NoMemory) => return Err(OpenError::NoMemory),
+        };
+        match World::start(alloc, topology, plan, capacity, max_packets) {
+            Ok(world) => Ok(world),
+            Err(_) => Err(OpenError::NoMemory),
+        }
+    }
+
+    /// The world of the empty history, over a plan of epoch 1.
+    fn start(
+        alloc: Global,
+        topology: Topology,
+        plan: Plan,
+        capacity: usize,
+        max_packets: usize,
+    ) -> Result<World, AllocError>
+        requires { IsSetting (record { network = topology; first = plan; capacity = capacity; max_packets = max_packets }) }
+        ensures opening { IfOk result (λ w. w.opening ≡ record { network = topology; first = plan; capacity = capacity; max_packets = max_packets }) }
+        ensures history { IfOk result (λ w. Shows [] w) }
+    {
+        let nodes = topology.nodes();
+        let links = topology.links();
+        let mut boards = Vec::with_capacity(alloc, 1)?;
+        boards.push(Board::opening())?;
+        let mut plans = Vec::with_capacity(alloc, 1)?;
+        plans.push(plan)?;
+        let views = first_views(alloc, nodes)?;
+        let hands = empty_hands(alloc, nodes)?;
+        let channels = empty_channels(alloc, nodes + 2 * links)?;
+        Ok(World {
+            alloc,
+            topology,
+            capacity,
+            max_packets,
+            boards,
+            plans,
+            learnt: 1,
+            views,
+            hands,
+            channels,
+            records: Vec::new(alloc),
+        })
+    }
+
+    /// The version of the board that a node read last, 0 at first.
+    pub fn view(&self, node: u16) -> usize
+        requires { node < nodes_of self.now.opening }
+        ensures { result ≡ slice_index self.now.views node }
+    {
+        self.views[node as usize]
+    }
+
+    pub(crate) fn read(&mut self, node: u16, version: usize) -> Result<Reply, Refused>
+        ensures { IsAnswer self.old self.new (reads self.old.opening (sight_in self.old) node version) result }
+    {
+        if node as usize >= self.topology.nodes() {
+            return Err(Refused::NoNode);
+        }
+        if version < self.views[node as usize] || self.boards.len() <= version {
+            return Err(Refused::BadView);
+        }
+        self.views[node as usize] = version;
+        Ok(Reply::Viewed)
+    }
+
+    fn learn(&mut self, epoch: u32) -> Result<Reply, Refused>
+        ensures { IsAnswer self.old self.new (learns (sight_in self.old) epoch) result }
+    {
+        if epoch == 0 || self.newest().current() < epoch {
+            return Err(Refused::NoEpoch);
+        }
+        self.learnt = self.learnt.max(epoch);
+        Ok(Reply::Learnt)
+    }
+
+    fn newest(&self) -> Board
+        ensures value { result ≡ newest (sight_in self.now) }
+        ensures few { result.version ≤ MAX_CHANGES }
+    {
+        self.boards[self.boards.len() - 1]
+    }
+
+    pub(crate) fn take(&mut self, node: u16, way: Way) -> Result<Reply, Refused>
+        ensures { IsAnswer self.old self.new (takes self.old.opening (sight_in self.old) node way) result }
+    {
+        if node as usize >= self.topology.nodes() {
+            return Err(Refused::NoNode);
+        }
+        let Some(channel) = channel_of(&self.topology, node, way) else {
+            return Err(Refused::NoChannel);
+        };
+        if self.hands[node as usize].is_some() {
+            return Err(Refused::HandFull);
+        }
+        let Some(id) = self.channels[channel].first() else {
+            return Err(Refused::Empty);
+        };
+        self.channels[channel].pop();
+        self.hands[node as usize] = Some(Held { id, way });
+        Ok(Reply::Taken(id))
+    }
+
+    fn install(&mut self, kind: Kind, root: u16) -> Result<Reply, Refused>
+        ensures { IsInstallAnswer self.old self.new kind root result }
+    {
+        if root as usize >= self.topology.nodes() {
+            return Err(Refused::NoNode);
+        }
+        let epochs = self.plans.len();
+        if epochs >= MAX_EPOCHS {
+            return Err(Refused::EpochsFull);
+        }
+        let newest = self.newest();
+        if newest.version() >= MAX_CHANGES {
+            return Err(Refused::TooManyChanges);
+        }
+        let plan = match plan_up(self.alloc, &self.topology, &newest, kind, root) {
+            Ok(plan) => plan,
+            Err(BuildError::Disconnected) => return Err(Refused::Disconnected),
+            Err(BuildError::NoMemory) => return Err(Refused::NoMemory),
+        };
+        let Ok(()) = self.boards.reserve(1) else {
+            return Err(Refused::NoMemory);
+        };
+        let Ok(()) = self.plans.push(plan) else {
+            return Err(Refused::NoMemory);
+        };
+        let epoch = epochs as u32 + 1;
+        match self.boards.push(newest.installed(epoch)) {
+            Ok(()) => {}
+            Err(_) => unreachable!(),
+        }
+        Ok(Reply::Installed(epoch))
+    }
+
+    fn retire(&mut self, floor: u32) -> Result<Reply, Refused>
+        ensures { IsAnswerOr (retires (sight_in self.old) floor) self.old self.new result }
+    {
+        let newest = self.newest();
+        if newest.current() < floor {
+            return Err(Refused::NoEpoch);
+        }
+        if floor <= newest.floor() {
+            return Err(Refused::Same);
+        }
+        if newest.version() >= MAX_CHANGES {
+            return Err(Refused::TooManyChanges);
+        }
+        let Ok(()) = self.boards.push(newest.retired_below(floor)) else {
+            return Err(Refused::NoMemory);
+        };
+        Ok(Reply::Changed)
+    }
+
+    fn mark(&mut self, link: u16, up: bool) -> Result<Reply, Refused>
+        ensures { IsAnswerOr (marks self.old.opening (sight_in self.old) link up) self.old self.new result }
+    {
+        if link as usize >= self.topology.links() {
+            return Err(Refused::NoLink);
+        }
+        let newest = self.newest();
+        if newest.is_up(link) == up {
+            return Err(Refused::Same);
+        }
+        if newest.version() >= MAX_CHANGES {
+            return Err(Refused::TooManyChanges);
+        }
+        let Ok(()) = self.boards.push(newest.marked(link, up)) else {
+            return Err(Refused::NoMemory);
+        };
+        Ok(Reply::Changed)
+    }
+
+    fn inject(&mut self, source: u16, dest: u16) -> Result<Reply, Refused>
+        ensures { IsAnswerOr (injects self.old.opening (sight_in self.old) source dest) self.old self.new result }
+    {
+        let nodes = self.topology.nodes();
+        if source as usize >= nodes || dest as usize >= nodes {
+            return Err(Refused::NoNode);
+        }
+        if self.records.len() >= self.max_packets {
+            return Err(Refused::TooManyPackets);
+        }
+        let id = self.records.len() as u32;
+        let Ok(record) = Record::start(self.alloc, id, self.learnt, source, dest) else {
+            return Err(Refused::NoMemory);
+        };
+        let Ok(()) = self.records.reserve(1) else {
+            return Err(Refused::NoMemory);
+        };
+        if self.channels[source as usize].len() >= self.capacity {
+            return Err(Refused::InboxFull);
+        }
+        let Ok(()) = self.records.push(record) else {
+            return Err(Refused::NoMemory);
+        };
+        self.channels[source as usize].push(id);
+        Ok(Reply::Injected(id))
+    }
+
+    /// What comes of the packet in a node's hand, where each channel has room.
+    fn open_verdict(&self, node: u16, held: Held) -> Verdict
+        requires node_in { node < nodes_of self.now.opening }
+        requires in_hand { slice_index_or self.now.hands node None ≡ Some held }
+        ensures value { result ≡ open_verdict_on self.now node held }
+        ensures leads { LeadsIn self.now result }
+    {
+        let board = self.boards[self.views[node as usize]];
+        let record = &self.records[held.id as usize];
+        let plan = self.plan_of(record.epoch);
+        let address = plan.label_of(record.dest);
+        judge(plan, &board, held.way, node, record.epoch, address)
+    }
+
+    /// The plan of an epoch.
+    fn plan_of(&self, epoch: u32) -> &Plan
+        requires above { 0 < epoch }
+        requires within { epoch ≤ length self.now.plans }
+        ensures { result.now ≡ plan_of self.now.opening self.now.plans epoch }
+    {
+        &self.plans[epoch as usize - 1]
+    }
+
+    fn is_full(&self, hop: Hop) -> bool
+        requires { (c : ℕ) × (channel_of self.now.opening hop.node (WayLink hop.link) ≡ Some c) × (c < length self.now.channels) }
+        ensures { result ≡ is_full_towards self.now.opening (sight_in self.now) hop }
+    {
+        let channel = channel_into(&self.topology, hop);
+        self.channels[channel].len() >= self.capacity
+    }
+
+    /// What comes of the packet in a node's hand.
+    fn verdict(&self, node: u16, held: Held) -> Verdict
+        requires node_in { node < nodes_of self.now.opening }
+        requires in_hand { slice_index_or self.now.hands node None ≡ Some held }
+        ensures { result ≡ verdict_on self.now.opening (sight_in self.now) node held.way (record_at (sight_in self.now) held.id) }
+    {
+        let verdict = self.open_verdict(node, held);
+        match verdict {
+            Verdict::GoesOn(hop) => {
+                if self.is_full(hop) {
+                    Verdict::NoRoom(hop)
+                } else {
+                    Verdict::GoesOn(hop)
+                }
+            }
+            _ => verdict,
+        }
+    }
+
+    pub(crate) fn act(&mut self, node: u16) -> Result<Reply, Refused>
+        ensures { IsAnswer self.old self.new (acts self.old.opening (sight_in self.old) node) result }
+    {
+        if node as usize >= self.topology.nodes() {
+            return Err(Refused::NoNode);
+        }
+        let Some(held) = self.hands[node as usize] else {
+            return Err(Refused::HandEmpty);
+        };
+        let verdict = self.verdict(node, held);
+        self.hands[node as usize] = None;
+        let record = &mut self.records[held.id as usize];
+        record.act(node, held.way, verdict);
+        if let Verdict::GoesOn(hop) = verdict {
+            let channel = channel_into(&self.topology, hop);
+            self.channels[channel].push(held.id);
+            return Ok(Reply::Sent(held.id, hop.node));
+        }
+        Ok(Reply::Settled(held.id))
+    }
+
+    /// One event. The reply is that of the event's meaning after the history, or its first refusal; a refused event
+    /// changes nothing. Want of memory is answered at Inject, Install, Retire, Down and Up alone.
+    pub fn apply(&mut self, event: Event) -> Result<Reply, Refused>
+        // For every history whose world this is, the reply is the event's meaning after it.
+        ensures history { (log : List Entry) → Shows log self.old → AnswersAfter log event result self.old.opening self.new }
+        ensures refused { IfErr result (λ _. self.new ≡ self.old) }
+        ensures same_opening { self.new.opening ≡ self.old.opening }
+    {
+        // opens the world, for what it keeps
+        let _ = &self.learnt;
+        self.answer(event)
+    }
+
+    /// One step of a run.
+    pub(crate) fn step(&mut self, step: Step) -> Result<Reply, Refused>
+        ensures history { (log : List Entry) → Shows log self.old → StepsAfter log step result self.old.opening self.new }
+        ensures same_opening { self.new.opening ≡ self.old.opening }
+    {
+        match step {
+            Step::Event(event) => self.apply(event),
+            Step::Drain => {
+                self.drain();
+                Ok(Reply::Changed)
+            }
+        }
+    }
+
+    fn answer(&mut self, event: Event) -> Result<Reply, Refused>
+        ensures answer { IsAnswerTo event self.old self.new result }
+        ensures same_opening { self.new.opening ≡ self.old.opening }
+    {
+        match event {
+            Event::Inject(source, dest) => self.inject(source, dest),
+            Event::Learn(epoch) => self.learn(epoch),
+            Event::Take(node, way) => self.take(node, way),
+            Event::Read(node, version) => self.read(node, version),
+            Event::Act(node) => self.act(node),
+            Event::Install(kind, root) => self.install(kind, root),
+            Event::Retire(floor) => self.retire(floor),
+            Event::Down(link) => self.mark(link, false),
+            Event::Up(link) => self.mark(link, true),
+        }
+    }
+
+    /// A packet's record, if there is such a packet.
+    pub fn packet(&self, id: u32) -> Option<&Record>
+        ensures { option_copied result ≡ slice_get self.now.records id }
+    {
+        self.records.get(id as usize)
+    }
+
+    /// How many packets were injected.
+    pub fn packets(&self) -> usize
+        ensures { result ≡ length self.now.records }
+    {
+        self.records.as_slice().len()
+    }
+
+    /// The boards so far; the place is the version.
+    pub fn board_versions(&self) -> &[Board]
+        ensures { result.now ≡ self.now.boards }
+    {
+        self.boards.as_slice()
+    }
+
+    /// How many nodes there are.
+    pub(crate) fn nodes(&self) -> u16
+        ensures count { result ≡ nodes_of self.now.opening }
+        ensures state { IsState self.now }
+    {
+        self.topology.nodes() as u16
+    }
+
+    /// The links of a node's ports in the opening's topology, in order.
+    pub(crate) fn ports(&self, node: u16) -> &[Hop]
+        requires { node < nodes_of self.now.opening }
+        ensures { result.now ≡ ports_of self.now.opening.network node }
+    {
+        self.topology.ports(node as usize)
+    }
+
+    /// The records of all packets, by id.
+    pub fn into_records(self) -> Vec<Record>
+        ensures { result.items ≡ self.records }
+    {
+        let records = self.records;
+        records
+    }
+
+    /// Says what is true of every world: each record is sound.
+    pub fn check(&self)
+        ensures { (log : List Entry) → Shows log self.now → AllSound self.now.opening log }
+    {
+        let _ = &self.learnt;
+    }
+}
+
+/// Why there is no plan.
+enum BuildError {
+    Disconnected,
+    NoMemory,
+}
+
+/// The plan of this kind and root over a topology that has the root.
+fn plan_over(alloc: Global, topology: Topology, kind: Kind, root: u16) -> Result<Plan, BuildError>
+    requires { root < node_count topology }
+    ensures made { IfOk result (λ p. IsMade kind root topology (Some p)) }
+    ensures disconnected { result ≡ Err BuildError.Disconnected → IsMade kind root topology None }
+{
+    match Plan::build(alloc, topology, kind, root) {
+        Ok(plan) => Ok(plan),
+        Err((error, _)) => match error {
+            PlanError::Disconnected => Err(BuildError::Disconnected),
+            PlanError::NoMemory => Err(BuildError::NoMemory),
+            PlanError::Empty | PlanError::NoNode => unreachable!(),
+        },
+    }
+}
+
+/// The plan of this kind and root over the links that are up in a board.
+fn plan_up(
+    alloc: Global,
+    topology: &Topology,
+    board: &Board,
+    kind: Kind,
+    root: u16,
+) -> Result<Plan, BuildError>
+    requires root { root < node_count topology.now }
+    requires links { length topology.now.links ≤ MAX_LINKS }
+    ensures made { IfOk result (λ p. IsMade kind root (restrict (take (length topology.now.links) board.now.up) topology.now) (Some p)) }
+    ensures disconnected { result ≡ Err BuildError.Disconnected → IsMade kind root (restrict (take (length topology.now.links) board.now.up) topology.now) None }
+{
+    let links = topology.links();
+    let Ok(over) = topology.only(alloc, &board.marks()[..links]) else {
+        return Err(BuildError::NoMemory);
+    };
+    plan_over(alloc, over, kind, root)
+}
+
+/// Why no world is opened, before any plan is built.
+pub(crate) fn open_refusal(
+    topology: &Topology,
+    root: u16,
+    capacity: usize,
+    max_packets: usize,
+) -> Option<OpenError>
+    ensures { result ≡ open_refused topology.now root capacity max_packets }
+{
+    let nodes = topology.nodes();
+    if nodes == 0 {
+        return Some(OpenError::Empty);
+    }
+    if nodes <= root as usize {
+        return Some(OpenError::NoNode);
+    }
+    if !is_small(topology, capacity, max_packets) {
+        return Some(OpenError::TooLarge);
+    }
+    None
+}
+
+/// Whether the network, the capacity and the number of packets are within the limits.
+fn is_small(topology: &Topology, capacity: usize, max_packets: usize) -> bool
+    ensures { result ≡ is_small topology.now capacity max_packets }
+{
+    topology.nodes() <= MAX_NODES
+        && topology.links() <= MAX_LINKS
+        && capacity != 0
+        && capacity <= MAX_CAPACITY
+        && max_packets != 0
+        && max_packets <= MAX_PACKETS
+}
+
+/// The number of the channel that a node takes from by this way.
+fn channel_of(topology: &Topology, node: u16, way: Way) -> Option<usize>
+    requires { length topology.now.links ≤ MAX_LINKS }
+    ensures { result ≡ channel_in topology.now node way }
+{
+    match way {
+        Way::Inbox => Some(node as usize),
+        Way::Link(link) => {
+            if link as usize >= topology.links() {
+                return None;
+            }
+            let ends = topology.ends(link);
+            let first = topology.nodes() + 2 * link as usize;
+            if ends.0 == node {
+                Some(first)
+            } else if ends.1 == node {
+                Some(first + 1)
+            } else {
+                None
+            }
+        }
+    }
+}
+
+/// The number of the channel that this hop leads into.
+fn channel_into(topology: &Topology, hop: Hop) -> usize
+    requires { length topology.now.links ≤ MAX_LINKS }
+    ensures { result ≡ unwrap_or (channel_in topology.now hop.node (WayLink hop.link)) 0 }
+{
+    channel_of(topology, hop.node, Way::Link(hop.link)).unwrap_or(0)
+}
+
+fn empty_channels(alloc: Global, count: usize) -> Result<Vec<Queue>, AllocError>
+    ensures { IfOk result (λ v. v.items ≡ replicate count []) }
+{
+    let mut channels = Vec::with_capacity(alloc, count)?;
+    for i in 0..count {
+        let _ = i;
+        channels.push(Queue::new(alloc)?)?;
+    }
+    Ok(channels)
+}
+
+fn empty_hands(alloc: Global, count: usize) -> Result<Vec<Option<Held>>, AllocError>
+    ensures { IfOk result (λ v. v.items ≡ replicate count None) }
+{
+    let mut hands = Vec::with_capacity(alloc, count)?;
+    for i in 0..count {
+        let _ = i;
+        hands.push(None)?;
+    }
+    Ok(hands)
+}
+
+fn first_views(alloc: Global, count: usize) -> Result<Vec<usize>, AllocError>
+    ensures { IfOk result (λ v. v.items ≡ replicate count 0) }
+{
+    let mut views = Vec::with_capacity(alloc, count)?;
+    for i in 0..count {
+        let _ = i;
+        views.push(0)?;
+    }
+    Ok(views)
+}
