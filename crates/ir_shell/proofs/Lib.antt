@@ -5,3 +5,4 @@ pub mod Scripts
 pub mod Worlds
 pub mod Following
 pub mod Tracing
+pub mod PlanLines

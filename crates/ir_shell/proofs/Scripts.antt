@@ -69,7 +69,7 @@ module _ (nodes : List Name) (text : List ℕ) (steps : List Step) (numbers : Li
 
 -- ---- the nodes of the steps
 
-place_within : (p : Name → Bool) (nodes : List Name) (u : ℕ) → position p nodes ≡ Some u → nat_lt u (length nodes) ≡ true
+pub place_within : (p : Name → Bool) (nodes : List Name) (u : ℕ) → position p nodes ≡ Some u → nat_lt u (length nodes) ≡ true
 place_within p nodes u e = by (nat_lt (prefix_len (λ y. not (p y)) nodes) (length nodes)) refl e
   where
     by : (t : Bool) → nat_lt (prefix_len (λ y. not (p y)) nodes) (length nodes) ≡ t → cond t (Some (prefix_len (λ y. not (p y)) nodes)) None ≡ Some u → nat_lt u (length nodes) ≡ true

@@ -10,6 +10,9 @@ pub mod Lines
 pub mod Opening
 pub mod Answer
 pub mod Replies
+pub mod PlanText
+pub mod Plans
+pub mod Asked
 pub mod Writing
 pub mod Replied
 pub mod Ending

@@ -6,7 +6,9 @@ use Rattle.ir_model.specs.declared.Fault.TheVariants as texts
 use Rattle.ir_shell.specs.declared.step.ScriptFault.{ScriptFault}
 use Rattle.ir_shell.specs.declared.step.ScriptFault.TheVariants as scripts
 use Rattle.ir_shell.specs.declared.opening.Refusal.{Refusal}
-use Rattle.ir_shell.specs.declared.opening.Refusal.TheVariants.{Empty, TooLarge, Disconnected}
+use Rattle.ir_shell.specs.declared.opening.Refusal.TheVariants.{Empty, NoNode, TooLarge, Disconnected}
+use Rattle.ir_shell.specs.declared.read.Source.{Source}
+use Rattle.ir_shell.specs.declared.read.Source.TheVariants.{Input, Topology}
 
 abbrev pub fault_name : Fault → List ℕ
 fault_name texts.BadByte = codes "BadByte"
@@ -27,6 +29,7 @@ script_fault_name scripts.NoMemory = codes "NoMemory"
 
 abbrev pub refusal_name : Refusal → List ℕ
 refusal_name Empty = codes "Empty"
+refusal_name NoNode = codes "NoNode"
 refusal_name TooLarge = codes "TooLarge"
 refusal_name Disconnected = codes "Disconnected"
 
@@ -42,11 +45,15 @@ script_line f = numbered_line (codes "script") f.0 (script_fault_name f.1)
 abbrev pub opening_line : Refusal → List ℕ
 opening_line e = codes "opening " ++ refusal_name e ++ 10 ∷ []
 
-abbrev pub unreadable_line : List ℕ
-unreadable_line = codes "input unreadable\n"
+abbrev pub source_name : Source → List ℕ
+source_name Input = codes "input"
+source_name Topology = codes "topology"
 
-abbrev pub too_large_line : List ℕ
-too_large_line = codes "input too large\n"
+abbrev pub unreadable_line : Source → List ℕ
+unreadable_line source = source_name source ++ codes " unreadable\n"
+
+abbrev pub too_large_line : Source → List ℕ
+too_large_line source = source_name source ++ codes " too large\n"
 
 abbrev pub unwritable_line : List ℕ
 unwritable_line = codes "output unwritable\n"

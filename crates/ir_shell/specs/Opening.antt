@@ -4,7 +4,7 @@ use Rattle.ir_model.specs.Network.{Network, node_count}
 use Rattle.ir_model.specs.Walk.{IsConnected, IsDisconnected}
 use Rattle.ir_shell.specs.declared.TheConstants.{MAX_NETWORK_NODES, MAX_NETWORK_LINKS}
 use Rattle.ir_shell.specs.declared.opening.Refusal.{Refusal}
-use Rattle.ir_shell.specs.declared.opening.Refusal.TheVariants.{Empty, TooLarge, Disconnected}
+use Rattle.ir_shell.specs.declared.opening.Refusal.TheVariants.{Empty, NoNode, TooLarge, Disconnected}
 use Rattle.ir_shell.specs.declared.opening.NoTable.{NoTable}
 use Rattle.ir_shell.specs.declared.opening.NoTable.TheVariants.{Refused, NoMemory}
 
@@ -20,6 +20,7 @@ Opens net = IsOfSize net × IsConnected net
 -- the refusals, in order
 abbrev pub RefusesOpening : Network → Refusal → Type 0
 RefusesOpening net Empty = node_count net ≡ 0
+RefusesOpening net NoNode = ⊥
 RefusesOpening net TooLarge = (0 < node_count net) × ((MAX_NETWORK_NODES < node_count net) ⊎ (MAX_NETWORK_LINKS < length net.links))
 RefusesOpening net Disconnected = IsOfSize net × IsDisconnected net
 

@@ -7,19 +7,27 @@ mod cut;
 mod ending;
 mod lines;
 mod opening;
+mod plan;
+mod plan_text;
+mod planning;
 mod read;
+mod reply;
 mod script;
 mod sim;
 mod step;
 mod text;
 mod trace;
 mod walk;
+mod words;
 mod world;
 mod write;
 
+pub use planning::run_plan;
+pub use read::Source;
 pub use script::{Script, parse_script};
 pub use sim::run_sim;
 pub use step::{ScriptError, ScriptFault, Step};
+pub use words::{Format, Sub, Words, WordsError, read_words};
 
 /// The most bytes of an input.
 pub const MAX_INPUT_BYTES: usize = 16_777_216;

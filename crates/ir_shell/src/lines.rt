@@ -1,8 +1,9 @@
 //! The lines that tell of a refused input.
 ghost use Rattle.std.specs.Prelude.{◌≡◌, IfOk, string_bytes};
-ghost use Rattle.ir_shell.specs.Lines.{fault_name, script_fault_name, refusal_name, topology_line, script_line, opening_line};
+ghost use Rattle.ir_shell.specs.Lines.{fault_name, script_fault_name, refusal_name, topology_line, script_line, opening_line, unreadable_line, too_large_line};
 
 use crate::opening::Refusal;
+use crate::read::Source;
 use crate::step::ScriptFault;
 use crate::text::push_line;
 use ir_model::Fault;
@@ -35,11 +36,32 @@ fn script_fault_name(kind: ScriptFault) -> &'static str
     }
 }
 
+/// The text for an input that can't be read.
+pub fn unreadable_line(source: Source) -> &'static str
+    ensures { result.now ≡ unreadable_line source }
+{
+    match source {
+        Source::Input => "input unreadable\n",
+        Source::Topology => "topology unreadable\n",
+    }
+}
+
+/// The text for an input with too many bytes.
+pub fn too_large_line(source: Source) -> &'static str
+    ensures { result.now ≡ too_large_line source }
+{
+    match source {
+        Source::Input => "input too large\n",
+        Source::Topology => "topology too large\n",
+    }
+}
+
 fn refusal_name(refusal: Refusal) -> &'static str
     ensures { result.now ≡ refusal_name refusal }
 {
     match refusal {
         Refusal::Empty => "Empty",
+        Refusal::NoNode => "NoNode",
         Refusal::TooLarge => "TooLarge",
         Refusal::Disconnected => "Disconnected",
     }

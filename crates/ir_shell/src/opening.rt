@@ -12,6 +12,8 @@ use std::alloc::Global;
 pub enum Refusal {
     /// There is no node.
     Empty,
+    /// The root is no node.
+    NoNode,
     /// There are too many nodes or links.
     TooLarge,
     /// Some node has no walk to some node.

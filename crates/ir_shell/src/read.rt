@@ -5,6 +5,13 @@ use crate::{MAX_INPUT_BYTES, MAX_READS};
 use std::alloc::Global;
 use std::io::Read;
 
+/// Which input is read: the one for several texts, or a file.
+#[derive(Clone, Copy, Debug, PartialEq, Eq)]
+pub enum Source {
+    Input,
+    Topology,
+}
+
 /// Why an input was not read.
 #[derive(Clone, Copy, Debug, PartialEq, Eq)]
 pub enum NoInput {

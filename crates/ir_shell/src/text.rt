@@ -1,7 +1,10 @@
 //! Words and numbers at the end of a text.
-ghost use Rattle.std.specs.Prelude.{◌≡◌, ◌++◌, OnOk, string_bytes, decimal};
+ghost use Rattle.std.specs.Prelude.{◌≡◌, ◌<◌, ◌++◌, OnOk, length, string_bytes, decimal};
+ghost use Rattle.ir_model.specs.Graph.{names};
 ghost use Rattle.ir_shell.specs.Words.{spaced, numbered_line};
+ghost use Rattle.ir_shell.specs.Trace.{name_at};
 
+use ir_graph::Graph;
 use std::alloc::AllocError;
 
 /// Writes a number.
@@ -25,6 +28,22 @@ pub fn push_word(text: &mut String, word: &str) -> Result<(), AllocError>
 {
     text.push_str(" ")?;
     text.push_str(word)
+}
+
+/// The name of a node.
+pub fn name_of(graph: &Graph, u: u16) -> &str
+    requires { u < length graph.now }
+    ensures { result.now ≡ name_at (names graph.now) u }
+{
+    graph.node(u as usize).unwrap()
+}
+
+/// Writes a space and the name of a node.
+pub fn push_name(text: &mut String, graph: &Graph, u: u16) -> Result<(), AllocError>
+    requires { u < length graph.now }
+    ensures { OnOk result (string_bytes text.new ≡ string_bytes text.old ++ spaced (name_at (names graph.now) u)) }
+{
+    push_word(text, name_of(graph, u))
 }
 
 /// Writes a line that says what is wrong where: a word, the number of a line, and a name.

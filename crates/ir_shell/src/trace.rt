@@ -10,7 +10,7 @@ ghost use Rattle.ir_shell.specs.Trace.{fate_text, name_at, row_text, IsRow};
 ghost use Rattle.ir_shell.specs.Traced.{IsTraced};
 ghost use Rattle.ir_shell.specs.Rows.{row_of, is_row_within, is_packet_within};
 
-use crate::text::{push_next_number, push_number, push_word};
+use crate::text::{push_name, push_next_number, push_number, push_word};
 use crate::walk::prescribed_walk;
 use crate::world::Packet;
 use ir_graph::Graph;
@@ -87,14 +87,6 @@ fn fate_text(fate: Fate) -> &'static str
         Fate::Delivered => "delivered",
         Fate::Left => "left",
     }
-}
-
-/// Writes a space and the name of a node.
-fn push_name(text: &mut String, graph: &Graph, u: u16) -> Result<(), AllocError>
-    requires { u < length graph.now }
-    ensures { OnOk result (string_bytes text.new ≡ string_bytes text.old ++ spaced (name_at (names graph.now) u)) }
-{
-    push_word(text, graph.node(u as usize).unwrap())
 }
 
 /// Writes the hops of a row.
