@@ -1,0 +1,6 @@
+pub mod Adding
+pub mod Fronts
+pub mod Lasts
+pub mod Overs
+pub mod Rising
+pub mod Steps

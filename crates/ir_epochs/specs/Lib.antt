@@ -1,0 +1,7 @@
+pub mod Chronicle
+pub mod Codes
+pub mod Entries
+pub mod Handles
+pub mod Over
+pub mod Seats
+pub mod Stamps

@@ -1,0 +1,43 @@
+//! Why a plan was not registered, and why a board was not opened.
+ghost use Rattle.std.specs.Prelude.{◌≡◌};
+ghost use Rattle.ir_epochs.specs.Codes.{register_code, board_code};
+
+/// Why a plan was not registered.
+#[derive(Clone, Copy, PartialEq, Eq, Debug)]
+pub enum RegisterError {
+    /// The epoch's cell was set before.
+    Used,
+    NoMemory,
+}
+
+/// Why a board was not opened.
+#[derive(Clone, Copy, PartialEq, Eq, Debug)]
+pub enum BoardError {
+    /// No place is left for a reader.
+    TooManyReaders,
+    NoMemory,
+}
+
+impl RegisterError {
+    /// Its number: 1 for `Used`, 2 for `NoMemory`.
+    pub fn code(self) -> u32
+        ensures { result ≡ register_code self }
+    {
+        match self {
+            RegisterError::Used => 1,
+            RegisterError::NoMemory => 2,
+        }
+    }
+}
+
+impl BoardError {
+    /// Its number: 1 for `TooManyReaders`, 2 for `NoMemory`.
+    pub fn code(self) -> u32
+        ensures { result ≡ board_code self }
+    {
+        match self {
+            BoardError::TooManyReaders => 1,
+            BoardError::NoMemory => 2,
+        }
+    }
+}

@@ -1,0 +1,59 @@
+//! A board with its writer and its readers.
+ghost use Rattle.std.specs.Prelude.{◌≡◌, ◌^◌, ◌<◌, ◌≤◌, [], ◌∷◌, length, All, IfOk};
+ghost use Rattle.ir_core.specs.declared.TheConstants.{MAX_LINKS};
+ghost use Rattle.ir_epochs.specs.Stamps.{knows};
+ghost use Rattle.ir_epochs.specs.declared.entry.Entry.TheVariants.{Opened};
+ghost use Rattle.ir_epochs.specs.Handles.{published, known, writer_board, reader_board};
+
+use crate::error::BoardError;
+use crate::handles::{BoardReader, BoardWriter};
+use crate::registry::Stamp;
+use std::alloc::Global;
+use std::sync::Wait;
+
+// So many readers, which know the board as it is.
+fn seats<R: Wait + Drop>(
+    alloc: Global,
+    writer: &mut BoardWriter<R>,
+    readers: usize,
+) -> Result<Vec<BoardReader>, BoardError>
+    ensures same { (published writer.new ≡ published writer.old) × (writer_board writer.new ≡ writer_board writer.old) }
+    ensures count { IfOk result (λ r. length r.items ≡ readers) }
+    ensures each { IfOk result (λ r. All (λ x. (known x ≡ published writer.old) × (reader_board x ≡ writer_board writer.old)) r.items) }
+{
+    let mut seats = Vec::new(alloc);
+    for _ in 0..readers {
+        let Ok(reader) = writer.reader() else {
+            return Err(BoardError::TooManyReaders);
+        };
+        let Ok(()) = seats.push(reader) else {
+            return Err(BoardError::NoMemory);
+        };
+    }
+    Ok(seats)
+}
+
+/// Opens a board over the stamp of epoch 1, whose plan's network has so many links, with so many readers.
+///
+/// All links are up, and each reader knows the opening.
+pub fn board<R: Wait + Drop>(
+    rt: R,
+    alloc: Global,
+    opening: &Stamp,
+    links: u16,
+    readers: usize,
+) -> Result<(BoardWriter<R>, Vec<BoardReader>), BoardError>
+    requires readers { (0 < readers) × (readers < 2 ^ 32) }
+    requires epoch { opening.now.epoch ≡ 1 }
+    requires links { length (knows opening.now).network.links ≡ links }
+    requires few { links ≤ MAX_LINKS }
+    ensures writer { IfOk result (λ r. published r.0 ≡ Opened links opening.now ∷ []) }
+    ensures count { IfOk result (λ r. length r.1.items ≡ readers) }
+    ensures each { IfOk result (λ r. All (λ x. (known x ≡ published r.0) × (reader_board x ≡ writer_board r.0)) r.1.items) }
+{
+    let mut writer = BoardWriter::open(rt, alloc, opening, links, readers).map_err(
+        |_| BoardError::NoMemory,
+    )?;
+    let seats = seats(alloc, &mut writer, readers)?;
+    Ok((writer, seats))
+}
