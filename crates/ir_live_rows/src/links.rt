@@ -1,0 +1,152 @@
+//! Channels: three items over two slots by hand, and ten thousand over four slots between two threads.
+ghost use Rattle.std.specs.Prelude.{◌≡◌, IfOk};
+
+use ir_links::{Bound, Channel, Sender, Taker, settle, settle_into};
+use std::alloc::{AllocError, Global};
+use std::sync::Wait;
+use std::test::*;
+use std::thread;
+use std::thread::Threads;
+
+#[derive(Drop)]
+struct Letter {
+    id: u32,
+    hops: Vec<u16>,
+    next: u16,
+}
+
+#[derive(Drop)]
+struct Way {
+    to: u16,
+}
+
+impl Bound for Letter {
+    type Place = Way;
+
+    ghost id_of = { λ letter. letter.id };
+
+    ghost goes_to = { λ letter way. letter.next ≡ way.to };
+
+    fn id(&self) -> u32 {
+        self.id
+    }
+}
+
+fn written(alloc: Global, id: u32, next: u16) -> Result<Letter, AllocError>
+    ensures { IfOk result (λ l. l.next ≡ next) }
+{
+    let mut hops = Vec::new(alloc);
+    hops.push(next)?;
+    Ok(Letter { id, hops, next })
+}
+
+// Sends the letter where the sender leads. It comes back where the channel is full.
+fn post<R: Wait>(rt: &R, sender: &mut Sender<Letter>, mut letter: Letter) -> Option<Letter>
+    ensures { sender.new.line ≡ sender.old.line }
+{
+    letter.next = sender.place().to;
+    match sender.send(rt, letter) {
+        Ok(()) => None,
+        Err(full) => Some(full.item),
+    }
+}
+
+fn id_of(item: Option<Letter>) -> Option<u32> {
+    Some(item?.id())
+}
+
+#[test]
+fn two_fit_and_the_third_comes_back(rt: HostRuntime) -> Result<(), Fail> {
+    let alloc = rt.alloc();
+    let channel: Channel<Letter> = Channel::new(alloc, 2, Way { to: 7 })?;
+    let Some((mut sender, mut taker)) = channel.ends()? else {
+        panic!(rt; "the ends were not given")
+    };
+    assert!(rt; sender.place().to == 7 && channel.ends()?.is_none());
+    let first = post(&rt, &mut sender, written(alloc, 0, 0)?);
+    let second = post(&rt, &mut sender, written(alloc, 1, 0)?);
+    let third = post(&rt, &mut sender, written(alloc, 2, 0)?);
+    assert!(rt; first.is_none() && second.is_none());
+    assert_eq!(rt; id_of(third), Some(2));
+    assert_eq!(rt; id_of(taker.take(&rt)), Some(0));
+    let Ok(left) = settle(&rt, alloc, sender, taker) else {
+        panic!(rt; "no memory")
+    };
+    assert_eq!(rt; left.len(), 1);
+    for letter in &left {
+        assert!(rt; letter.id() == 1 && letter.hops.len() == 1);
+    }
+    assert!(rt; channel.ends()?.is_none());
+    Ok(())
+}
+
+fn send_ids<R: Wait>(
+    rt: &R,
+    alloc: Global,
+    mut sender: Sender<Letter>,
+    count: u32,
+) -> Result<Sender<Letter>, AllocError>
+    ensures { IfOk result (λ s. s.line ≡ sender.line) }
+{
+    for id in 0..count {
+        let mut waiting = Some(written(alloc, id, 0)?);
+        for _ in rt.forever() {
+            let Some(letter) = waiting else {
+                break;
+            };
+            waiting = post(rt, &mut sender, letter);
+            thread::yield_now();
+        }
+    }
+    Ok(sender)
+}
+
+// True if the ids are 0 and up, in order.
+fn take_ids<R: Wait>(rt: &R, mut taker: Taker<Letter>, count: u32) -> (Taker<Letter>, bool)
+    ensures { result.0.line ≡ taker.line }
+{
+    let mut next = 0;
+    let mut in_order = true;
+    for _ in rt.forever() {
+        if next >= count {
+            break;
+        }
+        match taker.take(rt) {
+            Some(letter) => {
+                in_order = in_order && letter.id() == next;
+                next += 1;
+            }
+            None => thread::yield_now(),
+        }
+    }
+    (taker, in_order)
+}
+
+fn through<R: Threads + Wait + Sync>(
+    rt: &R,
+    alloc: Global,
+    count: u32,
+) -> Result<Option<bool>, AllocError> {
+    let channel: Channel<Letter> = Channel::new(alloc, 4, Way { to: 7 })?;
+    let mut rest = Vec::with_capacity(alloc, 4)?;
+    let Some((sender, taker)) = channel.ends()? else {
+        return Ok(None);
+    };
+    let (sender, (taker, in_order)) = thread::join(
+        rt,
+        move || -> Result<Sender<Letter>, AllocError>
+            ensures { IfOk result (λ s. s.line ≡ sender.line) }
+        { send_ids(rt, alloc, sender, count) },
+        move || -> (Taker<Letter>, bool)
+            ensures { result.0.line ≡ taker.line }
+        { take_ids(rt, taker, count) },
+    );
+    settle_into(rt, sender?, taker, &mut rest);
+    Ok(Some(in_order && rest.is_empty()))
+}
+
+#[test]
+fn ten_thousand_in_order_between_two_threads(rt: HostRuntime) -> Result<(), Fail> {
+    assert_eq!(rt; through(&rt, rt.alloc(), 10_000)?, Some(true));
+    Ok(())
+}
