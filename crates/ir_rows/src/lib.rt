@@ -1,0 +1,17 @@
+//! Tests: worked examples through the public calls of the crates below.
+#![tactic(auto)]
+
+#[cfg(test)]
+mod compiled;
+#[cfg(test)]
+mod graphs;
+#[cfg(test)]
+mod numbers;
+#[cfg(test)]
+mod plans;
+#[cfg(test)]
+mod runs;
+#[cfg(test)]
+mod tables;
+#[cfg(test)]
+mod texts;
