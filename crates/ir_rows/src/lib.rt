@@ -10,8 +10,6 @@ mod numbers;
 #[cfg(test)]
 mod plans;
 #[cfg(test)]
-mod runs;
-#[cfg(test)]
 mod tables;
 #[cfg(test)]
 mod texts;
