@@ -10,6 +10,8 @@ mod numbers;
 #[cfg(test)]
 mod plans;
 #[cfg(test)]
+mod programs;
+#[cfg(test)]
 mod runs;
 #[cfg(test)]
 mod tables;
