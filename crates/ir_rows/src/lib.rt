@@ -12,6 +12,8 @@ mod plans;
 #[cfg(test)]
 mod programs;
 #[cfg(test)]
+mod rings;
+#[cfg(test)]
 mod runs;
 #[cfg(test)]
 mod tables;

@@ -1,7 +1,7 @@
 //! The runs of `route`, over texts in memory.
 
-use ir_shell::{Format, Sub, Words, WordsError, read_words, run_plan};
 use ir_core::Kind;
+use ir_shell::{Format, Sub, Words, WordsError, read_words, run_plan};
 use std::alloc::Global;
 use std::test::Fail;
 
@@ -36,9 +36,11 @@ fn planned(
     let mut out: Vec<u8> = Vec::new(alloc);
     let mut told: Vec<u8> = Vec::new(alloc);
     let ended = run_plan(alloc, &words, &mut inputs, &mut out, &mut told);
-    Ok(ended == status
-        && out.as_slice() == output.as_bytes()
-        && told.as_slice() == faults.as_bytes())
+    Ok(
+        ended == status
+            && out.as_slice() == output.as_bytes()
+            && told.as_slice() == faults.as_bytes(),
+    )
 }
 
 const HEAVY: &str = "u p 1\nu q 1\np q 9\nq r 1\nq t 9\np t 1\nq s 1\n";
@@ -55,15 +57,30 @@ fn words_by_default(rt: HostRuntime) -> Result<(), Fail> {
     assert!(rt; words.capacity == 16);
     assert!(rt; words.packets == 4096);
     assert!(rt; words.files.len() == 1);
-    assert!(rt; words.files.first().is_some_and(|name| name.as_str() == "file"));
+    assert!(rt;
+        words
+            .files
+            .first()
+            .is_some_and(|name| name.as_str() == "file")
+    );
     Ok(())
 }
 
 #[test]
 fn words_that_are_given(rt: HostRuntime) -> Result<(), Fail> {
     let given = [
-        "plan", "--format", "edgelist", "--kind", "tree", "--root", "b", "--capacity", "1",
-        "--packets", "2", "-",
+        "plan",
+        "--format",
+        "edgelist",
+        "--kind",
+        "tree",
+        "--root",
+        "b",
+        "--capacity",
+        "1",
+        "--packets",
+        "2",
+        "-",
     ];
     let Ok(words) = asked(rt.alloc(), &given)? else {
         return Err("the words are refused".into());
@@ -144,15 +161,19 @@ fn plan_of_a_ring_of_four(rt: HostRuntime) -> Result<(), Fail> {
 #[test]
 fn plan_of_a_weighted_graph(rt: HostRuntime) -> Result<(), Fail> {
     let words = ["plan", "--format", "edgelist", "--root", "u", "-"];
-    let text = "plan shortest 6 13\nu 0 1 p 2 q 4 p 5 q\np 1 4 t 5 u\nq 2 0 u 3 r 4 u 5 s\nr 3 4 q\nt 4 5 p\ns 5 0 q\n";
+    let text =
+        "plan shortest 6 13\nu 0 1 p 2 q 4 p 5 q\np 1 4 t 5 u\nq 2 0 u 3 r 4 u 5 s\nr 3 4 q\nt 4 5 p\ns 5 0 q\n";
     assert!(rt; planned(rt.alloc(), &words, HEAVY, 0, text, "")?);
     Ok(())
 }
 
 #[test]
 fn plan_of_a_weighted_graph_by_the_tree(rt: HostRuntime) -> Result<(), Fail> {
-    let words = ["plan", "--format", "edgelist", "--kind", "tree", "--root", "u", "-"];
-    let text = "plan tree 6 10\nu 0 1 p\np 1 0 u 2 q\nq 2 0 p 3 r 4 t 5 s\nr 3 4 q\nt 4 5 q\ns 5 0 q\n";
+    let words = [
+        "plan", "--format", "edgelist", "--kind", "tree", "--root", "u", "-",
+    ];
+    let text =
+        "plan tree 6 10\nu 0 1 p\np 1 0 u 2 q\nq 2 0 p 3 r 4 t 5 s\nr 3 4 q\nt 4 5 q\ns 5 0 q\n";
     assert!(rt; planned(rt.alloc(), &words, HEAVY, 0, text, "")?);
     Ok(())
 }
@@ -160,12 +181,30 @@ fn plan_of_a_weighted_graph_by_the_tree(rt: HostRuntime) -> Result<(), Fail> {
 #[test]
 fn plans_that_are_refused(rt: HostRuntime) -> Result<(), Fail> {
     let words = ["plan", "topology"];
-    assert!(rt; planned(rt.alloc(), &words, "a\nb\n", 1, "", "opening Disconnected\n")?);
+    assert!(rt;
+        planned(
+            rt.alloc(),
+            &words,
+            "a\nb\n",
+            1,
+            "",
+            "opening Disconnected\n"
+        )?
+    );
     assert!(rt; planned(rt.alloc(), &words, "", 1, "", "opening Empty\n")?);
     let rooted = ["plan", "--root", "z", "topology"];
     assert!(rt; planned(rt.alloc(), &rooted, "a b\nb c\n", 1, "", "opening NoNode\n")?);
     assert!(rt; planned(rt.alloc(), &rooted, "", 1, "", "opening Empty\n")?);
     let edges = ["plan", "--format", "edgelist", "topology"];
-    assert!(rt; planned(rt.alloc(), &edges, "a b 2.5\n", 1, "", "topology 1 BadWeight\n")?);
+    assert!(rt;
+        planned(
+            rt.alloc(),
+            &edges,
+            "a b 2.5\n",
+            1,
+            "",
+            "topology 1 BadWeight\n"
+        )?
+    );
     Ok(())
 }

@@ -1,0 +1,140 @@
+//! Runs over rings at the limits of a network.
+
+use ir_core::{
+    Board, Event, Fate, Kind, OpenError, Opening, Played, Refused, Reply, Step, World, play,
+};
+use ir_graph::Graph;
+use ir_tables::Topology;
+use std::alloc::Global;
+use std::test::Fail;
+
+/// A ring of so many nodes, n0 to the last.
+fn ring(alloc: Global, nodes: u16) -> Result<Topology, Fail> {
+    let mut graph = Graph::new(alloc);
+    for u in 0..nodes {
+        let v = if u < nodes - 1 { u + 1 } else { 0 };
+        let from = format!(in alloc; "n{u}")?;
+        let to = format!(in alloc; "n{v}")?;
+        let Ok(_) = graph.add_edge(from.as_str(), to.as_str(), 1) else {
+            return Err("the edge is refused".into());
+        };
+    }
+    Ok(Topology::of(alloc, &graph)?)
+}
+
+fn opening(topology: Topology) -> Opening {
+    Opening {
+        topology,
+        kind: Kind::Shortest,
+        root: 0,
+        capacity: 1024,
+        max_packets: 4096,
+    }
+}
+
+/// So many injections, each to the node across a ring of 64.
+fn injections(alloc: Global, count: u16) -> Result<Vec<Step>, Fail> {
+    let mut steps = Vec::new(alloc);
+    for k in 0..count {
+        let source = k % 64;
+        let across = if source < 32 {
+            source + 32
+        } else {
+            source - 32
+        };
+        steps.push(Step::Event(Event::Inject(source, across)))?;
+    }
+    Ok(steps)
+}
+
+/// How many records end so.
+fn ended(played: &Played, fate: Fate) -> usize {
+    let mut count = 0;
+    for id in 0..4096 {
+        if let Some(record) = played.world.packet(id) {
+            if record.fate == fate && count < 4096 {
+                count += 1;
+            }
+        }
+    }
+    count
+}
+
+#[test]
+fn as_many_packets_as_there_may_be(rt: HostRuntime) -> Result<(), Fail> {
+    let steps = injections(rt.alloc(), 4097)?;
+    let topology = ring(rt.alloc(), 64)?;
+    let Ok(played) = play(rt.alloc(), opening(topology), steps.as_slice()) else {
+        return Err("not opened".into());
+    };
+    assert!(rt; played.world.packets() == 4096);
+    let last = played.replies.get(4095).copied();
+    assert!(rt; matches!(last, Some(Ok(Reply::Injected(4095)))));
+    let next = played.replies.get(4096).copied();
+    assert!(rt; matches!(next, Some(Err(Refused::TooManyPackets))));
+    assert!(rt; ended(&played, Fate::Left) == 4096);
+    Ok(())
+}
+
+#[test]
+fn a_drain_delivers_them_all(rt: HostRuntime) -> Result<(), Fail> {
+    let mut steps = injections(rt.alloc(), 4096)?;
+    steps.push(Step::Drain)?;
+    let topology = ring(rt.alloc(), 64)?;
+    let Ok(played) = play(rt.alloc(), opening(topology), steps.as_slice()) else {
+        return Err("not opened".into());
+    };
+    assert!(rt; ended(&played, Fate::Delivered) == 4096);
+    Ok(())
+}
+
+#[test]
+fn a_ring_of_65_is_too_large(rt: HostRuntime) -> Result<(), Fail> {
+    let topology = ring(rt.alloc(), 65)?;
+    let refused = play(rt.alloc(), opening(topology), &[]);
+    assert!(rt; matches!(refused, Err(OpenError::TooLarge)));
+    Ok(())
+}
+
+#[test]
+fn a_view_is_the_version_read_last(rt: HostRuntime) -> Result<(), Fail> {
+    let topology = ring(rt.alloc(), 3)?;
+    let Ok(mut world) = World::new(rt.alloc(), topology, Kind::Tree, 0, 16, 4096) else {
+        return Err("not opened".into());
+    };
+    let Ok(_) = world.apply(Event::Down(0)) else {
+        return Err("refused".into());
+    };
+    let Ok(_) = world.apply(Event::Read(1, 1)) else {
+        return Err("refused".into());
+    };
+    assert!(rt; world.board_versions().len() == 2);
+    let newest: Option<Board> = world.board_versions().get(1).copied();
+    assert!(rt; newest.is_some_and(|board| !board.is_up(0) && board.is_up(1)));
+    assert!(rt; world.nodes() == 3);
+    if world.nodes() > 1 {
+        assert!(rt; world.view(0) == 0);
+        assert!(rt; world.view(1) == 1);
+    }
+    Ok(())
+}
+
+#[test]
+fn records_are_handed_out_by_id(rt: HostRuntime) -> Result<(), Fail> {
+    let topology = ring(rt.alloc(), 3)?;
+    let Ok(mut world) = World::new(rt.alloc(), topology, Kind::Tree, 0, 16, 4096) else {
+        return Err("not opened".into());
+    };
+    let Ok(_) = world.apply(Event::Inject(0, 2)) else {
+        return Err("refused".into());
+    };
+    world.drain();
+    let records = world.into_records();
+    assert!(rt; records.len() == 1);
+    assert!(rt;
+        records
+            .first()
+            .is_some_and(|record| record.id == 0 && record.fate == Fate::Delivered)
+    );
+    Ok(())
+}
