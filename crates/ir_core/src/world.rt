@@ -421,8 +421,8 @@ impl World {
         self.boards.as_slice()
     }
 
-    /// How many nodes there are.
-    pub(crate) fn nodes(&self) -> u16
+    /// How many nodes there are, as a node that `view` takes is one of them.
+    pub fn nodes(&self) -> u16
         ensures count { result ≡ nodes_of self.now.opening }
         ensures state { IsState self.now }
     {

@@ -1,0 +1,2 @@
+//! Scripts: lists of steps, each a line of text.
+#![tactic(auto)]
