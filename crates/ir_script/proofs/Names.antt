@@ -1,8 +1,8 @@
 -- What is no text is no node's name.
-use Rattle.std.proofs.Common.{◌≡◌, ◌<◌, ℕ, Bool, true, false, not, cond, List, [], ◌∷◌, length, None, Some, position, nat_lt, IsUtf8, bytes_eq, refl, ap, subst, sym, ◌∙◌, arith, ◌&&◌}
+use Rattle.std.proofs.Common.{◌≡◌, Bool, true, false, not, cond, List, [], ◌∷◌, length, None, Some, position, nat_lt, IsUtf8, bytes_eq, refl, subst, sym, arith}
 use Rattle.std.specs.List.{prefix_len, list_all}
 use Rattle.std.proofs.lemmas.Bool.{ltb-true, and_parts, and_from}
-use Rattle.ir_model.specs.Graph.{Name, Neighbors, Adjacency, names, is_name, is_weight, is_row}
+use Rattle.ir_model.specs.Graph.{Name, Adjacency, names, is_name, is_weight, is_row}
 use Rattle.ir_model.proofs.Names.{same_names}
 use Rattle.ir_adjlist.proofs.Names.{utf8_from_named}
 use Rattle.ir_adjlist.proofs.Spelling.{prefix_all}

@@ -33,11 +33,12 @@ listing_from nodes net n (l ∷ ls) = with_line n (line_step nodes net l) (listi
 abbrev pub listing_of : List Name → Network → List (List ℕ) → Result Listing (ℕ × ScriptFault)
 listing_of nodes net ls = listing_from nodes net 1 ls
 
--- The error is the first fault of the script, with its line. Want of memory has line 0.
+-- a line and a kind of fault are the first fault of what is said; want of memory has line 0
 abbrev pub ScriptToldAt : ℕ → ScriptFault → Result Listing (ℕ × ScriptFault) → Type 0
 ScriptToldAt line NoMemory said = line ≡ 0
 ScriptToldAt line kind said = said ≡ Err (line, kind)
 
+-- The error is the first fault of the script, with its line. Want of memory has line 0.
 abbrev pub ScriptTold : ScriptError → Result Listing (ℕ × ScriptFault) → Type 0
 ScriptTold e said = ScriptToldAt e.line e.kind said
 

@@ -8,12 +8,15 @@ use Rattle.ir_core.specs.declared.event.Event.TheVariants.{Inject, Learn, Take, 
 use Rattle.ir_core.specs.declared.event.Step.{Step}
 use Rattle.ir_core.specs.declared.event.Step.TheVariants as step
 
+-- the number is a node's
 abbrev pub is_node : Network → ℕ → Bool
 is_node net u = nat_lt u (node_count net)
 
+-- the number is a link's
 abbrev pub is_link : Network → ℕ → Bool
 is_link net l = nat_lt l (length net.links)
 
+-- the inbox, or a link of the network
 abbrev pub is_way_within : Network → Way → Bool
 is_way_within net Inbox = true
 is_way_within net (Link l) = is_link net l

@@ -13,17 +13,17 @@ use ir_graph::Graph;
 use ir_tables::Topology;
 
 /// The event of a first word that one follows.
-fn event_of_one(graph: &Graph, word: &[u8], a: &[u8]) -> Result<Event, ScriptFault>
-    ensures { result ≡ event_of_one (names graph.now) word.now a.now }
+fn event_of_one(graph: &Graph, command: &[u8], first: &[u8]) -> Result<Event, ScriptFault>
+    ensures { result ≡ event_of_one (names graph.now) command.now first.now }
 {
-    if word == b"act".as_slice() {
-        return Ok(Event::Act(node_of(graph, a)?));
+    if command == b"act".as_slice() {
+        return Ok(Event::Act(node_of(graph, first)?));
     }
-    if word == b"learn".as_slice() {
-        return Ok(Event::Learn(number_of(a)?));
+    if command == b"learn".as_slice() {
+        return Ok(Event::Learn(number_of(first)?));
     }
-    if word == b"retire".as_slice() {
-        return Ok(Event::Retire(number_of(a)?));
+    if command == b"retire".as_slice() {
+        return Ok(Event::Retire(number_of(first)?));
     }
     Err(ScriptFault::BadCommand)
 }
@@ -32,33 +32,33 @@ fn event_of_one(graph: &Graph, word: &[u8], a: &[u8]) -> Result<Event, ScriptFau
 fn event_of_two(
     graph: &Graph,
     topology: &Topology,
-    word: &[u8],
-    a: &[u8],
-    b: &[u8],
+    command: &[u8],
+    first: &[u8],
+    second: &[u8],
 ) -> Result<Event, ScriptFault>
     requires { topology.now ≡ network_of_graph graph.now }
-    ensures { result ≡ event_of_two (names graph.now) topology.now word.now a.now b.now }
+    ensures { result ≡ event_of_two (names graph.now) topology.now command.now first.now second.now }
 {
-    if word == b"inject".as_slice() {
-        return Ok(Event::Inject(node_of(graph, a)?, node_of(graph, b)?));
+    if command == b"inject".as_slice() {
+        return Ok(Event::Inject(node_of(graph, first)?, node_of(graph, second)?));
     }
-    if word == b"down".as_slice() {
-        return Ok(Event::Down(link_of(graph, topology, a, b)?));
+    if command == b"down".as_slice() {
+        return Ok(Event::Down(link_of(graph, topology, first, second)?));
     }
-    if word == b"up".as_slice() {
-        return Ok(Event::Up(link_of(graph, topology, a, b)?));
+    if command == b"up".as_slice() {
+        return Ok(Event::Up(link_of(graph, topology, first, second)?));
     }
-    if word == b"read".as_slice() {
-        return Ok(Event::Read(node_of(graph, a)?, number_of(b)? as usize));
+    if command == b"read".as_slice() {
+        return Ok(Event::Read(node_of(graph, first)?, number_of(second)? as usize));
     }
-    if word == b"take".as_slice() && b == b"inbox".as_slice() {
-        return Ok(Event::Take(node_of(graph, a)?, Way::Inbox));
+    if command == b"take".as_slice() && second == b"inbox".as_slice() {
+        return Ok(Event::Take(node_of(graph, first)?, Way::Inbox));
     }
-    if word == b"install".as_slice() && a == b"tree".as_slice() {
-        return Ok(Event::Install(Kind::Tree, node_of(graph, b)?));
+    if command == b"install".as_slice() && first == b"tree".as_slice() {
+        return Ok(Event::Install(Kind::Tree, node_of(graph, second)?));
     }
-    if word == b"install".as_slice() && a == b"shortest".as_slice() {
-        return Ok(Event::Install(Kind::Shortest, node_of(graph, b)?));
+    if command == b"install".as_slice() && first == b"shortest".as_slice() {
+        return Ok(Event::Install(Kind::Shortest, node_of(graph, second)?));
     }
     Err(ScriptFault::BadCommand)
 }
@@ -67,50 +67,46 @@ fn event_of_two(
 fn event_of_three(
     graph: &Graph,
     topology: &Topology,
-    word: &[u8],
-    a: &[u8],
-    b: &[u8],
-    c: &[u8],
+    command: &[u8],
+    first: &[u8],
+    second: &[u8],
+    third: &[u8],
 ) -> Result<Event, ScriptFault>
     requires { topology.now ≡ network_of_graph graph.now }
-    ensures { result ≡ event_of_three (names graph.now) topology.now word.now a.now b.now c.now }
+    ensures { result ≡ event_of_three (names graph.now) topology.now command.now first.now second.now third.now }
 {
-    if word == b"take".as_slice() && b == b"from".as_slice() {
-        let node = node_of(graph, a)?;
-        let link = link_between(topology, node, node_of(graph, c)?)?;
+    if command == b"take".as_slice() && second == b"from".as_slice() {
+        let node = node_of(graph, first)?;
+        let link = link_between(topology, node, node_of(graph, third)?)?;
         return Ok(Event::Take(node, Way::Link(link)));
     }
     Err(ScriptFault::BadCommand)
 }
 
 /// The step that the words of a line name; none where it has no word.
-fn step_of(
-    graph: &Graph,
-    topology: &Topology,
-    words: &[u8],
-) -> Result<Option<Step>, ScriptFault>
+fn step_of(graph: &Graph, topology: &Topology, words: &[u8]) -> Result<Option<Step>, ScriptFault>
     requires { topology.now ≡ network_of_graph graph.now }
     ensures { result ≡ step_of (names graph.now) topology.now (words_of words.now) }
 {
-    let Some((word, rest)) = scan::next_word(words) else {
+    let Some((command, rest)) = scan::next_word(words) else {
         return Ok(None);
     };
-    let Some((a, rest)) = scan::next_word(rest) else {
-        if word == b"drain".as_slice() {
+    let Some((first, rest)) = scan::next_word(rest) else {
+        if command == b"drain".as_slice() {
             return Ok(Some(Step::Drain));
         }
         return Err(ScriptFault::BadCommand);
     };
-    let Some((b, rest)) = scan::next_word(rest) else {
-        return Ok(Some(Step::Event(event_of_one(graph, word, a)?)));
+    let Some((second, rest)) = scan::next_word(rest) else {
+        return Ok(Some(Step::Event(event_of_one(graph, command, first)?)));
     };
-    let Some((c, rest)) = scan::next_word(rest) else {
-        return Ok(Some(Step::Event(event_of_two(graph, topology, word, a, b)?)));
+    let Some((third, rest)) = scan::next_word(rest) else {
+        return Ok(Some(Step::Event(event_of_two(graph, topology, command, first, second)?)));
     };
     if scan::next_word(rest).is_some() {
         return Err(ScriptFault::BadCommand);
     }
-    Ok(Some(Step::Event(event_of_three(graph, topology, word, a, b, c)?)))
+    Ok(Some(Step::Event(event_of_three(graph, topology, command, first, second, third)?)))
 }
 
 /// The step that a line names; none where it has no word.

@@ -85,11 +85,16 @@ pub fn link_between(topology: &Topology, u: u16, v: u16) -> Result<u16, ScriptFa
 }
 
 /// The link between the nodes that two words name.
-pub fn link_of(graph: &Graph, topology: &Topology, a: &[u8], b: &[u8]) -> Result<u16, ScriptFault>
+pub fn link_of(
+    graph: &Graph,
+    topology: &Topology,
+    first: &[u8],
+    second: &[u8],
+) -> Result<u16, ScriptFault>
     requires { topology.now ≡ network_of_graph graph.now }
-    ensures { result ≡ link_of (names graph.now) topology.now a.now b.now }
+    ensures { result ≡ link_of (names graph.now) topology.now first.now second.now }
 {
-    let u = node_of(graph, a)?;
-    let v = node_of(graph, b)?;
+    let u = node_of(graph, first)?;
+    let v = node_of(graph, second)?;
     link_between(topology, u, v)
 }
