@@ -1,0 +1,4 @@
+pub mod Rows
+pub mod Written
+pub mod Codes
+pub mod Reading

@@ -1,0 +1,91 @@
+-- What a trace is read as over a graph, and its first fault.
+use Rattle.std.specs.Prelude.{◌≡◌, ◌≢◌, ℕ, ◌+◌, ◌<◌, true, List, [], ◌∷◌, ◌++◌, length, map, position, bytes_eq, Option, Some}
+use Rattle.ir_model.specs.Graph.{Name, Adjacency, names, has_edge}
+use Rattle.ir_trace.specs.declared.row.RowFate.{RowFate}
+use Rattle.ir_trace.specs.declared.row.RowFate.TheVariants as read
+use Rattle.ir_trace.specs.declared.finding.FindingKind.{FindingKind}
+use Rattle.ir_trace.specs.declared.finding.FindingKind.TheVariants.{NotTrace, BadRow, UnknownNode, NoMemory}
+use Rattle.ir_trace.specs.Rows.{FateText, Delivered, Retired, Down, Full, Left, RowText, IsRowText, row_line, header, trace_text}
+
+-- a row as it is read: its nodes are places in node order
+pub record Row : Type 0 where
+  pub id : ℕ
+  pub epoch : ℕ
+  pub source : ℕ
+  pub dest : ℕ
+  pub weight : ℕ
+  pub fate : RowFate
+  pub hops : List ℕ
+
+-- the number of the node with a name
+abbrev pub node_named : List Name → Name → Option ℕ
+node_named nodes w = position (bytes_eq w) nodes
+
+-- x and y are the names of two linked nodes u and v
+abbrev pub AreLinkedAs : Adjacency → Name → Name → ℕ → ℕ → Type 0
+AreLinkedAs g x y u v =
+    (node_named (names g) x ≡ Some u) × (node_named (names g) y ≡ Some v) × (u ≢ v) × (has_edge g x y ≡ true)
+
+-- the ends of a link that is down stand with the smaller node number first
+abbrev pub FateIsReadAs : Adjacency → FateText → RowFate → Type 0
+FateIsReadAs g Delivered fate = fate ≡ read.Delivered
+FateIsReadAs g Retired fate = fate ≡ read.Retired
+FateIsReadAs g (Down x y) fate = (u : ℕ) × (v : ℕ) × AreLinkedAs g x y u v × (u < v) × (fate ≡ read.Down u v)
+FateIsReadAs g (Full x y) fate = (u : ℕ) × (v : ℕ) × AreLinkedAs g x y u v × (fate ≡ read.Full u v)
+FateIsReadAs g Left fate = fate ≡ read.Left
+
+-- What a row is read as: each name is that of a node.
+pub record IsReadAs (g : Adjacency) (text : RowText) (row : Row) : Type 0 where
+  pub id : row.id ≡ text.id
+  pub epoch : row.epoch ≡ text.epoch
+  pub weight : row.weight ≡ text.weight
+  pub source : node_named (names g) text.source ≡ Some row.source
+  pub dest : node_named (names g) text.dest ≡ Some row.dest
+  pub fate : FateIsReadAs g text.fate row.fate
+  pub hops : map (node_named (names g)) text.hops ≡ map (λ u. Some u) row.hops
+
+-- rows that may stand in a trace, and what each is read as
+abbrev pub AreReadAs : Adjacency → List RowText → List Row → Type 0
+AreReadAs g [] [] = Unit {0}
+AreReadAs g [] (row ∷ rows) = ⊥
+AreReadAs g (text ∷ texts) [] = ⊥
+AreReadAs g (text ∷ texts) (row ∷ rows) = IsRowText text × IsReadAs g text row × AreReadAs g texts rows
+
+-- The text is that of a trace, and this is what its rows are read as.
+abbrev pub IsTrace : Adjacency → List ℕ → List Row → Type 0
+IsTrace g text rows = (texts : List RowText) × (text ≡ trace_text texts) × AreReadAs g texts rows
+
+-- no row's line stands at the front
+abbrev pub IsBadRow : List ℕ → Type 0
+IsBadRow rest = (text : RowText) → IsRowText text → (more : List ℕ) → rest ≡ row_line text ++ more → ⊥
+
+-- a row's line stands at the front, and some name in it is not that of a node, or two are not those of a link
+abbrev pub IsUnknown : Adjacency → List ℕ → Type 0
+IsUnknown g rest =
+    (text : RowText) × (more : List ℕ) × IsRowText text × (rest ≡ row_line text ++ more) × ((row : Row) → IsReadAs g text row → ⊥)
+
+abbrev pub IsFaultOf : Adjacency → List ℕ → FindingKind → Type 0
+IsFaultOf g rest BadRow = IsBadRow rest
+IsFaultOf g rest UnknownNode = IsUnknown g rest
+IsFaultOf g rest kind = ⊥
+
+-- The fault of the first faulty line: the lines before it are those of a trace.
+pub record IsFirstFault (g : Adjacency) (text : List ℕ) (line : ℕ) (kind : FindingKind) : Type 0 where
+  pub good : List Row
+  pub front : List ℕ
+  pub rest : List ℕ
+  pub whole : text ≡ front ++ rest
+  pub before : IsTrace g front good
+  pub more : 0 < length rest
+  pub number : line ≡ length good + 2
+  pub fault : IsFaultOf g rest kind
+
+-- the text does not begin with the line `trace 1`
+abbrev pub IsNoTrace : List ℕ → Type 0
+IsNoTrace text = (rest : List ℕ) → text ≡ header ++ rest → ⊥
+
+-- What a text is refused for. Want of memory has line 0.
+abbrev pub Tells : Adjacency → List ℕ → ℕ → FindingKind → Type 0
+Tells g text line NotTrace = (line ≡ 1) × IsNoTrace text
+Tells g text line NoMemory = line ≡ 0
+Tells g text line kind = IsFirstFault g text line kind

@@ -1,0 +1,67 @@
+-- The trace of packets' records.
+use Rattle.std.specs.Prelude.{◌≡◌, ◌≢◌, ℕ, ◌<◌, ◌≤◌, ◌⊎◌, List, [], length, map, slice_get, slice_index_or, Some, if◌then◌else◌, ◌==◌}
+use Rattle.ir_model.specs.declared.TheConstants.{MAX_NODES}
+use Rattle.ir_model.specs.declared.Link.{Link}
+use Rattle.ir_model.specs.Graph.{Name}
+use Rattle.ir_model.specs.Network.{Network, node_count}
+use Rattle.ir_model.specs.Walk.{IsWalk, walk_weight}
+use Rattle.ir_core.specs.Journey.{Journey}
+use Rattle.ir_core.specs.declared.packet.Fate.{Fate}
+use Rattle.ir_core.specs.declared.packet.Fate.TheVariants as fate
+use Rattle.ir_trace.specs.Rows.{FateText, Delivered, Retired, Down, Full, Left, RowText, trace_text}
+
+abbrev pub name_at : List Name → ℕ → Name
+name_at nodes u = slice_index_or nodes u []
+
+-- the link with a number
+abbrev pub link_at : Network → ℕ → Link
+link_at net l = slice_index_or net.links l (record { low = 0; high = 0; weight = 0 })
+
+-- the end of a link that is not u
+abbrev pub other_end : Link → ℕ → ℕ
+other_end link u = if link.low == u then link.high else link.low
+
+-- `down X Y` names the ends of the link, the smaller node number first; in `full X Y` the channel goes from X to Y
+abbrev pub fate_text : List Name → Network → Fate → FateText
+fate_text nodes net fate.Delivered = Delivered
+fate_text nodes net fate.Retired = Retired
+fate_text nodes net (fate.Down l) = Down (name_at nodes (link_at net l).low) (name_at nodes (link_at net l).high)
+fate_text nodes net (fate.Full l to) = Full (name_at nodes (other_end (link_at net l) to)) (name_at nodes to)
+fate_text nodes net fate.Left = Left
+
+-- the row of a record: its weight is that of its hops
+abbrev pub row_of : List Name → Network → Journey → RowText
+row_of nodes net r = record {
+  id = r.id;
+  epoch = r.epoch;
+  source = name_at nodes r.source;
+  dest = name_at nodes r.dest;
+  weight = walk_weight net r.hops;
+  fate = fate_text nodes net r.fate;
+  hops = map (name_at nodes) r.hops;
+}
+
+-- a row for each record, in order
+abbrev pub records_text : List Name → Network → List Journey → List ℕ
+records_text nodes net records = trace_text (map (row_of nodes net) records)
+
+-- the link of a fate is a link of the network, and the node of a Full is an end of it
+abbrev pub FateIsIn : Network → Fate → Type 0
+FateIsIn net fate.Delivered = Unit {0}
+FateIsIn net fate.Retired = Unit {0}
+FateIsIn net (fate.Down l) = l < length net.links
+FateIsIn net (fate.Full l to) = (link : Link) × (slice_get net.links l ≡ Some link) × ((to ≡ link.low) ⊎ (to ≡ link.high))
+FateIsIn net fate.Left = Unit {0}
+
+-- A record whose row can be written: its nodes and links are those of the network, and each hop is linked to the next.
+pub record IsWritable (net : Network) (r : Journey) : Type 0 where
+  pub source : r.source < node_count net
+  pub dest : r.dest < node_count net
+  pub first : ℕ
+  pub last : ℕ
+  pub hops : IsWalk net first last r.hops
+  pub few : length r.hops ≤ MAX_NODES
+  pub fate : FateIsIn net r.fate
+
+abbrev pub AreWritable : Network → List Journey → Type 0
+AreWritable net records = (i : ℕ) (r : Journey) → slice_get records i ≡ Some r → IsWritable net r

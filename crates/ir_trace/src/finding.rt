@@ -1,0 +1,41 @@
+//! Why a trace is refused.
+ghost use Rattle.std.specs.Prelude.{◌≡◌};
+ghost use Rattle.ir_trace.specs.Codes.{code_of};
+
+/// What is wrong with a line of a trace.
+#[derive(Clone, Copy, Debug, PartialEq, Eq)]
+pub enum FindingKind {
+    /// The text does not begin with the line `trace 1`.
+    NotTrace = 1,
+    /// The line is not that of a row, or lacks its line feed.
+    BadRow = 2,
+    /// A name is not that of a node, or two names are not those of a link in their order.
+    UnknownNode = 3,
+    /// No epoch has this number.
+    UnknownEpoch = 4,
+    /// The hops are not a beginning of the prescribed walk, or the walk does not go on as the fate says.
+    NotAPrefix = 5,
+    /// The packet is delivered, and its hops are not the whole walk.
+    NotAtDestination = 6,
+    /// The weight is not that of the hops.
+    BadWeight = 7,
+    /// An earlier line has the same id.
+    Repeated = 8,
+    NoMemory = 9,
+}
+
+/// The first finding in a trace, and its line, counted from 1. Want of memory has line 0.
+#[derive(Clone, Copy, Debug, PartialEq, Eq)]
+pub struct Finding {
+    pub line: usize,
+    pub kind: FindingKind,
+}
+
+impl Finding {
+    /// The number of the kind, from 1 for `NotTrace` to 9 for `NoMemory`.
+    pub fn code(self) -> u8
+        ensures { result ≡ code_of self.kind }
+    {
+        self.kind as u8
+    }
+}

@@ -1,0 +1,15 @@
+//! Traces: a line for each packet of a run, written and read.
+//!
+//! The first line is `trace 1`. Each further line is one packet, as `ID EPOCH SOURCE DEST WEIGHT FATE HOPS`, with single
+//! spaces between words and numbers in decimal without leading zeros. FATE is `delivered`, `retired`, `down X Y`,
+//! `full X Y` or `left`. Each line ends with a line feed.
+#![tactic(auto)]
+
+mod finding;
+mod row;
+
+pub use finding::{Finding, FindingKind};
+pub use row::RowFate;
+
+/// The greatest number that a row may hold.
+pub const MAX_NUMBER: usize = 4_294_967_295;
