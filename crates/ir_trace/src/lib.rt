@@ -7,9 +7,13 @@
 
 mod finding;
 mod row;
+mod text;
+mod weight;
+mod writing;
 
 pub use finding::{Finding, FindingKind};
 pub use row::RowFate;
+pub use writing::trace_text;
 
 /// The greatest number that a row may hold.
 pub const MAX_NUMBER: usize = 4_294_967_295;

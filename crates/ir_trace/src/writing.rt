@@ -1,0 +1,88 @@
+//! Traces as they are written.
+ghost use Rattle.std.specs.Prelude.{◌≡◌, ◌++◌, IfOk, OnOk, length, string_bytes, flat_map};
+ghost use Rattle.ir_model.specs.Graph.{names};
+ghost use Rattle.ir_model.specs.Network.{node_count};
+ghost use Rattle.ir_model.specs.OfGraph.{network_of_graph};
+ghost use Rattle.ir_trace.specs.Rows.{spaced, fate_words, row_line};
+ghost use Rattle.ir_trace.specs.Written.{fate_text, row_of, records_text, FateIsIn, IsWritable, AreWritable};
+
+use crate::text::{push_name, push_names, push_next_number, push_number, push_word};
+use crate::weight::walk_weight;
+use ir_core::{Fate, Record};
+use ir_graph::Graph;
+use ir_tables::Topology;
+use std::alloc::{AllocError, Global};
+
+/// Writes the words of a fate, each behind a space.
+fn push_fate(
+    text: &mut String,
+    graph: &Graph,
+    topology: &Topology,
+    fate: Fate,
+) -> Result<(), AllocError>
+    requires nodes { node_count topology.now ≡ length graph.now }
+    requires fate { FateIsIn topology.now fate }
+    ensures { OnOk result (string_bytes text.new ≡ string_bytes text.old ++ flat_map spaced (fate_words (fate_text (names graph.now) topology.now fate))) }
+{
+    match fate {
+        Fate::Delivered => push_word(text, "delivered"),
+        Fate::Retired => push_word(text, "retired"),
+        Fate::Down(link) => {
+            let (low, high) = topology.ends(link);
+            push_word(text, "down")?;
+            push_name(text, graph, low)?;
+            push_name(text, graph, high)
+        }
+        Fate::Full { link, to } => {
+            let (low, high) = topology.ends(link);
+            let from = if low == to { high } else { low };
+            push_word(text, "full")?;
+            push_name(text, graph, from)?;
+            push_name(text, graph, to)
+        }
+        Fate::Left => push_word(text, "left"),
+    }
+}
+
+/// Writes the row of a record.
+fn push_row(
+    text: &mut String,
+    graph: &Graph,
+    topology: &Topology,
+    packet: &Record,
+) -> Result<(), AllocError>
+    requires nodes { node_count topology.now ≡ length graph.now }
+    requires packet { IsWritable topology.now packet.now }
+    ensures { OnOk result (string_bytes text.new ≡ string_bytes text.old ++ row_line (row_of (names graph.now) topology.now packet.now)) }
+{
+    push_number(text, packet.id)?;
+    push_next_number(text, packet.epoch)?;
+    push_name(text, graph, packet.source)?;
+    push_name(text, graph, packet.dest)?;
+    push_next_number(text, walk_weight(topology, packet.hops.as_slice()))?;
+    push_fate(text, graph, topology, packet.fate)?;
+    push_names(text, graph, packet.hops.as_slice())?;
+    text.push_str("\n")?;
+    Ok(())
+}
+
+/// The trace of records over the topology of their graph: the line `trace 1`, and a row for each record in order. Only
+/// want of memory is refused. Condition: the topology is that of the graph; the nodes and links of each record are
+/// among its nodes and links; the hops are 1 to `MAX_NODES` nodes, each linked to the next; the node of a `Full` is an
+/// end of its link.
+pub fn trace_text(
+    alloc: Global,
+    graph: &Graph,
+    topology: &Topology,
+    records: &[Record],
+) -> Result<String, AllocError>
+    requires network { topology.now ≡ network_of_graph graph.now }
+    requires records { AreWritable topology.now records.now }
+    ensures { IfOk result (λ text. string_bytes text ≡ records_text (names graph.now) topology.now records.now) }
+{
+    let mut text = String::from_str(alloc, "trace 1\n")?;
+    for record in records {
+        push_row(&mut text, graph, topology, record)?;
+    }
+    Ok(text)
+}
