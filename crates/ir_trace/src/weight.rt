@@ -14,7 +14,8 @@ fn link_weight(topology: &Topology, u: u16, v: u16) -> u32
     ensures bounded { result ≤ MAX_WEIGHT }
 {
     let _nodes = topology.nodes();
-    for hop in topology.ports(u as usize) {
+    let ports = topology.ports(u as usize);
+    for hop in ports {
         if hop.node == v {
             return hop.weight;
         }
