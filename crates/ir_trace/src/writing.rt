@@ -1,10 +1,10 @@
 //! Traces as they are written.
-ghost use Rattle.std.specs.Prelude.{◌≡◌, ◌++◌, IfOk, OnOk, length, string_bytes, flat_map};
+ghost use Rattle.std.specs.Prelude.{◌≡◌, ◌<◌, [], ◌∷◌, ◌++◌, IfOk, OnOk, length, string_bytes, flat_map};
 ghost use Rattle.ir_model.specs.Graph.{names};
 ghost use Rattle.ir_model.specs.Network.{node_count};
 ghost use Rattle.ir_model.specs.OfGraph.{network_of_graph};
 ghost use Rattle.ir_trace.specs.Rows.{spaced, fate_words, row_line};
-ghost use Rattle.ir_trace.specs.Written.{fate_text, row_of, records_text, FateIsIn, IsWritable, AreWritable};
+ghost use Rattle.ir_trace.specs.Written.{name_at, link_at, other_end, fate_text, row_of, records_text, FateIsIn, IsWritable, AreWritable};
 
 use crate::text::{push_name, push_names, push_next_number, push_number, push_word};
 use crate::weight::walk_weight;
@@ -12,6 +12,46 @@ use ir_core::{Fate, Record};
 use ir_graph::Graph;
 use ir_tables::Topology;
 use std::alloc::{AllocError, Global};
+
+/// The two ends of a link, the smaller node first.
+fn ends(topology: &Topology, link: u16) -> (u16, u16)
+    requires { link < length topology.now.links }
+    ensures low { result.0 ≡ (link_at topology.now link).low }
+    ensures high { result.1 ≡ (link_at topology.now link).high }
+    ensures low_within { result.0 < node_count topology.now }
+    ensures high_within { result.1 < node_count topology.now }
+{
+    let _nodes = topology.nodes();
+    topology.ends(link)
+}
+
+/// The node that the channel of a link to one of its ends comes from.
+fn channel_start(topology: &Topology, link: u16, to: u16) -> u16
+    requires { FateIsIn topology.now (Fate.Full link to) }
+    ensures start { result ≡ other_end (link_at topology.now link) to }
+    ensures start_within { result < node_count topology.now }
+    ensures to_within { to < node_count topology.now }
+{
+    let (low, high) = ends(topology, link);
+    if low == to { high } else { low }
+}
+
+/// Writes a word and the names of two nodes, each behind a space.
+fn push_pair(
+    text: &mut String,
+    graph: &Graph,
+    word: &str,
+    u: u16,
+    v: u16,
+) -> Result<(), AllocError>
+    requires first { u < length graph.now }
+    requires second { v < length graph.now }
+    ensures { OnOk result (string_bytes text.new ≡ string_bytes text.old ++ flat_map spaced (word.now ∷ name_at (names graph.now) u ∷ name_at (names graph.now) v ∷ [])) }
+{
+    push_word(text, word)?;
+    push_name(text, graph, u)?;
+    push_name(text, graph, v)
+}
 
 /// Writes the words of a fate, each behind a space.
 fn push_fate(
@@ -28,17 +68,12 @@ fn push_fate(
         Fate::Delivered => push_word(text, "delivered"),
         Fate::Retired => push_word(text, "retired"),
         Fate::Down(link) => {
-            let (low, high) = topology.ends(link);
-            push_word(text, "down")?;
-            push_name(text, graph, low)?;
-            push_name(text, graph, high)
+            let (low, high) = ends(topology, link);
+            push_pair(text, graph, "down", low, high)
         }
         Fate::Full { link, to } => {
-            let (low, high) = topology.ends(link);
-            let from = if low == to { high } else { low };
-            push_word(text, "full")?;
-            push_name(text, graph, from)?;
-            push_name(text, graph, to)
+            let from = channel_start(topology, link, to);
+            push_pair(text, graph, "full", from, to)
         }
         Fate::Left => push_word(text, "left"),
     }
@@ -55,13 +90,14 @@ fn push_row(
     requires packet { IsWritable topology.now packet.now }
     ensures { OnOk result (string_bytes text.new ≡ string_bytes text.old ++ row_line (row_of (names graph.now) topology.now packet.now)) }
 {
+    let hops = packet.hops.as_slice();
     push_number(text, packet.id)?;
     push_next_number(text, packet.epoch)?;
     push_name(text, graph, packet.source)?;
     push_name(text, graph, packet.dest)?;
-    push_next_number(text, walk_weight(topology, packet.hops.as_slice()))?;
+    push_next_number(text, walk_weight(topology, hops))?;
     push_fate(text, graph, topology, packet.fate)?;
-    push_names(text, graph, packet.hops.as_slice())?;
+    push_names(text, graph, hops)?;
     text.push_str("\n")?;
     Ok(())
 }
