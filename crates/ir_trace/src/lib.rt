@@ -6,12 +6,14 @@
 #![tactic(auto)]
 
 mod finding;
+mod outlet;
 mod row;
 mod text;
 mod weight;
 mod writing;
 
 pub use finding::{Finding, FindingKind};
+pub use outlet::{Outlet, TraceError};
 pub use row::RowFate;
 pub use writing::trace_text;
 
