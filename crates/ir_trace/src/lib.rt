@@ -15,7 +15,7 @@ mod writing;
 pub use finding::{Finding, FindingKind};
 pub use outlet::{Outlet, TraceError};
 pub use row::RowFate;
-pub use writing::trace_text;
+pub use writing::{trace_text, write_trace};
 
 /// The greatest number that a row may hold.
 pub const MAX_NUMBER: usize = 4_294_967_295;

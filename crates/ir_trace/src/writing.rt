@@ -1,17 +1,21 @@
 //! Traces as they are written.
-ghost use Rattle.std.specs.Prelude.{◌≡◌, ◌<◌, [], ◌∷◌, ◌++◌, IfOk, OnOk, length, string_bytes, flat_map};
+ghost use Rattle.std.specs.Prelude.{◌≡◌, ◌↔◌, ◌<◌, false, [], ◌∷◌, ◌++◌, IsTrue, IfOk, OnOk, length, string_bytes, flat_map};
+ghost use Rattle.std.specs.Io.KnownBytes.{Appends};
 ghost use Rattle.ir_model.specs.Graph.{names};
 ghost use Rattle.ir_model.specs.Network.{node_count};
 ghost use Rattle.ir_model.specs.OfGraph.{network_of_graph};
 ghost use Rattle.ir_trace.specs.Rows.{spaced, fate_words, row_line};
+ghost use Rattle.ir_trace.specs.Outlet.{AppendsFront};
 ghost use Rattle.ir_trace.specs.Written.{name_at, link_at, other_end, fate_text, row_of, records_text, FateIsIn, IsWritable, AreWritable};
 
+use crate::outlet::{Outlet, TraceError};
 use crate::text::{push_name, push_names, push_next_number, push_number, push_word};
 use crate::weight::walk_weight;
 use ir_core::{Fate, Record};
 use ir_graph::Graph;
 use ir_tables::Topology;
 use std::alloc::{AllocError, Global};
+use std::io::Write;
 
 /// The two ends of a link, the smaller node first.
 fn ends(topology: &Topology, link: u16) -> (u16, u16)
@@ -121,4 +125,31 @@ pub fn trace_text(
         push_row(&mut text, graph, topology, record)?;
     }
     Ok(text)
+}
+
+/// Writes the trace of records over their graph: the line `trace 1`, and a row for each record in order. Refused as
+/// `Unwritable` where the writer gives an error or takes none of the bytes left: a front of the text went out then, and
+/// the outlet has failed. After `NoMemory` the outlet is as it was. Condition: the outlet has not failed; the nodes and
+/// links of each record are those of the graph; the hops are 1 to `MAX_NODES` nodes, each linked to the next; the node
+/// of a `Full` is an end of its link.
+pub fn write_trace<W: Write>(
+    alloc: Global,
+    graph: &Graph,
+    records: &[Record],
+    outlet: &mut Outlet<W>,
+) -> Result<(), TraceError>
+    requires open { outlet.old.failed ≡ false }
+    requires records { AreWritable (network_of_graph graph.now) records.now }
+    ensures ok { OnOk result (Appends (W.contents outlet.old.writer) (W.contents outlet.new.writer) (records_text (names graph.now) (network_of_graph graph.now) records.now)) }
+    ensures unwritable { result ≡ Err TraceError.Unwritable → AppendsFront (W.contents outlet.old.writer) (W.contents outlet.new.writer) (records_text (names graph.now) (network_of_graph graph.now) records.now) }
+    ensures no_memory { result ≡ Err TraceError.NoMemory → outlet.new ≡ outlet.old }
+    ensures failed { IsTrue outlet.new.failed ↔ (result ≡ Err TraceError.Unwritable) }
+{
+    let topology = Topology::of(alloc, graph)?;
+    let text = trace_text(alloc, graph, &topology, records)?;
+    if outlet.write_text(text.as_bytes()) {
+        Ok(())
+    } else {
+        Err(TraceError::Unwritable)
+    }
 }
