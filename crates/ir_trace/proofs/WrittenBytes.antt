@@ -1,9 +1,8 @@
 -- What a writer took, one call after another.
-use Rattle.std.proofs.Common.{◌≡◌, ◌+◌, ℕ, List, [], ◌++◌, take, drop, Option, None, Some, refl, sym, ap, subst, ◌∙◌, append_assoc}
-use Rattle.std.proofs.lemmas.List.{append-nil, drop-drop, take-append-drop}
+use Rattle.std.proofs.Common.{◌≡◌, ◌+◌, ℕ, List, ◌++◌, take, drop, Option, None, Some, sym, ap, subst, ◌∙◌, append_assoc}
+use Rattle.std.proofs.lemmas.List.{drop-drop}
 use Rattle.std.proofs.Math.Seq.{take-add}
-use Rattle.std.specs.Io.KnownBytes.{Appends, Keeps}
-use Rattle.ir_trace.specs.Outlet.{AppendsFront}
+use Rattle.std.specs.Io.KnownBytes.{Appends}
 
 appends_more : (a b c : Option (List ℕ)) (xs ys : List ℕ) → Appends a b xs → Appends b c ys → Appends a c (xs ++ ys)
 appends_more None b c xs ys h k = tt
@@ -11,24 +10,11 @@ appends_more (Some a) None c xs ys h k = absurd h
 appends_more (Some a) (Some b) None xs ys h k = absurd k
 appends_more (Some a) (Some b) (Some c) xs ys h k = k ∙ ap (λ bs. bs ++ ys) h ∙ append_assoc a xs ys
 
-pub appends_kept : (a b c : Option (List ℕ)) (xs : List ℕ) → Appends a b xs → Keeps b c → Appends a c xs
-appends_kept None b c xs h k = tt
-appends_kept (Some a) None c xs h k = absurd h
-appends_kept (Some a) (Some b) None xs h k = absurd k
-appends_kept (Some a) (Some b) (Some c) xs h k = k ∙ h
-
-pub appends_none : (a : Option (List ℕ)) → Appends a a []
-appends_none None = tt
-appends_none (Some a) = sym (append-nil a)
-
 -- a front of the text is sent, and the rest is this
 pub record IsSent (old new : Option (List ℕ)) (text rest : List ℕ) : Type 0 where
   pub sent : ℕ
   pub left : rest ≡ drop sent text
   pub took : Appends old new (take sent text)
-
-pub sent_none : (old : Option (List ℕ)) (text : List ℕ) → IsSent old old text text
-sent_none old text = record { sent = 0; left = refl; took = appends_none old }
 
 module _ (old mid new : Option (List ℕ)) (text rest : List ℕ) (is : IsSent old mid text rest) where
   -- n more bytes
@@ -40,14 +26,3 @@ module _ (old mid new : Option (List ℕ)) (text rest : List ℕ) (is : IsSent o
 
   pub sent_more : (n : ℕ) → Appends mid new (take n rest) → (left : List ℕ) → left ≡ drop n rest → IsSent old new text left
   sent_more n h left e = record { sent = is.sent + n; left = e ∙ ap (drop n) is.left ∙ drop-drop n is.sent text; took = front_more n h }
-
-  -- the writer fails
-  pub sent_front : Keeps mid new → AppendsFront old new text
-  sent_front h = (is.sent, appends_kept old mid new (take is.sent text) is.took h)
-
--- nothing is left to write
-pub sent_all : (old new : Option (List ℕ)) (text rest : List ℕ) → IsSent old new text rest → rest ≡ [] → Appends old new text
-sent_all old new text rest is e =
-    let whole : take is.sent text ≡ text = sym (append-nil (take is.sent text)) ∙ ap (λ bs. take is.sent text ++ bs) (sym (sym is.left ∙ e)) ∙ take-append-drop is.sent text in
-    let P : List ℕ → Type 0 = λ bs. Appends old new bs in
-    subst P whole is.took

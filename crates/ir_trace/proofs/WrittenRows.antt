@@ -1,22 +1,13 @@
 -- The text of rows.
-use Rattle.std.proofs.Common.{◌≡◌, ℕ, ◌+◌, ◌<◌, ◌≤◌, true, List, [], ◌∷◌, ◌++◌, length, take, map, get_or, slice_get, Some, flat_map, nat_lt, arith, ap, sym, subst, ◌∙◌, refl, append_assoc, ⊎_elim}
+use Rattle.std.proofs.Common.{◌≡◌, ℕ, ◌<◌, ◌≤◌, true, List, [], ◌∷◌, ◌++◌, length, flat_map, nat_lt, arith, ap, sym, subst, ◌∙◌, refl, append_assoc, ⊎_elim}
 use Rattle.std.specs.List.{list_all}
 use Rattle.std.proofs.lemmas.Bool.{lt-ltb, cases_lt}
-use Rattle.std.proofs.lemmas.List.{append-nil, length-map, take_more, map-append, get_or_past}
+use Rattle.std.proofs.lemmas.List.{get_or_past}
 use Rattle.std.proofs.lemmas.Option.{slice_get_within}
 use Rattle.std.proofs.lemmas.Grind.{flat_map-append}
-use Rattle.ir_model.specs.declared.Hop.{Hop}
-use Rattle.ir_model.specs.Graph.{Name, Adjacency}
-use Rattle.ir_model.specs.Network.{Network, node_count, ports_of, port_at}
-use Rattle.ir_model.specs.OfGraph.{network_of_graph, node_ports}
+use Rattle.ir_model.specs.Network.{Network, node_count, ports_of}
 use Rattle.ir_model.specs.Walk.{Linked, LeadsTo, IsWalk}
-use Rattle.ir_core.specs.Journey.{Journey}
-use Rattle.ir_trace.specs.Rows.{spaced, RowText, row_line, header}
-use Rattle.ir_trace.specs.Written.{row_of, records_text}
-
--- the network of a graph has the graph's nodes
-pub node_count-network_of_graph : (g : Adjacency) → node_count (network_of_graph g) ≡ length g
-node_count-network_of_graph g = length-map g (λ r. node_ports g r.0 r.1)
+use Rattle.ir_trace.specs.Rows.{spaced}
 
 -- a node with a port is a node
 linked_within : (net : Network) (u v : ℕ) → Linked net u v → u < node_count net
@@ -45,19 +36,7 @@ pieces old a b c d e f g h = simp append_assoc
 -- the words of a row, put one after another
 pub row_pieces : (old a b c d e : List ℕ) (fate hops : List (List ℕ)) (h : List ℕ)
     → (((((((old ++ a) ++ spaced b) ++ spaced c) ++ spaced d) ++ spaced e) ++ flat_map spaced fate) ++ flat_map spaced hops) ++ h
-        ≡ old ++ ((a ++ flat_map spaced (b ∷ c ∷ d ∷ e ∷ fate ++ hops)) ++ h)
+    ≡ old ++ ((a ++ flat_map spaced (b ∷ c ∷ d ∷ e ∷ fate ++ hops)) ++ h)
 row_pieces old a b c d e fate hops h =
     pieces old a (spaced b) (spaced c) (spaced d) (spaced e) (flat_map spaced fate) (flat_map spaced hops) h
     ∙ ap (λ t. old ++ ((a ++ (spaced b ++ (spaced c ++ (spaced d ++ (spaced e ++ t))))) ++ h)) (sym (flat_map-append spaced fate hops))
-
--- one row more
-pub records_text-take : (nodes : List Name) (net : Network) (records : List Journey) (i : ℕ) (d : Journey) → i < length records
-    → records_text nodes net (take (i + 1) records) ≡ records_text nodes net (take i records) ++ row_line (row_of nodes net (get_or records i d))
-records_text-take nodes net records i d lt =
-    let row = row_of nodes net in
-    let rows = map row (take i records) in
-    let last = get_or records i d in
-    ap (records_text nodes net) (take_more records i d lt)
-    ∙ ap (λ (rs : List RowText). header ++ flat_map row_line rs) (map-append row (take i records) (last ∷ []))
-    ∙ ap (λ t. header ++ t) (flat_map-append row_line rows (row last ∷ []) ∙ ap (λ t. flat_map row_line rows ++ t) (append-nil (row_line (row last))))
-    ∙ sym (append_assoc header (flat_map row_line rows) (row_line (row last)))

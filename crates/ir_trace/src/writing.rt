@@ -41,13 +41,7 @@ fn channel_start(topology: &Topology, link: u16, to: u16) -> u16
 }
 
 /// Writes a word and the names of two nodes, each behind a space.
-fn push_pair(
-    text: &mut String,
-    graph: &Graph,
-    word: &str,
-    u: u16,
-    v: u16,
-) -> Result<(), AllocError>
+fn push_pair(text: &mut String, graph: &Graph, word: &str, u: u16, v: u16) -> Result<(), AllocError>
     requires first { u < length graph.now }
     requires second { v < length graph.now }
     ensures { OnOk result (string_bytes text.new ≡ string_bytes text.old ++ flat_map spaced (word.now ∷ name_at (names graph.now) u ∷ name_at (names graph.now) v ∷ [])) }

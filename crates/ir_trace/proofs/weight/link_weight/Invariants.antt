@@ -1,5 +1,4 @@
 use Rattle.std.proofs.Common.{◌≡◌, ◌==◌, drop, find}
-use Rattle.ir_model.specs.Network.{ports_of}
 use Rattle.ir_trace.proofs.weight.link_weight.Given as goal
 
 abbrev pub invariant-loop-hop : goal.invariant-loop-hop

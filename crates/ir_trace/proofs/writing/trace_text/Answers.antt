@@ -1,6 +1,5 @@
-use Rattle.std.proofs.Common.{◌≡◌, ◌∙◌, ◌++◌, Some, ap, sym, arith, slice_get, string_bytes, length}
+use Rattle.std.proofs.Common.{◌≡◌, ◌∙◌, Some, ap, sym, arith, slice_get}
 use Rattle.std.proofs.lemmas.Option.{slice_get-get_or}
-use Rattle.ir_trace.proofs.WrittenRows.{records_text-take}
 use Rattle.ir_trace.proofs.writing.trace_text.Goals as goal
 
 pub push_row-requires-clause-packet : goal.push_row-requires-clause-packet
