@@ -2,3 +2,4 @@ pub mod Rows
 pub mod Written
 pub mod Codes
 pub mod Reading
+pub mod Spelled

@@ -6,10 +6,13 @@
 #![tactic(auto)]
 
 mod finding;
+mod numbers;
+mod resolve;
 mod row;
+mod words;
 
 pub use finding::{Finding, FindingKind};
-pub use row::RowFate;
+pub use row::{RowFate, TraceRow};
 
 /// The greatest number that a row may hold.
 pub const MAX_NUMBER: usize = 4_294_967_295;

@@ -1,0 +1,4 @@
+pub mod RNumbers
+pub mod RSpelled
+pub mod RLines
+pub mod RHops
