@@ -7,7 +7,7 @@ use Rattle.std.proofs.lemmas.Bool.{and_parts, and_from, leb-true, lt-ltb, ltb-tr
 use Rattle.std.proofs.lemmas.List.{append-nil}
 use Rattle.std.proofs.lemmas.List.Elements.{All-cons, All-nil}
 use Rattle.std.proofs.lemmas.List.Folds.{list_all-append, list_all-map}
-use Rattle.std.proofs.lemmas.List.Splits.{slice_split_none, slice_split_at, join_with_byte-slice_split}
+use Rattle.std.proofs.lemmas.List.Splits.{slice_split_none, slice_split_at, join_with_byte-slice_split, length-slice_split}
 use Rattle.std.proofs.lemmas.Str.{IsUtf8-from_ascii}
 use Rattle.std.proofs.lemmas.Str.Ascii.{IsAscii-cons, IsAscii-nil}
 use Rattle.ir_model.specs.Graph.{Name}
@@ -42,7 +42,7 @@ module _ (p : ℕ → Bool) (inside : (b : ℕ) → is_word_byte b ≡ true → 
 
 -- ---- spaces
 
-abbrev is_space : ℕ → Bool
+abbrev pub is_space : ℕ → Bool
 is_space b = b == 32
 
 no_space : (w : Name) → list_all is_word_byte w ≡ true → All (λ b. is_space b ≡ false) w
@@ -94,9 +94,9 @@ found_words line text words held all same cut held_is test = (yes, other)
     tested = test ∙ ap (list_all (λ word. is_word word.now)) held_is ∙ sym (list_all-map is_word (λ (w : Bor (List ℕ)). w.now) words)
 
     yes : all ≡ true → HasWords line (texts words)
-    yes e = record { whole = sym (ap joined cut ∙ joined-split text ∙ same); each = sym tested ∙ e }
+    yes e = record { some = omega (arith, ap length cut, length-slice_split is_space text); whole = sym (ap joined cut ∙ joined-split text ∙ same); each = sym tested ∙ e }
 
     other : all ≡ false → HasNoWords line
-    other e ws some is =
-        let are : texts words ≡ ws = cut ∙ ap (slice_split is_space) (same ∙ is.whole) ∙ split-joined ws some is.each in
+    other e ws is =
+        let are : texts words ≡ ws = cut ∙ ap (slice_split is_space) (same ∙ is.whole) ∙ split-joined ws is.some is.each in
         both_ways all e (tested ∙ ap (list_all is_word) are ∙ is.each)

@@ -3,3 +3,4 @@ pub mod Written
 pub mod Codes
 pub mod Reading
 pub mod Spelled
+pub mod Line

@@ -30,14 +30,15 @@ fate_held held.Left = Left
 abbrev pub text_held : Spelling → RowText
 text_held s = record { id = s.id; epoch = s.epoch; source = s.source.now; dest = s.dest.now; weight = s.weight; fate = fate_held s.fate; hops = texts s.hops.now }
 
--- the line is these words with one space between
+-- the line is these words, one or more, with one space between
 pub record HasWords (line : List ℕ) (words : List Name) : Type 0 where
+  pub some : 0 < length words
   pub whole : line ≡ joined words
   pub each : list_all is_word words ≡ true
 
 -- the line is no words with one space between
 abbrev pub HasNoWords : List ℕ → Type 0
-HasNoWords line = (words : List Name) → 0 < length words → HasWords line words → ⊥
+HasNoWords line = (words : List Name) → HasWords line words → ⊥
 
 -- the words are those of a row
 pub record Spells (words : List Name) (text : RowText) : Type 0 where

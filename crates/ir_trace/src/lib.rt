@@ -7,11 +7,13 @@
 
 mod finding;
 mod numbers;
+mod reading;
 mod resolve;
 mod row;
 mod words;
 
 pub use finding::{Finding, FindingKind};
+pub use reading::{Trace, read_trace};
 pub use row::{RowFate, TraceRow};
 
 /// The greatest number that a row may hold.

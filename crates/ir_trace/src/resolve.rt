@@ -56,11 +56,7 @@ fn fate_of(graph: &Graph, fate: FateSpelling) -> Option<RowFate>
 }
 
 /// The numbers of the nodes with these names.
-fn hops_of(
-    alloc: Global,
-    graph: &Graph,
-    words: &[&str],
-) -> Result<Option<Vec<u16>>, AllocError>
+fn hops_of(alloc: Global, graph: &Graph, words: &[&str]) -> Result<Option<Vec<u16>>, AllocError>
     ensures { IfOk result (λ found. MatchOption found (AreNoHops graph.now (texts words.now)) (λ hops. AreHops graph.now (texts words.now) hops.items)) }
 {
     let mut hops = Vec::with_capacity(alloc, words.len())?;

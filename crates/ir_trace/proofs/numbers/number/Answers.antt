@@ -9,8 +9,8 @@ pub returns-then-is_empty : goal.returns-then-is_empty
 returns-then-is_empty c =
     let word = c.args.word.now in
     elim c.then-is_empty.branch [
-      then-is_empty-via-then-is_empty w ↦ no_number_empty word (omega (arith, ap length c.as_bytes-bytes.ensures.value, eqb-true _ 0 (sym c.is_empty.ensures ∙ w.if-is_empty.true)))
-    | then-is_empty-via-else-is_empty+then-bytes-eq43 w ↦ no_number_plus word (ap (λ bs. get_or bs 0 0) (sym c.as_bytes-bytes.ensures.value) ∙ w.if-bytes-eq43.true)
+      | then-is_empty-via-then-is_empty w ↦ no_number_empty word (omega (arith, ap length c.as_bytes-bytes.ensures.value, eqb-true _ 0 (sym c.is_empty.ensures ∙ w.if-is_empty.true)))
+      | then-is_empty-via-else-is_empty+then-bytes-eq43 w ↦ no_number_plus word (ap (λ bs. get_or bs 0 0) (sym c.as_bytes-bytes.ensures.value) ∙ w.if-bytes-eq43.true)
     ]
 
 pub returns-then-bytes-gt1 : goal.returns-then-bytes-gt1
