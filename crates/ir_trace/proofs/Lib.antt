@@ -1,3 +1,10 @@
 pub mod Weighing
 pub mod WrittenRows
 pub mod WrittenBytes
+pub mod RNumbers
+pub mod RSpelled
+pub mod RLines
+pub mod RHops
+pub mod RCuts
+pub mod RRows
+pub mod RReading

@@ -4,3 +4,5 @@ pub mod Codes
 pub mod Reading
 pub mod Outlet
 pub mod OutletErrors
+pub mod Spelled
+pub mod Line

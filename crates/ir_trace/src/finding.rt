@@ -2,6 +2,8 @@
 ghost use Rattle.std.specs.Prelude.{◌≡◌};
 ghost use Rattle.ir_trace.specs.Codes.{code_of};
 
+use std::alloc::{AllocError, AllocFailed};
+
 /// What is wrong with a line of a trace.
 #[derive(Clone, Copy, Debug, PartialEq, Eq)]
 pub enum FindingKind {
@@ -37,5 +39,33 @@ impl Finding {
         ensures { result ≡ code_of self.kind }
     {
         self.kind as u8
+    }
+}
+
+impl From<AllocError> for Finding {
+    ghost use Rattle.std.specs.Prelude.{◌≡◌};
+    ghost use Rattle.ir_trace.specs.declared.finding.FindingKind.TheVariants.{NoMemory};
+
+    ghost from_gives = { λ _ e. e ≡ record { line = 0; kind = NoMemory } };
+
+    fn from(_error: AllocError) -> Finding {
+        Finding {
+            line: 0,
+            kind: FindingKind::NoMemory,
+        }
+    }
+}
+
+impl<T: Drop> From<AllocFailed<T>> for Finding {
+    ghost use Rattle.std.specs.Prelude.{◌≡◌};
+    ghost use Rattle.ir_trace.specs.declared.finding.FindingKind.TheVariants.{NoMemory};
+
+    ghost from_gives = { λ _ e. e ≡ record { line = 0; kind = NoMemory } };
+
+    fn from(_error: AllocFailed<T>) -> Finding {
+        Finding {
+            line: 0,
+            kind: FindingKind::NoMemory,
+        }
     }
 }

@@ -6,15 +6,20 @@
 #![tactic(auto)]
 
 mod finding;
+mod numbers;
 mod outlet;
+mod reading;
+mod resolve;
 mod row;
 mod text;
 mod weight;
+mod words;
 mod writing;
 
 pub use finding::{Finding, FindingKind};
 pub use outlet::{Outlet, TraceError};
-pub use row::RowFate;
+pub use reading::{Trace, read_trace};
+pub use row::{RowFate, TraceRow};
 pub use writing::{trace_text, write_trace};
 
 /// The greatest number that a row may hold.

@@ -12,3 +12,16 @@ pub enum RowFate {
     /// Under way.
     Left,
 }
+
+/// A row as it is read. Nodes are numbers in node order.
+#[derive(Drop)]
+pub struct TraceRow {
+    pub id: u32,
+    pub epoch: u32,
+    pub source: u16,
+    pub dest: u16,
+    pub weight: u32,
+    pub fate: RowFate,
+    /// One node or more.
+    pub hops: Vec<u16>,
+}

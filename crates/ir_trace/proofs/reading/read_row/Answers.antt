@@ -1,0 +1,11 @@
+use Rattle.std.proofs.Common.{refl, subst}
+use Rattle.std.proofs.Common.{MatchOption, None}
+use Rattle.ir_trace.specs.Spelled.{texts, HasWords, HasNoWords}
+use Rattle.ir_trace.proofs.RRows.{no_words_no_row, nothing_no_row}
+use Rattle.ir_trace.proofs.reading.read_row.Goals as goal
+
+pub returns-in_default-clause-fault : goal.returns-in_default-clause-fault
+returns-in_default-clause-fault c = (refl, no_words_no_row c.args.line.now (rw c.in_default.is at c.in_ok-words.ensures))
+
+pub returns-in_default-spelled-clause-fault : goal.returns-in_default-spelled-clause-fault
+returns-in_default-spelled-clause-fault c = let are : HasWords c.args.line.now (texts c.in-Some.words.items) = rw c.in-Some.is at c.in_ok-words.ensures in (refl, nothing_no_row c.args.line.now (texts c.deref.result.now) (rw (← c.deref.ensures.value) at are) c.in_default-spelled.ensures)

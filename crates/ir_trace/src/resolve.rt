@@ -1,0 +1,102 @@
+//! The nodes and links that the names of a row stand for.
+ghost use Rattle.std.specs.Prelude.{◌≡◌, MatchOption, IfOk};
+ghost use Rattle.ir_model.specs.Graph.{names};
+ghost use Rattle.ir_trace.specs.Reading.{node_named, AreLinkedAs, FateIsReadAs, IsReadAs};
+ghost use Rattle.ir_trace.specs.Spelled.{texts, fate_held, text_held, row_held, AreNotLinked, IsNoFateOf, AreNoHops, AreHops, IsNoRowOf};
+
+use crate::row::{RowFate, TraceRow};
+use crate::words::{FateSpelling, Spelling};
+use ir_graph::Graph;
+use std::alloc::{AllocError, Global};
+
+/// The number of the node with a name.
+fn place_of(graph: &Graph, name: &str) -> Option<u16>
+    ensures { result ≡ node_named (names graph.now) name.now }
+{
+    let _nodes = graph.number_of_nodes();
+    match graph.index_of(name) {
+        Some(place) => Some(place as u16),
+        None => None,
+    }
+}
+
+/// The numbers of two nodes that are linked.
+fn ends_of(graph: &Graph, x: &str, y: &str) -> Option<(u16, u16)>
+    ensures { MatchOption result (AreNotLinked graph.now x.now y.now) (λ ends. AreLinkedAs graph.now x.now y.now ends.0 ends.1) }
+{
+    let u = place_of(graph, x)?;
+    let v = place_of(graph, y)?;
+    if u == v || !graph.has_edge(x, y) {
+        return None;
+    }
+    Some((u, v))
+}
+
+/// The fate with numbers for names.
+fn fate_of(graph: &Graph, fate: FateSpelling) -> Option<RowFate>
+    ensures { MatchOption result (IsNoFateOf graph.now (fate_held fate.entry)) (λ read. FateIsReadAs graph.now (fate_held fate.entry) read) }
+{
+    match fate {
+        FateSpelling::Delivered => Some(RowFate::Delivered),
+        FateSpelling::Retired => Some(RowFate::Retired),
+        FateSpelling::Left => Some(RowFate::Left),
+        FateSpelling::Down(x, y) => {
+            let (low, high) = ends_of(graph, x, y)?;
+            if low < high {
+                Some(RowFate::Down { low, high })
+            } else {
+                None
+            }
+        }
+        FateSpelling::Full(x, y) => {
+            let (from, to) = ends_of(graph, x, y)?;
+            Some(RowFate::Full { from, to })
+        }
+    }
+}
+
+/// The numbers of the nodes with these names.
+fn hops_of(alloc: Global, graph: &Graph, words: &[&str]) -> Result<Option<Vec<u16>>, AllocError>
+    ensures { IfOk result (λ found. MatchOption found (AreNoHops graph.now (texts words.now)) (λ hops. AreHops graph.now (texts words.now) hops.items)) }
+{
+    let mut hops = Vec::with_capacity(alloc, words.len())?;
+    for word in words {
+        match place_of(graph, word) {
+            Some(place) => hops.push(place)?,
+            None => return Ok(None),
+        }
+    }
+    Ok(Some(hops))
+}
+
+/// The row with numbers for names. There is none where a name is not that of a node, or two are not those of a link in
+/// their order.
+pub fn resolve(
+    alloc: Global,
+    graph: &Graph,
+    spelling: Spelling,
+) -> Result<Option<TraceRow>, AllocError>
+    ensures { IfOk result (λ found. MatchOption found (IsNoRowOf graph.now (text_held spelling.entry)) (λ row. IsReadAs graph.now (text_held spelling.entry) (row_held row))) }
+{
+    let Some(source) = place_of(graph, spelling.source) else {
+        return Ok(None);
+    };
+    let Some(dest) = place_of(graph, spelling.dest) else {
+        return Ok(None);
+    };
+    let Some(fate) = fate_of(graph, spelling.fate) else {
+        return Ok(None);
+    };
+    let Some(hops) = hops_of(alloc, graph, spelling.hops)? else {
+        return Ok(None);
+    };
+    Ok(Some(TraceRow {
+        id: spelling.id,
+        epoch: spelling.epoch,
+        source,
+        dest,
+        weight: spelling.weight,
+        fate,
+        hops,
+    }))
+}
