@@ -16,6 +16,10 @@ mod rings;
 #[cfg(test)]
 mod runs;
 #[cfg(test)]
+mod scripts;
+#[cfg(test)]
 mod tables;
 #[cfg(test)]
 mod texts;
+#[cfg(test)]
+mod traces;

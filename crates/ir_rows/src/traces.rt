@@ -1,0 +1,104 @@
+//! Traces as they are read, over the path a, b, c and a node d by itself in a loop.
+
+use ir_graph::Graph;
+use ir_trace::{Finding, FindingKind, RowFate, Trace, read_trace};
+use std::alloc::Global;
+use std::test::Fail;
+
+/// What a text is read as over the path.
+fn read(alloc: Global, text: &str) -> Result<Result<Trace, Finding>, Fail> {
+    let mut graph = Graph::new(alloc);
+    for (u, v) in [("a", "b"), ("b", "c"), ("d", "d")] {
+        let Ok(_) = graph.add_edge(u, v, 1) else {
+            return Err("the edge is refused".into());
+        };
+    }
+    Ok(read_trace(alloc, text.as_bytes(), &graph))
+}
+
+/// Whether the first finding in a text is this one in this line.
+fn is_refused(alloc: Global, text: &str, line: usize, kind: FindingKind) -> Result<bool, Fail> {
+    match read(alloc, text)? {
+        Ok(_) => Ok(false),
+        Err(finding) => Ok(finding == Finding { line, kind }),
+    }
+}
+
+/// Whether a row is refused so behind the first line.
+fn is_row_refused(alloc: Global, row: &str, kind: FindingKind) -> Result<bool, Fail> {
+    let text = format!(in alloc; "trace 1\n{row}\n")?;
+    is_refused(alloc, text.as_str(), 2, kind)
+}
+
+#[test]
+fn rows_are_read(rt: HostRuntime) -> Result<(), Fail> {
+    let text = "trace 1\n7 2 a c 1 down b c a b\n0 1 c a 0 full c b c\n";
+    let Ok(trace) = read(rt.alloc(), text)? else {
+        return Err("refused".into());
+    };
+    assert!(rt; trace.rows() == 2);
+    if trace.rows() == 2 {
+        let row = trace.row(0);
+        assert!(rt; row.id == 7 && row.epoch == 2 && row.weight == 1);
+        assert!(rt; row.source == 0 && row.dest == 2);
+        assert!(rt; row.fate == RowFate::Down { low: 1, high: 2 });
+        assert!(rt; row.hops.as_slice() == [0, 1].as_slice());
+        assert!(rt; trace.row(1).fate == RowFate::Full { from: 2, to: 1 });
+    }
+    Ok(())
+}
+
+#[test]
+fn the_first_line_alone(rt: HostRuntime) -> Result<(), Fail> {
+    let Ok(trace) = read(rt.alloc(), "trace 1\n")? else {
+        return Err("refused".into());
+    };
+    assert!(rt; trace.rows() == 0);
+    Ok(())
+}
+
+#[test]
+fn no_traces(rt: HostRuntime) -> Result<(), Fail> {
+    let alloc = rt.alloc();
+    assert!(rt; is_refused(alloc, "", 1, FindingKind::NotTrace)?);
+    assert!(rt; is_refused(alloc, "trace 1", 1, FindingKind::NotTrace)?);
+    assert!(rt; is_refused(alloc, "trace 2\n", 1, FindingKind::NotTrace)?);
+    assert!(rt; is_refused(alloc, "\ntrace 1\n", 1, FindingKind::NotTrace)?);
+    Ok(())
+}
+
+#[test]
+fn bad_rows(rt: HostRuntime) -> Result<(), Fail> {
+    let alloc = rt.alloc();
+    let cut = "trace 1\n0 1 a c 2 delivered a b c";
+    assert!(rt; is_refused(alloc, cut, 2, FindingKind::BadRow)?);
+    assert!(rt; is_row_refused(alloc, "", FindingKind::BadRow)?);
+    assert!(rt; is_row_refused(alloc, "0 1 a c 2  delivered a b c", FindingKind::BadRow)?);
+    assert!(rt; is_row_refused(alloc, "0 1 a c 2 delivered a b c ", FindingKind::BadRow)?);
+    assert!(rt; is_row_refused(alloc, "0 1 a c 2 delivered", FindingKind::BadRow)?);
+    assert!(rt; is_row_refused(alloc, "0 1 a c 2 down a b", FindingKind::BadRow)?);
+    assert!(rt; is_row_refused(alloc, "00 1 a c 2 delivered a b c", FindingKind::BadRow)?);
+    assert!(rt; is_row_refused(alloc, "4294967296 1 a c 2 left a", FindingKind::BadRow)?);
+    assert!(rt; is_row_refused(alloc, "0 one a c 2 left a", FindingKind::BadRow)?);
+    assert!(rt; is_row_refused(alloc, "0 1 a c 2 lost z", FindingKind::BadRow)?);
+    assert!(rt; is_row_refused(alloc, "0 1 a\tc c 2 left a", FindingKind::BadRow)?);
+    Ok(())
+}
+
+#[test]
+fn unknown_nodes_and_links(rt: HostRuntime) -> Result<(), Fail> {
+    let alloc = rt.alloc();
+    assert!(rt; is_row_refused(alloc, "0 1 a z 2 delivered a b c", FindingKind::UnknownNode)?);
+    assert!(rt; is_row_refused(alloc, "0 1 a c 2 delivered a b z", FindingKind::UnknownNode)?);
+    assert!(rt; is_row_refused(alloc, "0 1 a c 0 down a c a", FindingKind::UnknownNode)?);
+    assert!(rt; is_row_refused(alloc, "0 1 a c 0 down b a a", FindingKind::UnknownNode)?);
+    assert!(rt; is_row_refused(alloc, "0 1 d d 0 full d d d", FindingKind::UnknownNode)?);
+    let later = "trace 1\n4294967295 9 a c 7 left a\n0 1 a z 0 left a\n0\n";
+    assert!(rt; is_refused(alloc, later, 3, FindingKind::UnknownNode)?);
+    let finding = Finding {
+        line: 3,
+        kind: FindingKind::UnknownNode,
+    };
+    assert!(rt; finding.code() == 3);
+    Ok(())
+}
