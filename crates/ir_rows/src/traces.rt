@@ -1,8 +1,13 @@
-//! Traces as they are read, over the path a, b, c and a node d by itself in a loop.
+//! Traces as they are read, over the path a, b, c and a node d by itself in a loop; and as they are written.
 
+ghost use Rattle.std.specs.Prelude.{◌≡◌, false};
+
+use ir_core::Record;
 use ir_graph::Graph;
-use ir_trace::{Finding, FindingKind, RowFate, Trace, read_trace};
+use ir_tables::Topology;
+use ir_trace::{Finding, FindingKind, Outlet, RowFate, Trace, TraceError, read_trace, write_trace};
 use std::alloc::Global;
+use std::io::Write;
 use std::test::Fail;
 
 /// What a text is read as over the path.
@@ -100,5 +105,53 @@ fn unknown_nodes_and_links(rt: HostRuntime) -> Result<(), Fail> {
         kind: FindingKind::UnknownNode,
     };
     assert!(rt; finding.code() == 3);
+    Ok(())
+}
+
+/// Writes the trace of one packet that is at its source, the first node.
+fn write_lone<W: Write>(
+    alloc: Global,
+    graph: &Graph,
+    outlet: &mut Outlet<W>,
+) -> Result<(), TraceError>
+    requires { outlet.old.failed ≡ false }
+{
+    let topology = Topology::of(alloc, graph)?;
+    if topology.nodes() == 0 {
+        return Ok(());
+    }
+    let Ok(record) = Record::start(alloc, 0, 1, 0, 0) else {
+        return Err(TraceError::NoMemory);
+    };
+    write_trace(alloc, graph, &[record], outlet)
+}
+
+#[test]
+fn a_trace_is_written(rt: HostRuntime) -> Result<(), Fail> {
+    let mut graph = Graph::new(rt.alloc());
+    let Ok(_) = graph.add_node("a") else {
+        return Err("the node is refused".into());
+    };
+    let text: Vec<u8> = Vec::new(rt.alloc());
+    let mut outlet = Outlet::new(text);
+    assert!(rt; !outlet.failed());
+    assert!(rt; write_lone(rt.alloc(), &graph, &mut outlet) == Ok(()));
+    assert!(rt; !outlet.failed());
+    let text = outlet.into_inner();
+    assert!(rt; text.as_slice() == b"trace 1\n0 1 a a 0 left a\n".as_slice());
+    Ok(())
+}
+
+#[test]
+fn a_writer_without_room(rt: HostRuntime) -> Result<(), Fail> {
+    let mut graph = Graph::new(rt.alloc());
+    let Ok(_) = graph.add_node("a") else {
+        return Err("the node is refused".into());
+    };
+    let mut room = [0; 10];
+    let mut outlet = Outlet::new(room.as_mut_slice());
+    assert!(rt; write_lone(rt.alloc(), &graph, &mut outlet) == Err(TraceError::Unwritable));
+    assert!(rt; outlet.failed());
+    assert!(rt; TraceError::Unwritable.code() == 1);
     Ok(())
 }
