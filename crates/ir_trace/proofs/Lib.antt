@@ -5,3 +5,4 @@ pub mod RHops
 pub mod RCuts
 pub mod RRows
 pub mod RReading
+pub mod RUnique
