@@ -6,3 +6,5 @@ pub mod RCuts
 pub mod RRows
 pub mod RReading
 pub mod RUnique
+pub mod RLinks
+pub mod RAgain

@@ -4,3 +4,4 @@ pub mod Codes
 pub mod Reading
 pub mod Spelled
 pub mod Line
+pub mod Again
