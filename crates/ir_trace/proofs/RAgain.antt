@@ -1,16 +1,15 @@
 -- What is written is read again.
-use Rattle.std.proofs.Common.{◌≡◌, ◌≢◌, ◌<◌, ◌≤◌, ◌+◌, ◌*◌, ℕ, zero, suc, Bool, true, false, cond, ◌&&◌, ◌==◌, List, [], ◌∷◌, ◌++◌, length, map, Some, slice_get, Result, Ok, Err, IfOk, IfErr, MatchResult, refl, sym, ap, subst, ◌∙◌, arith, ◌⊎◌, inl, inr}
+use Rattle.std.proofs.Common.{◌≡◌, ◌<◌, ◌≤◌, ◌*◌, ℕ, suc, true, cond, List, [], ◌∷◌, ◌++◌, length, map, Some, slice_get, Result, Ok, Err, IfOk, IfErr, MatchResult, refl, sym, ap, subst, ◌∙◌, arith, ◌⊎◌, inl, inr}
 use Rattle.std.specs.List.{list_all}
 use Rattle.std.proofs.lemmas.Bool.{and_from, eq-eqb, ne_eqb}
 use Rattle.std.proofs.lemmas.List.{length-map}
 use Rattle.std.proofs.lemmas.List.Folds.{list_all-append}
 use Rattle.std.proofs.lemmas.Option.{get_or_from_slice_get, slice_get-get_or}
-use Rattle.ir_model.specs.declared.TheConstants.{MAX_NODES}
 use Rattle.ir_model.specs.declared.Link.{Link}
-use Rattle.ir_model.specs.Graph.{Name, Adjacency, names, IsGraph}
-use Rattle.ir_model.specs.Network.{Network, node_count, IsNetwork}
+use Rattle.ir_model.specs.Graph.{Adjacency, names, IsGraph}
+use Rattle.ir_model.specs.Network.{node_count}
 use Rattle.ir_model.specs.OfGraph.{network_of_graph}
-use Rattle.ir_model.specs.Walk.{Linked, LeadsTo, IsWalk, weight_from, walk_weight}
+use Rattle.ir_model.specs.Walk.{LeadsTo, IsWalk, weight_from, walk_weight}
 use Rattle.ir_model.proofs.Walks.{leads_from_node, step_weight}
 use Rattle.ir_core.specs.Journey.{Journey}
 use Rattle.ir_core.specs.declared.packet.Fate.{Fate}
@@ -19,11 +18,11 @@ use Rattle.ir_tables.proofs.OfGraph.{graph_network}
 use Rattle.ir_trace.specs.declared.finding.Finding.{Finding}
 use Rattle.ir_trace.specs.declared.finding.FindingKind.TheVariants.{NoMemory}
 use Rattle.ir_trace.specs.declared.TheConstants.{MAX_NUMBER}
-use Rattle.ir_trace.specs.Rows.{FateText, RowText, IsRowText, fate_names, names_in, is_word, trace_text}
+use Rattle.ir_trace.specs.Rows.{IsRowText, fate_names, is_word}
 use Rattle.ir_trace.specs.Reading.{Row, node_named, AreLinkedAs, FateIsReadAs, IsReadAs, AreReadAs, IsTrace, Tells}
-use Rattle.ir_trace.specs.Written.{name_at, link_at, other_end, fate_text, row_of, records_text, FateIsIn, IsWritable, AreWritable}
+use Rattle.ir_trace.specs.Written.{name_at, link_at, other_end, fate_text, row_of, FateIsIn, IsWritable, AreWritable}
 use Rattle.ir_trace.specs.Again.{fate_again, row_again, AreNumbered, IsTraceOf}
-use Rattle.ir_trace.proofs.RLinks.{count, named, word_at, LinkNames, link_names}
+use Rattle.ir_trace.proofs.RLinks.{count, named, word_at, link_names}
 use Rattle.ir_trace.proofs.RUnique.{trace_same, trace_told}
 
 module _ (g : Adjacency) (graph : IsGraph g) where

@@ -1,14 +1,13 @@
 -- The names of a graph's nodes and links.
-use Rattle.std.proofs.Common.{◌≡◌, ◌≢◌, ◌<◌, ◌≤◌, ◌+◌, ℕ, zero, suc, Bool, true, false, not, cond, ◌&&◌, ◌==◌, List, [], ◌∷◌, ◌++◌, length, map, filter, Option, Some, None, is_some, option_map, slice_get, slice_index_or, get_or, nat_lt, nat_le, position, bytes_eq, refl, sym, ap, subst, ◌∙◌, arith, ◌⊎◌, inl, inr, ⊎_elim}
+use Rattle.std.proofs.Common.{◌≡◌, ◌<◌, ◌+◌, ℕ, zero, suc, Bool, true, false, not, cond, ◌&&◌, ◌==◌, List, [], ◌∷◌, ◌++◌, length, map, filter, Some, None, is_some, slice_get, slice_index_or, nat_lt, nat_le, bytes_eq, refl, sym, ap, subst, ◌∙◌, arith, ◌⊎◌, inl, inr, ⊎_elim}
 use Rattle.std.specs.Option.{option_map_or}
 use Rattle.std.specs.List.{list_all, position_or_len}
-use Rattle.std.proofs.lemmas.Bool.{and_parts, and_from, lt-ltb, leb-true, le-leb, cases_Bool}
+use Rattle.std.proofs.lemmas.Bool.{and_parts, and_from, lt-ltb}
 use Rattle.std.proofs.lemmas.List.{length-map}
-use Rattle.std.proofs.lemmas.Option.{slice_get-map, slice_get_within, get_or_from_slice_get, slice_get-get_or}
-use Rattle.ir_model.specs.declared.TheConstants.{MAX_NODES}
+use Rattle.std.proofs.lemmas.Option.{slice_get-map, slice_get_within, get_or_from_slice_get}
 use Rattle.ir_model.specs.declared.Link.{Link}
-use Rattle.ir_model.specs.Graph.{Name, Neighbors, Adjacency, names, is_row, is_name, is_name_byte, has_edge, weight_of, IsGraph}
-use Rattle.ir_model.specs.Network.{Network, node_count, IsLink, IsNetwork}
+use Rattle.ir_model.specs.Graph.{Name, Neighbors, Adjacency, names, is_row, is_name, is_name_byte, has_edge, IsGraph}
+use Rattle.ir_model.specs.Network.{Network, node_count, IsLink}
 use Rattle.ir_model.specs.OfGraph.{network_of_graph}
 use Rattle.ir_model.specs.Places as places
 use Rattle.ir_graph.proofs.Places.{name_there, place_of_at, link_facts}
@@ -18,8 +17,8 @@ use Rattle.ir_tables.proofs.Numbered.{row_get}
 use Rattle.ir_tables.proofs.OfGraph.{graph_rows, graph_network}
 use Rattle.ir_trace.specs.Rows.{is_word}
 use Rattle.ir_trace.specs.Reading.{node_named, AreLinkedAs}
-use Rattle.ir_trace.specs.Written.{name_at, link_at}
-use Rattle.ir_trace.proofs.RLines.{is_word_byte, word_all}
+use Rattle.ir_trace.specs.Written.{name_at}
+use Rattle.ir_trace.proofs.RLines.{is_word_byte}
 
 -- ---- links by number
 
@@ -100,7 +99,7 @@ module _ (g : Adjacency) (graph : IsGraph g) where
   entry_linked : (u i v : ℕ) (e : ℕ × ℕ) → v ≡ 0 + u → row_get (rows_of g) u i ≡ Some e → has_edge g (name_at (names g) v) (name_at (names g) e.0) ≡ true
   entry_linked u i v e eq at =
       let entry : places.link_at g u i ≡ Some e =
-          sym (slice_get-map {B = ℕ × ℕ} (λ (e : Name × ℕ). (places.place_of g e.0, e.1)) (places.neighbors_at g u) i) ∙ sym (ap (λ (xs : Numbers). slice_get xs i) (row_at g g u)) ∙ at in
+      sym (slice_get-map {B = ℕ × ℕ} (λ (e : Name × ℕ). (places.place_of g e.0, e.1)) (places.neighbors_at g u) i) ∙ sym (ap (λ (xs : Numbers). slice_get xs i) (row_at g g u)) ∙ at in
       let facts = link_facts g graph u i e.0 e.1 entry in
       let from : name_at (names g) u ≡ facts.from = get_or_from_slice_get (names g) u facts.from [] facts.from_at in
       let to : name_at (names g) e.0 ≡ facts.to = get_or_from_slice_get (names g) e.0 facts.to [] facts.to_at in

@@ -1,15 +1,14 @@
 -- A text is one trace at most, and a trace has no fault.
-use Rattle.std.proofs.Common.{◌≡◌, ◌<◌, ◌≤◌, ◌+◌, ◌^◌, ℕ, zero, suc, List, [], ◌∷◌, ◌++◌, length, flat_map, map, decimal, Some, refl, sym, ap, subst, ◌∙◌, arith, append_assoc}
+use Rattle.std.proofs.Common.{◌≡◌, ◌<◌, ℕ, List, [], ◌∷◌, ◌++◌, length, flat_map, map, Some, refl, sym, ap, subst, ◌∙◌, arith, append_assoc}
 use Rattle.std.proofs.lemmas.Fmt.{decimal_injective}
 use Rattle.std.proofs.lemmas.List.{append-nil, length-append}
-use Rattle.ir_model.specs.Graph.{Name, Adjacency, names}
+use Rattle.ir_model.specs.Graph.{Adjacency}
 use Rattle.ir_trace.specs.declared.row.RowFate.{RowFate}
 use Rattle.ir_trace.specs.declared.finding.FindingKind.{FindingKind}
 use Rattle.ir_trace.specs.declared.finding.FindingKind.TheVariants.{NotTrace, BadRow, UnknownNode, UnknownEpoch, NotAPrefix, NotAtDestination, BadWeight, Repeated, NoMemory}
-use Rattle.ir_trace.specs.Rows.{FateText, Delivered, Retired, Down, Full, Left, RowText, IsRowText, row_words, row_line, fate_words, header, trace_text, joined}
-use Rattle.ir_trace.specs.Reading.{Row, node_named, FateIsReadAs, IsReadAs, AreReadAs, IsTrace, IsBadRow, IsUnknown, IsFaultOf, IsFirstFault, Tells}
-use Rattle.ir_trace.specs.Spelled.{HasWords}
-use Rattle.ir_trace.specs.Line.{HasNoFeed, Says}
+use Rattle.ir_trace.specs.Rows.{FateText, Delivered, Retired, Down, Full, Left, RowText, IsRowText, row_words, row_line, header, joined}
+use Rattle.ir_trace.specs.Reading.{Row, FateIsReadAs, IsReadAs, AreReadAs, IsTrace, IsFirstFault, Tells}
+use Rattle.ir_trace.specs.Line.{Says}
 use Rattle.ir_trace.proofs.RSpelled.{fate_words-same}
 use Rattle.ir_trace.proofs.RRows.{says_words, words_same}
 use Rattle.ir_trace.proofs.RReading.{first_cut, row_no_feed}

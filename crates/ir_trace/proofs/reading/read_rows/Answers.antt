@@ -1,13 +1,12 @@
-use Rattle.std.proofs.Common.{◌≡◌, ◌++◌, ◌∷◌, [], ◌+◌, ◌∙◌, ap, sym, subst, map, length, Some, arith}
+use Rattle.std.proofs.Common.{◌≡◌, ◌++◌, ◌∷◌, [], ◌∙◌, ap, sym, map, length, Some, arith}
 use Rattle.std.proofs.lemmas.Bool.{eqb-false}
 use Rattle.std.proofs.lemmas.Bool.Decides.{Decides-eqb}
 use Rattle.std.proofs.lemmas.List.{map-append}
 use Rattle.std.proofs.lemmas.Result.{err_from_is_err_and}
 use Rattle.std.proofs.lemmas.Slice.Eq.{strip_prefix_is}
 use Rattle.ir_trace.specs.Rows.{header}
-use Rattle.ir_trace.specs.Reading.{Row}
 use Rattle.ir_trace.specs.Spelled.{row_held}
-use Rattle.ir_trace.proofs.RReading.{IsReadTo, read_header, read_line, line_told}
+use Rattle.ir_trace.proofs.RReading.{read_header, read_line, line_told}
 use Rattle.ir_trace.proofs.reading.read_rows.Goals as goal
 
 pub loop-rest-init : goal.loop-rest-init
