@@ -8,3 +8,6 @@ pub mod RHops
 pub mod RCuts
 pub mod RRows
 pub mod RReading
+pub mod RUnique
+pub mod RLinks
+pub mod RAgain

@@ -1,7 +1,7 @@
 -- A line and its line feed at the front of a text.
-use Rattle.std.proofs.Common.{◌≡◌, ◌<◌, ◌≤◌, ◌+◌, ◌-◌, ℕ, zero, suc, Bool, true, false, not, cond, ◌==◌, List, [], ◌∷◌, ◌++◌, length, take, drop, position, Option, Some, None, nat_lt, refl, sym, ap, subst, ◌∙◌, arith}
+use Rattle.std.proofs.Common.{◌≡◌, ◌<◌, ◌+◌, ◌-◌, ℕ, zero, suc, Bool, true, false, not, cond, ◌==◌, List, [], ◌∷◌, length, take, drop, position, Option, Some, None, nat_lt, refl, sym, ap, subst, ◌∙◌, arith}
 use Rattle.std.specs.List.{list_all, prefix_len}
-use Rattle.std.proofs.lemmas.Bool.{and_from, and_parts, ltb-true, ltb-false, eqb-true, both_ways, not-true}
+use Rattle.std.proofs.lemmas.Bool.{and_from, ltb-true, ltb-false, eqb-true}
 use Rattle.std.proofs.lemmas.List.{take_rest}
 use Rattle.ir_model.proofs.Pieces.{stops, goes_on, not-true-false, prefix_len-le}
 use Rattle.ir_trace.specs.Line.{HasNoFeed, CutsLine}

@@ -1,15 +1,15 @@
 -- The lines that are read so far.
-use Rattle.std.proofs.Common.{◌≡◌, ◌<◌, ◌≤◌, ◌+◌, ℕ, zero, suc, Bool, true, not, ◌==◌, List, [], ◌∷◌, ◌++◌, length, flat_map, map, refl, sym, ap, subst, ◌∙◌, arith, append_assoc}
+use Rattle.std.proofs.Common.{◌≡◌, ◌<◌, ◌≤◌, ◌+◌, ℕ, Bool, true, not, ◌==◌, List, [], ◌∷◌, ◌++◌, length, flat_map, refl, sym, ap, subst, ◌∙◌, arith, append_assoc}
 use Rattle.std.specs.List.{list_all}
 use Rattle.std.proofs.lemmas.Bool.{and_parts, both_ways, leb-true, ne_eqb, not_from_false}
 use Rattle.std.proofs.lemmas.List.{append-nil, length-append}
 use Rattle.std.proofs.lemmas.List.Concat.{flat_map-append}
-use Rattle.ir_model.specs.Graph.{Name, Adjacency}
+use Rattle.ir_model.specs.Graph.{Adjacency}
 use Rattle.ir_trace.specs.declared.finding.FindingKind.{FindingKind}
 use Rattle.ir_trace.specs.declared.finding.FindingKind.TheVariants.{NotTrace, BadRow, UnknownNode, UnknownEpoch, NotAPrefix, NotAtDestination, BadWeight, Repeated, NoMemory}
 use Rattle.ir_trace.specs.Rows.{RowText, IsRowText, row_words, row_line, header, trace_text, joined}
-use Rattle.ir_trace.specs.Reading.{Row, IsReadAs, AreReadAs, IsTrace, IsBadRow, IsUnknown, IsFaultOf, IsFirstFault, Tells}
-use Rattle.ir_trace.specs.Line.{HasNoFeed, CutsLine, Says, IsLineOf, IsLineFault, LineTold}
+use Rattle.ir_trace.specs.Reading.{Row, IsReadAs, AreReadAs, IsTrace, IsFaultOf, IsFirstFault, Tells}
+use Rattle.ir_trace.specs.Line.{HasNoFeed, CutsLine, Says, IsLineOf, LineTold}
 use Rattle.ir_trace.proofs.RLines.{is_word_byte, joined_all}
 use Rattle.ir_trace.proofs.RRows.{row_words_all}
 

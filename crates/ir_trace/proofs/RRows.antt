@@ -1,16 +1,15 @@
 -- The words of a row are words, and a line says one row.
-use Rattle.std.proofs.Common.{◌≡◌, ◌<◌, ◌≤◌, ◌+◌, ◌^◌, ℕ, zero, suc, Bool, true, List, [], ◌∷◌, ◌++◌, length, decimal, nat_le, refl, sym, ap, subst, ◌∙◌, arith, ◌&&◌}
+use Rattle.std.proofs.Common.{◌≡◌, ◌≤◌, ℕ, true, List, [], ◌∷◌, ◌++◌, length, decimal, nat_le, refl, sym, ap, ◌∙◌, arith}
 use Rattle.std.specs.List.{list_all}
 use Rattle.std.specs.Int.{IsInRange}
 use Rattle.std.specs.Str.Parse.{AllDigits}
-use Rattle.std.proofs.lemmas.Bool.{and_from, and_parts, le-leb}
+use Rattle.std.proofs.lemmas.Bool.{and_from, le-leb}
 use Rattle.std.proofs.lemmas.Fmt.{decimal_is_IsNumeral, decimal_nonempty}
 use Rattle.std.proofs.lemmas.Str.Parse.{digit_from_value}
-use Rattle.ir_model.specs.Graph.{Name, Adjacency}
+use Rattle.ir_model.specs.Graph.{Name}
 use Rattle.ir_trace.specs.declared.TheConstants.{MAX_NUMBER}
-use Rattle.ir_trace.specs.declared.finding.FindingKind.TheVariants.{BadRow}
-use Rattle.ir_trace.specs.Rows.{FateText, Delivered, Retired, Down, Full, Left, RowText, IsRowText, row_words, fate_words, fate_names, names_in, is_word, joined}
-use Rattle.ir_trace.specs.Spelled.{HasWords, HasNoWords, Spells, SpellsNothing}
+use Rattle.ir_trace.specs.Rows.{FateText, Delivered, Retired, Down, Full, Left, RowText, IsRowText, row_words, fate_words, fate_names, is_word}
+use Rattle.ir_trace.specs.Spelled.{HasWords, HasNoWords, SpellsNothing}
 use Rattle.ir_trace.specs.Line.{Says}
 use Rattle.ir_trace.proofs.RSpelled.{first_word, words_behind}
 use Rattle.ir_trace.proofs.RLines.{is_word_byte, is_space, split-joined}

@@ -1,12 +1,12 @@
 -- Rows and the words that spell them.
-use Rattle.std.proofs.Common.{◌≡◌, ◌≢◌, ◌<◌, ◌≤◌, ◌-◌, ℕ, zero, suc, Bool, true, ◌&&◌, List, [], ◌∷◌, ◌++◌, length, take, drop, get_or, Option, Some, None, if◌then◌else◌, codes, bytes_eq, decimal, refl, sym, ap, subst, ◌∙◌, arith}
+use Rattle.std.proofs.Common.{◌≡◌, ◌<◌, ◌≤◌, ◌-◌, ℕ, true, List, [], ◌∷◌, ◌++◌, length, take, drop, get_or, Option, Some, None, if◌then◌else◌, codes, bytes_eq, decimal, refl, sym, ap, ◌∙◌, arith}
 use Rattle.std.specs.Borrow.{Bor}
 use Rattle.std.specs.List.{list_all}
 use Rattle.std.proofs.lemmas.Bool.{and_parts, and_from}
 use Rattle.std.proofs.lemmas.List.{take_rest, length-map}
 use Rattle.ir_model.specs.Graph.{Name}
 use Rattle.ir_trace.specs.declared.TheConstants.{MAX_NUMBER}
-use Rattle.ir_trace.specs.Rows.{FateText, Delivered, Retired, Down, Full, Left, RowText, IsRowText, row_words, fate_words, fate_names, names_in, is_word}
+use Rattle.ir_trace.specs.Rows.{FateText, Delivered, Retired, Down, Full, Left, RowText, row_words, fate_words, fate_names, is_word}
 use Rattle.ir_trace.specs.Spelled.{texts, Spells, SpellsNothing, IsNoNumber}
 
 -- ---- the words of a fate tell it

@@ -6,3 +6,4 @@ pub mod Outlet
 pub mod OutletErrors
 pub mod Spelled
 pub mod Line
+pub mod Again

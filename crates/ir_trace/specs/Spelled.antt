@@ -1,5 +1,5 @@
 -- The rows that the words of a line spell, and what the code holds of them.
-use Rattle.std.specs.Prelude.{◌≡◌, ℕ, ◌<◌, ◌≤◌, true, List, ◌++◌, length, map, decimal, Some}
+use Rattle.std.specs.Prelude.{◌≡◌, ℕ, ◌==◌, ◌<◌, ◌≤◌, Bool, true, ◌||◌, ◌&&◌, List, ◌++◌, length, map, slice_index, nat_lt, decimal, Some}
 use Rattle.std.specs.List.{list_all}
 use Rattle.std.specs.Borrow.{Bor}
 use Rattle.ir_model.specs.Graph.{Name, Adjacency, names}
@@ -48,6 +48,10 @@ pub record Spells (words : List Name) (text : RowText) : Type 0 where
 -- no number has this text
 abbrev pub IsNoNumber : Name → Type 0
 IsNoNumber word = (n : ℕ) → n ≤ MAX_NUMBER → decimal n ≡ word → ⊥
+
+-- a plus stands first, or a zero with another byte behind it
+abbrev pub is_padded : Name → Bool
+is_padded word = slice_index word 0 == 43 || slice_index word 0 == 48 && nat_lt 1 (length word)
 
 -- no fate and hops have these words
 abbrev pub IsNoFate : List Name → Type 0

@@ -1,16 +1,22 @@
 //! Numbers in decimal.
 ghost use Rattle.std.specs.Prelude.{◌≡◌, MatchOption, decimal};
-ghost use Rattle.ir_trace.specs.Spelled.{IsNoNumber};
+ghost use Rattle.ir_trace.specs.Spelled.{IsNoNumber, is_padded};
+
+/// Whether a plus stands first, or a zero with another byte behind it.
+fn is_padded(bytes: &[u8]) -> bool
+    ensures { result ≡ is_padded bytes.now }
+{
+    if bytes.is_empty() {
+        return false;
+    }
+    bytes[0] == b'+' || (bytes[0] == b'0' && bytes.len() > 1)
+}
 
 /// The number that a word is in decimal without leading zeros, if a row may hold it.
 pub fn number(word: &str) -> Option<u32>
     ensures { MatchOption result (IsNoNumber word.now) (λ n. decimal n ≡ word.now) }
 {
-    let bytes = word.as_bytes();
-    if bytes.is_empty() || bytes[0] == b'+' {
-        return None;
-    }
-    if bytes[0] == b'0' && bytes.len() > 1 {
+    if is_padded(word.as_bytes()) {
         return None;
     }
     word.parse().ok()

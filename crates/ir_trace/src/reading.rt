@@ -1,6 +1,9 @@
 //! Traces as they are read.
-ghost use Rattle.std.specs.Prelude.{◌≡◌, ◌<◌, ◌==◌, Some, position, MatchOption, IfOk, IfErr, length, slice_get};
+ghost use Rattle.std.specs.Prelude.{◌≡◌, ◌<◌, ◌==◌, List, Some, position, MatchOption, MatchResult, IfOk, IfErr, length, map, slice_get};
+ghost use Rattle.ir_model.specs.OfGraph.{network_of_graph};
+ghost use Rattle.ir_core.specs.Journey.{Journey};
 ghost use Rattle.ir_trace.specs.Reading.{IsTrace, Tells};
+ghost use Rattle.ir_trace.specs.Again.{row_again, IsTraceOf};
 ghost use Rattle.ir_trace.specs.Spelled.{row_held};
 ghost use Rattle.ir_trace.specs.Line.{HasNoFeed, CutsLine, IsLineOf, LineTold};
 
@@ -81,9 +84,8 @@ fn read_row(alloc: Global, graph: &Graph, line: &[u8], number: usize) -> Result<
     }
 }
 
-/// The trace that a text is over a graph, or its first fault: `NotTrace` in line 1; in a later line `BadRow`, or else
-/// `UnknownNode`; or `NoMemory`. Rows may stand in any order, and an id may be any number that a row may hold.
-pub fn read_trace(alloc: Global, text: &[u8], graph: &Graph) -> Result<Trace, Finding>
+/// The trace that a text is over a graph, or its first fault.
+fn read_rows(alloc: Global, text: &[u8], graph: &Graph) -> Result<Trace, Finding>
     ensures read { IfOk result (λ trace. IsTrace graph.now text.now trace) }
     ensures fault { IfErr result (λ e. Tells graph.now text.now e.line e.kind) }
 {
@@ -107,4 +109,18 @@ pub fn read_trace(alloc: Global, text: &[u8], graph: &Graph) -> Result<Trace, Fi
         rest = after;
     }
     Ok(Trace { rows })
+}
+
+/// The trace that a text is over a graph, or its first fault: `NotTrace` in line 1; in a later line `BadRow`, or else
+/// `UnknownNode`; or `NoMemory`. Rows may stand in any order, and an id may be any number that a row may hold. The
+/// trace of records that can be written is read again as their rows.
+pub fn read_trace(alloc: Global, text: &[u8], graph: &Graph) -> Result<Trace, Finding>
+    ensures read { IfOk result (λ trace. IsTrace graph.now text.now trace) }
+    ensures fault { IfErr result (λ e. Tells graph.now text.now e.line e.kind) }
+
+    // What is written is read again: no fault but want of memory, and the rows of the records.
+    ensures again { (records : List Journey) → IsTraceOf graph.now text.now records → MatchResult result (λ trace. trace ≡ map (row_again (network_of_graph graph.now)) records) (λ e. e.kind ≡ FindingKind.NoMemory) }
+{
+    let _nodes = graph.number_of_nodes();
+    read_rows(alloc, text, graph)
 }

@@ -1,6 +1,5 @@
-use Rattle.std.proofs.Common.{refl, subst}
-use Rattle.std.proofs.Common.{MatchOption, None}
-use Rattle.ir_trace.specs.Spelled.{texts, HasWords, HasNoWords}
+use Rattle.std.proofs.Common.{refl}
+use Rattle.ir_trace.specs.Spelled.{texts, HasWords}
 use Rattle.ir_trace.proofs.RRows.{no_words_no_row, nothing_no_row}
 use Rattle.ir_trace.proofs.reading.read_row.Goals as goal
 

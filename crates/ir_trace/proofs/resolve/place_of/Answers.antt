@@ -1,7 +1,7 @@
 use Rattle.std.proofs.Common.{◌≡◌, ◌<◌, [], arith, bytes_eq, length, sym}
 use Rattle.std.proofs.lemmas.List.{length-map}
 use Rattle.std.proofs.lemmas.List.Quantifiers.{position-Some}
-use Rattle.ir_model.specs.Graph.{Name, names}
+use Rattle.ir_model.specs.Graph.{names}
 use Rattle.ir_trace.proofs.resolve.place_of.Goals as goal
 
 pub overflow_cast-result : goal.overflow_cast-result

@@ -1,0 +1,134 @@
+-- The names of a graph's nodes and links.
+use Rattle.std.proofs.Common.{◌≡◌, ◌<◌, ◌+◌, ℕ, zero, suc, Bool, true, false, not, cond, ◌&&◌, ◌==◌, List, [], ◌∷◌, ◌++◌, length, map, filter, Some, None, is_some, slice_get, slice_index_or, nat_lt, nat_le, bytes_eq, refl, sym, ap, subst, ◌∙◌, arith, ◌⊎◌, inl, inr, ⊎_elim}
+use Rattle.std.specs.Option.{option_map_or}
+use Rattle.std.specs.List.{list_all, position_or_len}
+use Rattle.std.proofs.lemmas.Bool.{and_parts, and_from, lt-ltb}
+use Rattle.std.proofs.lemmas.List.{length-map}
+use Rattle.std.proofs.lemmas.Option.{slice_get-map, slice_get_within, get_or_from_slice_get}
+use Rattle.ir_model.specs.declared.Link.{Link}
+use Rattle.ir_model.specs.Graph.{Name, Neighbors, Adjacency, names, is_row, is_name, is_name_byte, has_edge, IsGraph}
+use Rattle.ir_model.specs.Network.{Network, node_count, IsLink}
+use Rattle.ir_model.specs.OfGraph.{network_of_graph}
+use Rattle.ir_model.specs.Places as places
+use Rattle.ir_graph.proofs.Places.{name_there, place_of_at, link_facts}
+use Rattle.ir_tables.specs.Numbered.{Numbers, links_at, links_from}
+use Rattle.ir_tables.specs.ByPlace.{row_numbers, rows_of}
+use Rattle.ir_tables.proofs.Numbered.{row_get}
+use Rattle.ir_tables.proofs.OfGraph.{graph_rows, graph_network}
+use Rattle.ir_trace.specs.Rows.{is_word}
+use Rattle.ir_trace.specs.Reading.{node_named, AreLinkedAs}
+use Rattle.ir_trace.specs.Written.{name_at}
+use Rattle.ir_trace.proofs.RLines.{is_word_byte}
+
+-- ---- links by number
+
+get_append : {A : Type 0} (xs ys : List A) (k : ℕ) (x : A) → slice_get (xs ++ ys) k ≡ Some x → ((i : ℕ) × (slice_get xs i ≡ Some x)) ⊎ ((j : ℕ) × (slice_get ys j ≡ Some x))
+get_append [] ys k x at = inr (k, at)
+get_append (y ∷ xs) ys zero x at = inl (0, at)
+get_append (y ∷ xs) ys (suc k) x at = ⊎_elim (λ found. inl (suc found.0, found.1)) inr (get_append xs ys k x at)
+
+-- what a filter keeps was there
+kept_from : {A : Type 0} (t : A → Bool) (xs : List A) (k : ℕ) (x : A) → slice_get (filter t xs) k ≡ Some x → (i : ℕ) × (slice_get xs i ≡ Some x)
+kept_from t [] k x at = absurd (cc at)
+kept_from {A} t (y ∷ xs) k x at = by (t y) (λ j h. kept_from t xs j x h) k at
+  where
+    by : (b : Bool) → ((j : ℕ) → slice_get (filter t xs) j ≡ Some x → (i : ℕ) × (slice_get xs i ≡ Some x)) → (k : ℕ) → slice_get (cond b (y ∷ filter t xs) (filter t xs)) k ≡ Some x → (i : ℕ) × (slice_get (y ∷ xs) i ≡ Some x)
+    by true later zero h = (0, h)
+    by true later (suc k) h = let found = later k h in (suc found.0, found.1)
+    by false later k h = let found = later k h in (suc found.0, found.1)
+
+-- what a map gives comes from there
+mapped_from : {A B : Type 0} (f : A → B) (xs : List A) (k : ℕ) (y : B) → slice_get (map f xs) k ≡ Some y → (x : A) × (slice_get xs k ≡ Some x) × (f x ≡ y)
+mapped_from f [] k y at = absurd (cc at)
+mapped_from f (x ∷ xs) zero y at = (x, refl, cc at)
+mapped_from f (x ∷ xs) (suc k) y at = mapped_from f xs k y at
+
+-- what holds of each entry of a row holds of the ends of each link
+each_link : (P : ℕ → ℕ → Type 0) (u : ℕ) (rows : List Numbers) → ((j i v : ℕ) (e : ℕ × ℕ) → v ≡ u + j → row_get rows j i ≡ Some e → P v e.0) → (l : ℕ) (link : Link) → slice_get (links_from u rows) l ≡ Some link → P link.low link.high
+each_link P u [] each l link at = absurd (cc at)
+each_link P u (es ∷ rows) each l link at = ⊎_elim
+    (λ (here : (i : ℕ) × (slice_get (links_at u es) i ≡ Some link)).
+    let entry = mapped_from {B = Link} (λ (e : ℕ × ℕ). record { low = u; high = e.0; weight = e.1 }) (filter (λ e. nat_lt u e.0) es) here.0 link here.1 in
+    let there = kept_from (λ (e : ℕ × ℕ). nat_lt u e.0) es here.0 entry.0 entry.1 in
+    subst (λ (k : Link). P k.low k.high) entry.2 (each 0 there.0 u entry.0 (omega arith) there.1))
+    (λ (later : (j : ℕ) × (slice_get (links_from (u + 1) rows) j ≡ Some link)). each_link P (u + 1) rows (λ j i v e eq h. each (suc j) i v e (omega arith) h) later.0 link later.1)
+    (get_append (links_at u es) (links_from (u + 1) rows) l link at)
+
+-- the row of a node, by number
+row_at : (g rs : Adjacency) (u : ℕ) → slice_index_or (map (λ r. row_numbers g r.1) rs) u [] ≡ row_numbers g (option_map_or (λ (r : Name × Neighbors). r.1) (slice_get rs u) [])
+row_at g [] u = refl
+row_at g (r ∷ rs) zero = refl
+row_at g (r ∷ rs) (suc u) = row_at g rs u
+
+-- ---- names
+
+name_word : (x : Name) → is_name x ≡ true → is_word x ≡ true
+name_word x h =
+    let long = and_parts (nat_le 1 (length x) && nat_le (length x) 64) (list_all is_name_byte x) h in
+    and_from (nat_le 1 (length x)) (list_all is_word_byte x) (and_parts (nat_le 1 (length x)) (nat_le (length x) 64) long.0).0 (bytes x long.1)
+  where
+    bytes : (bs : List ℕ) → list_all is_name_byte bs ≡ true → list_all is_word_byte bs ≡ true
+    bytes [] h = refl
+    bytes (b ∷ bs) h =
+        let both = and_parts (is_name_byte b) (list_all is_name_byte bs) h in
+        and_from (is_word_byte b) (list_all is_word_byte bs) (and_parts (is_word_byte b) (not (b == 35)) both.0).0 (bytes bs both.1)
+
+row_name : (g : Adjacency) (u : ℕ) (x : Name) → list_all is_row g ≡ true → slice_get (names g) u ≡ Some x → is_name x ≡ true
+row_name [] u x h at = absurd (cc at)
+row_name (r ∷ g) zero x h at = let same : r.0 ≡ x = cc at in ap is_name (sym same) ∙ (and_parts (is_name r.0) _ (and_parts (is_row r) (list_all is_row g) h).0).0
+row_name (r ∷ g) (suc u) x h at = row_name g u x (and_parts (is_row r) (list_all is_row g) h).1 at
+
+module _ (g : Adjacency) (graph : IsGraph g) where
+  pub count : node_count (network_of_graph g) ≡ length g
+  count = simp length-map
+
+  pub name_is : (u : ℕ) → u < length g → slice_get (names g) u ≡ Some (name_at (names g) u)
+  name_is u h = let there = name_there g u h in there.1 ∙ ap (λ x. Some x) (sym (get_or_from_slice_get (names g) u there.0 [] there.1))
+
+  pub named : (u : ℕ) → u < length g → node_named (names g) (name_at (names g) u) ≡ Some u
+  named u h =
+      let x = name_at (names g) u in
+      let at : slice_get (names g) u ≡ Some x = name_is u h in
+      let place : position_or_len (bytes_eq x) (names g) ≡ u = place_of_at g graph.nodes_differ u x at in
+      ap (λ n. cond (nat_lt n (length (names g))) (Some n) None) place ∙ ap (λ b. cond b (Some u) None) (lt-ltb u (length (names g)) (slice_get_within (names g) u x at))
+
+  pub word_at : (u : ℕ) → u < length g → is_word (name_at (names g) u) ≡ true
+  word_at u h = name_word (name_at (names g) u) (row_name g u (name_at (names g) u) graph.rows (name_is u h))
+
+  -- the ends of a link are linked by name
+  entry_linked : (u i v : ℕ) (e : ℕ × ℕ) → v ≡ 0 + u → row_get (rows_of g) u i ≡ Some e → has_edge g (name_at (names g) v) (name_at (names g) e.0) ≡ true
+  entry_linked u i v e eq at =
+      let entry : places.link_at g u i ≡ Some e =
+      sym (slice_get-map {B = ℕ × ℕ} (λ (e : Name × ℕ). (places.place_of g e.0, e.1)) (places.neighbors_at g u) i) ∙ sym (ap (λ (xs : Numbers). slice_get xs i) (row_at g g u)) ∙ at in
+      let facts = link_facts g graph u i e.0 e.1 entry in
+      let from : name_at (names g) u ≡ facts.from = get_or_from_slice_get (names g) u facts.from [] facts.from_at in
+      let to : name_at (names g) e.0 ≡ facts.to = get_or_from_slice_get (names g) e.0 facts.to [] facts.to_at in
+      let same : v ≡ u = omega arith in
+      ap (λ n. has_edge g (name_at (names g) n) (name_at (names g) e.0)) same ∙ ap (λ x. has_edge g x (name_at (names g) e.0)) from ∙ ap (has_edge g facts.from) to ∙ ap is_some facts.weight
+
+  link_edge : (l : ℕ) (link : Link) → slice_get (network_of_graph g).links l ≡ Some link → has_edge g (name_at (names g) link.low) (name_at (names g) link.high) ≡ true
+  link_edge l link at =
+      each_link (λ u v. has_edge g (name_at (names g) u) (name_at (names g) v) ≡ true) 0 (rows_of g) entry_linked l link (ap (λ (net : Network). slice_get net.links l) (sym (graph_rows g graph)) ∙ at)
+
+  -- the ends of a link, by name
+  pub record LinkNames (link : Link) : Type 0 where
+    pub ordered : link.low < link.high
+    pub within : link.high < length g
+    pub forth : AreLinkedAs g (name_at (names g) link.low) (name_at (names g) link.high) link.low link.high
+    pub back : AreLinkedAs g (name_at (names g) link.high) (name_at (names g) link.low) link.high link.low
+
+  pub link_names : (l : ℕ) (link : Link) → slice_get (network_of_graph g).links l ≡ Some link → LinkNames link
+  link_names l link at =
+      let is : IsLink (node_count (network_of_graph g)) link = (graph_network g graph).links l link at in
+      let high : link.high < length g = omega (arith, is.in_range, count) in
+      let ordered : link.low < link.high = is.ordered in
+      let low : link.low < length g = omega arith in
+      let x = name_at (names g) link.low in
+      let y = name_at (names g) link.high in
+      let edge : has_edge g x y ≡ true = link_edge l link at in
+      record {
+        ordered = ordered;
+        within = high;
+        forth = (named link.low low, named link.high high, λ e. omega (arith, e, ordered), edge);
+        back = (named link.high high, named link.low low, λ e. omega (arith, e, ordered), ap is_some (graph.both_ways y x) ∙ edge);
+      }

@@ -1,0 +1,44 @@
+-- What a trace that was written is read as again.
+use Rattle.std.specs.Prelude.{◌≡◌, ℕ, ◌≤◌, List, slice_get, Some}
+use Rattle.ir_model.specs.Graph.{Adjacency, names}
+use Rattle.ir_model.specs.Network.{Network}
+use Rattle.ir_model.specs.OfGraph.{network_of_graph}
+use Rattle.ir_model.specs.Walk.{walk_weight}
+use Rattle.ir_core.specs.Journey.{Journey}
+use Rattle.ir_core.specs.declared.packet.Fate.{Fate}
+use Rattle.ir_core.specs.declared.packet.Fate.TheVariants as fate
+use Rattle.ir_trace.specs.declared.TheConstants.{MAX_NUMBER}
+use Rattle.ir_trace.specs.declared.row.RowFate.{RowFate}
+use Rattle.ir_trace.specs.declared.row.RowFate.TheVariants as read
+use Rattle.ir_trace.specs.Reading.{Row}
+use Rattle.ir_trace.specs.Written.{link_at, other_end, records_text, AreWritable}
+
+-- the fate of a record, with the ends of its link
+abbrev pub fate_again : Network → Fate → RowFate
+fate_again net fate.Delivered = read.Delivered
+fate_again net fate.Retired = read.Retired
+fate_again net (fate.Down l) = read.Down (link_at net l).low (link_at net l).high
+fate_again net (fate.Full l to) = read.Full (other_end (link_at net l) to) to
+fate_again net fate.Left = read.Left
+
+-- the row of a record, as it is read: its weight is that of its hops
+abbrev pub row_again : Network → Journey → Row
+row_again net r = record {
+  id = r.id;
+  epoch = r.epoch;
+  source = r.source;
+  dest = r.dest;
+  weight = walk_weight net r.hops;
+  fate = fate_again net r.fate;
+  hops = r.hops;
+}
+
+-- a row can hold the numbers of each record
+abbrev pub AreNumbered : List Journey → Type 0
+AreNumbered records = (i : ℕ) (r : Journey) → slice_get records i ≡ Some r → (r.id ≤ MAX_NUMBER) × (r.epoch ≤ MAX_NUMBER)
+
+-- The text is the trace of these records over the graph, whose rows can be written.
+pub record IsTraceOf (g : Adjacency) (text : List ℕ) (records : List Journey) : Type 0 where
+  pub writable : AreWritable (network_of_graph g) records
+  pub numbered : AreNumbered records
+  pub whole : text ≡ records_text (names g) (network_of_graph g) records
