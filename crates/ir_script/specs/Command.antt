@@ -1,0 +1,114 @@
+-- What one line of a script says.
+use Rattle.std.specs.Prelude.{ℕ, not, ◌&&◌, ◌==◌, Bool, if◌then◌else◌, List, [], ◌∷◌, length, nat_le, Option, Some, None, Result, Ok, Err, bytes_eq, codes, find, position}
+use Rattle.std.specs.List.{list_all}
+use Rattle.ir_model.specs.declared.Hop.{Hop}
+use Rattle.ir_model.specs.declared.Kind.TheVariants.{Tree, Shortest}
+use Rattle.ir_model.specs.Graph.{Name}
+use Rattle.ir_model.specs.Text.{content, words, is_plain, is_empty}
+use Rattle.ir_model.specs.Edgelist.{is_digit, value_of}
+use Rattle.ir_model.specs.Network.{Network, ports_of}
+use Rattle.ir_core.specs.declared.event.Way.TheVariants.{Inbox, Link}
+use Rattle.ir_core.specs.declared.event.Event.{Event}
+use Rattle.ir_core.specs.declared.event.Event.TheVariants.{Inject, Learn, Take, Read, Act, Install, Retire, Down, Up}
+use Rattle.ir_core.specs.declared.event.Step.{Step}
+use Rattle.ir_core.specs.declared.event.Step.TheVariants as step
+use Rattle.ir_script.specs.declared.TheConstants.{MAX_DIGITS, MAX_NUMBER}
+use Rattle.ir_script.specs.declared.fault.ScriptFault.{ScriptFault}
+use Rattle.ir_script.specs.declared.fault.ScriptFault.TheVariants.{BadByte, BadCommand, BadNumber, UnknownNode, UnknownLink}
+
+-- ---- what a word stands for
+
+-- one to five decimal digits, of a value up to the greatest
+abbrev pub is_number : Name → Bool
+is_number word = not (is_empty word) && nat_le (length word) MAX_DIGITS && list_all is_digit word && nat_le (value_of word) MAX_NUMBER
+
+-- the number that a word spells
+abbrev pub number_of : Name → Result ℕ ScriptFault
+number_of word = if is_number word then Ok (value_of word) else Err BadNumber
+
+-- the place of a node, where it was found
+abbrev pub node_at : Option ℕ → Result ℕ ScriptFault
+node_at None = Err UnknownNode
+node_at (Some u) = Ok u
+
+-- the number of the node that a word names
+abbrev pub node_of : List Name → Name → Result ℕ ScriptFault
+node_of nodes word = node_at (position (bytes_eq word) nodes)
+
+-- the link of a port, where it was found
+abbrev pub link_at : Option Hop → Result ℕ ScriptFault
+link_at None = Err UnknownLink
+link_at (Some hop) = Ok hop.link
+
+-- the link by which a port of u leads to v
+abbrev pub link_between : Network → ℕ → ℕ → Result ℕ ScriptFault
+link_between net u v = link_at (find (λ hop. hop.node == v) (ports_of net u))
+
+-- the link between two ends, where both are nodes
+abbrev pub link_of_ends : Network → Result ℕ ScriptFault → Result ℕ ScriptFault → Result ℕ ScriptFault
+link_of_ends net (Err e) v = Err e
+link_of_ends net (Ok u) (Err e) = Err e
+link_of_ends net (Ok u) (Ok v) = link_between net u v
+
+-- the link between the nodes that two words name
+abbrev pub link_of : List Name → Network → Name → Name → Result ℕ ScriptFault
+link_of nodes net first second = link_of_ends net (node_of nodes first) (node_of nodes second)
+
+-- ---- the event of what words stand for
+
+-- of one word
+abbrev pub of_one : (ℕ → Event) → Result ℕ ScriptFault → Result Event ScriptFault
+of_one event (Err e) = Err e
+of_one event (Ok x) = Ok (event x)
+
+-- of two words: the fault of the first comes first
+abbrev pub of_two : (ℕ → ℕ → Event) → Result ℕ ScriptFault → Result ℕ ScriptFault → Result Event ScriptFault
+of_two event (Err e) y = Err e
+of_two event (Ok x) (Err e) = Err e
+of_two event (Ok x) (Ok y) = Ok (event x y)
+
+-- ---- the commands, by how many words follow the first
+
+-- `act N`, `learn E`, `retire F`
+abbrev pub event_of_one : List Name → Name → Name → Result Event ScriptFault
+event_of_one nodes command first =
+    if bytes_eq command (codes "act") then of_one (λ u. Act u) (node_of nodes first)
+    else if bytes_eq command (codes "learn") then of_one (λ e. Learn e) (number_of first)
+    else if bytes_eq command (codes "retire") then of_one (λ f. Retire f) (number_of first)
+    else Err BadCommand
+
+-- `inject A B`, `down A B`, `up A B`, `read N K`, `take N inbox`, `install tree R`, `install shortest R`
+abbrev pub event_of_two : List Name → Network → Name → Name → Name → Result Event ScriptFault
+event_of_two nodes net command first second =
+    if bytes_eq command (codes "inject") then of_two (λ u v. Inject u v) (node_of nodes first) (node_of nodes second)
+    else if bytes_eq command (codes "down") then of_one (λ l. Down l) (link_of nodes net first second)
+    else if bytes_eq command (codes "up") then of_one (λ l. Up l) (link_of nodes net first second)
+    else if bytes_eq command (codes "read") then of_two (λ u k. Read u k) (node_of nodes first) (number_of second)
+    else if bytes_eq command (codes "take") && bytes_eq second (codes "inbox") then of_one (λ u. Take u Inbox) (node_of nodes first)
+    else if bytes_eq command (codes "install") && bytes_eq first (codes "tree") then of_one (λ r. Install Tree r) (node_of nodes second)
+    else if bytes_eq command (codes "install") && bytes_eq first (codes "shortest") then of_one (λ r. Install Shortest r) (node_of nodes second)
+    else Err BadCommand
+
+-- `take N from M`
+abbrev pub event_of_three : List Name → Network → Name → Name → Name → Name → Result Event ScriptFault
+event_of_three nodes net command first second third =
+    if bytes_eq command (codes "take") && bytes_eq second (codes "from") then of_two (λ u l. Take u (Link l)) (node_of nodes first) (link_of nodes net first third)
+    else Err BadCommand
+
+-- an event as the step of a line
+abbrev pub as_step : Result Event ScriptFault → Result (Option Step) ScriptFault
+as_step (Err e) = Err e
+as_step (Ok event) = Ok (Some (step.Event event))
+
+-- the step that the words of a line name: none where there is no word, and `drain` where there is that one
+abbrev pub step_of : List Name → Network → List Name → Result (Option Step) ScriptFault
+step_of nodes net [] = Ok None
+step_of nodes net (command ∷ []) = if bytes_eq command (codes "drain") then Ok (Some step.Drain) else Err BadCommand
+step_of nodes net (command ∷ first ∷ []) = as_step (event_of_one nodes command first)
+step_of nodes net (command ∷ first ∷ second ∷ []) = as_step (event_of_two nodes net command first second)
+step_of nodes net (command ∷ first ∷ second ∷ third ∷ []) = as_step (event_of_three nodes net command first second third)
+step_of nodes net (command ∷ first ∷ second ∷ third ∷ fourth ∷ more) = Err BadCommand
+
+-- what a line says: its bytes are looked at first
+abbrev pub line_step : List Name → Network → List ℕ → Result (Option Step) ScriptFault
+line_step nodes net line = if not (list_all is_plain (content line)) then Err BadByte else step_of nodes net (words line)

@@ -1,0 +1,126 @@
+//! One line of a script.
+ghost use Rattle.std.specs.Prelude.{◌≡◌};
+ghost use Rattle.ir_model.specs.Graph.{names};
+ghost use Rattle.ir_model.specs.OfGraph.{network_of_graph};
+ghost use Rattle.ir_model.specs.Text.{words_of};
+ghost use Rattle.ir_script.specs.Command.{event_of_one, event_of_two, event_of_three, step_of, line_step};
+
+use crate::fault::ScriptFault;
+use crate::word::{link_between, link_of, node_of, number_of};
+use ir_adjlist::scan;
+use ir_core::{Event, Kind, Step, Way};
+use ir_graph::Graph;
+use ir_tables::Topology;
+
+/// The event of a first word that one follows.
+fn event_of_one(graph: &Graph, command: &[u8], first: &[u8]) -> Result<Event, ScriptFault>
+    ensures { result ≡ event_of_one (names graph.now) command.now first.now }
+{
+    if command == b"act".as_slice() {
+        return Ok(Event::Act(node_of(graph, first)?));
+    }
+    if command == b"learn".as_slice() {
+        return Ok(Event::Learn(number_of(first)?));
+    }
+    if command == b"retire".as_slice() {
+        return Ok(Event::Retire(number_of(first)?));
+    }
+    Err(ScriptFault::BadCommand)
+}
+
+/// The event of a first word that two follow.
+fn event_of_two(
+    graph: &Graph,
+    topology: &Topology,
+    command: &[u8],
+    first: &[u8],
+    second: &[u8],
+) -> Result<Event, ScriptFault>
+    requires { topology.now ≡ network_of_graph graph.now }
+    ensures { result ≡ event_of_two (names graph.now) topology.now command.now first.now second.now }
+{
+    if command == b"inject".as_slice() {
+        return Ok(Event::Inject(node_of(graph, first)?, node_of(graph, second)?));
+    }
+    if command == b"down".as_slice() {
+        return Ok(Event::Down(link_of(graph, topology, first, second)?));
+    }
+    if command == b"up".as_slice() {
+        return Ok(Event::Up(link_of(graph, topology, first, second)?));
+    }
+    if command == b"read".as_slice() {
+        return Ok(Event::Read(node_of(graph, first)?, number_of(second)? as usize));
+    }
+    if command == b"take".as_slice() && second == b"inbox".as_slice() {
+        return Ok(Event::Take(node_of(graph, first)?, Way::Inbox));
+    }
+    if command == b"install".as_slice() && first == b"tree".as_slice() {
+        return Ok(Event::Install(Kind::Tree, node_of(graph, second)?));
+    }
+    if command == b"install".as_slice() && first == b"shortest".as_slice() {
+        return Ok(Event::Install(Kind::Shortest, node_of(graph, second)?));
+    }
+    Err(ScriptFault::BadCommand)
+}
+
+/// The event of a first word that three follow.
+fn event_of_three(
+    graph: &Graph,
+    topology: &Topology,
+    command: &[u8],
+    first: &[u8],
+    second: &[u8],
+    third: &[u8],
+) -> Result<Event, ScriptFault>
+    requires { topology.now ≡ network_of_graph graph.now }
+    ensures { result ≡ event_of_three (names graph.now) topology.now command.now first.now second.now third.now }
+{
+    if command == b"take".as_slice() && second == b"from".as_slice() {
+        let node = node_of(graph, first)?;
+        let link = link_between(topology, node, node_of(graph, third)?)?;
+        return Ok(Event::Take(node, Way::Link(link)));
+    }
+    Err(ScriptFault::BadCommand)
+}
+
+/// The step that the words of a line name; none where it has no word.
+fn step_of(graph: &Graph, topology: &Topology, words: &[u8]) -> Result<Option<Step>, ScriptFault>
+    requires { topology.now ≡ network_of_graph graph.now }
+    ensures { result ≡ step_of (names graph.now) topology.now (words_of words.now) }
+{
+    let Some((command, rest)) = scan::next_word(words) else {
+        return Ok(None);
+    };
+    let Some((first, rest)) = scan::next_word(rest) else {
+        if command == b"drain".as_slice() {
+            return Ok(Some(Step::Drain));
+        }
+        return Err(ScriptFault::BadCommand);
+    };
+    let Some((second, rest)) = scan::next_word(rest) else {
+        return Ok(Some(Step::Event(event_of_one(graph, command, first)?)));
+    };
+    let Some((third, rest)) = scan::next_word(rest) else {
+        return Ok(Some(Step::Event(event_of_two(graph, topology, command, first, second)?)));
+    };
+    if scan::next_word(rest).is_some() {
+        return Err(ScriptFault::BadCommand);
+    }
+    Ok(Some(Step::Event(event_of_three(graph, topology, command, first, second, third)?)))
+}
+
+/// The step that a line names; none where it has no word.
+pub fn line_step(
+    graph: &Graph,
+    topology: &Topology,
+    line: &[u8],
+) -> Result<Option<Step>, ScriptFault>
+    requires { topology.now ≡ network_of_graph graph.now }
+    ensures { result ≡ line_step (names graph.now) topology.now line.now }
+{
+    let words = scan::without_comment(line);
+    if !scan::all_plain(words) {
+        return Err(ScriptFault::BadByte);
+    }
+    step_of(graph, topology, words)
+}

@@ -1,0 +1,100 @@
+//! What a word of a script stands for: a number, a node, or with another word a link.
+ghost use Rattle.std.specs.Prelude.{◌≡◌, ◌+◌, ◌<◌, ◌≤◌, ◌==◌, find, min, length, IfOk};
+ghost use Rattle.std.specs.List.{list_all};
+ghost use Rattle.ir_model.specs.Edgelist.{is_digit, value_of};
+ghost use Rattle.ir_model.specs.Graph.{names};
+ghost use Rattle.ir_model.specs.Network.{node_count};
+ghost use Rattle.ir_model.specs.OfGraph.{network_of_graph};
+ghost use Rattle.ir_script.specs.declared.TheConstants.{MAX_NUMBER};
+ghost use Rattle.ir_script.specs.Command.{number_of, node_of, link_between, link_of};
+
+use crate::fault::ScriptFault;
+use crate::{MAX_DIGITS, MAX_NUMBER};
+use ir_graph::Graph;
+use ir_model::Hop;
+use ir_tables::Topology;
+
+fn is_digit(byte: u8) -> bool
+    ensures { result ≡ is_digit byte }
+{
+    byte >= b'0' && byte <= b'9'
+}
+
+fn all_digits(bytes: &[u8]) -> bool
+    ensures { result ≡ list_all is_digit bytes.now }
+{
+    bytes.iter().all(|byte| is_digit(*byte))
+}
+
+/// The value of the digits, or one more than the greatest number where it is above that.
+fn capped_value(digits: &[u8]) -> u32
+    ensures { result ≡ min (MAX_NUMBER + 1) (value_of digits.now) }
+{
+    let mut value = 0;
+    for digit in digits {
+        value = (value * 10 + u32::from(digit.saturating_sub(b'0'))).min(MAX_NUMBER + 1);
+    }
+    value
+}
+
+/// The number that a word spells.
+pub fn number_of(word: &[u8]) -> Result<u32, ScriptFault>
+    ensures { result ≡ number_of word.now }
+{
+    if word.is_empty() || word.len() > MAX_DIGITS || !all_digits(word) {
+        return Err(ScriptFault::BadNumber);
+    }
+    let value = capped_value(word);
+    if value > MAX_NUMBER {
+        return Err(ScriptFault::BadNumber);
+    }
+    Ok(value)
+}
+
+/// The number of the node that a word names.
+pub fn node_of(graph: &Graph, word: &[u8]) -> Result<u16, ScriptFault>
+    ensures node { result ≡ node_of (names graph.now) word.now }
+    ensures within { IfOk result (λ u. u < length graph.now) }
+{
+    let _nodes = graph.number_of_nodes();
+    let Ok(name) = str::from_utf8(word) else {
+        return Err(ScriptFault::UnknownNode);
+    };
+    match graph.index_of(name) {
+        Some(place) => Ok(place as u16),
+        None => Err(ScriptFault::UnknownNode),
+    }
+}
+
+/// The first port to a node.
+fn port_to(ports: &[Hop], v: u16) -> Option<Hop>
+    ensures { result ≡ find (λ hop. hop.node == v) ports.now }
+{
+    ports.iter().copied().find(|hop| hop.node == v)
+}
+
+/// The link by which a port of a node leads to another.
+pub fn link_between(topology: &Topology, u: u16, v: u16) -> Result<u16, ScriptFault>
+    requires { u < node_count topology.now }
+    ensures { result ≡ link_between topology.now u v }
+{
+    match port_to(topology.ports(usize::from(u)), v) {
+        Some(hop) => Ok(hop.link),
+        None => Err(ScriptFault::UnknownLink),
+    }
+}
+
+/// The link between the nodes that two words name.
+pub fn link_of(
+    graph: &Graph,
+    topology: &Topology,
+    first: &[u8],
+    second: &[u8],
+) -> Result<u16, ScriptFault>
+    requires { topology.now ≡ network_of_graph graph.now }
+    ensures { result ≡ link_of (names graph.now) topology.now first.now second.now }
+{
+    let u = node_of(graph, first)?;
+    let v = node_of(graph, second)?;
+    link_between(topology, u, v)
+}
