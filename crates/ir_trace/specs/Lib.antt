@@ -2,3 +2,5 @@ pub mod Rows
 pub mod Written
 pub mod Codes
 pub mod Reading
+pub mod Outlet
+pub mod OutletErrors

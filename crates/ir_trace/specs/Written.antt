@@ -1,5 +1,5 @@
 -- The trace of packets' records.
-use Rattle.std.specs.Prelude.{◌≡◌, ◌≢◌, ℕ, ◌<◌, ◌≤◌, ◌⊎◌, List, [], length, map, slice_get, slice_index_or, Some, if◌then◌else◌, ◌==◌}
+use Rattle.std.specs.Prelude.{◌≡◌, ℕ, ◌<◌, ◌≤◌, ◌⊎◌, List, [], length, map, slice_get, slice_index_or, Some, if◌then◌else◌, ◌==◌}
 use Rattle.ir_model.specs.declared.TheConstants.{MAX_NODES}
 use Rattle.ir_model.specs.declared.Link.{Link}
 use Rattle.ir_model.specs.Graph.{Name}

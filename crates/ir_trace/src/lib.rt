@@ -6,10 +6,16 @@
 #![tactic(auto)]
 
 mod finding;
+mod outlet;
 mod row;
+mod text;
+mod weight;
+mod writing;
 
 pub use finding::{Finding, FindingKind};
+pub use outlet::{Outlet, TraceError};
 pub use row::RowFate;
+pub use writing::{trace_text, write_trace};
 
 /// The greatest number that a row may hold.
 pub const MAX_NUMBER: usize = 4_294_967_295;

@@ -1,0 +1,42 @@
+-- The text of rows.
+use Rattle.std.proofs.Common.{◌≡◌, ℕ, ◌<◌, ◌≤◌, true, List, [], ◌∷◌, ◌++◌, length, flat_map, nat_lt, arith, ap, sym, subst, ◌∙◌, refl, append_assoc, ⊎_elim}
+use Rattle.std.specs.List.{list_all}
+use Rattle.std.proofs.lemmas.Bool.{lt-ltb, cases_lt}
+use Rattle.std.proofs.lemmas.List.{get_or_past}
+use Rattle.std.proofs.lemmas.Option.{slice_get_within}
+use Rattle.std.proofs.lemmas.Grind.{flat_map-append}
+use Rattle.ir_model.specs.Network.{Network, node_count, ports_of}
+use Rattle.ir_model.specs.Walk.{Linked, LeadsTo, IsWalk}
+use Rattle.ir_trace.specs.Rows.{spaced}
+
+-- a node with a port is a node
+linked_within : (net : Network) (u v : ℕ) → Linked net u v → u < node_count net
+linked_within net u v step =
+    let some : step.0 < length (ports_of net u) = slice_get_within (ports_of net u) step.0 step.1 step.2 in
+    ⊎_elim (λ (lt : u < node_count net). lt)
+    (λ (ge : node_count net ≤ u). let none : ports_of net u ≡ [] = get_or_past net.ports u [] ge in absurd (omega (arith, some, ap length none)))
+    (cases_lt u (node_count net))
+
+leads_within : (net : Network) (u d : ℕ) (rest : List ℕ) → LeadsTo net u d rest → list_all (λ x. nat_lt x (node_count net)) (u ∷ rest) ≡ true
+leads_within net u d [] way =
+    let within : u < node_count net = omega (arith, way.0, way.1) in rw (lt-ltb u (node_count net) within) refl
+leads_within net u d (v ∷ rest) way =
+    rw (lt-ltb u (node_count net) (linked_within net u v way.0)) (leads_within net v d rest way.1)
+
+-- each node of a walk is a node
+pub walk_within : (net : Network) (u d : ℕ) (hops : List ℕ) → IsWalk net u d hops → list_all (λ x. nat_lt x (node_count net)) hops ≡ true
+walk_within net u d [] walk = absurd walk
+walk_within net u d (x ∷ rest) walk =
+    let P : ℕ → Type 0 = λ y. list_all (λ z. nat_lt z (node_count net)) (y ∷ rest) ≡ true in
+    subst P (sym walk.0) (leads_within net u d rest walk.1)
+
+pieces : (old a b c d e f g h : List ℕ) → (((((((old ++ a) ++ b) ++ c) ++ d) ++ e) ++ f) ++ g) ++ h ≡ old ++ ((a ++ (b ++ (c ++ (d ++ (e ++ (f ++ g)))))) ++ h)
+pieces old a b c d e f g h = simp append_assoc
+
+-- the words of a row, put one after another
+pub row_pieces : (old a b c d e : List ℕ) (fate hops : List (List ℕ)) (h : List ℕ)
+    → (((((((old ++ a) ++ spaced b) ++ spaced c) ++ spaced d) ++ spaced e) ++ flat_map spaced fate) ++ flat_map spaced hops) ++ h
+    ≡ old ++ ((a ++ flat_map spaced (b ∷ c ∷ d ∷ e ∷ fate ++ hops)) ++ h)
+row_pieces old a b c d e fate hops h =
+    pieces old a (spaced b) (spaced c) (spaced d) (spaced e) (flat_map spaced fate) (flat_map spaced hops) h
+    ∙ ap (λ t. old ++ ((a ++ (spaced b ++ (spaced c ++ (spaced d ++ (spaced e ++ t))))) ++ h)) (sym (flat_map-append spaced fate hops))

@@ -1,0 +1,105 @@
+//! Where traces go out, and why a trace did not.
+ghost use Rattle.std.specs.Prelude.{◌≡◌, false, not};
+ghost use Rattle.ir_trace.specs.Outlet.{Writes};
+
+use std::alloc::AllocError;
+use std::io::Write;
+use std::marker::Model;
+
+/// Why a trace was not written.
+#[derive(Clone, Copy, Debug, PartialEq, Eq)]
+pub enum TraceError {
+    /// The writer gave an error, or took none of the bytes left.
+    Unwritable = 1,
+    /// A growth was refused.
+    NoMemory = 2,
+}
+
+impl TraceError {
+    ghost use Rattle.std.specs.Prelude.{◌≡◌};
+    ghost use Rattle.ir_trace.specs.OutletErrors.{error_code};
+
+    /// The number of the error, from 1 to 2.
+    pub fn code(self) -> u8
+        ensures { result ≡ error_code self }
+    {
+        self as u8
+    }
+}
+
+impl From<AllocError> for TraceError {
+    ghost use Rattle.std.specs.Prelude.{◌≡◌};
+    ghost use Rattle.ir_trace.specs.declared.outlet.TraceError.TheVariants.{NoMemory};
+
+    ghost from_gives = { λ _ e. e ≡ NoMemory };
+
+    fn from(_error: AllocError) -> TraceError {
+        TraceError::NoMemory
+    }
+}
+
+/// A writer that traces go out to. It is seen as the writer, and whether it has failed.
+#[derive(Drop)]
+pub struct Outlet<W> {
+    writer: W,
+    failed: bool,
+}
+
+impl<W> Model for Outlet<W> {
+    ghost use Rattle.ir_trace.specs.Outlet.{Sink};
+
+    ghost Value = { Sink W };
+
+    ghost view = { λ o. record { writer = o.writer; failed = o.failed } };
+}
+
+/// Writes all of a text, and answers whether the writer took it. What went out is a front of the text.
+fn write_text<W: Write>(writer: &mut W, text: &[u8]) -> bool
+    ensures { Writes result (W.contents writer.old) (W.contents writer.new) text.now }
+{
+    let mut rest = text;
+    while !rest.is_empty() {
+        match writer.write(rest) {
+            Err(_) | Ok(0) => return false,
+            Ok(n) => rest = &rest[n..],
+        }
+    }
+    writer.flush().is_ok()
+}
+
+impl<W: Write> Outlet<W> {
+    /// An outlet over a writer. It has not failed.
+    pub fn new(writer: W) -> Outlet<W>
+        ensures { result ≡ record { writer = writer; failed = false } }
+    {
+        Outlet {
+            writer,
+            failed: false,
+        }
+    }
+
+    /// Whether the writer gave an error, or took none of the bytes left.
+    pub fn failed(&self) -> bool
+        ensures { result ≡ self.now.failed }
+    {
+        self.failed
+    }
+
+    /// The writer.
+    pub fn into_inner(self) -> W
+        ensures { result ≡ self.writer }
+    {
+        self.writer
+    }
+
+    /// Writes all of a text, and answers whether the writer took it. Else a front of the text went out, and the outlet
+    /// has failed.
+    pub(crate) fn write_text(&mut self, text: &[u8]) -> bool
+        ensures sent { Writes result (W.contents self.old.writer) (W.contents self.new.writer) text.now }
+        ensures failed { self.new.failed ≡ not result }
+    {
+        let sent = write_text(&mut self.writer, text);
+        self.failed = !sent;
+        sent
+    }
+}

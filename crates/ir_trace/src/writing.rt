@@ -1,0 +1,149 @@
+//! Traces as they are written.
+ghost use Rattle.std.specs.Prelude.{◌≡◌, ◌↔◌, ◌<◌, false, [], ◌∷◌, ◌++◌, IsTrue, IfOk, OnOk, length, string_bytes, flat_map};
+ghost use Rattle.std.specs.Io.KnownBytes.{Appends};
+ghost use Rattle.ir_model.specs.Graph.{names};
+ghost use Rattle.ir_model.specs.Network.{node_count};
+ghost use Rattle.ir_model.specs.OfGraph.{network_of_graph};
+ghost use Rattle.ir_trace.specs.Rows.{spaced, fate_words, row_line};
+ghost use Rattle.ir_trace.specs.Outlet.{AppendsFront};
+ghost use Rattle.ir_trace.specs.Written.{name_at, link_at, other_end, fate_text, row_of, records_text, FateIsIn, IsWritable, AreWritable};
+
+use crate::outlet::{Outlet, TraceError};
+use crate::text::{push_name, push_names, push_next_number, push_number, push_word};
+use crate::weight::walk_weight;
+use ir_core::{Fate, Record};
+use ir_graph::Graph;
+use ir_tables::Topology;
+use std::alloc::{AllocError, Global};
+use std::io::Write;
+
+/// The two ends of a link, the smaller node first.
+fn ends(topology: &Topology, link: u16) -> (u16, u16)
+    requires { link < length topology.now.links }
+    ensures low { result.0 ≡ (link_at topology.now link).low }
+    ensures high { result.1 ≡ (link_at topology.now link).high }
+    ensures low_within { result.0 < node_count topology.now }
+    ensures high_within { result.1 < node_count topology.now }
+{
+    let _nodes = topology.nodes();
+    topology.ends(link)
+}
+
+/// The node that the channel of a link to one of its ends comes from.
+fn channel_start(topology: &Topology, link: u16, to: u16) -> u16
+    requires { FateIsIn topology.now (Fate.Full link to) }
+    ensures start { result ≡ other_end (link_at topology.now link) to }
+    ensures start_within { result < node_count topology.now }
+    ensures to_within { to < node_count topology.now }
+{
+    let (low, high) = ends(topology, link);
+    if low == to { high } else { low }
+}
+
+/// Writes a word and the names of two nodes, each behind a space.
+fn push_pair(text: &mut String, graph: &Graph, word: &str, u: u16, v: u16) -> Result<(), AllocError>
+    requires first { u < length graph.now }
+    requires second { v < length graph.now }
+    ensures { OnOk result (string_bytes text.new ≡ string_bytes text.old ++ flat_map spaced (word.now ∷ name_at (names graph.now) u ∷ name_at (names graph.now) v ∷ [])) }
+{
+    push_word(text, word)?;
+    push_name(text, graph, u)?;
+    push_name(text, graph, v)
+}
+
+/// Writes the words of a fate, each behind a space.
+fn push_fate(
+    text: &mut String,
+    graph: &Graph,
+    topology: &Topology,
+    fate: Fate,
+) -> Result<(), AllocError>
+    requires nodes { node_count topology.now ≡ length graph.now }
+    requires fate { FateIsIn topology.now fate }
+    ensures { OnOk result (string_bytes text.new ≡ string_bytes text.old ++ flat_map spaced (fate_words (fate_text (names graph.now) topology.now fate))) }
+{
+    match fate {
+        Fate::Delivered => push_word(text, "delivered"),
+        Fate::Retired => push_word(text, "retired"),
+        Fate::Down(link) => {
+            let (low, high) = ends(topology, link);
+            push_pair(text, graph, "down", low, high)
+        }
+        Fate::Full { link, to } => {
+            let from = channel_start(topology, link, to);
+            push_pair(text, graph, "full", from, to)
+        }
+        Fate::Left => push_word(text, "left"),
+    }
+}
+
+/// Writes the row of a record.
+fn push_row(
+    text: &mut String,
+    graph: &Graph,
+    topology: &Topology,
+    packet: &Record,
+) -> Result<(), AllocError>
+    requires nodes { node_count topology.now ≡ length graph.now }
+    requires packet { IsWritable topology.now packet.now }
+    ensures { OnOk result (string_bytes text.new ≡ string_bytes text.old ++ row_line (row_of (names graph.now) topology.now packet.now)) }
+{
+    let hops = packet.hops.as_slice();
+    push_number(text, packet.id)?;
+    push_next_number(text, packet.epoch)?;
+    push_name(text, graph, packet.source)?;
+    push_name(text, graph, packet.dest)?;
+    push_next_number(text, walk_weight(topology, hops))?;
+    push_fate(text, graph, topology, packet.fate)?;
+    push_names(text, graph, hops)?;
+    text.push_str("\n")?;
+    Ok(())
+}
+
+/// The trace of records over the topology of their graph: the line `trace 1`, and a row for each record in order. Only
+/// want of memory is refused. Condition: the topology is that of the graph; the nodes and links of each record are
+/// among its nodes and links; the hops are 1 to `MAX_NODES` nodes, each linked to the next; the node of a `Full` is an
+/// end of its link.
+pub fn trace_text(
+    alloc: Global,
+    graph: &Graph,
+    topology: &Topology,
+    records: &[Record],
+) -> Result<String, AllocError>
+    requires network { topology.now ≡ network_of_graph graph.now }
+    requires records { AreWritable topology.now records.now }
+    ensures { IfOk result (λ text. string_bytes text ≡ records_text (names graph.now) topology.now records.now) }
+{
+    let mut text = String::from_str(alloc, "trace 1\n")?;
+    for record in records {
+        push_row(&mut text, graph, topology, record)?;
+    }
+    Ok(text)
+}
+
+/// Writes the trace of records over their graph: the line `trace 1`, and a row for each record in order. Refused as
+/// `Unwritable` where the writer gives an error or takes none of the bytes left: a front of the text went out then, and
+/// the outlet has failed. After `NoMemory` the outlet is as it was. Condition: the outlet has not failed; the nodes and
+/// links of each record are those of the graph; the hops are 1 to `MAX_NODES` nodes, each linked to the next; the node
+/// of a `Full` is an end of its link.
+pub fn write_trace<W: Write>(
+    alloc: Global,
+    graph: &Graph,
+    records: &[Record],
+    outlet: &mut Outlet<W>,
+) -> Result<(), TraceError>
+    requires open { outlet.old.failed ≡ false }
+    requires records { AreWritable (network_of_graph graph.now) records.now }
+    ensures ok { OnOk result (Appends (W.contents outlet.old.writer) (W.contents outlet.new.writer) (records_text (names graph.now) (network_of_graph graph.now) records.now)) }
+    ensures unwritable { result ≡ Err TraceError.Unwritable → AppendsFront (W.contents outlet.old.writer) (W.contents outlet.new.writer) (records_text (names graph.now) (network_of_graph graph.now) records.now) }
+    ensures no_memory { result ≡ Err TraceError.NoMemory → outlet.new ≡ outlet.old }
+    ensures failed { IsTrue outlet.new.failed ↔ (result ≡ Err TraceError.Unwritable) }
+{
+    let topology = Topology::of(alloc, graph)?;
+    let text = trace_text(alloc, graph, &topology, records)?;
+    if outlet.write_text(text.as_bytes()) {
+        Ok(())
+    } else {
+        Err(TraceError::Unwritable)
+    }
+}
