@@ -65,8 +65,8 @@ module _ {X : Type 0} (remaining : X → Option (List ℕ)) (old : List X) where
     readers = length-set now i new ∙ is.readers;
     rest = λ k e h. (let other : k ≢ i = omega arith in get_or-set_other now i k new e other ∙ is.rest k e (omega arith));
     known = λ texts held. (
-      let same : text ≡ get_or texts i [] = said_of texts held (λ input. text ≡ input) now read i d is within all in
-      ap (λ xs. xs ++ text ∷ []) (is.known texts held) ∙ ap (λ (t : List ℕ). take i texts ++ t ∷ []) same
-      ∙ sym (take_more texts i [] (omega (arith, as_many texts held))));
+        let same : text ≡ get_or texts i [] = said_of texts held (λ input. text ≡ input) now read i d is within all in
+        ap (λ xs. xs ++ text ∷ []) (is.known texts held) ∙ ap (λ (t : List ℕ). take i texts ++ t ∷ []) same
+        ∙ sym (take_more texts i [] (omega (arith, as_many texts held))));
     small = All-push (λ t. length t ≤ MAX_INPUT_BYTES) read text is.small few;
   }

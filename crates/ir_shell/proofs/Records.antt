@@ -51,8 +51,7 @@ module _ (o : Setting) (net : IsNetwork o.network) (t : Scheme) (plan : IsPlanFo
   link_on : (r : Journey) (l node : ℕ) → LeadsOn t r l node → (link : Link) × (slice_get o.network.links l ≡ Some link) × ((node ≡ link.low) ⊎ (node ≡ link.high))
   link_on r l node on =
       let at = port_on (last_of r.hops) r.dest on.0 on.1 in
-      let port : IsPort o.network (last_of r.hops) on.0 = net.ports (last_of r.hops) at.0 on.0 at.1 in
-      (
+      let port : IsPort o.network (last_of r.hops) on.0 = net.ports (last_of r.hops) at.0 on.0 at.1 in (
         port.0,
         ap (slice_get o.network.links) (sym on.2) ∙ port.1,
         ⊎_elim (λ ends. inr (sym on.3 ∙ sym ends.1)) (λ ends. inl (sym on.3 ∙ sym ends.0)) port.2,

@@ -1,11 +1,12 @@
 //! A plan, from the text of a topology.
-ghost use Rattle.std.specs.Prelude.{◌≡◌, IfOk, IfErr};
+ghost use Rattle.std.specs.Prelude.{◌≡◌, IfOk, IfErr, length};
 ghost use Rattle.ir_model.specs.OfGraph.{network_of_graph};
 ghost use Rattle.ir_model.specs.Scheme.{IsScheme};
-ghost use Rattle.ir_model.specs.Text.{lines};
-ghost use Rattle.ir_shell.specs.Openings.{AnswersTopology, AnswersRoot};
+ghost use Rattle.ir_shell.specs.Asked.{PlanAnswers};
+ghost use Rattle.ir_shell.specs.Openings.{AnswersRoot};
 ghost use Rattle.ir_shell.specs.Plans.{refusal_of, RefusesBuild, AnswersPlan};
 ghost use Rattle.ir_shell.specs.Plays.{root_name};
+ghost use Rattle.ir_shell.specs.Reading.{texts_of};
 ghost use Rattle.ir_shell.specs.Replies.{answer_of};
 
 use crate::lines::{opening_line, topology_line};
@@ -76,11 +77,12 @@ fn answer_graph(alloc: Global, words: &Words, graph: &Graph) -> Result<Reply, Al
     }
 }
 
-/// The answer to the text of a topology.
-pub fn answer_plan(alloc: Global, words: &Words, text: &[u8]) -> Result<Reply, AllocError>
-    ensures { IfOk result (λ reply. AnswersTopology words.now.format (lines text.now) (λ g. AnswersRoot g (root_name words.now) (AnswersPlan g words.now.kind)) (answer_of reply)) }
+/// The answer to the text of a topology, which is the one text.
+pub fn answer_plan(alloc: Global, words: &Words, texts: &[Vec<u8>]) -> Result<Reply, AllocError>
+    requires { length texts.now ≡ 1 }
+    ensures { IfOk result (λ reply. PlanAnswers words.now (texts_of texts.now) (answer_of reply)) }
 {
-    match read_topology(alloc, words.format, text) {
+    match read_topology(alloc, words.format, texts[0].as_slice()) {
         Ok(graph) => answer_graph(alloc, words, &graph),
         Err(error) => match error.kind {
             Fault::NoMemory => Err(AllocError),

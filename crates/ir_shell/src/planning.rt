@@ -1,17 +1,16 @@
 //! A plan, from bytes to bytes.
-ghost use Rattle.std.specs.Prelude.{◌≡◌, ℕ, List, IfOk, length, map};
+ghost use Rattle.std.specs.Prelude.{◌≡◌, ℕ, List, length, map};
 ghost use Rattle.ir_shell.specs.Asked.{PlanAnswers, plan_sources};
 ghost use Rattle.ir_shell.specs.Ending.{Hold, AreSmall, EndsAs, Ends};
 ghost use Rattle.ir_shell.specs.Reading.{texts_of};
-ghost use Rattle.ir_shell.specs.Replies.{answer_of};
 
 use crate::ending::{Ending, status_of};
 use crate::plan::answer_plan;
 use crate::read::{Source, read_inputs};
-use crate::reply::{Reply, tell_unread, write_reply};
+use crate::reply::{tell_unread, write_reply};
 use crate::words::Words;
 use crate::write::tell;
-use std::alloc::{AllocError, Global};
+use std::alloc::Global;
 use std::io::{Read, Write};
 
 /// Where the topology is read.
@@ -23,14 +22,6 @@ fn plan_sources(words: &Words) -> &'static [Source]
     } else {
         &[Source::Topology]
     }
-}
-
-/// The answer to the text of the input.
-fn answer_texts(alloc: Global, words: &Words, texts: &[Vec<u8>]) -> Result<Reply, AllocError>
-    requires { length texts.now ≡ 1 }
-    ensures { IfOk result (λ reply. PlanAnswers words.now (texts_of texts.now) (answer_of reply)) }
-{
-    answer_plan(alloc, words, texts[0].as_slice())
 }
 
 /// Answers the text of the input, and writes the answer.
@@ -45,7 +36,7 @@ fn write_plan<W: Write, F: Write>(
     requires small { AreSmall (texts_of texts.now) }
     ensures { EndsAs (plan_sources words.now) (PlanAnswers words.now) result (texts_of texts.now) (W.contents output.old) (W.contents output.new) (F.contents faults.old) (F.contents faults.new) }
 {
-    match answer_texts(alloc, words, texts) {
+    match answer_plan(alloc, words, texts) {
         Ok(reply) => write_reply(&reply, output, faults),
         Err(_) => {
             tell(faults, b"out of memory\n");
@@ -73,7 +64,8 @@ fn plan_from<R: Read, W: Write, F: Write>(
 }
 
 /// Reads a topology, and writes the plan that the words ask for: a line for each node with its label and its row.
-/// The answer is the exit status: 0 done, 1 input refused or a reader or writer that failed, 3 want of memory.
+/// Condition: there is one reader. The answer is the exit status: 0 done, 1 input refused or a reader or writer that
+/// failed, 3 want of memory.
 pub fn run_plan<R: Read, W: Write, F: Write>(
     alloc: Global,
     words: &Words,

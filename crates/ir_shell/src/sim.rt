@@ -79,9 +79,9 @@ fn sim_from<R: Read, W: Write, F: Write>(
 }
 
 /// Reads a topology and a script, plays the script's steps in a world over the topology, and writes the trace of its
-/// packets; each step that is refused is a line `refused LINE NAME` of the faults. The inputs are one reader where the
-/// files of the words are the one word `-`, whose text the first line that is exactly `%%` cuts into the two, and else
-/// two, topology and script. The answer is the exit status: 0 done, 1 input refused or a reader or writer that failed,
+/// packets; each step that is refused is a line `refused LINE NAME` of the faults. Condition: the inputs are one reader
+/// where `words.is_one_input()`, whose text the first line that is exactly `%%` cuts into the two, and else two, of the
+/// topology and of the script. The answer is the exit status: 0 done, 1 input refused or a reader or writer that failed,
 /// 3 want of memory, also where a step wanted it.
 pub fn run_sim<R: Read, W: Write, F: Write>(
     alloc: Global,

@@ -155,7 +155,9 @@ fn sim_command<'a>(alloc: Global) -> Result<Command<'a>, AllocError> {
     let topology = Arg::new(alloc, "topology")
         .value_name("TOPOLOGY")
         .required(true)
-        .help("The file of the topology, or - for standard input with both texts, cut at the line %%");
+        .help(
+            "The file of the topology, or - for standard input with both texts, cut at the line %%",
+        );
     let script = Arg::new(alloc, "script")
         .value_name("SCRIPT")
         .help("The file of the script");
