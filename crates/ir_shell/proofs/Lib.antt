@@ -1,8 +1,6 @@
 pub mod Cutting
 pub mod Streams
-pub mod Finding
-pub mod Scripts
-pub mod Worlds
-pub mod Following
-pub mod Tracing
+pub mod Texts
 pub mod PlanLines
+pub mod Inputs
+pub mod Records

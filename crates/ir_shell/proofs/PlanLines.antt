@@ -13,7 +13,7 @@ use Rattle.ir_model.specs.Scheme.{Scheme, IsScheme, label_in, row_in, table_port
 use Rattle.ir_model.proofs.Walks.{port_facts}
 use Rattle.ir_model.proofs.Rows.{no_start}
 use Rattle.std.proofs.lemmas.List.Elements.{Contains-get_or}
-use Rattle.ir_shell.specs.Words.{spaced}
+use Rattle.ir_trace.specs.Rows.{spaced}
 
 -- the hop that an option holds, from its node
 hop_from : (found : Option Hop) (y : ℕ) → option_map (λ hop. hop.node) found ≡ Some y → (hop : Hop) × (found ≡ Some hop)

@@ -1,14 +1,16 @@
--- The lines that tell of a refused input.
+-- The lines that tell of a refusal, and of an input that was not read.
 use Rattle.std.specs.Prelude.{ℕ, List, [], ◌∷◌, ◌++◌, codes}
-use Rattle.ir_shell.specs.Words.{numbered_line}
 use Rattle.ir_model.specs.declared.Fault.{Fault}
 use Rattle.ir_model.specs.declared.Fault.TheVariants as texts
-use Rattle.ir_shell.specs.declared.step.ScriptFault.{ScriptFault}
-use Rattle.ir_shell.specs.declared.step.ScriptFault.TheVariants as scripts
-use Rattle.ir_shell.specs.declared.opening.Refusal.{Refusal}
-use Rattle.ir_shell.specs.declared.opening.Refusal.TheVariants.{Empty, NoNode, TooLarge, Disconnected}
+use Rattle.ir_core.specs.declared.event.OpenError.{OpenError}
+use Rattle.ir_core.specs.declared.event.OpenError.TheVariants as openings
+use Rattle.ir_core.specs.declared.event.Refused.{Refused}
+use Rattle.ir_core.specs.declared.event.Refused.TheVariants as steps
+use Rattle.ir_script.specs.declared.fault.ScriptFault.{ScriptFault}
+use Rattle.ir_script.specs.declared.fault.ScriptFault.TheVariants as scripts
 use Rattle.ir_shell.specs.declared.read.Source.{Source}
-use Rattle.ir_shell.specs.declared.read.Source.TheVariants.{Input, Topology}
+use Rattle.ir_shell.specs.declared.read.Source.TheVariants.{Input, Topology, Script}
+use Rattle.ir_shell.specs.Words.{numbered_line}
 
 abbrev pub fault_name : Fault → List ℕ
 fault_name texts.BadByte = codes "BadByte"
@@ -27,11 +29,30 @@ script_fault_name scripts.UnknownNode = codes "UnknownNode"
 script_fault_name scripts.UnknownLink = codes "UnknownLink"
 script_fault_name scripts.NoMemory = codes "NoMemory"
 
-abbrev pub refusal_name : Refusal → List ℕ
-refusal_name Empty = codes "Empty"
-refusal_name NoNode = codes "NoNode"
-refusal_name TooLarge = codes "TooLarge"
-refusal_name Disconnected = codes "Disconnected"
+abbrev pub open_error_name : OpenError → List ℕ
+open_error_name openings.NoNode = codes "NoNode"
+open_error_name openings.Empty = codes "Empty"
+open_error_name openings.Disconnected = codes "Disconnected"
+open_error_name openings.TooLarge = codes "TooLarge"
+open_error_name openings.NoMemory = codes "NoMemory"
+
+abbrev pub refusal_name : Refused → List ℕ
+refusal_name steps.NoNode = codes "NoNode"
+refusal_name steps.NoLink = codes "NoLink"
+refusal_name steps.NoChannel = codes "NoChannel"
+refusal_name steps.NoEpoch = codes "NoEpoch"
+refusal_name steps.HandFull = codes "HandFull"
+refusal_name steps.HandEmpty = codes "HandEmpty"
+refusal_name steps.Empty = codes "Empty"
+refusal_name steps.BadView = codes "BadView"
+refusal_name steps.Same = codes "Same"
+refusal_name steps.EpochsFull = codes "EpochsFull"
+refusal_name steps.Disconnected = codes "Disconnected"
+refusal_name steps.TooManyPackets = codes "TooManyPackets"
+refusal_name steps.NoMemory = codes "NoMemory"
+refusal_name steps.InboxFull = codes "InboxFull"
+refusal_name steps.TooManyChanges = codes "TooManyChanges"
+refusal_name steps.Used = codes "Used"
 
 -- `topology LINE KIND`
 abbrev pub topology_line : ℕ × Fault → List ℕ
@@ -42,12 +63,17 @@ abbrev pub script_line : ℕ × ScriptFault → List ℕ
 script_line f = numbered_line (codes "script") f.0 (script_fault_name f.1)
 
 -- `opening NAME`
-abbrev pub opening_line : Refusal → List ℕ
-opening_line e = codes "opening " ++ refusal_name e ++ 10 ∷ []
+abbrev pub opening_line : OpenError → List ℕ
+opening_line e = codes "opening " ++ open_error_name e ++ 10 ∷ []
+
+-- `refused LINE NAME`
+abbrev pub refused_line : ℕ → Refused → List ℕ
+refused_line line e = numbered_line (codes "refused") line (refusal_name e)
 
 abbrev pub source_name : Source → List ℕ
 source_name Input = codes "input"
 source_name Topology = codes "topology"
+source_name Script = codes "script"
 
 abbrev pub unreadable_line : Source → List ℕ
 unreadable_line source = source_name source ++ codes " unreadable\n"

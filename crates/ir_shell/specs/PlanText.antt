@@ -8,8 +8,8 @@ use Rattle.ir_model.specs.Graph.{Name}
 use Rattle.ir_model.specs.Network.{Network, node_count, port_at}
 use Rattle.ir_model.specs.Row.{Start}
 use Rattle.ir_model.specs.Scheme.{Scheme, label_in, row_in}
-use Rattle.ir_shell.specs.Words.{joined}
-use Rattle.ir_shell.specs.Trace.{name_at}
+use Rattle.ir_trace.specs.Written.{name_at}
+use Rattle.ir_shell.specs.Words.{line_text}
 
 abbrev pub kind_text : Kind → List ℕ
 kind_text Tree = codes "tree"
@@ -29,10 +29,6 @@ node_words nodes s u = name_at nodes u ∷ decimal (label_in s u) ∷ flat_map (
 
 abbrev pub head_words : Scheme → List (List ℕ)
 head_words s = codes "plan" ∷ kind_text s.kind ∷ decimal (node_count s.network) ∷ decimal (sum_by length s.rows) ∷ []
-
--- words as a line
-abbrev pub line_text : List (List ℕ) → List ℕ
-line_text words = joined words ++ 10 ∷ []
 
 -- `plan KIND N L`, and a line for each node in node order
 abbrev pub plan_text : List Name → Scheme → List ℕ

@@ -1,9 +1,9 @@
 -- The program's replies as answers.
 use Rattle.std.specs.Prelude.{string_bytes}
-use Rattle.ir_shell.specs.declared.answer.Reply.{Reply}
-use Rattle.ir_shell.specs.declared.answer.Reply.TheVariants as replies
+use Rattle.ir_shell.specs.declared.reply.Reply.{Reply}
+use Rattle.ir_shell.specs.declared.reply.Reply.TheVariants as replies
 use Rattle.ir_shell.specs.Answer.{Answer, Ran, Refused}
 
 abbrev pub answer_of : Reply → Answer
-answer_of (replies.Ran trace refusals) = Ran (string_bytes trace) (string_bytes refusals)
+answer_of (replies.Ran text refusals) = Ran (string_bytes text) (string_bytes refusals)
 answer_of (replies.Refused line) = Refused (string_bytes line)

@@ -1,14 +1,10 @@
--- Words with single spaces between them.
-use Rattle.std.specs.Prelude.{ℕ, List, [], ◌∷◌, ◌++◌, flat_map, decimal}
+-- Lines of words.
+use Rattle.std.specs.Prelude.{ℕ, List, [], ◌∷◌, ◌++◌, decimal}
+use Rattle.ir_trace.specs.Rows.{spaced, joined}
 
--- a space and a word
-abbrev pub spaced : List ℕ → List ℕ
-spaced word = 32 ∷ word
-
--- words with one space between
-abbrev pub joined : List (List ℕ) → List ℕ
-joined [] = []
-joined (w ∷ ws) = w ++ flat_map spaced ws
+-- words with one space between, as a line
+abbrev pub line_text : List (List ℕ) → List ℕ
+line_text words = joined words ++ 10 ∷ []
 
 -- `WHAT LINE NAME`
 abbrev pub numbered_line : List ℕ → ℕ → List ℕ → List ℕ

@@ -1,12 +1,13 @@
-//! The lines that tell of a refused input.
-ghost use Rattle.std.specs.Prelude.{◌≡◌, IfOk, string_bytes};
-ghost use Rattle.ir_shell.specs.Lines.{fault_name, script_fault_name, refusal_name, topology_line, script_line, opening_line, unreadable_line, too_large_line};
+//! The lines that tell of a refusal, and of an input that was not read.
+ghost use Rattle.std.specs.Prelude.{◌≡◌, ◌++◌, IfOk, OnOk, string_bytes};
+ghost use Rattle.ir_shell.specs.Lines.{fault_name, script_fault_name, open_error_name, refusal_name, topology_line, script_line, opening_line, unreadable_line, too_large_line};
+ghost use Rattle.ir_shell.specs.Plays.{reply_line};
 
-use crate::opening::Refusal;
 use crate::read::Source;
-use crate::step::ScriptFault;
 use crate::text::push_line;
+use ir_core::{OpenError, Refused, Reply};
 use ir_model::Fault;
+use ir_script::ScriptFault;
 use std::alloc::{AllocError, Global};
 
 fn fault_name(kind: Fault) -> &'static str
@@ -43,6 +44,7 @@ pub fn unreadable_line(source: Source) -> &'static str
     match source {
         Source::Input => "input unreadable\n",
         Source::Topology => "topology unreadable\n",
+        Source::Script => "script unreadable\n",
     }
 }
 
@@ -53,17 +55,42 @@ pub fn too_large_line(source: Source) -> &'static str
     match source {
         Source::Input => "input too large\n",
         Source::Topology => "topology too large\n",
+        Source::Script => "script too large\n",
     }
 }
 
-fn refusal_name(refusal: Refusal) -> &'static str
+fn open_error_name(error: OpenError) -> &'static str
+    ensures { result.now ≡ open_error_name error }
+{
+    match error {
+        OpenError::NoNode => "NoNode",
+        OpenError::Empty => "Empty",
+        OpenError::Disconnected => "Disconnected",
+        OpenError::TooLarge => "TooLarge",
+        OpenError::NoMemory => "NoMemory",
+    }
+}
+
+fn refusal_name(refusal: Refused) -> &'static str
     ensures { result.now ≡ refusal_name refusal }
 {
     match refusal {
-        Refusal::Empty => "Empty",
-        Refusal::NoNode => "NoNode",
-        Refusal::TooLarge => "TooLarge",
-        Refusal::Disconnected => "Disconnected",
+        Refused::NoNode => "NoNode",
+        Refused::NoLink => "NoLink",
+        Refused::NoChannel => "NoChannel",
+        Refused::NoEpoch => "NoEpoch",
+        Refused::HandFull => "HandFull",
+        Refused::HandEmpty => "HandEmpty",
+        Refused::Empty => "Empty",
+        Refused::BadView => "BadView",
+        Refused::Same => "Same",
+        Refused::EpochsFull => "EpochsFull",
+        Refused::Disconnected => "Disconnected",
+        Refused::TooManyPackets => "TooManyPackets",
+        Refused::NoMemory => "NoMemory",
+        Refused::InboxFull => "InboxFull",
+        Refused::TooManyChanges => "TooManyChanges",
+        Refused::Used => "Used",
     }
 }
 
@@ -86,9 +113,23 @@ pub fn script_line(alloc: Global, line: usize, kind: ScriptFault) -> Result<Stri
 }
 
 /// The line of a refused opening.
-pub fn opening_line(alloc: Global, refusal: Refusal) -> Result<String, AllocError>
-    ensures { IfOk result (λ text. string_bytes text ≡ opening_line refusal) }
+pub fn opening_line(alloc: Global, error: OpenError) -> Result<String, AllocError>
+    ensures { IfOk result (λ text. string_bytes text ≡ opening_line error) }
 {
-    let name = refusal_name(refusal);
+    let name = open_error_name(error);
     format!(in alloc; "opening {name}\n")
+}
+
+/// Writes the line of a step that was refused, and nothing for another.
+pub fn push_reply_line(
+    text: &mut String,
+    line: usize,
+    reply: Result<Reply, Refused>,
+) -> Result<(), AllocError>
+    ensures { OnOk result (string_bytes text.new ≡ string_bytes text.old ++ reply_line (line, reply)) }
+{
+    match reply {
+        Ok(_) => Ok(()),
+        Err(refusal) => push_line(text, "refused", line, refusal_name(refusal)),
+    }
 }

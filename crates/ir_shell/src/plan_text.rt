@@ -3,8 +3,9 @@ ghost use Rattle.std.specs.Prelude.{◌≡◌, ◌<◌, ◌++◌, IfOk, OnOk, le
 ghost use Rattle.ir_model.specs.Graph.{names};
 ghost use Rattle.ir_model.specs.Network.{node_count, ports_of};
 ghost use Rattle.ir_model.specs.Scheme.{IsScheme, row_in};
-ghost use Rattle.ir_shell.specs.Words.{spaced};
-ghost use Rattle.ir_shell.specs.PlanText.{kind_text, start_words, head_words, node_words, line_text, plan_text};
+ghost use Rattle.ir_trace.specs.Rows.{spaced};
+ghost use Rattle.ir_shell.specs.PlanText.{kind_text, start_words, head_words, node_words, plan_text};
+ghost use Rattle.ir_shell.specs.Words.{line_text};
 
 use crate::text::{name_of, push_name, push_next_number, push_word};
 use ir_graph::Graph;

@@ -1,15 +1,18 @@
-//! Reading all of an input.
-ghost use Rattle.std.specs.Prelude.{◌≡◌, ◌≤◌, ◌<◌, length, IfOk, IfSome, IsErrOf, List, ℕ};
+//! Reading all of the inputs.
+ghost use Rattle.std.specs.Prelude.{◌≡◌, ◌≤◌, ◌<◌, length, map, IfOk, IfErr, IfSome, IsErrOf, List, ℕ};
+ghost use Rattle.ir_shell.specs.Ending.{Hold, AreSmall};
+ghost use Rattle.ir_shell.specs.Reading.{texts_of, IsUnreadBy};
 
 use crate::{MAX_INPUT_BYTES, MAX_READS};
 use std::alloc::Global;
 use std::io::Read;
 
-/// Which input is read: the one for several texts, or a file.
+/// Which input is read: the one for several texts, or that of one text.
 #[derive(Clone, Copy, Debug, PartialEq, Eq)]
 pub enum Source {
     Input,
     Topology,
+    Script,
 }
 
 /// Why an input was not read.
@@ -22,8 +25,15 @@ pub enum NoInput {
     NoMemory,
 }
 
+/// The first input that was not read, and why.
+#[derive(Clone, Copy, Debug, PartialEq, Eq)]
+pub struct Unread {
+    pub source: Source,
+    pub why: NoInput,
+}
+
 /// All that a reader gives.
-pub fn read_input<R: Read>(alloc: Global, reader: &mut R) -> Result<Vec<u8>, NoInput>
+fn read_input<R: Read>(alloc: Global, reader: &mut R) -> Result<Vec<u8>, NoInput>
     ensures all { IfOk result (λ text. IfSome (R.remaining reader.old) (λ input. text.items ≡ input)) }
     ensures bounded { IfOk result (λ text. length text.items ≤ MAX_INPUT_BYTES) }
     ensures too_large { IsErrOf result NoInput.TooLarge → IfSome (R.remaining reader.old) (λ input. MAX_INPUT_BYTES < length input) }
@@ -45,4 +55,31 @@ pub fn read_input<R: Read>(alloc: Global, reader: &mut R) -> Result<Vec<u8>, NoI
         }
     }
     Err(NoInput::TooLarge)
+}
+
+/// All that the readers of these sources give, in order.
+pub fn read_inputs<R: Read>(
+    alloc: Global,
+    sources: &[Source],
+    inputs: &mut [R],
+) -> Result<Vec<Vec<u8>>, Unread>
+    requires { length inputs.old ≡ length sources.now }
+    ensures count { IfOk result (λ read. length read.items ≡ length sources.now) }
+    ensures all { IfOk result (λ read. (texts : List (List ℕ)) → Hold (map R.remaining inputs.old) texts → texts_of read.items ≡ texts) }
+    ensures small { IfOk result (λ read. AreSmall (texts_of read.items)) }
+    ensures unread { IfErr result (λ e. (texts : List (List ℕ)) → Hold (map R.remaining inputs.old) texts → IsUnreadBy e sources.now texts) }
+{
+    let mut read = Vec::new(alloc);
+    for i in 0..inputs.len() {
+        let source = sources[i];
+        let text = match read_input(alloc, &mut inputs[i]) {
+            Ok(text) => text,
+            Err(why) => return Err(Unread { source, why }),
+        };
+        let Ok(()) = read.push(text) else {
+            let why = NoInput::NoMemory;
+            return Err(Unread { source, why });
+        };
+    }
+    Ok(read)
 }

@@ -1,15 +1,23 @@
-//! Writing what an input comes to.
+//! What the inputs come to, and writing it.
 ghost use Rattle.ir_shell.specs.Replied.{RepliesAs, UnreadAs};
 ghost use Rattle.ir_shell.specs.Replies.{answer_of};
 
-use crate::answer::Reply;
 use crate::ending::Ending;
 use crate::lines::{too_large_line, unreadable_line};
 use crate::read::{NoInput, Source};
 use crate::write::{tell, write_text};
 use std::io::Write;
 
-/// Writes what an input comes to.
+/// What the inputs come to.
+#[derive(Drop)]
+pub enum Reply {
+    /// The text for the output, and the lines for the faults.
+    Ran(String, String),
+    /// The line that tells why an input is refused.
+    Refused(String),
+}
+
+/// Writes what the inputs come to.
 pub fn write_reply<W: Write, F: Write>(reply: &Reply, output: &mut W, faults: &mut F) -> Ending
     ensures { RepliesAs result (answer_of reply.now) (W.contents output.old) (W.contents output.new) (F.contents faults.old) (F.contents faults.new) }
 {

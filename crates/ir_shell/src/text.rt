@@ -1,8 +1,9 @@
 //! Words and numbers at the end of a text.
 ghost use Rattle.std.specs.Prelude.{◌≡◌, ◌<◌, ◌++◌, OnOk, length, string_bytes, decimal};
 ghost use Rattle.ir_model.specs.Graph.{names};
-ghost use Rattle.ir_shell.specs.Words.{spaced, numbered_line};
-ghost use Rattle.ir_shell.specs.Trace.{name_at};
+ghost use Rattle.ir_trace.specs.Rows.{spaced};
+ghost use Rattle.ir_trace.specs.Written.{name_at};
+ghost use Rattle.ir_shell.specs.Words.{numbered_line};
 
 use ir_graph::Graph;
 use std::alloc::AllocError;

@@ -1,5 +1,6 @@
-//! `route`: interval routing over a network. With no words it reads a topology and a script from standard input, and
-//! prints what becomes of the script's packets; `route plan` prints the labels and rows of a topology's nodes.
+//! `route`: interval routing over a network. `route sim` plays the lines of a script over a topology, and prints what
+//! became of its packets; `route plan` prints the labels and rows of a topology's nodes. With no words it does as
+//! `route sim -`, with both texts from standard input.
 #![tactic(auto)]
 
 mod input;
@@ -9,33 +10,46 @@ use ir_shell::{Sub, Words, WordsError, read_words, run_plan, run_sim};
 use std::process::ExitCode;
 use std::{env, io};
 
-/// The words behind the program's name.
+/// The words behind the program's name; `sim -` where there are none.
 fn words(rt: &HostRuntime) -> io::Result<Vec<String>> {
     let mut words: Vec<String> = Vec::new(rt.alloc());
     for word in env::args(rt)?.skip(1) {
         words.push(word)?;
     }
+    if words.is_empty() {
+        words.push(String::from_str(rt.alloc(), "sim")?)?;
+        words.push(String::from_str(rt.alloc(), "-")?)?;
+    }
     Ok(words)
 }
 
-/// Runs the packets of a script, both texts from standard input.
-fn simulate(rt: &HostRuntime) -> u8 {
-    let mut input = rt.stdin();
-    let mut output = rt.stdout();
-    let mut faults = rt.stderr();
-    run_sim(rt.alloc(), &mut input, &mut output, &mut faults)
+/// The name of a file; standard input where there is none.
+fn file(words: &Words, i: usize) -> &str {
+    match words.files.get(i) {
+        Some(name) => name.as_str(),
+        None => "-",
+    }
 }
 
 /// Prints the plan of a topology.
 fn plan(rt: &HostRuntime, words: &Words) -> u8 {
-    let name = match words.files.first() {
-        Some(name) => name.as_str(),
-        None => "-",
-    };
-    let mut inputs = [open(rt, name)];
+    let mut inputs = [open(rt, file(words, 0))];
     let mut output = rt.stdout();
     let mut faults = rt.stderr();
     run_plan(rt.alloc(), words, &mut inputs, &mut output, &mut faults)
+}
+
+/// Plays the steps of a script over a topology, and prints the trace.
+fn sim(rt: &HostRuntime, words: &Words) -> u8 {
+    let mut output = rt.stdout();
+    let mut faults = rt.stderr();
+    if words.is_one_input() {
+        let mut inputs = [open(rt, "-")];
+        run_sim(rt.alloc(), words, &mut inputs, &mut output, &mut faults)
+    } else {
+        let mut inputs = [open(rt, file(words, 0)), open(rt, file(words, 1))];
+        run_sim(rt.alloc(), words, &mut inputs, &mut output, &mut faults)
+    }
 }
 
 /// Does what the words ask for.
@@ -43,7 +57,8 @@ fn follow(rt: &HostRuntime, words: &[String]) -> u8 {
     match read_words(rt.alloc(), words) {
         Ok(words) => match words.sub {
             Sub::Plan => plan(rt, &words),
-            Sub::Sim | Sub::Live | Sub::Check => 2,
+            Sub::Sim => sim(rt, &words),
+            Sub::Live | Sub::Check => 2,
         },
         Err(WordsError::Usage(text)) => {
             let _told = rt.eprint(text);
@@ -62,7 +77,6 @@ fn follow(rt: &HostRuntime, words: &[String]) -> u8 {
 
 fn main(rt: HostRuntime) -> ExitCode {
     let status = match words(&rt) {
-        Ok(words) if words.is_empty() => simulate(&rt),
         Ok(words) => follow(&rt, words.as_slice()),
         Err(error) if error.kind() == io::ErrorKind::OutOfMemory => {
             let _told = rt.eprintln("out of memory");

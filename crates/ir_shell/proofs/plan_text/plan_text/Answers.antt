@@ -1,6 +1,7 @@
 use Rattle.std.proofs.Common.{ℕ, ◌∙◌, ◌++◌, ap}
 use Rattle.ir_model.specs.Graph.{names}
-use Rattle.ir_shell.specs.PlanText.{head_words, node_words, line_text}
+use Rattle.ir_shell.specs.PlanText.{head_words, node_words}
+use Rattle.ir_shell.specs.Words.{line_text}
 use Rattle.ir_shell.proofs.PlanLines.{nodes_more}
 use Rattle.ir_shell.proofs.plan_text.plan_text.Goals as goal
 

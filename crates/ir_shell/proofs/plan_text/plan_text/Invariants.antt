@@ -1,7 +1,8 @@
 use Rattle.std.proofs.Common.{◌≡◌, ◌++◌, string_bytes, flat_map}
 use Rattle.std.specs.List.{range_with_len}
 use Rattle.ir_model.specs.Graph.{names}
-use Rattle.ir_shell.specs.PlanText.{head_words, node_words, line_text}
+use Rattle.ir_shell.specs.PlanText.{head_words, node_words}
+use Rattle.ir_shell.specs.Words.{line_text}
 use Rattle.ir_shell.proofs.plan_text.plan_text.Given as goal
 
 abbrev pub invariant-loop-u : goal.invariant-loop-u

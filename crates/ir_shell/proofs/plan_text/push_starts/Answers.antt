@@ -2,7 +2,7 @@ use Rattle.std.proofs.Common.{◌∙◌, ◌++◌, ap, arith, length, get_or, st
 use Rattle.ir_model.specs.Graph.{names}
 use Rattle.ir_model.specs.Scheme.{row_in}
 use Rattle.ir_model.proofs.Rows.{no_start}
-use Rattle.ir_shell.specs.Words.{spaced}
+use Rattle.ir_trace.specs.Rows.{spaced}
 use Rattle.ir_shell.specs.PlanText.{start_words}
 use Rattle.ir_shell.proofs.PlanLines.{starts_more}
 use Rattle.ir_shell.proofs.plan_text.push_starts.Goals as goal

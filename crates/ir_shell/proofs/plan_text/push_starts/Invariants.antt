@@ -1,7 +1,7 @@
 use Rattle.std.proofs.Common.{◌≡◌, ◌++◌, take, string_bytes, flat_map}
 use Rattle.ir_model.specs.Graph.{names}
 use Rattle.ir_model.specs.Scheme.{row_in}
-use Rattle.ir_shell.specs.Words.{spaced}
+use Rattle.ir_trace.specs.Rows.{spaced}
 use Rattle.ir_shell.specs.PlanText.{start_words}
 use Rattle.ir_shell.proofs.plan_text.push_starts.Given as goal
 
