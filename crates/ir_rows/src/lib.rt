@@ -18,6 +18,8 @@ mod runs;
 #[cfg(test)]
 mod scripts;
 #[cfg(test)]
+mod simulations;
+#[cfg(test)]
 mod tables;
 #[cfg(test)]
 mod texts;

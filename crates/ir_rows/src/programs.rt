@@ -6,7 +6,7 @@ use std::alloc::Global;
 use std::test::Fail;
 
 /// What the words behind the program's name ask for.
-fn asked(alloc: Global, words: &[&str]) -> Result<Result<Words, WordsError>, Fail> {
+pub fn asked(alloc: Global, words: &[&str]) -> Result<Result<Words, WordsError>, Fail> {
     let mut all: Vec<String> = Vec::new(alloc);
     for word in words {
         all.push(String::from_str(alloc, word)?)?;
@@ -120,6 +120,10 @@ fn words_that_are_refused(rt: HostRuntime) -> Result<(), Fail> {
     assert!(rt; is_usage(rt.alloc(), &["plan", "--depth", "1", "-"])?);
     assert!(rt; is_usage(rt.alloc(), &["plan", "--capacity", "many", "-"])?);
     assert!(rt; is_usage(rt.alloc(), &["check", "-"])?);
+    assert!(rt; is_usage(rt.alloc(), &["sim"])?);
+    assert!(rt; is_usage(rt.alloc(), &["sim", "topology"])?);
+    assert!(rt; is_usage(rt.alloc(), &["sim", "-", "script"])?);
+    assert!(rt; is_usage(rt.alloc(), &["sim", "one", "two", "three"])?);
     Ok(())
 }
 
