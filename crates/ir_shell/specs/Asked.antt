@@ -7,9 +7,9 @@ use Rattle.ir_shell.specs.declared.read.Source.{Source}
 use Rattle.ir_shell.specs.declared.read.Source.TheVariants.{Input, Topology, Script}
 use Rattle.ir_shell.specs.Answer.{Answer}
 use Rattle.ir_shell.specs.Cut.{topology_part, script_part}
-use Rattle.ir_shell.specs.Openings.{AnswersTopology, AnswersRoot}
+use Rattle.ir_shell.specs.Openings.{root_name, AnswersTopology, AnswersRoot}
 use Rattle.ir_shell.specs.Plans.{AnswersPlan}
-use Rattle.ir_shell.specs.Plays.{root_name, AnswersScript}
+use Rattle.ir_shell.specs.Plays.{AnswersScript}
 
 -- the files are the one word `-`
 abbrev pub is_dash : List Name → Bool

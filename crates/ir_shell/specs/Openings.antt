@@ -1,5 +1,6 @@
 -- What a topology text and the name of a root come to, before anything is opened over them.
-use Rattle.std.specs.Prelude.{◌≡◌, ℕ, ◌==◌, if◌then◌else◌, List, [], length, Option, None, Some, MatchOption, bytes_eq, position}
+use Rattle.std.specs.Prelude.{◌≡◌, ℕ, ◌==◌, if◌then◌else◌, List, [], length, Option, None, Some, MatchOption, bytes_eq, position, string_bytes}
+use Rattle.std.specs.Option.{option_map}
 use Rattle.ir_model.specs.declared.Fault.{Fault}
 use Rattle.ir_model.specs.Graph.{Name, Adjacency, names}
 use Rattle.ir_model.specs.Made.{graph_of}
@@ -9,6 +10,7 @@ use Rattle.ir_core.specs.declared.event.OpenError.{OpenError}
 use Rattle.ir_core.specs.declared.event.OpenError.TheVariants.{Empty, NoNode}
 use Rattle.ir_shell.specs.declared.words.Format.{Format}
 use Rattle.ir_shell.specs.declared.words.Format.TheVariants.{AdjList, EdgeList}
+use Rattle.ir_shell.specs.declared.words.Words.{Words}
 use Rattle.ir_shell.specs.Answer.{Answer, Refused}
 use Rattle.ir_shell.specs.Lines.{topology_line, opening_line}
 
@@ -20,6 +22,10 @@ topology_fault EdgeList ls = first_edge_fault ls
 abbrev pub topology_graph : Format → List (List ℕ) → Adjacency
 topology_graph AdjList ls = graph_of (names_in ls) (pairs_in ls)
 topology_graph EdgeList ls = graph_of_edges (edges_in ls)
+
+-- the name of the root, if the words have one
+abbrev pub root_name : Words → Option Name
+root_name words = option_map string_bytes words.root
 
 -- the root's number: that of its name, or else that of the first node
 abbrev pub root_in : List Name → Option Name → Option ℕ

@@ -1,9 +1,7 @@
 -- What a graph, a root and a script come to as a run.
-use Rattle.std.specs.Prelude.{◌≡◌, ◌≢◌, ℕ, Bool, true, false, List, [], Option, None, Result, Ok, Err, MatchResult, flat_map}
+use Rattle.std.specs.Prelude.{◌≡◌, ◌≢◌, ℕ, Bool, true, false, List, [], None, Result, Ok, Err, MatchResult, flat_map}
 use Rattle.std.specs.List.{list_any, zip}
-use Rattle.std.specs.Option.{option_map}
-use Rattle.std.specs.Prelude.{string_bytes}
-use Rattle.ir_model.specs.Graph.{Name, Adjacency, names}
+use Rattle.ir_model.specs.Graph.{Adjacency, names}
 use Rattle.ir_model.specs.OfGraph.{network_of_graph}
 use Rattle.ir_core.specs.declared.event.OpenError.{OpenError}
 use Rattle.ir_core.specs.declared.event.OpenError.TheVariants as openings
@@ -19,7 +17,7 @@ use Rattle.ir_trace.specs.Written.{records_text}
 use Rattle.ir_shell.specs.declared.words.Words.{Words}
 use Rattle.ir_shell.specs.Answer.{Answer, Ran, Refused}
 use Rattle.ir_shell.specs.Lines.{script_line, opening_line, refused_line}
-use Rattle.ir_shell.specs.Openings.{AnswersRoot}
+use Rattle.ir_shell.specs.Openings.{root_name, AnswersRoot}
 
 -- want of memory for a step
 abbrev pub wants_memory : Result Reply Refusal → Bool
@@ -54,10 +52,6 @@ abbrev pub AnswersRun : Adjacency → Words → Listing → ℕ → Answer → T
 AnswersRun g words script root (Ran text refused) = IsRun g words root script text refused
 AnswersRun g words script root (Refused line) =
     (e : OpenError) × (e ≢ openings.NoMemory) × IsOpenRefusal (network_of_graph g) root words.capacity words.packets e × (line ≡ opening_line e)
-
--- the name of the root, if there is one
-abbrev pub root_name : Words → Option Name
-root_name words = option_map string_bytes words.root
 
 -- the answer to a graph and the lines of a script: the script's first fault comes before the refusal of the opening
 abbrev pub AnswersScript : Words → List (List ℕ) → Adjacency → Answer → Type 0

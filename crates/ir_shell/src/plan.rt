@@ -3,9 +3,8 @@ ghost use Rattle.std.specs.Prelude.{◌≡◌, IfOk, IfErr, length};
 ghost use Rattle.ir_model.specs.OfGraph.{network_of_graph};
 ghost use Rattle.ir_model.specs.Scheme.{IsScheme};
 ghost use Rattle.ir_shell.specs.Asked.{PlanAnswers};
-ghost use Rattle.ir_shell.specs.Openings.{AnswersRoot};
+ghost use Rattle.ir_shell.specs.Openings.{root_name, AnswersRoot};
 ghost use Rattle.ir_shell.specs.Plans.{refusal_of, RefusesBuild, AnswersPlan};
-ghost use Rattle.ir_shell.specs.Plays.{root_name};
 ghost use Rattle.ir_shell.specs.Reading.{texts_of};
 ghost use Rattle.ir_shell.specs.Replies.{answer_of};
 

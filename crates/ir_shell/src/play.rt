@@ -5,8 +5,8 @@ ghost use Rattle.ir_model.specs.Graph.{names};
 ghost use Rattle.ir_model.specs.OfGraph.{network_of_graph};
 ghost use Rattle.ir_model.specs.Text.{lines};
 ghost use Rattle.ir_trace.specs.Written.{records_text};
-ghost use Rattle.ir_shell.specs.Openings.{AnswersTopology, AnswersRoot};
-ghost use Rattle.ir_shell.specs.Plays.{wants_memory, refused_text, AnswersRun, AnswersScript, root_name};
+ghost use Rattle.ir_shell.specs.Openings.{root_name, AnswersTopology, AnswersRoot};
+ghost use Rattle.ir_shell.specs.Plays.{wants_memory, refused_text, AnswersRun, AnswersScript};
 ghost use Rattle.ir_shell.specs.Replies.{answer_of};
 
 use crate::lines::{opening_line, push_reply_line, script_line, topology_line};
