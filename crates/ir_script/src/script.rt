@@ -1,5 +1,5 @@
 //! Scripts, line by line.
-ghost use Rattle.std.specs.Prelude.{◌≡◌, ◌<◌, ℕ, length, vec_len, ◌++◌, option_to_list, Some, Ok, true, OnOk, IfOk, IfErr, slice_get};
+ghost use Rattle.std.specs.Prelude.{◌≡◌, ◌<◌, length, vec_len, ◌++◌, option_to_list, Some, Ok, true, OnOk, IfOk, IfErr, slice_get};
 ghost use Rattle.std.specs.List.{list_all};
 ghost use Rattle.ir_model.specs.Graph.{names};
 ghost use Rattle.ir_model.specs.OfGraph.{network_of_graph};

@@ -1,5 +1,5 @@
 //! What a word of a script stands for: a number, a node, or with another word a link.
-ghost use Rattle.std.specs.Prelude.{◌≡◌, ◌+◌, ◌<◌, ◌≤◌, ◌==◌, find, min, length, IfOk};
+ghost use Rattle.std.specs.Prelude.{◌≡◌, ◌+◌, ◌<◌, ◌==◌, find, min, length, IfOk};
 ghost use Rattle.std.specs.List.{list_all};
 ghost use Rattle.ir_model.specs.Edgelist.{is_digit, value_of};
 ghost use Rattle.ir_model.specs.Graph.{names};
