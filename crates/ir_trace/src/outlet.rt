@@ -9,7 +9,7 @@ use std::marker::Model;
 /// Why a trace was not written.
 #[derive(Clone, Copy, Debug, PartialEq, Eq)]
 pub enum TraceError {
-    /// The writer gave an error, or took none of the bytes left.
+    /// The writer gave an error, also as it was flushed, or took none of the bytes left.
     Unwritable = 1,
     /// A growth was refused.
     NoMemory = 2,
@@ -19,7 +19,7 @@ impl TraceError {
     ghost use Rattle.std.specs.Prelude.{◌≡◌};
     ghost use Rattle.ir_trace.specs.OutletErrors.{error_code};
 
-    /// The number of the error, from 1 to 2.
+    /// The number of the error: 1 or 2.
     pub fn code(self) -> u8
         ensures { result ≡ error_code self }
     {
@@ -78,7 +78,7 @@ impl<W: Write> Outlet<W> {
         }
     }
 
-    /// Whether the writer gave an error, or took none of the bytes left.
+    /// Whether the writer gave an error, also as it was flushed, or took none of the bytes left.
     pub fn failed(&self) -> bool
         ensures { result ≡ self.now.failed }
     {

@@ -102,8 +102,8 @@ fn push_row(
 
 /// The trace of records over the topology of their graph: the line `trace 1`, and a row for each record in order. Only
 /// want of memory is refused. Condition: the topology is that of the graph; the nodes and links of each record are
-/// among its nodes and links; the hops are 1 to `MAX_NODES` nodes, each linked to the next; the node of a `Full` is an
-/// end of its link.
+/// among its nodes and links; the hops are 1 to `ir_model::MAX_NODES` nodes, each linked to the next; the node of a
+/// `Full` is an end of its link.
 pub fn trace_text(
     alloc: Global,
     graph: &Graph,
@@ -121,11 +121,11 @@ pub fn trace_text(
     Ok(text)
 }
 
-/// Writes the trace of records over their graph: the line `trace 1`, and a row for each record in order. Refused as
-/// `Unwritable` where the writer gives an error or takes none of the bytes left: a front of the text went out then, and
-/// the outlet has failed. After `NoMemory` the outlet is as it was. Condition: the outlet has not failed; the nodes and
-/// links of each record are those of the graph; the hops are 1 to `MAX_NODES` nodes, each linked to the next; the node
-/// of a `Full` is an end of its link.
+/// Writes the trace of records over their graph: the line `trace 1`, and a row for each record in order. `Unwritable`
+/// where the writer gives an error, also as it is flushed, or takes none of the bytes left: a front of the text went out
+/// then, and the outlet has failed. After `NoMemory` the outlet is as it was. Condition: the outlet has not failed; the
+/// nodes and links of each record are those of the graph; the hops are 1 to `ir_model::MAX_NODES` nodes, each linked to
+/// the next; the node of a `Full` is an end of its link.
 pub fn write_trace<W: Write>(
     alloc: Global,
     graph: &Graph,
