@@ -20,7 +20,8 @@ use Rattle.ir_script.specs.Command.{number_of, node_at, node_of, link_at, link_b
 use Rattle.ir_script.specs.Script.{Listing, with_line, listing_from, listing_of}
 use Rattle.ir_script.specs.Within.{is_node, is_link, is_event_within, is_within}
 
-place_within : (p : Name → Bool) (nodes : List Name) (u : ℕ) → position p nodes ≡ Some u → nat_lt u (length nodes) ≡ true
+-- the place of the first that passes is within the list
+pub place_within : (p : Name → Bool) (nodes : List Name) (u : ℕ) → position p nodes ≡ Some u → nat_lt u (length nodes) ≡ true
 place_within p nodes u e = by (nat_lt (prefix_len (λ y. not (p y)) nodes) (length nodes)) refl e
   where
     by : (t : Bool) → nat_lt (prefix_len (λ y. not (p y)) nodes) (length nodes) ≡ t → cond t (Some (prefix_len (λ y. not (p y)) nodes)) None ≡ Some u → nat_lt u (length nodes) ≡ true

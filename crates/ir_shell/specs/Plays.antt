@@ -12,12 +12,17 @@ use Rattle.ir_core.specs.Setting.{Setting}
 use Rattle.ir_core.specs.State.{State}
 use Rattle.ir_core.specs.Opened.{IsOpenedWith, IsOpenRefusal, open_refused}
 use Rattle.ir_core.specs.Run.{IsPlayed}
+use Rattle.ir_script.specs.declared.script.Script.{Script}
 use Rattle.ir_script.specs.Script.{Listing, listing_of}
 use Rattle.ir_trace.specs.Written.{records_text}
 use Rattle.ir_shell.specs.declared.words.Words.{Words}
 use Rattle.ir_shell.specs.Answer.{Answer, Ran, Refused}
 use Rattle.ir_shell.specs.Lines.{script_line, opening_line, refused_line}
 use Rattle.ir_shell.specs.Openings.{root_name, AnswersRoot}
+
+-- the steps of a script, and beside each the number of its line
+abbrev pub listing_in : Script → Listing
+listing_in script = record { steps = script.steps.items; lines = script.lines.items }
 
 -- want of memory for a step
 abbrev pub wants_memory : Result Reply Refusal → Bool

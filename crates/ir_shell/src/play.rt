@@ -6,7 +6,7 @@ ghost use Rattle.ir_model.specs.OfGraph.{network_of_graph};
 ghost use Rattle.ir_model.specs.Text.{lines};
 ghost use Rattle.ir_trace.specs.Written.{records_text};
 ghost use Rattle.ir_shell.specs.Openings.{root_name, AnswersTopology, AnswersRoot};
-ghost use Rattle.ir_shell.specs.Plays.{wants_memory, refused_text, AnswersRun, AnswersScript};
+ghost use Rattle.ir_shell.specs.Plays.{listing_in, wants_memory, refused_text, AnswersRun, AnswersScript};
 ghost use Rattle.ir_shell.specs.Replies.{answer_of};
 
 use crate::lines::{opening_line, push_reply_line, script_line, topology_line};
@@ -80,7 +80,7 @@ fn answer_root(
     root: u16,
 ) -> Result<Reply, AllocError>
     requires { topology.now ≡ network_of_graph graph.now }
-    ensures { IfOk result (λ reply. AnswersRun graph.now words.now (record { steps = script.now.steps.items; lines = script.now.lines.items }) root (answer_of reply)) }
+    ensures { IfOk result (λ reply. AnswersRun graph.now words.now (listing_in script.now) root (answer_of reply)) }
 {
     let opening = Opening {
         topology: topology.try_clone(alloc)?,
@@ -108,7 +108,7 @@ fn answer_steps(
     script: &Script,
 ) -> Result<Reply, AllocError>
     requires { topology.now ≡ network_of_graph graph.now }
-    ensures { IfOk result (λ reply. AnswersRoot graph.now (root_name words.now) (AnswersRun graph.now words.now (record { steps = script.now.steps.items; lines = script.now.lines.items })) (answer_of reply)) }
+    ensures { IfOk result (λ reply. AnswersRoot graph.now (root_name words.now) (AnswersRun graph.now words.now (listing_in script.now)) (answer_of reply)) }
 {
     match root_of(graph, &words.root) {
         Some(place) => answer_root(alloc, words, graph, topology, script, place),
