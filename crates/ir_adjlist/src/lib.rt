@@ -13,6 +13,7 @@ ghost use Rattle.ir_adjlist.specs.RoundTrip.{IsReadAsAdjlist, IsReadAsEdgelist};
 ghost use Rattle.ir_adjlist.specs.Told.{Tells, told_at};
 ghost use Rattle.ir_adjlist.specs.Written.{adjlist_text, edgelist_text};
 
+pub mod digits;
 mod edges;
 mod rows;
 pub mod scan;

@@ -2,22 +2,11 @@
 ghost use Rattle.std.specs.Prelude.{◌≡◌, ◌+◌, ◌==◌, min};
 ghost use Rattle.std.specs.List.{list_all};
 ghost use Rattle.ir_model.specs.declared.TheConstants.{MAX_WEIGHT};
-ghost use Rattle.ir_model.specs.Edgelist.{is_digit, value_of, is_zero_fraction, whole, is_decimal, weight_in};
+ghost use Rattle.ir_model.specs.Edgelist.{value_of, is_zero_fraction, whole, is_decimal, weight_in};
 
+use crate::digits::{all_digits, capped_value};
 use crate::scan;
 use ir_model::MAX_WEIGHT;
-
-fn is_digit(byte: u8) -> bool
-    ensures { result ≡ is_digit byte }
-{
-    byte >= b'0' && byte <= b'9'
-}
-
-fn all_digits(bytes: &[u8]) -> bool
-    ensures { result ≡ list_all is_digit bytes.now }
-{
-    bytes.iter().all(|byte| is_digit(*byte))
-}
 
 fn all_zeros(bytes: &[u8]) -> bool
     ensures { result ≡ list_all (λ b. b == 48) bytes.now }
@@ -32,17 +21,6 @@ fn is_zero_fraction(bytes: &[u8]) -> bool
     bytes.is_empty() || (bytes[0] == b'.' && bytes.len() > 1 && all_zeros(&bytes[1..]))
 }
 
-/// The value of the digits, or one more than the greatest weight where it is above that.
-fn capped_value(digits: &[u8]) -> u32
-    ensures { result ≡ min (MAX_WEIGHT + 1) (value_of digits.now) }
-{
-    let mut value = 0;
-    for digit in digits {
-        value = (value * 10 + u32::from(digit.saturating_sub(b'0'))).min(MAX_WEIGHT + 1);
-    }
-    value
-}
-
 /// Whether the word is one or more decimal digits, behind which a point and one or more zeros may stand.
 fn is_decimal(word: &[u8]) -> bool
     ensures { result ≡ is_decimal word.now }
@@ -55,7 +33,7 @@ fn is_decimal(word: &[u8]) -> bool
 fn capped_whole(word: &[u8]) -> u32
     ensures { result ≡ min (MAX_WEIGHT + 1) (value_of (whole word.now)) }
 {
-    capped_value(&word[..scan::before(word, b'.')])
+    capped_value(&word[..scan::before(word, b'.')], MAX_WEIGHT)
 }
 
 /// The weight that the word spells, from 1 to 65,535, where it spells one.

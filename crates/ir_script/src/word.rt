@@ -10,32 +10,10 @@ ghost use Rattle.ir_script.specs.Command.{number_of, node_of, link_between, link
 
 use crate::fault::ScriptFault;
 use crate::{MAX_DIGITS, MAX_NUMBER};
+use ir_adjlist::digits::{all_digits, capped_value};
 use ir_graph::Graph;
 use ir_model::Hop;
 use ir_tables::Topology;
-
-fn is_digit(byte: u8) -> bool
-    ensures { result ≡ is_digit byte }
-{
-    byte >= b'0' && byte <= b'9'
-}
-
-fn all_digits(bytes: &[u8]) -> bool
-    ensures { result ≡ list_all is_digit bytes.now }
-{
-    bytes.iter().all(|byte| is_digit(*byte))
-}
-
-/// The value of the digits, or one more than the greatest number where it is above that.
-fn capped_value(digits: &[u8]) -> u32
-    ensures { result ≡ min (MAX_NUMBER + 1) (value_of digits.now) }
-{
-    let mut value = 0;
-    for digit in digits {
-        value = (value * 10 + u32::from(digit.saturating_sub(b'0'))).min(MAX_NUMBER + 1);
-    }
-    value
-}
 
 /// The number that a word spells.
 pub fn number_of(word: &[u8]) -> Result<u32, ScriptFault>
@@ -44,7 +22,7 @@ pub fn number_of(word: &[u8]) -> Result<u32, ScriptFault>
     if word.is_empty() || word.len() > MAX_DIGITS || !all_digits(word) {
         return Err(ScriptFault::BadNumber);
     }
-    let value = capped_value(word);
+    let value = capped_value(word, MAX_NUMBER);
     if value > MAX_NUMBER {
         return Err(ScriptFault::BadNumber);
     }

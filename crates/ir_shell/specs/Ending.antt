@@ -7,7 +7,7 @@ use Rattle.ir_shell.specs.declared.ending.Ending.TheVariants as endings
 use Rattle.ir_shell.specs.declared.read.Source.{Source}
 use Rattle.ir_shell.specs.Answer.{Answer, Ran, Refused}
 use Rattle.ir_shell.specs.Lines.{unreadable_line, too_large_line, unwritable_line, out_of_memory_line}
-use Rattle.ir_shell.specs.Writing.{AppendsFront}
+use Rattle.ir_trace.specs.Outlet.{AppendsFront}
 
 -- the exit status
 abbrev pub status_of : Ending → ℕ

@@ -8,7 +8,6 @@ pub mod PlanText
 pub mod Plans
 pub mod Plays
 pub mod Asked
-pub mod Writing
 pub mod Replied
 pub mod Ending
 pub mod Reading

@@ -8,7 +8,7 @@ use Rattle.ir_shell.specs.declared.read.Source.{Source}
 use Rattle.ir_shell.specs.declared.read.NoInput.{NoInput}
 use Rattle.ir_shell.specs.declared.read.NoInput.TheVariants.{Unreadable, TooLarge, NoMemory}
 use Rattle.ir_shell.specs.Lines.{unwritable_line, unreadable_line, too_large_line, out_of_memory_line}
-use Rattle.ir_shell.specs.Writing.{AppendsFront}
+use Rattle.ir_trace.specs.Outlet.{AppendsFront}
 
 -- what the writers took of an answer
 abbrev pub RepliesAs : Ending → Answer → (out out' told told' : Option (List ℕ)) → Type 0

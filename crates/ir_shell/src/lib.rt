@@ -12,7 +12,6 @@ mod play;
 mod read;
 mod reply;
 mod sim;
-mod text;
 mod words;
 mod write;
 

@@ -2,12 +2,13 @@
 ghost use Rattle.std.specs.Prelude.{◌≡◌, ◌++◌, IfOk, OnOk, string_bytes};
 ghost use Rattle.ir_shell.specs.Lines.{fault_name, script_fault_name, open_error_name, refusal_name, topology_line, script_line, opening_line, unreadable_line, too_large_line};
 ghost use Rattle.ir_shell.specs.Plays.{reply_line};
+ghost use Rattle.ir_shell.specs.Words.{numbered_line};
 
 use crate::read::Source;
-use crate::text::push_line;
 use ir_core::{OpenError, Refused, Reply};
 use ir_model::Fault;
 use ir_script::ScriptFault;
+use ir_trace::text::{push_next_number, push_word};
 use std::alloc::{AllocError, Global};
 
 fn fault_name(kind: Fault) -> &'static str
@@ -35,6 +36,17 @@ fn script_fault_name(kind: ScriptFault) -> &'static str
         ScriptFault::UnknownLink => "UnknownLink",
         ScriptFault::NoMemory => "NoMemory",
     }
+}
+
+/// Writes a line that says what is wrong where: a word, the number of a line, and a name.
+fn push_line(text: &mut String, what: &str, line: usize, name: &str) -> Result<(), AllocError>
+    ensures { OnOk result (string_bytes text.new ≡ string_bytes text.old ++ numbered_line what.now line name.now) }
+{
+    text.push_str(what)?;
+    push_next_number(text, line)?;
+    push_word(text, name)?;
+    text.push_str("\n")?;
+    Ok(())
 }
 
 /// The text for an input that can't be read.

@@ -7,10 +7,10 @@ ghost use Rattle.ir_trace.specs.Rows.{spaced};
 ghost use Rattle.ir_shell.specs.PlanText.{kind_text, start_words, head_words, node_words, plan_text};
 ghost use Rattle.ir_shell.specs.Words.{line_text};
 
-use crate::text::{name_of, push_name, push_next_number, push_word};
 use ir_graph::Graph;
 use ir_model::Kind;
 use ir_plan::Plan;
+use ir_trace::text::{name_of, push_name, push_next_number, push_word};
 use std::alloc::{AllocError, Global};
 
 /// The word of a kind.

@@ -5,7 +5,8 @@ ghost use Rattle.ir_shell.specs.Replies.{answer_of};
 use crate::ending::Ending;
 use crate::lines::{too_large_line, unreadable_line};
 use crate::read::{NoInput, Source};
-use crate::write::{tell, write_text};
+use crate::write::tell;
+use ir_trace::write_text;
 use std::io::Write;
 
 /// What the inputs come to.

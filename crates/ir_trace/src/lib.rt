@@ -11,13 +11,13 @@ mod outlet;
 mod reading;
 mod resolve;
 mod row;
-mod text;
+pub mod text;
 mod weight;
 mod words;
 mod writing;
 
 pub use finding::{Finding, FindingKind};
-pub use outlet::{Outlet, TraceError};
+pub use outlet::{Outlet, TraceError, write_text};
 pub use reading::{Trace, read_trace};
 pub use row::{RowFate, TraceRow};
 pub use writing::{trace_text, write_trace};

@@ -54,7 +54,7 @@ impl<W> Model for Outlet<W> {
 }
 
 /// Writes all of a text, and answers whether the writer took it. What went out is a front of the text.
-fn write_text<W: Write>(writer: &mut W, text: &[u8]) -> bool
+pub fn write_text<W: Write>(writer: &mut W, text: &[u8]) -> bool
     ensures { Writes result (W.contents writer.old) (W.contents writer.new) text.now }
 {
     let mut rest = text;

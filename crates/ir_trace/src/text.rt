@@ -9,14 +9,14 @@ use ir_graph::Graph;
 use std::alloc::AllocError;
 
 /// Writes a number.
-pub fn push_number(text: &mut String, n: u32) -> Result<(), AllocError>
+pub fn push_number(text: &mut String, n: usize) -> Result<(), AllocError>
     ensures { OnOk result (string_bytes text.new ≡ string_bytes text.old ++ decimal n) }
 {
     write!(text, "{n}")
 }
 
 /// Writes a space and a number.
-pub fn push_next_number(text: &mut String, n: u32) -> Result<(), AllocError>
+pub fn push_next_number(text: &mut String, n: usize) -> Result<(), AllocError>
     ensures { OnOk result (string_bytes text.new ≡ string_bytes text.old ++ spaced (decimal n)) }
 {
     text.push_str(" ")?;
@@ -31,15 +31,15 @@ pub fn push_word(text: &mut String, word: &str) -> Result<(), AllocError>
     text.push_str(word)
 }
 
-/// The name of a node.
-fn name_of(graph: &Graph, u: u16) -> &str
+/// The name of a node. Condition: it is a node of the graph.
+pub fn name_of(graph: &Graph, u: u16) -> &str
     requires { u < length graph.now }
     ensures { result.now ≡ name_at (names graph.now) u }
 {
     graph.node(u as usize).unwrap()
 }
 
-/// Writes a space and the name of a node.
+/// Writes a space and the name of a node. Condition: it is a node of the graph.
 pub fn push_name(text: &mut String, graph: &Graph, u: u16) -> Result<(), AllocError>
     requires { u < length graph.now }
     ensures { OnOk result (string_bytes text.new ≡ string_bytes text.old ++ spaced (name_at (names graph.now) u)) }

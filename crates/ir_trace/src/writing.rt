@@ -89,11 +89,11 @@ fn push_row(
     ensures { OnOk result (string_bytes text.new ≡ string_bytes text.old ++ row_line (row_of (names graph.now) topology.now packet.now)) }
 {
     let hops = packet.hops.as_slice();
-    push_number(text, packet.id)?;
-    push_next_number(text, packet.epoch)?;
+    push_number(text, packet.id as usize)?;
+    push_next_number(text, packet.epoch as usize)?;
     push_name(text, graph, packet.source)?;
     push_name(text, graph, packet.dest)?;
-    push_next_number(text, walk_weight(topology, hops))?;
+    push_next_number(text, walk_weight(topology, hops) as usize)?;
     push_fate(text, graph, topology, packet.fate)?;
     push_names(text, graph, hops)?;
     text.push_str("\n")?;

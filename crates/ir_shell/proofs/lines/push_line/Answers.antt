@@ -1,7 +1,7 @@
 use Rattle.std.proofs.Common.{◌∙◌, ◌++◌, ◌∷◌, [], ap, decimal, string_bytes}
 use Rattle.ir_trace.specs.Rows.{spaced}
 use Rattle.ir_shell.proofs.Texts.{line_pieces}
-use Rattle.ir_shell.proofs.text.push_line.Goals as goal
+use Rattle.ir_shell.proofs.lines.push_line.Goals as goal
 
 pub returns : goal.returns
 returns c =

@@ -1,0 +1,30 @@
+//! Decimal digits.
+ghost use Rattle.std.specs.Prelude.{◌≡◌, ◌+◌, ◌≤◌, min};
+ghost use Rattle.std.specs.List.{list_all};
+ghost use Rattle.ir_model.specs.Edgelist.{is_digit, value_of};
+
+fn is_digit(byte: u8) -> bool
+    ensures { result ≡ is_digit byte }
+{
+    byte >= b'0' && byte <= b'9'
+}
+
+/// Whether each byte is a decimal digit.
+pub fn all_digits(bytes: &[u8]) -> bool
+    ensures { result ≡ list_all is_digit bytes.now }
+{
+    bytes.iter().all(|byte| is_digit(*byte))
+}
+
+/// The value of the digits, or one more than the greatest that is wanted where it is above that. Condition: the greatest
+/// is at most 65,535.
+pub fn capped_value(digits: &[u8], most: u32) -> u32
+    requires { most ≤ 65535 }
+    ensures { result ≡ min (most + 1) (value_of digits.now) }
+{
+    let mut value = 0;
+    for digit in digits {
+        value = (value * 10 + u32::from(digit.saturating_sub(b'0'))).min(most + 1);
+    }
+    value
+}

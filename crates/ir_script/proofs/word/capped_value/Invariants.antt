@@ -1,7 +1,0 @@
-use Rattle.std.proofs.Common.{◌≡◌, ◌+◌, min, take}
-use Rattle.ir_script.specs.declared.TheConstants.{MAX_NUMBER}
-use Rattle.ir_model.specs.Edgelist.{value_of}
-use Rattle.ir_script.proofs.word.capped_value.Given as goal
-
-abbrev pub invariant-loop-digit : goal.invariant-loop-digit
-invariant-loop-digit l = l.value ≡ min (MAX_NUMBER + 1) (value_of (take l.digit-index l.digits))
