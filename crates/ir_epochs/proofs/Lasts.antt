@@ -1,5 +1,5 @@
 -- What one more change makes of a list of entries.
-use Rattle.std.proofs.Common.{◌≡◌, ℕ, ◌+◌, ◌<◌, ◌≤◌, le_refl, le_trans, length-append, List, [], ◌∷◌, ◌++◌, length, Option, Some, None, true, if◌then◌else◌, fold, refl, sym, ap, ◌∙◌, subst, arith}
+use Rattle.std.proofs.Common.{◌≡◌, ℕ, ◌+◌, ◌<◌, ◌≤◌, le_refl, length-append, List, [], ◌∷◌, ◌++◌, length, Option, Some, None, if◌then◌else◌, fold, refl, sym, ap, ◌∙◌, subst, arith}
 use mathlib.Core.List.{IsPrefix}
 use Rattle.ir_model.specs.Network.{Network}
 use Rattle.ir_model.specs.Scheme.{IsScheme}

@@ -1,11 +1,10 @@
 -- Networks over some of the links of another.
-use Rattle.std.proofs.Common.{◌≡◌, ℕ, zero, suc, ◌<◌, Bool, true, false, List, [], ◌∷◌, length, replicate, filter, map, Some, refl, ap, sym, slice_get, slice_index_or}
+use Rattle.std.proofs.Common.{◌≡◌, ℕ, suc, Bool, true, false, List, [], ◌∷◌, length, replicate, filter, map, Some, refl, ap, sym, slice_get, slice_index_or}
 use Rattle.std.proofs.lemmas.List.{get_or-replicate, length-replicate}
 use Rattle.std.proofs.lemmas.Option.{slice_get_within}
 use Rattle.std.proofs.Math.Logic.{∥∥₁_elim, ∥∥₁_prop}
-use Rattle.ir_model.specs.declared.Link.{Link}
 use Rattle.ir_model.specs.declared.Hop.{Hop}
-use Rattle.ir_model.specs.Network.{Network, IsNetwork, is_up, restrict}
+use Rattle.ir_model.specs.Network.{Network, IsNetwork, is_up}
 use Rattle.ir_model.specs.Scheme.{Scheme, IsScheme}
 use Rattle.ir_epochs.specs.Over.{IsOver}
 

@@ -1,5 +1,5 @@
 -- Floors and current epochs only rise.
-use Rattle.std.proofs.Common.{◌≡◌, ℕ, zero, suc, ◌≤◌, ◌<◌, List, [], ◌∷◌, ◌++◌, take, length, fold, refl, sym, ap, subst, inl, inr, ◌⊎◌, ⊎_elim, le_refl, le_trans, ◌∙◌, arith}
+use Rattle.std.proofs.Common.{◌≡◌, ℕ, zero, suc, ◌<◌, List, [], ◌∷◌, ◌++◌, take, length, fold, refl, sym, ap, subst, inl, inr, ◌⊎◌, ⊎_elim, le_refl, le_trans, ◌∙◌, arith}
 use mathlib.Core.List.{IsPrefix}
 use Rattle.ir_core.specs.declared.board.Board.{Board}
 use Rattle.ir_core.specs.Board.{opening_board}

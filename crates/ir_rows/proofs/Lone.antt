@@ -1,5 +1,5 @@
 -- A packet that is at its source, the first node.
-use Rattle.std.proofs.Common.{◌≡◌, ◌<◌, ℕ, zero, suc, List, [], ◌∷◌, Some, refl, sym, subst, ◌∙◌, arith}
+use Rattle.std.proofs.Common.{◌≡◌, ◌<◌, zero, suc, [], ◌∷◌, refl, sym, subst, ◌∙◌, arith}
 use Rattle.std.proofs.lemmas.Option.{same_Some, none-some}
 use Rattle.ir_model.specs.Network.{Network, node_count}
 use Rattle.ir_core.specs.Journey.{Journey}

@@ -1,4 +1,4 @@
-use Rattle.std.proofs.Common.{◌≡◌, [], ◌∷◌, ◌++◌, drop, fold, ap, sym, ◌∙◌}
+use Rattle.std.proofs.Common.{◌≡◌, [], ◌∷◌, ◌++◌, drop, fold, ap, ◌∙◌}
 use Rattle.ir_epochs.proofs.Steps.{sees}
 use Rattle.ir_epochs.proofs.handles.publish.Goals as goal
 

@@ -1,4 +1,4 @@
-use Rattle.std.proofs.Common.{◌≡◌, ◌∷◌, ◌++◌, [], length, All, arith, length-append, ◌∙◌, subst, sym, List}
+use Rattle.std.proofs.Common.{◌≡◌, ◌∷◌, ◌++◌, [], All, arith, ◌∙◌, subst, sym, List}
 use Rattle.std.proofs.lemmas.List.Elements.{All-push}
 use Rattle.ir_epochs.specs.declared.handles.BoardReader.{BoardReader}
 use Rattle.ir_epochs.specs.Handles.{published, known, writer_board, reader_board}

@@ -1,4 +1,4 @@
-use Rattle.std.proofs.Common.{◌<◌, List, [], ◌∷◌, subst, arith}
+use Rattle.std.proofs.Common.{◌<◌, [], ◌∷◌, subst, arith}
 use Rattle.ir_model.specs.Network.{Network, node_count}
 use Rattle.ir_trace.specs.Written.{AreWritable}
 use Rattle.ir_rows.proofs.Lone.{lone_writable}
