@@ -20,7 +20,7 @@ pub enum BoardError {
 
 impl RegisterError {
     /// Its number: 1 for `Used`, 2 for `NoMemory`.
-    pub fn code(self) -> u32
+    pub fn code(self) -> u8
         ensures { result ≡ register_code self }
     {
         match self {
@@ -32,7 +32,7 @@ impl RegisterError {
 
 impl BoardError {
     /// Its number: 1 for `TooManyReaders`, 2 for `NoMemory`.
-    pub fn code(self) -> u32
+    pub fn code(self) -> u8
         ensures { result ≡ board_code self }
     {
         match self {

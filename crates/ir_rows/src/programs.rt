@@ -17,7 +17,7 @@ pub fn asked(alloc: Global, words: &[&str]) -> Result<Result<Words, WordsError>,
 /// Whether the words are refused with a text for standard error.
 fn is_usage(alloc: Global, words: &[&str]) -> Result<bool, Fail> {
     let answer = asked(alloc, words)?;
-    Ok(matches!(answer, Err(WordsError::Usage(_))))
+    Ok(answer.is_err_and(|error| error.code() == 1))
 }
 
 /// What `route plan` prints of a topology with these words.

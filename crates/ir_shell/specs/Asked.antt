@@ -3,6 +3,8 @@ use Rattle.std.specs.Prelude.{ℕ, Bool, false, if◌then◌else◌, List, [], �
 use Rattle.ir_model.specs.Graph.{Name}
 use Rattle.ir_model.specs.Text.{lines}
 use Rattle.ir_shell.specs.declared.words.Words.{Words}
+use Rattle.ir_shell.specs.declared.words.WordsError.{WordsError}
+use Rattle.ir_shell.specs.declared.words.WordsError.TheVariants as refused
 use Rattle.ir_shell.specs.declared.read.Source.{Source}
 use Rattle.ir_shell.specs.declared.read.Source.TheVariants.{Input, Topology, Script}
 use Rattle.ir_shell.specs.Answer.{Answer}
@@ -42,3 +44,9 @@ SimAnswers words (input ∷ []) answer =
     AnswersTopology words.format (topology_part (lines input)) (AnswersScript words (script_part (lines input))) answer
 SimAnswers words (topology ∷ script ∷ []) answer = AnswersTopology words.format (lines topology) (AnswersScript words (lines script)) answer
 SimAnswers words (text ∷ other ∷ third ∷ texts) answer = ⊥
+
+-- the numbers of the refusals of words
+abbrev pub words_code : WordsError → ℕ
+words_code (refused.Usage text) = 1
+words_code (refused.Help text) = 2
+words_code refused.NoMemory = 3

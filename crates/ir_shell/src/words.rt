@@ -58,6 +58,22 @@ pub enum WordsError {
     NoMemory,
 }
 
+impl WordsError {
+    ghost use Rattle.std.specs.Prelude.{◌≡◌};
+    ghost use Rattle.ir_shell.specs.Asked.{words_code};
+
+    /// Its number: 1 for `Usage`, 2 for `Help`, 3 for `NoMemory`.
+    pub fn code(&self) -> u8
+        ensures { result ≡ words_code self.now }
+    {
+        match self {
+            WordsError::Usage(_) => 1,
+            WordsError::Help(_) => 2,
+            WordsError::NoMemory => 3,
+        }
+    }
+}
+
 impl<T: Drop> From<AllocFailed<T>> for WordsError {
     fn from(_error: AllocFailed<T>) -> WordsError {
         WordsError::NoMemory
