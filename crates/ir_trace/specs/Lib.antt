@@ -3,7 +3,6 @@ pub mod Written
 pub mod Codes
 pub mod Reading
 pub mod Outlet
-pub mod OutletErrors
 pub mod Spelled
 pub mod Line
 pub mod Again

@@ -17,7 +17,7 @@ pub enum TraceError {
 
 impl TraceError {
     ghost use Rattle.std.specs.Prelude.{◌≡◌};
-    ghost use Rattle.ir_trace.specs.OutletErrors.{error_code};
+    ghost use Rattle.ir_trace.specs.Codes.{error_code};
 
     /// The number of the error: 1 or 2.
     pub fn code(self) -> u8

@@ -1,6 +1,6 @@
 use Rattle.std.proofs.Common.{◌≡◌, ◌∙◌, sym, ap, subst, MatchOption, decimal}
 use Rattle.ir_trace.specs.Spelled.{IsNoNumber, is_padded}
-use Rattle.ir_trace.proofs.RNumbers.{no_number_padded, read_number}
+use Rattle.ir_trace.proofs.ReadNumbers.{no_number_padded, read_number}
 use Rattle.ir_trace.proofs.numbers.number.Goals as goal
 
 pub returns-then-is_padded : goal.returns-then-is_padded

@@ -1,6 +1,6 @@
 use Rattle.std.proofs.Common.{sym, subst, MatchOption}
 use Rattle.ir_trace.specs.Line.{HasNoFeed, CutsLine}
-use Rattle.ir_trace.proofs.RCuts.{no_feed_found, feed_found}
+use Rattle.ir_trace.proofs.ReadCuts.{no_feed_found, feed_found}
 use Rattle.ir_trace.proofs.reading.cut_line.Goals as goal
 
 pub returns-in_err-end : goal.returns-in_err-end

@@ -1,6 +1,6 @@
 use Rattle.std.proofs.Common.{refl}
 use Rattle.ir_trace.specs.Spelled.{texts, HasWords}
-use Rattle.ir_trace.proofs.RRows.{no_words_no_row, nothing_no_row}
+use Rattle.ir_trace.proofs.ReadRows.{no_words_no_row, nothing_no_row}
 use Rattle.ir_trace.proofs.reading.read_row.Goals as goal
 
 pub returns-in_default-clause-fault : goal.returns-in_default-clause-fault

@@ -6,7 +6,7 @@ use Rattle.std.proofs.lemmas.Result.{err_from_is_err_and}
 use Rattle.std.proofs.lemmas.Slice.Eq.{strip_prefix_is}
 use Rattle.ir_trace.specs.Rows.{header}
 use Rattle.ir_trace.specs.Spelled.{row_held}
-use Rattle.ir_trace.proofs.RReading.{read_header, read_line, line_told}
+use Rattle.ir_trace.proofs.ReadTexts.{read_header, read_line, line_told}
 use Rattle.ir_trace.proofs.reading.read_rows.Goals as goal
 
 pub loop-rest-init : goal.loop-rest-init

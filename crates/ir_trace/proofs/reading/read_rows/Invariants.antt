@@ -1,6 +1,6 @@
 use Rattle.std.proofs.Common.{map, length}
 use Rattle.ir_trace.specs.Spelled.{row_held}
-use Rattle.ir_trace.proofs.RReading.{IsReadTo}
+use Rattle.ir_trace.proofs.ReadTexts.{IsReadTo}
 use Rattle.ir_trace.proofs.reading.read_rows.Given as goal
 
 abbrev pub invariant-loop-rest : goal.invariant-loop-rest

@@ -1,4 +1,4 @@
-use Rattle.ir_trace.proofs.RAgain.{read_again}
+use Rattle.ir_trace.proofs.ReadAgain.{read_again}
 use Rattle.ir_trace.proofs.reading.read_trace.Goals as goal
 
 pub returns-clause-again : goal.returns-clause-again

@@ -1,7 +1,7 @@
 use Rattle.std.proofs.Common.{◌∙◌, sym, ap, map, Some, arith}
 use Rattle.ir_model.specs.Graph.{names}
 use Rattle.ir_trace.specs.Reading.{node_named}
-use Rattle.ir_trace.proofs.RHops.{hops_more, no_hops_at}
+use Rattle.ir_trace.proofs.ReadHops.{hops_more, no_hops_at}
 use Rattle.ir_trace.proofs.resolve.hops_of.Goals as goal
 
 pub returns-in-None : goal.returns-in-None

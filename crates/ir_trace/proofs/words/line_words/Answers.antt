@@ -1,6 +1,6 @@
 use Rattle.std.proofs.Common.{sym, subst}
 use Rattle.std.specs.Str.{IsUtf8}
-use Rattle.ir_trace.proofs.RLines.{joined_utf8, found_words}
+use Rattle.ir_trace.proofs.ReadLines.{joined_utf8, found_words}
 use Rattle.ir_trace.proofs.words.line_words.Goals as goal
 
 pub returns-in_default : goal.returns-in_default

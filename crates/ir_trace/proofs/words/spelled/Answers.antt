@@ -1,7 +1,7 @@
 use Rattle.std.proofs.Common.{sym, subst, ◌∙◌, arith, length, MatchOption}
 use Rattle.std.proofs.lemmas.Bool.{eqb-true, eqb-false}
 use Rattle.ir_trace.specs.Spelled.{texts, fate_held, text_held, Spells, SpellsNothing}
-use Rattle.ir_trace.proofs.RSpelled.{no_weight, no_hops, spells}
+use Rattle.ir_trace.proofs.ReadSpellings.{no_weight, no_hops, spells}
 use Rattle.ir_trace.proofs.words.spelled.Goals as goal
 
 pub returns-then-is_empty : goal.returns-then-is_empty

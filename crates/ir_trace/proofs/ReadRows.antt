@@ -11,8 +11,8 @@ use Rattle.ir_trace.specs.declared.TheConstants.{MAX_NUMBER}
 use Rattle.ir_trace.specs.Rows.{FateText, Delivered, Retired, Down, Full, Left, RowText, IsRowText, row_words, fate_words, fate_names, is_word}
 use Rattle.ir_trace.specs.Spelled.{HasWords, HasNoWords, SpellsNothing}
 use Rattle.ir_trace.specs.Line.{Says}
-use Rattle.ir_trace.proofs.RSpelled.{first_word, words_behind}
-use Rattle.ir_trace.proofs.RLines.{is_word_byte, is_space, split-joined}
+use Rattle.ir_trace.proofs.ReadSpellings.{first_word, words_behind}
+use Rattle.ir_trace.proofs.ReadLines.{is_word_byte, is_space, split-joined}
 use Rattle.std.specs.List.{slice_split}
 
 digit_bytes : (ds : List ℕ) → AllDigits 10 ds → list_all is_word_byte ds ≡ true

@@ -22,8 +22,8 @@ use Rattle.ir_trace.specs.Rows.{IsRowText, fate_names, is_word}
 use Rattle.ir_trace.specs.Reading.{Row, node_named, AreLinkedAs, FateIsReadAs, IsReadAs, AreReadAs, IsTrace, Tells}
 use Rattle.ir_trace.specs.Written.{name_at, link_at, other_end, fate_text, row_of, FateIsIn, IsWritable, AreWritable}
 use Rattle.ir_trace.specs.Again.{fate_again, row_again, AreNumbered, IsTraceOf}
-use Rattle.ir_trace.proofs.RLinks.{count, named, word_at, link_names}
-use Rattle.ir_trace.proofs.RUnique.{trace_same, trace_told}
+use Rattle.ir_trace.proofs.ReadLinks.{count, named, word_at, link_names}
+use Rattle.ir_trace.proofs.UniqueRows.{trace_same, trace_told}
 
 module _ (g : Adjacency) (graph : IsGraph g) where
   node_within : (u : ℕ) → u < node_count (network_of_graph g) → u < length g

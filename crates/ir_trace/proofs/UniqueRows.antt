@@ -9,9 +9,9 @@ use Rattle.ir_trace.specs.declared.finding.FindingKind.TheVariants.{NotTrace, Ba
 use Rattle.ir_trace.specs.Rows.{FateText, Delivered, Retired, Down, Full, Left, RowText, IsRowText, row_words, row_line, header, joined}
 use Rattle.ir_trace.specs.Reading.{Row, FateIsReadAs, IsReadAs, AreReadAs, IsTrace, IsFirstFault, Tells}
 use Rattle.ir_trace.specs.Line.{Says}
-use Rattle.ir_trace.proofs.RSpelled.{fate_words-same}
-use Rattle.ir_trace.proofs.RRows.{says_words, words_same}
-use Rattle.ir_trace.proofs.RReading.{first_cut, row_no_feed}
+use Rattle.ir_trace.proofs.ReadSpellings.{fate_words-same}
+use Rattle.ir_trace.proofs.ReadRows.{says_words, words_same}
+use Rattle.ir_trace.proofs.ReadTexts.{first_cut, row_no_feed}
 
 -- ---- a line is that of one row
 

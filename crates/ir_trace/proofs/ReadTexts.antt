@@ -10,8 +10,8 @@ use Rattle.ir_trace.specs.declared.finding.FindingKind.TheVariants.{NotTrace, Ba
 use Rattle.ir_trace.specs.Rows.{RowText, IsRowText, row_words, row_line, header, trace_text, joined}
 use Rattle.ir_trace.specs.Reading.{Row, IsReadAs, AreReadAs, IsTrace, IsFaultOf, IsFirstFault, Tells}
 use Rattle.ir_trace.specs.Line.{HasNoFeed, CutsLine, Says, IsLineOf, LineTold}
-use Rattle.ir_trace.proofs.RLines.{is_word_byte, joined_all}
-use Rattle.ir_trace.proofs.RRows.{row_words_all}
+use Rattle.ir_trace.proofs.ReadLines.{is_word_byte, joined_all}
+use Rattle.ir_trace.proofs.ReadRows.{row_words_all}
 
 -- ---- the first line feed
 

@@ -13,7 +13,7 @@ use Rattle.std.proofs.lemmas.Str.Ascii.{IsAscii-cons, IsAscii-nil}
 use Rattle.ir_model.specs.Graph.{Name}
 use Rattle.ir_trace.specs.Rows.{spaced, joined, is_word}
 use Rattle.ir_trace.specs.Spelled.{texts, HasWords, HasNoWords}
-use Rattle.ir_trace.proofs.RSpelled.{first_word, words_behind}
+use Rattle.ir_trace.proofs.ReadSpellings.{first_word, words_behind}
 
 abbrev pub is_word_byte : ℕ → Bool
 is_word_byte b = nat_le 33 b && nat_le b 126

@@ -18,7 +18,7 @@ use Rattle.ir_tables.proofs.OfGraph.{graph_rows, graph_network}
 use Rattle.ir_trace.specs.Rows.{is_word}
 use Rattle.ir_trace.specs.Reading.{node_named, AreLinkedAs}
 use Rattle.ir_trace.specs.Written.{name_at}
-use Rattle.ir_trace.proofs.RLines.{is_word_byte}
+use Rattle.ir_trace.proofs.ReadLines.{is_word_byte}
 
 -- ---- links by number
 
