@@ -6,7 +6,7 @@ use std::alloc::Global;
 use std::test::Fail;
 
 /// What the words behind the program's name ask for.
-pub fn asked(alloc: Global, words: &[&str]) -> Result<Result<Words, WordsError>, Fail> {
+pub(crate) fn asked(alloc: Global, words: &[&str]) -> Result<Result<Words, WordsError>, Fail> {
     let mut all: Vec<String> = Vec::new(alloc);
     for word in words {
         all.push(String::from_str(alloc, word)?)?;
