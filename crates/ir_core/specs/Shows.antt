@@ -1,4 +1,4 @@
--- What a world shows of a history, and how a run goes.
+-- What a world shows of a history, and the replies to events.
 use Rattle.std.specs.Prelude.{◌≡◌, ℕ, ◌≤◌, true, false, List, [], length, slice_get, slice_index, slice_index_or, None, Result, Ok, Err, ◌⊎◌}
 use Rattle.ir_core.specs.declared.event.Event.{Event}
 use Rattle.ir_core.specs.declared.event.Event.TheVariants as event

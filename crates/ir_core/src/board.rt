@@ -59,7 +59,7 @@ impl Board {
         }
     }
 
-    /// The marks of all links, up or down, by number.
+    /// A mark for each link number, up or down: `MAX_LINKS` in all.
     pub fn marks(&self) -> &[bool]
         ensures { result.now ≡ self.now.up }
     {

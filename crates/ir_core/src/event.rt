@@ -34,7 +34,7 @@ pub enum Event {
 #[derive(Clone, Copy, Debug, PartialEq, Eq)]
 pub enum Step {
     Event(Event),
-    /// Rounds over all nodes, until a round has no Act.
+    /// Rounds over all nodes, until a round has no Act. It answers `Changed`.
     Drain,
 }
 

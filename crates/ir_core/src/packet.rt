@@ -76,8 +76,8 @@ impl Record {
         })
     }
 
-    /// What an Act of a node leaves in the packet's record: the node as a hop, unless it was taken from the inbox or
-    /// dropped before, and the verdict's fate.
+    /// What an Act of a node leaves in the packet's record: the node as a hop, unless the packet was taken
+    /// from the inbox or dropped by the first two lines of the verdict, and the verdict's fate.
     pub fn act(&mut self, node: u16, way: Way, verdict: Verdict)
         requires { length self.old.hops < MAX_NODES }
         ensures { self.new ≡ acted node way verdict self.old }

@@ -136,7 +136,7 @@ impl<R: Wait + Drop> BoardWriter<R> {
     /// Publishes one change, which is then the last entry. At `Err` nothing was published.
     ///
     /// The change is one that may come next. An error means that there was no memory; `open` makes the room that a
-    /// change takes, so no run is known in which it comes. This waits for readers that still read an older board.
+    /// change takes, so no run is known in which it comes. After an error each later change is refused too. This waits for readers that still read an older board.
     pub fn change(&mut self, change: Change) -> Result<Receipt, AllocError>
         requires version { (board_of (published self.old)).version < MAX_CHANGES }
         requires fits { Fits (published self.old) change }
@@ -253,7 +253,7 @@ impl BoardReader {
 
     /// The board as it is, or the newest that it knows where the writer is gone. It waits for nobody.
     ///
-    /// The board is that of a beginning of the published list, which never gets shorter. That it enters the board at
+    /// The board is that of the list of entries that it knows, which never gets shorter. That it enters the board at
     /// all is shown by test.
     pub fn read(&mut self) -> Board
         ensures board { result ≡ board_of (known self.new) }

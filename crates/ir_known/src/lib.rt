@@ -7,7 +7,7 @@
 #![tactic(auto)]
 
 mod known;
-pub mod sends;
+mod sends;
 mod tag;
 
 pub use known::Known;

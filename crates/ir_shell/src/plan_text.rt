@@ -1,7 +1,7 @@
 //! The text of a plan.
 ghost use Rattle.std.specs.Prelude.{◌≡◌, ◌<◌, ◌++◌, IfOk, OnOk, length, flat_map, slice_index_or, string_bytes};
 ghost use Rattle.ir_model.specs.Graph.{names};
-ghost use Rattle.ir_model.specs.Network.{node_count, ports_of};
+ghost use Rattle.ir_model.specs.Network.{node_count};
 ghost use Rattle.ir_model.specs.Scheme.{IsScheme, row_in};
 ghost use Rattle.ir_trace.specs.Rows.{spaced};
 ghost use Rattle.ir_shell.specs.PlanText.{kind_text, start_words, head_words, node_words, plan_text};

@@ -53,7 +53,7 @@ impl<W> Model for Outlet<W> {
     ghost view = { λ o. record { writer = o.writer; failed = o.failed } };
 }
 
-/// Writes all of a text, and answers whether the writer took it. What went out is a front of the text.
+/// Writes all of a text, and answers whether the writer took and flushed it. What went out is a front of the text.
 pub fn write_text<W: Write>(writer: &mut W, text: &[u8]) -> bool
     ensures { Writes result (W.contents writer.old) (W.contents writer.new) text.now }
 {

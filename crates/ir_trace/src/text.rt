@@ -9,7 +9,7 @@ use ir_graph::Graph;
 use std::alloc::AllocError;
 
 /// Writes a number.
-pub fn push_number(text: &mut String, n: usize) -> Result<(), AllocError>
+pub(crate) fn push_number(text: &mut String, n: usize) -> Result<(), AllocError>
     ensures { OnOk result (string_bytes text.new ≡ string_bytes text.old ++ decimal n) }
 {
     write!(text, "{n}")
@@ -48,7 +48,7 @@ pub fn push_name(text: &mut String, graph: &Graph, u: u16) -> Result<(), AllocEr
 }
 
 /// Writes a space and a name for each node of a list.
-pub fn push_names(text: &mut String, graph: &Graph, nodes: &[u16]) -> Result<(), AllocError>
+pub(crate) fn push_names(text: &mut String, graph: &Graph, nodes: &[u16]) -> Result<(), AllocError>
     requires { list_all (λ x. nat_lt x (length graph.now)) nodes.now ≡ true }
     ensures { OnOk result (string_bytes text.new ≡ string_bytes text.old ++ flat_map spaced (map (name_at (names graph.now)) nodes.now)) }
 {

@@ -65,8 +65,11 @@ fn follow(rt: &HostRuntime, words: &[String]) -> u8 {
             2
         }
         Err(WordsError::Help(text)) => {
-            let _told = rt.print(text);
-            0
+            if rt.print(text).is_ok() {
+                return 0;
+            }
+            let _told = rt.eprintln("output unwritable");
+            1
         }
         Err(WordsError::NoMemory) => {
             let _told = rt.eprintln("out of memory");
