@@ -23,9 +23,11 @@ mod writer;
 use ir_graph::Graph;
 pub use ir_model::Fault;
 use std::alloc::{AllocError, Global};
+use thiserror::Error;
 
 /// Why a text is refused: its first faulty line, counted from 1, and that line's first fault. Want of memory has line 0.
-#[derive(Clone, Copy, Debug, PartialEq, Eq)]
+#[derive(Clone, Copy, Debug, PartialEq, Eq, Error)]
+#[error("line {line}: {}", self.told())]
 pub struct TextError {
     pub line: usize,
     pub kind: Fault,
@@ -39,6 +41,19 @@ impl TextError {
         ensures { result ≡ code_of self.kind }
     {
         self.kind as u8
+    }
+
+    // The kind in words.
+    fn told(&self) -> &'static str {
+        match self.kind {
+            Fault::BadByte => "a byte that may not stand in a text",
+            Fault::BadName => "a name of more than 64 bytes",
+            Fault::BadRow => "not two names and a weight",
+            Fault::BadWeight => "no whole number from 1 to 65535",
+            Fault::TooManyNodes => "too many nodes",
+            Fault::TooManyEdges => "too many edges",
+            Fault::NoMemory => "out of memory",
+        }
     }
 }
 

@@ -3,13 +3,16 @@ ghost use Rattle.ir_compile.specs.Code.{code_of};
 ghost use Rattle.ir_compile.specs.declared.error.CompileError.TheVariants.{NoMemory};
 
 use std::alloc::AllocError;
+use thiserror::Error;
 
 /// Why no row was made.
-#[derive(Clone, Copy, Debug, PartialEq, Eq)]
+#[derive(Clone, Copy, Debug, PartialEq, Eq, Error)]
 pub enum CompileError {
     /// The ports are not one for each label but the own.
+    #[error("the ports are not one for each label but the own")]
     BadRow = 1,
     /// A growth was refused.
+    #[error("out of memory")]
     NoMemory = 2,
 }
 

@@ -7,11 +7,18 @@ ghost use Rattle.ir_model.specs.Compiled.{IsDestinations, IsChange, IsCanonical,
 ghost use Rattle.ir_model.proofs.Partial.{IsPartial};
 ghost use Rattle.ir_lookup.specs.Words.{starts_of};
 
+mod choices;
 mod error;
+mod round;
+mod runs;
 
+pub use choices::{choose, compile_choices};
 pub use error::CompileError;
 use ir_lookup::{Row, WORD_BASE};
 use std::alloc::{AllocError, Global};
+
+/// The most ports of a node.
+pub const MAX_PORTS: usize = 65_536;
 
 /// The canonical row of the node with the label `own` among `n` nodes, given its port to each label: going round the
 /// labels after its own, a start stands where the port differs from that of the label before, and where all ports are

@@ -12,12 +12,13 @@ use Rattle.ir_core.specs.declared.event.Refused.{Refused}
 use Rattle.ir_core.specs.declared.event.Refused.TheVariants.{NoNode, NoLink, NoChannel, NoEpoch, HandFull, HandEmpty, Empty, BadView, Same, Disconnected, TooManyPackets, InboxFull, TooManyChanges}
 use Rattle.ir_core.specs.declared.event.Verdict.{Verdict}
 use Rattle.ir_core.specs.declared.event.Verdict.TheVariants.{CameByDown, BelowFloor, Arrives, LeavesByDown, NoRoom, GoesOn}
+use Rattle.ir_core.specs.declared.event.Ruling.{Ruling}
 use Rattle.ir_core.specs.Journey.{Journey}
 use Rattle.ir_core.specs.declared.packet.Held.{Held}
 use Rattle.ir_core.specs.Setting.{nodes_of, channel_of, into}
 use Rattle.ir_core.specs.Board.{marked, retired_below, installed}
 use Rattle.ir_core.specs.Entry.{Entry, DidInject, DidLearn, DidTake, DidRead, DidAct, DidChange, DidInstall, fresh}
-use Rattle.ir_core.specs.Meaning.{newest, takes_from, takes_first, acts_on, installs_made, install_refused, InstallsUnless, ComesTo, record_at, verdict_on, is_full_towards}
+use Rattle.ir_core.specs.Meaning.{newest, takes_from, takes_first, acts_on, installs_made, install_refused, InstallsUnless, ComesTo, record_at, ruling_on, is_full_towards}
 use Rattle.ir_core.specs.State.{State, IsState, sight_in, LeadsIn}
 use Rattle.ir_core.proofs.Channels.{channel_within, into_is}
 use Rattle.ir_core.proofs.Keeps.{acting_now, leads_in}
@@ -72,10 +73,10 @@ act_fits s ok u entry (Some held) u_in holds e =
     let id_in = (ok.placed.held u held holds).0 in
     let r : Journey = slice_index_or s.records held.id (fresh held.id 0 0 0) in
     let read : r ≡ slice_index_or s.records held.id r = get_or_default s.records held.id (fresh held.id 0 0 0) r id_in in
-    let v : Verdict = verdict_on s.opening (sight_in s) u held.way (record_at (sight_in s) held.id) in
-    let a = acting_now s s refl ok u held r v holds read u_in refl in
-    let made : Fits s (DidAct u held.id held.way v) = (omega (arith, ok.hands), id_in, fits_verdict s v (leads_in s ok u held r (is_full_towards s.opening (sight_in s)) v a), holds) in
-    subst (λ (k : Entry). Fits s k) (same_entry (DidAct u held.id held.way v) entry e) made
+    let x : Ruling = ruling_on s.opening (sight_in s) u held.way (record_at (sight_in s) held.id) in
+    let a = acting_now s s refl ok u held r x holds read u_in refl in
+    let made : Fits s (DidAct u held.id held.way x.restamp x.verdict) = (omega (arith, ok.hands), id_in, fits_verdict s x.verdict (leads_in s ok u held r (is_full_towards s.opening (sight_in s)) _ x.restamp x.verdict a), holds) in
+    subst (λ (k : Entry). Fits s k) (same_entry (DidAct u held.id held.way x.restamp x.verdict) entry e) made
 
 made_fits : (s : State) (entry : Entry) (x : Option Scheme) → Ok entry ≡ installs_made (sight_in s) x → Fits s entry
 made_fits s entry None e = absurd (not_accepted Disconnected entry (sym e))

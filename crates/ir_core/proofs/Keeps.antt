@@ -1,33 +1,37 @@
-use Rattle.std.proofs.Common.{◌≡◌, ◌≢◌, ℕ, zero, suc, ◌+◌, ◌-◌, ◌<◌, ◌≤◌, max, List, [], ◌∷◌, ◌++◌, length, drop, slice_get, slice_index, slice_index_or, slice_set, Option, Some, None, refl, sym, ap, ◌∙◌, subst, arith, true, false, Bool, nat_lt, ◌⊎◌, inl, inr}
+use Rattle.std.proofs.Common.{◌≡◌, ◌≢◌, ℕ, zero, suc, ◌+◌, ◌-◌, ◌<◌, ◌≤◌, max, List, [], ◌∷◌, ◌++◌, length, drop, slice_get, slice_index, slice_index_or, slice_set, Option, Some, None, refl, sym, ap, ◌∙◌, subst, arith, true, false, Bool, cond, nat_lt, ◌⊎◌, inl, inr}
 use Rattle.std.proofs.lemmas.Grind.{common_steps}
 use Rattle.std.proofs.lemmas.List.{length-set, length-append, get_or_push, length_push, get_or_read, get_or_append_left}
 use Rattle.std.proofs.lemmas.Option.{none-some, slice_get_read, get_or_from_slice_get}
 use Rattle.ir_model.specs.declared.Hop.{Hop}
 use Rattle.ir_model.specs.Scheme.{Scheme, next_hop, label_in, node_in}
-use Rattle.ir_core.specs.declared.TheConstants.{MAX_NODES, MAX_CAPACITY, MAX_CHANGES, MAX_EPOCHS}
+use Rattle.std.specs.List.{AllByRecursion}
+use Rattle.ir_core.specs.declared.TheConstants.{MAX_NODES, MAX_CHANGES, MAX_EPOCHS, MAX_RESTAMPS, MAX_HOPS}
+use Rattle.ir_core.specs.declared.packet.Fate.TheVariants.{Retired}
+use Rattle.ir_core.specs.declared.event.Ruling.{Ruling}
 use Rattle.ir_core.specs.declared.event.Way.{Way}
 use Rattle.ir_core.specs.declared.event.Way.TheVariants.{Inbox, Link}
 use Rattle.ir_core.specs.declared.event.Verdict.{Verdict}
 use Rattle.ir_core.specs.declared.event.Verdict.TheVariants.{CameByDown, BelowFloor, Arrives, LeavesByDown, NoRoom, GoesOn}
 use Rattle.ir_core.specs.declared.board.Board.{Board}
-use Rattle.ir_core.specs.Journey.{Journey}
+use Rattle.ir_core.specs.Journey.{Journey, segments, present, stamp_of}
 use Rattle.ir_core.specs.declared.packet.Held.{Held}
 use Rattle.ir_core.specs.Board.{opening_board, installed}
 use Rattle.ir_model.specs.Network.{node_count}
 use Rattle.ir_core.specs.Setting.{Setting, IsPlanFor, channel_of, into, no_scheme, nodes_of}
-use Rattle.ir_core.specs.Entry.{Entry, DidAct, DidTake, acted, fresh, judged, reply_after}
+use Rattle.ir_core.specs.Entry.{Entry, DidInject, DidAct, DidTake, ruled, restamp_by, fresh, judged, reply_after}
 use Rattle.ir_core.specs.declared.event.Reply.{Reply}
-use Rattle.ir_core.specs.declared.event.Reply.TheVariants.{Settled, Taken}
+use Rattle.ir_core.specs.declared.event.Reply.TheVariants.{Injected, Settled, Taken}
 use Rattle.ir_core.specs.declared.event.Refused.{Refused}
 use Rattle.std.specs.Prelude.{Result, Ok, nat_le, is_some}
-use Rattle.ir_core.specs.Meaning.{plan_of, newest_of, record_at, board_at, verdict_on, is_full_towards, acts, takes}
-use Rattle.ir_core.specs.State.{State, IsState, ArePlaced, IsPacket, Place, Waits, InHand, put_into, taken_from, sent_on, sight_in, open_verdict_on, LeadsIn, IsBeginning, IsDue, FitsPlace, IsAnswer, after}
+use Rattle.ir_core.specs.Meaning.{plan_of, newest_of, record_at, board_at, verdict_on, ruling_by, ruling_on, is_full_towards, acts, takes, injects}
+use Rattle.ir_core.specs.State.{State, IsState, IsBoard, ArePlaced, IsPacket, IsRouted, IsStretch, IsNew, Place, Waits, InHand, put_into, taken_from, sent_on, sight_in, open_verdict_on, LeadsIn, IsBeginning, IsDue, FitsPlace, IsAnswer, after}
 use Rattle.ir_core.proofs.Channels.{channel_within, into_is, hop_leads}
 use Rattle.ir_core.proofs.Lists.{or_set}
 use Rattle.ir_core.specs.Sound.{last_of}
 use Rattle.ir_core.proofs.Walks.{next_hop-away, next_hop-there, walk_of, IsBeginning-push, first-push, prefix}
 use Rattle.std.proofs.lemmas.Bool.{cases_eq}
-use Rattle.ir_core.proofs.Verdicts.{Means, judged_means, if_full, judged-if_full}
+use Rattle.ir_core.proofs.Verdicts.{Means, judged_means, IsLive, judged_live, if_full, judged-if_full}
+use Rattle.ir_core.proofs.Routed.{RuledBy, present_stretch, ruled_packet, retired_here, here_is, hops_fit}
 use Rattle.ir_core.proofs.Placed.{moved, place_after, placed_inject, placed_take, ended, sent}
 
 -- what is true of a world, with these places
@@ -79,6 +83,13 @@ keep_learn s ok e e_in = record {
 newest-push : (boards : List Board) (b : Board) → newest_of (boards ++ b ∷ []) ≡ b
 newest-push boards b = rw length_push (get_or_push boards b opening_board (length boards + 1 - 1) (omega arith))
 
+-- a board more among those that are right
+pub board_each : (epochs : ℕ) (boards : List Board) (b : Board) → ((k : ℕ) → IsBoard epochs (slice_index_or boards k opening_board)) → IsBoard epochs b → (k : ℕ) → IsBoard epochs (slice_index_or (boards ++ b ∷ []) k opening_board)
+board_each epochs [] b each is zero = is
+board_each epochs [] b each is (suc k) = each k
+board_each epochs (x ∷ boards) b each is zero = each zero
+board_each epochs (x ∷ boards) b each is (suc k) = board_each epochs boards b (λ j. each (suc j)) is k
+
 pub keep_change : (s : State) → IsState s → (b : Board) → b.version ≡ (newest_of s.boards).version + 1 → (newest_of s.boards).version < MAX_CHANGES →
     b.current ≡ (newest_of s.boards).current → b.floor ≤ b.current → IsState (record s { boards = s.boards ++ b ∷ [] })
 keep_change s ok b version room current floor = record {
@@ -92,6 +103,7 @@ keep_change s ok b version room current floor = record {
     few = rw (newest-push s.boards b) (omega arith);
     current = rw (newest-push s.boards b) (current ∙ ok.boards.current);
     floor = rw (newest-push s.boards b) (let c = ok.boards.current in omega arith);
+    each = board_each (length s.plans) s.boards b ok.boards.each (record { live = floor; current = let c = ok.boards.current in omega arith });
   };
   plans = ok.plans;
   views_in = λ u. let v = ok.views_in u in rw length_push (omega arith);
@@ -191,6 +203,25 @@ keep_inject_at s ok source dest id new was now mid records s_in d_in room is_id 
     let again : was ≡ slice_index_or s.channels source [] = get_or_read s.channels source was lt read [] in
     rw (pushed, put, again, same, one, is_id) (keep_inject s ok source dest s_in d_in room)
 
+-- what an Inject comes to, from what the code read
+pub inject_done : (s now : State) → s ≡ now → IsState s → (source dest id : ℕ) (new : Journey) (was left : List ℕ) (mid records : List Journey) → source < nodes_of s.opening → dest < nodes_of s.opening →
+    length s.records < s.opening.max_packets → length was < s.opening.capacity → id ≡ length s.records → new ≡ fresh id s.learnt source dest → was ≡ slice_index_or s.channels source was → left ≡ was ++ id ∷ [] →
+    mid ≡ s.records → records ≡ mid ++ new ∷ [] →
+    IsAnswer now (record s { channels = slice_set s.channels source left; records = records }) (injects now.opening (sight_in now) source dest) (Ok (Injected id))
+inject_done s now e ok source dest id new was left mid records s_in d_in room spare is_id one read put same pushed =
+    let lt : source < length s.channels = omega (arith, ok.channels) in
+    let again : was ≡ slice_index_or s.channels source [] = get_or_read s.channels source was lt read [] in
+    let known : nat_lt source (nodes_of s.opening) ≡ true = grind (arith, common_steps) in
+    let known_too : nat_lt dest (nodes_of s.opening) ≡ true = grind (arith, common_steps) in
+    let few : nat_le s.opening.max_packets (length s.records) ≡ false = grind (arith, common_steps) in
+    let count = ap (λ (l : List ℕ). length l) again in
+    let free : nat_le s.opening.capacity (length (slice_index_or s.channels source [])) ≡ false = grind (arith, common_steps) in
+    let comes : injects s.opening (sight_in s) source dest ≡ Ok (DidInject (length s.records) s.learnt source dest) = rw (known, known_too, few, free) refl in
+    let after_it = record s { channels = slice_set s.channels source left; records = records } in
+    let to : after_it ≡ after s (DidInject (length s.records) s.learnt source dest) = rw (pushed, put, again, same, one, is_id) refl in
+    subst (λ (x : State). IsAnswer x after_it (injects x.opening (sight_in x) source dest) (Ok (Injected id))) e
+    (subst (λ (w : Result Entry Refused). IsAnswer s after_it w (Ok (Injected id))) (sym comes) (ap (λ (n : ℕ). Ok (Injected n)) is_id, to))
+
 -- what is known of the packet in a node's hand
 pub record InHandOf (s : State) (u : ℕ) (held : Held) (r : Journey) : Type 0 where
   pub id_in : held.id < length s.records
@@ -207,6 +238,11 @@ in_hand_of s now e ok u held h r read =
       is_record = is_record;
       packet = subst (λ (x : Place). IsPacket s.opening s.plans r x) q.1 (ok.placed.each held.id r is_record);
     }
+
+pub held_read : (s now : State) → s ≡ now → IsState s → (u : ℕ) (held : Held) → slice_index_or now.hands u None ≡ Some held → (r : Journey) → r ≡ slice_index_or s.records held.id r → record_at (sight_in now) held.id ≡ r
+held_read s now e ok u held h r read =
+    let there = (in_hand_of s now e ok u held h r read).is_record in
+    ap (λ (x : State). record_at (sight_in x) held.id) (sym e) ∙ (rw there refl)
 
 pub held_in : (s now : State) → s ≡ now → IsState s → (u : ℕ) (held : Held) → slice_index_or now.hands u None ≡ Some held → held.id < length s.records
 held_in s now e ok u held h = (ok.placed.held u held (ap (λ (x : State). slice_index_or x.hands u None) e ∙ h)).0
@@ -228,19 +264,15 @@ record_read : (s : State) (id : ℕ) (r : Journey) → slice_get s.records id �
 record_read s id r e = rw e refl
 
 -- the open verdict, from what the code read
-pub open_read : (s now : State) → s ≡ now → IsState s → (u : ℕ) (held : Held) (r : Journey) (t : Scheme) (k : ℕ) (b : Board) (v : Verdict) (address : ℕ) → InHandOf s u held r → u < nodes_of s.opening →
-    t ≡ plan_of now.opening now.plans r.epoch → k ≡ slice_index_or s.views u k → b ≡ slice_index_or s.boards k b → address ≡ label_in t r.dest →
-    v ≡ judged t b (λ _. false) held.way u r.epoch (node_in t address) → v ≡ open_verdict_on now u held
-open_read s now e ok u held r t k b v address p u_in t_read k_read b_read labelled is =
-    let plan = plan_known s now e ok r.epoch t t_read in
-    let home = (label_back s.opening t plan.1 r.dest address p.packet.dest_in labelled).1 in
-    let is_view : k ≡ slice_index_or s.views u 0 = get_or_read s.views u k (omega (arith, ok.views)) k_read 0 in
-    let k_in : k < length s.boards = let w = ok.views_in u in omega arith in
-    let is_board : b ≡ slice_index_or s.boards k opening_board = get_or_read s.boards k b k_in b_read opening_board in
-    let is_record = record_read s held.id r p.is_record in
-    let here : v ≡ judged t b (λ _. false) held.way u r.epoch r.dest = is ∙ ap (λ (x : ℕ). judged t b (λ _. false) held.way u r.epoch x) home in
-    let known : v ≡ judged (plan_of s.opening s.plans r.epoch) b (λ _. false) held.way u r.epoch r.dest = here ∙ ap (λ (x : Scheme). judged x b (λ _. false) held.way u r.epoch r.dest) plan.0 in
-    subst (λ (x : State). v ≡ open_verdict_on x u held) e (rw (is_record, ← is_view, ← is_board) known)
+pub open_read : (s now : State) → s ≡ now → IsState s → (u : ℕ) (way : Way) (stamp dest : ℕ) (t : Scheme) (b : Board) (v : Verdict) (address : ℕ) → dest < nodes_of now.opening →
+    t ≡ plan_of now.opening now.plans stamp → b ≡ board_at (sight_in now) (slice_index now.views u) → address ≡ label_in t dest →
+    v ≡ judged t b (λ _. false) way u stamp (node_in t address) → v ≡ open_verdict_on now u way stamp dest
+open_read s now e ok u way stamp dest t b v address d_in t_read b_read labelled is =
+    let plan = plan_known s now e ok stamp t t_read in
+    let n = ap (λ (x : State). nodes_of x.opening) e in
+    let home = (label_back s.opening t plan.1 dest address (omega arith) labelled).1 in
+    is ∙ ap (λ (x : ℕ). judged t b (λ _. false) way u stamp x) home ∙ ap (λ (x : Scheme). judged x b (λ _. false) way u stamp dest) t_read
+    ∙ ap (λ (x : Board). judged (plan_of now.opening now.plans stamp) x (λ _. false) way u stamp dest) b_read
 
 -- a record that the code read, opened
 pub opened_read : (items : List Journey) (id : ℕ) (x r : Journey) → x ≡ slice_index_or items id x → r ≡ x → r ≡ slice_index_or items id r
@@ -259,49 +291,126 @@ none_means o t u d k u_in d_in e = chosen (cases_eq u d)
 away_from : (o : Setting) (t : Scheme) → IsPlanFor o t → (d : ℕ) → d < nodes_of o → (x : ℕ) (h : Hop) → next_hop t x d ≡ Some h → x ≢ d
 away_from o t k d d_in x h e = next_hop-away t k.scheme x d (omega (arith, k.nodes)) h e
 
--- what the verdict on the packet in hand says
-pub record Acting (s : State) (u : ℕ) (held : Held) (r : Journey) (full : Hop → Bool) (v : Verdict) : Type 0 where
-  pub hand : InHandOf s u held r
-  pub table : IsPlanFor s.opening (plan_of s.opening s.plans r.epoch)
-  pub means : Means (plan_of s.opening s.plans r.epoch) full u held.way r.dest v
-  pub node_in : u < (nodes_of s.opening)
+-- where a packet that goes on leads to
+abbrev pub LeadsFar : State → Verdict → Type 0
+LeadsFar s (GoesOn h) = (h.node < nodes_of s.opening) × ((c : ℕ) × (channel_of s.opening h.node (Link h.link) ≡ Some c) × (c < length s.channels))
+LeadsFar s (CameByDown l) = Unit {0}
+LeadsFar s BelowFloor = Unit {0}
+LeadsFar s Arrives = Unit {0}
+LeadsFar s (LeavesByDown l) = Unit {0}
+LeadsFar s (NoRoom h) = Unit {0}
 
-pub acting_of : (s : State) → IsState s → (u : ℕ) (held : Held) (r : Journey) (full : Hop → Bool) (b : Board) (v : Verdict) → InHandOf s u held r → u < (nodes_of s.opening) →
-    v ≡ judged (plan_of s.opening s.plans r.epoch) b full held.way u r.epoch r.dest → Acting s u held r full v
-acting_of s ok u held r full b v p u_in e = record {
-  hand = p;
-  table = ok.plans.each (r.epoch - 1);
-  means = subst (λ (x : Verdict). Means (plan_of s.opening s.plans r.epoch) full u held.way r.dest x) (sym e)
-      (judged_means (plan_of s.opening s.plans r.epoch) b full held.way u r.epoch r.dest (none_means s.opening (plan_of s.opening s.plans r.epoch) u r.dest (ok.plans.each (r.epoch - 1)) u_in p.packet.dest_in));
-  node_in = u_in;
-}
-
-pub leads_to : (s : State) → IsState s → (u : ℕ) (held : Held) (r : Journey) (full : Hop → Bool) (h : Hop) → Acting s u held r full (GoesOn h) →
-    (h.node < nodes_of s.opening) × ((c : ℕ) × (channel_of s.opening h.node (Link h.link) ≡ Some c) × (c < length s.channels))
-leads_to s ok u held r full h a =
-    let k = hop_leads s.opening (plan_of s.opening s.plans r.epoch) a.table u r.dest h a.means.0 in
+leads_by : (s : State) → IsState s → (t : Scheme) → IsPlanFor s.opening t → (full : Hop → Bool) (u : ℕ) (way : Way) (d : ℕ) (v : Verdict) → Means t full u way d v → LeadsFar s v
+leads_by s ok t plan full u way d (GoesOn h) m =
+    let k = hop_leads s.opening t plan u d h m.0 in
     let within = channel_within s.opening h.node (Link h.link) k.1.0 k.0 k.1.1 in
     (k.0, (k.1.0, k.1.1, omega (arith, ok.channels, within)))
+leads_by s ok t plan full u way d (CameByDown l) m = tt
+leads_by s ok t plan full u way d BelowFloor m = tt
+leads_by s ok t plan full u way d Arrives m = tt
+leads_by s ok t plan full u way d (LeavesByDown l) m = tt
+leads_by s ok t plan full u way d (NoRoom h) m = tt
 
-pub leads_in : (s : State) → IsState s → (u : ℕ) (held : Held) (r : Journey) (full : Hop → Bool) (v : Verdict) → Acting s u held r full v → LeadsIn s v
-leads_in s ok u held r full (GoesOn h) a = (leads_to s ok u held r full h a).1
-leads_in s ok u held r full (CameByDown l) a = tt
-leads_in s ok u held r full BelowFloor a = tt
-leads_in s ok u held r full Arrives a = tt
-leads_in s ok u held r full (LeavesByDown l) a = tt
-leads_in s ok u held r full (NoRoom h) a = tt
+leads_near : (s : State) (v : Verdict) → LeadsFar s v → LeadsIn s v
+leads_near s (GoesOn h) k = k.1
+leads_near s (CameByDown l) k = tt
+leads_near s BelowFloor k = tt
+leads_near s Arrives k = tt
+leads_near s (LeavesByDown l) k = tt
+leads_near s (NoRoom h) k = tt
 
-pub open_leads : (s now : State) → s ≡ now → IsState s → (u : ℕ) (held : Held) (r : Journey) (v : Verdict) → InHandOf s u held r → u < (nodes_of s.opening) → v ≡ open_verdict_on now u held → LeadsIn now v
-open_leads s now e ok u held r v p u_in is =
-    let here : v ≡ open_verdict_on s u held = is ∙ ap (λ (x : State). open_verdict_on x u held) (sym e) in
-    let known : v ≡ judged (plan_of s.opening s.plans r.epoch) (board_at (sight_in s) (slice_index s.views u)) (λ _. false) held.way u r.epoch r.dest = rw (record_read s held.id r p.is_record) at here in
-    subst (λ (x : State). LeadsIn x v) e (leads_in s ok u held r (λ _. false) v (acting_of s ok u held r (λ _. false) (board_at (sight_in s) (slice_index s.views u)) v p u_in known))
+-- what a board says of the packet's epoch, or of the one that it is restamped with
+abbrev pub IsLiveBy : Board → Journey → Option ℕ → Verdict → Type 0
+IsLiveBy b r None v = IsLive b (stamp_of r) v
+IsLiveBy b r (Some e) v = (stamp_of r < b.floor) × (b.floor ≤ e)
 
-pub verdict_from_open : (s : State) (u : ℕ) (held : Held) (v : Verdict) → v ≡ open_verdict_on s u held →
-    if_full (is_full_towards s.opening (sight_in s)) v ≡ verdict_on s.opening (sight_in s) u held.way (record_at (sight_in s) held.id)
-verdict_from_open s u held v e =
-    let r = record_at (sight_in s) held.id in
-    ap (if_full (is_full_towards s.opening (sight_in s))) e ∙ sym (judged-if_full (plan_of s.opening s.plans r.epoch) (board_at (sight_in s) (slice_index s.views u)) (is_full_towards s.opening (sight_in s)) held.way u r.epoch r.dest)
+-- what the ruling on the packet in hand says
+pub record Acting (s : State) (u : ℕ) (held : Held) (r : Journey) (full : Hop → Bool) (b : Board) (restamp : Option ℕ) (v : Verdict) : Type 0 where
+  pub hand : InHandOf s u held r
+  pub by : RuledBy s.opening s.plans full r u held.way restamp v
+  pub live : IsLiveBy b r restamp v
+  pub node_in : u < (nodes_of s.opening)
+
+-- a verdict of a node means what it says
+verdict_means : (s : State) → IsState s → (u : ℕ) (way : Way) (stamp dest : ℕ) (full : Hop → Bool) (b : Board) → u < nodes_of s.opening → dest < nodes_of s.opening →
+    Means (plan_of s.opening s.plans stamp) full u way dest (judged (plan_of s.opening s.plans stamp) b full way u stamp dest)
+verdict_means s ok u way stamp dest full b u_in d_in =
+    judged_means (plan_of s.opening s.plans stamp) b full way u stamp dest (none_means s.opening (plan_of s.opening s.plans stamp) u dest (ok.plans.each (stamp - 1)) u_in d_in)
+
+-- and so does a ruling
+ruling_means : (s : State) → IsState s → (u : ℕ) (way : Way) (r : Journey) → u < nodes_of s.opening → r.dest < nodes_of s.opening → (v : Verdict) →
+    Means (plan_of s.opening s.plans (stamp_of r)) (is_full_towards s.opening (sight_in s)) u way r.dest v → IsLive (board_at (sight_in s) (slice_index s.views u)) (stamp_of r) v →
+    (x : Ruling) → x ≡ ruling_by s.opening (sight_in s) u r.dest v (restamp_by (s.opening.restamps - length r.restamps) (board_at (sight_in s) (slice_index s.views u)).current v) →
+    RuledBy s.opening s.plans (is_full_towards s.opening (sight_in s)) r u way x.restamp x.verdict × IsLiveBy (board_at (sight_in s) (slice_index s.views u)) r x.restamp x.verdict
+ruling_means s ok u way r u_in d_in v m l x is = subst IsRight (sym is) (by_verdict v m l)
+  where
+    full : Hop → Bool
+    full = is_full_towards s.opening (sight_in s)
+
+    b : Board
+    b = board_at (sight_in s) (slice_index s.views u)
+
+    IsRight : Ruling → Type 0
+    IsRight y = RuledBy s.opening s.plans (is_full_towards s.opening (sight_in s)) r u way y.restamp y.verdict × IsLiveBy (board_at (sight_in s) (slice_index s.views u)) r y.restamp y.verdict
+
+    by_left : (t : Bool) → nat_lt 0 (s.opening.restamps - length r.restamps) ≡ t → stamp_of r < (board_at (sight_in s) (slice_index s.views u)).floor →
+        IsRight (ruling_by s.opening (sight_in s) u r.dest BelowFloor (cond t (Some (board_at (sight_in s) (slice_index s.views u)).current) None))
+    by_left true left below =
+        let board = ok.boards.each (slice_index s.views u) in
+        let live = board.live in
+        let within = board.current in
+        let some : 0 < s.opening.restamps - length r.restamps = grind (arith, common_steps) in
+        ((omega arith, within, omega arith, verdict_means s ok u Inbox (board_at (sight_in s) (slice_index s.views u)).current r.dest (is_full_towards s.opening (sight_in s)) (board_at (sight_in s) (slice_index s.views u)) u_in d_in), (below, live))
+    by_left false left below = (tt, below)
+
+    by_verdict : (w : Verdict) → Means (plan_of s.opening s.plans (stamp_of r)) (is_full_towards s.opening (sight_in s)) u way r.dest w → IsLive (board_at (sight_in s) (slice_index s.views u)) (stamp_of r) w →
+        IsRight (ruling_by s.opening (sight_in s) u r.dest w (restamp_by (s.opening.restamps - length r.restamps) (board_at (sight_in s) (slice_index s.views u)).current w))
+    by_verdict BelowFloor m l = by_left (nat_lt 0 (s.opening.restamps - length r.restamps)) refl l
+    by_verdict (CameByDown k) m l = (m, l)
+    by_verdict Arrives m l = (m, l)
+    by_verdict (LeavesByDown k) m l = (m, l)
+    by_verdict (NoRoom h) m l = (m, l)
+    by_verdict (GoesOn h) m l = (m, l)
+
+pub dest_in : (s : State) → IsState s → (r : Journey) → IsRouted s.opening s.plans r → r.dest < nodes_of s.opening
+dest_in s ok r k = (present_stretch s.opening s.plans ok.plans.each r k).dest_in
+
+pub acting_of : (s : State) → IsState s → (u : ℕ) (held : Held) (r : Journey) (x : Ruling) → InHandOf s u held r → u < (nodes_of s.opening) →
+    x ≡ ruling_on s.opening (sight_in s) u held.way r → Acting s u held r (is_full_towards s.opening (sight_in s)) (board_at (sight_in s) (slice_index s.views u)) x.restamp x.verdict
+acting_of s ok u held r x p u_in e =
+    let d_in = dest_in s ok r p.packet.routed in
+    let full = is_full_towards s.opening (sight_in s) in
+    let b = board_at (sight_in s) (slice_index s.views u) in
+    let k = ruling_means s ok u held.way r u_in d_in (verdict_on s.opening (sight_in s) u held.way (stamp_of r) r.dest)
+    (verdict_means s ok u held.way (stamp_of r) r.dest full b u_in d_in) (judged_live (plan_of s.opening s.plans (stamp_of r)) b full held.way u (stamp_of r) r.dest) x e in
+    record { hand = p; by = k.0; live = k.1; node_in = u_in }
+
+-- a packet that goes on is led by the table of some epoch
+goes_by : (o : Setting) (plans : List Scheme) (full : Hop → Bool) (r : Journey) (u : ℕ) (way : Way) (restamp : Option ℕ) (h : Hop) → RuledBy o plans full r u way restamp (GoesOn h) →
+    (e : ℕ) × (next_hop (plan_of o plans e) u r.dest ≡ Some h) × (full h ≡ false)
+goes_by o plans full r u way None h by = (stamp_of r, by.0, by.1)
+goes_by o plans full r u way (Some e) h by = (e, by.3.0, by.3.1)
+
+pub leads_to : (s : State) → IsState s → (u : ℕ) (held : Held) (r : Journey) (full : Hop → Bool) (b : Board) (restamp : Option ℕ) (v : Verdict) → Acting s u held r full b restamp v → LeadsFar s v
+leads_to s ok u held r full b None v a = leads_by s ok (plan_of s.opening s.plans (stamp_of r)) (ok.plans.each (stamp_of r - 1)) full u held.way r.dest v a.by
+leads_to s ok u held r full b (Some e) v a = leads_by s ok (plan_of s.opening s.plans e) (ok.plans.each (e - 1)) full u Inbox r.dest v a.by.3
+
+pub leads_in : (s : State) → IsState s → (u : ℕ) (held : Held) (r : Journey) (full : Hop → Bool) (b : Board) (restamp : Option ℕ) (v : Verdict) → Acting s u held r full b restamp v → LeadsIn s v
+leads_in s ok u held r full b restamp v a = leads_near s v (leads_to s ok u held r full b restamp v a)
+
+pub open_leads : (s now : State) → s ≡ now → IsState s → (u : ℕ) (way : Way) (stamp dest : ℕ) (v : Verdict) → u < nodes_of now.opening → dest < nodes_of now.opening → v ≡ open_verdict_on now u way stamp dest → LeadsIn now v
+open_leads s now e ok u way stamp dest v u_in d_in is =
+    let n = ap (λ (x : State). nodes_of x.opening) e in
+    let here : v ≡ open_verdict_on s u way stamp dest = is ∙ ap (λ (x : State). open_verdict_on x u way stamp dest) (sym e) in
+    let t = plan_of s.opening s.plans stamp in
+    let m = verdict_means s ok u way stamp dest (λ _. false) (board_at (sight_in s) (slice_index s.views u)) (omega arith) (omega arith) in
+    let leads : LeadsIn s (open_verdict_on s u way stamp dest) = leads_near s _ (leads_by s ok t (ok.plans.each (stamp - 1)) (λ _. false) u way dest _ m) in
+    subst (λ (x : State). LeadsIn x v) e (subst (λ (x : Verdict). LeadsIn s x) (sym here) leads)
+
+pub verdict_from_open : (s : State) (u : ℕ) (way : Way) (stamp dest : ℕ) (v : Verdict) → v ≡ open_verdict_on s u way stamp dest →
+    if_full (is_full_towards s.opening (sight_in s)) v ≡ verdict_on s.opening (sight_in s) u way stamp dest
+verdict_from_open s u way stamp dest v e =
+    ap (if_full (is_full_towards s.opening (sight_in s))) e ∙ sym (judged-if_full (plan_of s.opening s.plans stamp) (board_at (sight_in s) (slice_index s.views u)) (is_full_towards s.opening (sight_in s)) way u stamp dest)
 
 -- where the table led a packet on, its hops are fewer than the nodes
 pub hops_below : (o : Setting) (t : Scheme) (r : Journey) (u l : ℕ) → IsPlanFor o t → r.source < nodes_of o → r.dest < nodes_of o → slice_get r.hops 0 ≡ Some r.source → IsBeginning t r.dest r.hops → IsDue t r u (Link l) → length r.hops < nodes_of o
@@ -314,18 +423,31 @@ hops_below o t r u l k s_in d_in first from due =
     omega (arith, w.2, k.nodes, length-append (r.hops ++ u ∷ []) p.0, length-append r.hops (u ∷ []), lengths)
 
 -- a record's hops leave room for one more
-hops_fit : (o : Setting) (t : Scheme) (r : Journey) (u : ℕ) (way : Way) → nodes_of o ≤ MAX_NODES → IsPlanFor o t → r.source < nodes_of o → r.dest < nodes_of o → slice_get r.hops 0 ≡ Some r.source → IsBeginning t r.dest r.hops → IsDue t r u way → length r.hops < MAX_NODES
-hops_fit o t r u Inbox few k s_in d_in first from due = rw due.0 (omega arith)
-hops_fit o t r u (Link l) few k s_in d_in first from due = let lt = hops_below o t r u l k s_in d_in first from due in omega arith
+short_by : (o : Setting) (plans : List Scheme) → ((k : ℕ) → IsPlanFor o (slice_index_or plans k o.first)) → 0 < nodes_of o → nodes_of o ≤ MAX_NODES → o.restamps ≤ 3 → (u : ℕ) (way : Way) (r : Journey) → IsRouted o plans r →
+    IsDue (plan_of o plans (stamp_of r)) (present r) u way → IsNew r (InHand u way) → length r.hops < MAX_HOPS
+short_by o plans each some few limit u Inbox r k due new =
+    let here : r.hops ≡ u ∷ [] = here_is o plans each (plan_of o plans (stamp_of r)) u Inbox r due new in
+    rw here (omega arith)
+short_by o plans each some few limit u (Link l) r k due new =
+    let more = retired_here o plans each u (Link l) r k due new in
+    let fit = hops_fit o plans each (record r { hops = r.hops ++ u ∷ []; fate = Retired }) some few limit more in
+    let longer = length-append r.hops (u ∷ []) in
+    omega arith
 
-pub short : (s : State) → IsState s → (u : ℕ) (held : Held) (r : Journey) → InHandOf s u held r → length r.hops < MAX_NODES
+pub short : (s : State) → IsState s → (u : ℕ) (held : Held) (r : Journey) → InHandOf s u held r → length r.hops < MAX_HOPS
 short s ok u held r p =
-    hops_fit s.opening (plan_of s.opening s.plans r.epoch) r u held.way ok.opening.few_nodes (ok.plans.each (r.epoch - 1)) p.packet.source_in p.packet.dest_in p.packet.begins p.packet.follows p.packet.fits.1
+    short_by s.opening s.plans ok.plans.each ok.opening.some_nodes ok.opening.few_nodes ok.opening.restamps u held.way r p.packet.routed p.packet.fits.1 p.packet.is_new
+
+-- and so do its restamps, where there is another
+pub restamps_short : (s : State) → IsState s → (u : ℕ) (held : Held) (r : Journey) (full : Hop → Bool) (b : Board) (restamp : Option ℕ) (v : Verdict) → Acting s u held r full b restamp v →
+    (e : ℕ) → restamp ≡ Some e → length r.restamps < MAX_RESTAMPS
+restamps_short s ok u held r full b None v a e is = absurd (none-some e is)
+restamps_short s ok u held r full b (Some x) v a e is = let lt = a.by.2 in let most = ok.opening.restamps in omega arith
 
 -- the world after an Act
-pub keep_act_place : (s : State) (ok : IsState s) (u : ℕ) (held : Held) (r : Journey) (full : Hop → Bool) (v : Verdict) → slice_index_or s.hands u None ≡ Some held → Acting s u held r full v →
-    KeptWith (record s { hands = slice_set s.hands u None; channels = sent_on s.opening s.channels v held.id; records = slice_set s.records held.id (acted u held.way v r) }) (moved ok.place held.id (place_after v))
-keep_act_place s ok u held r full v holds a = (
+pub keep_act_place : (s : State) (ok : IsState s) (u : ℕ) (held : Held) (r : Journey) (full : Hop → Bool) (b : Board) (restamp : Option ℕ) (v : Verdict) → slice_index_or s.hands u None ≡ Some held → Acting s u held r full b restamp v →
+    KeptWith (record s { hands = slice_set s.hands u None; channels = sent_on s.opening s.channels v held.id; records = slice_set s.records held.id (ruled u held.way restamp v r) }) (moved ok.place held.id (place_after v))
+keep_act_place s ok u held r full b restamp v holds a = (
   record {
     opening = ok.opening;
     views = ok.views;
@@ -338,7 +460,7 @@ keep_act_place s ok u held r full v holds a = (
     learnt_in = ok.learnt_in;
     few_packets = rw length-set ok.few_packets;
     place = moved ok.place held.id (place_after v);
-    placed = placed_after v a;
+    placed = placed_after v (ruled u held.way restamp v r) (ruled_packet s.opening s.plans ok.plans.each full u held.way restamp v r a.node_in a.hand.packet a.by) (leads_to s ok u held r full b restamp v a);
   },
   λ j. refl,
 )
@@ -354,42 +476,42 @@ keep_act_place s ok u held r full v holds a = (
     same_channels (LeavesByDown l) = refl
     same_channels (NoRoom h) = refl
 
-    placed_after : (w : Verdict) → Acting s u held r full w →
-        ArePlaced s.opening s.plans (slice_set s.hands u None) (sent_on s.opening s.channels w held.id) (slice_set s.records held.id (acted u held.way w r)) (moved ok.place held.id (place_after w))
-    placed_after (GoesOn h) b =
-        let to = leads_to s ok u held r full h b in
-        subst (λ (c : ℕ). ArePlaced s.opening s.plans (slice_set s.hands u None) (put_into s.channels c held.id) (slice_set s.records held.id (acted u held.way (GoesOn h) r)) (moved ok.place held.id (place_after (GoesOn h))))
+    placed_after : (w : Verdict) (made : Journey) → IsPacket s.opening s.plans made (place_after w) → LeadsFar s w →
+        ArePlaced s.opening s.plans (slice_set s.hands u None) (sent_on s.opening s.channels w held.id) (slice_set s.records held.id made) (moved ok.place held.id (place_after w))
+    placed_after (GoesOn h) made now to =
+        subst (λ (c : ℕ). ArePlaced s.opening s.plans (slice_set s.hands u None) (put_into s.channels c held.id) (slice_set s.records held.id made) (moved ok.place held.id (place_after (GoesOn h))))
         (sym (into_is s.opening h.node (Link h.link) to.1.0 to.1.1))
-        (sent s.opening s.plans s.hands s.channels s.records ok.place u held (GoesOn h) r full ok.placed u_in holds b.hand.is_record b.means (away_from s.opening (plan_of s.opening s.plans r.epoch) b.table r.dest b.hand.packet.dest_in) h to.1.0 refl to.0 to.1.1 to.1.2)
-    placed_after (CameByDown l) b = ended s.opening s.plans s.hands s.channels s.records ok.place u held (CameByDown l) r full ok.placed u_in holds b.hand.is_record b.means (away_from s.opening (plan_of s.opening s.plans r.epoch) b.table r.dest b.hand.packet.dest_in) refl
-    placed_after BelowFloor b = ended s.opening s.plans s.hands s.channels s.records ok.place u held BelowFloor r full ok.placed u_in holds b.hand.is_record b.means (away_from s.opening (plan_of s.opening s.plans r.epoch) b.table r.dest b.hand.packet.dest_in) refl
-    placed_after Arrives b = ended s.opening s.plans s.hands s.channels s.records ok.place u held Arrives r full ok.placed u_in holds b.hand.is_record b.means (away_from s.opening (plan_of s.opening s.plans r.epoch) b.table r.dest b.hand.packet.dest_in) refl
-    placed_after (LeavesByDown l) b = ended s.opening s.plans s.hands s.channels s.records ok.place u held (LeavesByDown l) r full ok.placed u_in holds b.hand.is_record b.means (away_from s.opening (plan_of s.opening s.plans r.epoch) b.table r.dest b.hand.packet.dest_in) refl
-    placed_after (NoRoom h) b = ended s.opening s.plans s.hands s.channels s.records ok.place u held (NoRoom h) r full ok.placed u_in holds b.hand.is_record b.means (away_from s.opening (plan_of s.opening s.plans r.epoch) b.table r.dest b.hand.packet.dest_in) refl
+        (sent s.opening s.plans s.hands s.channels s.records ok.place u held (GoesOn h) made ok.placed u_in holds now h to.1.0 refl to.0 to.1.1 to.1.2)
+    placed_after (CameByDown l) made now to = ended s.opening s.plans s.hands s.channels s.records ok.place u held (CameByDown l) made ok.placed u_in holds now refl
+    placed_after BelowFloor made now to = ended s.opening s.plans s.hands s.channels s.records ok.place u held BelowFloor made ok.placed u_in holds now refl
+    placed_after Arrives made now to = ended s.opening s.plans s.hands s.channels s.records ok.place u held Arrives made ok.placed u_in holds now refl
+    placed_after (LeavesByDown l) made now to = ended s.opening s.plans s.hands s.channels s.records ok.place u held (LeavesByDown l) made ok.placed u_in holds now refl
+    placed_after (NoRoom h) made now to = ended s.opening s.plans s.hands s.channels s.records ok.place u held (NoRoom h) made ok.placed u_in holds now refl
 
-pub keep_act : (s : State) → IsState s → (u : ℕ) (held : Held) (r : Journey) (full : Hop → Bool) (v : Verdict) → slice_index_or s.hands u None ≡ Some held → Acting s u held r full v →
-    IsState (record s { hands = slice_set s.hands u None; channels = sent_on s.opening s.channels v held.id; records = slice_set s.records held.id (acted u held.way v r) })
-keep_act s ok u held r full v holds a = (keep_act_place s ok u held r full v holds a).0
+pub keep_act : (s : State) → IsState s → (u : ℕ) (held : Held) (r : Journey) (full : Hop → Bool) (b : Board) (restamp : Option ℕ) (v : Verdict) → slice_index_or s.hands u None ≡ Some held → Acting s u held r full b restamp v →
+    IsState (record s { hands = slice_set s.hands u None; channels = sent_on s.opening s.channels v held.id; records = slice_set s.records held.id (ruled u held.way restamp v r) })
+keep_act s ok u held r full b restamp v holds a = (keep_act_place s ok u held r full b restamp v holds a).0
 
-pub acting_now : (s now : State) → s ≡ now → IsState s → (u : ℕ) (held : Held) (r : Journey) (v : Verdict) → slice_index_or now.hands u None ≡ Some held → r ≡ slice_index_or s.records held.id r → u < (nodes_of s.opening) →
-    v ≡ verdict_on now.opening (sight_in now) u held.way (record_at (sight_in now) held.id) → Acting s u held r (is_full_towards s.opening (sight_in s)) v
-acting_now s now e ok u held r v holds read u_in is =
+pub acting_now : (s now : State) → s ≡ now → IsState s → (u : ℕ) (held : Held) (r : Journey) (x : Ruling) → slice_index_or now.hands u None ≡ Some held → r ≡ slice_index_or s.records held.id r → u < (nodes_of s.opening) →
+    x ≡ ruling_on now.opening (sight_in now) u held.way (record_at (sight_in now) held.id) →
+    Acting s u held r (is_full_towards s.opening (sight_in s)) (board_at (sight_in s) (slice_index s.views u)) x.restamp x.verdict
+acting_now s now e ok u held r x holds read u_in is =
     let p = in_hand_of s now e ok u held holds r read in
-    let here : v ≡ verdict_on s.opening (sight_in s) u held.way (record_at (sight_in s) held.id) =
-    is ∙ ap (λ (x : State). verdict_on x.opening (sight_in x) u held.way (record_at (sight_in x) held.id)) (sym e) in
-    let known : v ≡ verdict_on s.opening (sight_in s) u held.way r = here ∙ ap (λ (x : Journey). verdict_on s.opening (sight_in s) u held.way x) (record_read s held.id r p.is_record) in
-    acting_of s ok u held r (is_full_towards s.opening (sight_in s)) (board_at (sight_in s) (slice_index s.views u)) v p u_in known
+    let here : x ≡ ruling_on s.opening (sight_in s) u held.way (record_at (sight_in s) held.id) =
+    is ∙ ap (λ (y : State). ruling_on y.opening (sight_in y) u held.way (record_at (sight_in y) held.id)) (sym e) in
+    let known : x ≡ ruling_on s.opening (sight_in s) u held.way r = here ∙ ap (λ (y : Journey). ruling_on s.opening (sight_in s) u held.way y) (record_read s held.id r p.is_record) in
+    acting_of s ok u held r x p u_in known
 
-pub room_for : (s : State) → IsState s → (u : ℕ) (held : Held) (r : Journey) (h : Hop) (c : ℕ) (q : List ℕ) → Acting s u held r (is_full_towards s.opening (sight_in s)) (GoesOn h) →
-    c ≡ into s.opening h.node (Link h.link) → q ≡ slice_index_or s.channels c q → (c < length s.channels) × (length q < MAX_CAPACITY) × (q ≡ slice_index_or s.channels c [])
-room_for s ok u held r h c q a is read =
-    let to = leads_to s ok u held r (is_full_towards s.opening (sight_in s)) h a in
+pub room_for : (s : State) → IsState s → (u : ℕ) (held : Held) (r : Journey) (b : Board) (restamp : Option ℕ) (v : Verdict) (h : Hop) (c : ℕ) (q : List ℕ) → Acting s u held r (is_full_towards s.opening (sight_in s)) b restamp v → v ≡ GoesOn h →
+    c ≡ into s.opening h.node (Link h.link) → q ≡ slice_index_or s.channels c q → (c < length s.channels) × (length q < s.opening.capacity) × (q ≡ slice_index_or s.channels c [])
+room_for s ok u held r b restamp v h c q acting goes is read =
+    let a : Acting s u held r (is_full_towards s.opening (sight_in s)) b restamp (GoesOn h) = subst (λ (w : Verdict). Acting s u held r (is_full_towards s.opening (sight_in s)) b restamp w) goes acting in
+    let to = leads_to s ok u held r (is_full_towards s.opening (sight_in s)) b restamp (GoesOn h) a in
     let number : c ≡ to.1.0 = is ∙ into_is s.opening h.node (Link h.link) to.1.0 to.1.1 in
     let within = to.1.2 in
     let c_in : c < length s.channels = omega arith in
     let old : q ≡ slice_index_or s.channels c [] = get_or_read s.channels c q c_in read [] in
-    let unfilled : nat_le s.opening.capacity (length (slice_index_or s.channels c [])) ≡ false = rw is a.means.1 in
-    let most = ok.opening.capacity in
+    let unfilled : nat_le s.opening.capacity (length (slice_index_or s.channels c [])) ≡ false = rw is (goes_by s.opening s.plans (is_full_towards s.opening (sight_in s)) r u held.way restamp h a.by).2 in
     let few : length (slice_index_or s.channels c []) < s.opening.capacity = grind (arith, common_steps) in
     (c_in, rw old (omega arith), old)
 
@@ -402,11 +524,11 @@ unsent o channels (LeavesByDown l) id n = (refl, refl)
 unsent o channels (NoRoom h) id n = (refl, refl)
 
 -- what an Act comes to
-pub acts_is : (now : State) (u : ℕ) (held : Held) (v : Verdict) → u < (nodes_of now.opening) → slice_index_or now.hands u None ≡ Some held →
-    v ≡ verdict_on now.opening (sight_in now) u held.way (record_at (sight_in now) held.id) → acts now.opening (sight_in now) u ≡ Ok (DidAct u held.id held.way v)
-acts_is now u held v u_in holds is =
+pub acts_is : (now : State) (u : ℕ) (held : Held) (x : Ruling) → u < (nodes_of now.opening) → slice_index_or now.hands u None ≡ Some held →
+    x ≡ ruling_on now.opening (sight_in now) u held.way (record_at (sight_in now) held.id) → acts now.opening (sight_in now) u ≡ Ok (DidAct u held.id held.way x.restamp x.verdict)
+acts_is now u held x u_in holds is =
     let t : nat_lt u (nodes_of now.opening) ≡ true = grind (arith, common_steps) in
-    rw (t, holds) (ap (λ (x : Verdict). Ok (DidAct u held.id held.way x)) (sym is))
+    rw (t, holds) (ap (λ (y : Ruling). Ok (DidAct u held.id held.way y.restamp y.verdict)) (sym is))
 
 answer_of : (now new : State) (x y : Result Entry Refused) (result : Result Reply Refused) → x ≡ y → IsAnswer now new y result → IsAnswer now new x result
 answer_of now new x y result e a = subst (λ (z : Result Entry Refused). IsAnswer now new z result) (sym e) a
@@ -415,24 +537,24 @@ answer_of now new x y result e a = subst (λ (z : Result Entry Refused). IsAnswe
 abbrev pub acted_state : State → ℕ → ℕ → Journey → List (List ℕ) → State
 acted_state s u id r channels = record s { hands = slice_set s.hands u None; channels = channels; records = slice_set s.records id r }
 
-acted_is : (s : State) → IsState s → (u : ℕ) (held : Held) (r : Journey) (v : Verdict) (full : Hop → Bool) (r' : Journey) (channels : List (List ℕ)) → Acting s u held r full v →
-    r' ≡ acted u held.way v r → channels ≡ sent_on s.opening s.channels v held.id → acted_state s u held.id r' channels ≡ after s (DidAct u held.id held.way v)
-acted_is s ok u held r v full r' channels a e f =
-    let same : r ≡ slice_index_or s.records held.id (fresh held.id 0 0 0) = sym (get_or_from_slice_get s.records held.id r (fresh held.id 0 0 0) a.hand.is_record) in
-    rw (e, f) (ap (λ (x : Journey). acted_state s u held.id (acted u held.way v x) (sent_on s.opening s.channels v held.id)) same)
+acted_is : (s : State) → IsState s → (u : ℕ) (held : Held) (r : Journey) (restamp : Option ℕ) (v : Verdict) (r' : Journey) (channels : List (List ℕ)) → InHandOf s u held r →
+    r' ≡ ruled u held.way restamp v r → channels ≡ sent_on s.opening s.channels v held.id → acted_state s u held.id r' channels ≡ after s (DidAct u held.id held.way restamp v)
+acted_is s ok u held r restamp v r' channels p e f =
+    let same : r ≡ slice_index_or s.records held.id (fresh held.id 0 0 0) = sym (get_or_from_slice_get s.records held.id r (fresh held.id 0 0 0) p.is_record) in
+    rw (e, f) (ap (λ (x : Journey). acted_state s u held.id (ruled u held.way restamp v x) (sent_on s.opening s.channels v held.id)) same)
 
 -- an Act is answered, and the invariant holds after it
-pub act_done : (s now : State) → s ≡ now → IsState s → (u : ℕ) (held : Held) (r : Journey) (v : Verdict) (r' : Journey) (channels : List (List ℕ)) (reply : Reply) → slice_index_or now.hands u None ≡ Some held → r ≡ slice_index_or s.records held.id r → u < (nodes_of s.opening) →
-    v ≡ verdict_on now.opening (sight_in now) u held.way (record_at (sight_in now) held.id) → r' ≡ acted u held.way v r → channels ≡ sent_on s.opening s.channels v held.id → reply ≡ reply_after held.id v →
+pub act_done : (s now : State) → s ≡ now → IsState s → (u : ℕ) (held : Held) (r : Journey) (x : Ruling) (r' : Journey) (channels : List (List ℕ)) (reply : Reply) → slice_index_or now.hands u None ≡ Some held → r ≡ slice_index_or s.records held.id r → u < (nodes_of s.opening) →
+    x ≡ ruling_on now.opening (sight_in now) u held.way (record_at (sight_in now) held.id) → r' ≡ ruled u held.way x.restamp x.verdict r → channels ≡ sent_on s.opening s.channels x.verdict held.id → reply ≡ reply_after held.id x.verdict →
     IsState (acted_state s u held.id r' channels) × IsAnswer now (acted_state s u held.id r' channels) (acts now.opening (sight_in now) u) (Ok reply)
-act_done s now e ok u held r v r' channels reply holds read u_in is wrote sends says =
-    let a = acting_now s now e ok u held r v holds read u_in is in
-    let here : slice_index_or s.hands u None ≡ Some held = ap (λ (x : State). slice_index_or x.hands u None) e ∙ holds in
-    let kept : IsState (acted_state s u held.id r' channels) = rw (wrote, sends) (keep_act s ok u held r (is_full_towards s.opening (sight_in s)) v here a) in
-    let n : u < (nodes_of now.opening) = let m = ap (λ (x : State). nodes_of x.opening) e in omega arith in
-    let to : acted_state s u held.id r' channels ≡ after now (DidAct u held.id held.way v) =
-    acted_is s ok u held r v (is_full_towards s.opening (sight_in s)) r' channels a wrote sends ∙ ap (λ (x : State). after x (DidAct u held.id held.way v)) e in
-    (kept, answer_of now _ _ (Ok (DidAct u held.id held.way v)) (Ok reply) (acts_is now u held v n holds is) (ap (λ (x : Reply). Ok x) says, to))
+act_done s now e ok u held r x r' channels reply holds read u_in is wrote sends says =
+    let a = acting_now s now e ok u held r x holds read u_in is in
+    let here : slice_index_or s.hands u None ≡ Some held = ap (λ (y : State). slice_index_or y.hands u None) e ∙ holds in
+    let kept : IsState (acted_state s u held.id r' channels) = rw (wrote, sends) (keep_act s ok u held r (is_full_towards s.opening (sight_in s)) (board_at (sight_in s) (slice_index s.views u)) x.restamp x.verdict here a) in
+    let n : u < (nodes_of now.opening) = let m = ap (λ (y : State). nodes_of y.opening) e in omega arith in
+    let to : acted_state s u held.id r' channels ≡ after now (DidAct u held.id held.way x.restamp x.verdict) =
+    acted_is s ok u held r x.restamp x.verdict r' channels a.hand wrote sends ∙ ap (λ (y : State). after y (DidAct u held.id held.way x.restamp x.verdict)) e in
+    (kept, answer_of now _ _ (Ok (DidAct u held.id held.way x.restamp x.verdict)) (Ok reply) (acts_is now u held x n holds is) (ap (λ (y : Reply). Ok y) says, to))
 
 pub not_sent : (s : State) (u : ℕ) (held : Held) (v : Verdict) → ((h : Hop) → v ≡ GoesOn h → ⊥) → (s.channels ≡ sent_on s.opening s.channels v held.id) × (Settled held.id ≡ reply_after held.id v)
 not_sent s u held v n = let q = unsent s.opening s.channels v held.id n in (sym q.0, sym q.1)
@@ -443,28 +565,39 @@ hand_read s now e ok u x held u_in read is =
     ap (λ (y : State). slice_index_or y.hands u None) (sym e) ∙ sym known ∙ is
 
 -- what the channels are after a put, from what the code read and wrote
-pub put_read : (s : State) → IsState s → (u : ℕ) (held : Held) (r : Journey) (h : Hop) (c : ℕ) (q q' : List ℕ) → Acting s u held r (is_full_towards s.opening (sight_in s)) (GoesOn h) →
-    c ≡ into s.opening h.node (Link h.link) → q ≡ slice_index_or s.channels c q → q' ≡ q ++ held.id ∷ [] → slice_set s.channels c q' ≡ sent_on s.opening s.channels (GoesOn h) held.id
-put_read s ok u held r h c q q' a is read put =
-    let old = (room_for s ok u held r h c q a is read).2 in
-    rw (put, old) (ap (λ (x : ℕ). put_into s.channels x held.id) is)
+pub put_read : (s : State) → IsState s → (u : ℕ) (held : Held) (r : Journey) (b : Board) (restamp : Option ℕ) (v : Verdict) (h : Hop) (c : ℕ) (q q' : List ℕ) → Acting s u held r (is_full_towards s.opening (sight_in s)) b restamp v → v ≡ GoesOn h →
+    c ≡ into s.opening h.node (Link h.link) → q ≡ slice_index_or s.channels c q → q' ≡ q ++ held.id ∷ [] → slice_set s.channels c q' ≡ sent_on s.opening s.channels v held.id
+put_read s ok u held r b restamp v h c q q' a goes is read put =
+    let old = (room_for s ok u held r b restamp v h c q a goes is read).2 in
+    rw (put, old, goes) (ap (λ (x : ℕ). put_into s.channels x held.id) is)
 
 -- a new plan changes no table that a packet goes by
 table_more : (o : Setting) (plans : List Scheme) (t : Scheme) (e : ℕ) → 0 < e → e ≤ length plans → plan_of o (plans ++ t ∷ []) e ≡ plan_of o plans e
 table_more o plans t e above within = get_or_append_left plans (t ∷ []) o.first (e - 1) (omega arith)
 
-packet_more : (o : Setting) (plans : List Scheme) (t : Scheme) (r : Journey) (place : Place) → IsPacket o plans r place → IsPacket o (plans ++ t ∷ []) r place
-packet_more o plans t r place p =
-    let same = sym (table_more o plans t r.epoch p.epoch_above p.epoch_in) in
-    let e_in = p.epoch_in in
+stretch_more : (o : Setting) (plans : List Scheme) (t : Scheme) (g : Journey) → IsStretch o plans g → IsStretch o (plans ++ t ∷ []) g
+stretch_more o plans t g k =
+    let e_in = k.epoch_in in
     record {
-      source_in = p.source_in;
-      dest_in = p.dest_in;
-      epoch_above = p.epoch_above;
+      source_in = k.source_in;
+      dest_in = k.dest_in;
+      epoch_above = k.epoch_above;
       epoch_in = rw length_push (omega arith);
-      begins = p.begins;
-      follows = subst (λ (x : Scheme). IsBeginning x r.dest r.hops) same p.follows;
-      fits = subst (λ (x : Scheme). FitsPlace x r place) same p.fits;
+      begins = k.begins;
+      follows = subst (λ (x : Scheme). IsBeginning x g.dest g.hops) (sym (table_more o plans t g.epoch k.epoch_above k.epoch_in)) k.follows;
+    }
+
+each_more : (o : Setting) (plans : List Scheme) (t : Scheme) (gs : List Journey) → AllByRecursion (IsStretch o plans) gs → AllByRecursion (IsStretch o (plans ++ t ∷ [])) gs
+each_more o plans t [] k = tt
+each_more o plans t (g ∷ gs) k = (stretch_more o plans t g k.0, each_more o plans t gs k.1)
+
+packet_more : (o : Setting) (plans : List Scheme) (t : Scheme) (r : Journey) (place : Place) → ((k : ℕ) → IsPlanFor o (slice_index_or plans k o.first)) → IsPacket o plans r place → IsPacket o (plans ++ t ∷ []) r place
+packet_more o plans t r place each p =
+    let here = present_stretch o plans each r p.routed in
+    record {
+      routed = record { few = p.routed.few; places = p.routed.places; rising = p.routed.rising; each = each_more o plans t (segments r) p.routed.each };
+      fits = subst (λ (x : Scheme). FitsPlace x (present r) place) (sym (table_more o plans t (stamp_of r) here.epoch_above here.epoch_in)) p.fits;
+      is_new = p.is_new;
     }
 
 plan_each : (o : Setting) (plans : List Scheme) (t : Scheme) → ((k : ℕ) → IsPlanFor o (slice_index_or plans k o.first)) → IsPlanFor o t → (k : ℕ) → IsPlanFor o (slice_index_or (plans ++ t ∷ []) k o.first)
@@ -486,6 +619,8 @@ keep_install s ok t b is few version room current floor = record {
     few = rw (newest-push s.boards b) (omega arith);
     current = rw (newest-push s.boards b) (rw length_push current);
     floor = rw (newest-push s.boards b) (rw length_push (let f = ok.boards.floor in omega arith));
+    each = rw length_push (board_each (length s.plans + 1) s.boards b (λ k. (let was = ok.boards.each k in record { live = was.live; current = let c = was.current in omega arith }))
+        (record { live = let f = ok.boards.floor in omega arith; current = omega arith }));
   };
   plans = record { some = rw length_push (omega arith); few = rw length_push (omega arith); each = plan_each s.opening s.plans t ok.plans.each is };
   views_in = λ u. let v = ok.views_in u in rw length_push (omega arith);
@@ -494,7 +629,7 @@ keep_install s ok t b is few version room current floor = record {
   few_packets = ok.few_packets;
   place = ok.place;
   placed = record {
-    each = λ id r e. packet_more s.opening s.plans t r (ok.place id) (ok.placed.each id r e);
+    each = λ id r e. packet_more s.opening s.plans t r (ok.place id) ok.plans.each (ok.placed.each id r e);
     waiting = ok.placed.waiting;
     once = ok.placed.once;
     stands = ok.placed.stands;

@@ -1,4 +1,6 @@
-use Rattle.std.proofs.Common.{◌≡◌, ◌≢◌, ℕ, zero, suc, ◌+◌, ◌-◌, ◌*◌, ◌<◌, ◌≤◌, List, [], ◌∷◌, ◌++◌, length, drop, slice_get, slice_index_or, slice_set, Option, Some, None, refl, sym, ap, ◌∙◌, subst, arith, Bool, ◌⊎◌, inl, inr}
+use Rattle.std.proofs.Common.{◌≡◌, ◌≢◌, ℕ, zero, suc, ◌+◌, ◌-◌, ◌*◌, ◌<◌, ◌≤◌, List, [], ◌∷◌, ◌++◌, length, drop, slice_get, slice_index_or, slice_set, Option, Some, None, refl, sym, ap, ◌∙◌, subst, arith, true, false, Bool, cond, nat_lt, ◌⊎◌, inl, inr}
+use Rattle.std.specs.Prelude.{reverse}
+use Rattle.std.proofs.lemmas.Grind.{common_steps}
 use Rattle.std.specs.List.{sum_by}
 use Rattle.std.proofs.lemmas.Bool.{cases_eq}
 use Rattle.std.proofs.lemmas.Option.{same_Some, slice_get_within}
@@ -11,15 +13,19 @@ use Rattle.ir_core.specs.declared.event.Way.TheVariants.{Inbox, Link}
 use Rattle.ir_core.specs.declared.event.Verdict.{Verdict}
 use Rattle.ir_core.specs.declared.event.Verdict.TheVariants.{CameByDown, BelowFloor, Arrives, LeavesByDown, NoRoom, GoesOn}
 use Rattle.ir_core.specs.declared.packet.Held.{Held}
+use Rattle.ir_core.specs.declared.packet.Fate.{Fate}
 use Rattle.ir_core.specs.declared.packet.Fate.TheVariants.{Left}
-use Rattle.ir_core.specs.Journey.{Journey}
+use Rattle.ir_core.specs.declared.board.Board.{Board}
+use Rattle.ir_core.specs.Journey.{Journey, present, stamp_of}
 use Rattle.ir_core.specs.Setting.{nodes_of, channel_of, into}
-use Rattle.ir_core.specs.Entry.{DidTake, DidAct, acted, fresh}
+use Rattle.ir_core.specs.Entry.{DidTake, DidAct, acted, ruled, fresh, fate_of, is_hop, hops_after}
 use Rattle.ir_core.specs.Meaning.{plan_of}
 use Rattle.ir_core.specs.State.{State, IsState, IsDue, after, sent_on, taken_from, LeadsIn}
-use Rattle.ir_core.specs.Quiet.{weight, travel, way_load, held_load, inbox_load}
+use Rattle.ir_core.specs.Quiet.{weight, travel, made_of, hops_left, floor_of, way_load, held_load, inbox_load}
 use Rattle.ir_core.proofs.Channels.{IsEndOf, link_channel, channel_within, into_is}
-use Rattle.ir_core.proofs.Keeps.{Acting, hops_below, leads_in}
+use Rattle.ir_core.proofs.Segments.{present_gone}
+use Rattle.ir_core.proofs.Routed.{present_stretch, ruled_begun}
+use Rattle.ir_core.proofs.Keeps.{Acting, InHandOf, hops_below, leads_in}
 
 abbrev node_load : List (List ℕ) → List (Option Held) → ℕ → ℕ
 node_load channels hands u = length (slice_index_or channels u []) + held_load (slice_index_or hands u None)
@@ -70,50 +76,120 @@ sent_elsewhere s Arrives id k to k_in = refl
 sent_elsewhere s (LeavesByDown l) id k to k_in = refl
 sent_elsewhere s (NoRoom h) id k to k_in = refl
 
-travel_left : (n : ℕ) (r : Journey) → r.fate ≡ Left → travel n r ≡ n - length r.hops
-travel_left n r e = rw e refl
+travel_left : (n floor : ℕ) (r : Journey) → r.fate ≡ Left → travel n floor r ≡ n - made_of floor r
+travel_left n floor r e = rw e refl
+
+-- a segment of a live epoch has made its hops, one of a retired epoch none
+pub made_live : (floor : ℕ) (r : Journey) → floor ≤ stamp_of r → made_of floor r ≡ length (present r).hops
+made_live floor r le = let t : nat_lt (stamp_of r) floor ≡ false = grind (arith, common_steps) in rw t refl
+
+pub made_retired : (floor : ℕ) (r : Journey) → stamp_of r < floor → made_of floor r ≡ 0
+made_retired floor r lt = let t : nat_lt (stamp_of r) floor ≡ true = grind (arith, common_steps) in rw t refl
+
+made_below : (floor n : ℕ) (r : Journey) → length (present r).hops < n → made_of floor r < n
+made_below floor n r lt = by_test (nat_lt (stamp_of r) floor)
+  where
+    by_test : (t : Bool) → cond t 0 (length (present r).hops) < n
+    by_test true = omega arith
+    by_test false = lt
+
+pub ruled_fate : (u : ℕ) (way : Way) (restamp : Option ℕ) (v : Verdict) (r : Journey) → (ruled u way restamp v r).fate ≡ fate_of v
+ruled_fate u way None v r = refl
+ruled_fate u way (Some e) v r = refl
+
+-- how an Act that sends counts on: it makes a hop, or more where it restamps
+pub record Grows (way : Way) (made after : ℕ) : Type 0 where
+  pub no_less : made ≤ after
+  pub some : 0 < after
+  pub by_link : (l : ℕ) → way ≡ Link l → made < after
+
+after_goes : (way : Way) (u : ℕ) (h : Hop) (hops : List ℕ) → 0 < length hops → Grows way (length hops) (length (hops_after way (GoesOn h) u hops))
+after_goes Inbox u h hops some = record { no_less = omega arith; some = some; by_link = λ l e. cc }
+after_goes (Link k) u h hops some = let more = length-append hops (u ∷ []) in record { no_less = omega arith; some = omega arith; by_link = λ l e. omega arith }
+
+grows_from : (way : Way) (a b c d : ℕ) → a ≡ c → b ≡ d → Grows way c d → Grows way a b
+grows_from way a b c d e f g = record { no_less = let x = g.no_less in omega arith; some = let x = g.some in omega arith; by_link = λ l w. (let x = g.by_link l w in omega arith) }
+
+pub act_grows : (s : State) → IsState s → (u : ℕ) (held : Held) (r : Journey) (full : Hop → Bool) (b : Board) (restamp : Option ℕ) (h : Hop) → Acting s u held r full b restamp (GoesOn h) →
+    Grows held.way (made_of b.floor r) (made_of b.floor (ruled u held.way restamp (GoesOn h) r))
+act_grows s ok u held r full b None h a =
+    let k = a.hand.packet.routed in
+    let st = present_stretch s.opening s.plans ok.plans.each r k in
+    let was = made_live b.floor r a.live in
+    let now = made_live b.floor (acted u held.way (GoesOn h) r) a.live in
+    let g = ap (λ (x : Journey). length x.hops) (present_gone (reverse r.restamps) (is_hop held.way (GoesOn h)) u Left r k.places) in
+    grows_from held.way _ _ _ _ was (now ∙ g) (after_goes held.way u h (present r).hops (slice_get_within (present r).hops 0 (present r).source st.begins))
+act_grows s ok u held r full b (Some e) h a =
+    let was = made_retired b.floor r a.live.0 in
+    let k = ruled_begun s.opening s.plans ok.plans.each u held.way e (GoesOn h) r a.hand.packet in
+    let le = a.live.1 in
+    let at = k.0 in
+    let now = made_live b.floor (ruled u held.way (Some e) (GoesOn h) r) (omega arith) in
+    let one = ap (λ (x : List ℕ). length x) k.1 in
+    record { no_less = omega arith; some = omega arith; by_link = λ l w. omega arith }
+
+pub grows_on : (s : State) → IsState s → (u : ℕ) (held : Held) (r : Journey) (full : Hop → Bool) (b : Board) (restamp : Option ℕ) (v : Verdict) (h : Hop) → b.floor ≡ floor_of s → v ≡ GoesOn h → Acting s u held r full b restamp v →
+    Grows held.way (made_of (floor_of s) r) (made_of (floor_of s) (ruled u held.way restamp v r))
+grows_on s ok u held r full b restamp v h is_floor goes a =
+    let g = act_grows s ok u held r full b restamp h (subst (λ (w : Verdict). Acting s u held r full b restamp w) goes a) in
+    let back : Grows held.way (made_of b.floor r) (made_of b.floor (ruled u held.way restamp v r)) = subst (λ (w : Verdict). Grows held.way (made_of b.floor r) (made_of b.floor (ruled u held.way restamp w r))) (sym goes) g in
+    subst (λ (floor : ℕ). Grows held.way (made_of floor r) (made_of floor (ruled u held.way restamp v r))) is_floor back
 
 -- an Act takes from what a packet has before it
-act_lighter : (n u : ℕ) (way : Way) (v : Verdict) (r : Journey) → r.fate ≡ Left → ((l : ℕ) → way ≡ Link l → length r.hops < n) → travel n (acted u way v r) < travel n r + way_load way
-act_lighter n u Inbox (GoesOn h) r left short = let e = travel_left n r left in omega arith
-act_lighter n u Inbox (CameByDown l) r left short = omega arith
-act_lighter n u Inbox BelowFloor r left short = omega arith
-act_lighter n u Inbox Arrives r left short = omega arith
-act_lighter n u Inbox (LeavesByDown l) r left short = omega arith
-act_lighter n u Inbox (NoRoom h) r left short = omega arith
-act_lighter n u (Link l) (GoesOn h) r left short = let e = travel_left n r left in let lt = short l refl in let more = length-append r.hops (u ∷ []) in omega arith
-act_lighter n u (Link l) (CameByDown k) r left short = let e = travel_left n r left in let lt = short l refl in omega arith
-act_lighter n u (Link l) BelowFloor r left short = let e = travel_left n r left in let lt = short l refl in omega arith
-act_lighter n u (Link l) Arrives r left short = let e = travel_left n r left in let lt = short l refl in omega arith
-act_lighter n u (Link l) (LeavesByDown k) r left short = let e = travel_left n r left in let lt = short l refl in omega arith
-act_lighter n u (Link l) (NoRoom h) r left short = let e = travel_left n r left in let lt = short l refl in omega arith
+act_lighter : (n : ℕ) (way : Way) (v : Verdict) (made after : ℕ) → ((l : ℕ) → way ≡ Link l → made < n) → ((h : Hop) → v ≡ GoesOn h → Grows way made after) → hops_left n after (fate_of v) < n - made + way_load way
+act_lighter n Inbox (GoesOn h) made after short grows = let g = (grows h refl).no_less in omega arith
+act_lighter n Inbox (CameByDown l) made after short grows = omega arith
+act_lighter n Inbox BelowFloor made after short grows = omega arith
+act_lighter n Inbox Arrives made after short grows = omega arith
+act_lighter n Inbox (LeavesByDown l) made after short grows = omega arith
+act_lighter n Inbox (NoRoom h) made after short grows = omega arith
+act_lighter n (Link l) (GoesOn h) made after short grows = let lt = short l refl in let g = (grows h refl).by_link l refl in omega arith
+act_lighter n (Link l) (CameByDown k) made after short grows = let lt = short l refl in omega arith
+act_lighter n (Link l) BelowFloor made after short grows = let lt = short l refl in omega arith
+act_lighter n (Link l) Arrives made after short grows = let lt = short l refl in omega arith
+act_lighter n (Link l) (LeavesByDown k) made after short grows = let lt = short l refl in omega arith
+act_lighter n (Link l) (NoRoom h) made after short grows = let lt = short l refl in omega arith
 
--- a packet that came by a link has fewer hops than there are nodes
-pub hops_short : (s : State) (u : ℕ) (held : Held) (r : Journey) (full : Hop → Bool) (v : Verdict) → Acting s u held r full v → (l : ℕ) → held.way ≡ Link l → length r.hops < nodes_of s.opening
-hops_short s u held r full v a l e =
-    let p = a.hand.packet in
-    let due : IsDue (plan_of s.opening s.plans r.epoch) r u (Link l) = subst (λ (w : Way). IsDue (plan_of s.opening s.plans r.epoch) r u w) e p.fits.1 in
-    hops_below s.opening (plan_of s.opening s.plans r.epoch) r u l a.table p.source_in p.dest_in p.begins p.follows due
+-- a packet that came by a link has made fewer hops of its walk than there are nodes
+pub hops_short : (s : State) → IsState s → (u : ℕ) (held : Held) (r : Journey) (floor : ℕ) → InHandOf s u held r → (l : ℕ) → held.way ≡ Link l → made_of floor r < nodes_of s.opening
+hops_short s ok u held r floor p l e =
+    let t = plan_of s.opening s.plans (stamp_of r) in
+    let due : IsDue t (present r) u (Link l) = subst (λ (w : Way). IsDue t (present r) u w) e p.packet.fits.1 in
+    let st = present_stretch s.opening s.plans ok.plans.each r p.packet.routed in
+    made_below floor (nodes_of s.opening) r (hops_below s.opening t (present r) u l (ok.plans.each (stamp_of r - 1)) st.source_in st.dest_in st.begins st.follows due)
 
--- an Act makes the weight less
-pub act_falls : (s : State) → IsState s → (u : ℕ) (held : Held) (v : Verdict) (full : Hop → Bool) → slice_index_or s.hands u None ≡ Some held →
-    Acting s u held (slice_index_or s.records held.id (fresh held.id 0 0 0)) full v → weight (after s (DidAct u held.id held.way v)) < weight s
-act_falls s ok u held v full holds a =
+-- an Act on a newest board makes the weight less
+pub act_falls : (s : State) → IsState s → (u : ℕ) (held : Held) (restamp : Option ℕ) (v : Verdict) (full : Hop → Bool) (b : Board) → b.floor ≡ floor_of s → slice_index_or s.hands u None ≡ Some held →
+    Acting s u held (slice_index_or s.records held.id (fresh held.id 0 0 0)) full b restamp v → weight (after s (DidAct u held.id held.way restamp v)) < weight s
+act_falls s ok u held restamp v full b is_floor holds a =
     let r = slice_index_or s.records held.id (fresh held.id 0 0 0) in
     let n = nodes_of s.opening in
     let u_in = a.node_in in
     let channels = sent_on s.opening s.channels v held.id in
     let hands = slice_set s.hands u None in
-    let to = leads_in s ok u held r full v a in
+    let to = leads_in s ok u held r full b restamp v a in
     let h_in : u < length s.hands = omega (arith, ok.hands) in
-    let sums = sum_by-set (travel n) s.records held.id (acted u held.way v r) (fresh held.id 0 0 0) a.hand.id_in in
+    let sums = sum_by-set (travel n (floor_of s)) s.records held.id (ruled u held.way restamp v r) (fresh held.id 0 0 0) a.hand.id_in in
     let loads = loads_change s.channels channels s.hands hands u n u_in (λ k k_in ne. same_at k k_in ne to) in
     let chan = ap length (sent_elsewhere s v held.id u to u_in) in
     let none = ap held_load (get_or-set_same s.hands u None None h_in) in
     let was = ap held_load holds in
-    let light = act_lighter n u held.way v r a.hand.packet.fits.0 (hops_short s u held r full v a) in
+    let light = lighter in
     omega arith
   where
+    lighter : travel (nodes_of s.opening) (floor_of s) (ruled u held.way restamp v (slice_index_or s.records held.id (fresh held.id 0 0 0))) <
+        travel (nodes_of s.opening) (floor_of s) (slice_index_or s.records held.id (fresh held.id 0 0 0)) + way_load held.way
+    lighter =
+        let r = slice_index_or s.records held.id (fresh held.id 0 0 0) in
+        let n = nodes_of s.opening in
+        let left = travel_left n (floor_of s) r a.hand.packet.fits.0 in
+        let fate = ap (λ (f : Fate). hops_left n (made_of (floor_of s) (ruled u held.way restamp v r)) f) (ruled_fate u held.way restamp v r) in
+        let less = act_lighter n held.way v (made_of (floor_of s) r) (made_of (floor_of s) (ruled u held.way restamp v r)) (λ l e. hops_short s ok u held r (floor_of s) a.hand l e) (λ h goes. grows_at h goes) in
+        omega arith
+      where
+        grows_at : (h : Hop) → v ≡ GoesOn h → Grows held.way (made_of (floor_of s) (slice_index_or s.records held.id (fresh held.id 0 0 0))) (made_of (floor_of s) (ruled u held.way restamp v (slice_index_or s.records held.id (fresh held.id 0 0 0))))
+        grows_at h goes = grows_on s ok u held (slice_index_or s.records held.id (fresh held.id 0 0 0)) full b restamp v h is_floor goes a
+
     same_at : (k : ℕ) → k < nodes_of s.opening → k ≢ u → LeadsIn s v → node_load (sent_on s.opening s.channels v held.id) (slice_set s.hands u None) k ≡ node_load s.channels s.hands k
     same_at k k_in ne to =
         let c = ap length (sent_elsewhere s v held.id k to k_in) in
@@ -170,5 +246,5 @@ take_weighs s ok u way c id u_in there empty first =
     let here = take_node s ok u way c id u_in there empty first in_list h_in in
     let loads = loads_change s.channels channels s.hands hands u (nodes_of s.opening) u_in (take_other s u way c id there) in
     let same : inbox_load channels hands (nodes_of s.opening) ≡ inbox_load s.channels s.hands (nodes_of s.opening) = omega arith in
-    let P : ℕ → Type 0 = λ x. sum_by (travel (nodes_of s.opening)) s.records + inbox_load (taken_from s.channels x) hands (nodes_of s.opening) ≡ weight s in
+    let P : ℕ → Type 0 = λ x. sum_by (travel (nodes_of s.opening) (floor_of s)) s.records + inbox_load (taken_from s.channels x) hands (nodes_of s.opening) ≡ weight s in
     subst P (sym number) (omega arith)

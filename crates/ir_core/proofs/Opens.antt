@@ -1,15 +1,24 @@
-use Rattle.std.proofs.Common.{◌≡◌, ℕ, zero, suc, ◌+◌, ◌*◌, List, [], ◌∷◌, replicate, slice_get, slice_index_or, Option, Some, None, refl, sym, ap, ◌∙◌, subst, arith}
+use Rattle.std.proofs.Common.{◌≡◌, ℕ, zero, suc, ◌+◌, ◌*◌, List, [], ◌∷◌, replicate, slice_get, slice_index_or, Option, Some, None, refl, sym, ap, ◌∙◌, subst, arith, ◌<◌, ◌≤◌, length, true, false, Bool, cond, not, ◌==◌}
+use Rattle.std.specs.Prelude.{◌&&◌, nat_le}
+use Rattle.std.proofs.lemmas.Grind.{common_steps}
+use Rattle.ir_model.specs.declared.Kind.{Kind}
+use Rattle.ir_core.specs.declared.TheConstants.{MAX_NODES, MAX_LINKS, MAX_CAPACITY, MAX_PACKETS, MAX_RESTAMPS}
+use Rattle.ir_core.specs.declared.event.OpenError.{OpenError}
+use Rattle.ir_core.specs.declared.event.OpenError.TheVariants.{NoNode, Empty, TooLarge}
+use Rattle.ir_core.specs.Opened.{open_refused, is_small, is_within}
+use Rattle.ir_core.specs.Meaning.{IsMade}
+use Rattle.ir_core.proofs.Installing.{whole_plan}
 use Rattle.std.proofs.lemmas.Option.{none-some}
 use Rattle.std.proofs.lemmas.List.{length-replicate}
 use Rattle.ir_model.specs.Scheme.{Scheme}
-use Rattle.ir_model.specs.Network.{Network}
+use Rattle.ir_model.specs.Network.{Network, node_count, IsNetwork}
 use Rattle.ir_core.specs.Journey.{Journey}
 use Rattle.ir_core.specs.declared.packet.Held.{Held}
 use Rattle.ir_core.specs.declared.board.Board.{Board}
 use Rattle.ir_core.specs.declared.event.Way.{Way}
 use Rattle.ir_core.specs.Board.{opening_board}
 use Rattle.ir_core.specs.Setting.{Setting, IsSetting, IsPlanFor, links_of, nodes_of, no_scheme}
-use Rattle.ir_core.specs.State.{State, IsState, Waits, InHand, Ended}
+use Rattle.ir_core.specs.State.{State, IsState, IsBoard, Waits, InHand, Ended}
 use Rattle.ir_core.specs.Shows.{Shows}
 
 -- an element of equal ones, or the default, which is the same
@@ -44,13 +53,17 @@ one_plan : (o : Setting) → IsPlanFor o o.first → (k : ℕ) → IsPlanFor o (
 one_plan o t zero = t
 one_plan o t (suc k) = t
 
+one_board : (k : ℕ) → IsBoard 1 (slice_index_or (opening_board ∷ []) k opening_board)
+one_board zero = record { live = omega arith; current = omega arith }
+one_board (suc k) = record { live = omega arith; current = omega arith }
+
 pub opened_kept : (o : Setting) → IsSetting o → IsState (opened o)
 opened_kept o ok = record {
   opening = ok;
   views = length-replicate (nodes_of o) 0;
   hands = length-replicate {A = Option Held} (nodes_of o) None;
   channels = length-replicate {A = List ℕ} ((nodes_of o) + 2 * links_of o) [];
-  boards = record { some = omega arith; version = refl; few = omega arith; current = refl; floor = omega arith };
+  boards = record { some = omega arith; version = refl; few = omega arith; current = refl; floor = omega arith; each = λ k. one_board k };
   plans = record { some = omega arith; few = omega arith; each = one_plan o ok.first };
   views_in = λ u. rw (same_all {X = ℕ} (nodes_of o) u 0) (omega arith);
   learnt_above = omega arith;
@@ -82,9 +95,9 @@ opened_shows o = record {
 }
 
 -- a world's fields, as contracts see them
-abbrev pub made : Network → ℕ → ℕ → List Board → List Scheme → List ℕ → List (Option Held) → List (List ℕ) → List Journey → State
-made net capacity max_packets boards plans views hands channels records = record {
-  opening = record { network = net; first = slice_index_or plans 0 no_scheme; capacity = capacity; max_packets = max_packets };
+abbrev pub made : Network → ℕ → ℕ → ℕ → List Board → List Scheme → List ℕ → List (Option Held) → List (List ℕ) → List Journey → State
+made net capacity max_packets restamps boards plans views hands channels records = record {
+  opening = record { network = net; first = slice_index_or plans 0 no_scheme; capacity = capacity; max_packets = max_packets; restamps = restamps };
   boards = boards;
   plans = plans;
   learnt = 1;
@@ -96,7 +109,7 @@ made net capacity max_packets boards plans views hands channels records = record
 
 pub made_is : (o : Setting) (boards : List Board) (plans : List Scheme) (views : List ℕ) (hands : List (Option Held)) (channels : List (List ℕ)) (records : List Journey) →
     boards ≡ opening_board ∷ [] → plans ≡ o.first ∷ [] → views ≡ replicate (nodes_of o) 0 → hands ≡ replicate (nodes_of o) None → channels ≡ replicate (nodes_of o + 2 * links_of o) [] → records ≡ [] →
-    made o.network o.capacity o.max_packets boards plans views hands channels records ≡ opened o
+    made o.network o.capacity o.max_packets o.restamps boards plans views hands channels records ≡ opened o
 made_is o boards plans views hands channels records a b c d e f = rw (a, b, c, d, e, f) refl
 
 pub made_kept : (o : Setting) → IsSetting o → (s : State) → s ≡ opened o → IsState s
@@ -104,3 +117,48 @@ made_kept o ok s e = subst (λ (x : State). IsState x) (sym e) (opened_kept o ok
 
 pub made_shows : (o : Setting) → (s : State) → s ≡ opened o → Shows [] s
 made_shows o s e = subst (λ (x : State). Shows [] x) (sym e) (opened_shows o)
+
+-- an opening that is not refused
+both_true : (a b : Bool) → (a && b) ≡ true → (a ≡ true) × (b ≡ true)
+both_true true b e = (refl, e)
+both_true false b e = cc
+
+not_refused : (a b c : Bool) → ((e : OpenError) → cond a (Some Empty) (cond b (Some NoNode) (cond (not c) (Some TooLarge) None)) ≡ Some e → ⊥) → (a ≡ false) × (c ≡ true)
+not_refused true b c n = absurd (n Empty refl)
+not_refused false true c n = absurd (n NoNode refl)
+not_refused false false true n = (refl, refl)
+not_refused false false false n = absurd (n TooLarge refl)
+
+within : (n most : ℕ) → is_within n most ≡ true → (0 < n) × (n ≤ most)
+within n most e = let parts = both_true (not (n == 0)) (nat_le n most) e in let a = parts.0 in let b = parts.1 in (grind (arith, common_steps), grind (arith, common_steps))
+
+pub setting_of : (kind : Kind) (root : ℕ) (o : Setting) → ((e : OpenError) → open_refused o.network root o.capacity o.max_packets o.restamps ≡ Some e → ⊥) → IsMade kind root o.network (Some o.first) → IsSetting o
+setting_of kind root o accepted made =
+    let parts = not_refused (node_count o.network == 0) (nat_le (node_count o.network) root) (is_small o.network o.capacity o.max_packets o.restamps) accepted in
+    let a = parts.0 in
+    let p = small_parts (nat_le (node_count o.network) MAX_NODES) (nat_le (length o.network.links) MAX_LINKS) (is_within o.capacity MAX_CAPACITY) (is_within o.max_packets MAX_PACKETS) (nat_le o.restamps MAX_RESTAMPS) parts.1 in
+    let nodes = p.0 in
+    let links = p.1 in
+    let capacity = within o.capacity MAX_CAPACITY p.2 in
+    let packets = within o.max_packets MAX_PACKETS p.3 in
+    let restamps = p.4 in
+    record {
+      some_nodes = grind (arith, common_steps);
+      few_nodes = grind (arith, common_steps);
+      few_links = grind (arith, common_steps);
+      some_capacity = capacity.0;
+      capacity = capacity.1;
+      some_packets = packets.0;
+      max_packets = packets.1;
+      restamps = grind (arith, common_steps);
+      network = subst (λ (net : Network). IsNetwork net) made.2 made.3.network;
+      first = whole_plan o o.first made.3 made.2;
+    }
+  where
+    small_parts : (a b c d e : Bool) → (a && b && c && d && e) ≡ true → (a ≡ true) × (b ≡ true) × (c ≡ true) × (d ≡ true) × (e ≡ true)
+    small_parts true true true true true x = (refl, refl, refl, refl, refl)
+    small_parts true true true true false x = cc
+    small_parts true true true false e x = cc
+    small_parts true true false d e x = cc
+    small_parts true false c d e x = cc
+    small_parts false b c d e x = cc

@@ -14,8 +14,7 @@ use Rattle.ir_core.specs.declared.packet.Held.{Held}
 use Rattle.ir_core.specs.Setting.{Setting, channel_of, nodes_of}
 use Rattle.ir_core.specs.Entry.{acted, fresh}
 use Rattle.ir_core.specs.Sound.{LeadsOn, last_of}
-use Rattle.ir_core.specs.Meaning.{plan_of}
-use Rattle.ir_core.specs.State.{IsBeginning, IsPacket, IsDue, FitsPlace, Place, Waits, InHand, Ended, ArePlaced}
+use Rattle.ir_core.specs.State.{IsBeginning, IsPacket, IsNew, IsDue, FitsPlace, Place, Waits, InHand, Ended, ArePlaced}
 use Rattle.ir_core.proofs.Walks.{IsBeginning-push, last_of-push, first-push}
 use Rattle.ir_core.proofs.Verdicts.{Means}
 use Rattle.ir_core.proofs.Channels.{same_way}
@@ -209,19 +208,24 @@ placed_inject o plans hands channels records place e source dest p s_in d_in e_a
     each_of : (i : ℕ) (r : Journey) → ((i ≡ length records) × (fresh (length records) e source dest ≡ r)) ⊎ ((i < length records) × (slice_get records i ≡ Some r)) → IsPacket o plans r (moved place (length records) (Waits source Inbox) i)
     each_of i r (inl q) =
         let made : IsPacket o plans (fresh (length records) e source dest) (Waits source Inbox) = record {
-          source_in = s_in;
-          dest_in = d_in;
-          epoch_above = e_above;
-          epoch_in = e_in;
-          begins = refl;
-          follows = tt;
+          routed = record {
+            few = omega arith;
+            places = tt;
+            rising = tt;
+            each = (record { source_in = s_in; dest_in = d_in; epoch_above = e_above; epoch_in = e_in; begins = refl; follows = tt }, tt);
+          };
           fits = (refl, (refl, refl));
+          is_new = refl;
         } in
         let here = subst (λ (x : Place). IsPacket o plans (fresh (length records) e source dest) x) (sym (moved_same place (length records) (Waits source Inbox) i q.0)) made in
         subst (λ (x : Journey). IsPacket o plans x (moved place (length records) (Waits source Inbox) i)) q.1 here
     each_of i r (inr q) =
         let lt = q.0 in let ne : i ≢ length records = omega arith in
         placed_still o plans r place (length records) i (Waits source Inbox) ne (p.each i r q.1)
+
+new_in_hand : (r : Journey) (u : ℕ) (way : Way) → IsNew r (Waits u way) → IsNew r (InHand u way)
+new_in_hand r u Inbox k = k
+new_in_hand r u (Link l) k = tt
 
 -- what a channel holds after its first packet was taken
 abbrev WasBehind : List (List ℕ) → ℕ → ℕ → ℕ → ℕ → ℕ → Type 0
@@ -303,16 +307,8 @@ placed_take o plans hands channels records place u way c0 id p u_in h_in c_in th
     each_of : (i : ℕ) (r : Journey) → slice_get records i ≡ Some r → ((i ≡ id) ⊎ (i ≡ id → ⊥)) → IsPacket o plans r (moved place id (InHand u way) i)
     each_of i r eq (inl s) =
         let was = p.each i r eq in
-        let fits : FitsPlace (plan_of o plans r.epoch) r (Waits u way) = subst (λ (x : Place). FitsPlace (plan_of o plans r.epoch) r x) (ap place s ∙ here) was.fits in
-        let now : IsPacket o plans r (InHand u way) = record {
-          source_in = was.source_in;
-          dest_in = was.dest_in;
-          epoch_above = was.epoch_above;
-          epoch_in = was.epoch_in;
-          begins = was.begins;
-          follows = was.follows;
-          fits = fits;
-        } in
+        let waited : IsPacket o plans r (Waits u way) = subst (λ (x : Place). IsPacket o plans r x) (ap place s ∙ here) was in
+        let now : IsPacket o plans r (InHand u way) = record { routed = waited.routed; fits = waited.fits; is_new = new_in_hand r u way waited.is_new } in
         subst (λ (x : Place). IsPacket o plans r x) (sym (moved_same place id (InHand u way) i s)) now
     each_of i r eq (inr ne) = placed_still o plans r place id i (InHand u way) ne (p.each i r eq)
 
@@ -353,46 +349,29 @@ ended_in_hand u way e = cc
 
 -- an Act on the packet in a node's hand
 module _ (o : Setting) (plans : List Scheme) (hands : List (Option Held)) (channels : List (List ℕ)) (records : List Journey) (place : ℕ → Place)
-    (u : ℕ) (held : Held) (v : Verdict) (r : Journey) (full : Hop → Bool)
+    (u : ℕ) (held : Held) (v : Verdict) (made : Journey)
     (p : ArePlaced o plans hands channels records place) (h_in : u < length hands)
-    (holds : slice_index_or hands u None ≡ Some held) (is_record : slice_get records held.id ≡ Some r)
-    (means : Means (plan_of o plans r.epoch) full u held.way r.dest v)
-    (away : (x : ℕ) (h : Hop) → next_hop (plan_of o plans r.epoch) x r.dest ≡ Some h → x ≢ r.dest) where
+    (holds : slice_index_or hands u None ≡ Some held) (now : IsPacket o plans made (place_after v)) where
   in_hand : place held.id ≡ InHand u held.way
   in_hand = (p.held u held holds).1
 
   pub not_waiting : (c k : ℕ) → slice_get (slice_index_or channels c []) k ≡ Some held.id → ⊥
   not_waiting c k e = let w = p.waiting c k held.id e in waits_in_hand w.1.0 u w.1.1 held.way (sym w.1.3 ∙ in_hand)
 
-  abbrev more : List Journey
-  more = slice_set records held.id (acted u held.way v r)
-
-  pub act_each : (i : ℕ) (x : Journey) → slice_get (slice_set records held.id (acted u held.way v r)) i ≡ Some x → IsPacket o plans x (moved place held.id (place_after v) i)
-  act_each i x e = chosen (get_set records held.id i (acted u held.way v r) x e)
+  pub act_each : (i : ℕ) (x : Journey) → slice_get (slice_set records held.id made) i ≡ Some x → IsPacket o plans x (moved place held.id (place_after v) i)
+  act_each i x e = chosen (get_set records held.id i made x e)
     where
-      chosen : ((i ≡ held.id) × (acted u held.way v r ≡ x)) ⊎ ((i ≢ held.id) × (slice_get records i ≡ Some x)) → IsPacket o plans x (moved place held.id (place_after v) i)
+      chosen : ((i ≡ held.id) × (made ≡ x)) ⊎ ((i ≢ held.id) × (slice_get records i ≡ Some x)) → IsPacket o plans x (moved place held.id (place_after v) i)
       chosen (inl q) =
-          let was = p.each held.id r is_record in
-          let due : FitsPlace (plan_of o plans r.epoch) r (InHand u held.way) = subst (λ (y : Place). FitsPlace (plan_of o plans r.epoch) r y) in_hand was.fits in
-          let fits = acted_fits (plan_of o plans r.epoch) full u held.way v r away means due.1 was.begins was.follows in
-          let now : IsPacket o plans (acted u held.way v r) (place_after v) = record {
-            source_in = was.source_in;
-            dest_in = was.dest_in;
-            epoch_above = was.epoch_above;
-            epoch_in = was.epoch_in;
-            begins = fits.0;
-            follows = fits.1;
-            fits = fits.2;
-          } in
-          let here = subst (λ (y : Place). IsPacket o plans (acted u held.way v r) y) (sym (moved_same place held.id (place_after v) i q.0)) now in
+          let here = subst (λ (y : Place). IsPacket o plans made y) (sym (moved_same place held.id (place_after v) i q.0)) now in
           subst (λ (y : Journey). IsPacket o plans y (moved place held.id (place_after v) i)) q.1 here
       chosen (inr q) = placed_still o plans x place held.id i (place_after v) q.0 (p.each i x q.1)
 
-  pub act_held : (w : ℕ) (h : Held) → slice_index_or (slice_set hands u None) w None ≡ Some h → (h.id < length (slice_set records held.id (acted u held.way v r))) × (moved place held.id (place_after v) h.id ≡ InHand w h.way)
+  pub act_held : (w : ℕ) (h : Held) → slice_index_or (slice_set hands u None) w None ≡ Some h → (h.id < length (slice_set records held.id made)) × (moved place held.id (place_after v) h.id ≡ InHand w h.way)
   act_held w h e = chosen (or_set hands u w None None h_in)
     where
       chosen : ((w ≡ u) × (slice_index_or (slice_set hands u None) w None ≡ None)) ⊎ ((w ≢ u) × (slice_index_or (slice_set hands u None) w None ≡ slice_index_or hands w None)) →
-          (h.id < length (slice_set records held.id (acted u held.way v r))) × (moved place held.id (place_after v) h.id ≡ InHand w h.way)
+          (h.id < length (slice_set records held.id made)) × (moved place held.id (place_after v) h.id ≡ InHand w h.way)
       chosen (inl q) = absurd (none-some h (sym q.1 ∙ e))
       chosen (inr q) =
           let was = p.held w h (sym q.1 ∙ e) in
@@ -416,13 +395,13 @@ module _ (o : Setting) (plans : List Scheme) (hands : List (Option Held)) (chann
       by_id (inl s) = absurd (not_in_hand w way (sym (moved_same place held.id (place_after v) j s) ∙ e))
       by_id (inr ne) = by_node ne (p.rests j w way (sym (moved_other place held.id (place_after v) j ne) ∙ e)) (or_set hands u w None None h_in)
 
-  longer_now : length records ≤ length (slice_set records held.id (acted u held.way v r))
+  longer_now : length records ≤ length (slice_set records held.id made)
   longer_now = rw length-set (omega arith)
 
-  pub ended : place_after v ≡ Ended → ArePlaced o plans (slice_set hands u None) channels (slice_set records held.id (acted u held.way v r)) (moved place held.id (place_after v))
+  pub ended : place_after v ≡ Ended → ArePlaced o plans (slice_set hands u None) channels (slice_set records held.id made) (moved place held.id (place_after v))
   ended e = record {
     each = act_each;
-    waiting = λ c k j q. still_waiting o records (slice_set records held.id (acted u held.way v r)) place c held.id j (place_after v) longer_now (λ s. not_waiting c k (q ∙ ap (λ (x : ℕ). Some x) s)) (p.waiting c k j q);
+    waiting = λ c k j q. still_waiting o records (slice_set records held.id made) place c held.id j (place_after v) longer_now (λ s. not_waiting c k (q ∙ ap (λ (x : ℕ). Some x) s)) (p.waiting c k j q);
     once = p.once;
     stands = λ j w way q. p.stands j w way (sym (moved_other place held.id (place_after v) j (λ s. ended_waits w way (sym e ∙ sym (moved_same place held.id (place_after v) j s) ∙ q))) ∙ q);
     rests = act_rests (λ w way q. ended_in_hand w way (sym e ∙ q));
@@ -430,12 +409,12 @@ module _ (o : Setting) (plans : List Scheme) (hands : List (Option Held)) (chann
   }
 
   pub sent : (h : Hop) (c0 : ℕ) → place_after v ≡ Waits h.node (Link h.link) → h.node < (nodes_of o) → channel_of o h.node (Link h.link) ≡ Some c0 → c0 < length channels →
-      ArePlaced o plans (slice_set hands u None) (slice_set channels c0 (slice_index_or channels c0 [] ++ held.id ∷ [])) (slice_set records held.id (acted u held.way v r)) (moved place held.id (place_after v))
+      ArePlaced o plans (slice_set hands u None) (slice_set channels c0 (slice_index_or channels c0 [] ++ held.id ∷ [])) (slice_set records held.id made) (moved place held.id (place_after v))
   sent h c0 e node_in there c_in = record {
     each = act_each;
-    waiting = λ c k j q. subst (λ (x : Place). IsWaiting o (slice_set records held.id (acted u held.way v r)) (moved place held.id x) c j) (sym e)
-        (put_waiting o channels records place p.waiting p.once (slice_set records held.id (acted u held.way v r)) longer_now held.id c0 h.node (Link h.link) c_in (rw length-set (p.held u held holds).0) node_in there not_waiting c k j q);
-    once = put_once o channels records place p.waiting p.once (slice_set records held.id (acted u held.way v r)) longer_now held.id c0 h.node (Link h.link) c_in (rw length-set (p.held u held holds).0) node_in there not_waiting;
+    waiting = λ c k j q. subst (λ (x : Place). IsWaiting o (slice_set records held.id made) (moved place held.id x) c j) (sym e)
+        (put_waiting o channels records place p.waiting p.once (slice_set records held.id made) longer_now held.id c0 h.node (Link h.link) c_in (rw length-set (p.held u held holds).0) node_in there not_waiting c k j q);
+    once = put_once o channels records place p.waiting p.once (slice_set records held.id made) longer_now held.id c0 h.node (Link h.link) c_in (rw length-set (p.held u held holds).0) node_in there not_waiting;
     stands = λ j w way q. put_stands o channels place p.stands held.id c0 h.node (Link h.link) c_in there j w way (ap (λ (x : Place). moved place held.id x j) (sym e) ∙ q);
     rests = act_rests (λ w way q. waits_in_hand h.node w (Link h.link) way (sym e ∙ q));
     held = act_held;

@@ -1,9 +1,9 @@
 use Rattle.std.proofs.Common.{◌≡◌, ◌≢◌, ℕ, ◌+◌, ◌-◌, ◌<◌, ◌≤◌, List, [], ◌∷◌, length, slice_get, slice_index_or, slice_set, Option, Some, None, refl, sym, ap, ◌∙◌, subst, arith, true, false, Bool, nat_lt, cond, ◌⊎◌, inl, inr}
-use Rattle.std.specs.Prelude.{Result, Ok, Err, is_ok, ◌||◌, if◌then◌else◌, ◌==◌}
+use Rattle.std.specs.Prelude.{Result, Ok, Err, nat_le, slice_index, is_ok, ◌||◌, if◌then◌else◌, ◌==◌}
 use Rattle.std.proofs.lemmas.Grind.{common_steps}
 use Rattle.std.proofs.lemmas.Bool.{cases_eq}
-use Rattle.std.proofs.lemmas.Option.{same_Some, none-some, slice_get_within}
-use Rattle.std.proofs.lemmas.List.{get_or-set_same, get_or-set_other, length-append}
+use Rattle.std.proofs.lemmas.Option.{same_Some, none-some}
+use Rattle.std.proofs.lemmas.List.{get_or-set_same, get_or-set_other}
 use Rattle.ir_model.specs.declared.Hop.{Hop}
 use Rattle.ir_core.specs.declared.event.Event.{Event}
 use Rattle.ir_core.specs.declared.event.Event.TheVariants as event
@@ -17,28 +17,31 @@ use Rattle.ir_core.specs.declared.event.Verdict.{Verdict}
 use Rattle.ir_core.specs.declared.event.Verdict.TheVariants.{CameByDown, BelowFloor, Arrives, LeavesByDown, NoRoom, GoesOn}
 use Rattle.ir_core.specs.Journey.{Journey}
 use Rattle.ir_core.specs.Setting.{Setting, nodes_of, channel_of}
-use Rattle.ir_core.specs.Entry.{Entry, DidTake, DidRead, DidAct, acted, hops_after, fresh}
-use Rattle.ir_core.specs.Meaning.{Sight, ComesTo, sight_after, with_entry, reads, acts, acts_on, takes, takes_first, record_at, verdict_on, is_full_towards}
+use Rattle.ir_core.specs.Entry.{Entry, DidTake, DidRead, DidAct, ruled, fresh}
+use Rattle.ir_core.specs.Meaning.{Sight, ComesTo, sight_after, with_entry, reads, acts, acts_on, takes, takes_first, record_at, board_at, ruling_on, is_full_towards}
+use Rattle.ir_core.specs.Board.{opening_board}
+use Rattle.ir_core.specs.declared.board.Board.{Board}
+use Rattle.ir_core.specs.declared.event.Ruling.{Ruling}
 use Rattle.ir_core.specs.State.{State, IsState, Place, Waits, InHand, sight_in, after, taken_from, IsAnswer}
 use Rattle.ir_core.specs.Shows.{Shows}
 use Rattle.ir_core.specs.Drain.{acts_in, acts_of, after_read, after_act, after_take, after_way}
-use Rattle.ir_core.specs.Quiet.{weight, CountsActs, SamePackets, Moves, IsHandEmpty, IsEmptyAt, acts_ahead, hops_made, before, TakesFromBefore}
+use Rattle.ir_core.specs.Quiet.{weight, floor_of, made_of, CountsActs, SamePackets, Moves, IsHandEmpty, IsUpToDate, IsEmptyAt, acts_ahead, hops_made, before, TakesFromBefore}
 use Rattle.ir_core.proofs.Channels.{into_is, same_way}
 use Rattle.ir_core.proofs.Keeps.{Acting, acting_now, keep_read_place, keep_take_place, keep_act_place}
 use Rattle.ir_core.proofs.Placed.{moved, moved_same, moved_other, place_after}
 use Rattle.ir_core.proofs.Shown.{same_sight}
 use Rattle.ir_core.proofs.Theorem.{shows_after, same_setting}
-use Rattle.ir_core.proofs.Loads.{act_falls, take_weighs, hops_short}
+use Rattle.ir_core.proofs.Loads.{Grows, grows_on, act_falls, take_weighs, hops_short}
 use Rattle.std.proofs.lemmas.List.{get_or_default}
 
 pub same_packets : (s : State) → SamePackets s s
-same_packets s = record { hands = refl; channels = refl; records = refl; opening = refl }
+same_packets s = record { hands = refl; channels = refl; records = refl; boards = refl; opening = refl }
 
 pub packets_then : (s mid new : State) → SamePackets s mid → SamePackets mid new → SamePackets s new
-packets_then s mid new a b = record { hands = b.hands ∙ a.hands; channels = b.channels ∙ a.channels; records = b.records ∙ a.records; opening = b.opening ∙ a.opening }
+packets_then s mid new a b = record { hands = b.hands ∙ a.hands; channels = b.channels ∙ a.channels; records = b.records ∙ a.records; boards = b.boards ∙ a.boards; opening = b.opening ∙ a.opening }
 
 pub same_weight : (s new : State) → SamePackets s new → weight new ≡ weight s
-same_weight s new k = rw (k.hands, k.channels, k.records, k.opening) refl
+same_weight s new k = rw (k.hands, k.channels, k.records, k.boards, k.opening) refl
 
 -- Acts counted over two parts
 counts_then : (a b : Bool) (log mid later : List Entry) → CountsActs a log mid → CountsActs b mid later → CountsActs (a || b) log later
@@ -64,13 +67,14 @@ moves_then f g a b s mid new m n =
       falls = falls.0;
       stays = falls.1;
       opening = n.opening ∙ m.opening;
+      boards = n.boards ∙ m.boards;
       few = λ ok. (let first = m.few ok in let second = n.few first.0 in
           (second.0, λ id log k. (let x = first.1 id log k in let y = second.1 id (f log) (m.shows log k) in omega arith)));
     }
 
 -- nothing at all
 pub moves_none : (s : State) → Moves (λ log. log) false s s
-moves_none s = record { shows = λ log k. k; counts = λ log k. refl; falls = λ e. cc; stays = λ e. same_packets s; opening = refl; few = λ ok. (ok, λ id log k. omega arith) }
+moves_none s = record { shows = λ log k. k; counts = λ log k. refl; falls = λ e. cc; stays = λ e. same_packets s; opening = refl; boards = refl; few = λ ok. (ok, λ id log k. omega arith) }
 
 -- what an event takes from what each packet has before it
 abbrev pub FewIn : (s : State) → IsState s → State → Result Entry Refused → Type 0
@@ -98,7 +102,7 @@ take_few : (s : State) (ok : IsState s) (u : ℕ) (way : Way) (c id : ℕ) → u
 take_few s ok u way c id u_in there empty first =
     let number = into_is s.opening u way c there in
     let k = keep_take_place s ok u way c id u_in there first empty in
-    subst (λ (x : ℕ). TakesNothing s ok (taken_state s u way id x)) (sym number) (k.0, λ j log. (let e = ap (λ (q : Place). acts_ahead (nodes_of s.opening) q (hops_made s.records j)) (k.1 j) in let b = by_id j log (cases_eq j id) in omega arith))
+    subst (λ (x : ℕ). TakesNothing s ok (taken_state s u way id x)) (sym number) (k.0, λ j log. (let e = ap (λ (q : Place). acts_ahead (nodes_of s.opening) q (hops_made (floor_of s) s.records j)) (k.1 j) in let b = by_id j log (cases_eq j id) in omega arith))
   where
     was : ok.place id ≡ Waits u way
     was =
@@ -106,72 +110,72 @@ take_few s ok u way c id u_in there empty first =
         let q = same_way s.opening w.1.0 u w.1.1 way c w.1.2 u_in w.1.4 there in
         w.1.3 ∙ ap (λ (x : ℕ). Waits x w.1.1) q.0 ∙ ap (λ (x : Way). Waits u x) q.1
 
-    by_id : (j : ℕ) (log : List Entry) → ((j ≡ id) ⊎ (j ≡ id → ⊥)) → acts_of j log + acts_ahead (nodes_of s.opening) (moved ok.place id (InHand u way) j) (hops_made s.records j) ≤ acts_of j log + before s ok j
+    by_id : (j : ℕ) (log : List Entry) → ((j ≡ id) ⊎ (j ≡ id → ⊥)) → acts_of j log + acts_ahead (nodes_of s.opening) (moved ok.place id (InHand u way) j) (hops_made (floor_of s) s.records j) ≤ acts_of j log + before s ok j
     by_id j log (inl e) =
-        let now = ap (λ (p : Place). acts_ahead (nodes_of s.opening) p (hops_made s.records j)) (moved_same ok.place id (InHand u way) j e) in
-        let old = ap (λ (p : Place). acts_ahead (nodes_of s.opening) p (hops_made s.records j)) (ap ok.place e ∙ was) in
-        let same = same_ahead (nodes_of s.opening) u (hops_made s.records j) way in
+        let now = ap (λ (p : Place). acts_ahead (nodes_of s.opening) p (hops_made (floor_of s) s.records j)) (moved_same ok.place id (InHand u way) j e) in
+        let old = ap (λ (p : Place). acts_ahead (nodes_of s.opening) p (hops_made (floor_of s) s.records j)) (ap ok.place e ∙ was) in
+        let same = same_ahead (nodes_of s.opening) u (hops_made (floor_of s) s.records j) way in
         omega arith
     by_id j log (inr ne) =
-        let now = ap (λ (p : Place). acts_ahead (nodes_of s.opening) p (hops_made s.records j)) (moved_other ok.place id (InHand u way) j ne) in
+        let now = ap (λ (p : Place). acts_ahead (nodes_of s.opening) p (hops_made (floor_of s) s.records j)) (moved_other ok.place id (InHand u way) j ne) in
         omega arith
 
 -- what is before a packet after an Act on it
-act_ahead : (n u : ℕ) (way : Way) (v : Verdict) (hops : List ℕ) → 0 < n → 0 < length hops → ((l : ℕ) → way ≡ Link l → length hops < n) →
-    acts_ahead n (place_after v) (length (hops_after way v u hops)) < acts_ahead n (InHand u way) (length hops)
-act_ahead n u Inbox (GoesOn h) hops some one short = omega arith
-act_ahead n u Inbox (CameByDown l) hops some one short = some
-act_ahead n u Inbox BelowFloor hops some one short = some
-act_ahead n u Inbox Arrives hops some one short = some
-act_ahead n u Inbox (LeavesByDown l) hops some one short = some
-act_ahead n u Inbox (NoRoom h) hops some one short = some
-act_ahead n u (Link l) (GoesOn h) hops some one short = let lt = short l refl in let more = length-append hops (u ∷ []) in omega arith
-act_ahead n u (Link l) (CameByDown k) hops some one short = let lt = short l refl in omega arith
-act_ahead n u (Link l) BelowFloor hops some one short = let lt = short l refl in omega arith
-act_ahead n u (Link l) Arrives hops some one short = let lt = short l refl in omega arith
-act_ahead n u (Link l) (LeavesByDown k) hops some one short = let lt = short l refl in omega arith
-act_ahead n u (Link l) (NoRoom h) hops some one short = let lt = short l refl in omega arith
+act_ahead : (n u : ℕ) (way : Way) (v : Verdict) (made after : ℕ) → 0 < n → ((l : ℕ) → way ≡ Link l → made < n) → ((h : Hop) → v ≡ GoesOn h → Grows way made after) → acts_ahead n (place_after v) after < acts_ahead n (InHand u way) made
+act_ahead n u Inbox (GoesOn h) made after some short grows = let g = (grows h refl).some in omega arith
+act_ahead n u Inbox (CameByDown l) made after some short grows = some
+act_ahead n u Inbox BelowFloor made after some short grows = some
+act_ahead n u Inbox Arrives made after some short grows = some
+act_ahead n u Inbox (LeavesByDown l) made after some short grows = some
+act_ahead n u Inbox (NoRoom h) made after some short grows = some
+act_ahead n u (Link l) (GoesOn h) made after some short grows = let lt = short l refl in let g = (grows h refl).by_link l refl in omega arith
+act_ahead n u (Link l) (CameByDown k) made after some short grows = let lt = short l refl in omega arith
+act_ahead n u (Link l) BelowFloor made after some short grows = let lt = short l refl in omega arith
+act_ahead n u (Link l) Arrives made after some short grows = let lt = short l refl in omega arith
+act_ahead n u (Link l) (LeavesByDown k) made after some short grows = let lt = short l refl in omega arith
+act_ahead n u (Link l) (NoRoom h) made after some short grows = let lt = short l refl in omega arith
 
 -- the record of what a node holds, and the records after an Act on it
 abbrev held_record : State → Held → Journey
 held_record s held = slice_index_or s.records held.id (fresh held.id 0 0 0)
 
-abbrev acted_records : State → ℕ → Held → Verdict → List Journey
-acted_records s u held v = slice_set s.records held.id (acted u held.way v (held_record s held))
+abbrev acted_records : State → ℕ → Held → Option ℕ → Verdict → List Journey
+acted_records s u held restamp v = slice_set s.records held.id (ruled u held.way restamp v (held_record s held))
 
--- an Act takes one from what its packet has before it, and nothing from the others
-act_few : (s : State) (ok : IsState s) (u : ℕ) (held : Held) (v : Verdict) (full : Hop → Bool) → slice_index_or s.hands u None ≡ Some held → Acting s u held (slice_index_or s.records held.id (fresh held.id 0 0 0)) full v →
-    FewIn s ok (after s (DidAct u held.id held.way v)) (Ok (DidAct u held.id held.way v))
-act_few s ok u held v full holds a =
-    let k = keep_act_place s ok u held (slice_index_or s.records held.id (fresh held.id 0 0 0)) full v holds a in
-    (k.0, λ j log. (let e = ap (λ (q : Place). acts_ahead (nodes_of s.opening) q (hops_made (acted_records s u held v) j)) (k.1 j) in let b = by_id j log (cases_eq j held.id) in omega arith))
+-- an Act by the newest board takes one from what its packet has before it, and nothing from the others
+act_few : (s : State) (ok : IsState s) (u : ℕ) (held : Held) (restamp : Option ℕ) (v : Verdict) (full : Hop → Bool) (b : Board) → b.floor ≡ floor_of s → slice_index_or s.hands u None ≡ Some held →
+    Acting s u held (slice_index_or s.records held.id (fresh held.id 0 0 0)) full b restamp v →
+    FewIn s ok (after s (DidAct u held.id held.way restamp v)) (Ok (DidAct u held.id held.way restamp v))
+act_few s ok u held restamp v full b is_floor holds a =
+    let k = keep_act_place s ok u held (slice_index_or s.records held.id (fresh held.id 0 0 0)) full b restamp v holds a in
+    (k.0, λ j log. (let e = ap (λ (q : Place). acts_ahead (nodes_of s.opening) q (hops_made (floor_of s) (acted_records s u held restamp v) j)) (k.1 j) in let b = by_id j log (cases_eq j held.id) in omega arith))
   where
     in_hand : ok.place held.id ≡ InHand u held.way
     in_hand = (ok.placed.held u held holds).1
 
     by_id : (j : ℕ) (log : List Entry) → ((j ≡ held.id) ⊎ (j ≡ held.id → ⊥)) →
-        (if held.id == j then acts_of j log + 1 else acts_of j log) + acts_ahead (nodes_of s.opening) (moved ok.place held.id (place_after v) j) (hops_made (acted_records s u held v) j) ≤ acts_of j log + before s ok j
+        (if held.id == j then acts_of j log + 1 else acts_of j log) + acts_ahead (nodes_of s.opening) (moved ok.place held.id (place_after v) j) (hops_made (floor_of s) (acted_records s u held restamp v) j) ≤ acts_of j log + before s ok j
     by_id j log (inl e) =
         let test : (held.id == j) ≡ true = grind (arith, common_steps) in
-        let p = a.hand.packet in
-        let here : slice_index_or (acted_records s u held v) j (fresh j 0 0 0) ≡ acted u held.way v (held_record s held) = ap (λ (k : ℕ). slice_index_or (acted_records s u held v) k (fresh j 0 0 0)) e ∙ get_or-set_same s.records held.id (acted u held.way v (held_record s held)) (fresh j 0 0 0) a.hand.id_in in
-        let made = ap (λ (x : Journey). length x.hops) here in
+        let here : slice_index_or (acted_records s u held restamp v) j (fresh j 0 0 0) ≡ ruled u held.way restamp v (held_record s held) = ap (λ (k : ℕ). slice_index_or (acted_records s u held restamp v) k (fresh j 0 0 0)) e ∙ get_or-set_same s.records held.id (ruled u held.way restamp v (held_record s held)) (fresh j 0 0 0) a.hand.id_in in
+        let made = ap (λ (x : Journey). made_of (floor_of s) x) here in
         let was : slice_index_or s.records j (fresh j 0 0 0) ≡ held_record s held = ap (λ (k : ℕ). slice_index_or s.records k (fresh k 0 0 0)) e in
-        let had = ap (λ (x : Journey). length x.hops) was in
+        let had = ap (λ (x : Journey). made_of (floor_of s) x) was in
         let n = nodes_of s.opening in
-        let now = ap (λ (q : Place). acts_ahead (nodes_of s.opening) q (hops_made (acted_records s u held v) j)) (moved_same ok.place held.id (place_after v) j e) in
+        let now = ap (λ (q : Place). acts_ahead (nodes_of s.opening) q (hops_made (floor_of s) (acted_records s u held restamp v) j)) (moved_same ok.place held.id (place_after v) j e) in
         let now2 = ap (λ (k : ℕ). acts_ahead (nodes_of s.opening) (place_after v) k) made in
-        let old = ap (λ (q : Place). acts_ahead (nodes_of s.opening) q (hops_made s.records j)) (ap ok.place e ∙ in_hand) in
+        let old = ap (λ (q : Place). acts_ahead (nodes_of s.opening) q (hops_made (floor_of s) s.records j)) (ap ok.place e ∙ in_hand) in
         let old2 = ap (λ (k : ℕ). acts_ahead (nodes_of s.opening) (InHand u held.way) k) had in
         let u_in = a.node_in in
-        let less = act_ahead (nodes_of s.opening) u held.way v (held_record s held).hops (omega arith) (slice_get_within (held_record s held).hops 0 (held_record s held).source p.begins) (λ l way. hops_short s u held (held_record s held) full v a l way) in
+        let less = act_ahead (nodes_of s.opening) u held.way v (made_of (floor_of s) (held_record s held)) (made_of (floor_of s) (ruled u held.way restamp v (held_record s held))) (omega arith)
+        (λ l way. hops_short s ok u held (held_record s held) (floor_of s) a.hand l way) (λ h goes. grows_on s ok u held (held_record s held) full b restamp v h is_floor goes a) in
         rw test (omega arith)
     by_id j log (inr ne) =
         let differs : held.id ≢ j = λ e. ne (sym e) in
         let test : (held.id == j) ≡ false = grind (arith, common_steps) in
-        let here : slice_index_or (acted_records s u held v) j (fresh j 0 0 0) ≡ slice_index_or s.records j (fresh j 0 0 0) = get_or-set_other s.records held.id j (acted u held.way v (held_record s held)) (fresh j 0 0 0) ne in
-        let made = ap (λ (x : Journey). acts_ahead (nodes_of s.opening) (moved ok.place held.id (place_after v) j) (length x.hops)) here in
-        let now = ap (λ (q : Place). acts_ahead (nodes_of s.opening) q (hops_made s.records j)) (moved_other ok.place held.id (place_after v) j ne) in
+        let here : slice_index_or (acted_records s u held restamp v) j (fresh j 0 0 0) ≡ slice_index_or s.records j (fresh j 0 0 0) = get_or-set_other s.records held.id j (ruled u held.way restamp v (held_record s held)) (fresh j 0 0 0) ne in
+        let made = ap (λ (x : Journey). acts_ahead (nodes_of s.opening) (moved ok.place held.id (place_after v) j) (made_of (floor_of s) x)) here in
+        let now = ap (λ (q : Place). acts_ahead (nodes_of s.opening) q (hops_made (floor_of s) s.records j)) (moved_other ok.place held.id (place_after v) j ne) in
         rw test (omega arith)
 
 -- what one event makes of a history, by what it comes to
@@ -189,14 +193,15 @@ module _ (s new : State) (ok : IsState s) (e : Sight → Event) (comes_to : Sigh
   few_by kept few =
       (few.0, λ id log k. subst (λ (x : Sight). acts_of id (with_entry log (comes_to x)) + before new few.0 id ≤ acts_of id log + before s kept id) (same_sight log s k) (few.1 id log))
 
-  pub moved_by : (acted : Bool) → ((log : List Entry) → CountsActs acted log (with_entry log (comes_to (sight_in s)))) → (acted ≡ true → weight new < weight s) → (acted ≡ false → SamePackets s new) → ((kept : IsState s) → FewIn s kept new (comes_to (sight_in s))) →
+  pub moved_by : (acted : Bool) → ((log : List Entry) → CountsActs acted log (with_entry log (comes_to (sight_in s)))) → (acted ≡ true → weight new < weight s) → (acted ≡ false → SamePackets s new) → new.boards ≡ s.boards → ((kept : IsState s) → FewIn s kept new (comes_to (sight_in s))) →
       Moves (λ log. with_entry log (comes_to (sight_after s.opening log))) acted s new
-  moved_by acted counts falls stays few = record {
+  moved_by acted counts falls stays boards few = record {
     shows = shows_by;
     counts = counts_by acted counts;
     falls = falls;
     stays = stays;
     opening = same_setting s new (comes_to (sight_in s)) result answer;
+    boards = boards;
     few = λ kept. few_by kept (few kept);
   }
 
@@ -205,7 +210,7 @@ read_same : (b t : Bool) (s new : State) (u k : ℕ) (result : Result Reply Refu
 read_same true t s new u k result a = subst (λ (x : State). SamePackets s x) (sym a.1) (same_packets s)
 read_same false true s new u k result a = subst (λ (x : State). SamePackets s x) (sym a.1) (same_packets s)
 read_same false false s new u k result a =
-    subst (λ (x : State). SamePackets s x) (sym a.1) (record { hands = refl; channels = refl; records = refl; opening = refl })
+    subst (λ (x : State). SamePackets s x) (sym a.1) (record { hands = refl; channels = refl; records = refl; boards = refl; opening = refl })
 
 read_counts : (b t : Bool) (u k : ℕ) (log : List Entry) → acts_in (with_entry log (cond b (Err NoNode) (cond t (Err BadView) (Ok (DidRead u k))))) ≡ acts_in log
 read_counts true t u k log = refl
@@ -218,14 +223,35 @@ read_few true t s new ok u k result u_in k_in a = few_refused s new ok (Err NoNo
 read_few false true s new ok u k result u_in k_in a = few_refused s new ok (Err BadView) BadView refl a.1
 read_few false false s new ok u k result u_in k_in a =
     subst (λ (x : State). FewIn s ok x (Ok (DidRead u k))) (sym a.1)
-    (let k = keep_read_place s ok u k u_in k_in in (k.0, λ id log. (let e = ap (λ (q : Place). acts_ahead (nodes_of s.opening) q (hops_made s.records id)) (k.1 id) in omega arith)))
+    (let k = keep_read_place s ok u k u_in k_in in (k.0, λ id log. (let e = ap (λ (q : Place). acts_ahead (nodes_of s.opening) q (hops_made (floor_of s) s.records id)) (k.1 id) in omega arith)))
 
 pub read_moves : (s new : State) → IsState s → (u k : ℕ) → u < nodes_of s.opening → (result : Result Reply Refused) → k ≡ length s.boards - 1 → IsAnswer s new (reads s.opening (sight_in s) u k) result → Moves (after_read s.opening u) false s new
 read_moves s new ok u k u_in result is answer =
     let here : IsAnswer s new (reads s.opening (sight_in s) u (length s.boards - 1)) result = subst (λ (j : ℕ). IsAnswer s new (reads s.opening (sight_in s) u j) result) is answer in
     moved_by s new ok (λ (x : Sight). event.Read u (length x.boards - 1)) (λ (x : Sight). reads s.opening x u (length x.boards - 1)) (λ x. refl) result here false
-    (λ log. read_counts _ _ u (length s.boards - 1) log) (λ e. cc) (λ e. read_same _ _ s new u (length s.boards - 1) result here)
+    (λ log. read_counts _ _ u (length s.boards - 1) log) (λ e. cc) (λ e. read_same _ _ s new u (length s.boards - 1) result here) (read_same _ _ s new u (length s.boards - 1) result here).boards
     (λ kept. read_few _ _ s new kept u (length s.boards - 1) result u_in (let some = ok.boards.some in omega arith) here)
+
+-- a node that read the newest version is up to date
+pub read_view : (s new : State) → IsState s → (u k : ℕ) → u < nodes_of s.opening → (result : Result Reply Refused) → k ≡ length s.boards - 1 → IsAnswer s new (reads s.opening (sight_in s) u k) result → IsUpToDate new u
+read_view s new ok u k u_in result is answer =
+    let here : IsAnswer s new (reads s.opening (sight_in s) u (length s.boards - 1)) result = subst (λ (j : ℕ). IsAnswer s new (reads s.opening (sight_in s) u j) result) is answer in
+    let some = ok.boards.some in
+    let seen = ok.views_in u in
+    let there : nat_lt u (nodes_of s.opening) ≡ true = grind (arith, common_steps) in
+    let newer : nat_lt (length s.boards - 1) (slice_index s.views u) ≡ false = grind (arith, common_steps) in
+    let within : nat_le (length s.boards) (length s.boards - 1) ≡ false = grind (arith, common_steps) in
+    let accepted : reads s.opening (sight_in s) u (length s.boards - 1) ≡ Ok (DidRead u (length s.boards - 1)) = rw (there, newer, within) refl in
+    let a = subst (λ (w : Result Entry Refused). IsAnswer s new w result) accepted here in
+    let view = get_or-set_same s.views u (length s.boards - 1) 0 (omega (arith, ok.views)) in
+    subst (λ (x : State). IsUpToDate x u) (sym a.1) view
+
+pub up_to_date_still : (s new : State) (u : ℕ) → new.views ≡ s.views → new.boards ≡ s.boards → IsUpToDate s u → IsUpToDate new u
+up_to_date_still s new u views boards k = rw (views, boards) k
+
+-- the board that a node sees is then the newest
+newest_seen : (s : State) (u : ℕ) → IsUpToDate s u → (board_at (sight_in s) (slice_index s.views u)).floor ≡ floor_of s
+newest_seen s u k = ap (λ (n : ℕ). (slice_index_or s.boards n opening_board).floor) k
 
 -- an Act on what a node holds, if it holds a packet
 acts_node : (s : State) (u : ℕ) → u < nodes_of s.opening → acts s.opening (sight_in s) u ≡ acts_on s.opening (sight_in s) u (slice_index_or s.hands u None)
@@ -235,9 +261,10 @@ pub record ActDone (s : State) (u : ℕ) (new : State) (acted : Bool) : Type 0 w
   pub moves : Moves (after_act s.opening u) acted s new
   pub idle : acted ≡ false → (new ≡ s) × IsHandEmpty s u
   pub hand : IsHandEmpty new u
+  pub views : new.views ≡ s.views
 
-pub act_done_by : (s new : State) → IsState s → (u : ℕ) → u < nodes_of s.opening → (result : Result Reply Refused) → IsAnswer s new (acts s.opening (sight_in s) u) result → ActDone s u new (is_ok result)
-act_done_by s new ok u u_in result answer = by_hand (slice_index_or s.hands u None) refl
+pub act_done_by : (s new : State) → IsState s → (u : ℕ) → u < nodes_of s.opening → IsUpToDate s u → (result : Result Reply Refused) → IsAnswer s new (acts s.opening (sight_in s) u) result → ActDone s u new (is_ok result)
+act_done_by s new ok u u_in up result answer = by_hand (slice_index_or s.hands u None) refl
   where
     by_hand : (x : Option Held) → slice_index_or s.hands u None ≡ x → ActDone s u new (is_ok result)
     by_hand None holds =
@@ -245,42 +272,45 @@ act_done_by s new ok u u_in result answer = by_hand (slice_index_or s.hands u No
         let a = subst (λ (w : Result Entry Refused). IsAnswer s new w result) is answer in
         let idle : is_ok result ≡ false = ap (λ (x : Result Reply Refused). is_ok x) a.0 in
         let moves = moved_by s new ok (λ _. event.Act u) (λ (x : Sight). acts s.opening x u) (λ x. refl) result answer false
-        (λ log. ap (λ (w : Result Entry Refused). acts_in (with_entry log w)) is) (λ e. cc) (λ e. subst (λ (x : State). SamePackets s x) (sym a.1) (same_packets s)) (λ kept. few_refused s new kept (acts s.opening (sight_in s) u) HandEmpty is a.1) in
+        (λ log. ap (λ (w : Result Entry Refused). acts_in (with_entry log w)) is) (λ e. cc) (λ e. subst (λ (x : State). SamePackets s x) (sym a.1) (same_packets s)) (ap (λ (x : State). x.boards) a.1) (λ kept. few_refused s new kept (acts s.opening (sight_in s) u) HandEmpty is a.1) in
         record {
           moves = subst (λ (b : Bool). Moves (after_act s.opening u) b s new) (sym idle) moves;
           idle = λ _. (a.1, holds);
           hand = ap (λ (x : State). slice_index_or x.hands u None) a.1 ∙ holds;
+          views = ap (λ (x : State). x.views) a.1;
         }
     by_hand (Some held) holds =
-        let v : Verdict = verdict_on s.opening (sight_in s) u held.way (record_at (sight_in s) held.id) in
-        let is : acts s.opening (sight_in s) u ≡ Ok (DidAct u held.id held.way v) = acts_node s u u_in ∙ ap (λ (x : Option Held). acts_on s.opening (sight_in s) u x) holds in
+        let x : Ruling = ruling_on s.opening (sight_in s) u held.way (record_at (sight_in s) held.id) in
+        let is : acts s.opening (sight_in s) u ≡ Ok (DidAct u held.id held.way x.restamp x.verdict) = acts_node s u u_in ∙ ap (λ (x : Option Held). acts_on s.opening (sight_in s) u x) holds in
         let a = subst (λ (w : Result Entry Refused). IsAnswer s new w result) is answer in
         let acted : is_ok result ≡ true = ap (λ (x : Result Reply Refused). is_ok x) a.0 in
         let id_in = (ok.placed.held u held holds).0 in
         let r = slice_index_or s.records held.id (fresh held.id 0 0 0) in
         let read : r ≡ slice_index_or s.records held.id r = get_or_default s.records held.id (fresh held.id 0 0 0) r id_in in
-        let acting = acting_now s s refl ok u held r v holds read u_in refl in
-        let less : weight new < weight s = subst (λ (x : State). weight x < weight s) (sym a.1) (act_falls s ok u held v (is_full_towards s.opening (sight_in s)) holds acting) in
+        let acting = acting_now s s refl ok u held r x holds read u_in refl in
+        let less : weight new < weight s = subst (λ (x : State). weight x < weight s) (sym a.1) (act_falls s ok u held x.restamp x.verdict (is_full_towards s.opening (sight_in s)) (board_at (sight_in s) (slice_index s.views u)) (newest_seen s u up) holds acting) in
         let moves = moved_by s new ok (λ _. event.Act u) (λ (x : Sight). acts s.opening x u) (λ x. refl) result answer true
-        (λ log. more log is) (λ _. less) (λ e. cc) (λ kept. few_act kept is a.1) in
+        (λ log. more log is) (λ _. less) (λ e. cc) (ap (λ (x : State). x.boards) a.1) (λ kept. few_act kept is a.1) in
         record {
           moves = subst (λ (b : Bool). Moves (after_act s.opening u) b s new) (sym acted) moves;
           idle = λ e. cc (e, acted);
           hand = ap (λ (x : State). slice_index_or x.hands u None) a.1 ∙ get_or-set_same s.hands u None None (omega (arith, ok.hands));
+          views = ap (λ (x : State). x.views) a.1;
         }
       where
-        few_act : (kept : IsState s) → acts s.opening (sight_in s) u ≡ Ok (DidAct u held.id held.way (verdict_on s.opening (sight_in s) u held.way (record_at (sight_in s) held.id))) →
-            new ≡ after s (DidAct u held.id held.way (verdict_on s.opening (sight_in s) u held.way (record_at (sight_in s) held.id))) → FewIn s kept new (acts s.opening (sight_in s) u)
+        few_act : (kept : IsState s) → acts s.opening (sight_in s) u ≡ Ok (DidAct u held.id held.way (ruling_on s.opening (sight_in s) u held.way (record_at (sight_in s) held.id)).restamp (ruling_on s.opening (sight_in s) u held.way (record_at (sight_in s) held.id)).verdict) →
+            new ≡ after s (DidAct u held.id held.way (ruling_on s.opening (sight_in s) u held.way (record_at (sight_in s) held.id)).restamp (ruling_on s.opening (sight_in s) u held.way (record_at (sight_in s) held.id)).verdict) → FewIn s kept new (acts s.opening (sight_in s) u)
         few_act kept is to =
-            let v : Verdict = verdict_on s.opening (sight_in s) u held.way (record_at (sight_in s) held.id) in
+            let x : Ruling = ruling_on s.opening (sight_in s) u held.way (record_at (sight_in s) held.id) in
             let id_in = (kept.placed.held u held holds).0 in
             let r = slice_index_or s.records held.id (fresh held.id 0 0 0) in
             let read : r ≡ slice_index_or s.records held.id r = get_or_default s.records held.id (fresh held.id 0 0 0) r id_in in
-            let acting = acting_now s s refl kept u held r v holds read u_in refl in
+            let acting = acting_now s s refl kept u held r x holds read u_in refl in
             subst (λ (w : Result Entry Refused). FewIn s kept new w) (sym is)
-            (subst (λ (x : State). FewIn s kept x (Ok (DidAct u held.id held.way v))) (sym to) (act_few s kept u held v (is_full_towards s.opening (sight_in s)) holds acting))
+            (subst (λ (y : State). FewIn s kept y (Ok (DidAct u held.id held.way x.restamp x.verdict))) (sym to)
+            (act_few s kept u held x.restamp x.verdict (is_full_towards s.opening (sight_in s)) (board_at (sight_in s) (slice_index s.views u)) (newest_seen s u up) holds acting))
 
-        more : (log : List Entry) → acts s.opening (sight_in s) u ≡ Ok (DidAct u held.id held.way (verdict_on s.opening (sight_in s) u held.way (record_at (sight_in s) held.id))) →
+        more : (log : List Entry) → acts s.opening (sight_in s) u ≡ Ok (DidAct u held.id held.way (ruling_on s.opening (sight_in s) u held.way (record_at (sight_in s) held.id)).restamp (ruling_on s.opening (sight_in s) u held.way (record_at (sight_in s) held.id)).verdict) →
             acts_in log < acts_in (with_entry log (acts s.opening (sight_in s) u))
         more log is = rw is (omega arith)
 
@@ -292,6 +322,8 @@ pub record TakeDone (s : State) (u : ℕ) (way : Way) (mid : State) : Type 0 whe
   pub few : (ok : IsState s) → TakesFromBefore (after_take s.opening u way) s ok mid
   pub idle : IsHandEmpty mid u → (mid ≡ s) × IsEmptyAt s u way
   pub opening : mid.opening ≡ s.opening
+  pub boards : mid.boards ≡ s.boards
+  pub views : mid.views ≡ s.views
 
 no_first : {X : Type 0} (xs : List X) → slice_get xs 0 ≡ None → xs ≡ []
 no_first [] e = refl
@@ -309,14 +341,16 @@ take_done_by s mid ok u way c u_in there empty result answer = by_first (slice_g
     same_channel d e = same_Some d c (sym e ∙ there)
 
     done : (x : Option ℕ) → takes s.opening (sight_in s) u way ≡ takes_first u way x → ((log : List Entry) → acts_in (with_entry log (takes_first u way x)) ≡ acts_in log) → weight mid ≡ weight s →
-        (IsHandEmpty mid u → (mid ≡ s) × IsEmptyAt s u way) → ((kept : IsState s) → FewIn s kept mid (takes s.opening (sight_in s) u way)) → TakeDone s u way mid
-    done x is same weighs idle few = record {
+        (IsHandEmpty mid u → (mid ≡ s) × IsEmptyAt s u way) → ((kept : IsState s) → FewIn s kept mid (takes s.opening (sight_in s) u way)) → mid.boards ≡ s.boards → mid.views ≡ s.views → TakeDone s u way mid
+    done x is same weighs idle few boards views = record {
       shows = shows_by s mid ok (λ _. event.Take u way) (λ (y : Sight). takes s.opening y u way) (λ y. refl) result answer;
       counts = counts_by s mid ok (λ _. event.Take u way) (λ (y : Sight). takes s.opening y u way) (λ y. refl) result answer false (λ log. ap (λ (w : Result Entry Refused). acts_in (with_entry log w)) is ∙ same log);
       weighs = weighs;
       few = λ kept. few_by s mid ok (λ _. event.Take u way) (λ (y : Sight). takes s.opening y u way) (λ y. refl) result answer kept (few kept);
       idle = idle;
       opening = same_setting s mid (takes s.opening (sight_in s) u way) result answer;
+      boards = boards;
+      views = views;
     }
 
     by_first : (x : Option ℕ) → slice_get (slice_index_or s.channels c []) 0 ≡ x → TakeDone s u way mid
@@ -326,6 +360,7 @@ take_done_by s mid ok u way c u_in there empty result answer = by_first (slice_g
         let none : slice_index_or s.channels c [] ≡ [] = no_first (slice_index_or s.channels c []) first in
         done None is (λ log. refl) (ap (λ (x : State). weight x) a.1)
         (λ _. (a.1, λ d e. ap (λ (k : ℕ). slice_index_or s.channels k []) (same_channel d e) ∙ none)) (λ kept. few_refused s mid kept (takes s.opening (sight_in s) u way) Empty is a.1)
+        (ap (λ (x : State). x.boards) a.1) (ap (λ (x : State). x.views) a.1)
     by_first (Some id) first =
         let is : takes s.opening (sight_in s) u way ≡ Ok (DidTake u way id) = takes_node s u way c u_in there empty ∙ ap (λ (x : Option ℕ). takes_first u way x) first in
         let a = subst (λ (w : Result Entry Refused). IsAnswer s mid w result) is answer in
@@ -334,6 +369,7 @@ take_done_by s mid ok u way c u_in there empty result answer = by_first (slice_g
         ap (λ (x : State). slice_index_or x.hands u None) a.1 ∙ get_or-set_same s.hands u (Some (record { id = id; way = way })) None (omega (arith, ok.hands)) in
         done (Some id) is (λ log. refl) weighs (λ e. absurd (none-some (record { id = id; way = way }) (sym e ∙ holds)))
         (λ kept. subst (λ (w : Result Entry Refused). FewIn s kept mid w) (sym is) (subst (λ (x : State). FewIn s kept x (Ok (DidTake u way id))) (sym a.1) (take_few s kept u way c id u_in there empty first)))
+        (ap (λ (x : State). x.boards) a.1) (ap (λ (x : State). x.views) a.1)
 
 -- a take and an Act
 pub record WayDone (s : State) (u : ℕ) (way : Way) (new : State) (acted : Bool) : Type 0 where
@@ -348,6 +384,7 @@ way_done s mid new u way acted t m idle = record {
     falls = λ e. (let less = m.falls e in let same = t.weighs in omega arith);
     stays = λ e. (let i = idle e in let back : new ≡ s = i.0 ∙ (t.idle i.1).0 in subst (λ (x : State). SamePackets s x) (sym back) (same_packets s));
     opening = m.opening ∙ t.opening;
+    boards = m.boards ∙ t.boards;
     few = λ ok. (let first = t.few ok in let second = m.few first.0 in (
       second.0,
       λ id log k. (let x = first.1 id log k in

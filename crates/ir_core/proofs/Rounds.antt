@@ -11,7 +11,7 @@ use Rattle.ir_core.specs.declared.event.Way.{Way}
 use Rattle.ir_core.specs.declared.event.Way.TheVariants.{Inbox, Link}
 use Rattle.ir_core.specs.declared.packet.Held.{Held}
 use Rattle.ir_core.specs.declared.packet.Fate.TheVariants.{Left}
-use Rattle.ir_core.specs.Journey.{Journey}
+use Rattle.ir_core.specs.Journey.{Journey, present, stamp_of}
 use Rattle.ir_core.specs.Setting.{Setting, IsPlanFor, nodes_of, channel_of}
 use Rattle.ir_core.specs.Entry.{Entry}
 use Rattle.ir_core.specs.Meaning.{plan_of}
@@ -19,7 +19,7 @@ use Rattle.ir_core.specs.Sound.{LeadsOn, last_of}
 use Rattle.ir_core.specs.State.{State, IsState, IsPacket, Place, Waits, InHand, Ended}
 use Rattle.ir_core.specs.Shows.{Shows}
 use Rattle.ir_core.specs.Drain.{acts_in, after_read, after_act, after_way, after_ports, after_visit, after_visits, after_round, after_rounds}
-use Rattle.ir_core.specs.Quiet.{acts_ahead, hops_made, TakesFromBefore, SamePackets, Moves, IsHandEmpty, IsEmptyAt, ArePortsEmpty, IsQuietAt, IsQuiet, IsNoneLeft, ShowsDrained}
+use Rattle.ir_core.specs.Quiet.{acts_ahead, hops_made, TakesFromBefore, SamePackets, Moves, floor_of, IsHandEmpty, IsUpToDate, IsEmptyAt, ArePortsEmpty, IsQuietAt, IsQuiet, IsNoneLeft, ShowsDrained}
 use Rattle.ir_core.proofs.Walks.{port_of}
 use Rattle.ir_core.proofs.Channels.{channel_there}
 use Rattle.ir_core.proofs.Quiets.{moves_none, moves_then}
@@ -61,10 +61,11 @@ ports_push o u (x ∷ hops) h log = ports_push o u hops h (after_way o u (Link x
 pub record PortsSo (s : State) (u k : ℕ) (acted : Bool) (new : State) : Type 0 where
   pub moves : Moves (after_ports s.opening u (take k (ports_of s.opening.network u))) acted s new
   pub hand : IsHandEmpty new u
+  pub view : IsUpToDate new u
   pub idle : acted ≡ false → (p : ℕ) (hop : Hop) → p < k → port_at s.opening.network u p ≡ Some hop → IsEmptyAt new u (Link hop.link)
 
-pub ports_none : (s : State) (u : ℕ) → IsHandEmpty s u → PortsSo s u 0 false s
-ports_none s u hand = record { moves = moves_none s; hand = hand; idle = λ e p hop lt. absurd (omega arith) }
+pub ports_none : (s : State) (u : ℕ) → IsHandEmpty s u → IsUpToDate s u → PortsSo s u 0 false s
+ports_none s u hand view = record { moves = moves_none s; hand = hand; view = view; idle = λ e p hop lt. absurd (omega arith) }
 
 -- the port that the code read
 pub port_read : (s mid : State) → mid.opening ≡ s.opening → (u k : ℕ) (ports : List Hop) (d : Hop) → ports ≡ ports_of mid.opening.network u → k < length ports →
@@ -75,12 +76,13 @@ port_read s mid same u k ports d is lt =
     (ap (λ (o : Setting). port_at o.network u k) (sym same) ∙ here, here)
 
 pub ports_more : (s mid new : State) (u k : ℕ) (acted sent : Bool) (hop : Hop) → PortsSo s u k acted mid → port_at s.opening.network u k ≡ Some hop →
-    Moves (after_way mid.opening u (Link hop.link)) sent mid new → (sent ≡ false → IsEmptyAt new u (Link hop.link)) → IsHandEmpty new u → PortsSo s u (k + 1) (acted || sent) new
-ports_more s mid new u k acted sent hop so at m idle hand = record {
+    Moves (after_way mid.opening u (Link hop.link)) sent mid new → (sent ≡ false → IsEmptyAt new u (Link hop.link)) → IsHandEmpty new u → IsUpToDate new u → PortsSo s u (k + 1) (acted || sent) new
+ports_more s mid new u k acted sent hop so at m idle hand view = record {
   moves = subst (λ (f : List Entry → List Entry). Moves f (acted || sent) s new) (λ i log. one_more log i)
       (moves_then (after_ports s.opening u (take k (ports_of s.opening.network u))) (after_way s.opening u (Link hop.link)) acted sent s mid new so.moves
       (subst (λ (o : Setting). Moves (after_way o u (Link hop.link)) sent mid new) so.moves.opening m));
   hand = hand;
+  view = view;
   idle = λ e p other lt at_p. (let both = both_false acted sent e in by_place both.0 both.1 p other at_p (cases_lt p k) lt);
 }
   where
@@ -218,7 +220,7 @@ drained s mid new ok acted not so m log k =
         ends = refl;
         last_is_quiet = t.counts (after_rounds s.opening so.rounds log) (so.shows log k);
         others_act = so.acts log k;
-        few_acts = λ id. (let f = few_more s mid new so.rounds false so.few so.shows t ok in let x = f.1 id log k in let y = before_few (nodes_of s.opening) (hops_made s.records id) (ok.place id) in omega arith);
+        few_acts = λ id. (let f = few_more s mid new so.rounds false so.few so.shows t ok in let x = f.1 id log k in let y = before_few (nodes_of s.opening) (hops_made (floor_of s) s.records id) (ok.place id) in omega arith);
       },
       t.shows (after_rounds s.opening so.rounds log) (so.shows log k),
     )
@@ -251,7 +253,7 @@ quiet_none_left s ok quiet id r at = by_place (ok.place id) refl (ok.placed.each
         nothing_there at.1 id (slice_index_or s.channels at.0 []) ((quiet u u_in).inbox at.0 at.2) at.3
     by_way u (Link l) is u_in p =
         let at = ok.placed.stands id u (Link l) is in
-        let port = due_port s.opening (plan_of s.opening s.plans r.epoch) (ok.plans.each (r.epoch - 1)) r u l p.fits.1 in
+        let port = due_port s.opening (plan_of s.opening s.plans (stamp_of r)) (ok.plans.each (stamp_of r - 1)) (present r) u l p.fits.1 in
         let none = subst (λ (x : ℕ). IsEmptyAt s u (Link x)) port.3 ((quiet u u_in).ports port.0 port.1 port.2) in
         nothing_there at.1 id (slice_index_or s.channels at.0 []) (none at.0 at.2) at.3
 

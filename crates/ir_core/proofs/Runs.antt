@@ -11,6 +11,8 @@ use Rattle.ir_core.specs.Opened.{IsOpenedWith, open_refused}
 use Rattle.ir_core.specs.State.{State}
 use Rattle.ir_core.specs.Shows.{Shows}
 use Rattle.ir_core.specs.Sound.{AllSound}
+use Rattle.ir_core.proofs.Theorem.{all_of_one_epoch}
+use Rattle.ir_core.proofs.Plains.{never_in}
 use Rattle.ir_core.specs.Run.{IsStepAnswered, StepsAfter, IsRun, IsPlayed}
 
 -- one more step of a run
@@ -23,30 +25,39 @@ run_more o log (y ∷ steps) (x ∷ replies) mid later s r run answered =
     (run.0, run.1, run_more o run.0 steps replies mid later s r run.2 answered)
 
 -- a run so far
-pub record Ran (net : Network) (kind : Kind) (root room most : ℕ) (steps : List Step) (replies : List (Result Reply Refused)) (world : State) : Type 0 where
-  pub opened : IsOpenedWith net kind root room most world.opening
-  pub accepted : open_refused net root room most ≡ None
+pub record Ran (net : Network) (kind : Kind) (root room most limit : ℕ) (steps : List Step) (replies : List (Result Reply Refused)) (world : State) : Type 0 where
+  pub opened : IsOpenedWith net kind root room most limit world.opening
+  pub accepted : open_refused net root room most limit ≡ None
   pub log : List Entry
   pub run : IsRun world.opening [] steps replies log
   pub shows : Shows log world
 
-pub ran_none : (net : Network) (kind : Kind) (root room most : ℕ) (world : State) → IsOpenedWith net kind root room most world.opening → open_refused net root room most ≡ None → Shows [] world → Ran net kind root room most [] [] world
-ran_none net kind root room most world opened accepted shows = record { opened = opened; accepted = accepted; log = []; run = refl; shows = shows }
+pub ran_none : (net : Network) (kind : Kind) (root room most limit : ℕ) (world : State) → IsOpenedWith net kind root room most limit world.opening → open_refused net root room most limit ≡ None → Shows [] world → Ran net kind root room most limit [] [] world
+ran_none net kind root room most limit world opened accepted shows = record { opened = opened; accepted = accepted; log = []; run = refl; shows = shows }
 
-pub ran_more : (net : Network) (kind : Kind) (root room most : ℕ) (steps : List Step) (replies : List (Result Reply Refused)) (world new : State) (s : Step) (r : Result Reply Refused) →
-    Ran net kind root room most steps replies world → new.opening ≡ world.opening → ((log : List Entry) → Shows log world → StepsAfter log s r world.opening new) →
-    Ran net kind root room most (steps ++ s ∷ []) (replies ++ r ∷ []) new
-ran_more net kind root room most steps replies world new s r ran same after =
+pub ran_more : (net : Network) (kind : Kind) (root room most limit : ℕ) (steps : List Step) (replies : List (Result Reply Refused)) (world new : State) (s : Step) (r : Result Reply Refused) →
+    Ran net kind root room most limit steps replies world → new.opening ≡ world.opening → ((log : List Entry) → Shows log world → StepsAfter log s r world.opening new) →
+    Ran net kind root room most limit (steps ++ s ∷ []) (replies ++ r ∷ []) new
+ran_more net kind root room most limit steps replies world new s r ran same after =
     let a = after ran.log ran.shows in
     record {
-      opened = subst (λ (o : Setting). IsOpenedWith net kind root room most o) (sym same) ran.opened;
+      opened = subst (λ (o : Setting). IsOpenedWith net kind root room most limit o) (sym same) ran.opened;
       accepted = ran.accepted;
       log = a.0;
       run = subst (λ (o : Setting). IsRun o [] (steps ++ s ∷ []) (replies ++ r ∷ []) a.0) (sym same) (run_more world.opening [] steps replies ran.log a.0 s r ran.run a.1);
       shows = a.2;
     }
 
-pub ran_played : (net : Network) (kind : Kind) (root room most : ℕ) (steps : List Step) (replies : List (Result Reply Refused)) (world : State) → Ran net kind root room most steps replies world →
+pub ran_played : (net : Network) (kind : Kind) (root room most limit : ℕ) (steps : List Step) (replies : List (Result Reply Refused)) (world : State) → Ran net kind root room most limit steps replies world →
     ((log : List Entry) → Shows log world → AllSound world.opening log) → IsPlayed world.opening steps replies world
-ran_played net kind root room most steps replies world ran sound =
-    record { log = ran.log; run = ran.run; shows = ran.shows; sound = sound ran.log ran.shows; ends_once = ran.shows.ends_once }
+ran_played net kind root room most limit steps replies world ran sound =
+    let all = sound ran.log ran.shows in
+    record {
+      log = ran.log;
+      run = ran.run;
+      shows = ran.shows;
+      sound = all;
+      ends_once = ran.shows.ends_once;
+      never_restamped = λ none. never_in world.opening ran.log ran.shows.ends_once (all_of_one_epoch world.opening ran.log all none);
+      without_restamps = all_of_one_epoch world.opening ran.log all;
+    }

@@ -13,7 +13,7 @@ use Rattle.ir_core.specs.declared.board.Board.{Board}
 use Rattle.ir_core.specs.declared.packet.Fate.TheVariants.{Left}
 use Rattle.ir_core.specs.Journey.{Journey}
 use Rattle.ir_core.specs.Setting.{into}
-use Rattle.ir_core.specs.Entry.{Entry, DidInject, DidLearn, DidTake, DidRead, DidAct, DidChange, DidInstall, acted, fresh}
+use Rattle.ir_core.specs.Entry.{Entry, DidInject, DidLearn, DidTake, DidRead, DidAct, DidChange, DidInstall, ruled, fresh}
 use Rattle.ir_core.specs.History as history
 use Rattle.ir_core.specs.Meaning.{sight_after}
 use Rattle.ir_core.specs.State.{State, IsState, IsPacket, Place, Waits, InHand, sight_in, after, put_into, taken_from, sent_on}
@@ -47,7 +47,7 @@ Fits s (DidInject id e source dest) = (id ≡ length s.records) × (source < len
 Fits s (DidLearn e) = Unit {0}
 Fits s (DidTake u way id) = (u < length s.hands) × (into s.opening u way < length s.channels) × (slice_get (slice_index_or s.channels (into s.opening u way) []) 0 ≡ Some id)
 Fits s (DidRead u k) = u < length s.views
-Fits s (DidAct u id way v) = (u < length s.hands) × (id < length s.records) × FitsVerdict s v × (slice_index_or s.hands u None ≡ Some (record { id = id; way = way }))
+Fits s (DidAct u id way restamp v) = (u < length s.hands) × (id < length s.records) × FitsVerdict s v × (slice_index_or s.hands u None ≡ Some (record { id = id; way = way }))
 Fits s (DidChange b) = Unit {0}
 Fits s (DidInstall e t b) = Unit {0}
 
@@ -61,7 +61,7 @@ ConcernsLeft s (DidInject id e source dest) = slice_get s.records id ≡ None
 ConcernsLeft s (DidLearn e) = Unit {0}
 ConcernsLeft s (DidTake u way id) = IsLeft s id
 ConcernsLeft s (DidRead u k) = Unit {0}
-ConcernsLeft s (DidAct u id way v) = IsLeft s id
+ConcernsLeft s (DidAct u id way restamp v) = IsLeft s id
 ConcernsLeft s (DidChange b) = Unit {0}
 ConcernsLeft s (DidInstall e t b) = Unit {0}
 
@@ -79,7 +79,7 @@ concerns_left s ok (DidTake u way id) f =
         let q : IsPacket s.opening s.plans r (Waits v by) = subst (λ (x : Place). IsPacket s.opening s.plans r x) e p in
         q.fits.0
 concerns_left s ok (DidRead u k) f = tt
-concerns_left s ok (DidAct u id way v) f =
+concerns_left s ok (DidAct u id way restamp v) f =
     let h = ok.placed.held u (record { id = id; way = way }) f.3 in
     let at = slice_get-get_or s.records id (fresh id 0 0 0) h.0 in
     (slice_index_or s.records id (fresh id 0 0 0), at, hand_left (slice_index_or s.records id (fresh id 0 0 0)) (ok.placed.each id _ at) h.1)
@@ -97,7 +97,7 @@ concerns_under_way log s k (DidInject id e source dest) l = sym (k.packet id) �
 concerns_under_way log s k (DidLearn e) l = tt
 concerns_under_way log s k (DidTake u way id) l = (l.0, sym (k.packet id) ∙ l.1, l.2)
 concerns_under_way log s k (DidRead u n) l = tt
-concerns_under_way log s k (DidAct u id way v) l = (l.0, sym (k.packet id) ∙ l.1, l.2)
+concerns_under_way log s k (DidAct u id way restamp v) l = (l.0, sym (k.packet id) ∙ l.1, l.2)
 concerns_under_way log s k (DidChange b) l = tt
 concerns_under_way log s k (DidInstall e t b) l = tt
 
@@ -237,9 +237,9 @@ show_after log s k (DidRead u n) f w = record {
   no_more_takes = k.no_more_takes;
   packet = k.packet;
 }
-show_after log s k (DidAct u id way v) f w = record {
+show_after log s k (DidAct u id way restamp v) f w = record {
   ends_once = (w, k.ends_once);
-  injected = length-set s.records id (acted u way v (slice_index_or s.records id (fresh id 0 0 0))) ∙ k.injected;
+  injected = length-set s.records id (ruled u way restamp v (slice_index_or s.records id (fresh id 0 0 0))) ∙ k.injected;
   learnt = k.learnt;
   boards = k.boards;
   plans = k.plans;
@@ -247,7 +247,7 @@ show_after log s k (DidAct u id way v) f w = record {
   hand = λ w. set_shows s.hands u w None None (history.hand w log) f.0 (k.hand w);
   waiting = λ c. (act_waiting s v id c (history.takes s.opening c log) (history.puts s.opening c log) f.2 (k.waiting c) (k.no_more_takes c)).0;
   no_more_takes = λ c. (act_waiting s v id c (history.takes s.opening c log) (history.puts s.opening c log) f.2 (k.waiting c) (k.no_more_takes c)).1;
-  packet = λ j. act_shows s.records (acted u way v) id j (fresh id 0 0 0) (history.packet j log) f.1 (k.packet j);
+  packet = λ j. act_shows s.records (ruled u way restamp v) id j (fresh id 0 0 0) (history.packet j log) f.1 (k.packet j);
 }
 show_after log s k (DidChange b) f w = record {
   ends_once = (w, k.ends_once);

@@ -1,27 +1,32 @@
 use Rattle.std.proofs.Common.{◌≡◌, ℕ, ◌-◌, ◌<◌, List, [], ◌∷◌, ◌++◌, slice_get, Some, refl, sym, ap, ◌∙◌, subst, arith, inl, inr}
-use Rattle.std.specs.Prelude.{Result, Ok, Err, IfErr}
+use Rattle.std.specs.Prelude.{Result, Ok, Err, IfErr, reverse, length, slice_index_or, ◌≤◌}
 use Rattle.std.proofs.lemmas.Option.{slice_get_within}
 use Rattle.ir_model.specs.declared.Kind.{Kind}
-use Rattle.ir_model.specs.declared.Kind.TheVariants.{Tree, Shortest}
+use Rattle.ir_model.specs.declared.Kind.TheVariants.{Tree, Shortest, Compact}
 use Rattle.ir_model.specs.Network.{node_count}
 use Rattle.ir_model.specs.Walk.{walk_weight, IsDistance}
-use Rattle.ir_model.specs.Table.{IsPrescribedWalk, IsShortestTable}
+use Rattle.ir_model.specs.Table.{IsPrescribedWalk, IsNearerTable, IsShortestTable}
+use Rattle.ir_model.specs.Compact.{IsCompactTable}
 use Rattle.ir_model.specs.Scheme.{Scheme, table_port, IsScheme, IsTableOf}
-use Rattle.ir_model.proofs.Tables.{prescribed_shortest}
+use Rattle.ir_model.proofs.Tables.{prescribed_nearer, shortest_is_nearer}
 use Rattle.ir_core.specs.declared.event.Event.{Event}
 use Rattle.ir_core.specs.declared.event.Reply.{Reply}
 use Rattle.ir_core.specs.declared.event.Refused.{Refused}
-use Rattle.ir_core.specs.Journey.{Journey}
+use Rattle.std.specs.List.{AllByRecursion}
+use Rattle.ir_core.specs.declared.packet.Restamp.{Restamp}
+use Rattle.ir_core.specs.Journey.{Journey, segments_in, present, present_in, until, stamp_of}
 use Rattle.ir_core.specs.declared.packet.Fate.{Fate}
 use Rattle.ir_core.specs.declared.packet.Fate.TheVariants.{Delivered, Retired, Down, Full, Left}
 use Rattle.ir_core.specs.Setting.{Setting, IsPlanFor, nodes_of}
 use Rattle.ir_core.specs.Entry.{Entry, DidInject, DidLearn, DidTake, DidRead, DidAct, DidChange, DidInstall, reply_of}
 use Rattle.ir_core.specs.Meaning.{Sight, ComesTo, sight_after, plan_of, with_entry}
-use Rattle.ir_core.specs.Sound.{IsSoundAmong, AllSound, FateFits, WeighsTheDistance, GoesOnAlong, LeadsOn, last_of}
-use Rattle.ir_core.specs.State.{State, IsState, sight_in, after, IsAnswer, IsBeginning, Place, Waits, InHand, Ended, FitsPlace, EndFits}
+use Rattle.ir_core.specs.History as history
+use Rattle.ir_core.specs.Sound.{IsSoundAmong, IsSoundJourney, AllSound, AllOfOneEpoch, FateFits, WeighsTheDistance, GoesOnAlong, LeadsOn, last_of}
+use Rattle.ir_core.specs.State.{State, IsState, IsStretch, sight_in, after, IsAnswer, IsBeginning, Place, Waits, InHand, Ended, FitsPlace, EndFits}
 use Rattle.ir_core.specs.Shows.{Shows, AnswersAfter, MayWantMemory, reply_to}
 use Rattle.ir_core.specs.Handled.{IsAnswerTo}
 use Rattle.ir_core.proofs.Walks.{walk_of, prefix, whole, next_hop-away, IsBeginning-push, first-push}
+use Rattle.ir_core.proofs.Segments.{joined_in, linked_in}
 use Rattle.ir_core.proofs.Shown.{same_sight, show_after, concerns_left, concerns_under_way}
 use Rattle.ir_core.proofs.Accepted.{accepted_fits}
 
@@ -62,14 +67,23 @@ pub refused_at : (e : Event) (s new : State) (r : Result Reply Refused) → IsAn
 refused_at e s new (Ok y) a = tt
 refused_at e s new (Err x) a = refused_unchanged e s new x a
 
--- with kind Shortest the whole walk weighs the distance
+-- a table of shortest ways leads the whole walk over the distance
+nearer_weighs : (t : Scheme) → IsScheme t → IsNearerTable t.network (table_port t) → (r : Journey) → r.source < node_count t.network → r.dest < node_count t.network →
+    (walk : List ℕ) → IsPrescribedWalk t.network (table_port t) r.source r.dest walk → r.hops ≡ walk → IsDistance t.network r.source r.dest (walk_weight t.network r.hops)
+nearer_weighs t is table r s_in d_in walk w h =
+    let d = (prescribed_nearer t.network is.network (table_port t) table r.source r.dest s_in d_in walk w).1 in
+    subst (λ (x : List ℕ). IsDistance t.network r.source r.dest (walk_weight t.network x)) (sym h) d
+
+-- with a kind of shortest ways the whole walk weighs the distance
 weighs : (k : Kind) (t : Scheme) → k ≡ t.kind → IsScheme t → (r : Journey) → r.source < node_count t.network → r.dest < node_count t.network →
     (walk : List ℕ) → IsPrescribedWalk t.network (table_port t) r.source r.dest walk → r.hops ≡ walk → WeighsTheDistance k t r
 weighs Tree t e is r s_in d_in walk w h = tt
 weighs Shortest t e is r s_in d_in walk w h =
     let table : IsShortestTable t.network (table_port t) = subst (λ (k : Kind). IsTableOf k t.network t.order is.parents (table_port t)) (sym e) is.table in
-    let d = (prescribed_shortest t.network is.network (table_port t) table r.source r.dest s_in d_in walk w).1 in
-    subst (λ (x : List ℕ). IsDistance t.network r.source r.dest (walk_weight t.network x)) (sym h) d
+    nearer_weighs t is (shortest_is_nearer t.network (table_port t) table) r s_in d_in walk w h
+weighs Compact t e is r s_in d_in walk w h =
+    let table : IsCompactTable t.network t.order (table_port t) = subst (λ (k : Kind). IsTableOf k t.network t.order is.parents (table_port t)) (sym e) is.table in
+    nearer_weighs t is table.nearer r s_in d_in walk w h
 
 -- a record that is right, and the walk that its scheme prescribes
 module _ (o : Setting) (t : Scheme) (plan : IsPlanFor o t) (r : Journey) (s_in : r.source < nodes_of o) (d_in : r.dest < nodes_of o) (begins : slice_get r.hops 0 ≡ Some r.source) (follows : IsBeginning t r.dest r.hops)
@@ -102,15 +116,15 @@ module _ (o : Setting) (t : Scheme) (plan : IsPlanFor o t) (r : Journey) (s_in :
   place_fits (InHand u way) f = subst (λ (x : Fate). FateFits t r walk x) (sym f.0) tt
   place_fits Ended f = fate_fits r.fate f.1
 
--- each record is sound
-pub sound : (s : State) → IsState s → (id : ℕ) (r : Journey) → slice_get s.records id ≡ Some r → IsSoundAmong s.opening s.plans r
-sound s ok id r e =
-    let p = ok.placed.each id r e in
-    let t = plan_of s.opening s.plans r.epoch in
-    let k = ok.plans.each (r.epoch - 1) in
+-- a segment is sound, where its fate fits the prescribed walk
+segment_sound : (o : Setting) (plans : List Scheme) → ((k : ℕ) → IsPlanFor o (slice_index_or plans k o.first)) → (g : Journey) → IsStretch o plans g →
+    ((walk : List ℕ) → IsPrescribedWalk (plan_of o plans g.epoch).network (table_port (plan_of o plans g.epoch)) g.source g.dest walk → FateFits (plan_of o plans g.epoch) g walk g.fate) → IsSoundAmong o plans g
+segment_sound o plans each g p fits =
+    let t = plan_of o plans g.epoch in
+    let k = each (g.epoch - 1) in
     let n = k.nodes in
-    let w = k.scheme.walks r.source r.dest (let i = p.source_in in omega arith) (let i = p.dest_in in omega arith) in
-    let walk = walk_of t r.source r.dest w.0 w.1 in
+    let w = k.scheme.walks g.source g.dest (let i = p.source_in in omega arith) (let i = p.dest_in in omega arith) in
+    let walk = walk_of t g.source g.dest w.0 w.1 in
     record {
       epoch_above = p.epoch_above;
       epoch_in = p.epoch_in;
@@ -118,23 +132,67 @@ sound s ok id r e =
         scheme = k.scheme;
         walk = w.0;
         prescribed = w.1;
-        not_empty = slice_get_within r.hops 0 r.source p.begins;
-        follows = prefix t r.dest r.hops w.0 r.source p.begins walk.begins p.follows walk.steps;
-        fate = place_fits s.opening t k r p.source_in p.dest_in p.begins p.follows w.0 w.1 (ok.place id) p.fits;
+        not_empty = slice_get_within g.hops 0 g.source p.begins;
+        follows = prefix t g.dest g.hops w.0 g.source p.begins walk.begins p.follows walk.steps;
+        fate = fits w.0 w.1;
       };
+    }
+
+-- the segments that restamps ended
+past_sound : (o : Setting) (plans : List Scheme) → ((k : ℕ) → IsPlanFor o (slice_index_or plans k o.first)) → (latest : List Restamp) (r : Journey) → r.fate ≡ Retired → AllByRecursion (IsStretch o plans) (segments_in latest r) →
+    AllByRecursion (IsSoundAmong o plans) (segments_in latest r)
+past_sound o plans each [] r e k =
+    (segment_sound o plans each (present_in [] r) k.0 (λ walk w. subst (λ (f : Fate). FateFits (plan_of o plans r.epoch) (present_in [] r) walk f) (sym e) tt), tt)
+past_sound o plans each (s ∷ older) r e k = (
+  segment_sound o plans each (present_in (s ∷ older) r) k.0 (λ walk w. subst (λ (f : Fate). FateFits (plan_of o plans s.epoch) (present_in (s ∷ older) r) walk f) (sym e) tt),
+  past_sound o plans each older (until s r) refl k.1,
+)
+
+all_segments_sound : (o : Setting) (plans : List Scheme) → ((k : ℕ) → IsPlanFor o (slice_index_or plans k o.first)) → (latest : List Restamp) (r : Journey) → AllByRecursion (IsStretch o plans) (segments_in latest r) →
+    (IsStretch o plans (present_in latest r) → IsSoundAmong o plans (present_in latest r)) → AllByRecursion (IsSoundAmong o plans) (segments_in latest r)
+all_segments_sound o plans each [] r k now = (now k.0, tt)
+all_segments_sound o plans each (s ∷ older) r k now = (now k.0, past_sound o plans each older (until s r) refl k.1)
+
+-- each record is sound
+pub sound : (s : State) → IsState s → (id : ℕ) (r : Journey) → slice_get s.records id ≡ Some r → IsSoundJourney s.opening s.plans r
+sound s ok id r e =
+    let p = ok.placed.each id r e in
+    let g = present r in
+    let t = plan_of s.opening s.plans (stamp_of r) in
+    let k = ok.plans.each (stamp_of r - 1) in
+    record {
+      few = p.routed.few;
+      places = p.routed.places;
+      joined = joined_in (reverse r.restamps) r p.routed.places;
+      linked = linked_in (reverse r.restamps) r p.routed.places;
+      rising = p.routed.rising;
+      each = all_segments_sound s.opening s.plans ok.plans.each (reverse r.restamps) r p.routed.each
+          (λ st. segment_sound s.opening s.plans ok.plans.each (present r) st (λ walk w. place_fits s.opening t k (present r) st.source_in st.dest_in st.begins st.follows walk w (ok.place id) p.fits));
     }
 
 -- and so are the records of its history
 pub all_sound : (s : State) → IsState s → (log : List Entry) → Shows log s → AllSound s.opening log
 all_sound s ok log k id r e =
-    subst (λ (plans : List Scheme). IsSoundAmong s.opening plans r) k.plans (sound s ok id r (k.packet id ∙ e))
+    subst (λ (plans : List Scheme). IsSoundJourney s.opening plans r) k.plans (sound s ok id r (k.packet id ∙ e))
+
+-- where no restamp is allowed, a record is of one epoch
+one_epoch : (o : Setting) (plans : List Scheme) (r : Journey) (restamps : List Restamp) → r.restamps ≡ restamps → length restamps ≤ 0 → AllByRecursion (IsSoundAmong o plans) (segments_in (reverse restamps) r) →
+    (r.restamps ≡ []) × IsSoundAmong o plans r
+one_epoch o plans r [] e le k = (e, subst (λ (l : List Restamp). IsSoundAmong o plans (record r { restamps = l })) (sym e) k.0)
+one_epoch o plans r (s ∷ restamps) e le k = absurd (omega arith)
+
+pub all_of_one_epoch : (o : Setting) (log : List Entry) → AllSound o log → o.restamps ≡ 0 → AllOfOneEpoch o log
+all_of_one_epoch o log all none id r e =
+    let k = all id r e in
+    let few = k.few in
+    one_epoch o (history.plans o log) r r.restamps refl (omega arith) k.each
 
 after_setting : (s : State) (entry : Entry) → (after s entry).opening ≡ s.opening
 after_setting s (DidInject id e source dest) = refl
 after_setting s (DidLearn e) = refl
 after_setting s (DidTake u way id) = refl
 after_setting s (DidRead u k) = refl
-after_setting s (DidAct u id way v) = refl
+after_setting s (DidAct u id way restamp v) = refl
 after_setting s (DidChange b) = refl
 after_setting s (DidInstall e t b) = refl
 

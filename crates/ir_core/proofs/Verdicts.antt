@@ -1,4 +1,4 @@
-use Rattle.std.proofs.Common.{◌≡◌, ℕ, Option, Some, None, refl, sym, ◌∙◌, arith, true, false, Bool, ◌==◌, nat_lt, not, cond}
+use Rattle.std.proofs.Common.{◌≡◌, ℕ, ◌<◌, ◌≤◌, Option, Some, None, refl, sym, ◌∙◌, arith, true, false, Bool, ◌==◌, nat_lt, not, cond}
 use Rattle.std.proofs.lemmas.Grind.{common_steps}
 use Rattle.ir_model.specs.declared.Hop.{Hop}
 use Rattle.ir_model.specs.Scheme.{Scheme, next_hop}
@@ -84,3 +84,40 @@ pub judged-if_full : (t : Scheme) (b : Board) (full : Hop → Bool) (way : Way) 
 judged-if_full t b full Inbox u stamp d = here-if_full t b full u stamp d
 judged-if_full t b full (Link l) u stamp d =
     same_cond (not (is_up b l)) _ _ _ _ refl (here-if_full t b full u stamp d) ∙ sym (if_full-cond full (not (is_up b l)) (CameByDown l) (judged_here t b (λ _. false) u stamp d))
+
+-- what a verdict says of the packet's epoch and the floor of the board
+abbrev pub IsLive : Board → ℕ → Verdict → Type 0
+IsLive b stamp BelowFloor = stamp < b.floor
+IsLive b stamp (GoesOn h) = b.floor ≤ stamp
+IsLive b stamp (CameByDown l) = Unit {0}
+IsLive b stamp Arrives = Unit {0}
+IsLive b stamp (LeavesByDown l) = Unit {0}
+IsLive b stamp (NoRoom h) = Unit {0}
+
+onward_live : (b : Board) (full : Hop → Bool) (stamp : ℕ) (x : Option Hop) → b.floor ≤ stamp → IsLive b stamp (onward b full x)
+onward_live b full stamp None le = tt
+onward_live b full stamp (Some h) le = up_live (is_up b h.link) (full h)
+  where
+    up_live : (r f : Bool) → IsLive b stamp (cond (not r) (LeavesByDown h.link) (cond f (NoRoom h) (GoesOn h)))
+    up_live true true = tt
+    up_live true false = le
+    up_live false f = tt
+
+here_live : (t : Scheme) (b : Board) (full : Hop → Bool) (u stamp d : ℕ) → IsLive b stamp (judged_here t b full u stamp d)
+here_live t b full u stamp d = floor_live (nat_lt stamp b.floor) refl
+  where
+    at_live : (r : Bool) → b.floor ≤ stamp → IsLive b stamp (cond r Arrives (onward b full (next_hop t u d)))
+    at_live true le = tt
+    at_live false le = onward_live b full stamp (next_hop t u d) le
+
+    floor_live : (r : Bool) → nat_lt stamp b.floor ≡ r → IsLive b stamp (judged_here t b full u stamp d)
+    floor_live true p = let lt : stamp < b.floor = grind (arith, common_steps) in rw p lt
+    floor_live false p = let le : b.floor ≤ stamp = grind (arith, common_steps) in rw p (at_live (u == d) le)
+
+pub judged_live : (t : Scheme) (b : Board) (full : Hop → Bool) (way : Way) (u stamp d : ℕ) → IsLive b stamp (judged t b full way u stamp d)
+judged_live t b full Inbox u stamp d = here_live t b full u stamp d
+judged_live t b full (Link l) u stamp d = up_live (is_up b l)
+  where
+    up_live : (r : Bool) → IsLive b stamp (cond (not r) (CameByDown l) (judged_here t b full u stamp d))
+    up_live true = here_live t b full u stamp d
+    up_live false = tt

@@ -4,7 +4,7 @@ use Rattle.std.proofs.lemmas.Option.{same_Some, none-some}
 use Rattle.std.proofs.lemmas.Bool.{cases_eq}
 use Rattle.ir_model.specs.declared.Hop.{Hop}
 use Rattle.ir_model.specs.declared.Kind.{Kind}
-use Rattle.ir_model.specs.declared.Kind.TheVariants.{Tree, Shortest}
+use Rattle.ir_model.specs.declared.Kind.TheVariants.{Tree, Shortest, Compact}
 use Rattle.ir_model.specs.Network.{Network, node_count, port_at}
 use Rattle.ir_model.specs.Table.{next_node, Continues, IsPrescribedWalk}
 use Rattle.ir_model.specs.Scheme.{Scheme, next_hop, table_port, IsScheme, IsTableOf}
@@ -52,6 +52,7 @@ walk_of t u d (x ∷ rest) p =
 own_of : (k : Kind) (net : Network) (order parents : List ℕ) (table : ℕ → ℕ → Option ℕ) → IsTableOf k net order parents table → (d : ℕ) → d < node_count net → table d d ≡ None
 own_of Tree net order parents table is d d_in = is.own d d_in
 own_of Shortest net order parents table is d d_in = is.own d d_in
+own_of Compact net order parents table is d d_in = is.nearer.own d d_in
 
 pub no_port_at_home : (t : Scheme) → IsScheme t → (d : ℕ) → d < node_count t.network → table_port t d d ≡ None
 no_port_at_home t is d d_in = own_of t.kind t.network t.order is.parents (table_port t) is.table d d_in

@@ -50,13 +50,13 @@ after_rounds o (suc k) log = after_round o (after_rounds o k log)
 -- how many Acts a history has
 abbrev pub acts_in : List Entry → ℕ
 acts_in [] = 0
-acts_in (DidAct u id way verdict ∷ log) = acts_in log + 1
+acts_in (DidAct u id way restamp verdict ∷ log) = acts_in log + 1
 acts_in (_ ∷ log) = acts_in log
 
 -- how many Acts on a packet a history has
 abbrev pub acts_of : ℕ → List Entry → ℕ
 acts_of id [] = 0
-acts_of id (DidAct u i way verdict ∷ log) = if i == id then acts_of id log + 1 else acts_of id log
+acts_of id (DidAct u i way restamp verdict ∷ log) = if i == id then acts_of id log + 1 else acts_of id log
 acts_of id (_ ∷ log) = acts_of id log
 
 -- A drain makes rounds until one has no Act. It has at most as many Acts on a packet as there are nodes.

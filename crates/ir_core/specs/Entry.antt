@@ -1,11 +1,11 @@
 -- Verdicts, and the entries of a history.
-use Rattle.std.specs.Prelude.{ℕ, Bool, true, false, not, nat_lt, Option, Some, None, unwrap_or, List, [], ◌∷◌, ◌++◌, if◌then◌else◌, ◌==◌}
+use Rattle.std.specs.Prelude.{ℕ, ◌-◌, length, Bool, true, false, not, nat_lt, Option, Some, None, unwrap_or, List, [], ◌∷◌, ◌++◌, if◌then◌else◌, ◌==◌}
 use Rattle.ir_model.specs.declared.Hop.{Hop}
 use Rattle.ir_model.specs.Scheme.{Scheme, next_hop, table_port}
 use Rattle.ir_core.specs.declared.event.Way.{Way}
 use Rattle.ir_core.specs.declared.event.Way.TheVariants.{Inbox, Link}
 use Rattle.ir_core.specs.declared.event.Action.{Action}
-use Rattle.ir_core.specs.declared.event.Action.TheVariants.{Deliver, Send, DropRetired, DropDown}
+use Rattle.ir_core.specs.declared.event.Action.TheVariants.{Deliver, Send, Restamp, DropRetired, DropDown}
 use Rattle.ir_core.specs.declared.event.Reply.{Reply}
 use Rattle.ir_core.specs.declared.event.Reply.TheVariants.{Injected, Learnt, Taken, Viewed, Sent, Settled, Changed, Installed}
 use Rattle.ir_core.specs.declared.board.Board.{Board}
@@ -59,10 +59,38 @@ hops_after way v u hops = if is_hop way v then hops ++ u ∷ [] else hops
 abbrev pub acted : ℕ → Way → Verdict → Journey → Journey
 acted u way v r = record r { hops = hops_after way v u r.hops; fate = fate_of v }
 
+-- the hops with this node, unless the packet came from the inbox, where it is its last hop
+abbrev pub hops_here : Way → ℕ → List ℕ → List ℕ
+hops_here Inbox u hops = hops
+hops_here (Link l) u hops = hops ++ u ∷ []
+
+-- A packet's record after a node restamped it with an epoch: a new segment begins at this node.
+abbrev pub restamped : ℕ → Way → ℕ → Journey → Journey
+restamped u way e r =
+    record r {
+      hops = hops_here way u r.hops;
+      restamps = r.restamps ++ record { epoch = e; from = length (hops_here way u r.hops) - 1 } ∷ [];
+    }
+
+-- the epoch that a packet is restamped with: the current one, where its own is below the floor and restamps are left
+abbrev pub restamp_by : ℕ → ℕ → Verdict → Option ℕ
+restamp_by left current BelowFloor = if nat_lt 0 left then Some current else None
+restamp_by left current (CameByDown l) = None
+restamp_by left current Arrives = None
+restamp_by left current (LeavesByDown l) = None
+restamp_by left current (NoRoom h) = None
+restamp_by left current (GoesOn h) = None
+
+-- A packet's record after an Act that restamped it with this epoch, if it did. A restamped packet goes on as one from
+-- the inbox.
+abbrev pub ruled : ℕ → Way → Option ℕ → Verdict → Journey → Journey
+ruled u way None v r = acted u way v r
+ruled u way (Some e) v r = acted u Inbox v (restamped u way e r)
+
 -- a packet's record after its injection
 abbrev pub fresh : ℕ → ℕ → ℕ → ℕ → Journey
 fresh id epoch source dest =
-    record { id = id; epoch = epoch; source = source; dest = dest; hops = source ∷ []; fate = Left }
+    record { id = id; epoch = epoch; source = source; dest = dest; hops = source ∷ []; restamps = []; fate = Left }
 
 -- An accepted event, with what came of it.
 pub data Entry : Type 0 where
@@ -70,7 +98,7 @@ pub data Entry : Type 0 where
   DidLearn : (epoch : ℕ) → Entry
   DidTake : (node : ℕ) → (way : Way) → (id : ℕ) → Entry
   DidRead : (node version : ℕ) → Entry
-  DidAct : (node id : ℕ) → (way : Way) → (verdict : Verdict) → Entry
+  DidAct : (node id : ℕ) → (way : Way) → (restamp : Option ℕ) → (verdict : Verdict) → Entry
   DidChange : (board : Board) → Entry
   DidInstall : (epoch : ℕ) → (scheme : Scheme) → (board : Board) → Entry
 
@@ -87,22 +115,24 @@ reply_of (DidInject id epoch source dest) = Injected id
 reply_of (DidLearn epoch) = Learnt
 reply_of (DidTake node way id) = Taken id
 reply_of (DidRead node version) = Viewed
-reply_of (DidAct node id way verdict) = reply_after id verdict
+reply_of (DidAct node id way restamp verdict) = reply_after id verdict
 reply_of (DidChange board) = Changed
 reply_of (DidInstall epoch scheme board) = Installed epoch
 
--- what a node does by this verdict, before it is known whether there is room: it sends the packet over this port
-abbrev pub action_of : ℕ → Verdict → Action
-action_of port (CameByDown l) = DropDown l
-action_of port BelowFloor = DropRetired
-action_of port Arrives = Deliver
-action_of port (LeavesByDown l) = DropDown l
-action_of port (NoRoom h) = Send port
-action_of port (GoesOn h) = Send port
+-- What a node does by this verdict, before it is known whether there is room: it sends the packet over this port. A
+-- packet of a retired epoch is restamped, where it has restamps left.
+abbrev pub action_of : ℕ → ℕ → Verdict → Action
+action_of left port (CameByDown l) = DropDown l
+action_of left port BelowFloor = if nat_lt 0 left then Restamp else DropRetired
+action_of left port Arrives = Deliver
+action_of left port (LeavesByDown l) = DropDown l
+action_of left port (NoRoom h) = Send port
+action_of left port (GoesOn h) = Send port
 
 -- what a node does with a packet, where each channel has room
-abbrev pub decided : Scheme → Board → Way → ℕ → ℕ → ℕ → Action
-decided s b way at stamp dest = action_of (unwrap_or (table_port s at dest) 0) (judged s b (λ _. false) way at stamp dest)
+abbrev pub decided : Scheme → Board → Way → ℕ → ℕ → ℕ → ℕ → Action
+decided s b way at stamp dest left =
+    action_of left (unwrap_or (table_port s at dest) 0) (judged s b (λ _. false) way at stamp dest)
 
 abbrev pub way_of : Option ℕ → Way
 way_of None = Inbox

@@ -9,7 +9,7 @@ use Rattle.ir_core.specs.declared.event.Verdict.{Verdict}
 use Rattle.ir_core.specs.declared.event.Verdict.TheVariants.{CameByDown, BelowFloor, Arrives, LeavesByDown, NoRoom, GoesOn}
 use Rattle.ir_core.specs.Board.{opening_board}
 use Rattle.ir_core.specs.Setting.{Setting, into}
-use Rattle.ir_core.specs.Entry.{Entry, DidInject, DidLearn, DidTake, DidRead, DidAct, DidChange, DidInstall, acted, fresh}
+use Rattle.ir_core.specs.Entry.{Entry, DidInject, DidLearn, DidTake, DidRead, DidAct, DidChange, DidInstall, ruled, fresh}
 
 -- What stands after a history. It is a list of entries, the latest first, and each notion is read off the entries
 -- that speak of it.
@@ -49,7 +49,7 @@ view u (_ ∷ log) = view u log
 abbrev pub hand : ℕ → List Entry → Option Held
 hand u [] = None
 hand u (DidTake v way id ∷ log) = if v == u then Some (record { id = id; way = way }) else hand u log
-hand u (DidAct v id way verdict ∷ log) = if v == u then None else hand u log
+hand u (DidAct v id way restamp verdict ∷ log) = if v == u then None else hand u log
 hand u (_ ∷ log) = hand u log
 
 -- the channel into which a verdict puts the packet
@@ -65,7 +65,7 @@ is_put_into o c (NoRoom h) = false
 abbrev pub puts : Setting → ℕ → List Entry → List ℕ
 puts o c [] = []
 puts o c (DidInject id e s d ∷ log) = if into o s Inbox == c then puts o c log ++ id ∷ [] else puts o c log
-puts o c (DidAct u id way verdict ∷ log) = if is_put_into o c verdict then puts o c log ++ id ∷ [] else puts o c log
+puts o c (DidAct u id way restamp verdict ∷ log) = if is_put_into o c verdict then puts o c log ++ id ∷ [] else puts o c log
 puts o c (_ ∷ log) = puts o c log
 
 -- how many were taken from it
@@ -82,7 +82,7 @@ waiting o c log = drop (takes o c log) (puts o c log)
 abbrev pub packet : ℕ → List Entry → Option Journey
 packet id [] = None
 packet id (DidInject i e s d ∷ log) = if i == id then Some (fresh i e s d) else packet id log
-packet id (DidAct u i way verdict ∷ log) = if i == id then option_map (acted u way verdict) (packet id log) else packet id log
+packet id (DidAct u i way restamp verdict ∷ log) = if i == id then option_map (ruled u way restamp verdict) (packet id log) else packet id log
 packet id (_ ∷ log) = packet id log
 
 -- the packet was injected, and no Act has ended its way
@@ -92,7 +92,7 @@ IsUnderWay id log = (r : Journey) × (packet id log ≡ Some r) × (r.fate ≡ L
 -- an entry that concerns a packet comes while the packet is under way
 abbrev pub ConcernsOneUnderWay : Entry → List Entry → Type 0
 ConcernsOneUnderWay (DidTake u way id) log = IsUnderWay id log
-ConcernsOneUnderWay (DidAct u id way verdict) log = IsUnderWay id log
+ConcernsOneUnderWay (DidAct u id way restamp verdict) log = IsUnderWay id log
 ConcernsOneUnderWay (DidInject id e s d) log = packet id log ≡ None
 ConcernsOneUnderWay (DidLearn e) log = Unit {0}
 ConcernsOneUnderWay (DidRead u k) log = Unit {0}

@@ -1,6 +1,7 @@
 -- How a world is seen.
-use Rattle.std.specs.Prelude.{slice_index_or}
+use Rattle.std.specs.Prelude.{◌≤◌, map, slice_index_or, All}
 use Rattle.ir_core.specs.declared.world.World.TheInside.{Inside}
+use Rattle.ir_core.specs.Queue.{ids_of, room_of}
 use Rattle.ir_core.specs.Setting.{no_scheme}
 use Rattle.ir_core.specs.State.{State, IsState}
 
@@ -12,15 +13,18 @@ state_of w = record {
     first = slice_index_or w.plans.items 0 no_scheme;
     capacity = w.capacity;
     max_packets = w.max_packets;
+    restamps = w.restamps;
   };
   boards = w.boards.items;
   plans = w.plans.items;
   learnt = w.learnt;
   views = w.views.items;
   hands = w.hands.items;
-  channels = w.channels.items;
+  channels = map ids_of w.channels.items;
   records = w.records.items;
 }
 
-abbrev pub IsKept : Inside → Type 0
-IsKept w = IsState (state_of w)
+-- each queue keeps room for the capacity
+pub record IsKept (w : Inside) : Type 0 where
+  pub state : IsState (state_of w)
+  pub room : All (λ q. w.capacity ≤ room_of q) w.channels.items

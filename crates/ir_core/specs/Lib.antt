@@ -1,11 +1,15 @@
 pub mod Codes
+pub mod Marks
+pub mod MarkLaws
 pub mod Board
+pub mod Queue
 pub mod Journey
 pub mod Recorded
 pub mod Setting
 pub mod Entry
 pub mod History
 pub mod Meaning
+pub mod Plain
 pub mod Sound
 pub mod State
 pub mod Shows
@@ -15,3 +19,4 @@ pub mod Quiet
 pub mod Handled
 pub mod Inside
 pub mod Opened
+pub mod Installed

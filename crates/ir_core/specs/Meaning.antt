@@ -15,10 +15,11 @@ use Rattle.ir_core.specs.declared.event.Refused.TheVariants.{NoNode, NoLink, NoC
 use Rattle.ir_core.specs.declared.board.Board.{Board}
 use Rattle.ir_core.specs.declared.packet.Held.{Held}
 use Rattle.ir_core.specs.declared.event.Verdict.{Verdict}
-use Rattle.ir_core.specs.Journey.{Journey}
+use Rattle.ir_core.specs.declared.event.Ruling.{Ruling}
+use Rattle.ir_core.specs.Journey.{Journey, stamp_of}
 use Rattle.ir_core.specs.Board.{opening_board, is_up, marked, retired_below, installed}
 use Rattle.ir_core.specs.Setting.{Setting, nodes_of, links_of, channel_of, into}
-use Rattle.ir_core.specs.Entry.{Entry, DidInject, DidLearn, DidTake, DidRead, DidAct, DidChange, DidInstall, judged, fresh}
+use Rattle.ir_core.specs.Entry.{Entry, DidInject, DidLearn, DidTake, DidRead, DidAct, DidChange, DidInstall, judged, restamp_by, fresh}
 use Rattle.ir_core.specs.History as history
 
 -- What an event is judged by.
@@ -68,10 +69,22 @@ is_full o s c = nat_le o.capacity (length (s.waiting c))
 abbrev pub is_full_towards : Setting → Sight → Hop → Bool
 is_full_towards o s h = is_full o s (into o h.node (Link h.link))
 
--- the verdict when u acts on this packet
-abbrev pub verdict_on : Setting → Sight → ℕ → Way → Journey → Verdict
-verdict_on o s u way r =
-    judged (plan_of o s.plans r.epoch) (board_at s (s.view u)) (is_full_towards o s) way u r.epoch r.dest
+-- the verdict of u on a packet of this epoch and destination
+abbrev pub verdict_on : Setting → Sight → ℕ → Way → ℕ → ℕ → Verdict
+verdict_on o s u way stamp dest =
+    judged (plan_of o s.plans stamp) (board_at s (s.view u)) (is_full_towards o s) way u stamp dest
+
+-- a restamped packet is judged once more, by its new epoch over the same board, as one from the inbox
+abbrev pub ruling_by : Setting → Sight → ℕ → ℕ → Verdict → Option ℕ → Ruling
+ruling_by o s u dest v None = record { restamp = None; verdict = v }
+ruling_by o s u dest v (Some e) = record { restamp = Some e; verdict = verdict_on o s u Inbox e dest }
+
+-- What u makes of a packet: it judges it by its present epoch, and restamps it with the current epoch of its board where
+-- that one is retired and the packet has had fewer restamps than the network allows.
+abbrev pub ruling_on : Setting → Sight → ℕ → Way → Journey → Ruling
+ruling_on o s u way r =
+    let v = verdict_on o s u way (stamp_of r) r.dest in
+    ruling_by o s u r.dest v (restamp_by (o.restamps - length r.restamps) (board_at s (s.view u)).current v)
 
 -- what an event comes to, or its first refusal
 abbrev pub injects : Setting → Sight → ℕ → ℕ → Result Entry Refused
@@ -104,7 +117,9 @@ reads o s u k =
 
 abbrev pub acts_on : Setting → Sight → ℕ → Option Held → Result Entry Refused
 acts_on o s u None = Err HandEmpty
-acts_on o s u (Some held) = Ok (DidAct u held.id held.way (verdict_on o s u held.way (record_at s held.id)))
+acts_on o s u (Some held) =
+    let ruling = ruling_on o s u held.way (record_at s held.id) in
+    Ok (DidAct u held.id held.way ruling.restamp ruling.verdict)
 
 abbrev pub acts : Setting → Sight → ℕ → Result Entry Refused
 acts o s u = if not (nat_lt u (nodes_of o)) then Err NoNode else acts_on o s u (s.hand u)

@@ -1,5 +1,5 @@
 -- What the steps of a drain leave, and how far a drain is from its end.
-use Rattle.std.specs.Prelude.{◌≡◌, ◌≢◌, ℕ, zero, suc, ◌+◌, ◌-◌, ◌<◌, ◌≤◌, Bool, true, false, Option, Some, None, List, [], length, slice_get, slice_index_or}
+use Rattle.std.specs.Prelude.{◌≡◌, ◌≢◌, ℕ, zero, suc, ◌+◌, ◌-◌, ◌<◌, ◌≤◌, Bool, true, false, Option, Some, None, List, [], length, slice_get, slice_index, slice_index_or, nat_lt, if◌then◌else◌}
 use Rattle.std.specs.List.{sum_by}
 use Rattle.ir_model.specs.declared.Hop.{Hop}
 use Rattle.ir_model.specs.Network.{port_at}
@@ -8,12 +8,17 @@ use Rattle.ir_core.specs.declared.event.Way.TheVariants.{Inbox, Link}
 use Rattle.ir_core.specs.declared.packet.Held.{Held}
 use Rattle.ir_core.specs.declared.packet.Fate.{Fate}
 use Rattle.ir_core.specs.declared.packet.Fate.TheVariants.{Delivered, Retired, Down, Full, Left}
-use Rattle.ir_core.specs.Journey.{Journey}
+use Rattle.ir_core.specs.Journey.{Journey, present, stamp_of}
+use Rattle.ir_core.specs.Meaning.{newest_of}
 use Rattle.ir_core.specs.Setting.{Setting, nodes_of, channel_of}
 use Rattle.ir_core.specs.Entry.{Entry, fresh}
 use Rattle.ir_core.specs.State.{State, IsState, Place, Waits, InHand, Ended}
 use Rattle.ir_core.specs.Shows.{Shows}
 use Rattle.ir_core.specs.Drain.{acts_in, acts_of, IsDrained}
+
+-- how many hops a packet has made of its walk: none where its epoch is below the floor, since it may be restamped
+abbrev pub made_of : ℕ → Journey → ℕ
+made_of floor r = if nat_lt (stamp_of r) floor then 0 else length (present r).hops
 
 -- how many hops a packet may still make, of n nodes, when it made this many
 abbrev pub hops_left : ℕ → ℕ → Fate → ℕ
@@ -23,8 +28,8 @@ hops_left n made Retired = 0
 hops_left n made (Down l) = 0
 hops_left n made (Full l node) = 0
 
-abbrev pub travel : ℕ → Journey → ℕ
-travel n r = hops_left n (length r.hops) r.fate
+abbrev pub travel : ℕ → ℕ → Journey → ℕ
+travel n floor r = hops_left n (made_of floor r) r.fate
 
 -- a packet that came from an inbox has one more Act before it
 abbrev pub way_load : Way → ℕ
@@ -40,9 +45,12 @@ abbrev pub inbox_load : List (List ℕ) → List (Option Held) → ℕ → ℕ
 inbox_load channels hands zero = 0
 inbox_load channels hands (suc u) = inbox_load channels hands u + (length (slice_index_or channels u []) + held_load (slice_index_or hands u None))
 
--- how many Acts there can still be
+abbrev pub floor_of : State → ℕ
+floor_of s = (newest_of s.boards).floor
+
+-- how many Acts there can still be, by nodes that read the newest board
 abbrev pub weight : State → ℕ
-weight s = sum_by (travel (nodes_of s.opening)) s.records + inbox_load s.channels s.hands (nodes_of s.opening)
+weight s = sum_by (travel (nodes_of s.opening) (floor_of s)) s.records + inbox_load s.channels s.hands (nodes_of s.opening)
 
 -- whether there were Acts between two histories
 abbrev pub CountsActs : Bool → List Entry → List Entry → Type 0
@@ -54,6 +62,7 @@ pub record SamePackets (s new : State) : Type 0 where
   pub hands : new.hands ≡ s.hands
   pub channels : new.channels ≡ s.channels
   pub records : new.records ≡ s.records
+  pub boards : new.boards ≡ s.boards
   pub opening : new.opening ≡ s.opening
 
 -- how many Acts a packet has before it at most, of n nodes, where it is and with this many hops
@@ -64,11 +73,11 @@ acts_ahead n (InHand u Inbox) made = n
 acts_ahead n (InHand u (Link l)) made = n - made
 acts_ahead n Ended made = 0
 
-abbrev pub hops_made : List Journey → ℕ → ℕ
-hops_made records id = length (slice_index_or records id (fresh id 0 0 0)).hops
+abbrev pub hops_made : ℕ → List Journey → ℕ → ℕ
+hops_made floor records id = made_of floor (slice_index_or records id (fresh id 0 0 0))
 
 abbrev pub before : (s : State) → IsState s → ℕ → ℕ
-before s ok id = acts_ahead (nodes_of s.opening) (ok.place id) (hops_made s.records id)
+before s ok id = acts_ahead (nodes_of s.opening) (ok.place id) (hops_made (floor_of s) s.records id)
 
 -- each Act on a packet takes from what it has before it
 abbrev pub TakesFromBefore : (List Entry → List Entry) → (s : State) → IsState s → (new : State) → Type 0
@@ -82,10 +91,15 @@ pub record Moves (after : List Entry → List Entry) (acted : Bool) (s new : Sta
   pub falls : acted ≡ true → weight new < weight s
   pub stays : acted ≡ false → SamePackets s new
   pub opening : new.opening ≡ s.opening
+  pub boards : new.boards ≡ s.boards
   pub few : (ok : IsState s) → TakesFromBefore after s ok new
 
 abbrev pub IsHandEmpty : State → ℕ → Type 0
 IsHandEmpty s u = slice_index_or s.hands u None ≡ None
+
+-- the node's view is the newest board
+abbrev pub IsUpToDate : State → ℕ → Type 0
+IsUpToDate s u = slice_index s.views u ≡ length s.boards - 1
 
 -- the channel of this way is empty
 abbrev pub IsEmptyAt : State → ℕ → Way → Type 0

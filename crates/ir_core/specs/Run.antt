@@ -10,7 +10,8 @@ use Rattle.ir_core.specs.Entry.{Entry}
 use Rattle.ir_core.specs.History as history
 use Rattle.ir_core.specs.State.{State}
 use Rattle.ir_core.specs.Shows.{Shows, IsAnswered}
-use Rattle.ir_core.specs.Sound.{AllSound}
+use Rattle.ir_core.specs.Plain.{HasNoRestamp}
+use Rattle.ir_core.specs.Sound.{AllSound, AllOfOneEpoch}
 use Rattle.ir_core.specs.Drain.{IsDrained}
 
 -- the reply to a step after a history, and the later history
@@ -31,10 +32,13 @@ IsRun o log (s ∷ steps) (reply ∷ replies) later =
     (mid : List Entry) × IsStepAnswered o log s reply mid × IsRun o mid steps replies later
 
 -- A world was played to from the empty history: by these steps with these replies. It is the world of that history,
--- in which every record is sound, and no packet is concerned after its end.
+-- in which every record is sound, and no packet is concerned after its end. Where no restamp is allowed, no Act has one,
+-- and every record is of one epoch.
 pub record IsPlayed (o : Setting) (steps : List Step) (replies : List (Result Reply Refused)) (s : State) : Type 0 where
   pub log : List Entry
   pub run : IsRun o [] steps replies log
   pub shows : Shows log s
   pub sound : AllSound o log
   pub ends_once : history.NothingAfterTheEnd log
+  pub never_restamped : o.restamps ≡ 0 → HasNoRestamp log
+  pub without_restamps : o.restamps ≡ 0 → AllOfOneEpoch o log

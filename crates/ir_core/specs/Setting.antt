@@ -5,16 +5,18 @@ use Rattle.ir_model.specs.declared.Hop.{Hop}
 use Rattle.ir_model.specs.declared.Kind.TheVariants.{Tree}
 use Rattle.ir_model.specs.Network.{Network, node_count, port_at, IsNetwork}
 use Rattle.ir_model.specs.Scheme.{Scheme, IsScheme}
-use Rattle.ir_core.specs.declared.TheConstants.{MAX_NODES, MAX_LINKS, MAX_CAPACITY, MAX_PACKETS}
+use Rattle.ir_core.specs.declared.TheConstants.{MAX_NODES, MAX_LINKS, MAX_CAPACITY, MAX_PACKETS, MAX_RESTAMPS}
 use Rattle.ir_core.specs.declared.event.Way.{Way}
 use Rattle.ir_core.specs.declared.event.Way.TheVariants.{Inbox, Link}
 
--- A network, the scheme of its first epoch, the capacity of each channel, and the most packets.
+-- A network, the scheme of its first epoch, the capacity of each channel, the most packets, and the most restamps of a
+-- packet.
 pub record Setting : Type 0 where
   pub network : Network
   pub first : Scheme
   pub capacity : ℕ
   pub max_packets : ℕ
+  pub restamps : ℕ
 
 -- the scheme that stands where there is none
 abbrev pub no_scheme : Scheme
@@ -61,5 +63,6 @@ pub record IsSetting (o : Setting) : Type 0 where
   pub capacity : o.capacity ≤ MAX_CAPACITY
   pub some_packets : 0 < o.max_packets
   pub max_packets : o.max_packets ≤ MAX_PACKETS
+  pub restamps : o.restamps ≤ MAX_RESTAMPS
   pub network : IsNetwork o.network
   pub first : IsPlanFor o o.first

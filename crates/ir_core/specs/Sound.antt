@@ -1,12 +1,15 @@
--- What makes a packet's record sound: it follows the walk that the full table of its one epoch prescribes.
-use Rattle.std.specs.Prelude.{◌≡◌, ℕ, ◌<◌, ◌≤◌, List, [], ◌∷◌, ◌++◌, length, Some}
+-- What makes a packet's record sound: each of its segments follows the walk that the full table of its one epoch
+-- prescribes.
+use Rattle.std.specs.Prelude.{◌≡◌, ℕ, ◌<◌, ◌≤◌, List, [], ◌∷◌, ◌++◌, length, reverse, Some}
+use Rattle.std.specs.List.{AllByRecursion}
 use Rattle.ir_model.specs.declared.Hop.{Hop}
 use Rattle.ir_model.specs.declared.Kind.{Kind}
-use Rattle.ir_model.specs.declared.Kind.TheVariants.{Tree, Shortest}
+use Rattle.ir_model.specs.declared.Kind.TheVariants.{Tree, Shortest, Compact}
 use Rattle.ir_model.specs.Walk.{walk_weight, IsDistance}
 use Rattle.ir_model.specs.Table.{IsPrescribedWalk}
 use Rattle.ir_model.specs.Scheme.{Scheme, next_hop, table_port, IsScheme}
-use Rattle.ir_core.specs.Journey.{Journey}
+use Rattle.ir_core.specs.Journey.{Journey, segments, joined}
+use Rattle.ir_core.specs.declared.packet.Restamp.{Restamp}
 use Rattle.ir_core.specs.declared.packet.Fate.{Fate}
 use Rattle.ir_core.specs.declared.packet.Fate.TheVariants.{Delivered, Retired, Down, Full, Left}
 use Rattle.ir_core.specs.Setting.{Setting}
@@ -30,9 +33,10 @@ LeadsOn t r link node = (h : Hop) × (next_hop t (last_of r.hops) r.dest ≡ Som
 abbrev pub GoesOnAlong : Scheme → Journey → List ℕ → ℕ → ℕ → Type 0
 GoesOnAlong t r walk link node = IsPrefixOf (r.hops ++ node ∷ []) walk × LeadsOn t r link node
 
--- with kind Shortest, the hops weigh the distance from the source to the destination
+-- with a kind of shortest ways, the hops weigh the distance from the source to the destination
 abbrev pub WeighsTheDistance : Kind → Scheme → Journey → Type 0
 WeighsTheDistance Shortest t r = IsDistance t.network r.source r.dest (walk_weight t.network r.hops)
+WeighsTheDistance Compact t r = IsDistance t.network r.source r.dest (walk_weight t.network r.hops)
 WeighsTheDistance Tree t r = Unit {0}
 
 -- what a fate says of the hops and of the prescribed walk
@@ -43,8 +47,8 @@ FateFits t r walk (Down l) = (node : ℕ) × GoesOnAlong t r walk l node
 FateFits t r walk (Full l node) = GoesOnAlong t r walk l node
 FateFits t r walk Left = Unit {0}
 
--- A record is sound by the scheme of its epoch: its hops are a prefix of the prescribed walk, not empty, and its fate
--- fits.
+-- A journey of one epoch is sound by the scheme of that epoch: its hops are a prefix of the prescribed walk, not empty,
+-- and its fate fits.
 pub record IsSound (t : Scheme) (r : Journey) : Type 0 where
   pub scheme : IsScheme t
   pub walk : List ℕ
@@ -53,12 +57,44 @@ pub record IsSound (t : Scheme) (r : Journey) : Type 0 where
   pub follows : IsPrefixOf r.hops walk
   pub fate : FateFits t r walk r.fate
 
--- The record's stamp is an epoch that was installed, and the record is sound by its scheme.
+-- Its stamp is an epoch that was installed, and it is sound by that epoch's scheme.
 pub record IsSoundAmong (o : Setting) (plans : List Scheme) (r : Journey) : Type 0 where
   pub epoch_above : 0 < r.epoch
   pub epoch_in : r.epoch ≤ length plans
   pub sound : IsSound (plan_of o plans r.epoch) r
 
+-- the epochs rise from segment to segment; the latest segment stands first
+abbrev pub AreRising : List Journey → Type 0
+AreRising [] = Unit {0}
+AreRising (g ∷ []) = Unit {0}
+AreRising (g ∷ h ∷ rest) = (h.epoch < g.epoch) × AreRising (h ∷ rest)
+
+-- each segment begins where the one before it ended
+abbrev pub AreLinked : List Journey → Type 0
+AreLinked [] = Unit {0}
+AreLinked (g ∷ []) = Unit {0}
+AreLinked (g ∷ h ∷ rest) = (g.source ≡ last_of h.hops) × AreLinked (h ∷ rest)
+
+-- the places of restamps, the latest first: below this number, and each before the one that followed it
+abbrev pub ArePlaces : ℕ → List Restamp → Type 0
+ArePlaces n [] = Unit {0}
+ArePlaces n (s ∷ older) = (s.from < n) × ArePlaces s.from older
+
+-- A record is sound: it has at most as many restamps as the network allows, each at a place of its own in the hops. Its
+-- hops are its segments joined end to end, each of which begins where the one before it ended; their epochs rise, and
+-- each segment is sound, the last of them with the record's fate.
+pub record IsSoundJourney (o : Setting) (plans : List Scheme) (r : Journey) : Type 0 where
+  pub few : length r.restamps ≤ o.restamps
+  pub places : ArePlaces (length r.hops) (reverse r.restamps)
+  pub joined : joined (segments r) ≡ r.hops
+  pub linked : AreLinked (segments r)
+  pub rising : AreRising (segments r)
+  pub each : AllByRecursion (IsSoundAmong o plans) (segments r)
+
 -- Every record of a history is sound.
 abbrev pub AllSound : Setting → List Entry → Type 0
-AllSound o log = (id : ℕ) (r : Journey) → history.packet id log ≡ Some r → IsSoundAmong o (history.plans o log) r
+AllSound o log = (id : ℕ) (r : Journey) → history.packet id log ≡ Some r → IsSoundJourney o (history.plans o log) r
+
+-- Where a network allows no restamp, every record of a history is a journey of one epoch, and sound as one.
+abbrev pub AllOfOneEpoch : Setting → List Entry → Type 0
+AllOfOneEpoch o log = (id : ℕ) (r : Journey) → history.packet id log ≡ Some r → (r.restamps ≡ []) × IsSoundAmong o (history.plans o log) r

@@ -1,5 +1,6 @@
 -- The machine below the histories: a world as lists, its step, and what is true of every world.
-use Rattle.std.specs.Prelude.{◌≡◌, ◌≢◌, ℕ, ◌+◌, ◌*◌, ◌<◌, ◌≤◌, max, false, Option, Some, None, List, [], ◌∷◌, ◌++◌, drop, length, slice_get, slice_index, slice_index_or, slice_set, Result, Ok, Err}
+use Rattle.std.specs.Prelude.{◌≡◌, ◌≢◌, ℕ, ◌+◌, ◌*◌, ◌<◌, ◌≤◌, max, false, Option, Some, None, List, [], ◌∷◌, ◌++◌, drop, length, reverse, slice_get, slice_index, slice_index_or, slice_set, Result, Ok, Err}
+use Rattle.std.specs.List.{AllByRecursion}
 use Rattle.ir_model.specs.declared.Hop.{Hop}
 use Rattle.ir_model.specs.Scheme.{Scheme, next_hop}
 use Rattle.ir_core.specs.declared.TheConstants.{MAX_EPOCHS, MAX_CHANGES}
@@ -8,16 +9,17 @@ use Rattle.ir_core.specs.declared.event.Refused.{Refused}
 use Rattle.ir_core.specs.declared.event.Way.{Way}
 use Rattle.ir_core.specs.declared.event.Way.TheVariants.{Inbox, Link}
 use Rattle.ir_core.specs.declared.board.Board.{Board}
-use Rattle.ir_core.specs.Journey.{Journey}
+use Rattle.ir_core.specs.Journey.{Journey, segments, present, stamp_of}
 use Rattle.ir_core.specs.declared.packet.Held.{Held}
 use Rattle.ir_core.specs.declared.packet.Fate.{Fate}
 use Rattle.ir_core.specs.declared.packet.Fate.TheVariants.{Delivered, Retired, Down, Full, Left}
 use Rattle.ir_core.specs.declared.event.Verdict.{Verdict}
 use Rattle.ir_core.specs.declared.event.Verdict.TheVariants.{CameByDown, BelowFloor, Arrives, LeavesByDown, NoRoom, GoesOn}
 use Rattle.ir_core.specs.Setting.{Setting, IsSetting, IsPlanFor, nodes_of, links_of, channel_of, into}
-use Rattle.ir_core.specs.Entry.{Entry, DidInject, DidLearn, DidTake, DidRead, DidAct, DidChange, DidInstall, acted, fresh, reply_of, judged}
-use Rattle.ir_core.specs.Meaning.{Sight, newest_of, plan_of, record_at, board_at}
-use Rattle.ir_core.specs.Sound.{LeadsOn, last_of}
+use Rattle.ir_core.specs.Entry.{Entry, DidInject, DidLearn, DidTake, DidRead, DidAct, DidChange, DidInstall, ruled, fresh, reply_of, judged}
+use Rattle.ir_core.specs.Board.{opening_board}
+use Rattle.ir_core.specs.Meaning.{Sight, newest_of, plan_of, board_at}
+use Rattle.ir_core.specs.Sound.{LeadsOn, last_of, AreRising, ArePlaces}
 
 -- A world as contracts see it.
 pub record State : Type 0 where
@@ -64,11 +66,11 @@ after s (DidLearn e) = record s { learnt = max s.learnt e }
 after s (DidTake u way id) =
     record s { channels = taken_from s.channels (into s.opening u way); hands = slice_set s.hands u (Some (record { id = id; way = way })) }
 after s (DidRead u k) = record s { views = slice_set s.views u k }
-after s (DidAct u id way v) =
+after s (DidAct u id way restamp v) =
     record s {
       hands = slice_set s.hands u None;
       channels = sent_on s.opening s.channels v id;
-      records = slice_set s.records id (acted u way v (slice_index_or s.records id (fresh id 0 0 0)));
+      records = slice_set s.records id (ruled u way restamp v (slice_index_or s.records id (fresh id 0 0 0)));
     }
 after s (DidChange b) = record s { boards = s.boards ++ b ∷ [] }
 after s (DidInstall e t b) = record s { boards = s.boards ++ b ∷ []; plans = s.plans ++ t ∷ [] }
@@ -107,15 +109,36 @@ FitsPlace t r (Waits u way) = (r.fate ≡ Left) × IsDue t r u way
 FitsPlace t r (InHand u way) = (r.fate ≡ Left) × IsDue t r u way
 FitsPlace t r Ended = (r.fate ≢ Left) × EndFits t r r.fate
 
--- a packet's record is right, and fits the place where the packet is
+-- a journey of one epoch follows that epoch's table from its source
+pub record IsStretch (o : Setting) (plans : List Scheme) (g : Journey) : Type 0 where
+  pub source_in : g.source < (nodes_of o)
+  pub dest_in : g.dest < (nodes_of o)
+  pub epoch_above : 0 < g.epoch
+  pub epoch_in : g.epoch ≤ length plans
+  pub begins : slice_get g.hops 0 ≡ Some g.source
+  pub follows : IsBeginning (plan_of o plans g.epoch) g.dest g.hops
+
+-- a packet that comes from an inbox has had no restamp
+abbrev pub IsNew : Journey → Place → Type 0
+IsNew r (Waits u Inbox) = r.restamps ≡ []
+IsNew r (Waits u (Link l)) = Unit {0}
+IsNew r (InHand u Inbox) = r.restamps ≡ []
+IsNew r (InHand u (Link l)) = Unit {0}
+IsNew r Ended = Unit {0}
+
+-- A packet's record is right: its segments follow the tables of their epochs, which rise, and each restamp stands at a
+-- place of its own.
+pub record IsRouted (o : Setting) (plans : List Scheme) (r : Journey) : Type 0 where
+  pub few : length r.restamps ≤ o.restamps
+  pub places : ArePlaces (length r.hops) (reverse r.restamps)
+  pub rising : AreRising (segments r)
+  pub each : AllByRecursion (IsStretch o plans) (segments r)
+
+-- and its present segment fits the place where the packet is
 pub record IsPacket (o : Setting) (plans : List Scheme) (r : Journey) (place : Place) : Type 0 where
-  pub source_in : r.source < (nodes_of o)
-  pub dest_in : r.dest < (nodes_of o)
-  pub epoch_above : 0 < r.epoch
-  pub epoch_in : r.epoch ≤ length plans
-  pub begins : slice_get r.hops 0 ≡ Some r.source
-  pub follows : IsBeginning (plan_of o plans r.epoch) r.dest r.hops
-  pub fits : FitsPlace (plan_of o plans r.epoch) r place
+  pub routed : IsRouted o plans r
+  pub fits : FitsPlace (plan_of o plans (stamp_of r)) (present r) place
+  pub is_new : IsNew r place
 
 -- each packet stands in one place, at most once
 pub record ArePlaced (o : Setting) (plans : List Scheme) (hands : List (Option Held)) (channels : List (List ℕ)) (records : List Journey) (place : ℕ → Place) : Type 0 where
@@ -127,6 +150,11 @@ pub record ArePlaced (o : Setting) (plans : List Scheme) (hands : List (Option H
   pub rests : (id u : ℕ) (way : Way) → place id ≡ InHand u way → slice_index_or hands u None ≡ Some (record { id = id; way = way })
   pub held : (u : ℕ) (h : Held) → slice_index_or hands u None ≡ Some h → (h.id < length records) × (place h.id ≡ InHand u h.way)
 
+-- a board's current epoch is one that there is, and live
+pub record IsBoard (epochs : ℕ) (b : Board) : Type 0 where
+  pub live : b.floor ≤ b.current
+  pub current : b.current ≤ epochs
+
 -- versions count up, and the newest board speaks of the epochs that there are
 pub record AreBoards (boards : List Board) (epochs : ℕ) : Type 0 where
   pub some : 0 < length boards
@@ -134,6 +162,7 @@ pub record AreBoards (boards : List Board) (epochs : ℕ) : Type 0 where
   pub few : (newest_of boards).version ≤ MAX_CHANGES
   pub current : (newest_of boards).current ≡ epochs
   pub floor : (newest_of boards).floor ≤ epochs
+  pub each : (k : ℕ) → IsBoard epochs (slice_index_or boards k opening_board)
 
 pub record ArePlans (o : Setting) (plans : List Scheme) : Type 0 where
   pub some : 0 < length plans
@@ -159,11 +188,10 @@ abbrev pub IsAnswer : State → State → Result Entry Refused → Result Reply 
 IsAnswer old new (Ok entry) result = (result ≡ Ok (reply_of entry)) × (new ≡ after old entry)
 IsAnswer old new (Err e) result = (result ≡ Err e) × (new ≡ old)
 
--- the verdict on the packet in a node's hand, where each channel has room
-abbrev pub open_verdict_on : State → ℕ → Held → Verdict
-open_verdict_on s u held =
-    let r = record_at (sight_in s) held.id in
-    judged (plan_of s.opening s.plans r.epoch) (board_at (sight_in s) (slice_index s.views u)) (λ _. false) held.way u r.epoch r.dest
+-- the verdict of a node on a packet of this epoch and destination, where each channel has room
+abbrev pub open_verdict_on : State → ℕ → Way → ℕ → ℕ → Verdict
+open_verdict_on s u way stamp dest =
+    judged (plan_of s.opening s.plans stamp) (board_at (sight_in s) (slice_index s.views u)) (λ _. false) way u stamp dest
 
 -- a packet that goes on leads into a channel
 abbrev pub LeadsIn : State → Verdict → Type 0

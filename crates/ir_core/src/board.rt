@@ -1,6 +1,7 @@
-ghost use Rattle.std.specs.Prelude.{◌≡◌, ◌<◌};
+ghost use Rattle.std.specs.Prelude.{◌≡◌, ◌<◌, ◌≤◌, IfOk, length, take};
 
-use crate::MAX_LINKS;
+use crate::marks::Marks;
+use std::alloc::{AllocError, Global};
 
 /// The published board of one version: which epochs are live, and which links are up.
 #[derive(Clone, Copy, Debug, PartialEq, Eq)]
@@ -8,7 +9,7 @@ pub struct Board {
     version: u32,
     current: u32,
     floor: u32,
-    up: [bool; MAX_LINKS],
+    up: Marks,
 }
 
 impl Board {
@@ -23,7 +24,7 @@ impl Board {
             version: 0,
             current: 1,
             floor: 1,
-            up: [true; MAX_LINKS],
+            up: Marks::all_up(),
         }
     }
 
@@ -52,18 +53,16 @@ impl Board {
     pub fn is_up(&self, link: u16) -> bool
         ensures { result ≡ is_up self.now link }
     {
-        if (link as usize) < MAX_LINKS {
-            self.up[link as usize]
-        } else {
-            true
-        }
+        self.up.is_up(link as usize)
     }
 
-    /// A mark for each link number, up or down: `MAX_LINKS` in all.
-    pub fn marks(&self) -> &[bool]
-        ensures { result.now ≡ self.now.up }
+    /// A mark for each of the first links, up or down.
+    pub fn marks(&self, alloc: Global, links: usize) -> Result<Vec<bool>, AllocError>
+        requires { links ≤ MAX_LINKS }
+        ensures marks { IfOk result (λ v. v.items ≡ take links self.now.up) }
+        ensures count { IfOk result (λ v. length v.items ≡ links) }
     {
-        &self.up
+        self.up.first(alloc, links)
     }
 
     /// The next board, with one link marked up or down.
@@ -74,7 +73,7 @@ impl Board {
     {
         let mut next = *self;
         next.version += 1;
-        next.up[link as usize] = up;
+        next.up.mark(link as usize, up);
         next
     }
 

@@ -4,7 +4,7 @@ ghost use Rattle.ir_core.specs.Setting.{nodes_of, channel_of};
 ghost use Rattle.ir_core.specs.Entry.{Entry};
 ghost use Rattle.ir_core.specs.Shows.{Shows};
 ghost use Rattle.ir_core.specs.Drain.{after_read, after_act, after_way, after_ports, after_visit, after_round};
-ghost use Rattle.ir_core.specs.Quiet.{IsHandEmpty, IsEmptyAt, ArePortsEmpty, IsQuietAt, IsQuiet, IsNoneLeft, Moves, ShowsDrained};
+ghost use Rattle.ir_core.specs.Quiet.{IsHandEmpty, IsUpToDate, IsEmptyAt, ArePortsEmpty, IsQuietAt, IsQuiet, IsNoneLeft, Moves, ShowsDrained};
 
 use crate::event::Way;
 use crate::world::World;
@@ -60,6 +60,7 @@ impl World {
     fn try_ports(&mut self, node: u16) -> bool
         requires node_in { node < nodes_of self.old.opening }
         requires hand { IsHandEmpty self.old node }
+        requires view { IsUpToDate self.old node }
         ensures moves { Moves (after_ports self.old.opening node (ports_of self.old.opening.network node)) result self.old self.new }
         ensures idle { result ≡ false → ArePortsEmpty self.new node }
     {
@@ -79,9 +80,11 @@ impl World {
         requires node_in { node < nodes_of self.old.opening }
         requires channel { (c : ℕ) × (channel_of self.old.opening node way ≡ Some c) }
         requires hand { IsHandEmpty self.old node }
+        requires view { IsUpToDate self.old node }
         ensures moves { Moves (after_way self.old.opening node way) result self.old self.new }
         ensures idle { result ≡ false → IsEmptyAt self.new node way }
         ensures hand { IsHandEmpty self.new node }
+        ensures view { IsUpToDate self.new node }
     {
         let _nodes = self.nodes();
         let _ = self.take(node, way);
@@ -90,10 +93,12 @@ impl World {
 
     /// A node acts on what it holds, if it holds a packet; tells whether it did.
     fn try_act(&mut self, node: u16) -> bool
-        requires { node < nodes_of self.old.opening }
+        requires node_in { node < nodes_of self.old.opening }
+        requires view { IsUpToDate self.old node }
         ensures moves { Moves (after_act self.old.opening node) result self.old self.new }
         ensures idle { result ≡ false → (self.new ≡ self.old) × IsHandEmpty self.old node }
         ensures hand { IsHandEmpty self.new node }
+        ensures view { IsUpToDate self.new node }
     {
         let _nodes = self.nodes();
         self.act(node).is_ok()
@@ -102,7 +107,8 @@ impl World {
     /// A node reads the newest version of the board.
     fn read_newest(&mut self, node: u16)
         requires { node < nodes_of self.old.opening }
-        ensures { Moves (after_read self.old.opening node) false self.old self.new }
+        ensures moves { Moves (after_read self.old.opening node) false self.old self.new }
+        ensures view { IsUpToDate self.new node }
     {
         let _nodes = self.nodes();
         let version = self.board_versions().len() - 1;

@@ -1,4 +1,5 @@
 use ir_model::{Hop, Kind};
+use thiserror::Error;
 
 /// Where a node takes a packet from: its inbox, or a link by number.
 #[derive(Clone, Copy, Debug, PartialEq, Eq)]
@@ -54,24 +55,40 @@ pub enum Reply {
 }
 
 /// Why an event was refused.
-#[derive(Clone, Copy, Debug, PartialEq, Eq)]
+#[derive(Clone, Copy, Debug, PartialEq, Eq, Error)]
 pub enum Refused {
+    #[error("no such node")]
     NoNode,
+    #[error("no such link")]
     NoLink,
+    #[error("no such channel")]
     NoChannel,
+    #[error("no such epoch")]
     NoEpoch,
+    #[error("the hand holds a packet")]
     HandFull,
+    #[error("the hand is empty")]
     HandEmpty,
+    #[error("the channel is empty")]
     Empty,
+    #[error("no such version, or one before the view")]
     BadView,
+    #[error("the board says so already")]
     Same,
+    #[error("no epoch is left")]
     EpochsFull,
+    #[error("some node has no walk to some node")]
     Disconnected,
+    #[error("too many packets")]
     TooManyPackets,
+    #[error("out of memory")]
     NoMemory,
+    #[error("the inbox is full")]
     InboxFull,
+    #[error("too many changes of the board")]
     TooManyChanges,
     /// From a live run alone: a fresh cell of the registry refused its plan.
+    #[error("a fresh cell refused its plan")]
     Used,
 }
 
@@ -105,17 +122,22 @@ impl Refused {
 }
 
 /// Why no world was opened.
-#[derive(Clone, Copy, Debug, PartialEq, Eq)]
+#[derive(Clone, Copy, Debug, PartialEq, Eq, Error)]
 pub enum OpenError {
     /// The root is no node.
+    #[error("the root is no node")]
     NoNode,
     /// The topology has no node.
+    #[error("the topology has no node")]
     Empty,
     /// Some node has no walk to some node.
+    #[error("some node has no walk to some node")]
     Disconnected,
-    /// Too many nodes or links, or a capacity or a number of packets that is 0 or too great.
+    /// Too many nodes, links or restamps, or a capacity or a number of packets that is 0 or too great.
+    #[error("a number is out of its range")]
     TooLarge,
     /// A growth was refused.
+    #[error("out of memory")]
     NoMemory,
 }
 
@@ -143,6 +165,8 @@ pub enum Action {
     Deliver,
     /// Sends it over this port.
     Send(u16),
+    /// Gives it the board's current epoch, and decides once more over the same board.
+    Restamp,
     DropRetired,
     /// Drops it since this link is down.
     DropDown(u16),
@@ -163,4 +187,11 @@ pub enum Verdict {
     NoRoom(Hop),
     /// It is sent.
     GoesOn(Hop),
+}
+
+/// What a node makes of a packet that it acts on: the epoch that it restamps it with, if it does, and what comes of it.
+#[derive(Clone, Copy, Debug, PartialEq, Eq)]
+pub struct Ruling {
+    pub restamp: Option<u32>,
+    pub verdict: Verdict,
 }

@@ -5,8 +5,11 @@
 #![tactic(auto)]
 
 mod board;
+mod built;
 mod drain;
 mod event;
+mod laws;
+mod marks;
 mod packet;
 mod queue;
 mod run;
@@ -14,18 +17,26 @@ mod verdict;
 mod world;
 
 pub use board::Board;
-pub use event::{Action, Event, OpenError, Refused, Reply, Step, Verdict, Way};
+pub use built::{Install, installs};
+pub use event::{Action, Event, OpenError, Refused, Reply, Ruling, Step, Verdict, Way};
 pub use ir_model::{Hop, Kind};
-pub use packet::{Fate, Held, Record};
+pub use laws::{epochs_of_installs, without_restamps};
+pub use packet::{Fate, Held, Record, Restamp};
 pub use run::{Opening, Played, play};
-pub use verdict::decide;
+pub use verdict::{decide, judge};
 pub use world::World;
 
 /// The most nodes of a network.
-pub const MAX_NODES: usize = 64;
+pub const MAX_NODES: usize = 256;
 
 /// The most links of a network.
-pub const MAX_LINKS: usize = 256;
+pub const MAX_LINKS: usize = 1_024;
+
+/// The most restamps of a packet that a network may allow.
+pub const MAX_RESTAMPS: usize = 3;
+
+/// The most hops of a packet: a walk of each epoch, each but the first from the last hop of the one before.
+pub const MAX_HOPS: usize = (MAX_RESTAMPS + 1) * (MAX_NODES - 1) + 1;
 
 /// The most packets that a channel or an inbox holds.
 pub const MAX_CAPACITY: usize = 1_024;

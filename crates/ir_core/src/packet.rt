@@ -1,7 +1,7 @@
-ghost use Rattle.std.specs.Prelude.{◌≡◌, ℕ, ◌<◌, [], ◌∷◌, length, IfOk, OnOk};
+ghost use Rattle.std.specs.Prelude.{◌≡◌, ℕ, ◌<◌, [], ◌∷◌, ◌++◌, length, Some, IfOk, OnOk};
 
-use crate::MAX_NODES;
-use crate::event::{Verdict, Way};
+use crate::event::{Ruling, Verdict, Way};
+use crate::{MAX_HOPS, MAX_RESTAMPS};
 use std::alloc::{AllocError, Global};
 use std::marker::Model;
 
@@ -19,8 +19,15 @@ pub enum Fate {
     Left,
 }
 
-/// A packet's record. Its hops begin with the source, and have room for all hops that a packet can have: for as many
-/// nodes as a network has at most.
+/// A new stamp of a packet on its way: its epoch, and the place in the hops at which the new segment begins.
+#[derive(Clone, Copy, Debug, PartialEq, Eq)]
+pub struct Restamp {
+    pub epoch: u32,
+    pub from: usize,
+}
+
+/// A packet's record. `epoch` is its first stamp; its hops begin with the source. The hops and the restamps have room for
+/// all that a packet can have.
 #[derive(Drop)]
 pub struct Record {
     pub id: u32,
@@ -28,6 +35,7 @@ pub struct Record {
     pub source: u16,
     pub dest: u16,
     pub hops: Vec<u16>,
+    pub restamps: Vec<Restamp>,
     pub fate: Fate,
 }
 
@@ -51,8 +59,9 @@ pub struct Held {
 }
 
 impl Record {
-    ghost use Rattle.ir_core.specs.declared.TheConstants.{MAX_NODES};
-    ghost use Rattle.ir_core.specs.Entry.{acted, fresh};
+    ghost use Rattle.ir_core.specs.declared.TheConstants.{MAX_HOPS, MAX_RESTAMPS};
+    ghost use Rattle.ir_core.specs.Journey.{stamp_of};
+    ghost use Rattle.ir_core.specs.Entry.{restamped, ruled, fresh};
 
     /// The record of a new packet.
     pub fn start(
@@ -64,7 +73,8 @@ impl Record {
     ) -> Result<Record, AllocError>
         ensures { IfOk result (λ r. r ≡ fresh id epoch source dest) }
     {
-        let mut hops = Vec::with_capacity(alloc, MAX_NODES)?;
+        let mut hops = Vec::with_capacity(alloc, MAX_HOPS)?;
+        let restamps = Vec::with_capacity(alloc, MAX_RESTAMPS)?;
         hops.push(source)?;
         Ok(Record {
             id,
@@ -72,28 +82,82 @@ impl Record {
             source,
             dest,
             hops,
+            restamps,
             fate: Fate::Left,
         })
     }
 
-    /// What an Act of a node leaves in the packet's record: the node as a hop, unless the packet was taken
-    /// from the inbox or dropped by the first two lines of the verdict, and the verdict's fate.
-    pub fn act(&mut self, node: u16, way: Way, verdict: Verdict)
-        requires { length self.old.hops < MAX_NODES }
-        ensures { self.new ≡ acted node way verdict self.old }
+    /// The present epoch: that of the last restamp, or else the first stamp.
+    pub fn stamp(&self) -> u32
+        ensures { result ≡ stamp_of self.now }
     {
-        if verdict.is_hop(way) {
-            match self.hops.push(node) {
-                Ok(()) => {}
-                Err(_) => unreachable!(),
-            }
+        match self.restamps.as_slice().last() {
+            None => self.epoch,
+            Some(restamp) => restamp.epoch,
         }
-        self.fate = verdict.fate();
+    }
+
+    /// How many restamps it has had.
+    pub fn restamp_count(&self) -> usize
+        ensures { result ≡ length self.now.restamps }
+    {
+        self.restamps.as_slice().len()
+    }
+
+    /// The node that it is sent to.
+    pub fn destination(&self) -> u16
+        ensures { result ≡ self.now.dest }
+    {
+        self.dest
+    }
+
+    /// What an Act of a node leaves in the packet's record: the node as a hop, unless the packet was taken from the inbox
+    /// or dropped by the first two lines of the verdict; the restamp, if it was restamped; and the verdict's fate.
+    pub fn act(&mut self, node: u16, way: Way, ruling: Ruling)
+        requires hops { length self.old.hops < MAX_HOPS }
+        requires restamps { (e : ℕ) → ruling.restamp ≡ Some e → length self.old.restamps < MAX_RESTAMPS }
+        ensures { self.new ≡ ruled node way ruling.restamp ruling.verdict self.old }
+    {
+        match ruling.restamp {
+            None => {
+                if ruling.verdict.is_hop(way) {
+                    self.visit(node);
+                }
+            }
+            Some(epoch) => self.restamp(node, way, epoch),
+        }
+        self.fate = ruling.verdict.fate();
+    }
+
+    /// The node as a hop, if the packet came by a link, and a new segment that begins there.
+    pub fn restamp(&mut self, node: u16, way: Way, epoch: u32)
+        requires hops { length self.old.hops < MAX_HOPS }
+        requires restamps { length self.old.restamps < MAX_RESTAMPS }
+        ensures { self.new ≡ restamped node way epoch self.old }
+    {
+        if let Way::Link(_) = way {
+            self.visit(node);
+        }
+        let from = self.hops.len().saturating_sub(1);
+        match self.restamps.push(Restamp { epoch, from }) {
+            Ok(()) => {}
+            Err(_) => unreachable!(),
+        }
+    }
+
+    fn visit(&mut self, node: u16)
+        requires { length self.old.hops < MAX_HOPS }
+        ensures { self.new ≡ record self.old { hops = self.old.hops ++ node ∷ [] } }
+    {
+        match self.hops.push(node) {
+            Ok(()) => {}
+            Err(_) => unreachable!(),
+        }
     }
 }
 
 impl Verdict {
-    ghost use Rattle.ir_core.specs.Entry.{fate_of, is_hop};
+    ghost use Rattle.ir_core.specs.Entry.{fate_of, is_hop, restamp_by};
 
     /// Whether the node becomes a hop of the packet that it took by this way.
     pub fn is_hop(&self, way: Way) -> bool
@@ -102,6 +166,16 @@ impl Verdict {
         match way {
             Way::Inbox => false,
             Way::Link(_) => !matches!(self, Verdict::CameByDown(_) | Verdict::BelowFloor),
+        }
+    }
+
+    /// The epoch that the packet is restamped with: the current one, where its own is retired and restamps are left.
+    pub fn restamp(&self, left: usize, current: u32) -> Option<u32>
+        ensures { result ≡ restamp_by left current self.now }
+    {
+        match self {
+            Verdict::BelowFloor if left > 0 => Some(current),
+            _ => None,
         }
     }
 

@@ -1,47 +1,35 @@
 ghost use Rattle.std.specs.Prelude.{◌≡◌, ℕ, ◌<◌, List, [], ◌∷◌, ◌++◌, length, drop, IfOk, slice_get};
 
-use crate::MAX_CAPACITY;
 use std::alloc::{AllocError, Global};
 use std::collections::VecDeque;
-use std::marker::Model;
 
-/// The packets in a channel by their ids, first in first out, with room for the greatest capacity.
+/// The packets in a channel by their ids, first in first out, with room for a number of them that never changes.
 #[derive(Drop)]
 pub struct Queue {
     ids: VecDeque<u32>,
 }
 
-impl Model for Queue {
-    ghost use Rattle.std.specs.Prelude.{ℕ, List, ◌≤◌};
-    ghost use Rattle.std.specs.VecDeque.{deque_capacity};
-    ghost use Rattle.ir_core.specs.declared.TheConstants.{MAX_CAPACITY};
-
-    ghost Value = { List ℕ };
-
-    ghost view = { λ q. q.ids.items };
-
-    ghost invariant = { λ q. MAX_CAPACITY ≤ deque_capacity q.ids };
-}
-
 impl Queue {
-    ghost use Rattle.ir_core.specs.declared.TheConstants.{MAX_CAPACITY};
+    ghost use Rattle.ir_core.specs.Queue.{ids_of, room_of};
 
-    pub fn new(alloc: Global) -> Result<Queue, AllocError>
-        ensures { IfOk result (λ q. q ≡ []) }
+    pub fn new(alloc: Global, room: usize) -> Result<Queue, AllocError>
+        ensures ids { IfOk result (λ q. ids_of q ≡ []) }
+        ensures room { IfOk result (λ q. room_of q ≡ room) }
     {
-        let ids = VecDeque::with_capacity(alloc, MAX_CAPACITY)?;
+        let ids = VecDeque::with_capacity(alloc, room)?;
         Ok(Queue { ids })
     }
 
     pub fn len(&self) -> usize
-        ensures { result ≡ length self.now }
+        ensures { result ≡ length (ids_of self.now) }
     {
         self.ids.len()
     }
 
     pub fn push(&mut self, id: u32)
-        requires { length self.old < MAX_CAPACITY }
-        ensures { self.new ≡ self.old ++ id ∷ [] }
+        requires { length (ids_of self.old) < room_of self.old }
+        ensures ids { ids_of self.new ≡ ids_of self.old ++ id ∷ [] }
+        ensures room { room_of self.new ≡ room_of self.old }
     {
         match self.ids.push_back(id) {
             Ok(()) => {}
@@ -50,14 +38,15 @@ impl Queue {
     }
 
     pub fn first(&self) -> Option<u32>
-        ensures { result ≡ slice_get self.now 0 }
+        ensures { result ≡ slice_get (ids_of self.now) 0 }
     {
         self.ids.front().copied()
     }
 
     pub fn pop(&mut self) -> Option<u32>
-        ensures first { result ≡ slice_get self.old 0 }
-        ensures rest { self.new ≡ drop 1 self.old }
+        ensures first { result ≡ slice_get (ids_of self.old) 0 }
+        ensures rest { ids_of self.new ≡ drop 1 (ids_of self.old) }
+        ensures room { room_of self.new ≡ room_of self.old }
     {
         self.ids.pop_front()
     }

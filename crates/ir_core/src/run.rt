@@ -9,7 +9,7 @@ use ir_tables::Topology;
 use std::alloc::Global;
 
 /// What a world is opened with: a topology, the kind and root of epoch 1's plan, the capacity of each channel and inbox,
-/// and the most packets.
+/// the most packets, and the most restamps of a packet.
 #[derive(Drop)]
 pub struct Opening {
     pub topology: Topology,
@@ -17,6 +17,7 @@ pub struct Opening {
     pub root: u16,
     pub capacity: usize,
     pub max_packets: usize,
+    pub restamps: u8,
 }
 
 /// A run: the world after it, and a reply for each step.
@@ -28,14 +29,16 @@ pub struct Played {
 
 /// Opens a world and plays all steps, the refused ones among them. Each reply is what the definition of its event says
 /// of the accepted events before it, or its first refusal. The records are those of the history, and each is sound: its
-/// hops are a prefix of the walk that the full table of its one epoch prescribes, all of it where it was delivered,
-/// and then over the distance where the epoch's kind is Shortest; a drop names the cause that held. Refused as
-/// `World::new` is.
+/// hops are one segment more than it has restamps, at most as many as the opening allows, joined end to end; their epochs
+/// rise, and each is a prefix of the walk to the packet's destination that the full table of its one epoch prescribes.
+/// The last one is all of it where the packet was delivered, and then over the distance from where the segment began where
+/// the epoch's kind is Shortest or Compact; a drop names the cause that held. Where the opening allows no restamp, no Act has
+/// one, and each record is of one epoch. Refused as `World::new` is.
 pub fn play(alloc: Global, opening: Opening, steps: &[Step]) -> Result<Played, OpenError>
-    ensures opened { IfOk result (λ p. IsOpenedWith opening.topology opening.kind opening.root opening.capacity opening.max_packets p.world.opening) }
+    ensures opened { IfOk result (λ p. IsOpenedWith opening.topology opening.kind opening.root opening.capacity opening.max_packets opening.restamps p.world.opening) }
     ensures played { IfOk result (λ p. IsPlayed p.world.opening steps.now p.replies.items p.world) }
-    ensures accepted { IfOk result (λ _. open_refused opening.topology opening.root opening.capacity opening.max_packets ≡ None) }
-    ensures refused { IfErr result (λ e. IsOpenRefusal opening.topology opening.root opening.capacity opening.max_packets e) }
+    ensures accepted { IfOk result (λ _. open_refused opening.topology opening.root opening.capacity opening.max_packets opening.restamps ≡ None) }
+    ensures refused { IfErr result (λ e. IsOpenRefusal opening.topology opening.root opening.capacity opening.max_packets opening.restamps e) }
 {
     let Opening {
         topology,
@@ -43,14 +46,15 @@ pub fn play(alloc: Global, opening: Opening, steps: &[Step]) -> Result<Played, O
         root,
         capacity,
         max_packets,
+        restamps,
     } = opening;
-    if let Some(error) = open_refusal(&topology, root, capacity, max_packets) {
+    if let Some(error) = open_refusal(&topology, root, capacity, max_packets, restamps) {
         return Err(error);
     }
     let Ok(mut replies) = Vec::with_capacity(alloc, steps.len()) else {
         return Err(OpenError::NoMemory);
     };
-    let mut world = World::new(alloc, topology, kind, root, capacity, max_packets)?;
+    let mut world = World::new(alloc, topology, kind, root, capacity, max_packets, restamps)?;
     for step in steps {
         let reply = world.step(*step);
         let Ok(()) = replies.push(reply) else {

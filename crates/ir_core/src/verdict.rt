@@ -35,8 +35,11 @@ pub fn judge(plan: &Plan, board: &Board, way: Way, at: u16, stamp: u32, address:
 
 /// What a node does with a packet that it took from its inbox (`None`) or by a link, given the plan of the packet's
 /// stamp and the board of the node's view: the first of the link that it came by being down, its epoch being retired,
-/// its own label being the address, the link that it is to leave by being down, and the port to send it over. Whether
-/// the channel of that port has room is not asked. `at` is a node and `address` a label of the plan.
+/// its own label being the address, the link that it is to leave by being down, and the port to send it over. A packet
+/// of a retired epoch is restamped, where `left` restamps, above 0, are still allowed: the caller then records the node
+/// as a hop, if the packet came by a link, takes the board's current epoch and the destination's label in it, and
+/// decides again over the same board. Whether the channel of the port has room is not asked. `at` is a node and
+/// `address` a label of the plan.
 pub fn decide(
     plan: &Plan,
     board: &Board,
@@ -44,10 +47,11 @@ pub fn decide(
     at: u16,
     stamp: u32,
     address: u16,
+    left: u8,
 ) -> Action
     requires at_in { at < node_count plan.now.network }
     requires address_in { address < node_count plan.now.network }
-    ensures { result ≡ decided plan.now board.now (way_of came_by) at stamp (node_in plan.now address) }
+    ensures { result ≡ decided plan.now board.now (way_of came_by) at stamp (node_in plan.now address) left }
 {
     let way = match came_by {
         None => Way::Inbox,
@@ -55,7 +59,13 @@ pub fn decide(
     };
     match judge(plan, board, way, at, stamp, address) {
         Verdict::CameByDown(link) | Verdict::LeavesByDown(link) => Action::DropDown(link),
-        Verdict::BelowFloor => Action::DropRetired,
+        Verdict::BelowFloor => {
+            if left > 0 {
+                Action::Restamp
+            } else {
+                Action::DropRetired
+            }
+        }
         Verdict::Arrives => Action::Deliver,
         Verdict::NoRoom(_) | Verdict::GoesOn(_) => Action::Send(
             plan.port(at, address).unwrap_or(0),

@@ -1,17 +1,20 @@
-ghost use Rattle.std.specs.Prelude.{◌≡◌, ℕ, ◌+◌, ◌<◌, ◌≤◌, List, [], ◌∷◌, ◌++◌, length, replicate, IfOk, IfErr, IfSome, take, slice_get, slice_index, slice_index_or, unwrap_or, option_copied, Some, None};
+ghost use Rattle.std.specs.Prelude.{◌≡◌, ℕ, ◌+◌, ◌-◌, ◌<◌, ◌≤◌, List, [], ◌∷◌, ◌++◌, length, map, All, replicate, IfOk, IfErr, IfSome, take, slice_get, slice_index, slice_index_or, unwrap_or, option_copied, Some, None};
 ghost use Rattle.ir_model.specs.Network.{node_count, ports_of, restrict};
 ghost use Rattle.ir_core.specs.declared.TheConstants.{MAX_LINKS, MAX_CHANGES};
 ghost use Rattle.ir_core.specs.declared.event.Way.TheVariants.{Link as WayLink};
 ghost use Rattle.ir_core.specs.Meaning.{IsMade};
 ghost use Rattle.ir_core.specs.Opened.{is_small, open_refused};
 ghost use Rattle.ir_core.specs.Setting.{channel_in, channel_of};
+ghost use Rattle.ir_core.specs.Queue.{ids_of, room_of};
 
 use crate::board::Board;
-use crate::event::{Event, OpenError, Refused, Reply, Step, Verdict, Way};
+use crate::event::{Event, OpenError, Refused, Reply, Ruling, Step, Verdict, Way};
 use crate::packet::{Held, Record};
 use crate::queue::Queue;
 use crate::verdict::judge;
-use crate::{MAX_CAPACITY, MAX_CHANGES, MAX_EPOCHS, MAX_LINKS, MAX_NODES, MAX_PACKETS};
+use crate::{
+    MAX_CAPACITY, MAX_CHANGES, MAX_EPOCHS, MAX_LINKS, MAX_NODES, MAX_PACKETS, MAX_RESTAMPS,
+};
 use ir_model::{Hop, Kind};
 use ir_plan::{Plan, PlanError};
 use ir_tables::Topology;
@@ -26,6 +29,7 @@ pub struct World {
     topology: Topology,
     capacity: usize,
     max_packets: usize,
+    restamps: u8,
     boards: Vec<Board>,
     plans: Vec<Plan>,
     learnt: u32,
@@ -48,21 +52,23 @@ impl Model for World {
 }
 
 impl World {
-    ghost use Rattle.ir_core.specs.Setting.{Setting, IsSetting, nodes_of};
+    ghost use Rattle.ir_core.specs.Setting.{Setting, IsSetting, nodes_of, links_of};
     ghost use Rattle.ir_core.specs.Opened.{IsOpenedWith, IsOpenRefusal};
-    ghost use Rattle.ir_core.specs.Meaning.{newest, learns, reads, takes, acts, retires, marks, injects, verdict_on, record_at, is_full_towards, plan_of};
+    ghost use Rattle.ir_core.specs.Meaning.{newest, learns, reads, takes, acts, retires, marks, injects, verdict_on, ruling_on, record_at, board_at, is_full_towards, plan_of};
+    ghost use Rattle.ir_core.specs.Journey.{stamp_of};
     ghost use Rattle.ir_core.specs.Entry.{Entry};
     ghost use Rattle.ir_core.specs.History.{boards};
     ghost use Rattle.ir_core.specs.Shows.{Shows, AnswersAfter};
     ghost use Rattle.ir_core.specs.Run.{StepsAfter};
     ghost use Rattle.ir_core.specs.Sound.{AllSound};
-    ghost use Rattle.ir_core.specs.State.{IsState, sight_in, IsAnswer, open_verdict_on, LeadsIn};
+    ghost use Rattle.ir_core.specs.State.{IsState, IsBoard, sight_in, IsAnswer, open_verdict_on, LeadsIn};
     ghost use Rattle.ir_core.specs.Handled.{IsAnswerOr, IsAnswerTo, IsInstallAnswer};
 
     /// The world of the empty history. Epoch 1 has a plan of this kind and root over all links of the topology. Each
-    /// channel and inbox holds `capacity` packets, from 1 to 1,024, and there may be `max_packets` packets, from 1 to
-    /// 4,096. Refused are, in this order: no node (`Empty`), a root that is no node, more than 64 nodes or 256 links
-    /// or another number out of its range (`TooLarge`), some node without a walk to some node, want of memory.
+    /// channel and inbox holds `capacity` packets, from 1 to 1,024, there may be `max_packets` packets, from 1 to 4,096,
+    /// and each may have `restamps` restamps, at most 3. Refused are, in this order: no node (`Empty`), a root that is no
+    /// node, more than 256 nodes or 1,024 links or another number out of its range (`TooLarge`), some node without a walk
+    /// to some node, want of memory.
     pub fn new(
         alloc: Global,
         topology: Topology,
@@ -70,13 +76,14 @@ impl World {
         root: u16,
         capacity: usize,
         max_packets: usize,
+        restamps: u8,
     ) -> Result<World, OpenError>
-        ensures opened { IfOk result (λ w. IsOpenedWith topology kind root capacity max_packets w.opening) }
+        ensures opened { IfOk result (λ w. IsOpenedWith topology kind root capacity max_packets restamps w.opening) }
         ensures history { IfOk result (λ w. Shows [] w) }
-        ensures accepted { IfOk result (λ _. open_refused topology root capacity max_packets ≡ None) }
-        ensures refused { IfErr result (λ e. IsOpenRefusal topology root capacity max_packets e) }
+        ensures accepted { IfOk result (λ _. open_refused topology root capacity max_packets restamps ≡ None) }
+        ensures refused { IfErr result (λ e. IsOpenRefusal topology root capacity max_packets restamps e) }
     {
-        if let Some(error) = open_refusal(&topology, root, capacity, max_packets) {
+        if let Some(error) = open_refusal(&topology, root, capacity, max_packets, restamps) {
             return Err(error);
         }
         let Ok(over) = topology.try_clone(alloc) else {
@@ -87,7 +94,7 @@ impl World {
             Err(BuildError::Disconnected) => return Err(OpenError::Disconnected),
             Err(BuildError::NoMemory) => return Err(OpenError::NoMemory),
         };
-        match World::start(alloc, topology, plan, capacity, max_packets) {
+        match World::start(alloc, topology, plan, capacity, max_packets, restamps) {
             Ok(world) => Ok(world),
             Err(_) => Err(OpenError::NoMemory),
         }
@@ -100,9 +107,10 @@ impl World {
         plan: Plan,
         capacity: usize,
         max_packets: usize,
+        restamps: u8,
     ) -> Result<World, AllocError>
-        requires { IsSetting (record { network = topology; first = plan; capacity = capacity; max_packets = max_packets }) }
-        ensures opening { IfOk result (λ w. w.opening ≡ record { network = topology; first = plan; capacity = capacity; max_packets = max_packets }) }
+        requires { IsSetting (record { network = topology; first = plan; capacity = capacity; max_packets = max_packets; restamps = restamps }) }
+        ensures opening { IfOk result (λ w. w.opening ≡ record { network = topology; first = plan; capacity = capacity; max_packets = max_packets; restamps = restamps }) }
         ensures history { IfOk result (λ w. Shows [] w) }
     {
         let nodes = topology.nodes();
@@ -113,12 +121,13 @@ impl World {
         plans.push(plan)?;
         let views = first_views(alloc, nodes)?;
         let hands = empty_hands(alloc, nodes)?;
-        let channels = empty_channels(alloc, nodes + 2 * links)?;
+        let channels = empty_channels(alloc, nodes + 2 * links, capacity)?;
         Ok(World {
             alloc,
             topology,
             capacity,
             max_packets,
+            restamps,
             boards,
             plans,
             learnt: 1,
@@ -134,7 +143,7 @@ impl World {
         requires { node < nodes_of self.now.opening }
         ensures { result ≡ slice_index self.now.views node }
     {
-        self.views[node as usize]
+        self.views.as_slice()[node as usize]
     }
 
     pub(crate) fn read(&mut self, node: u16, version: usize) -> Result<Reply, Refused>
@@ -285,18 +294,29 @@ impl World {
         Ok(Reply::Injected(id))
     }
 
-    /// What comes of the packet in a node's hand, where each channel has room.
-    fn open_verdict(&self, node: u16, held: Held) -> Verdict
+    /// What comes of a packet of this epoch and destination that a node acts on, where each channel has room.
+    fn open_verdict(&self, node: u16, way: Way, stamp: u32, dest: u16) -> Verdict
         requires node_in { node < nodes_of self.now.opening }
-        requires in_hand { slice_index_or self.now.hands node None ≡ Some held }
-        ensures value { result ≡ open_verdict_on self.now node held }
+        requires dest_in { dest < nodes_of self.now.opening }
+        requires above { 0 < stamp }
+        requires within { stamp ≤ length self.now.plans }
+        ensures value { result ≡ open_verdict_on self.now node way stamp dest }
         ensures leads { LeadsIn self.now result }
     {
-        let board = self.boards[self.views[node as usize]];
-        let record = &self.records[held.id as usize];
-        let plan = self.plan_of(record.epoch);
-        let address = plan.label_of(record.dest);
-        judge(plan, &board, held.way, node, record.epoch, address)
+        let _nodes = self.nodes();
+        let board = self.seen(node);
+        let plan = self.plan_of(stamp);
+        let address = plan.label_of(dest);
+        judge(plan, board, way, node, stamp, address)
+    }
+
+    /// The board of a node's view.
+    fn seen(&self, node: u16) -> &Board
+        requires { node < nodes_of self.now.opening }
+        ensures value { result.now ≡ board_at (sight_in self.now) (slice_index self.now.views node) }
+        ensures board { IsBoard (length self.now.plans) result.now }
+    {
+        &self.boards[self.views[node as usize]]
     }
 
     /// The plan of an epoch.
@@ -316,13 +336,15 @@ impl World {
         self.channels[channel].len() >= self.capacity
     }
 
-    /// What comes of the packet in a node's hand.
-    fn verdict(&self, node: u16, held: Held) -> Verdict
+    /// What comes of a packet of this epoch and destination that a node acts on.
+    fn verdict(&self, node: u16, way: Way, stamp: u32, dest: u16) -> Verdict
         requires node_in { node < nodes_of self.now.opening }
-        requires in_hand { slice_index_or self.now.hands node None ≡ Some held }
-        ensures { result ≡ verdict_on self.now.opening (sight_in self.now) node held.way (record_at (sight_in self.now) held.id) }
+        requires dest_in { dest < nodes_of self.now.opening }
+        requires above { 0 < stamp }
+        requires within { stamp ≤ length self.now.plans }
+        ensures { result ≡ verdict_on self.now.opening (sight_in self.now) node way stamp dest }
     {
-        let verdict = self.open_verdict(node, held);
+        let verdict = self.open_verdict(node, way, stamp, dest);
         match verdict {
             Verdict::GoesOn(hop) => {
                 if self.is_full(hop) {
@@ -335,6 +357,43 @@ impl World {
         }
     }
 
+    /// The present epoch and the destination of the packet in a node's hand, and how many restamps are left to it.
+    fn bound_for(&self, node: u16, held: Held) -> (u32, u16, usize)
+        requires { slice_index_or self.now.hands node None ≡ Some held }
+        ensures stamp { result.0 ≡ stamp_of (record_at (sight_in self.now) held.id) }
+        ensures dest { result.1 ≡ (record_at (sight_in self.now) held.id).dest }
+        ensures left { result.2 ≡ self.now.opening.restamps - length (record_at (sight_in self.now) held.id).restamps }
+        ensures above { 0 < result.0 }
+        ensures within { result.0 ≤ length self.now.plans }
+        ensures dest_in { result.1 < nodes_of self.now.opening }
+    {
+        let record = &self.records[held.id as usize];
+        let left = (self.restamps as usize).saturating_sub(record.restamp_count());
+        (record.stamp(), record.destination(), left)
+    }
+
+    /// What a node makes of the packet in its hand. A packet of a retired epoch that has restamps left is judged once more,
+    /// by the current epoch of the same board, as one from the inbox.
+    fn ruling(&self, node: u16, held: Held) -> Ruling
+        requires node_in { node < nodes_of self.now.opening }
+        requires in_hand { slice_index_or self.now.hands node None ≡ Some held }
+        ensures { result ≡ ruling_on self.now.opening (sight_in self.now) node held.way (record_at (sight_in self.now) held.id) }
+    {
+        let (stamp, dest, left) = self.bound_for(node, held);
+        let verdict = self.verdict(node, held.way, stamp, dest);
+        let board = self.seen(node);
+        match verdict.restamp(left, board.current()) {
+            None => Ruling {
+                restamp: None,
+                verdict,
+            },
+            Some(epoch) => Ruling {
+                restamp: Some(epoch),
+                verdict: self.verdict(node, Way::Inbox, epoch, dest),
+            },
+        }
+    }
+
     pub(crate) fn act(&mut self, node: u16) -> Result<Reply, Refused>
         ensures { IsAnswer self.old self.new (acts self.old.opening (sight_in self.old) node) result }
     {
@@ -344,11 +403,11 @@ impl World {
         let Some(held) = self.hands[node as usize] else {
             return Err(Refused::HandEmpty);
         };
-        let verdict = self.verdict(node, held);
+        let ruling = self.ruling(node, held);
         self.hands[node as usize] = None;
         let record = &mut self.records[held.id as usize];
-        record.act(node, held.way, verdict);
-        if let Verdict::GoesOn(hop) = verdict {
+        record.act(node, held.way, ruling);
+        if let Verdict::GoesOn(hop) = ruling.verdict {
             let channel = channel_into(&self.topology, hop);
             self.channels[channel].push(held.id);
             return Ok(Reply::Sent(held.id, hop.node));
@@ -421,6 +480,14 @@ impl World {
         self.boards.as_slice()
     }
 
+    /// A mark for each link of the network, up or down, in the newest board.
+    pub(crate) fn marks(&self, alloc: Global) -> Result<Vec<bool>, AllocError>
+        ensures marks { IfOk result (λ v. v.items ≡ take (links_of self.now.opening) (newest (sight_in self.now)).up) }
+        ensures count { IfOk result (λ v. length v.items ≡ links_of self.now.opening) }
+    {
+        self.newest().marks(alloc, self.topology.links())
+    }
+
     /// How many nodes there are, as a node that `view` takes is one of them.
     pub fn nodes(&self) -> u16
         ensures count { result ≡ nodes_of self.now.opening }
@@ -488,8 +555,10 @@ fn plan_up(
     ensures made { IfOk result (λ p. IsMade kind root (restrict (take (length topology.now.links) board.now.up) topology.now) (Some p)) }
     ensures disconnected { result ≡ Err BuildError.Disconnected → IsMade kind root (restrict (take (length topology.now.links) board.now.up) topology.now) None }
 {
-    let links = topology.links();
-    let Ok(over) = topology.only(alloc, &board.marks()[..links]) else {
+    let Ok(up) = board.marks(alloc, topology.links()) else {
+        return Err(BuildError::NoMemory);
+    };
+    let Ok(over) = topology.only(alloc, up.as_slice()) else {
         return Err(BuildError::NoMemory);
     };
     plan_over(alloc, over, kind, root)
@@ -501,8 +570,9 @@ pub(crate) fn open_refusal(
     root: u16,
     capacity: usize,
     max_packets: usize,
+    restamps: u8,
 ) -> Option<OpenError>
-    ensures { result ≡ open_refused topology.now root capacity max_packets }
+    ensures { result ≡ open_refused topology.now root capacity max_packets restamps }
 {
     let nodes = topology.nodes();
     if nodes == 0 {
@@ -511,15 +581,15 @@ pub(crate) fn open_refusal(
     if nodes <= root as usize {
         return Some(OpenError::NoNode);
     }
-    if !is_small(topology, capacity, max_packets) {
+    if !is_small(topology, capacity, max_packets, restamps) {
         return Some(OpenError::TooLarge);
     }
     None
 }
 
-/// Whether the network, the capacity and the number of packets are within the limits.
-fn is_small(topology: &Topology, capacity: usize, max_packets: usize) -> bool
-    ensures { result ≡ is_small topology.now capacity max_packets }
+/// Whether the network, the capacity, the number of packets and that of restamps are within the limits.
+fn is_small(topology: &Topology, capacity: usize, max_packets: usize, restamps: u8) -> bool
+    ensures { result ≡ is_small topology.now capacity max_packets restamps }
 {
     topology.nodes() <= MAX_NODES
         && topology.links() <= MAX_LINKS
@@ -527,6 +597,7 @@ fn is_small(topology: &Topology, capacity: usize, max_packets: usize) -> bool
         && capacity <= MAX_CAPACITY
         && max_packets != 0
         && max_packets <= MAX_PACKETS
+        && restamps as usize <= MAX_RESTAMPS
 }
 
 /// The number of the channel that a node takes from by this way.
@@ -561,13 +632,14 @@ fn channel_into(topology: &Topology, hop: Hop) -> usize
     channel_of(topology, hop.node, Way::Link(hop.link)).unwrap_or(0)
 }
 
-fn empty_channels(alloc: Global, count: usize) -> Result<Vec<Queue>, AllocError>
-    ensures { IfOk result (λ v. v.items ≡ replicate count []) }
+fn empty_channels(alloc: Global, count: usize, room: usize) -> Result<Vec<Queue>, AllocError>
+    ensures empty { IfOk result (λ v. map ids_of v.items ≡ replicate count []) }
+    ensures room { IfOk result (λ v. All (λ q. room ≤ room_of q) v.items) }
 {
     let mut channels = Vec::with_capacity(alloc, count)?;
     for i in 0..count {
         let _ = i;
-        channels.push(Queue::new(alloc)?)?;
+        channels.push(Queue::new(alloc, room)?)?;
     }
     Ok(channels)
 }

@@ -15,4 +15,4 @@ registry_name s = s.registry.numbers
 
 -- the stamp is of this registry
 abbrev pub IsOf : Registry → Stamp → Type 0
-IsOf r s = registry_name s ≡ map cell_name r.cells.items
+IsOf r s = registry_name s ≡ map cell_name r.cells

@@ -3,6 +3,7 @@ ghost use Rattle.std.specs.Prelude.{◌≡◌, ◌+◌, ◌<◌, ◌^◌, ◌++�
 
 use crate::entry::Entry;
 use logbook::{Gain, Offer, Opening, Plain, Play, Rule, Seen, Start, Word};
+use std::sync::Wait;
 
 /// The word is the version: how many entries came after the first.
 pub struct Law;
@@ -77,19 +78,37 @@ impl Chronicle {
         (Chronicle { head }, front)
     }
 
-    /// Adds an entry to all that was seen. It does not where the list is longer.
-    pub fn add(&self, front: &mut Front, version: u64, entry: Entry) -> bool
+    // Adds an entry to all that was seen. It does not where the list is longer.
+    fn add(&self, front: &mut Front, version: u64, entry: &Entry) -> bool
         requires book { front.old.book ≡ self.now.head.book }
         requires version { length front.old.log ≡ version + 1 }
         requires room { version < 2 ^ 62 }
         ensures book { front.new.book ≡ front.old.book }
-        ensures added { IsTrue result → front.new.log ≡ front.old.log ++ entry ∷ [] }
+        ensures added { IsTrue result → front.new.log ≡ front.old.log ++ entry.now ∷ [] }
     {
-        let mut offer: Offer<Entry, u64, Law, Nothing> = front.plain::<Nothing, Entry, Add>(&entry);
+        let mut offer: Offer<Entry, u64, Law, Nothing> = front.plain::<Nothing, Entry, Add>(entry);
         let mut pen = front.no_pen();
         let found = self
             .head
             .compare_exchange::<Add, Nothing>(version, version + 1, front, &mut offer, &mut pen);
         found == version
+    }
+
+    /// The list with one more entry behind all that was seen. The board's writer alone adds to it, so the first try
+    /// adds the entry; another that did would be waited for without end.
+    pub fn record<R: Wait>(&self, rt: &R, front: &Front, version: u64, entry: Entry) -> Front
+        requires book { front.now.book ≡ self.now.head.book }
+        requires version { length front.now.log ≡ version + 1 }
+        requires room { version < 2 ^ 62 }
+        ensures book { result.book ≡ front.now.book }
+        ensures added { result.log ≡ front.now.log ++ entry ∷ [] }
+    {
+        for _ in rt.forever() {
+            let mut longer = front.again();
+            if self.add(&mut longer, version, &entry) {
+                return longer;
+            }
+        }
+        unreachable!()
     }
 }

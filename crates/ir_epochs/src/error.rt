@@ -2,19 +2,25 @@
 ghost use Rattle.std.specs.Prelude.{◌≡◌};
 ghost use Rattle.ir_epochs.specs.Codes.{register_code, board_code};
 
+use thiserror::Error;
+
 /// Why a plan was not registered.
-#[derive(Clone, Copy, PartialEq, Eq, Debug)]
+#[derive(Clone, Copy, PartialEq, Eq, Debug, Error)]
 pub enum RegisterError {
     /// The epoch's cell was set before.
+    #[error("the epoch's cell is used")]
     Used,
+    #[error("out of memory")]
     NoMemory,
 }
 
 /// Why a board was not opened.
-#[derive(Clone, Copy, PartialEq, Eq, Debug)]
+#[derive(Clone, Copy, PartialEq, Eq, Debug, Error)]
 pub enum BoardError {
     /// No place is left for a reader.
+    #[error("no place is left for a reader")]
     TooManyReaders,
+    #[error("out of memory")]
     NoMemory,
 }
 

@@ -1,13 +1,13 @@
 //! The board: one thread changes it, and readers read it with no lock and no wait.
-ghost use Rattle.std.specs.Prelude.{◌≡◌, ◌+◌, ◌^◌, ◌<◌, ◌≤◌, [], ◌∷◌, ◌++◌, ◌⊎◌, length, drop, option_map, Some, None, IfOk, IfSome, MatchOption, MatchResult, if◌then◌else◌};
+ghost use Rattle.std.specs.Prelude.{◌≡◌, ◌+◌, ◌<◌, ◌≤◌, [], ◌∷◌, ◌++◌, ◌⊎◌, length, drop, option_map, Some, None, IfOk, IsOk, IfSome, MatchOption, MatchResult, if◌then◌else◌};
 ghost use mathlib.Core.List.{IsPrefix};
 ghost use Rattle.left_right.specs.Sides.{view};
 ghost use Rattle.ir_core.specs.declared.TheConstants.{MAX_LINKS, MAX_CHANGES};
 ghost use Rattle.ir_epochs.specs.Stamps.{knows};
-ghost use Rattle.ir_epochs.specs.Entries.{installed_by};
-ghost use Rattle.ir_epochs.specs.Seats.{Below};
+ghost use Rattle.ir_epochs.specs.Entries.{board_of, installed_by, IsSameOpening, Rises};
+ghost use Rattle.ir_epochs.specs.Seats.{Below, IsNoted};
 
-use crate::chronicle::Chronicle;
+use crate::chronicle::{Chronicle, Front};
 use crate::entry::{Change, Entry};
 use crate::published::Published;
 use crate::registry::Stamp;
@@ -17,7 +17,37 @@ use ir_core::Board;
 use std::alloc::{AllocError, Global};
 use std::sync::Wait;
 
-// Shows readers one more value.
+// Puts the next value into the list of operations. The list has room for it, so the first try does; if there were none,
+// this would wait for memory.
+fn append<R: Wait>(rt: &R, writer: &mut Desk, next: Published)
+    requires { drop writer.old.behind writer.old.log.items ≡ [] }
+    ensures desk { writer.new.desk ≡ writer.old.desk }
+    ensures pending { drop writer.new.behind writer.new.log.items ≡ next ∷ [] }
+{
+    let mut next = next;
+    for _ in rt.forever() {
+        match writer.append(next) {
+            Ok(()) => return,
+            Err(back) => next = back,
+        }
+    }
+    unreachable!()
+}
+
+// Shows readers the value that is pending.
+fn show<R: Wait>(rt: &R, writer: Desk, _next: &Published) -> Desk
+    requires pending { drop writer.behind writer.log.items ≡ _next.now ∷ [] }
+    requires board { _next.now.front.book ≡ writer.desk.shown.value.front.book }
+    requires later { IsPrefix writer.desk.shown.value.front.log _next.now.front.log }
+    ensures shown { result.desk.shown.value ≡ _next.now }
+    ensures pending { drop result.behind result.log.items ≡ [] }
+    ensures known { (view result.desk.place).known ≡ Some _next.now.front }
+{
+    let (writer, _) = writer.publish_as::<See, R>(rt);
+    writer
+}
+
+// Shows readers one more value. At `Err` the list of operations has no room, and no memory for more.
 fn publish<R: Wait>(rt: &R, mut writer: Desk, next: Published) -> (Desk, Result<(), AllocError>)
     requires pending { drop writer.behind writer.log.items ≡ [] }
     requires board { next.front.book ≡ writer.desk.shown.value.front.book }
@@ -26,10 +56,23 @@ fn publish<R: Wait>(rt: &R, mut writer: Desk, next: Published) -> (Desk, Result<
     ensures pending { drop result.0.behind result.0.log.items ≡ [] }
     ensures known { MatchResult result.1 (λ _. (view result.0.desk.place).known ≡ Some next.front) (λ _. (view result.0.desk.place).known ≡ (view writer.desk.place).known) }
 {
-    match writer.append(next) {
-        Ok(()) => writer.publish_as::<See, R>(rt),
+    match writer.append(next.again()) {
+        Ok(()) => (show(rt, writer, &next), Ok(())),
         Err(_) => (writer, Err(AllocError)),
     }
+}
+
+// Shows readers one more value, where the list of operations has room for it.
+fn publish_in_room<R: Wait>(rt: &R, mut writer: Desk, next: Published) -> (Desk, ())
+    requires pending { drop writer.behind writer.log.items ≡ [] }
+    requires board { next.front.book ≡ writer.desk.shown.value.front.book }
+    requires later { IsPrefix writer.desk.shown.value.front.log next.front.log }
+    ensures shown { result.0.desk.shown.value ≡ next }
+    ensures pending { drop result.0.behind result.0.log.items ≡ [] }
+    ensures known { (view result.0.desk.place).known ≡ Some next.front }
+{
+    append(rt, &mut writer, next.again());
+    (show(rt, writer, &next), ())
 }
 
 // Takes the value that was published last, unless the writer is gone.
@@ -42,6 +85,23 @@ fn enter(reader: Sitting) -> (Sitting, Option<Published>)
             (reading.leave(), Some(found))
         }
         Err(reader) => (reader, None),
+    }
+}
+
+// Takes in a value of the same board: the later of the two stays.
+fn note(newest: &mut Published, other: Published)
+    requires { other.front.book ≡ newest.old.front.book }
+    ensures either { (newest.new ≡ newest.old) ⊎ (newest.new ≡ other) }
+    ensures old { IsPrefix newest.old.front.log newest.new.front.log }
+    ensures other { IsPrefix other.front.log newest.new.front.log }
+    ensures rises { Rises (board_of newest.old.front.log) (board_of newest.new.front.log) }
+    ensures opening { IsSameOpening newest.old.front.log newest.new.front.log }
+    ensures board { newest.new.front.book ≡ newest.old.front.book }
+{
+    let mut both = newest.front.again();
+    both.learn(&other.front);
+    if newest.board.version() < other.board.version() {
+        *newest = other;
     }
 }
 
@@ -66,11 +126,14 @@ pub struct Receipt {
 }
 
 /// One reader of the board. Contracts see the list of entries of the newest board that it has read or learnt.
+///
+/// That list begins with all that its seat has seen: who enters the board can't pass over what was found there.
 #[derive(Drop)]
 pub struct BoardReader {
     reader: Sitting,
     newest: Published,
     ghost same_board: { option_map (λ s. s.book) (view reader.place).known ≡ Some newest.front.book },
+    ghost noted: { IsNoted (view reader.place) newest },
 }
 
 impl<R: Wait + Drop> Drop for BoardWriter<R> {
@@ -86,18 +149,20 @@ impl<R: Wait + Drop> Drop for BoardWriter<R> {
 
 impl<R: Wait + Drop> BoardWriter<R> {
     ghost use Rattle.ir_epochs.specs.declared.entry.Entry.TheVariants.{Opened, Changed};
-    ghost use Rattle.ir_epochs.specs.Entries.{board_of, Fits, IsLive, IsSameOpening};
+    ghost use Rattle.ir_epochs.specs.Entries.{Fits, IsLive};
     ghost use Rattle.ir_epochs.specs.Handles.{published, known, told, writer_board, reader_board, receipt_board};
 
-    // A board that was just opened, with places for so many readers.
+    // A board that was just opened, with places for so many readers, of which there is one at least.
+    //
+    // The opening is published twice. From then on the list of operations has room for two, whatever the size of a
+    // board, and it never holds more: it keeps the last one, which the other copy lacks, and takes in the next.
     pub(crate) fn open(
         rt: R,
         alloc: Global,
         opening: &Stamp,
         links: u16,
-        readers: usize,
+        readers: u16,
     ) -> Result<BoardWriter<R>, AllocError>
-        requires readers { (0 < readers) × (readers < 2 ^ 32) }
         requires epoch { opening.now.epoch ≡ 1 }
         requires links { length (knows opening.now).network.links ≡ links }
         requires few { links ≤ MAX_LINKS }
@@ -109,9 +174,11 @@ impl<R: Wait + Drop> BoardWriter<R> {
             stamp: opening.again(),
             front,
         };
+        let readers = usize::from(readers.max(1));
         let writer = Desk::new(alloc, first.again(), first.again(), readers)?;
+        let (writer, made) = publish(&rt, writer, first.again());
         let (writer, done) = publish(&rt, writer, first);
-        match done {
+        match made.and(done) {
             Ok(()) => Ok(BoardWriter {
                 writer,
                 chronicle,
@@ -133,30 +200,28 @@ impl<R: Wait + Drop> BoardWriter<R> {
         self.writer.published().board
     }
 
-    /// Publishes one change, which is then the last entry. At `Err` nothing was published.
+    /// Publishes one change, which is then the last entry. The change is one that may come next.
     ///
-    /// The change is one that may come next. An error means that there was no memory; `open` makes the room that a
-    /// change takes, so no run is known in which it comes. After an error each later change is refused too. This waits for readers that still read an older board.
+    /// It takes no memory, since `open` made the room that a change needs, and no change is refused. It waits for
+    /// readers that still read an older board.
     pub fn change(&mut self, change: Change) -> Result<Receipt, AllocError>
         requires version { (board_of (published self.old)).version < MAX_CHANGES }
         requires fits { Fits (published self.old) change }
-        ensures change { MatchResult result (λ t. (published self.new ≡ published self.old ++ Changed change ∷ []) × (told t ≡ published self.new)) (λ _. published self.new ≡ published self.old) }
+        ensures change { IfOk result (λ t. (published self.new ≡ published self.old ++ Changed change ∷ []) × (told t ≡ published self.new)) }
+        ensures succeeds { IsOk result }
         ensures opening { IsSameOpening (published self.old) (published self.new) }
         ensures board { writer_board self.new ≡ writer_board self.old }
         ensures receipt { IfOk result (λ t. receipt_board t ≡ writer_board self.old) }
     {
         let now = self.writer.published();
-        let mut front = now.front.again();
         let version = now.board.version();
         let board = change.applied(&now.board);
         let stamp = change.stamp_after(&now.stamp);
         let install = change.installs();
-        if !self
+        let entry = Entry::Changed(change);
+        let front = self
             .chronicle
-            .add(&mut front, u64::from(version), Entry::Changed(change))
-        {
-            return Err(AllocError);
-        }
+            .record(&self.rt, &now.front, u64::from(version), entry);
         let next = Published {
             board,
             stamp,
@@ -167,9 +232,16 @@ impl<R: Wait + Drop> BoardWriter<R> {
             install,
         };
         replace_with(&mut self.writer, (&self.rt, next), |writer, (rt, next)| {
-            publish(rt, writer, next)
-        })?;
+            publish_in_room(rt, writer, next)
+        });
         Ok(receipt)
+    }
+
+    // The list of all that was published.
+    pub(crate) fn published(&self) -> &Front
+        ensures { (result.now.log ≡ published self.now) × (result.now.book ≡ writer_board self.now) }
+    {
+        &self.writer.published().front
     }
 
     // A reader that knows the board as it is. Returns `Err` where each place is in use.
@@ -187,14 +259,21 @@ impl<R: Wait + Drop> BoardWriter<R> {
 }
 
 impl Receipt {
-    ghost use Rattle.ir_epochs.specs.Entries.{board_of, IsCurrent};
-    ghost use Rattle.ir_epochs.specs.Handles.{told};
+    ghost use Rattle.ir_epochs.specs.Entries.{IsCurrent};
+    ghost use Rattle.ir_epochs.specs.Handles.{told, receipt_board};
+
+    // The list up to its change.
+    pub(crate) fn told(&self) -> &Front
+        ensures { (result.now.log ≡ told self.now) × (result.now.book ≡ receipt_board self.now) }
+    {
+        &self.published.front
+    }
 
     /// The version that its change made.
     pub fn version(&self) -> u32
         ensures { result + 1 ≡ length (told self.now) }
     {
-        self.published.board.version()
+        self.board().version()
     }
 
     /// The stamp of an install, and `None` for another change.
@@ -218,24 +297,14 @@ impl Receipt {
 }
 
 impl BoardReader {
-    ghost use Rattle.ir_epochs.specs.Entries.{board_of, IsCurrent, IsLive, IsSameOpening, Rises};
+    ghost use Rattle.ir_epochs.specs.Entries.{IsCurrent, IsLive};
     ghost use Rattle.ir_epochs.specs.Handles.{known, told, reader_board, receipt_board};
 
-    // Takes in a value of the same board: the later of the two stays.
-    fn note(&mut self, other: Published)
-        requires { other.front.book ≡ reader_board self.old }
-        ensures either { (known self.new ≡ known self.old) ⊎ (known self.new ≡ other.front.log) }
-        ensures old { IsPrefix (known self.old) (known self.new) }
-        ensures other { IsPrefix other.front.log (known self.new) }
-        ensures rises { Rises (board_of (known self.old)) (board_of (known self.new)) }
-        ensures opening { IsSameOpening (known self.old) (known self.new) }
-        ensures board { reader_board self.new ≡ reader_board self.old }
+    // The list of the newest board that it has read or learnt.
+    pub(crate) fn known(&self) -> &Front
+        ensures { (result.now.log ≡ known self.now) × (result.now.book ≡ reader_board self.now) }
     {
-        let mut both = self.newest.front.again();
-        both.learn(&other.front);
-        if self.newest.board.version() < other.board.version() {
-            self.newest = other;
-        }
+        &self.newest.front
     }
 
     /// From now on it knows the receipt's change: each later `read` has at least its version.
@@ -248,7 +317,7 @@ impl BoardReader {
         ensures opening { IsSameOpening (known self.old) (known self.new) }
         ensures board { reader_board self.new ≡ reader_board self.old }
     {
-        self.note(receipt.published.again());
+        note(&mut self.newest, receipt.published.again());
     }
 
     /// The board as it is, or the newest that it knows where the writer is gone. It waits for nobody.
@@ -266,7 +335,7 @@ impl BoardReader {
     {
         let found = replace_with(&mut self.reader, (), |reader, ()| enter(reader));
         if let Some(found) = found {
-            self.note(found);
+            note(&mut self.newest, found);
         }
         self.newest.board
     }

@@ -1,5 +1,5 @@
 //! A board with its writer and its readers.
-ghost use Rattle.std.specs.Prelude.{◌≡◌, ◌^◌, ◌<◌, ◌≤◌, [], ◌∷◌, length, All, IfOk};
+ghost use Rattle.std.specs.Prelude.{◌≡◌, ◌≤◌, [], ◌∷◌, length, All, IfOk};
 ghost use Rattle.ir_core.specs.declared.TheConstants.{MAX_LINKS};
 ghost use Rattle.ir_epochs.specs.Stamps.{knows};
 ghost use Rattle.ir_epochs.specs.declared.entry.Entry.TheVariants.{Opened};
@@ -15,7 +15,7 @@ use std::sync::Wait;
 fn seats<R: Wait + Drop>(
     alloc: Global,
     writer: &mut BoardWriter<R>,
-    readers: usize,
+    readers: u16,
 ) -> Result<Vec<BoardReader>, BoardError>
     ensures same { (published writer.new ≡ published writer.old) × (writer_board writer.new ≡ writer_board writer.old) }
     ensures count { IfOk result (λ r. length r.items ≡ readers) }
@@ -41,9 +41,8 @@ pub fn board<R: Wait + Drop>(
     alloc: Global,
     opening: &Stamp,
     links: u16,
-    readers: usize,
+    readers: u16,
 ) -> Result<(BoardWriter<R>, Vec<BoardReader>), BoardError>
-    requires readers { (0 < readers) × (readers < 2 ^ 32) }
     requires epoch { opening.now.epoch ≡ 1 }
     requires links { length (knows opening.now).network.links ≡ links }
     requires few { links ≤ MAX_LINKS }

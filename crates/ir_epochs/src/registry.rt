@@ -9,14 +9,14 @@ use ir_core::MAX_EPOCHS;
 use ir_known::{Known, Names, Tag};
 use ir_plan::Plan;
 use once_cell::race::OnceBox;
-use std::alloc::{AllocError, Global};
+use std::alloc::Global;
 
 /// For each epoch from 1 to 64 a cell, which is set at most once.
 #[derive(Drop)]
 pub struct Registry {
-    cells: Vec<OnceBox<Plan>>,
+    cells: [OnceBox<Plan>; MAX_EPOCHS],
     alloc: Global,
-    ghost full: { length cells.items ≡ MAX_EPOCHS },
+    ghost full: { length cells ≡ MAX_EPOCHS },
 }
 
 /// An epoch of a registry, and what shows its plan for good. Threads may share it.
@@ -34,7 +34,7 @@ pub struct Stamp {
 struct Cells;
 
 impl Names<Registry> for Cells {
-    ghost numbers = { λ r. map cell_name r.cells.items };
+    ghost numbers = { λ r. map cell_name r.cells };
 }
 
 // The numbers of another tag.
@@ -47,13 +47,12 @@ impl Names<Tag> for Same {
 impl Registry {
     ghost use Rattle.ir_epochs.specs.Stamps.{IsOf, knows};
 
-    /// A registry of empty cells.
-    pub fn new(alloc: Global) -> Result<Registry, AllocError> {
-        let mut cells = Vec::with_capacity(alloc, MAX_EPOCHS)?;
-        for _ in 0..MAX_EPOCHS {
-            cells.push_reserved(OnceBox::new(alloc));
+    /// A registry of empty cells. It takes no memory.
+    pub fn new(alloc: Global) -> Registry {
+        Registry {
+            cells: std::array::from_fn(|_| OnceBox::new(alloc)),
+            alloc,
         }
-        Ok(Registry { cells, alloc })
     }
 
     /// Sets the cell of an epoch from 1 to 64, and gives a stamp that knows the plan.

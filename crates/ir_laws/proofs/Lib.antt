@@ -1,4 +1,4 @@
 pub mod Line
-pub mod Ways
 pub mod Ordered
 pub mod Ranked
+pub mod Compact

@@ -2,11 +2,16 @@
 //! body, so that a check of this crate asks for its proof.
 #![tactic(auto)]
 
+mod choices;
 mod intervals;
 mod numberings;
 mod walks;
 mod worked;
 
+pub use choices::{
+    chosen_ports_are_determined, compact_table_is_determined,
+    prescribed_walk_of_a_table_of_shortest_ways,
+};
 pub use intervals::{canonical_rows_are_equal, whole_circle};
 pub use numberings::numbering_is_determined;
 pub use walks::{

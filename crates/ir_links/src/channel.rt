@@ -170,12 +170,13 @@ impl<T: Bound> Sender<T> {
     /// Puts the item behind those in the channel, or gives it back.
     ///
     /// The sent list grows by the item exactly where the answer is `Ok`. It is `Full` only where the channel held as
-    /// many items as it can at one moment of the call, and they are then the last of the sent list.
+    /// many items as it can at one moment of the call. They are then the last of the sent list, and each goes to the
+    /// place.
     pub fn send<R: Wait>(&mut self, rt: &R, item: T) -> Result<(), Full<T>>
         requires { T.goes_to item self.old.line.place }
         ensures sent { MatchResult result
             (λ _. self.new ≡ record self.old { sent = self.old.sent ++ item ∷ [] })
-            (λ full. (full.item ≡ item) × (self.new ≡ self.old) × WasFull self.old) }
+            (λ full. (full.item ≡ item) × (self.new ≡ self.old) × WasFull T.goes_to self.old) }
         ensures line { self.new.line ≡ self.old.line }
     {
         let queue = &self.shared.queue;
@@ -195,11 +196,11 @@ impl<T: Bound> Taker<T> {
     /// Takes the oldest item in the channel.
     ///
     /// The taken list grows by that item, which goes to the channel's place. `None` comes only where the queue held
-    /// nothing at one moment of the call, when the taken list was all that had been sent; since no list of the taker's
-    /// shows how much that was, it is a test that refuses a body that always answers `None`.
+    /// nothing at one moment of the call, when the taken list was all that had been sent, and each item of it goes to
+    /// the place: the taker alone doesn't know that, and the channel's rule shows it at a step.
     pub fn take<R: Wait>(&mut self, rt: &R) -> Option<T>
         ensures taken { MatchOption result
-            ((self.new ≡ self.old) × WasEmpty self.old)
+            ((self.new ≡ self.old) × WasEmpty T.goes_to self.old)
             (λ item. (self.new ≡ record self.old { taken = self.old.taken ++ item ∷ [] }) × T.goes_to item self.old.line.place) }
         ensures line { self.new.line ≡ self.old.line }
     {

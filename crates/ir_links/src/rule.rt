@@ -105,10 +105,11 @@ impl<T, P> Outcome<T, View<T, P>> for Sends {
     ghost then = { λ v x w. w ≡ after_send v x };
 }
 
-impl<T, P> Lesson<T, View<T, P>> for Sends {
+impl<T: Bound> Lesson<T, View<T, T::Place>> for Sends {
     ghost use Rattle.ir_links.specs.Lists.{EndsWith};
+    ghost use Rattle.ir_links.specs.Rule.{GoBy};
 
-    ghost fact = { λ v items. EndsWith v.sent items };
+    ghost fact = { λ v items. EndsWith v.sent items × GoBy T.goes_to v.terms items };
 }
 
 /// A pop by the taker.
@@ -123,8 +124,9 @@ impl<T: Bound> Outcome<T, View<T, T::Place>> for Takes {
 
 impl<T: Bound> Lesson<T, View<T, T::Place>> for Takes {
     ghost use Rattle.std.specs.Prelude.{◌≡◌, List, ◌++◌};
+    ghost use Rattle.ir_links.specs.Rule.{GoBy};
 
-    ghost fact = { λ v items. (sent : List T) × (sent ≡ v.taken ++ items) };
+    ghost fact = { λ v items. (sent : List T) × (sent ≡ v.taken ++ items) × GoBy T.goes_to v.terms sent };
 }
 
 /// A pop at the end, by the one pass that is left.

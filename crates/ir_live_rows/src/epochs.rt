@@ -68,7 +68,7 @@ fn last(registry: &Registry, alloc: Global) -> Option<Stamp>
 
 #[test]
 fn first_plan_stays(rt: HostRuntime) -> Result<(), Fail> {
-    let registry = Registry::new(rt.alloc())?;
+    let registry = Registry::new(rt.alloc());
     let Some(stamp) = first(&registry, rt.alloc()) else {
         return Err("not registered".into());
     };
@@ -85,7 +85,7 @@ fn first_plan_stays(rt: HostRuntime) -> Result<(), Fail> {
 
 #[test]
 fn two_threads_see_one_plan(rt: HostRuntime) -> Result<(), Fail> {
-    let registry = Registry::new(rt.alloc())?;
+    let registry = Registry::new(rt.alloc());
     let Some(stamp) = first(&registry, rt.alloc()) else {
         return Err("not registered".into());
     };
@@ -207,7 +207,7 @@ fn changed_and_read<R: Wait + Drop>(
 
 #[test]
 fn board_is_changed_and_read(rt: HostRuntime) -> Result<(), Fail> {
-    let registry = Registry::new(rt.alloc())?;
+    let registry = Registry::new(rt.alloc());
     let Some(stamp) = first(&registry, rt.alloc()) else {
         return Err("not registered".into());
     };
@@ -258,7 +258,7 @@ fn installed_there<R: Threads + Wait + Sync>(
 
 #[test]
 fn receipt_goes_to_another_thread(rt: HostRuntime) -> Result<(), Fail> {
-    let registry = Registry::new(rt.alloc())?;
+    let registry = Registry::new(rt.alloc());
     let Some(stamp) = first(&registry, rt.alloc()) else {
         return Err("not registered".into());
     };

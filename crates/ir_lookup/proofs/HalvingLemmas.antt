@@ -1,8 +1,9 @@
 -- Half of what is left at each step.
-use Rattle.std.proofs.Common.{◌≡◌, ℕ, ◌+◌, ◌-◌, ◌*◌, ◌^◌, ◌<◌, ◌≤◌, arith, add-one, inl, inr, ◌⊎◌}
+use Rattle.std.proofs.Common.{◌≡◌, ℕ, ◌+◌, ◌-◌, ◌*◌, ◌^◌, ◌<◌, ◌≤◌, suc, subst, arith, add-one, inl, inr, ◌⊎◌}
 use Rattle.std.specs.Prelude.{List, length, slice_index, ◌/◌}
 use Rattle.std.proofs.lemmas.List.{length-map}
 use Rattle.ir_model.specs.Row.{Start, labels, IsAscending, IsPlaceOf}
+use Rattle.ir_lookup.specs.Halving.{Halves}
 use Rattle.ir_model.proofs.Rows.{rises_weakly}
 use Rattle.std.proofs.Math.Nat.{pow-succ', mul-le-mul_right}
 use Rattle.std.proofs.Math.Pow.{pow_mono}
@@ -20,6 +21,13 @@ one_left s c len h fits = omega (arith, mul-le-mul_right (2 ^ c) h)
 pub one_more : (s c len : ℕ) → 0 < s → s * 2 ^ c ≤ len → 2 ^ (c + 1) ≤ 2 * len
 one_more s c len h fits = rw (twice c) (omega (arith, one_left s c len h fits))
 
+le_two : (s t : ℕ) → s ≤ 2 * t + 2 → s + 2 ≤ 2 * (t + 2)
+le_two s t h = omega arith
+
+-- where s are left, of which a comparison leaves t, that is half of s or one less
+pub half_needed : (s t c len : ℕ) → s ≤ 2 * t + 2 → len + 2 ≤ (s + 2) * 2 ^ c → len + 2 ≤ (t + 2) * 2 ^ (c + 1)
+half_needed s t c len h fits = rw (twice c) (grind (arith, mul-le-mul_right (2 ^ c) (le_two s t h)))
+
 pub few_steps : (c len : ℕ) → 2 ^ c ≤ len → len < 2 ^ 64 → c < 64
 few_steps c len h small = elim (cases_lt c 64) [ inl l ↦ l | inr g ↦ absurd (omega (arith, pow_mono g)) ]
 
@@ -31,8 +39,13 @@ pub record IsHalved (row : List Start) (d low high count : ℕ) : Type 0 where
   pub above : (k : ℕ) → high ≤ k → k < length row → d < slice_index (labels row) k
   pub halved : (high - low) * 2 ^ count ≤ length row
   pub counted : 2 ^ count ≤ 2 * length row
+  pub needed : length row + 2 ≤ (high - low + 2) * 2 ^ count
+  pub compared : (n : ℕ) → Halves (labels row) d low high n → Halves (labels row) d 0 (length row) (n + count)
 
 module _ (row : List Start) (up : IsAscending row) (d low high count middle : ℕ) (h : IsHalved row d low high count) (open_still : low < high) (is : middle ≡ low + (high - low) / 2) where
+  one_compared : (n : ℕ) → Halves (labels row) d 0 (length row) (suc n + count) → Halves (labels row) d 0 (length row) (n + (count + 1))
+  one_compared n all = let same : suc n + count ≡ n + (count + 1) = omega arith in subst (λ k. Halves (labels row) d 0 (length row) k) same all
+
   pub lower_half : d < slice_index (labels row) middle → IsHalved row d low middle (count + 1)
   lower_half up_there =
       let w = h.within in
@@ -44,6 +57,8 @@ module _ (row : List Start) (up : IsAscending row) (d low high count middle : �
         above = λ k m i. let r = rises_weakly (labels row) up middle k m (omega arith) in omega arith;
         halved = half_left (high - low) (middle - low) count (length row) (omega arith) h.halved;
         counted = one_more (high - low) count (length row) (omega arith) h.halved;
+        needed = half_needed (high - low) (middle - low) count (length row) (omega arith) h.needed;
+        compared = λ n rest. one_compared n (h.compared (suc n) (middle, open_still, is, inl (up_there, rest)));
       }
 
   pub upper_half : slice_index (labels row) middle ≤ d → IsHalved row d (middle + 1) high (count + 1)
@@ -57,7 +72,13 @@ module _ (row : List Start) (up : IsAscending row) (d low high count middle : �
         above = h.above;
         halved = half_left (high - low) (high - (middle + 1)) count (length row) (omega arith) h.halved;
         counted = one_more (high - low) count (length row) (omega arith) h.halved;
+        needed = half_needed (high - low) (high - (middle + 1)) count (length row) (omega arith) h.needed;
+        compared = λ n rest. one_compared n (h.compared (suc n) (middle, open_still, is, inr (down_there, rest)));
       }
+
+-- where nothing is left, the comparisons are those of halving
+pub all_compared : (row : List Start) (d low high count : ℕ) → IsHalved row d low high count → high ≤ low → Halves (labels row) d 0 (length row) count
+all_compared row d low high count h done = let same : 0 + count ≡ count = omega arith in subst (λ k. Halves (labels row) d 0 (length row) k) same (h.compared 0 done)
 
 -- how many comparisons were made, of a length that fits
 pub few_compared : (row : List Start) (d low high count : ℕ) → IsHalved row d low high count → low < high → length row < 2 ^ 64 → count < 2 ^ 31

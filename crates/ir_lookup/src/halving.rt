@@ -1,6 +1,7 @@
 //! The look-up by halving. It sees of the starts how many there are, and asks for comparisons.
 
 ghost use Rattle.std.specs.Prelude.{◌≡◌, ◌<◌, ◌≤◌, ◌+◌, ◌*◌, ◌^◌, length};
+ghost use Rattle.ir_lookup.specs.Halving.{Halves};
 ghost use Rattle.ir_model.specs.Row.{IsAscending, IsPlaceOf, labels};
 
 use crate::row::Starts;
@@ -12,7 +13,8 @@ pub fn place_counted<L: Ledger>(starts: &Starts, d: u16, steps: &mut Steps<L>) -
     requires { 0 < length starts.now }
     ensures ascending { IsAscending starts.now }
     ensures place { IsPlaceOf (labels starts.now) d result.0 }
-    ensures count { 2 ^ result.1 ≤ 2 * length starts.now }
+    ensures count { (2 ^ result.1 ≤ 2 * length starts.now) × (length starts.now + 1 < 2 * 2 ^ result.1) }
+    ensures halves { Halves (labels starts.now) d 0 (length starts.now) result.1 }
     ensures ticks { steps.new ≡ steps.old + result.1 }
 {
     let mut low = 0;

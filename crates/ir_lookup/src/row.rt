@@ -1,5 +1,6 @@
 ghost use Rattle.std.specs.Prelude.{◌≡◌, ◌<◌, ◌≤◌, ◌+◌, ◌*◌, ◌^◌, ℕ, length, slice_index, IsTrue, ◌↔◌};
 ghost use Rattle.ir_model.specs.Row.{IsAscending, HasPort, labels, start_ports};
+ghost use Rattle.ir_lookup.specs.Halving.{Halves};
 ghost use Rattle.ir_lookup.specs.Words.{starts_of};
 
 use crate::WORD_BASE;
@@ -111,7 +112,7 @@ impl Row {
     pub fn is_empty(&self) -> bool
         ensures { IsTrue result ↔ (length self.now ≡ 0) }
     {
-        self.starts.len() == 0
+        self.len() == 0
     }
 
     /// The label of the start at a place below `len()`.
@@ -139,12 +140,13 @@ impl Row {
         port
     }
 
-    /// What `find` answers, and the number of starts that were compared with `d`: at most as many as `len()` has
-    /// binary digits.
+    /// What `find` answers, and the number of starts that were compared with `d`: those that halve the row until none is
+    /// left, at most as many as `len()` has binary digits, and at most one less.
     pub fn find_counted(&self, d: u16) -> (u16, u32)
         requires { 0 < length self.now }
         ensures port { (n : ℕ) → d < n → HasPort n self.now d result.0 }
-        ensures count { 2 ^ result.1 ≤ 2 * length self.now }
+        ensures count { (2 ^ result.1 ≤ 2 * length self.now) × (length self.now + 1 < 2 * 2 ^ result.1) }
+        ensures halves { Halves (labels self.now) d 0 (length self.now) result.1 }
     {
         counted_from::<Brand>(self, d, Blank::new(1))
     }
@@ -153,7 +155,8 @@ impl Row {
     pub fn find_steps<L: Ledger>(&self, d: u16, steps: &mut Steps<L>) -> (u16, u32)
         requires { 0 < length self.now }
         ensures port { (n : ℕ) → d < n → HasPort n self.now d result.0 }
-        ensures count { 2 ^ result.1 ≤ 2 * length self.now }
+        ensures count { (2 ^ result.1 ≤ 2 * length self.now) × (length self.now + 1 < 2 * 2 ^ result.1) }
+        ensures halves { Halves (labels self.now) d 0 (length self.now) result.1 }
         ensures ticks { steps.new ≡ steps.old + result.1 }
     {
         let (place, count) = place_counted(&self.starts, d, steps);
@@ -168,7 +171,8 @@ fn counted_from<L: Ledger>(row: &Row, d: u16, blank: Blank) -> (u16, u32)
     requires parts { blank.parts ≡ L.parts }
     requires some { 0 < blank.parts }
     ensures port { (n : ℕ) → d < n → HasPort n row.now d result.0 }
-    ensures count { 2 ^ result.1 ≤ 2 * length row.now }
+    ensures count { (2 ^ result.1 ≤ 2 * length row.now) × (length row.now + 1 < 2 * 2 ^ result.1) }
+    ensures halves { Halves (labels row.now) d 0 (length row.now) result.1 }
 {
     let mut steps = Steps::<L>::new(blank);
     row.find_steps(d, &mut steps)

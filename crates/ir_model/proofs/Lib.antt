@@ -11,3 +11,10 @@ pub mod Canonical
 pub mod Pigeonhole
 pub mod Fewest
 pub mod Partial
+pub mod Going
+pub mod Spread
+pub mod Runs
+pub mod Chosen
+pub mod Steps
+pub mod Best
+pub mod Ways

@@ -13,4 +13,6 @@ pub mod Tree
 pub mod Interval
 pub mod Row
 pub mod Compiled
+pub mod Choices
+pub mod Compact
 pub mod Scheme

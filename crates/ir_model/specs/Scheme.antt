@@ -2,7 +2,7 @@
 use Rattle.std.specs.Prelude.{◌≡◌, ℕ, ◌<◌, ◌≤◌, Option, None, List, [], length, map, slice_index, slice_index_or, option_and_then}
 use Rattle.ir_model.specs.declared.Hop.{Hop}
 use Rattle.ir_model.specs.declared.Kind.{Kind}
-use Rattle.ir_model.specs.declared.Kind.TheVariants.{Tree, Shortest}
+use Rattle.ir_model.specs.declared.Kind.TheVariants.{Tree, Shortest, Compact}
 use Rattle.ir_model.specs.Network.{Network, node_count, port_at, IsNetwork}
 use Rattle.ir_model.specs.Walk.{IsConnected}
 use Rattle.ir_model.specs.Table.{IsShortestTable, IsPrescribedWalk}
@@ -10,6 +10,7 @@ use Rattle.ir_model.specs.Numbering.{IsDepthFirst, neighbors_of}
 use Rattle.ir_model.specs.Tree.{IsTreeTable}
 use Rattle.ir_model.specs.Row.{Start}
 use Rattle.ir_model.specs.Compiled.{IsCanonical}
+use Rattle.ir_model.specs.Compact.{IsCompactTable}
 
 -- A routing scheme by intervals: the kind and root that it was built with, its network, the nodes by label, the
 -- label of each node, the full table's port at each node, by destination, and each node's row.
@@ -45,10 +46,11 @@ row_in s u = slice_index_or s.rows u []
 abbrev pub by_label : Scheme → ℕ → List (Option ℕ)
 by_label s u = map (table_port s u) s.order
 
--- the full table of a kind over a network: the shortest table, or the tree table of a numbering
+-- the full table of a kind over a network: the shortest table, the tree table of a numbering, or the compact table of its labels
 abbrev pub IsTableOf : Kind → Network → List ℕ → List ℕ → (ℕ → ℕ → Option ℕ) → Type 0
 IsTableOf Shortest net order parents table = IsShortestTable net table
 IsTableOf Tree net order parents table = IsTreeTable net order parents table
+IsTableOf Compact net order parents table = IsCompactTable net order table
 
 -- Each node's label is its place in the order.
 pub record AreLabels (n : ℕ) (order labels : List ℕ) : Type 0 where

@@ -43,10 +43,11 @@ pub struct Hop {
     pub weight: u32,
 }
 
-/// How a plan routes: along the tree of its depth-first numbers (Santoro and Khatib 1985), or along shortest ways
-/// (van Leeuwen and Tan 1987).
+/// How a plan routes: along the tree of its depth-first numbers (Santoro and Khatib 1985), along shortest ways by the
+/// least ports (van Leeuwen and Tan 1987), or along shortest ways with the fewest intervals at each node.
 #[derive(Clone, Copy, Debug, PartialEq, Eq)]
 pub enum Kind {
     Tree,
     Shortest,
+    Compact,
 }

@@ -3,15 +3,19 @@ ghost use Rattle.ir_numbering.specs.declared.error.NumberError.TheVariants.{NoMe
 ghost use Rattle.ir_numbering.specs.Codes.{number_code};
 
 use std::alloc::AllocError;
+use thiserror::Error;
 
 /// Why a topology has no numbers.
-#[derive(Clone, Copy, Debug, PartialEq, Eq)]
+#[derive(Clone, Copy, Debug, PartialEq, Eq, Error)]
 pub enum NumberError {
     /// The root is no node of the topology.
+    #[error("the root is no node")]
     NoNode,
     /// Some node has no walk to some node.
+    #[error("some node has no walk to some node")]
     Disconnected,
     /// A growth was refused.
+    #[error("out of memory")]
     NoMemory,
 }
 

@@ -3,3 +3,5 @@ pub mod Standing
 pub mod TreePlans
 pub mod Counting
 pub mod TreeStarts
+pub mod CompactRows
+pub mod CompactPlans

@@ -17,7 +17,7 @@ true_from_in n a b d h = grind (arith, nat_tests)
 
 module _ (n d : ℕ) (label : d < n) where
   -- what is found has the label, and stands in the list
-  found : (ms : List PortInterval) (m : PortInterval) → find (has_label d) ms ≡ Some m → HasLabel n m d × ((k : ℕ) × (k < length ms) × (get_or ms k m ≡ m))
+  pub found : (ms : List PortInterval) (m : PortInterval) → find (has_label d) ms ≡ Some m → HasLabel n m d × ((k : ℕ) × (k < length ms) × (get_or ms k m ≡ m))
   found [] m e = absurd (cc e)
   found (x ∷ ms) m e =
       elim (cases_Bool (has_label d x)) [
@@ -30,7 +30,7 @@ module _ (n d : ℕ) (label : d < n) where
       ]
 
   -- where some interval has the label, one is found
-  some_found : (ms : List PortInterval) (k : ℕ) (m : PortInterval) → k < length ms → get_or ms k m ≡ m → HasLabel n m d → (f : PortInterval) × (find (has_label d) ms ≡ Some f)
+  pub some_found : (ms : List PortInterval) (k : ℕ) (m : PortInterval) → k < length ms → get_or ms k m ≡ m → HasLabel n m d → (f : PortInterval) × (find (has_label d) ms ≡ Some f)
   some_found [] k m h is has = absurd (omega arith)
   some_found (x ∷ ms) zero m h is has =
       let here : HasLabel n x d = subst (λ (y : PortInterval). HasLabel n y d) (sym is) has in

@@ -9,12 +9,14 @@ use Rattle.std.proofs.lemmas.List.Sums.{sum_by-le}
 use Rattle.std.proofs.lemmas.List.FromFn.{get_or-map-range_with_len, get_or-range_with_len, length-range_with_len}
 use Rattle.ir_model.specs.declared.Hop.{Hop}
 use Rattle.ir_model.specs.declared.Kind.{Kind}
-use Rattle.ir_model.specs.declared.Kind.TheVariants.{Tree, Shortest}
+use Rattle.ir_model.specs.declared.Kind.TheVariants.{Tree, Shortest, Compact}
 use Rattle.ir_model.specs.Network.{Network, IsNetwork, node_count, port_at}
 use Rattle.ir_model.specs.Walk.{IsConnected}
 use Rattle.ir_model.specs.Table.{IsPrescribedWalk, Continues, next_node}
 use Rattle.ir_model.specs.Numbering.{IsDepthFirst, neighbors_of}
 use Rattle.ir_model.specs.Row.{Start, labels as start_labels, intervals_of}
+use Rattle.ir_model.specs.Choices.{AreChosen}
+use Rattle.ir_model.specs.Compact.{IsTied}
 use Rattle.ir_model.specs.Compiled.{IsDestinations, IsCanonical, port_to, Fits, IsFewest}
 use Rattle.ir_model.specs.Scheme.{Scheme, IsScheme, IsTableOf, AreLabels, table_port, label_in, by_label, row_in}
 use Rattle.ir_model.proofs.Canonical.{canonical_fits}
@@ -90,27 +92,10 @@ same_way net ok t s d same x hx (y ∷ rest) way =
     let next : next_node net s x d ≡ Some y = ap (λ (o : Option ℕ). option_and_then (λ p. option_map (λ (hop : Hop). hop.node) (port_at net x p)) o) (same x hx) ∙ way.1 in
     (way.0, next, same_way net ok t s d same y (next_inside net ok t x d y way.1) rest way.2)
 
-same_walk : (net : Network) → IsNetwork net → (t s : ℕ → ℕ → Option ℕ) (d : ℕ) → ((x : ℕ) → x < node_count net → s x d ≡ t x d)
+pub same_walk : (net : Network) → IsNetwork net → (t s : ℕ → ℕ → Option ℕ) (d : ℕ) → ((x : ℕ) → x < node_count net → s x d ≡ t x d)
     → (u : ℕ) → u < node_count net → (walk : List ℕ) → IsPrescribedWalk net t u d walk → IsPrescribedWalk net s u d walk
 same_walk net ok t s d same u hu [] is = is
 same_walk net ok t s d same u hu (x ∷ rest) is = (is.0, same_way net ok t s d same u hu rest is.1)
-
--- tables that agree on the nodes are both of a kind
-same_table : (kind : Kind) (net : Network) (order parents : List ℕ) (t s : ℕ → ℕ → Option ℕ)
-    → ((u d : ℕ) → u < node_count net → d < node_count net → s u d ≡ t u d) → IsTableOf kind net order parents t → IsTableOf kind net order parents s
-same_table Tree net order parents t s same is = record {
-  own = λ d hd. same d d hd hd ∙ is.own d hd;
-  port = λ u d hu hd ne. let w = is.port u d hu hd ne in (w.0, w.1, w.2, same u d hu hd ∙ w.3, w.4, w.5);
-}
-same_table Shortest net order parents t s same is = record {
-  own = λ d hd. same d d hd hd ∙ is.own d hd;
-  port = λ u d hu hd ne. let w = is.port u d hu hd ne in (w.0, same u d hu hd ∙ w.1, w.2);
-}
-
--- a table of either kind is full
-pub full_table : (kind : Kind) (net : Network) (order parents : List ℕ) (t : ℕ → ℕ → Option ℕ) → IsTableOf kind net order parents t → IsFull (node_count net) t
-full_table Tree net order parents t is = record { own = is.own; some = λ u d hu hd ne. rw (is.port u d hu hd ne).3 refl }
-full_table Shortest net order parents t is = record { own = is.own; some = λ u d hu hd ne. rw (is.port u d hu hd ne).1 refl }
 
 -- maps by functions that agree on the list's numbers
 map_same : (n : ℕ) (f g : ℕ → Option ℕ) → ((x : ℕ) → x < n → f x ≡ g x) → (xs : List ℕ) → ((k : ℕ) → k < length xs → get_or xs k 0 < n) → map f xs ≡ map g xs
@@ -119,6 +104,34 @@ map_same n f g same (x ∷ xs) small =
     let here : f x ≡ g x = same x (small 0 (omega arith)) in
     let rest : map f xs ≡ map g xs = map_same n f g same xs (λ k h. small (suc k) (omega arith)) in
     rw (here, rest) refl
+
+-- tables that agree on the nodes are both of a kind
+same_table : (kind : Kind) (net : Network) (order parents labels : List ℕ) (t s : ℕ → ℕ → Option ℕ) → AreLabels (node_count net) order labels
+    → ((u d : ℕ) → u < node_count net → d < node_count net → s u d ≡ t u d) → IsTableOf kind net order parents t → IsTableOf kind net order parents s
+same_table Tree net order parents labels t s named same is = record {
+  own = λ d hd. same d d hd hd ∙ is.own d hd;
+  port = λ u d hu hd ne. let w = is.port u d hu hd ne in (w.0, w.1, w.2, same u d hu hd ∙ w.3, w.4, w.5);
+}
+same_table Shortest net order parents labels t s named same is = record {
+  own = λ d hd. same d d hd hd ∙ is.own d hd;
+  port = λ u d hu hd ne. let w = is.port u d hu hd ne in (w.0, same u d hu hd ∙ w.1, w.2);
+}
+same_table Compact net order parents labels t s named same is = record {
+  nearer = record {
+    own = λ d hd. same d d hd hd ∙ is.nearer.own d hd;
+    port = λ u d hu hd ne. let w = is.nearer.port u d hu hd ne in (w.0, same u d hu hd ∙ w.1, w.2);
+  };
+  chosen = λ a ha.
+      let u = slice_index order a in
+      let maps : map (s u) order ≡ map (t u) order = map_same (node_count net) (s u) (t u) (λ d hd. same u d (named.node a ha) hd) order (λ k h. named.node k (rw (sym named.every_label) h)) in
+      subst (λ (ports : List (Option ℕ)). AreChosen (node_count net) a (IsTied net order a) ports) (sym maps) (is.chosen a ha);
+}
+
+-- a table of any kind is full
+pub full_table : (kind : Kind) (net : Network) (order parents : List ℕ) (t : ℕ → ℕ → Option ℕ) → IsTableOf kind net order parents t → IsFull (node_count net) t
+full_table Tree net order parents t is = record { own = is.own; some = λ u d hu hd ne. rw (is.port u d hu hd ne).3 refl }
+full_table Compact net order parents t is = record { own = is.nearer.own; some = λ u d hu hd ne. rw (is.nearer.port u d hu hd ne).1 refl }
+full_table Shortest net order parents t is = record { own = is.own; some = λ u d hu hd ne. rw (is.port u d hu hd ne).1 refl }
 
 -- the numbers and rows of a full table make a scheme
 pub scheme_stands : (kind : Kind) (root : ℕ) (net : Network) (order parents labels : List ℕ) (table : ℕ → ℕ → Option ℕ) (rows : List (List Start))
@@ -139,7 +152,7 @@ scheme_stands kind root net order parents labels table rows ok connected in_rang
       parents = parents;
       numbering = first;
       labels = named;
-      table = same_table kind net order parents table (table_port s) same is;
+      table = same_table kind net order parents labels table (table_port s) named same is;
       walks = λ u d hu hd.
           let w = walks u d hu hd in
           (w.0, same_walk net ok table (table_port s) d (λ x hx. same x d hx hd) u hu w.0 w.1, w.2);

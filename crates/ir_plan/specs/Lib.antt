@@ -2,3 +2,4 @@ pub mod Refusals
 pub mod Shown
 pub mod Views
 pub mod TreeRows
+pub mod CompactRows

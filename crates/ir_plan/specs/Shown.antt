@@ -1,12 +1,13 @@
 -- The full table that rows of starts stand for, and the scheme that numbers and rows make.
-use Rattle.std.specs.Prelude.{◌≡◌, ◌≢◌, ◌==◌, IsSome, ℕ, ◌<◌, Bool, ◌&&◌, ◌||◌, nat_lt, nat_le, if◌then◌else◌, Option, None, List, [], length, map, find, option_map, slice_index, slice_index_or}
+use Rattle.std.specs.Prelude.{◌≡◌, ◌≢◌, ◌==◌, IsSome, ℕ, ◌<◌, ◌≤◌, Bool, ◌&&◌, ◌||◌, nat_lt, nat_le, if◌then◌else◌, Option, None, List, [], length, map, find, option_map, slice_index, slice_index_or}
 use Rattle.std.specs.List.{range_with_len}
 use Rattle.ir_model.specs.declared.Kind.{Kind}
 use Rattle.ir_model.specs.Network.{Network, node_count}
 use Rattle.ir_model.specs.Interval.{PortInterval}
 use Rattle.ir_model.specs.Row.{Start, intervals_of}
 use Rattle.ir_model.specs.Compiled.{IsCanonical}
-use Rattle.ir_model.specs.Scheme.{Scheme}
+use Rattle.ir_model.specs.Table.{IsPrescribedWalk}
+use Rattle.ir_model.specs.Scheme.{Scheme, IsTableOf}
 
 -- whether the cyclic interval has the label d
 abbrev pub has_label : ℕ → PortInterval → Bool
@@ -45,3 +46,10 @@ pub record AreRows (n : ℕ) (order labels : List ℕ) (table : ℕ → ℕ → 
 pub record IsFull (n : ℕ) (table : ℕ → ℕ → Option ℕ) : Type 0 where
   pub own : (d : ℕ) → d < n → table d d ≡ None
   pub some : (u d : ℕ) → u < n → d < n → u ≢ d → IsSome (table u d)
+
+-- the rows stand for a full table of a kind, whose prescribed walks exist and are short
+abbrev pub StandForTable : Kind → Network → List ℕ → List ℕ → List ℕ → List (List Start) → Type 0
+StandForTable kind net order parents labels rows =
+    (table : ℕ → ℕ → Option ℕ) × IsTableOf kind net order parents table
+    × ((u d : ℕ) → u < node_count net → d < node_count net → (walk : List ℕ) × IsPrescribedWalk net table u d walk × (length walk ≤ node_count net))
+    × AreRows (node_count net) order labels table rows

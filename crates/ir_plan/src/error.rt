@@ -5,17 +5,22 @@ ghost use Rattle.ir_plan.specs.declared.error.PlanError.TheVariants.{NoMemory};
 use ir_numbering::NumberError;
 use ir_tables::TableError;
 use std::alloc::AllocError;
+use thiserror::Error;
 
 /// Why there is no plan.
-#[derive(Clone, Copy, Debug, PartialEq, Eq)]
+#[derive(Clone, Copy, Debug, PartialEq, Eq, Error)]
 pub enum PlanError {
     /// The root is no node of the topology.
+    #[error("the root is no node")]
     NoNode,
     /// The topology has no node.
+    #[error("the topology has no node")]
     Empty,
     /// Some node has no walk to some node.
+    #[error("some node has no walk to some node")]
     Disconnected,
     /// A growth was refused.
+    #[error("out of memory")]
     NoMemory,
 }
 

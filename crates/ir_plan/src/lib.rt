@@ -1,6 +1,7 @@
 //! One epoch's plan: depth-first labels, and each node's row of interval starts in place of a full table.
 #![tactic(auto)]
 
+mod compact;
 mod error;
 mod plan;
 mod rows;

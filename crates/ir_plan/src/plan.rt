@@ -1,21 +1,23 @@
 ghost use Rattle.std.specs.Prelude.{◌-◌, ◌*◌, ◌≡◌, ◌↔◌, ◌<◌, ◌≤◌, Some, length, sum_by, IfOk, IfErr};
 ghost use Rattle.ir_model.specs.Network.{IsNetwork, node_count, port_at, ports_of};
 ghost use Rattle.ir_model.specs.Walk.{IsConnected, IsDisconnected};
-ghost use Rattle.ir_model.specs.Table.{port_in, IsRouted};
-ghost use Rattle.ir_model.specs.Scheme.{IsScheme, IsTableOf, by_label, label_in, node_in, table_port, row_in};
+ghost use Rattle.ir_model.specs.Table.{IsShortest, IsRouted};
+ghost use Rattle.ir_model.specs.Scheme.{IsScheme, by_label, label_in, node_in, table_port, row_in};
 ghost use Rattle.ir_model.specs.Row.{intervals_of};
 ghost use Rattle.ir_model.specs.Compiled.{Fits, IsFewest};
 ghost use Rattle.ir_numbering.specs.Numbers.{IsNumberingOf};
-ghost use Rattle.ir_plan.specs.Shown.{scheme_with};
+ghost use Rattle.ir_plan.specs.Shown.{scheme_with, StandForTable};
+ghost use Rattle.ir_plan.specs.CompactRows.{FitsTied, IsFewestOfTied};
 ghost use Rattle.ir_plan.specs.TreeRows.{HasTreeRow};
 
+use crate::compact::compact_rows;
 use crate::error::PlanError;
 use crate::rows::rows_of;
 use ir_lookup::Row;
 use ir_model::{Hop, Kind};
 use ir_numbering::{Numbering, tree_table};
 use ir_tables::{Table, Topology};
-use std::alloc::Global;
+use std::alloc::{AllocError, Global};
 use std::marker::Model;
 
 /// A plan of routes over its own topology, for one epoch: the nodes' labels, and for each node a row of interval starts
@@ -150,13 +152,16 @@ impl Plan {
 
     /// The row of a node. It gives each address but the own its port in the full table, by the fewest intervals that do.
     /// In a tree plan it has exactly one start for each port to a son or the father, and no other (Santoro and Khatib
-    /// 1985).
+    /// 1985). In a compact plan each port leads nearer to its addresses' nodes, and no set of cyclic intervals is smaller that
+    /// gives each address but the own such a port.
     pub fn row(&self, u: u16) -> &Row
         requires { u < node_count self.now.network }
         ensures row { result.now ≡ row_in self.now u }
         ensures fits { Fits (node_count self.now.network) (label_in self.now u) (by_label self.now u) (intervals_of result.now) }
         ensures fewest { IsFewest (node_count self.now.network) (label_in self.now u) (by_label self.now u) (length result.now) }
         ensures tree { self.now.kind ≡ Kind.Tree → HasTreeRow self.now u }
+        ensures tied { self.now.kind ≡ Kind.Compact → FitsTied self.now u (intervals_of result.now) }
+        ensures compact { self.now.kind ≡ Kind.Compact → IsFewestOfTied self.now u (length result.now) }
     {
         &self.rows[u as usize]
     }
@@ -187,29 +192,65 @@ fn numbered_rows(
     ensures in_range { IfErr result (λ e. e ≡ PlanError.NoNode → ⊥) }
     ensures disconnected { IfErr result (λ e. e ≡ PlanError.Disconnected → IsDisconnected topology.now) }
 {
+    let _nodes = topology.nodes();
     let numbering = Numbering::depth_first(alloc, topology, root)?;
-    let table = full_table(alloc, topology, kind, &numbering)?;
-    let rows = rows_of(alloc, topology.nodes() as u16, &numbering, &table)?;
+    let rows = rows_of_kind(alloc, topology, kind, &numbering)?;
     Ok((numbering, rows))
 }
 
-// The full table of a kind.
-fn full_table(
+// The rows of the full table of a kind.
+fn rows_of_kind(
     alloc: Global,
     topology: &Topology,
     kind: Kind,
     numbering: &Numbering,
-) -> Result<Table, PlanError>
+) -> Result<Vec<Row>, PlanError>
     requires some { 0 < node_count topology.now }
     requires numbering { IsNumberingOf topology.now numbering.now }
-    ensures table { IfOk result (λ table. IsTableOf kind topology.now numbering.now.order numbering.now.parents (port_in table)) }
-    ensures routed { IfOk result (λ table. IsRouted topology.now table) }
+    ensures stand { IfOk result (λ rows. StandForTable kind topology.now numbering.now.order numbering.now.parents numbering.now.labels rows.items) }
     ensures some { IfErr result (λ e. e ≡ PlanError.Empty → ⊥) }
     ensures in_range { IfErr result (λ e. e ≡ PlanError.NoNode → ⊥) }
     ensures disconnected { IfErr result (λ e. e ≡ PlanError.Disconnected → IsDisconnected topology.now) }
 {
     match kind {
-        Kind::Tree => Ok(tree_table(alloc, topology, numbering)?),
-        Kind::Shortest => Ok(Table::shortest(alloc, topology)?),
+        Kind::Tree => Ok(tree_rows(alloc, topology, numbering)?),
+        Kind::Shortest => {
+            let table = Table::shortest(alloc, topology)?;
+            Ok(shortest_rows(alloc, topology, numbering, &table)?)
+        }
+        Kind::Compact => {
+            let table = Table::shortest(alloc, topology)?;
+            Ok(compact_rows(alloc, topology, numbering, &table)?)
+        }
     }
+}
+
+// The rows of the tree table.
+fn tree_rows(
+    alloc: Global,
+    topology: &Topology,
+    numbering: &Numbering,
+) -> Result<Vec<Row>, AllocError>
+    requires { IsNumberingOf topology.now numbering.now }
+    ensures { IfOk result (λ rows. StandForTable Kind.Tree topology.now numbering.now.order numbering.now.parents numbering.now.labels rows.items) }
+{
+    let nodes = topology.nodes() as u16;
+    let table = tree_table(alloc, topology, numbering)?;
+    Ok(rows_of(alloc, nodes, numbering, &table)?)
+}
+
+// The rows of the shortest table.
+fn shortest_rows(
+    alloc: Global,
+    topology: &Topology,
+    numbering: &Numbering,
+    table: &Table,
+) -> Result<Vec<Row>, AllocError>
+    requires numbering { IsNumberingOf topology.now numbering.now }
+    requires shortest { IsShortest topology.now table.now }
+    requires routed { IsRouted topology.now table.now }
+    ensures { IfOk result (λ rows. StandForTable Kind.Shortest topology.now numbering.now.order numbering.now.parents numbering.now.labels rows.items) }
+{
+    let nodes = topology.nodes() as u16;
+    Ok(rows_of(alloc, nodes, numbering, table)?)
 }

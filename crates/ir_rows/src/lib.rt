@@ -2,15 +2,27 @@
 #![tactic(auto)]
 
 #[cfg(test)]
+mod checked;
+#[cfg(test)]
+mod checks;
+#[cfg(test)]
 mod compiled;
 #[cfg(test)]
+mod errors;
+#[cfg(test)]
 mod graphs;
+#[cfg(test)]
+mod hostile;
+#[cfg(test)]
+mod looks;
 #[cfg(test)]
 mod numbers;
 #[cfg(test)]
 mod plans;
 #[cfg(test)]
 mod programs;
+#[cfg(test)]
+mod restamps;
 #[cfg(test)]
 mod rings;
 #[cfg(test)]

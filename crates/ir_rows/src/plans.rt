@@ -117,6 +117,68 @@ fn tree_plan_goes_by_the_heavy_link(rt: HostRuntime) -> Result<(), Fail> {
 }
 
 #[test]
+fn compact_plan_of_a_ring(rt: HostRuntime) -> Result<(), Fail> {
+    let plan = plan_of(rt.alloc(), &RING, Kind::Compact, 0)?;
+    assert_eq!(rt; plan.nodes(), 4);
+    assert_eq!(rt; plan.labels(), 8);
+    assert!(rt; shows(&plan, 0, 0, &[(1, 0), (3, 1)]));
+    assert!(rt; shows(&plan, 1, 1, &[(0, 0), (2, 1)]));
+    assert!(rt; shows(&plan, 2, 3, &[(0, 0), (2, 1)]));
+    assert!(rt; shows(&plan, 3, 2, &[(1, 0), (3, 1)]));
+    Ok(())
+}
+
+#[test]
+fn compact_plan_without_a_tie(rt: HostRuntime) -> Result<(), Fail> {
+    let plan = plan_of(rt.alloc(), &HEAVY, Kind::Compact, 0)?;
+    assert_eq!(rt; plan.nodes(), 6);
+    assert_eq!(rt; plan.labels(), 13);
+    assert!(rt; shows(&plan, 0, 0, &[(1, 0), (2, 1), (4, 0), (5, 1)]));
+    assert!(rt; shows(&plan, 2, 2, &[(0, 0), (3, 2), (4, 0), (5, 4)]));
+    let path = plan_of(rt.alloc(), &PATH, Kind::Compact, 1)?;
+    assert_eq!(rt; path.nodes(), 3);
+    assert_eq!(rt; path.labels(), 4);
+    assert!(rt; shows(&path, 0, 1, &[(2, 0)]));
+    assert!(rt; shows(&path, 1, 0, &[(1, 0), (2, 1)]));
+    Ok(())
+}
+
+/// The names of sixteen nodes, row by row of a grid.
+const CELLS: [&str; 16] = [
+    "0", "1", "2", "3", "4", "5", "6", "7", "8", "9", "10", "11", "12", "13", "14", "15",
+];
+
+/// A grid of four by four nodes.
+fn grid(alloc: Global) -> Result<Topology, Fail> {
+    let mut graph = Graph::new(alloc);
+    for (i, cell) in CELLS.iter().enumerate() {
+        let Ok(_) = graph.add_node(cell) else {
+            return Err("the node is refused".into());
+        };
+        if i % 4 > 0 && graph.add_edge(CELLS[i - 1], cell, 1).is_err() {
+            return Err("the edge is refused".into());
+        }
+        if i >= 4 && graph.add_edge(CELLS[i - 4], cell, 1).is_err() {
+            return Err("the edge is refused".into());
+        }
+    }
+    Ok(Topology::of(alloc, &graph)?)
+}
+
+/// In a grid one interval for each direction of a link is enough.
+#[test]
+fn compact_plan_of_a_grid(rt: HostRuntime) -> Result<(), Fail> {
+    let topology = grid(rt.alloc())?;
+    assert_eq!(rt; topology.links(), 24);
+    let Ok(plan) = Plan::build(rt.alloc(), topology, Kind::Compact, 0) else {
+        return Err("the plan is refused".into());
+    };
+    assert_eq!(rt; plan.nodes(), 16);
+    assert_eq!(rt; plan.labels(), 48);
+    Ok(())
+}
+
+#[test]
 fn plan_of_one_node(rt: HostRuntime) -> Result<(), Fail> {
     let mut graph = Graph::new(rt.alloc());
     let Ok(true) = graph.add_node("a") else {

@@ -90,6 +90,7 @@ fn words_that_are_given(rt: HostRuntime) -> Result<(), Fail> {
     assert!(rt; words.root.is_some_and(|name| name.as_str() == "b"));
     assert!(rt; words.capacity == 1);
     assert!(rt; words.packets == 2);
+    assert!(rt; words.restamps == 0);
     assert!(rt; words.files.first().is_some_and(|name| name.as_str() == "-"));
     Ok(())
 }
@@ -119,11 +120,14 @@ fn words_that_are_refused(rt: HostRuntime) -> Result<(), Fail> {
     assert!(rt; is_usage(rt.alloc(), &["plan", "--kind", "longest", "-"])?);
     assert!(rt; is_usage(rt.alloc(), &["plan", "--depth", "1", "-"])?);
     assert!(rt; is_usage(rt.alloc(), &["plan", "--capacity", "many", "-"])?);
-    assert!(rt; is_usage(rt.alloc(), &["check", "-"])?);
+    assert!(rt; is_usage(rt.alloc(), &["live", "-"])?);
     assert!(rt; is_usage(rt.alloc(), &["sim"])?);
     assert!(rt; is_usage(rt.alloc(), &["sim", "topology"])?);
     assert!(rt; is_usage(rt.alloc(), &["sim", "-", "script"])?);
     assert!(rt; is_usage(rt.alloc(), &["sim", "one", "two", "three"])?);
+    assert!(rt; is_usage(rt.alloc(), &["sim", "--restamps", "4", "-"])?);
+    assert!(rt; is_usage(rt.alloc(), &["check", "one", "two"])?);
+    assert!(rt; is_usage(rt.alloc(), &["check", "one", "two", "-"])?);
     Ok(())
 }
 

@@ -22,6 +22,22 @@ fn ring(alloc: Global, nodes: u16) -> Result<Topology, Fail> {
     Ok(Topology::of(alloc, &graph)?)
 }
 
+/// The nodes n0 to n255, each linked to the next four: 1,024 links.
+fn chords(alloc: Global) -> Result<Topology, Fail> {
+    let mut graph = Graph::new(alloc);
+    for u in 0..256u16 {
+        for step in 1..5u16 {
+            let v = (u + step) % 256;
+            let from = format!(in alloc; "n{u}")?;
+            let to = format!(in alloc; "n{v}")?;
+            let Ok(_) = graph.add_edge(from.as_str(), to.as_str(), 1) else {
+                return Err("the edge is refused".into());
+            };
+        }
+    }
+    Ok(Topology::of(alloc, &graph)?)
+}
+
 fn opening(topology: Topology) -> Opening {
     Opening {
         topology,
@@ -29,6 +45,7 @@ fn opening(topology: Topology) -> Opening {
         root: 0,
         capacity: 1024,
         max_packets: 4096,
+        restamps: 0,
     }
 }
 
@@ -89,8 +106,46 @@ fn a_drain_delivers_them_all(rt: HostRuntime) -> Result<(), Fail> {
 }
 
 #[test]
-fn a_ring_of_65_is_too_large(rt: HostRuntime) -> Result<(), Fail> {
-    let topology = ring(rt.alloc(), 65)?;
+fn a_ring_of_256_is_drained(rt: HostRuntime) -> Result<(), Fail> {
+    let mut steps = Vec::new(rt.alloc());
+    for source in 0..256u16 {
+        steps.push(Step::Event(Event::Inject(source, 255 - source)))?;
+    }
+    steps.push(Step::Drain)?;
+    let topology = ring(rt.alloc(), 256)?;
+    let Ok(played) = play(rt.alloc(), opening(topology), steps.as_slice()) else {
+        return Err("not opened".into());
+    };
+    assert!(rt; ended(&played, Fate::Delivered) == 256);
+    Ok(())
+}
+
+#[test]
+fn changes_of_the_last_of_1024_links(rt: HostRuntime) -> Result<(), Fail> {
+    let topology = chords(rt.alloc())?;
+    let Ok(mut world) = World::new(rt.alloc(), topology, Kind::Tree, 0, 16, 4096, 0) else {
+        return Err("not opened".into());
+    };
+    for k in 0..65535 {
+        let event = if k % 2 == 0 {
+            Event::Down(1023)
+        } else {
+            Event::Up(1023)
+        };
+        let Ok(_) = world.apply(event) else {
+            return Err("refused".into());
+        };
+    }
+    assert!(rt; matches!(world.apply(Event::Up(1023)), Err(Refused::TooManyChanges)));
+    assert!(rt; matches!(world.apply(Event::Down(1024)), Err(Refused::NoLink)));
+    let newest: Option<Board> = world.board_versions().get(65535).copied();
+    assert!(rt; newest.is_some_and(|board| !board.is_up(1023) && board.is_up(1022)));
+    Ok(())
+}
+
+#[test]
+fn a_ring_of_257_is_too_large(rt: HostRuntime) -> Result<(), Fail> {
+    let topology = ring(rt.alloc(), 257)?;
     let refused = play(rt.alloc(), opening(topology), &[]);
     assert!(rt; matches!(refused, Err(OpenError::TooLarge)));
     Ok(())
@@ -99,7 +154,7 @@ fn a_ring_of_65_is_too_large(rt: HostRuntime) -> Result<(), Fail> {
 #[test]
 fn a_view_is_the_version_read_last(rt: HostRuntime) -> Result<(), Fail> {
     let topology = ring(rt.alloc(), 3)?;
-    let Ok(mut world) = World::new(rt.alloc(), topology, Kind::Tree, 0, 16, 4096) else {
+    let Ok(mut world) = World::new(rt.alloc(), topology, Kind::Tree, 0, 16, 4096, 0) else {
         return Err("not opened".into());
     };
     let Ok(_) = world.apply(Event::Down(0)) else {
@@ -122,7 +177,7 @@ fn a_view_is_the_version_read_last(rt: HostRuntime) -> Result<(), Fail> {
 #[test]
 fn records_are_handed_out_by_id(rt: HostRuntime) -> Result<(), Fail> {
     let topology = ring(rt.alloc(), 3)?;
-    let Ok(mut world) = World::new(rt.alloc(), topology, Kind::Tree, 0, 16, 4096) else {
+    let Ok(mut world) = World::new(rt.alloc(), topology, Kind::Tree, 0, 16, 4096, 0) else {
         return Err("not opened".into());
     };
     let Ok(_) = world.apply(Event::Inject(0, 2)) else {

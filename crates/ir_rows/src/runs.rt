@@ -57,6 +57,7 @@ fn played(
         root,
         capacity,
         max_packets: 4096,
+        restamps: 0,
     };
     let Ok(played) = play(alloc, opening, steps) else {
         return Err("not opened".into());
@@ -319,32 +320,32 @@ fn openings_refused(rt: HostRuntime) -> Result<(), Fail> {
     let empty = topology(alloc, &[])?;
     assert!(rt;
         matches!(
-            World::new(alloc, empty, Kind::Tree, 0, 16, 4096),
+            World::new(alloc, empty, Kind::Tree, 0, 16, 4096, 0),
             Err(OpenError::Empty)
         )
     );
     assert!(rt;
         matches!(
-            World::new(alloc, path(alloc)?, Kind::Tree, 3, 0, 4096),
+            World::new(alloc, path(alloc)?, Kind::Tree, 3, 0, 4096, 0),
             Err(OpenError::NoNode)
         )
     );
     assert!(rt;
         matches!(
-            World::new(alloc, path(alloc)?, Kind::Tree, 0, 0, 4096),
+            World::new(alloc, path(alloc)?, Kind::Tree, 0, 0, 4096, 0),
             Err(OpenError::TooLarge)
         )
     );
     assert!(rt;
         matches!(
-            World::new(alloc, path(alloc)?, Kind::Tree, 0, 1, 4097),
+            World::new(alloc, path(alloc)?, Kind::Tree, 0, 1, 4097, 0),
             Err(OpenError::TooLarge)
         )
     );
     let apart = topology(alloc, &[("a", "a", 1), ("b", "b", 1)])?;
     assert!(rt;
         matches!(
-            World::new(alloc, apart, Kind::Tree, 0, 16, 4096),
+            World::new(alloc, apart, Kind::Tree, 0, 16, 4096, 0),
             Err(OpenError::Disconnected)
         )
     );
@@ -355,7 +356,7 @@ fn openings_refused(rt: HostRuntime) -> Result<(), Fail> {
 
 #[test]
 fn epochs_are_64(rt: HostRuntime) -> Result<(), Fail> {
-    let Ok(mut world) = World::new(rt.alloc(), path(rt.alloc())?, Kind::Tree, 1, 16, 4096) else {
+    let Ok(mut world) = World::new(rt.alloc(), path(rt.alloc())?, Kind::Tree, 1, 16, 4096, 0) else {
         return Err("not opened".into());
     };
     for _ in 0..63 {
@@ -374,7 +375,7 @@ fn epochs_are_64(rt: HostRuntime) -> Result<(), Fail> {
 
 #[test]
 fn changes_are_65535(rt: HostRuntime) -> Result<(), Fail> {
-    let Ok(mut world) = World::new(rt.alloc(), path(rt.alloc())?, Kind::Tree, 1, 16, 4096) else {
+    let Ok(mut world) = World::new(rt.alloc(), path(rt.alloc())?, Kind::Tree, 1, 16, 4096, 0) else {
         return Err("not opened".into());
     };
     for k in 0..65535 {

@@ -13,15 +13,15 @@ const HEAVY: &str = "u p 1\nu q 1\np q 9\nq r 1\nq t 9\np t 1\nq s 1\n";
 
 /// What a run answers and prints.
 #[derive(Drop)]
-struct Printed {
-    status: u8,
-    output: Vec<u8>,
-    faults: Vec<u8>,
+pub(crate) struct Printed {
+    pub status: u8,
+    pub output: Vec<u8>,
+    pub faults: Vec<u8>,
 }
 
 impl Printed {
     /// Whether this is what it answers and prints.
-    fn is(&self, status: u8, output: &str, faults: &str) -> bool {
+    pub(crate) fn is(&self, status: u8, output: &str, faults: &str) -> bool {
         self.status == status
             && self.output.as_slice() == output.as_bytes()
             && self.faults.as_slice() == faults.as_bytes()
@@ -71,7 +71,12 @@ fn piped(alloc: Global, input: &str) -> Result<Printed, Fail> {
 }
 
 /// What `route sim` prints with these words, over two files.
-fn simulated(alloc: Global, words: &[&str], topology: &str, script: &str) -> Result<Printed, Fail> {
+pub(crate) fn simulated(
+    alloc: Global,
+    words: &[&str],
+    topology: &str,
+    script: &str,
+) -> Result<Printed, Fail> {
     let Ok(words) = asked(alloc, words)? else {
         return Err("the words are refused".into());
     };
@@ -132,11 +137,39 @@ fn a_packet_that_no_drain_follows(rt: HostRuntime) -> Result<(), Fail> {
 }
 
 #[test]
-fn inputs_without_a_cut(rt: HostRuntime) -> Result<(), Fail> {
-    assert!(rt; piped(rt.alloc(), "a")?.is(0, "trace 1\n", ""));
-    assert!(rt; piped(rt.alloc(), "a b\nb c\n%%")?.is(0, "trace 1\n", ""));
-    assert!(rt; piped(rt.alloc(), "a b\nb c\n%")?.is(1, "", "opening Disconnected\n"));
-    assert!(rt; piped(rt.alloc(), "")?.is(1, "", "opening Empty\n"));
+fn inputs_that_are_cut_off(rt: HostRuntime) -> Result<(), Fail> {
+    for (input, status, output, faults) in [
+        ("", 1, "", "opening Empty\n"),
+        ("a", 0, "trace 1\n", ""),
+        ("a b\nb c\n", 0, "trace 1\n", ""),
+        ("a b\nb c\n%", 1, "", "opening Disconnected\n"),
+        ("a b\nb c\n%%", 0, "trace 1\n", ""),
+        ("a b\nb c\n%%\ninj", 1, "", "script 1 BadCommand\n"),
+        ("a b\nb c\n%%\ninject a", 1, "", "script 1 BadCommand\n"),
+        (
+            "a b\nb c\n%%\ninject a c",
+            0,
+            "trace 1\n0 1 a c 0 left a\n",
+            "",
+        ),
+    ] {
+        let printed = piped(rt.alloc(), input)?;
+        assert!(rt; printed.is(status, output, faults), "{input}");
+    }
+    Ok(())
+}
+
+#[test]
+fn an_edge_list_with_a_faulty_line(rt: HostRuntime) -> Result<(), Fail> {
+    let words = ["sim", "--format", "edgelist", "topology", "script"];
+    for (text, faults) in [
+        ("a b 1\nb z\nb c 1\n", "topology 2 BadRow\n"),
+        ("a b 1\na b 0\nb c 1\n", "topology 2 BadWeight\n"),
+        ("a b 1\nb c 1\n\x01\n", "topology 3 BadByte\n"),
+    ] {
+        let printed = simulated(rt.alloc(), &words, text, "inject a c\ndrain\n")?;
+        assert!(rt; printed.is(1, "", faults), "{text}");
+    }
     Ok(())
 }
 
@@ -162,8 +195,8 @@ fn ring(alloc: Global, nodes: u32) -> Result<String, Fail> {
 }
 
 #[test]
-fn a_ring_of_65(rt: HostRuntime) -> Result<(), Fail> {
-    let text = ring(rt.alloc(), 65)?;
+fn a_ring_of_257(rt: HostRuntime) -> Result<(), Fail> {
+    let text = ring(rt.alloc(), 257)?;
     let words = ["sim", "topology", "script"];
     let printed = simulated(rt.alloc(), &words, text.as_str(), "")?;
     assert!(rt; printed.is(1, "", "opening TooLarge\n"));

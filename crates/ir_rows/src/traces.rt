@@ -4,6 +4,7 @@ ghost use Rattle.std.specs.Prelude.{◌≡◌, false};
 
 use ir_core::Record;
 use ir_graph::Graph;
+use ir_script::{ScriptError, ScriptFault};
 use ir_tables::Topology;
 use ir_trace::{Finding, FindingKind, Outlet, RowFate, Trace, TraceError, read_trace, write_trace};
 use std::alloc::Global;
@@ -44,10 +45,11 @@ fn rows_are_read(rt: HostRuntime) -> Result<(), Fail> {
     assert!(rt; trace.rows() == 2);
     if trace.rows() == 2 {
         let row = trace.row(0);
-        assert!(rt; row.id == 7 && row.epoch == 2 && row.weight == 1);
+        assert!(rt; row.id == 7 && row.weight == 1 && row.segments.len() == 1);
         assert!(rt; row.source == 0 && row.dest == 2);
         assert!(rt; row.fate == RowFate::Down { low: 1, high: 2 });
-        assert!(rt; row.hops.as_slice() == [0, 1].as_slice());
+        assert!(rt; row.segments[0].epoch == 2);
+        assert!(rt; row.segments[0].hops.as_slice() == [0, 1].as_slice());
         assert!(rt; trace.row(1).fate == RowFate::Full { from: 2, to: 1 });
     }
     Ok(())
@@ -67,7 +69,7 @@ fn no_traces(rt: HostRuntime) -> Result<(), Fail> {
     let alloc = rt.alloc();
     assert!(rt; is_refused(alloc, "", 1, FindingKind::NotTrace)?);
     assert!(rt; is_refused(alloc, "trace 1", 1, FindingKind::NotTrace)?);
-    assert!(rt; is_refused(alloc, "trace 2\n", 1, FindingKind::NotTrace)?);
+    assert!(rt; is_refused(alloc, "trace 3\n", 1, FindingKind::NotTrace)?);
     assert!(rt; is_refused(alloc, "\ntrace 1\n", 1, FindingKind::NotTrace)?);
     Ok(())
 }
@@ -153,5 +155,23 @@ fn a_writer_without_room(rt: HostRuntime) -> Result<(), Fail> {
     assert!(rt; write_lone(rt.alloc(), &graph, &mut outlet) == Err(TraceError::Unwritable));
     assert!(rt; outlet.failed());
     assert!(rt; TraceError::Unwritable.code() == 1);
+    Ok(())
+}
+
+#[test]
+fn errors_as_texts(rt: HostRuntime) -> Result<(), Fail> {
+    let finding = Finding {
+        line: 3,
+        kind: FindingKind::UnknownNode,
+    };
+    let refused = ScriptError {
+        line: 1,
+        kind: ScriptFault::BadCommand,
+    };
+    let unwritable = TraceError::Unwritable;
+    let text = format!(in rt.alloc(); "{finding}; {refused}; {unwritable}")?;
+    assert!(rt;
+        text.as_str() == "line 3: no such node or link; line 1: bad command; the writer failed"
+    );
     Ok(())
 }

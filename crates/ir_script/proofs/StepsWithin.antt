@@ -5,7 +5,7 @@ use Rattle.std.proofs.lemmas.List.Folds.{find_at}
 use Rattle.std.proofs.lemmas.Option.{slice_get_within}
 use Rattle.std.specs.List.{list_all, prefix_len, position_or_len}
 use Rattle.ir_model.specs.declared.Hop.{Hop}
-use Rattle.ir_model.specs.declared.Kind.TheVariants.{Tree, Shortest}
+use Rattle.ir_model.specs.declared.Kind.TheVariants.{Tree, Shortest, Compact}
 use Rattle.ir_model.specs.Graph.{Name}
 use Rattle.ir_model.specs.Text.{content, words, is_plain}
 use Rattle.ir_model.specs.Network.{Network, IsNetwork, node_count, ports_of}
@@ -88,7 +88,8 @@ module _ (nodes : List Name) (net : Network) (is_net : IsNetwork net) (count : l
       (either_within (bytes_eq word (codes "read")) _ _ (of_two_within (λ u k. Read u k) (node_of nodes a) (number_of b) (λ u k hu hk. node_within a u hu))
       (either_within (bytes_eq word (codes "take") && bytes_eq b (codes "inbox")) _ _ (of_one_within (λ u. Take u Inbox) (node_of nodes a) (λ u hu. and_from _ _ (node_within a u hu) refl))
       (either_within (bytes_eq word (codes "install") && bytes_eq a (codes "tree")) _ _ (of_one_within (λ r. Install Tree r) (node_of nodes b) (node_within b))
-      (either_within (bytes_eq word (codes "install") && bytes_eq a (codes "shortest")) _ _ (of_one_within (λ r. Install Shortest r) (node_of nodes b) (node_within b)) tt))))))
+      (either_within (bytes_eq word (codes "install") && bytes_eq a (codes "shortest")) _ _ (of_one_within (λ r. Install Shortest r) (node_of nodes b) (node_within b))
+      (either_within (bytes_eq word (codes "install") && bytes_eq a (codes "compact")) _ _ (of_one_within (λ r. Install Compact r) (node_of nodes b) (node_within b)) tt)))))))
 
   three_within : (word a b c : Name) → EventWithin (event_of_three nodes net word a b c)
   three_within word a b c =

@@ -2,7 +2,7 @@
 use Rattle.std.specs.Prelude.{ℕ, not, ◌&&◌, ◌==◌, Bool, if◌then◌else◌, List, [], ◌∷◌, length, nat_le, Option, Some, None, Result, Ok, Err, bytes_eq, codes, find, position}
 use Rattle.std.specs.List.{list_all}
 use Rattle.ir_model.specs.declared.Hop.{Hop}
-use Rattle.ir_model.specs.declared.Kind.TheVariants.{Tree, Shortest}
+use Rattle.ir_model.specs.declared.Kind.TheVariants.{Tree, Shortest, Compact}
 use Rattle.ir_model.specs.Graph.{Name}
 use Rattle.ir_model.specs.Text.{content, words, is_plain, is_empty}
 use Rattle.ir_model.specs.Edgelist.{is_digit, value_of}
@@ -77,7 +77,7 @@ event_of_one nodes command first =
     else if bytes_eq command (codes "retire") then of_one (λ f. Retire f) (number_of first)
     else Err BadCommand
 
--- `inject A B`, `down A B`, `up A B`, `read N K`, `take N inbox`, `install tree R`, `install shortest R`
+-- `inject A B`, `down A B`, `up A B`, `read N K`, `take N inbox`, `install tree R`, `install shortest R`, `install compact R`
 abbrev pub event_of_two : List Name → Network → Name → Name → Name → Result Event ScriptFault
 event_of_two nodes net command first second =
     if bytes_eq command (codes "inject") then of_two (λ u v. Inject u v) (node_of nodes first) (node_of nodes second)
@@ -87,6 +87,7 @@ event_of_two nodes net command first second =
     else if bytes_eq command (codes "take") && bytes_eq second (codes "inbox") then of_one (λ u. Take u Inbox) (node_of nodes first)
     else if bytes_eq command (codes "install") && bytes_eq first (codes "tree") then of_one (λ r. Install Tree r) (node_of nodes second)
     else if bytes_eq command (codes "install") && bytes_eq first (codes "shortest") then of_one (λ r. Install Shortest r) (node_of nodes second)
+    else if bytes_eq command (codes "install") && bytes_eq first (codes "compact") then of_one (λ r. Install Compact r) (node_of nodes second)
     else Err BadCommand
 
 -- `take N from M`

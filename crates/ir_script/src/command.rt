@@ -60,6 +60,9 @@ fn event_of_two(
     if command == b"install".as_slice() && first == b"shortest".as_slice() {
         return Ok(Event::Install(Kind::Shortest, node_of(graph, second)?));
     }
+    if command == b"install".as_slice() && first == b"compact".as_slice() {
+        return Ok(Event::Install(Kind::Compact, node_of(graph, second)?));
+    }
     Err(ScriptFault::BadCommand)
 }
 

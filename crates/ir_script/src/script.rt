@@ -82,7 +82,7 @@ fn keep_step(
 ///
 /// - `inject A B`: a packet from A to B;
 /// - `down A B`, `up A B`: the link between A and B;
-/// - `install tree R`, `install shortest R`: a plan with root R;
+/// - `install tree R`, `install shortest R`, `install compact R`: a plan with root R;
 /// - `retire F`, `learn E`: epochs;
 /// - `drain`;
 /// - `take N inbox`, `take N from M`: from the inbox, or from the link between N and M;

@@ -1,72 +1,80 @@
 -- Inputs that are read one after another.
-use Rattle.std.proofs.Common.{◌≡◌, ◌≢◌, ℕ, ◌+◌, ◌<◌, ◌≤◌, List, [], ◌∷◌, ◌++◌, length, take, set, get_or, slice_get, Option, Some, IfSome, map, refl, sym, ap, ◌∙◌, subst, arith}
-use Rattle.std.proofs.lemmas.List.{length-map, get_or-map, length-set, get_or-set_other, length_push, take_more, take_all}
-use Rattle.std.proofs.lemmas.List.Elements.{All-push}
+use Rattle.std.proofs.Common.{◌≡◌, ℕ, ◌+◌, ◌<◌, ◌≤◌, List, [], ◌∷◌, ◌++◌, length, take, drop, set, get_or, slice_get, Option, Some, Result, refl, sym, ap, ◌∙◌, subst, arith}
+use Rattle.std.proofs.lemmas.List.{length-set, length_push, take_more, take_more_set, take_all, get_or-drop, drop-drop, drop-set-lt, take-set}
 use Rattle.std.proofs.lemmas.Option.{slice_get-get_or}
-use Rattle.ir_shell.specs.declared.TheConstants.{MAX_INPUT_BYTES}
+use Rattle.ir_core.proofs.Lists.{get_set_same}
+use Rattle.ir_streams.specs.declared.call.CallError.{CallError}
+use Rattle.ir_streams.specs.declared.reading.NoInput.{NoInput}
+use Rattle.ir_streams.specs.Reading.{IsRead, IsStopped}
 use Rattle.ir_shell.specs.declared.read.Source.{Source}
-use Rattle.ir_shell.specs.declared.read.NoInput.{NoInput}
-use Rattle.ir_shell.specs.declared.read.NoInput.TheVariants.{TooLarge}
-use Rattle.ir_shell.specs.Ending.{Hold, AreSmall}
-use Rattle.ir_shell.specs.Reading.{IsUnreadBy}
+use Rattle.ir_shell.specs.Reading.{AreRead, IsUnread}
 
-module _ {X : Type 0} (remaining : X → Option (List ℕ)) (old : List X) where
+module _ {R : Type 0} (remaining : R → Option (List ℕ)) (gave : R → Result (List ℕ) CallError → R → Type 0) where
+  -- one more reader
+  read_more : (old : List R) (texts : List (List ℕ)) (new : List R) (first : R) (text : List ℕ) (last : R) → AreRead remaining gave old texts new → IsRead remaining gave first text last
+      → AreRead remaining gave (old ++ first ∷ []) (texts ++ text ∷ []) (new ++ last ∷ [])
+  read_more [] [] [] first text last are is = (is, tt)
+  read_more [] [] (b ∷ new) first text last are is = absurd are
+  read_more [] (t ∷ texts) new first text last are is = absurd are
+  read_more (a ∷ old) [] new first text last are is = absurd are
+  read_more (a ∷ old) (t ∷ texts) [] first text last are is = absurd are
+  read_more (a ∷ old) (t ∷ texts) (b ∷ new) first text last are is = (are.0, read_more old texts new first text last are.1 is)
+
   -- So many readers are read, and the rest are as they were.
-  pub record IsReading (now : List X) (read : List (List ℕ)) (i : ℕ) : Type 0 where
+  pub record IsReading (old now : List R) (read : List (List ℕ)) (i : ℕ) : Type 0 where
     pub counted : length read ≡ i
     pub readers : length now ≡ length old
-    pub rest : (k : ℕ) (d : X) → i ≤ k → get_or now k d ≡ get_or old k d
-    pub known : (texts : List (List ℕ)) → Hold (map remaining old) texts → read ≡ take i texts
-    pub small : AreSmall read
+    pub before : AreRead remaining gave (take i old) read (take i now)
+    pub rest : drop i now ≡ drop i old
 
-  pub reading_none : IsReading old [] 0
-  reading_none = record { counted = refl; readers = refl; rest = λ k d h. refl; known = λ texts h. refl; small = λ k d h. absurd (omega arith) }
+  pub reading_none : (old : List R) → IsReading old old [] 0
+  reading_none old = record { counted = refl; readers = refl; before = tt; rest = refl }
 
-  module _ (texts : List (List ℕ)) (held : Hold (map remaining old) texts) where
-    as_many : length texts ≡ length old
-    as_many = sym (length-map texts (λ (t : List ℕ). Some t)) ∙ sym (ap length held) ∙ length-map old remaining
+  -- nothing is left to read
+  pub all_read : (old now : List R) (read : List (List ℕ)) (i : ℕ) → IsReading old now read i → length old ≤ i → AreRead remaining gave old read now
+  all_read old now read i is past =
+      let P : List R → Type 0 = λ xs. AreRead remaining gave xs read (take i now) in
+      let Q : List R → Type 0 = λ xs. AreRead remaining gave old read xs in
+      let few : length now ≤ i = omega (arith, is.readers) in
+      subst Q (take_all i now few) (subst P (take_all i old past) is.before)
 
-    held_at : (i : ℕ) (d : X) → i < length old → remaining (get_or old i d) ≡ Some (get_or texts i [])
-    held_at i d within =
-        sym (get_or-map remaining old i d (remaining d) within) ∙ ap (λ xs. get_or xs i (remaining d)) held
-        ∙ get_or-map (λ (t : List ℕ). Some t) texts i [] (remaining d) (omega (arith, as_many))
+  module _ (old now : List R) (read : List (List ℕ)) (i : ℕ) (d new : R) (is : IsReading old now read i) (within : i < length old) where
+    in_now : i < length now
+    in_now = omega (arith, is.readers)
 
-    -- what is said of what a reader holds is true of its text
-    said_of : (P : List ℕ → Type 0) (now : List X) (read : List (List ℕ)) (i : ℕ) (d : X) → IsReading now read i → i < length old
-        → IfSome (remaining (get_or now i d)) P → P (get_or texts i [])
-    said_of P now read i d is within said =
-        let Q : Option (List ℕ) → Type 0 = λ o. IfSome o P in
-        subst Q (ap remaining (is.rest i d (omega arith)) ∙ held_at i d within) said
+    as_before : get_or now i d ≡ get_or old i d
+    as_before =
+        let zero : i + 0 ≡ i = omega arith in
+        ap (λ (k : ℕ). get_or now k d) (sym zero) ∙ sym (get_or-drop i now 0 d) ∙ ap (λ (xs : List R). get_or xs 0 d) is.rest ∙ get_or-drop i old 0 d ∙ ap (λ (k : ℕ). get_or old k d) zero
 
-    -- nothing is left to read
-    pub all_read : (now : List X) (read : List (List ℕ)) (i : ℕ) → IsReading now read i → length old ≤ i → read ≡ texts
-    all_read now read i is past = is.known texts held ∙ take_all i texts (omega (arith, as_many))
+    behind : drop (i + 1) (set now i new) ≡ drop (i + 1) old
+    behind = drop-set-lt (i + 1) now i new (omega arith) ∙ sym (drop-drop 1 i now) ∙ ap (drop 1) is.rest ∙ drop-drop 1 i old
 
-    -- a reader is not read
-    pub unread_at : (now : List X) (read : List (List ℕ)) (i : ℕ) (d : X) → IsReading now read i → i < length old
-        → (sources : List Source) (source : Source) → slice_get sources i ≡ Some source
-        → (why : NoInput) → (why ≡ TooLarge → IfSome (remaining (get_or now i d)) (λ input. MAX_INPUT_BYTES < length input)) → IsUnreadBy (record { source = source; why = why }) sources texts
-    unread_at now read i d is within sources source from why large = (
-      get_or texts i [],
-      record {
-        place = i;
-        its_source = from;
-        its_text = slice_get-get_or texts i [] (omega (arith, as_many));
-        before = let P : List (List ℕ) → Type 0 = λ ts. AreSmall ts in subst P (is.known texts held) is.small;
-      },
-      λ e. said_of (λ input. MAX_INPUT_BYTES < length input) now read i d is within (large e),
-    )
+    -- one more reader is read
+    pub reading_more : (text : List ℕ) → IsRead remaining gave (get_or now i d) text new → IsReading old (set now i new) (read ++ text ∷ []) (i + 1)
+    reading_more text whole =
+        let P : R → Type 0 = λ r. IsRead remaining gave r text new in
+        record {
+          counted = length_push read text ∙ ap (λ (n : ℕ). n + 1) is.counted;
+          readers = length-set now i new ∙ is.readers;
+          before = rw (take_more old i d within, take_more_set now i new in_now) (read_more (take i old) read (take i now) (get_or old i d) text new is.before (subst P as_before whole));
+          rest = behind;
+        }
 
-  -- one more reader is read
-  pub reading_more : (now : List X) (read : List (List ℕ)) (i : ℕ) (d new : X) (text : List ℕ) → IsReading now read i → i < length old
-      → IfSome (remaining (get_or now i d)) (λ input. text ≡ input) → length text ≤ MAX_INPUT_BYTES → IsReading (set now i new) (read ++ text ∷ []) (i + 1)
-  reading_more now read i d new text is within all few = record {
-    counted = length_push read text ∙ ap (λ n. n + 1) is.counted;
-    readers = length-set now i new ∙ is.readers;
-    rest = λ k e h. (let other : k ≢ i = omega arith in get_or-set_other now i k new e other ∙ is.rest k e (omega arith));
-    known = λ texts held. (
-        let same : text ≡ get_or texts i [] = said_of texts held (λ input. text ≡ input) now read i d is within all in
-        ap (λ xs. xs ++ text ∷ []) (is.known texts held) ∙ ap (λ (t : List ℕ). take i texts ++ t ∷ []) same
-        ∙ sym (take_more texts i [] (omega (arith, as_many texts held))));
-    small = All-push (λ t. length t ≤ MAX_INPUT_BYTES) read text is.small few;
-  }
+    -- a reader is given up
+    pub unread_at : (sources : List Source) (source : Source) → slice_get sources i ≡ Some source → (why : NoInput) → IsStopped remaining gave why (get_or now i d) new
+        → IsUnread remaining gave sources old (set now i new) source why
+    unread_at sources source from why stopped =
+        let P : R → Type 0 = λ r. IsStopped remaining gave why r new in
+        record {
+          place = i;
+          its_source = from;
+          texts = read;
+          before = rw (take-set now i new) is.before;
+          first = get_or old i d;
+          its_reader = slice_get-get_or old i d within;
+          last = new;
+          left_as = get_set_same now i new in_now;
+          stopped = subst P as_before stopped;
+          behind = behind;
+        }

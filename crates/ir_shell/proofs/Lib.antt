@@ -1,6 +1,7 @@
 pub mod Cutting
-pub mod Streams
 pub mod Texts
-pub mod PlanLines
 pub mod Inputs
 pub mod Records
+pub mod Replays
+pub mod Ends
+pub mod Runs

@@ -1,17 +1,20 @@
 -- What the words ask for: which inputs are read, and the answers to their texts.
-use Rattle.std.specs.Prelude.{ℕ, Bool, false, if◌then◌else◌, List, [], ◌∷◌, bytes_eq, codes, string_bytes, map}
+use Rattle.std.specs.Prelude.{◌≡◌, ℕ, Bool, false, if◌then◌else◌, List, [], ◌∷◌, bytes_eq, codes, string_bytes, map}
 use Rattle.ir_model.specs.Graph.{Name}
 use Rattle.ir_model.specs.Text.{lines}
 use Rattle.ir_shell.specs.declared.words.Words.{Words}
 use Rattle.ir_shell.specs.declared.words.WordsError.{WordsError}
 use Rattle.ir_shell.specs.declared.words.WordsError.TheVariants as refused
 use Rattle.ir_shell.specs.declared.read.Source.{Source}
-use Rattle.ir_shell.specs.declared.read.Source.TheVariants.{Input, Topology, Script}
+use Rattle.ir_shell.specs.declared.read.Source.TheVariants.{Input, Topology, Script, Trace}
+use Rattle.ir_shell.specs.declared.run.Task.{Task}
+use Rattle.ir_shell.specs.declared.run.Task.TheVariants.{Look, Sim, Check}
 use Rattle.ir_shell.specs.Answer.{Answer}
-use Rattle.ir_shell.specs.Cut.{topology_part, script_part}
-use Rattle.ir_shell.specs.Openings.{root_name, AnswersTopology, AnswersRoot}
-use Rattle.ir_shell.specs.Plans.{AnswersPlan}
+use Rattle.ir_shell.specs.Cut.{topology_part, script_part, EndsWith}
+use Rattle.ir_shell.specs.Openings.{AnswersTopology}
+use Rattle.ir_shell.specs.Looks.{LookAnswers}
 use Rattle.ir_shell.specs.Plays.{AnswersScript}
+use Rattle.ir_shell.specs.Checks.{AnswersChecked}
 
 -- the files are the one word `-`
 abbrev pub is_dash : List Name → Bool
@@ -23,19 +26,15 @@ is_dash (file ∷ other ∷ files) = false
 abbrev pub is_one_input : Words → Bool
 is_one_input words = is_dash (map string_bytes words.files.items)
 
--- the inputs of `plan` and of `sim`, in the order of reading
-abbrev pub plan_sources : Words → List Source
-plan_sources words = if is_one_input words then Input ∷ [] else Topology ∷ []
+-- the inputs of `plan`, `walk`, `stats` and `draw`, of `sim`, and of `check`, in the order of reading
+abbrev pub look_sources : Words → List Source
+look_sources words = if is_one_input words then Input ∷ [] else Topology ∷ []
 
 abbrev pub sim_sources : Words → List Source
 sim_sources words = if is_one_input words then Input ∷ [] else Topology ∷ Script ∷ []
 
--- the answers of `plan` to the text of a topology
-abbrev pub PlanAnswers : Words → List (List ℕ) → Answer → Type 0
-PlanAnswers words [] answer = ⊥
-PlanAnswers words (topology ∷ []) answer =
-    AnswersTopology words.format (lines topology) (λ g. AnswersRoot g (root_name words) (AnswersPlan g words.kind)) answer
-PlanAnswers words (text ∷ other ∷ texts) answer = ⊥
+abbrev pub check_sources : Words → List Source
+check_sources words = if is_one_input words then Input ∷ [] else Topology ∷ Script ∷ Trace ∷ []
 
 -- the answers of `sim` to one text that is cut into topology and script, or to the two texts
 abbrev pub SimAnswers : Words → List (List ℕ) → Answer → Type 0
@@ -44,6 +43,27 @@ SimAnswers words (input ∷ []) answer =
     AnswersTopology words.format (topology_part (lines input)) (AnswersScript words (script_part (lines input))) answer
 SimAnswers words (topology ∷ script ∷ []) answer = AnswersTopology words.format (lines topology) (AnswersScript words (lines script)) answer
 SimAnswers words (text ∷ other ∷ third ∷ texts) answer = ⊥
+
+-- the answers of `check` to one text that is cut into topology, script and trace, or to the three texts
+abbrev pub CheckAnswers : Words → List (List ℕ) → Answer → Type 0
+CheckAnswers words [] answer = ⊥
+CheckAnswers words (input ∷ []) answer =
+    (trace : List ℕ) × EndsWith input trace × (lines trace ≡ script_part (script_part (lines input)))
+    × AnswersTopology words.format (topology_part (lines input)) (AnswersChecked words (topology_part (script_part (lines input))) trace) answer
+CheckAnswers words (topology ∷ script ∷ []) answer = ⊥
+CheckAnswers words (topology ∷ script ∷ trace ∷ []) answer = AnswersTopology words.format (lines topology) (AnswersChecked words (lines script) trace) answer
+CheckAnswers words (text ∷ other ∷ third ∷ fourth ∷ texts) answer = ⊥
+
+-- the same, by what a run is to do
+abbrev pub sources_of : Task → Words → List Source
+sources_of (Look look) words = look_sources words
+sources_of Sim words = sim_sources words
+sources_of Check words = check_sources words
+
+abbrev pub Answers : Task → Words → List (List ℕ) → Answer → Type 0
+Answers (Look look) words texts answer = LookAnswers look words texts answer
+Answers Sim words texts answer = SimAnswers words texts answer
+Answers Check words texts answer = CheckAnswers words texts answer
 
 -- the numbers of the refusals of words
 abbrev pub words_code : WordsError → ℕ

@@ -1,13 +1,12 @@
--- How a run of the program ends: its status, and what it wrote.
-use Rattle.std.specs.Prelude.{◌≡◌, ℕ, ◌<◌, ◌≤◌, All, List, Option, Some, length, take, slice_get, map}
-use Rattle.std.specs.Io.KnownBytes.{Appends, Keeps}
-use Rattle.ir_shell.specs.declared.TheConstants.{MAX_INPUT_BYTES}
+-- How a run of the program ends: its status, what was read, and what it wrote.
+use Rattle.std.specs.Prelude.{◌≡◌, ◌⊎◌, ℕ, Bool, true, false, List, [], Some}
+use Rattle.ir_streams.specs.declared.reading.NoInput.{NoInput}
+use Rattle.ir_streams.specs.declared.reading.NoInput.TheVariants as unread
 use Rattle.ir_shell.specs.declared.ending.Ending.{Ending}
 use Rattle.ir_shell.specs.declared.ending.Ending.TheVariants as endings
 use Rattle.ir_shell.specs.declared.read.Source.{Source}
-use Rattle.ir_shell.specs.Answer.{Answer, Ran, Refused}
+use Rattle.ir_shell.specs.Answer.{Answer, Ran, Found, Refused, printed}
 use Rattle.ir_shell.specs.Lines.{unreadable_line, too_large_line, unwritable_line, out_of_memory_line}
-use Rattle.ir_trace.specs.Outlet.{AppendsFront}
 
 -- the exit status
 abbrev pub status_of : Ending → ℕ
@@ -15,41 +14,27 @@ status_of endings.Done = 0
 status_of endings.Unreadable = 1
 status_of endings.TooLarge = 1
 status_of endings.Refused = 1
+status_of endings.Found = 1
 status_of endings.Unwritable = 1
 status_of endings.NoMemory = 3
 
--- what is left in the readers is known: these texts, in order
-abbrev pub Hold : List (Option (List ℕ)) → List (List ℕ) → Type 0
-Hold left texts = left ≡ map (λ text. Some text) texts
-
--- no text is too large
-abbrev pub AreSmall : List (List ℕ) → Type 0
-AreSmall texts = All (λ text. length text ≤ MAX_INPUT_BYTES) texts
-
--- A source whose text is not read: the texts before it are not too large.
-pub record IsUnread (sources : List Source) (texts : List (List ℕ)) (source : Source) (text : List ℕ) : Type 0 where
-  pub place : ℕ
-  pub its_source : slice_get sources place ≡ Some source
-  pub its_text : slice_get texts place ≡ Some text
-  pub before : AreSmall (take place texts)
-
--- What the texts of these sources come to by their answers, and what the writer of the output and that of the faults
--- took. A writer of faults that fails is passed over, with a front of the text.
-abbrev pub EndsAs : List Source → (List (List ℕ) → Answer → Type 0) → Ending → List (List ℕ) → (out out' told told' : Option (List ℕ)) → Type 0
-EndsAs sources answers endings.Done texts out out' told told' =
-    (text : List ℕ) × (refused : List ℕ) × AreSmall texts × answers texts (Ran text refused) × Appends out out' text × AppendsFront told told' refused
-EndsAs sources answers endings.Unreadable texts out out' told told' =
-    (source : Source) × (text : List ℕ) × IsUnread sources texts source text × Keeps out out' × AppendsFront told told' (unreadable_line source)
-EndsAs sources answers endings.TooLarge texts out out' told told' =
-    (source : Source) × (text : List ℕ) × IsUnread sources texts source text × (MAX_INPUT_BYTES < length text) × Keeps out out'
-    × AppendsFront told told' (too_large_line source)
-EndsAs sources answers endings.Refused texts out out' told told' =
-    (line : List ℕ) × AreSmall texts × answers texts (Refused line) × Keeps out out' × AppendsFront told told' line
-EndsAs sources answers endings.Unwritable texts out out' told told' =
-    (text : List ℕ) × (refused : List ℕ) × AreSmall texts × answers texts (Ran text refused) × AppendsFront out out' text
-    × AppendsFront told told' unwritable_line
-EndsAs sources answers endings.NoMemory texts out out' told told' = Keeps out out' × AppendsFront told told' out_of_memory_line
+-- What a run comes to by the answers to its texts. `read` says that these are the texts of all inputs, and `stops` that the
+-- reading stopped at this source, and why. `out` says what the writer of the output was given, and whether it took all of it,
+-- or `unused` that it was given nothing; `told` says what the writer of faults was given, where one that fails is passed over.
+abbrev pub EndsAs : (List (List ℕ) → Answer → Type 0) → Ending → (read : List (List ℕ) → Type 0) (stops : Source → NoInput → Type 0) (out : Bool → List ℕ → Type 0) (unused : Type 0) (told : List ℕ → Type 0) → Type 0
+EndsAs answers endings.Done read stops out unused told =
+    (texts : List (List ℕ)) × (text : List ℕ) × (refused : List ℕ) × read texts × answers texts (Ran text refused) × out true text × told refused
+EndsAs answers endings.Unreadable read stops out unused told = (source : Source) × stops source unread.Unreadable × unused × told (unreadable_line source)
+EndsAs answers endings.TooLarge read stops out unused told = (source : Source) × stops source unread.TooLarge × unused × told (too_large_line source)
+EndsAs answers endings.Refused read stops out unused told =
+    (texts : List (List ℕ)) × (line : List ℕ) × read texts × answers texts (Refused line) × unused × told line
+EndsAs answers endings.Found read stops out unused told =
+    (texts : List (List ℕ)) × (line : List ℕ) × read texts × answers texts (Found line) × out true line × told []
+EndsAs answers endings.Unwritable read stops out unused told =
+    (texts : List (List ℕ)) × (answer : Answer) × (text : List ℕ) × read texts × answers texts answer × (printed answer ≡ Some text) × out false text × told unwritable_line
+EndsAs answers endings.NoMemory read stops out unused told =
+    (((texts : List (List ℕ)) × read texts) ⊎ ((source : Source) × stops source unread.NoMemory)) × unused × told out_of_memory_line
 
 -- A run with this status ends in one of the ways that have it.
-abbrev pub Ends : List Source → (List (List ℕ) → Answer → Type 0) → ℕ → List (List ℕ) → (out out' told told' : Option (List ℕ)) → Type 0
-Ends sources answers status texts out out' told told' = (ending : Ending) × (status ≡ status_of ending) × EndsAs sources answers ending texts out out' told told'
+abbrev pub Ends : (List (List ℕ) → Answer → Type 0) → ℕ → (read : List (List ℕ) → Type 0) (stops : Source → NoInput → Type 0) (out : Bool → List ℕ → Type 0) (unused : Type 0) (told : List ℕ → Type 0) → Type 0
+Ends answers status read stops out unused told = (ending : Ending) × (status ≡ status_of ending) × EndsAs answers ending read stops out unused told

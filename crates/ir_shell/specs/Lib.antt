@@ -4,10 +4,12 @@ pub mod Lines
 pub mod Answer
 pub mod Replies
 pub mod Openings
-pub mod PlanText
 pub mod Plans
+pub mod Looks
 pub mod Plays
+pub mod Checks
 pub mod Asked
 pub mod Replied
 pub mod Ending
 pub mod Reading
+pub mod Told

@@ -1,15 +1,19 @@
 -- The lines that tell of a refusal, and of an input that was not read.
-use Rattle.std.specs.Prelude.{ℕ, List, [], ◌∷◌, ◌++◌, codes}
+use Rattle.std.specs.Prelude.{ℕ, List, [], ◌∷◌, ◌++◌, codes, decimal}
 use Rattle.ir_model.specs.declared.Fault.{Fault}
 use Rattle.ir_model.specs.declared.Fault.TheVariants as texts
 use Rattle.ir_core.specs.declared.event.OpenError.{OpenError}
 use Rattle.ir_core.specs.declared.event.OpenError.TheVariants as openings
 use Rattle.ir_core.specs.declared.event.Refused.{Refused}
 use Rattle.ir_core.specs.declared.event.Refused.TheVariants as steps
+use Rattle.ir_trace.specs.declared.finding.Finding.{Finding}
+use Rattle.ir_trace.specs.declared.finding.FindingKind.{FindingKind}
+use Rattle.ir_trace.specs.declared.finding.FindingKind.TheVariants as findings
+use Rattle.ir_trace.specs.Rows.{spaced}
 use Rattle.ir_script.specs.declared.fault.ScriptFault.{ScriptFault}
 use Rattle.ir_script.specs.declared.fault.ScriptFault.TheVariants as scripts
 use Rattle.ir_shell.specs.declared.read.Source.{Source}
-use Rattle.ir_shell.specs.declared.read.Source.TheVariants.{Input, Topology, Script}
+use Rattle.ir_shell.specs.declared.read.Source.TheVariants.{Input, Topology, Script, Trace}
 use Rattle.ir_shell.specs.Words.{numbered_line}
 
 abbrev pub fault_name : Fault → List ℕ
@@ -54,6 +58,25 @@ refusal_name steps.InboxFull = codes "InboxFull"
 refusal_name steps.TooManyChanges = codes "TooManyChanges"
 refusal_name steps.Used = codes "Used"
 
+abbrev pub finding_name : FindingKind → List ℕ
+finding_name findings.NotTrace = codes "NotTrace"
+finding_name findings.BadRow = codes "BadRow"
+finding_name findings.UnknownNode = codes "UnknownNode"
+finding_name findings.UnknownEpoch = codes "UnknownEpoch"
+finding_name findings.NotAPrefix = codes "NotAPrefix"
+finding_name findings.NotAtDestination = codes "NotAtDestination"
+finding_name findings.BadWeight = codes "BadWeight"
+finding_name findings.Repeated = codes "Repeated"
+finding_name findings.NoMemory = codes "NoMemory"
+
+-- `finding LINE KIND`
+abbrev pub finding_line : Finding → List ℕ
+finding_line f = numbered_line (codes "finding") f.line (finding_name f.kind)
+
+-- `ok N`
+abbrev pub ok_line : ℕ → List ℕ
+ok_line rows = codes "ok" ++ spaced (decimal rows) ++ 10 ∷ []
+
 -- `topology LINE KIND`
 abbrev pub topology_line : ℕ × Fault → List ℕ
 topology_line f = numbered_line (codes "topology") f.0 (fault_name f.1)
@@ -74,6 +97,7 @@ abbrev pub source_name : Source → List ℕ
 source_name Input = codes "input"
 source_name Topology = codes "topology"
 source_name Script = codes "script"
+source_name Trace = codes "trace"
 
 abbrev pub unreadable_line : Source → List ℕ
 unreadable_line source = source_name source ++ codes " unreadable\n"

@@ -1,7 +1,7 @@
--- What a graph and a root come to as a plan.
+-- What a graph and a root come to as a text of their plan.
 use Rattle.std.specs.Prelude.{◌≡◌, ℕ, ◌<◌, ◌≤◌, List, []}
 use Rattle.ir_model.specs.declared.Kind.{Kind}
-use Rattle.ir_model.specs.Graph.{Adjacency, names}
+use Rattle.ir_model.specs.Graph.{Adjacency}
 use Rattle.ir_model.specs.Network.{Network, node_count}
 use Rattle.ir_model.specs.OfGraph.{network_of_graph}
 use Rattle.ir_model.specs.Walk.{IsDisconnected}
@@ -10,9 +10,8 @@ use Rattle.ir_plan.specs.declared.error.PlanError.{PlanError}
 use Rattle.ir_plan.specs.declared.error.PlanError.TheVariants as plans
 use Rattle.ir_core.specs.declared.event.OpenError.{OpenError}
 use Rattle.ir_core.specs.declared.event.OpenError.TheVariants.{NoNode, Empty, Disconnected, TooLarge, NoMemory}
-use Rattle.ir_shell.specs.Answer.{Answer, Ran, Refused}
+use Rattle.ir_shell.specs.Answer.{Answer, Ran, Found, Refused}
 use Rattle.ir_shell.specs.Lines.{opening_line}
-use Rattle.ir_shell.specs.PlanText.{plan_text}
 
 -- the refusals of a plan, in order
 abbrev pub RefusesPlan : Network → ℕ → OpenError → Type 0
@@ -27,19 +26,20 @@ abbrev pub RefusesBuild : Network → ℕ → OpenError → Type 0
 RefusesBuild net root NoMemory = Unit {0}
 RefusesBuild net root e = RefusesPlan net root e
 
--- The text is that of a plan of this kind and root over the network of the graph.
-pub record IsPlanText (g : Adjacency) (kind : Kind) (root : ℕ) (text : List ℕ) : Type 0 where
+-- The text is what is said of a plan of this kind and root over the network of the graph.
+pub record IsTextOfPlan (g : Adjacency) (kind : Kind) (root : ℕ) (says : Scheme → List ℕ → Type 0) (text : List ℕ) : Type 0 where
   pub scheme : Scheme
   pub valid : IsScheme scheme
   pub over : scheme.network ≡ network_of_graph g
   pub of_kind : scheme.kind ≡ kind
   pub from : scheme.root ≡ root
-  pub whole : text ≡ plan_text (names g) scheme
+  pub said : says scheme text
 
--- the answer to a graph and the number of a root: the text of a plan, or its refusal
-abbrev pub AnswersPlan : Adjacency → Kind → ℕ → Answer → Type 0
-AnswersPlan g kind root (Ran text refusals) = IsPlanText g kind root text × (refusals ≡ [])
-AnswersPlan g kind root (Refused line) = (e : OpenError) × RefusesPlan (network_of_graph g) root e × (line ≡ opening_line e)
+-- the answer to a graph and the number of a root: a text of its plan, or the plan's refusal
+abbrev pub AnswersText : Adjacency → Kind → ℕ → (Scheme → List ℕ → Type 0) → Answer → Type 0
+AnswersText g kind root says (Ran text refusals) = IsTextOfPlan g kind root says text × (refusals ≡ [])
+AnswersText g kind root says (Found text) = ⊥
+AnswersText g kind root says (Refused line) = (e : OpenError) × RefusesPlan (network_of_graph g) root e × (line ≡ opening_line e)
 
 -- why there is no plan, for an error of its building
 abbrev pub refusal_of : PlanError → OpenError

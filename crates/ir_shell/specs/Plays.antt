@@ -1,22 +1,24 @@
 -- What a graph, a root and a script come to as a run.
-use Rattle.std.specs.Prelude.{◌≡◌, ◌≢◌, ℕ, Bool, true, false, List, [], None, Result, Ok, Err, MatchResult, flat_map}
+use Rattle.std.specs.Prelude.{◌≡◌, ◌≢◌, ℕ, ◌==◌, if◌then◌else◌, Bool, true, false, List, [], None, Result, Ok, Err, MatchResult, flat_map}
 use Rattle.std.specs.List.{list_any, zip}
-use Rattle.ir_model.specs.Graph.{Adjacency, names}
+use Rattle.ir_model.specs.Graph.{Name, Adjacency, names}
+use Rattle.ir_model.specs.Network.{Network}
 use Rattle.ir_model.specs.OfGraph.{network_of_graph}
 use Rattle.ir_core.specs.declared.event.OpenError.{OpenError}
 use Rattle.ir_core.specs.declared.event.OpenError.TheVariants as openings
 use Rattle.ir_core.specs.declared.event.Reply.{Reply}
 use Rattle.ir_core.specs.declared.event.Refused.{Refused as Refusal}
 use Rattle.ir_core.specs.declared.event.Refused.TheVariants as refusals
+use Rattle.ir_core.specs.Journey.{Journey}
 use Rattle.ir_core.specs.Setting.{Setting}
 use Rattle.ir_core.specs.State.{State}
 use Rattle.ir_core.specs.Opened.{IsOpenedWith, IsOpenRefusal, open_refused}
 use Rattle.ir_core.specs.Run.{IsPlayed}
 use Rattle.ir_script.specs.declared.script.Script.{Script}
 use Rattle.ir_script.specs.Script.{Listing, listing_of}
-use Rattle.ir_trace.specs.Written.{records_text}
+use Rattle.ir_trace.specs.Written.{records_text, segments_text}
 use Rattle.ir_shell.specs.declared.words.Words.{Words}
-use Rattle.ir_shell.specs.Answer.{Answer, Ran, Refused}
+use Rattle.ir_shell.specs.Answer.{Answer, Ran, Found, Refused}
 use Rattle.ir_shell.specs.Lines.{script_line, opening_line, refused_line}
 use Rattle.ir_shell.specs.Openings.{root_name, AnswersRoot}
 
@@ -39,24 +41,29 @@ reply_line (line, Err refusal) = refused_line line refusal
 abbrev pub refused_text : List ℕ → List (Result Reply Refusal) → List ℕ
 refused_text lines replies = flat_map reply_line (zip lines replies)
 
+-- the trace of records: that of their segments where packets may be restamped
+abbrev pub run_text : ℕ → List Name → Network → List Journey → List ℕ
+run_text restamps nodes net records = if restamps == 0 then records_text nodes net records else segments_text nodes net records
+
 -- The steps of a script are played in a world that is opened over the network of the graph as the words say, and none
 -- of them wants memory. The text is the trace of the world's records, and the refused lines are those of its replies.
 pub record IsRun (g : Adjacency) (words : Words) (root : ℕ) (script : Listing) (text refused : List ℕ) : Type 0 where
   pub setting : Setting
   pub replies : List (Result Reply Refusal)
   pub world : State
-  pub accepted : open_refused (network_of_graph g) root words.capacity words.packets ≡ None
-  pub opened : IsOpenedWith (network_of_graph g) words.kind root words.capacity words.packets setting
+  pub accepted : open_refused (network_of_graph g) root words.capacity words.packets words.restamps ≡ None
+  pub opened : IsOpenedWith (network_of_graph g) words.kind root words.capacity words.packets words.restamps setting
   pub played : IsPlayed setting script.steps replies world
   pub in_memory : list_any wants_memory replies ≡ false
-  pub trace : text ≡ records_text (names g) (network_of_graph g) world.records
+  pub trace : text ≡ run_text words.restamps (names g) (network_of_graph g) world.records
   pub told : refused ≡ refused_text script.lines replies
 
 -- the answer to a graph, a script and the number of a root: the script's run, or the refusal of the opening
 abbrev pub AnswersRun : Adjacency → Words → Listing → ℕ → Answer → Type 0
 AnswersRun g words script root (Ran text refused) = IsRun g words root script text refused
+AnswersRun g words script root (Found text) = ⊥
 AnswersRun g words script root (Refused line) =
-    (e : OpenError) × (e ≢ openings.NoMemory) × IsOpenRefusal (network_of_graph g) root words.capacity words.packets e × (line ≡ opening_line e)
+    (e : OpenError) × (e ≢ openings.NoMemory) × IsOpenRefusal (network_of_graph g) root words.capacity words.packets words.restamps e × (line ≡ opening_line e)
 
 -- the answer to a graph and the lines of a script: the script's first fault comes before the refusal of the opening
 abbrev pub AnswersScript : Words → List (List ℕ) → Adjacency → Answer → Type 0

@@ -1,10 +1,6 @@
 -- Lines of words.
 use Rattle.std.specs.Prelude.{ℕ, List, [], ◌∷◌, ◌++◌, decimal}
-use Rattle.ir_trace.specs.Rows.{spaced, joined}
-
--- words with one space between, as a line
-abbrev pub line_text : List (List ℕ) → List ℕ
-line_text words = joined words ++ 10 ∷ []
+use Rattle.ir_trace.specs.Rows.{spaced}
 
 -- `WHAT LINE NAME`
 abbrev pub numbered_line : List ℕ → ℕ → List ℕ → List ℕ

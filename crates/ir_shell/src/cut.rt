@@ -1,8 +1,8 @@
-//! One input for two texts.
+//! One input for several texts.
 ghost use Rattle.std.specs.Prelude.{◌≡◌, ◌≤◌, ◌==◌, not, length, position, drop, ◌+◌};
 ghost use Rattle.std.specs.List.{prefix_len};
 ghost use Rattle.ir_model.specs.Text.{lines};
-ghost use Rattle.ir_shell.specs.Cut.{topology_part, script_part};
+ghost use Rattle.ir_shell.specs.Cut.{topology_part, script_part, EndsWith};
 
 /// The place of the first line feed.
 fn find_end(text: &[u8]) -> Option<usize>
@@ -34,6 +34,7 @@ fn behind_line(text: &[u8], len: usize) -> &[u8]
 pub fn cut(input: &[u8]) -> (&[u8], &[u8])
     ensures topology { lines result.0.now ≡ topology_part (lines input.now) }
     ensures script { lines result.1.now ≡ script_part (lines input.now) }
+    ensures end { EndsWith input.now result.1.now }
 {
     let mut at = 0;
     while at < input.len() {

@@ -11,6 +11,8 @@ pub enum Ending {
     TooLarge,
     /// The input is refused.
     Refused,
+    /// There is a finding, and it is written.
+    Found,
     Unwritable,
     NoMemory,
 }
@@ -21,7 +23,11 @@ pub fn status_of(ending: Ending) -> u8
 {
     match ending {
         Ending::Done => 0,
-        Ending::Unreadable | Ending::TooLarge | Ending::Refused | Ending::Unwritable => 1,
+        Ending::Unreadable
+        | Ending::TooLarge
+        | Ending::Refused
+        | Ending::Found
+        | Ending::Unwritable => 1,
         Ending::NoMemory => 3,
     }
 }

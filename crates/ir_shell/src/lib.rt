@@ -1,28 +1,26 @@
 //! The program's shell: the words of the command line, and the runs of `route` over readers and writers.
 #![tactic(auto)]
 
+mod check;
+mod checking;
 mod cut;
 mod ending;
 mod lines;
+mod look;
 mod open;
 mod plan;
-mod plan_text;
 mod planning;
 mod play;
 mod read;
 mod reply;
+mod run;
 mod sim;
 mod words;
 mod write;
 
+pub use check::run_check;
 pub use ir_script::{Script, ScriptError, ScriptFault, parse_script};
-pub use planning::run_plan;
+pub use planning::{run_draw, run_plan, run_stats, run_walk};
 pub use read::Source;
 pub use sim::run_sim;
 pub use words::{Format, Sub, Words, WordsError, read_words};
-
-/// The most bytes of an input.
-pub const MAX_INPUT_BYTES: usize = 16_777_216;
-
-/// The most times that an input is read.
-pub const MAX_READS: usize = 20_000_000;

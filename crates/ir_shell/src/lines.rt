@@ -1,6 +1,6 @@
 //! The lines that tell of a refusal, and of an input that was not read.
 ghost use Rattle.std.specs.Prelude.{◌≡◌, ◌++◌, IfOk, OnOk, string_bytes};
-ghost use Rattle.ir_shell.specs.Lines.{fault_name, script_fault_name, open_error_name, refusal_name, topology_line, script_line, opening_line, unreadable_line, too_large_line};
+ghost use Rattle.ir_shell.specs.Lines.{finding_name, finding_line, ok_line, fault_name, script_fault_name, open_error_name, refusal_name, topology_line, script_line, opening_line, unreadable_line, too_large_line};
 ghost use Rattle.ir_shell.specs.Plays.{reply_line};
 ghost use Rattle.ir_shell.specs.Words.{numbered_line};
 
@@ -9,6 +9,7 @@ use ir_core::{OpenError, Refused, Reply};
 use ir_model::Fault;
 use ir_script::ScriptFault;
 use ir_trace::text::{push_next_number, push_word};
+use ir_trace::{Finding, FindingKind};
 use std::alloc::{AllocError, Global};
 
 fn fault_name(kind: Fault) -> &'static str
@@ -57,6 +58,7 @@ pub fn unreadable_line(source: Source) -> &'static str
         Source::Input => "input unreadable\n",
         Source::Topology => "topology unreadable\n",
         Source::Script => "script unreadable\n",
+        Source::Trace => "trace unreadable\n",
     }
 }
 
@@ -68,6 +70,7 @@ pub fn too_large_line(source: Source) -> &'static str
         Source::Input => "input too large\n",
         Source::Topology => "topology too large\n",
         Source::Script => "script too large\n",
+        Source::Trace => "trace too large\n",
     }
 }
 
@@ -104,6 +107,46 @@ fn refusal_name(refusal: Refused) -> &'static str
         Refused::TooManyChanges => "TooManyChanges",
         Refused::Used => "Used",
     }
+}
+
+fn finding_name(kind: FindingKind) -> &'static str
+    ensures { result.now ≡ finding_name kind }
+{
+    match kind {
+        FindingKind::NotTrace => "NotTrace",
+        FindingKind::BadRow => "BadRow",
+        FindingKind::UnknownNode => "UnknownNode",
+        FindingKind::UnknownEpoch => "UnknownEpoch",
+        FindingKind::NotAPrefix => "NotAPrefix",
+        FindingKind::NotAtDestination => "NotAtDestination",
+        FindingKind::BadWeight => "BadWeight",
+        FindingKind::Repeated => "Repeated",
+        FindingKind::NoMemory => "NoMemory",
+    }
+}
+
+/// The line of a finding.
+pub fn finding_line(alloc: Global, finding: Finding) -> Result<String, AllocError>
+    ensures { IfOk result (λ text. string_bytes text ≡ finding_line finding) }
+{
+    let mut text = String::new(alloc);
+    push_line(
+        &mut text,
+        "finding",
+        finding.line,
+        finding_name(finding.kind),
+    )?;
+    Ok(text)
+}
+
+/// The line of a trace with so many rows and no finding.
+pub fn ok_line(alloc: Global, rows: usize) -> Result<String, AllocError>
+    ensures { IfOk result (λ text. string_bytes text ≡ ok_line rows) }
+{
+    let mut text = String::from_str(alloc, "ok")?;
+    push_next_number(&mut text, rows)?;
+    text.push_str("\n")?;
+    Ok(text)
 }
 
 /// The line of a topology's fault.

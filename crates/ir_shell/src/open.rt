@@ -1,5 +1,5 @@
 //! The graph of a topology text, and its root.
-ghost use Rattle.std.specs.Prelude.{◌≡◌, None, IfOk, IfErr, OnOk, bytes_eq, position, string_bytes};
+ghost use Rattle.std.specs.Prelude.{◌≡◌, ◌<◌, None, IfOk, IfErr, IfSome, OnOk, bytes_eq, length, position, string_bytes};
 ghost use Rattle.std.specs.Option.{option_map};
 ghost use Rattle.ir_model.specs.Graph.{names};
 ghost use Rattle.ir_model.specs.Text.{lines};
@@ -26,7 +26,8 @@ pub fn read_topology(alloc: Global, format: Format, text: &[u8]) -> Result<Graph
 
 /// The number of the node with a name.
 fn place_of(graph: &Graph, name: &str) -> Option<u16>
-    ensures { result ≡ position (bytes_eq name.now) (names graph.now) }
+    ensures place { result ≡ position (bytes_eq name.now) (names graph.now) }
+    ensures in_range { IfSome result (λ u. u < length graph.now) }
 {
     let _nodes = graph.number_of_nodes();
     match graph.index_of(name) {
@@ -35,9 +36,10 @@ fn place_of(graph: &Graph, name: &str) -> Option<u16>
     }
 }
 
-/// The number of the root: that of its name, or else that of the first node.
+/// The number of a root or an end: that of its name, or else that of the first node.
 pub fn root_of(graph: &Graph, root: &Option<String>) -> Option<u16>
-    ensures { result ≡ root_in (names graph.now) (option_map string_bytes root.now) }
+    ensures number { result ≡ root_in (names graph.now) (option_map string_bytes root.now) }
+    ensures in_range { IfSome result (λ u. 0 < length graph.now → u < length graph.now) }
 {
     match root {
         None => Some(0),

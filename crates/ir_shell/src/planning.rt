@@ -1,72 +1,21 @@
-//! A plan, from bytes to bytes.
-ghost use Rattle.std.specs.Prelude.{◌≡◌, ℕ, List, length, map};
-ghost use Rattle.ir_shell.specs.Asked.{PlanAnswers, plan_sources};
-ghost use Rattle.ir_shell.specs.Ending.{Hold, AreSmall, EndsAs, Ends};
-ghost use Rattle.ir_shell.specs.Reading.{texts_of};
+//! The texts that show a topology's plan, from bytes to bytes.
+ghost use Rattle.std.specs.Prelude.{◌≡◌, length};
+ghost use Rattle.ir_shell.specs.Asked.{look_sources};
+ghost use Rattle.ir_shell.specs.Ending.{Ends};
+ghost use Rattle.ir_shell.specs.Looks.{LookAnswers};
+ghost use Rattle.ir_shell.specs.Reading.{AreRead, IsUnread};
+ghost use Rattle.ir_shell.specs.Told.{Sends, Tells};
 
-use crate::ending::{Ending, status_of};
-use crate::plan::answer_plan;
-use crate::read::{Source, read_inputs};
-use crate::reply::{tell_unread, write_reply};
+use crate::look::Look;
+use crate::run::{Task, run};
 use crate::words::Words;
-use crate::write::tell;
+use ir_streams::{Reader, Writer};
 use std::alloc::Global;
-use std::io::{Read, Write};
-
-/// Where the topology is read.
-fn plan_sources(words: &Words) -> &'static [Source]
-    ensures { result.now ≡ plan_sources words.now }
-{
-    if words.is_one_input() {
-        &[Source::Input]
-    } else {
-        &[Source::Topology]
-    }
-}
-
-/// Answers the text of the input, and writes the answer.
-fn write_plan<W: Write, F: Write>(
-    alloc: Global,
-    words: &Words,
-    texts: &[Vec<u8>],
-    output: &mut W,
-    faults: &mut F,
-) -> Ending
-    requires count { length texts.now ≡ 1 }
-    requires small { AreSmall (texts_of texts.now) }
-    ensures { EndsAs (plan_sources words.now) (PlanAnswers words.now) result (texts_of texts.now) (W.contents output.old) (W.contents output.new) (F.contents faults.old) (F.contents faults.new) }
-{
-    match answer_plan(alloc, words, texts) {
-        Ok(reply) => write_reply(&reply, output, faults),
-        Err(_) => {
-            tell(faults, b"out of memory\n");
-            Ending::NoMemory
-        }
-    }
-}
-
-/// Reads the input, and writes the answer to it.
-fn plan_from<R: Read, W: Write, F: Write>(
-    alloc: Global,
-    words: &Words,
-    inputs: &mut [R],
-    output: &mut W,
-    faults: &mut F,
-) -> Ending
-    requires { length inputs.old ≡ 1 }
-    ensures { (texts : List (List ℕ)) → Hold (map R.remaining inputs.old) texts
-        → EndsAs (plan_sources words.now) (PlanAnswers words.now) result texts (W.contents output.old) (W.contents output.new) (F.contents faults.old) (F.contents faults.new) }
-{
-    match read_inputs(alloc, plan_sources(words), inputs) {
-        Ok(texts) => write_plan(alloc, words, texts.as_slice(), output, faults),
-        Err(unread) => tell_unread(faults, unread.source, unread.why),
-    }
-}
 
 /// Reads a topology, and writes the plan that the words ask for: a line for each node with its label and its row.
 /// Condition: there is one reader. The answer is the exit status: 0 done, 1 input refused or a reader or writer that
 /// failed, 3 want of memory.
-pub fn run_plan<R: Read, W: Write, F: Write>(
+pub fn run_plan<R: Reader, W: Writer, F: Writer>(
     alloc: Global,
     words: &Words,
     inputs: &mut [R],
@@ -74,8 +23,59 @@ pub fn run_plan<R: Read, W: Write, F: Write>(
     faults: &mut F,
 ) -> u8
     requires { length inputs.old ≡ 1 }
-    ensures { (texts : List (List ℕ)) → Hold (map R.remaining inputs.old) texts
-        → Ends (plan_sources words.now) (PlanAnswers words.now) result texts (W.contents output.old) (W.contents output.new) (F.contents faults.old) (F.contents faults.new) }
+    ensures { Ends (LookAnswers Look.Plan words.now) result (λ texts. AreRead R.remaining R.gave inputs.old texts inputs.new) (IsUnread R.remaining R.gave (look_sources words.now) inputs.old inputs.new) (Sends W.contents W.wrote W.settled output.old output.new) (output.new ≡ output.old) (Tells F.contents F.wrote F.settled faults.old faults.new) }
 {
-    status_of(plan_from(alloc, words, inputs, output, faults))
+    run(alloc, Task::Look(Look::Plan), words, inputs, output, faults)
+}
+
+/// Reads a topology, and writes the walk of that plan between the nodes that the words name: a line for each of its nodes,
+/// with the interval by which it sends on. Condition and answer are those of `run_plan`; a name that is no node is refused
+/// as a root that is no node, behind the root's.
+pub fn run_walk<R: Reader, W: Writer, F: Writer>(
+    alloc: Global,
+    words: &Words,
+    inputs: &mut [R],
+    output: &mut W,
+    faults: &mut F,
+) -> u8
+    requires { length inputs.old ≡ 1 }
+    ensures { Ends (LookAnswers Look.Walk words.now) result (λ texts. AreRead R.remaining R.gave inputs.old texts inputs.new) (IsUnread R.remaining R.gave (look_sources words.now) inputs.old inputs.new) (Sends W.contents W.wrote W.settled output.old output.new) (output.new ≡ output.old) (Tells F.contents F.wrote F.settled faults.old faults.new) }
+{
+    run(alloc, Task::Look(Look::Walk), words, inputs, output, faults)
+}
+
+/// Reads a topology, and writes the figures of that plan. Condition and answer are those of `run_plan`.
+pub fn run_stats<R: Reader, W: Writer, F: Writer>(
+    alloc: Global,
+    words: &Words,
+    inputs: &mut [R],
+    output: &mut W,
+    faults: &mut F,
+) -> u8
+    requires { length inputs.old ≡ 1 }
+    ensures { Ends (LookAnswers Look.Stats words.now) result (λ texts. AreRead R.remaining R.gave inputs.old texts inputs.new) (IsUnread R.remaining R.gave (look_sources words.now) inputs.old inputs.new) (Sends W.contents W.wrote W.settled output.old output.new) (output.new ≡ output.old) (Tells F.contents F.wrote F.settled faults.old faults.new) }
+{
+    run(
+        alloc,
+        Task::Look(Look::Stats),
+        words,
+        inputs,
+        output,
+        faults,
+    )
+}
+
+/// Reads a topology, and writes a drawing of that plan for Graphviz, with the walk between two nodes in bold if the words
+/// name both. Condition and answer are those of `run_walk`.
+pub fn run_draw<R: Reader, W: Writer, F: Writer>(
+    alloc: Global,
+    words: &Words,
+    inputs: &mut [R],
+    output: &mut W,
+    faults: &mut F,
+) -> u8
+    requires { length inputs.old ≡ 1 }
+    ensures { Ends (LookAnswers Look.Draw words.now) result (λ texts. AreRead R.remaining R.gave inputs.old texts inputs.new) (IsUnread R.remaining R.gave (look_sources words.now) inputs.old inputs.new) (Sends W.contents W.wrote W.settled output.old output.new) (output.new ≡ output.old) (Tells F.contents F.wrote F.settled faults.old faults.new) }
+{
+    run(alloc, Task::Look(Look::Draw), words, inputs, output, faults)
 }

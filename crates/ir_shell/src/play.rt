@@ -4,21 +4,21 @@ ghost use Rattle.std.specs.List.{list_any};
 ghost use Rattle.ir_model.specs.Graph.{names};
 ghost use Rattle.ir_model.specs.OfGraph.{network_of_graph};
 ghost use Rattle.ir_model.specs.Text.{lines};
-ghost use Rattle.ir_trace.specs.Written.{records_text};
+ghost use Rattle.ir_trace.specs.Written.{HaveSegments};
 ghost use Rattle.ir_shell.specs.Openings.{root_name, AnswersTopology, AnswersRoot};
-ghost use Rattle.ir_shell.specs.Plays.{listing_in, wants_memory, refused_text, AnswersRun, AnswersScript};
+ghost use Rattle.ir_shell.specs.Plays.{listing_in, wants_memory, refused_text, run_text, AnswersRun, AnswersScript};
 ghost use Rattle.ir_shell.specs.Replies.{answer_of};
 
 use crate::lines::{opening_line, push_reply_line, script_line, topology_line};
 use crate::open::{no_root, read_topology, root_of};
 use crate::reply::Reply;
 use crate::words::Words;
-use ir_core::{OpenError, Opening, Played, Refused, Reply as Answered, play};
+use ir_core::{OpenError, Opening, Played, Record, Refused, Reply as Answered, play};
 use ir_graph::Graph;
 use ir_model::Fault;
 use ir_script::{Script, ScriptFault, parse_script};
 use ir_tables::Topology;
-use ir_trace::trace_text;
+use ir_trace::{trace_text, trace_text_2};
 use std::alloc::{AllocError, Global};
 
 /// Whether some step wanted memory.
@@ -45,18 +45,38 @@ fn refused_text(
     Ok(text)
 }
 
+/// The trace of records: that of their segments where packets may be restamped.
+fn run_text(
+    alloc: Global,
+    graph: &Graph,
+    topology: &Topology,
+    restamps: u8,
+    records: &[Record],
+) -> Result<String, AllocError>
+    requires over { topology.now ≡ network_of_graph graph.now }
+    requires records { HaveSegments topology.now records.now }
+    ensures { IfOk result (λ text. string_bytes text ≡ run_text restamps (names graph.now) topology.now records.now) }
+{
+    if restamps == 0 {
+        trace_text(alloc, graph, topology, records)
+    } else {
+        trace_text_2(alloc, graph, topology, records)
+    }
+}
+
 /// The trace of a run, and a line for each step that was refused.
 fn run_texts(
     alloc: Global,
     graph: &Graph,
     topology: &Topology,
+    restamps: u8,
     lines: &[usize],
     played: Played,
 ) -> Result<(String, String), AllocError>
     requires over { topology.now ≡ network_of_graph graph.now }
     requires opened { played.world.opening.network ≡ topology.now }
     ensures in_memory { IfOk result (λ _. list_any wants_memory played.replies.items ≡ false) }
-    ensures trace { IfOk result (λ texts. string_bytes texts.0 ≡ records_text (names graph.now) topology.now played.world.records) }
+    ensures trace { IfOk result (λ texts. string_bytes texts.0 ≡ run_text restamps (names graph.now) topology.now played.world.records) }
     ensures told { IfOk result (λ texts. string_bytes texts.1 ≡ refused_text lines.now played.replies.items) }
 {
     let Played { world, replies } = played;
@@ -65,7 +85,7 @@ fn run_texts(
     }
     let _nodes = world.nodes();
     let records = world.into_records();
-    let trace = trace_text(alloc, graph, topology, records.as_slice())?;
+    let trace = run_text(alloc, graph, topology, restamps, records.as_slice())?;
     let refused = refused_text(alloc, lines, replies.as_slice())?;
     Ok((trace, refused))
 }
@@ -88,10 +108,18 @@ fn answer_root(
         root,
         capacity: words.capacity,
         max_packets: words.packets,
+        restamps: words.restamps,
     };
     match play(alloc, opening, script.steps()) {
         Ok(played) => {
-            let (trace, refused) = run_texts(alloc, graph, topology, script.lines(), played)?;
+            let (trace, refused) = run_texts(
+                alloc,
+                graph,
+                topology,
+                words.restamps,
+                script.lines(),
+                played,
+            )?;
             Ok(Reply::Ran(trace, refused))
         }
         Err(OpenError::NoMemory) => Err(AllocError),

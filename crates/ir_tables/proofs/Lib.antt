@@ -5,3 +5,4 @@ pub mod Columns
 pub mod Offering
 pub mod OfGraph
 pub mod Ways
+pub mod Runs

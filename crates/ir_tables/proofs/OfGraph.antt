@@ -281,6 +281,13 @@ ports_more links u row i e at other = let keep : (e.0 == u) ≡ false = ne_eqb e
 pub ports_same : (links : List Link) (u : ℕ) (row : Numbers) (i : ℕ) (e : ℕ × ℕ) → slice_get row i ≡ Some e → e.0 ≡ u → ports_at links u (take (i + 1) row) ≡ ports_at links u (take i row)
 ports_same links u row i e at same = let skip : (e.0 == u) ≡ true = eq-eqb e.0 u same in (rw skip at (kept_more (port_to links u) (λ e. not (e.0 == u)) row i e at)) ∙ append-nil (ports_at links u (take i row))
 
+-- the row of a node
+pub row_of_node : (g : Adjacency) (u : ℕ) → get_or (rows_of g) u [] ≡ row_numbers g (neighbors_at g u)
+row_of_node g u = row_at g g u
+
+pub length_rows : (g : Adjacency) → length (rows_of g) ≡ length g
+length_rows g = length-map g (λ (r : Name × Neighbors). row_numbers g r.1)
+
 -- the row of a node among the rows that are left
 pub rows_more : (g : Adjacency) (u : ℕ) → u < length g → drop u (rows_of g) ≡ row_numbers g (neighbors_at g u) ∷ drop (u + 1) (rows_of g)
 rows_more g u lt =

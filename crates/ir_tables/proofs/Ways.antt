@@ -16,7 +16,7 @@ use Rattle.ir_tables.specs.Listed.{listed_port, hop_in, HasWalk, IsPortList, IsN
 
 -- ---- ways
 
-next_of : (net : Network) (table : ℕ → ℕ → Option ℕ) (x d y : ℕ) → next_node net table x d ≡ Some y → (hop : Hop) × IsNext net table x d hop × (hop.node ≡ y)
+pub next_of : (net : Network) (table : ℕ → ℕ → Option ℕ) (x d y : ℕ) → next_node net table x d ≡ Some y → (hop : Hop) × IsNext net table x d hop × (hop.node ≡ y)
 next_of net table x d y e = by (table x d) refl e
   where
     by_port : (p : ℕ) → table x d ≡ Some p → (o : Option Hop) → port_at net x p ≡ o → option_map (λ (hop : Hop). hop.node) o ≡ Some y → (hop : Hop) × IsNext net table x d hop × (hop.node ≡ y)
@@ -27,11 +27,11 @@ next_of net table x d y e = by (table x d) refl e
     by None held h = absurd (cc h)
     by (Some p) held h = by_port p held (port_at net x p) refl h
 
-is_next : (net : Network) (table : ℕ → ℕ → Option ℕ) (x d : ℕ) (hop : Hop) → IsNext net table x d hop → next_node net table x d ≡ Some hop.node
+pub is_next : (net : Network) (table : ℕ → ℕ → Option ℕ) (x d : ℕ) (hop : Hop) → IsNext net table x d hop → next_node net table x d ≡ Some hop.node
 is_next net table x d hop next = rw (next.held, next.there) refl
 
 -- what is held is next
-next_at : (net : Network) (table : ℕ → ℕ → Option ℕ) (x d : ℕ) (hop : Hop) → hop_in net table x d ≡ Some hop → IsNext net table x d hop
+pub next_at : (net : Network) (table : ℕ → ℕ → Option ℕ) (x d : ℕ) (hop : Hop) → hop_in net table x d ≡ Some hop → IsNext net table x d hop
 next_at net table x d hop e = by (table x d) refl e
   where
     by : (o : Option ℕ) → table x d ≡ o → option_and_then (λ p. port_at net x p) o ≡ Some hop → IsNext net table x d hop

@@ -1,5 +1,5 @@
 -- The network of nodes that are numbers, each with its neighbours in order and the weight to each.
-use Rattle.std.specs.Prelude.{ℕ, ◌+◌, ◌==◌, ◌||◌, ◌&&◌, Bool, not, List, [], ◌∷◌, ◌++◌, map, filter, nat_lt}
+use Rattle.std.specs.Prelude.{◌≡◌, ℕ, ◌+◌, ◌<◌, ◌≤◌, true, length, take, get_or, ◌==◌, ◌||◌, ◌&&◌, Bool, not, List, [], ◌∷◌, ◌++◌, map, filter, nat_lt}
 use Rattle.std.specs.List.{position_or_len}
 use Rattle.ir_model.specs.declared.Link.{Link}
 use Rattle.ir_model.specs.declared.Hop.{Hop}
@@ -25,6 +25,15 @@ joins_nodes u v link = link.low == u && link.high == v || link.low == v && link.
 -- the number of the first link that joins u and v
 abbrev pub link_between : List Link → ℕ → ℕ → ℕ
 link_between links u v = position_or_len (joins_nodes u v) links
+
+-- a link that joins u and v has a number from the first up to, and without, the second
+abbrev pub JoinsWithin : List Link → ℕ → ℕ → ℕ → ℕ → Type 0
+JoinsWithin links from to u v = (k : ℕ) (d : Link) → k < length links → joins_nodes u v (get_or links k d) ≡ true → (from ≤ k) × (k < to)
+
+-- how many links the first nodes of these have to later nodes, for the first none, one, two and so on
+pub record AreBegins (rows : List Numbers) (count : ℕ) (begins : List ℕ) : Type 0 where
+  pub len : length begins ≡ count
+  pub at : (i : ℕ) → i < count → get_or begins i 0 ≡ length (links_from 0 (take i rows))
 
 -- the port of u to a neighbour
 abbrev pub port_to : List Link → ℕ → ℕ × ℕ → Hop

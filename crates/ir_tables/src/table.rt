@@ -11,15 +11,19 @@ use crate::relaxation::{UNREACHED, first_port};
 use crate::topology::Topology;
 use std::alloc::{AllocError, AllocFailed, Global};
 use std::marker::Model;
+use thiserror::Error;
 
 /// Why there is no table.
-#[derive(Clone, Copy, Debug, PartialEq, Eq)]
+#[derive(Clone, Copy, Debug, PartialEq, Eq, Error)]
 pub enum TableError {
     /// The topology has no node.
+    #[error("the topology has no node")]
     Empty,
     /// Some node has no walk to some node.
+    #[error("some node has no walk to some node")]
     Disconnected,
     /// A growth was refused.
+    #[error("out of memory")]
     NoMemory,
 }
 

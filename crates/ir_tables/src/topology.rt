@@ -38,10 +38,10 @@ impl Topology {
         ensures { IfOk result (λ t. t ≡ network_of_graph graph.now) }
     {
         let nodes = graph.number_of_nodes();
-        let links = links_of(alloc, graph)?;
+        let (links, begins) = links_of(alloc, graph)?;
         let mut ports = Vec::with_capacity(alloc, nodes)?;
         for u in 0..nodes {
-            ports.push(ports_of(alloc, graph, links.as_slice(), u)?)?;
+            ports.push(ports_of(alloc, graph, links.as_slice(), begins.as_slice(), u)?)?;
         }
         Ok(Topology { links, ports })
     }

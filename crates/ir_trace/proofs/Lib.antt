@@ -1,8 +1,14 @@
+pub mod Inspecting
+pub mod Fronts
+pub mod CheckedRows
+pub mod CheckedSound
+pub mod CheckedTrace
 pub mod Weighing
 pub mod WrittenRows
-pub mod WrittenBytes
+pub mod Stretched
 pub mod ReadNumbers
 pub mod ReadSpellings
+pub mod ReadParts
 pub mod ReadLines
 pub mod ReadHops
 pub mod ReadCuts
@@ -10,4 +16,6 @@ pub mod ReadRows
 pub mod ReadTexts
 pub mod UniqueRows
 pub mod ReadLinks
+pub mod ReadWithin
 pub mod ReadAgain
+pub mod SegmentsAgain

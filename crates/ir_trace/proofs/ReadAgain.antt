@@ -2,7 +2,7 @@
 use Rattle.std.proofs.Common.{◌≡◌, ◌<◌, ◌≤◌, ◌*◌, ℕ, suc, true, cond, List, [], ◌∷◌, ◌++◌, length, map, Some, slice_get, Result, Ok, Err, IfOk, IfErr, MatchResult, refl, sym, ap, subst, ◌∙◌, arith, ◌⊎◌, inl, inr}
 use Rattle.std.specs.List.{list_all}
 use Rattle.std.proofs.lemmas.Bool.{and_from, eq-eqb, ne_eqb}
-use Rattle.std.proofs.lemmas.List.{length-map}
+use Rattle.std.proofs.lemmas.List.{length-map, append-nil}
 use Rattle.std.proofs.lemmas.List.Folds.{list_all-append}
 use Rattle.std.proofs.lemmas.Option.{get_or_from_slice_get, slice_get-get_or}
 use Rattle.ir_model.specs.declared.Link.{Link}
@@ -18,15 +18,18 @@ use Rattle.ir_tables.proofs.OfGraph.{graph_network}
 use Rattle.ir_trace.specs.declared.finding.Finding.{Finding}
 use Rattle.ir_trace.specs.declared.finding.FindingKind.TheVariants.{NoMemory}
 use Rattle.ir_trace.specs.declared.TheConstants.{MAX_NUMBER}
-use Rattle.ir_trace.specs.Rows.{IsRowText, fate_names, is_word}
-use Rattle.ir_trace.specs.Reading.{Row, node_named, AreLinkedAs, FateIsReadAs, IsReadAs, AreReadAs, IsTrace, Tells}
+use Rattle.ir_trace.specs.declared.row.Version.TheVariants.{One}
+use Rattle.ir_trace.specs.Rows.{IsRowText, fate_names, is_word, is_part_text}
+use Rattle.ir_trace.specs.Row.{Row}
+use Rattle.ir_trace.specs.Reading.{node_named, AreLinkedAs, FateIsReadAs, IsReadAs, AreReadAs, IsTrace, Tells}
 use Rattle.ir_trace.specs.Written.{name_at, link_at, other_end, fate_text, row_of, FateIsIn, IsWritable, AreWritable}
 use Rattle.ir_trace.specs.Again.{fate_again, row_again, AreNumbered, IsTraceOf}
+use Rattle.ir_trace.proofs.ReadSpellings.{is_part}
 use Rattle.ir_trace.proofs.ReadLinks.{count, named, word_at, link_names}
 use Rattle.ir_trace.proofs.UniqueRows.{trace_same, trace_told}
 
 module _ (g : Adjacency) (graph : IsGraph g) where
-  node_within : (u : ℕ) → u < node_count (network_of_graph g) → u < length g
+  pub node_within : (u : ℕ) → u < node_count (network_of_graph g) → u < length g
   node_within u h = omega (arith, h, count g graph)
 
   leads_within : (u d : ℕ) (rest : List ℕ) → LeadsTo (network_of_graph g) u d rest → u < length g
@@ -46,13 +49,13 @@ module _ (g : Adjacency) (graph : IsGraph g) where
   hops_weight u d [] way = omega arith
   hops_weight u d (v ∷ rest) way = omega (arith, (step_weight (network_of_graph g) (graph_network g graph) u v way.0).1, hops_weight v d rest way.1)
 
-  record HopsFacts (hops : List ℕ) : Type 0 where
-    some : 0 < length hops
-    are_named : map (node_named (names g)) (map (name_at (names g)) hops) ≡ map (λ v. Some v) hops
-    are_words : list_all is_word (map (name_at (names g)) hops) ≡ true
-    light : walk_weight (network_of_graph g) hops ≤ 65535 * length hops
+  pub record HopsFacts (hops : List ℕ) : Type 0 where
+    pub some : 0 < length hops
+    pub are_named : map (node_named (names g)) (map (name_at (names g)) hops) ≡ map (λ v. Some v) hops
+    pub are_words : list_all is_word (map (name_at (names g)) hops) ≡ true
+    pub light : walk_weight (network_of_graph g) hops ≤ 65535 * length hops
 
-  hops_facts : (first last : ℕ) (hops : List ℕ) → IsWalk (network_of_graph g) first last hops → HopsFacts hops
+  pub hops_facts : (first last : ℕ) (hops : List ℕ) → IsWalk (network_of_graph g) first last hops → HopsFacts hops
   hops_facts first last [] walk = absurd walk
   hops_facts first last (x ∷ rest) walk =
       let way : LeadsTo (network_of_graph g) x last rest = subst (λ u. LeadsTo (network_of_graph g) u last rest) (sym walk.0) walk.1 in
@@ -60,9 +63,9 @@ module _ (g : Adjacency) (graph : IsGraph g) where
 
   -- ---- fates
 
-  record FateFacts (f : Fate) : Type 0 where
-    reads : FateIsReadAs g (fate_text (names g) (network_of_graph g) f) (fate_again (network_of_graph g) f)
-    are_words : list_all is_word (fate_names (fate_text (names g) (network_of_graph g) f)) ≡ true
+  pub record FateFacts (f : Fate) : Type 0 where
+    pub reads : FateIsReadAs g (fate_text (names g) (network_of_graph g) f) (fate_again (network_of_graph g) f)
+    pub are_words : list_all is_word (fate_names (fate_text (names g) (network_of_graph g) f)) ≡ true
 
   two_words : (u v : ℕ) → u < length g → v < length g → list_all is_word (name_at (names g) u ∷ name_at (names g) v ∷ []) ≡ true
   two_words u v hu hv = and_from (is_word (name_at (names g) u)) _ (word_at g graph u hu) (and_from (is_word (name_at (names g) v)) true (word_at g graph v hv) refl)
@@ -81,7 +84,7 @@ module _ (g : Adjacency) (graph : IsGraph g) where
       let other : other_end link to ≡ link.low = ap (λ b. cond b link.high link.low) (ne_eqb link.low to (λ e. omega (arith, e, high, facts.ordered))) in
       subst (λ u. HasChannel u to) (sym other) (subst (λ v. HasChannel link.low v) (sym high) (facts.forth, omega (arith, facts.ordered, facts.within), facts.within))
 
-  fate_facts : (f : Fate) → FateIsIn (network_of_graph g) f → FateFacts f
+  pub fate_facts : (f : Fate) → FateIsIn (network_of_graph g) f → FateFacts f
   fate_facts fate.Delivered h = record { reads = refl; are_words = refl }
   fate_facts fate.Retired h = record { reads = refl; are_words = refl }
   fate_facts (fate.Down l) h =
@@ -98,34 +101,34 @@ module _ (g : Adjacency) (graph : IsGraph g) where
 
   -- ---- rows
 
-  text_is : (r : Journey) → IsWritable (network_of_graph g) r → r.id ≤ MAX_NUMBER → r.epoch ≤ MAX_NUMBER → IsRowText (row_of (names g) (network_of_graph g) r)
+  text_is : (r : Journey) → IsWritable (network_of_graph g) r → r.id ≤ MAX_NUMBER → r.epoch ≤ MAX_NUMBER → IsRowText One (row_of (names g) (network_of_graph g) r)
   text_is r is id epoch =
       let hops = hops_facts is.first is.last r.hops is.hops in
       let fate = fate_facts r.fate is.fate in
       let tail = fate_names (fate_text (names g) (network_of_graph g) r.fate) in
       let hop_names = map (name_at (names g)) r.hops in
+      let end : hop_names ++ [] ≡ hop_names = append-nil hop_names in
       record {
         id = id;
-        epoch = epoch;
         weight = omega (arith, hops.light, is.few);
-        hops = omega (arith, hops.some, length-map r.hops (name_at (names g)));
+        parts = and_from (is_part_text (record { epoch = r.epoch; hops = hop_names })) true (is_part (record { epoch = r.epoch; hops = hop_names }) epoch (omega (arith, hops.some, length-map r.hops (name_at (names g))))) refl;
+        version = refl;
         words = and_from (is_word (name_at (names g) r.source)) _ (word_at g graph r.source (node_within r.source is.source))
-            (and_from (is_word (name_at (names g) r.dest)) (list_all is_word (tail ++ hop_names)) (word_at g graph r.dest (node_within r.dest is.dest))
-            (list_all-append is_word tail hop_names ∙ and_from (list_all is_word tail) (list_all is_word hop_names) fate.are_words hops.are_words));
+            (and_from (is_word (name_at (names g) r.dest)) (list_all is_word (tail ++ (hop_names ++ []))) (word_at g graph r.dest (node_within r.dest is.dest))
+            (ap (λ t. list_all is_word (tail ++ t)) end ∙ list_all-append is_word tail hop_names ∙ and_from (list_all is_word tail) (list_all is_word hop_names) fate.are_words hops.are_words));
       }
 
   row_read : (r : Journey) → IsWritable (network_of_graph g) r → IsReadAs g (row_of (names g) (network_of_graph g) r) (row_again (network_of_graph g) r)
   row_read r is = record {
     id = refl;
-    epoch = refl;
     weight = refl;
     source = named g graph r.source (node_within r.source is.source);
     dest = named g graph r.dest (node_within r.dest is.dest);
     fate = (fate_facts r.fate is.fate).reads;
-    hops = (hops_facts is.first is.last r.hops is.hops).are_named;
+    parts = (refl, (hops_facts is.first is.last r.hops is.hops).are_named, tt);
   }
 
-  rows_read : (records : List Journey) → AreWritable (network_of_graph g) records → AreNumbered records → AreReadAs g (map (row_of (names g) (network_of_graph g)) records) (map (row_again (network_of_graph g)) records)
+  rows_read : (records : List Journey) → AreWritable (network_of_graph g) records → AreNumbered records → AreReadAs One g (map (row_of (names g) (network_of_graph g)) records) (map (row_again (network_of_graph g)) records)
   rows_read [] are numbered = tt
   rows_read (r ∷ records) are numbered =
       let is : IsWritable (network_of_graph g) r = are 0 r refl in
@@ -134,7 +137,7 @@ module _ (g : Adjacency) (graph : IsGraph g) where
 
   -- the text of records is a trace
   pub written_trace : (text : List ℕ) (records : List Journey) → IsTraceOf g text records → IsTrace g text (map (row_again (network_of_graph g)) records)
-  written_trace text records is = (map (row_of (names g) (network_of_graph g)) records, is.whole, rows_read records is.writable is.numbered)
+  written_trace text records is = (One, (map (row_of (names g) (network_of_graph g)) records, is.whole, rows_read records is.writable is.numbered))
 
   pub read_again : (text : List ℕ) (r : Result (List Row) Finding) → IfOk r (λ rows. IsTrace g text rows) → IfErr r (λ e. Tells g text e.line e.kind) → (records : List Journey) → IsTraceOf g text records
       → MatchResult r (λ rows. rows ≡ map (row_again (network_of_graph g)) records) (λ e. e.kind ≡ NoMemory)

@@ -15,7 +15,7 @@ use Rattle.ir_tables.specs.Numbered.{Numbers, links_at, links_from}
 use Rattle.ir_tables.specs.ByPlace.{row_numbers, rows_of}
 use Rattle.ir_tables.proofs.Numbered.{row_get}
 use Rattle.ir_tables.proofs.OfGraph.{graph_rows, graph_network}
-use Rattle.ir_trace.specs.Rows.{is_word}
+use Rattle.ir_trace.specs.Rows.{is_word, is_mark}
 use Rattle.ir_trace.specs.Reading.{node_named, AreLinkedAs}
 use Rattle.ir_trace.specs.Written.{name_at}
 use Rattle.ir_trace.proofs.ReadLines.{is_word_byte}
@@ -73,6 +73,13 @@ name_word x h =
         let both = and_parts (is_name_byte b) (list_all is_name_byte bs) h in
         and_from (is_word_byte b) (list_all is_word_byte bs) (and_parts (is_word_byte b) (not (b == 35)) both.0).0 (bytes bs both.1)
 
+-- no name begins with `#`
+name_plain : (x : Name) → is_name x ≡ true → not (is_mark x) ≡ true
+name_plain [] h = absurd (cc h)
+name_plain (b ∷ bs) h =
+    let all = (and_parts (nat_le 1 (length (b ∷ bs)) && nat_le (length (b ∷ bs)) 64) (list_all is_name_byte (b ∷ bs)) h).1 in
+    (and_parts (is_word_byte b) (not (b == 35)) (and_parts (is_name_byte b) (list_all is_name_byte bs) all).0).1
+
 row_name : (g : Adjacency) (u : ℕ) (x : Name) → list_all is_row g ≡ true → slice_get (names g) u ≡ Some x → is_name x ≡ true
 row_name [] u x h at = absurd (cc at)
 row_name (r ∷ g) zero x h at = let same : r.0 ≡ x = cc at in ap is_name (sym same) ∙ (and_parts (is_name r.0) _ (and_parts (is_row r) (list_all is_row g) h).0).0
@@ -94,6 +101,9 @@ module _ (g : Adjacency) (graph : IsGraph g) where
 
   pub word_at : (u : ℕ) → u < length g → is_word (name_at (names g) u) ≡ true
   word_at u h = name_word (name_at (names g) u) (row_name g u (name_at (names g) u) graph.rows (name_is u h))
+
+  pub plain_at : (u : ℕ) → u < length g → not (is_mark (name_at (names g) u)) ≡ true
+  plain_at u h = name_plain (name_at (names g) u) (row_name g u (name_at (names g) u) graph.rows (name_is u h))
 
   -- the ends of a link are linked by name
   entry_linked : (u i v : ℕ) (e : ℕ × ℕ) → v ≡ 0 + u → row_get (rows_of g) u i ≡ Some e → has_edge g (name_at (names g) v) (name_at (names g) e.0) ≡ true

@@ -1,13 +1,15 @@
 -- Rows and the words that spell them.
-use Rattle.std.proofs.Common.{◌≡◌, ◌<◌, ◌≤◌, ◌-◌, ℕ, true, List, [], ◌∷◌, ◌++◌, length, take, drop, get_or, Option, Some, None, if◌then◌else◌, codes, bytes_eq, decimal, refl, sym, ap, ◌∙◌, arith}
+use Rattle.std.proofs.Common.{◌≡◌, ◌<◌, ◌≤◌, ◌-◌, ◌&&◌, ℕ, true, List, [], ◌∷◌, ◌++◌, length, take, drop, get_or, Option, Some, None, if◌then◌else◌, codes, bytes_eq, decimal, flat_map, nat_le, nat_lt, refl, sym, ap, subst, ◌∙◌, arith}
 use Rattle.std.specs.Borrow.{Bor}
 use Rattle.std.specs.List.{list_all}
-use Rattle.std.proofs.lemmas.Bool.{and_parts, and_from}
-use Rattle.std.proofs.lemmas.List.{take_rest, length-map}
+use Rattle.std.proofs.lemmas.Bool.{and_parts, and_from, eqb-true, leb-true, ltb-true, le-leb, lt-ltb}
+use Rattle.std.proofs.lemmas.List.{take_rest, length-map, append-nil}
+use Rattle.std.proofs.lemmas.List.Folds.{list_all-append}
 use Rattle.ir_model.specs.Graph.{Name}
 use Rattle.ir_trace.specs.declared.TheConstants.{MAX_NUMBER}
-use Rattle.ir_trace.specs.Rows.{FateText, Delivered, Retired, Down, Full, Left, RowText, row_words, fate_words, fate_names, is_word}
-use Rattle.ir_trace.specs.Spelled.{texts, Spells, SpellsNothing, IsNoNumber}
+use Rattle.ir_trace.specs.declared.row.Version.TheVariants.{One, Two}
+use Rattle.ir_trace.specs.Rows.{FateText, Delivered, Retired, Down, Full, Left, PartText, RowText, IsRowText, row_words, part_words, first_part, mark, fate_words, fate_names, hop_names, is_word, is_part_text, fits_version}
+use Rattle.ir_trace.specs.Spelled.{texts, Spells, SpellsNothing, IsNoNumber, head_words, HasHead, HasNoHead, AreParts, AreNoParts}
 
 -- ---- the words of a fate tell it
 
@@ -54,6 +56,31 @@ tail_words (Down x y) hops h = h
 tail_words (Full x y) hops h = h
 tail_words Left hops h = h
 
+-- ---- parts
+
+-- a row of the first version has one part
+pub one_part : (parts : List PartText) → fits_version One parts ≡ true → parts ≡ first_part parts ∷ []
+one_part [] h = absurd (cc h)
+one_part (part ∷ []) h = refl
+one_part (part ∷ other ∷ parts) h = absurd (omega (arith, eqb-true (length (part ∷ other ∷ parts)) 1 h))
+
+pub record PartIs (part : PartText) : Type 0 where
+  pub epoch : part.epoch ≤ MAX_NUMBER
+  pub some : 0 < length part.hops
+
+pub part_is : (part : PartText) → is_part_text part ≡ true → PartIs part
+part_is part h =
+    let both = and_parts (nat_le part.epoch MAX_NUMBER) (nat_lt 0 (length part.hops)) h in
+    record { epoch = leb-true part.epoch MAX_NUMBER both.0; some = ltb-true 0 (length part.hops) both.1 }
+
+pub is_part : (part : PartText) → part.epoch ≤ MAX_NUMBER → 0 < length part.hops → is_part_text part ≡ true
+is_part part epoch some = and_from (nat_le part.epoch MAX_NUMBER) (nat_lt 0 (length part.hops)) (le-leb part.epoch MAX_NUMBER epoch) (lt-ltb 0 (length part.hops) some)
+
+pub first_is : (text : RowText) → IsRowText One text → PartIs (first_part text.parts)
+first_is text is =
+    let P : List PartText → Type 0 = λ parts. list_all is_part_text parts ≡ true in
+    part_is (first_part text.parts) (and_parts (is_part_text (first_part text.parts)) true (subst P (one_part text.parts is.version) is.parts)).0
+
 -- ---- six words, and the words behind them
 
 abbrev at : List (Bor (List ℕ)) → ℕ → Name
@@ -73,33 +100,123 @@ six_words (a ∷ b ∷ c ∷ d ∷ e ∷ f ∷ rest) h = ap (λ t. a.now ∷ b.n
 
 module _ (words : List (Bor (List ℕ))) (long : 6 ≤ length words) where
   -- what the words of a row say one by one
-  pub each_word : (text : RowText) → Spells (texts words) text → (decimal text.weight ≡ at words 4) × (fate_words text.fate ++ text.hops ≡ at words 5 ∷ behind words)
-  each_word text is = let same : row_words text ≡ at words 0 ∷ at words 1 ∷ at words 2 ∷ at words 3 ∷ at words 4 ∷ at words 5 ∷ behind words = is.words_are ∙ six_words words long in (cc same, cc same)
+  pub each_word : (text : RowText) → Spells One (texts words) text
+      → (decimal (first_part text.parts).epoch ≡ at words 1) × (decimal text.weight ≡ at words 4) × (fate_words text.fate ++ (first_part text.parts).hops ≡ at words 5 ∷ behind words)
+  each_word text is = let same : row_words One text ≡ at words 0 ∷ at words 1 ∷ at words 2 ∷ at words 3 ∷ at words 4 ∷ at words 5 ∷ behind words = is.words_are ∙ six_words words long in (cc same, cc same, cc same)
 
-  pub no_weight : IsNoNumber (at words 4) → SpellsNothing (texts words)
-  no_weight other text is = other text.weight is.text_is.weight (each_word text is).0
+  pub no_weight : IsNoNumber (at words 4) → SpellsNothing One (texts words)
+  no_weight other text is = other text.weight is.text_is.weight (each_word text is).1
+
+  pub no_epoch : IsNoNumber (at words 1) → SpellsNothing One (texts words)
+  no_epoch other text is = other (first_part text.parts).epoch (first_is text is.text_is).epoch (each_word text is).0
 
   module _ (fate : FateText) (held : List (Bor (List ℕ))) (tail : fate_words fate ++ texts held ≡ at words 5 ∷ behind words) where
-    pub no_hops : length held ≡ 0 → SpellsNothing (texts words)
-    no_hops none text is = let same = fate_words-same text.fate fate text.hops (texts held) ((each_word text is).1 ∙ sym tail) in
-        let none_left : length text.hops ≡ length held = ap length same.1 ∙ length-map held (λ w. w.now) in
-        absurd (omega (arith, is.text_is.hops))
+    pub no_hops : length held ≡ 0 → SpellsNothing One (texts words)
+    no_hops none text is = let same = fate_words-same text.fate fate (first_part text.parts).hops (texts held) ((each_word text is).2 ∙ sym tail) in
+        let none_left : length (first_part text.parts).hops ≡ length held = ap length same.1 ∙ length-map held (λ w. w.now) in
+        absurd (omega (arith, (first_is text is.text_is).some))
 
     pub spells : (id epoch weight : ℕ) → id ≤ MAX_NUMBER → epoch ≤ MAX_NUMBER → weight ≤ MAX_NUMBER → decimal id ≡ at words 0 → decimal epoch ≡ at words 1 → decimal weight ≡ at words 4
         → 0 < length held → list_all is_word (texts words) ≡ true
-        → Spells (texts words) (record { id = id; epoch = epoch; source = at words 2; dest = at words 3; weight = weight; fate = fate; hops = texts held })
+        → Spells One (texts words) (record { id = id; source = at words 2; dest = at words 3; weight = weight; fate = fate; parts = record { epoch = epoch; hops = texts held } ∷ [] })
     spells id epoch weight small_id small_epoch small_weight is_id is_epoch is_weight some all = record {
-      text_is = record { id = small_id; epoch = small_epoch; weight = small_weight; hops = omega (arith, length-map held (λ w. w.now)); words = names };
+      text_is = record {
+        id = small_id;
+        weight = small_weight;
+        parts = and_from (is_part_text (record { epoch = epoch; hops = texts held })) true (is_part (record { epoch = epoch; hops = texts held }) small_epoch (omega (arith, length-map held (λ w. w.now)))) refl;
+        version = refl;
+        words = names;
+      };
       words_are = cc (sym (six_words words long));
     }
       where
         all_words : list_all is_word (at words 0 ∷ at words 1 ∷ at words 2 ∷ at words 3 ∷ at words 4 ∷ (fate_words fate ++ texts held)) ≡ true
         all_words = ap (λ t. list_all is_word (at words 0 ∷ at words 1 ∷ at words 2 ∷ at words 3 ∷ at words 4 ∷ t)) tail ∙ ap (list_all is_word) (sym (six_words words long)) ∙ all
 
-        names : list_all is_word (at words 2 ∷ at words 3 ∷ (fate_names fate ++ texts held)) ≡ true
+        names : list_all is_word (at words 2 ∷ at words 3 ∷ (fate_names fate ++ (texts held ++ []))) ≡ true
         names =
             let rest = fate_words fate ++ texts held in
             let from_source = words_behind (at words 1) (at words 2 ∷ at words 3 ∷ at words 4 ∷ rest) (words_behind (at words 0) (at words 1 ∷ at words 2 ∷ at words 3 ∷ at words 4 ∷ rest) all_words) in
             let from_dest = words_behind (at words 2) (at words 3 ∷ at words 4 ∷ rest) from_source in
+            let end : texts held ++ [] ≡ texts held = append-nil (texts held) in
             and_from (is_word (at words 2)) _ (first_word (at words 2) (at words 3 ∷ at words 4 ∷ rest) from_source)
-            (and_from (is_word (at words 3)) _ (first_word (at words 3) (at words 4 ∷ rest) from_dest) (tail_words fate (texts held) (words_behind (at words 4) rest (words_behind (at words 3) (at words 4 ∷ rest) from_dest))))
+            (and_from (is_word (at words 3)) _ (first_word (at words 3) (at words 4 ∷ rest) from_dest) (ap (λ t. list_all is_word (fate_names fate ++ t)) end ∙ tail_words fate (texts held) (words_behind (at words 4) rest (words_behind (at words 3) (at words 4 ∷ rest) from_dest))))
+
+-- ---- five words, and the words behind them
+
+abbrev after : List (Bor (List ℕ)) → List Name
+after words = texts (take (length words - 5) (drop 5 words))
+
+pub five_words : (words : List (Bor (List ℕ))) → 5 ≤ length words → texts words ≡ at words 0 ∷ at words 1 ∷ at words 2 ∷ at words 3 ∷ at words 4 ∷ after words
+five_words [] h = absurd (omega arith)
+five_words (a ∷ []) h = absurd (omega arith)
+five_words (a ∷ b ∷ []) h = absurd (omega arith)
+five_words (a ∷ b ∷ c ∷ []) h = absurd (omega arith)
+five_words (a ∷ b ∷ c ∷ d ∷ []) h = absurd (omega arith)
+five_words (a ∷ b ∷ c ∷ d ∷ e ∷ rest) h = ap (λ t. a.now ∷ b.now ∷ c.now ∷ d.now ∷ e.now ∷ texts t) (sym (take_rest (a ∷ b ∷ c ∷ d ∷ e ∷ rest) 5))
+
+module _ (words : List (Bor (List ℕ))) (long : 5 ≤ length words) where
+  pub no_head_weight : IsNoNumber (at words 3) → HasNoHead (texts words)
+  no_head_weight other text rest is = let same : head_words text ++ rest ≡ at words 0 ∷ at words 1 ∷ at words 2 ∷ at words 3 ∷ at words 4 ∷ after words = is.whole ∙ five_words words long in other text.weight is.weight (cc same)
+
+  pub has_head : (fate : FateText) (held : List (Bor (List ℕ))) (id weight : ℕ) → fate_words fate ++ texts held ≡ at words 4 ∷ after words → id ≤ MAX_NUMBER → weight ≤ MAX_NUMBER → decimal id ≡ at words 0 → decimal weight ≡ at words 3
+      → HasHead (texts words) (record { id = id; source = at words 1; dest = at words 2; weight = weight; fate = fate; parts = [] }) (texts held)
+  has_head fate held id weight tail small_id small_weight is_id is_weight = record { id = small_id; weight = small_weight; whole = cc (sym (five_words words long)) }
+
+-- ---- rows of the second version
+
+fate_tail : (fate : FateText) (rest : List Name) → list_all is_word (fate_words fate ++ rest) ≡ true → list_all is_word rest ≡ true
+fate_tail Delivered rest h = words_behind (codes "delivered") rest h
+fate_tail Retired rest h = words_behind (codes "retired") rest h
+fate_tail (Down x y) rest h = words_behind y rest (words_behind x (y ∷ rest) (words_behind (codes "down") (x ∷ y ∷ rest) h))
+fate_tail (Full x y) rest h = words_behind y rest (words_behind x (y ∷ rest) (words_behind (codes "full") (x ∷ y ∷ rest) h))
+fate_tail Left rest h = words_behind (codes "left") rest h
+
+fate_names_words : (fate : FateText) (rest hops : List Name) → list_all is_word (fate_words fate ++ rest) ≡ true → list_all is_word hops ≡ true → list_all is_word (fate_names fate ++ hops) ≡ true
+fate_names_words Delivered rest hops h k = k
+fate_names_words Retired rest hops h k = k
+fate_names_words (Down x y) rest hops h k =
+    let pair = words_behind (codes "down") (x ∷ y ∷ rest) h in
+    and_from (is_word x) (is_word y && list_all is_word hops) (first_word x (y ∷ rest) pair) (and_from (is_word y) (list_all is_word hops) (first_word y rest (words_behind x (y ∷ rest) pair)) k)
+fate_names_words (Full x y) rest hops h k =
+    let pair = words_behind (codes "full") (x ∷ y ∷ rest) h in
+    and_from (is_word x) (is_word y && list_all is_word hops) (first_word x (y ∷ rest) pair) (and_from (is_word y) (list_all is_word hops) (first_word y rest (words_behind x (y ∷ rest) pair)) k)
+fate_names_words Left rest hops h k = k
+
+hops_words : (parts : List PartText) → list_all is_word (flat_map part_words parts) ≡ true → list_all is_word (hop_names parts) ≡ true
+hops_words [] h = refl
+hops_words (part ∷ parts) h =
+    let both = and_parts (list_all is_word part.hops) (list_all is_word (flat_map part_words parts))
+    (sym (list_all-append is_word part.hops (flat_map part_words parts)) ∙ words_behind (mark part.epoch) (part.hops ++ flat_map part_words parts) h) in
+    list_all-append is_word part.hops (hop_names parts) ∙ and_from (list_all is_word part.hops) (list_all is_word (hop_names parts)) both.0 (hops_words parts both.1)
+
+module _ (words : List Name) where
+  pub no_head_row : HasNoHead words → SpellsNothing Two words
+  no_head_row other text is = other text (flat_map part_words text.parts) (record { id = is.text_is.id; weight = is.text_is.weight; whole = is.words_are })
+
+  module _ (head : RowText) (rest : List Name) (has : HasHead words head rest) where
+    pub no_parts_row : AreNoParts rest → SpellsNothing Two words
+    no_parts_row other text is =
+        let same : head_words text ++ flat_map part_words text.parts ≡ head_words head ++ rest = is.words_are ∙ sym has.whole in
+        let tails = fate_words-same text.fate head.fate (flat_map part_words text.parts) rest (cc same) in
+        other text.parts (record { words_are = tails.1; each = is.text_is.parts; version = is.text_is.version })
+
+    pub parts_row : (parts : List PartText) → AreParts rest parts → list_all is_word words ≡ true
+        → Spells Two words (record { id = head.id; source = head.source; dest = head.dest; weight = head.weight; fate = head.fate; parts = parts })
+    parts_row parts are all = record {
+      text_is = record { id = has.id; weight = has.weight; parts = are.each; version = are.version; words = names };
+      words_are = ap (λ t. head_words head ++ t) are.words_are ∙ has.whole;
+    }
+      where
+        all_words : list_all is_word (head_words head ++ rest) ≡ true
+        all_words = ap (list_all is_word) has.whole ∙ all
+
+        names : list_all is_word (head.source ∷ head.dest ∷ (fate_names head.fate ++ hop_names parts)) ≡ true
+        names =
+            let tail = fate_words head.fate ++ rest in
+            let from_source = words_behind (decimal head.id) (head.source ∷ head.dest ∷ decimal head.weight ∷ tail) all_words in
+            let from_dest = words_behind head.source (head.dest ∷ decimal head.weight ∷ tail) from_source in
+            let from_fate = words_behind (decimal head.weight) tail (words_behind head.dest (decimal head.weight ∷ tail) from_dest) in
+            let hops = hops_words parts (ap (list_all is_word) are.words_are ∙ fate_tail head.fate rest from_fate) in
+            and_from (is_word head.source) _ (first_word head.source (head.dest ∷ decimal head.weight ∷ tail) from_source)
+            (and_from (is_word head.dest) _ (first_word head.dest (decimal head.weight ∷ tail) from_dest) (fate_names_words head.fate rest (hop_names parts) from_fate hops))

@@ -7,8 +7,11 @@ use Rattle.std.proofs.lemmas.List.Concat.{flat_map-append}
 use Rattle.ir_model.specs.Graph.{Adjacency}
 use Rattle.ir_trace.specs.declared.finding.FindingKind.{FindingKind}
 use Rattle.ir_trace.specs.declared.finding.FindingKind.TheVariants.{NotTrace, BadRow, UnknownNode, UnknownEpoch, NotAPrefix, NotAtDestination, BadWeight, Repeated, NoMemory}
+use Rattle.ir_trace.specs.declared.row.Version.{Version}
+use Rattle.ir_trace.specs.declared.row.Version.TheVariants.{One, Two}
 use Rattle.ir_trace.specs.Rows.{RowText, IsRowText, row_words, row_line, header, trace_text, joined}
-use Rattle.ir_trace.specs.Reading.{Row, IsReadAs, AreReadAs, IsTrace, IsFaultOf, IsFirstFault, Tells}
+use Rattle.ir_trace.specs.Row.{Row}
+use Rattle.ir_trace.specs.Reading.{IsReadAs, AreReadAs, IsTraceIn, IsFaultOf, IsFirstFault, Tells}
 use Rattle.ir_trace.specs.Line.{HasNoFeed, CutsLine, Says, IsLineOf, LineTold}
 use Rattle.ir_trace.proofs.ReadLines.{is_word_byte, joined_all}
 use Rattle.ir_trace.proofs.ReadRows.{row_words_all}
@@ -40,73 +43,81 @@ first_cut (x ∷ xs) (y ∷ ys) a b h k e =
 text_byte : (b : ℕ) → is_word_byte b ≡ true → is_text b ≡ true
 text_byte b h = not_from_false (b == 10) (ne_eqb b 10 (λ e. omega (arith, e, leb-true 33 b (and_parts _ _ h).0)))
 
-pub row_no_feed : (text : RowText) → IsRowText text → HasNoFeed (joined (row_words text))
-row_no_feed text is = joined_all is_text text_byte refl (row_words text) (row_words_all text is)
+pub row_no_feed : (v : Version) (text : RowText) → IsRowText v text → HasNoFeed (joined (row_words v text))
+row_no_feed v text is = joined_all is_text text_byte refl (row_words v text) (row_words_all v text is)
 
 -- a row's line at the front is the line at the front
-pub line_front : (rest line after : List ℕ) → CutsLine rest line after → (text : RowText) → IsRowText text → (more : List ℕ) → rest ≡ row_line text ++ more → Says line text × (more ≡ after)
-line_front rest line after cut text is more e =
-    let same = first_cut (joined (row_words text)) line more after (row_no_feed text is) cut.inside (sym (append_assoc (joined (row_words text)) (10 ∷ []) more) ∙ sym e ∙ cut.whole) in
+pub line_front : (v : Version) (rest line after : List ℕ) → CutsLine rest line after → (text : RowText) → IsRowText v text → (more : List ℕ) → rest ≡ row_line v text ++ more → Says v line text × (more ≡ after)
+line_front v rest line after cut text is more e =
+    let same = first_cut (joined (row_words v text)) line more after (row_no_feed v text is) cut.inside (sym (append_assoc (joined (row_words v text)) (10 ∷ []) more) ∙ sym e ∙ cut.whole) in
     (record { text_is = is; words_are = sym same.0 }, same.1)
 
-pub line_is_front : (rest line after : List ℕ) → CutsLine rest line after → (text : RowText) → Says line text → rest ≡ row_line text ++ after
-line_is_front rest line after cut text says = cut.whole ∙ ap (λ t. t ++ 10 ∷ after) says.words_are ∙ sym (append_assoc (joined (row_words text)) (10 ∷ []) after)
+pub line_is_front : (v : Version) (rest line after : List ℕ) → CutsLine rest line after → (text : RowText) → Says v line text → rest ≡ row_line v text ++ after
+line_is_front v rest line after cut text says = cut.whole ∙ ap (λ t. t ++ 10 ∷ after) says.words_are ∙ sym (append_assoc (joined (row_words v text)) (10 ∷ []) after)
 
 -- ---- the lines before this place are those of a trace, and so many
 
-pub record IsReadTo (g : Adjacency) (text : List ℕ) (rows : List Row) (line : ℕ) (rest : List ℕ) : Type 0 where
+pub record IsReadTo (v : Version) (g : Adjacency) (text : List ℕ) (rows : List Row) (line : ℕ) (rest : List ℕ) : Type 0 where
   pub front : List ℕ
   pub whole : text ≡ front ++ rest
-  pub before : IsTrace g front rows
+  pub before : IsTraceIn v g front rows
   pub number : line ≡ length rows + 1
   pub counted : line + length rest ≤ length text
 
-pub read_header : (g : Adjacency) (text rest : List ℕ) → text ≡ header ++ rest → IsReadTo g text [] 1 rest
-read_header g text rest e = record {
-  front = header;
+pub read_header : (v : Version) (g : Adjacency) (text rest : List ℕ) → text ≡ header v ++ rest → IsReadTo v g text [] 1 rest
+read_header v g text rest e = record {
+  front = header v;
   whole = e;
-  before = ([], sym (append-nil header), tt);
+  before = ([], sym (append-nil (header v)), tt);
   number = refl;
-  counted = omega (arith, ap length e, length-append header rest);
+  counted = long v e;
 }
+  where
+    long : (v : Version) → text ≡ header v ++ rest → 1 + length rest ≤ length text
+    long One e = omega (arith, ap length e, length-append (header One) rest)
+    long Two e = omega (arith, ap length e, length-append (header Two) rest)
 
-trace_text-push : (texts : List RowText) (text : RowText) → trace_text (texts ++ text ∷ []) ≡ trace_text texts ++ row_line text
-trace_text-push texts text =
-    ap (λ t. header ++ t) (flat_map-append row_line texts (text ∷ []) ∙ ap (λ t. flat_map row_line texts ++ t) (append-nil (row_line text)))
-    ∙ sym (append_assoc header (flat_map row_line texts) (row_line text))
+trace_text-push : (v : Version) (texts : List RowText) (text : RowText) → trace_text v (texts ++ text ∷ []) ≡ trace_text v texts ++ row_line v text
+trace_text-push v texts text =
+    ap (λ t. header v ++ t) (flat_map-append (row_line v) texts (text ∷ []) ∙ ap (λ t. flat_map (row_line v) texts ++ t) (append-nil (row_line v text)))
+    ∙ sym (append_assoc (header v) (flat_map (row_line v) texts) (row_line v text))
 
-read_push : (g : Adjacency) (texts : List RowText) (rows : List Row) (text : RowText) (row : Row) → AreReadAs g texts rows → IsRowText text → IsReadAs g text row → AreReadAs g (texts ++ text ∷ []) (rows ++ row ∷ [])
-read_push g [] [] text row are is read = (is, read, tt)
-read_push g [] (r ∷ rows) text row are is read = absurd are
-read_push g (t ∷ texts) [] text row are is read = absurd are
-read_push g (t ∷ texts) (r ∷ rows) text row are is read = (are.0, are.1, read_push g texts rows text row are.2 is read)
+read_push : (v : Version) (g : Adjacency) (texts : List RowText) (rows : List Row) (text : RowText) (row : Row) → AreReadAs v g texts rows → IsRowText v text → IsReadAs g text row → AreReadAs v g (texts ++ text ∷ []) (rows ++ row ∷ [])
+read_push v g [] [] text row are is read = (is, read, tt)
+read_push v g [] (r ∷ rows) text row are is read = absurd are
+read_push v g (t ∷ texts) [] text row are is read = absurd are
+read_push v g (t ∷ texts) (r ∷ rows) text row are is read = (are.0, are.1, read_push v g texts rows text row are.2 is read)
 
-module _ (g : Adjacency) (text : List ℕ) (rows : List Row) (line : ℕ) (rest : List ℕ) (read : IsReadTo g text rows line rest) where
-  pub read_line : (current after : List ℕ) (row : Row) → CutsLine rest current after → IsLineOf g current row → IsReadTo g text (rows ++ row ∷ []) (line + 1) after
+module _ (v : Version) (g : Adjacency) (text : List ℕ) (rows : List Row) (line : ℕ) (rest : List ℕ) (read : IsReadTo v g text rows line rest) where
+  pub read_line : (current after : List ℕ) (row : Row) → CutsLine rest current after → IsLineOf v g current row → IsReadTo v g text (rows ++ row ∷ []) (line + 1) after
   read_line current after row cut of_line =
-      let shown : rest ≡ row_line of_line.0 ++ after = line_is_front rest current after cut of_line.0 of_line.1 in
+      let shown : rest ≡ row_line v of_line.0 ++ after = line_is_front v rest current after cut of_line.0 of_line.1 in
       record {
-        front = read.front ++ row_line of_line.0;
-        whole = read.whole ∙ ap (λ t. read.front ++ t) shown ∙ sym (append_assoc read.front (row_line of_line.0) after);
+        front = read.front ++ row_line v of_line.0;
+        whole = read.whole ∙ ap (λ t. read.front ++ t) shown ∙ sym (append_assoc read.front (row_line v of_line.0) after);
         before = (
           read.before.0 ++ of_line.0 ∷ [],
-          ap (λ t. t ++ row_line of_line.0) read.before.1 ∙ sym (trace_text-push read.before.0 of_line.0),
-          read_push g read.before.0 rows of_line.0 row read.before.2 of_line.1.text_is of_line.2,
+          ap (λ t. t ++ row_line v of_line.0) read.before.1 ∙ sym (trace_text-push v read.before.0 of_line.0),
+          read_push v g read.before.0 rows of_line.0 row read.before.2 of_line.1.text_is of_line.2,
         );
         number = omega (arith, read.number, length-append rows (row ∷ []));
         counted = omega (arith, read.counted, ap length cut.whole, length-append current (10 ∷ after));
       }
 
   module _ (some : 0 < length rest) where
-    first_fault : (kind : FindingKind) → IsFaultOf g rest kind → IsFirstFault g text (line + 1) kind
-    first_fault kind fault = record { good = rows; front = read.front; rest = rest; whole = read.whole; before = read.before; more = some; number = omega (arith, read.number); fault = fault }
+    first_fault : (kind : FindingKind) → IsFaultOf v g rest kind → IsFirstFault g text (line + 1) kind
+    first_fault kind fault = record { version = v; good = rows; front = read.front; rest = rest; whole = read.whole; before = read.before; more = some; number = omega (arith, read.number); fault = fault }
 
-    pub line_told : (current after : List ℕ) → CutsLine rest current after → (told : ℕ) (kind : FindingKind) → LineTold g current (line + 1) told kind → Tells g text told kind
+    -- no line feed is left
+    pub no_line : HasNoFeed rest → IsFirstFault g text (line + 1) BadRow
+    no_line none = first_fault BadRow (λ t is more e. no_feed_in (joined (row_words v t)) more (subst HasNoFeed (e ∙ append_assoc (joined (row_words v t)) (10 ∷ []) more) none))
+
+    pub line_told : (current after : List ℕ) → CutsLine rest current after → (told : ℕ) (kind : FindingKind) → LineTold v g current (line + 1) told kind → Tells g text told kind
     line_told current after cut told NotTrace h = absurd h.1
     line_told current after cut told BadRow h =
-        subst (λ n. IsFirstFault g text n BadRow) (sym h.0) (first_fault BadRow (λ t is more e. h.1 t (line_front rest current after cut t is more e).0))
+        subst (λ n. IsFirstFault g text n BadRow) (sym h.0) (first_fault BadRow (λ t is more e. h.1 t (line_front v rest current after cut t is more e).0))
     line_told current after cut told UnknownNode h =
-        subst (λ n. IsFirstFault g text n UnknownNode) (sym h.0) (first_fault UnknownNode (h.1.0, after, h.1.1.text_is, line_is_front rest current after cut h.1.0 h.1.1, h.1.2))
+        subst (λ n. IsFirstFault g text n UnknownNode) (sym h.0) (first_fault UnknownNode (h.1.0, after, h.1.1.text_is, line_is_front v rest current after cut h.1.0 h.1.1, h.1.2))
     line_told current after cut told UnknownEpoch h = absurd h.1
     line_told current after cut told NotAPrefix h = absurd h.1
     line_told current after cut told NotAtDestination h = absurd h.1

@@ -40,3 +40,14 @@ pub row_pieces : (old a b c d e : List ℕ) (fate hops : List (List ℕ)) (h : L
 row_pieces old a b c d e fate hops h =
     pieces old a (spaced b) (spaced c) (spaced d) (spaced e) (flat_map spaced fate) (flat_map spaced hops) h
     ∙ ap (λ t. old ++ ((a ++ (spaced b ++ (spaced c ++ (spaced d ++ (spaced e ++ t))))) ++ h)) (sym (flat_map-append spaced fate hops))
+
+pieces_2 : (old a b c d e f g : List ℕ) → ((((((old ++ a) ++ b) ++ c) ++ d) ++ e) ++ f) ++ g ≡ old ++ ((a ++ (b ++ (c ++ (d ++ (e ++ f))))) ++ g)
+pieces_2 old a b c d e f g = simp append_assoc
+
+-- the words of a row of the second version, put one after another
+pub segments_pieces : (old a b c d : List ℕ) (fate parts : List (List ℕ)) (h : List ℕ)
+    → ((((((old ++ a) ++ spaced b) ++ spaced c) ++ spaced d) ++ flat_map spaced fate) ++ flat_map spaced parts) ++ h
+    ≡ old ++ ((a ++ flat_map spaced (b ∷ c ∷ d ∷ fate ++ parts)) ++ h)
+segments_pieces old a b c d fate parts h =
+    pieces_2 old a (spaced b) (spaced c) (spaced d) (flat_map spaced fate) (flat_map spaced parts) h
+    ∙ ap (λ t. old ++ ((a ++ (spaced b ++ (spaced c ++ (spaced d ++ t)))) ++ h)) (sym (flat_map-append spaced fate parts))

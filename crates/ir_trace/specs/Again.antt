@@ -1,5 +1,6 @@
 -- What a trace that was written is read as again.
-use Rattle.std.specs.Prelude.{◌≡◌, ℕ, ◌≤◌, List, slice_get, Some}
+use Rattle.std.specs.Prelude.{◌≡◌, ℕ, ◌≤◌, true, List, [], ◌∷◌, sum_by, nat_le, slice_get, Some}
+use Rattle.std.specs.List.{list_all}
 use Rattle.ir_model.specs.Graph.{Adjacency, names}
 use Rattle.ir_model.specs.Network.{Network}
 use Rattle.ir_model.specs.OfGraph.{network_of_graph}
@@ -10,8 +11,8 @@ use Rattle.ir_core.specs.declared.packet.Fate.TheVariants as fate
 use Rattle.ir_trace.specs.declared.TheConstants.{MAX_NUMBER}
 use Rattle.ir_trace.specs.declared.row.RowFate.{RowFate}
 use Rattle.ir_trace.specs.declared.row.RowFate.TheVariants as read
-use Rattle.ir_trace.specs.Reading.{Row}
-use Rattle.ir_trace.specs.Written.{link_at, other_end, records_text, AreWritable}
+use Rattle.ir_trace.specs.Row.{Row}
+use Rattle.ir_trace.specs.Written.{link_at, other_end, records_text, AreWritable, parts_of, segments_text, HaveSegments}
 
 -- the fate of a record, with the ends of its link
 abbrev pub fate_again : Network → Fate → RowFate
@@ -25,12 +26,11 @@ fate_again net fate.Left = read.Left
 abbrev pub row_again : Network → Journey → Row
 row_again net r = record {
   id = r.id;
-  epoch = r.epoch;
   source = r.source;
   dest = r.dest;
   weight = walk_weight net r.hops;
   fate = fate_again net r.fate;
-  hops = r.hops;
+  parts = record { epoch = r.epoch; hops = r.hops } ∷ [];
 }
 
 -- a row can hold the numbers of each record
@@ -42,3 +42,26 @@ pub record IsTraceOf (g : Adjacency) (text : List ℕ) (records : List Journey) 
   pub writable : AreWritable (network_of_graph g) records
   pub numbered : AreNumbered records
   pub whole : text ≡ records_text (names g) (network_of_graph g) records
+
+-- ---- the second version
+
+-- the row of a record, as it is read: its parts are the segments
+abbrev pub segments_again : Network → Journey → Row
+segments_again net r = record {
+  id = r.id;
+  source = r.source;
+  dest = r.dest;
+  weight = sum_by (λ part. walk_weight net part.hops) (parts_of r);
+  fate = fate_again net r.fate;
+  parts = parts_of r;
+}
+
+-- a row can hold the numbers of each record and of its segments
+abbrev pub AreSegmentsNumbered : List Journey → Type 0
+AreSegmentsNumbered records = (i : ℕ) (r : Journey) → slice_get records i ≡ Some r → (r.id ≤ MAX_NUMBER) × (list_all (λ part. nat_le part.epoch MAX_NUMBER) (parts_of r) ≡ true)
+
+-- The text is the trace of these records over the graph in the second version.
+pub record AreSegmentsOf (g : Adjacency) (text : List ℕ) (records : List Journey) : Type 0 where
+  pub writable : HaveSegments (network_of_graph g) records
+  pub numbered : AreSegmentsNumbered records
+  pub whole : text ≡ segments_text (names g) (network_of_graph g) records

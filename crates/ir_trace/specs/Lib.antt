@@ -1,3 +1,4 @@
+pub mod Row
 pub mod Rows
 pub mod Written
 pub mod Codes
@@ -6,3 +7,8 @@ pub mod Outlet
 pub mod Spelled
 pub mod Line
 pub mod Again
+pub mod Checked
+pub mod Inspect
+pub mod Stretches
+pub mod SoundRows
+pub mod Sound

@@ -1,21 +1,13 @@
 -- What a trace is read as over a graph, and its first fault.
 use Rattle.std.specs.Prelude.{◌≡◌, ◌≢◌, ℕ, ◌+◌, ◌<◌, true, List, [], ◌∷◌, ◌++◌, length, map, position, bytes_eq, Option, Some}
 use Rattle.ir_model.specs.Graph.{Name, Adjacency, names, has_edge}
+use Rattle.ir_trace.specs.declared.row.Version.{Version}
 use Rattle.ir_trace.specs.declared.row.RowFate.{RowFate}
 use Rattle.ir_trace.specs.declared.row.RowFate.TheVariants as read
 use Rattle.ir_trace.specs.declared.finding.FindingKind.{FindingKind}
 use Rattle.ir_trace.specs.declared.finding.FindingKind.TheVariants.{NotTrace, BadRow, UnknownNode, NoMemory}
-use Rattle.ir_trace.specs.Rows.{FateText, Delivered, Retired, Down, Full, Left, RowText, IsRowText, row_line, header, trace_text}
-
--- a row as it is read: its nodes are places in node order
-pub record Row : Type 0 where
-  pub id : ℕ
-  pub epoch : ℕ
-  pub source : ℕ
-  pub dest : ℕ
-  pub weight : ℕ
-  pub fate : RowFate
-  pub hops : List ℕ
+use Rattle.ir_trace.specs.Row.{Part, Row}
+use Rattle.ir_trace.specs.Rows.{FateText, Delivered, Retired, Down, Full, Left, PartText, RowText, IsRowText, row_line, header, trace_text}
 
 -- the number of the node with a name
 abbrev pub node_named : List Name → Name → Option ℕ
@@ -34,55 +26,67 @@ FateIsReadAs g (Down x y) fate = (u : ℕ) × (v : ℕ) × AreLinkedAs g x y u v
 FateIsReadAs g (Full x y) fate = (u : ℕ) × (v : ℕ) × AreLinkedAs g x y u v × (fate ≡ read.Full u v)
 FateIsReadAs g Left fate = fate ≡ read.Left
 
+-- what parts are read as
+abbrev pub PartsAreReadAs : Adjacency → List PartText → List Part → Type 0
+PartsAreReadAs g [] [] = Unit {0}
+PartsAreReadAs g [] (part ∷ parts) = ⊥
+PartsAreReadAs g (text ∷ texts) [] = ⊥
+PartsAreReadAs g (text ∷ texts) (part ∷ parts) =
+    (part.epoch ≡ text.epoch) × (map (node_named (names g)) text.hops ≡ map (λ u. Some u) part.hops) × PartsAreReadAs g texts parts
+
 -- What a row is read as: each name is that of a node.
 pub record IsReadAs (g : Adjacency) (text : RowText) (row : Row) : Type 0 where
   pub id : row.id ≡ text.id
-  pub epoch : row.epoch ≡ text.epoch
   pub weight : row.weight ≡ text.weight
   pub source : node_named (names g) text.source ≡ Some row.source
   pub dest : node_named (names g) text.dest ≡ Some row.dest
   pub fate : FateIsReadAs g text.fate row.fate
-  pub hops : map (node_named (names g)) text.hops ≡ map (λ u. Some u) row.hops
+  pub parts : PartsAreReadAs g text.parts row.parts
 
--- rows that may stand in a trace, and what each is read as
-abbrev pub AreReadAs : Adjacency → List RowText → List Row → Type 0
-AreReadAs g [] [] = Unit {0}
-AreReadAs g [] (row ∷ rows) = ⊥
-AreReadAs g (text ∷ texts) [] = ⊥
-AreReadAs g (text ∷ texts) (row ∷ rows) = IsRowText text × IsReadAs g text row × AreReadAs g texts rows
+-- rows that may stand in a trace of a version, and what each is read as
+abbrev pub AreReadAs : Version → Adjacency → List RowText → List Row → Type 0
+AreReadAs v g [] [] = Unit {0}
+AreReadAs v g [] (row ∷ rows) = ⊥
+AreReadAs v g (text ∷ texts) [] = ⊥
+AreReadAs v g (text ∷ texts) (row ∷ rows) = IsRowText v text × IsReadAs g text row × AreReadAs v g texts rows
 
--- The text is that of a trace, and this is what its rows are read as.
+-- The text is that of a trace of a version, and this is what its rows are read as.
+abbrev pub IsTraceIn : Version → Adjacency → List ℕ → List Row → Type 0
+IsTraceIn v g text rows = (texts : List RowText) × (text ≡ trace_text v texts) × AreReadAs v g texts rows
+
+-- The text is that of a trace, of either version.
 abbrev pub IsTrace : Adjacency → List ℕ → List Row → Type 0
-IsTrace g text rows = (texts : List RowText) × (text ≡ trace_text texts) × AreReadAs g texts rows
+IsTrace g text rows = (v : Version) × IsTraceIn v g text rows
 
 -- no row's line stands at the front
-abbrev pub IsBadRow : List ℕ → Type 0
-IsBadRow rest = (text : RowText) → IsRowText text → (more : List ℕ) → rest ≡ row_line text ++ more → ⊥
+abbrev pub IsBadRow : Version → List ℕ → Type 0
+IsBadRow v rest = (text : RowText) → IsRowText v text → (more : List ℕ) → rest ≡ row_line v text ++ more → ⊥
 
 -- a row's line stands at the front, and some name in it is not that of a node, or two are not those of a link
-abbrev pub IsUnknown : Adjacency → List ℕ → Type 0
-IsUnknown g rest =
-    (text : RowText) × (more : List ℕ) × IsRowText text × (rest ≡ row_line text ++ more) × ((row : Row) → IsReadAs g text row → ⊥)
+abbrev pub IsUnknown : Version → Adjacency → List ℕ → Type 0
+IsUnknown v g rest =
+    (text : RowText) × (more : List ℕ) × IsRowText v text × (rest ≡ row_line v text ++ more) × ((row : Row) → IsReadAs g text row → ⊥)
 
-abbrev pub IsFaultOf : Adjacency → List ℕ → FindingKind → Type 0
-IsFaultOf g rest BadRow = IsBadRow rest
-IsFaultOf g rest UnknownNode = IsUnknown g rest
-IsFaultOf g rest kind = ⊥
+abbrev pub IsFaultOf : Version → Adjacency → List ℕ → FindingKind → Type 0
+IsFaultOf v g rest BadRow = IsBadRow v rest
+IsFaultOf v g rest UnknownNode = IsUnknown v g rest
+IsFaultOf v g rest kind = ⊥
 
 -- The fault of the first faulty line: the lines before it are those of a trace.
 pub record IsFirstFault (g : Adjacency) (text : List ℕ) (line : ℕ) (kind : FindingKind) : Type 0 where
+  pub version : Version
   pub good : List Row
   pub front : List ℕ
   pub rest : List ℕ
   pub whole : text ≡ front ++ rest
-  pub before : IsTrace g front good
+  pub before : IsTraceIn version g front good
   pub more : 0 < length rest
   pub number : line ≡ length good + 2
-  pub fault : IsFaultOf g rest kind
+  pub fault : IsFaultOf version g rest kind
 
--- the text does not begin with the line `trace 1`
+-- the text begins neither with the line `trace 1` nor with the line `trace 2`
 abbrev pub IsNoTrace : List ℕ → Type 0
-IsNoTrace text = (rest : List ℕ) → text ≡ header ++ rest → ⊥
+IsNoTrace text = (v : Version) (rest : List ℕ) → text ≡ header v ++ rest → ⊥
 
 -- What a text is refused for. Want of memory has line 0.
 abbrev pub Tells : Adjacency → List ℕ → ℕ → FindingKind → Type 0

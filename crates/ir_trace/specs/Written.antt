@@ -1,14 +1,18 @@
 -- The trace of packets' records.
-use Rattle.std.specs.Prelude.{◌≡◌, ℕ, ◌<◌, ◌≤◌, ◌⊎◌, List, [], length, map, slice_get, slice_index_or, Some, if◌then◌else◌, ◌==◌}
+use Rattle.std.specs.Prelude.{◌≡◌, ℕ, ◌<◌, ◌≤◌, ◌⊎◌, List, [], ◌∷◌, length, map, reverse, sum_by, slice_get, slice_index_or, Some, if◌then◌else◌, ◌==◌}
 use Rattle.ir_model.specs.declared.TheConstants.{MAX_NODES}
 use Rattle.ir_model.specs.declared.Link.{Link}
 use Rattle.ir_model.specs.Graph.{Name}
 use Rattle.ir_model.specs.Network.{Network, node_count}
 use Rattle.ir_model.specs.Walk.{IsWalk, walk_weight}
-use Rattle.ir_core.specs.Journey.{Journey}
+use Rattle.ir_core.specs.Journey.{Journey, segments}
+use Rattle.ir_core.specs.Sound.{ArePlaces}
 use Rattle.ir_core.specs.declared.packet.Fate.{Fate}
 use Rattle.ir_core.specs.declared.packet.Fate.TheVariants as fate
-use Rattle.ir_trace.specs.Rows.{FateText, Delivered, Retired, Down, Full, Left, RowText, trace_text}
+use Rattle.ir_trace.specs.declared.TheConstants.{MAX_SEGMENTS}
+use Rattle.ir_trace.specs.declared.row.Version.TheVariants.{One, Two}
+use Rattle.ir_trace.specs.Row.{Part}
+use Rattle.ir_trace.specs.Rows.{FateText, Delivered, Retired, Down, Full, Left, PartText, RowText, trace_text}
 
 abbrev pub name_at : List Name → ℕ → Name
 name_at nodes u = slice_index_or nodes u []
@@ -33,17 +37,16 @@ fate_text nodes net fate.Left = Left
 abbrev pub row_of : List Name → Network → Journey → RowText
 row_of nodes net r = record {
   id = r.id;
-  epoch = r.epoch;
   source = name_at nodes r.source;
   dest = name_at nodes r.dest;
   weight = walk_weight net r.hops;
   fate = fate_text nodes net r.fate;
-  hops = map (name_at nodes) r.hops;
+  parts = record { epoch = r.epoch; hops = map (name_at nodes) r.hops } ∷ [];
 }
 
 -- a row for each record, in order
 abbrev pub records_text : List Name → Network → List Journey → List ℕ
-records_text nodes net records = trace_text (map (row_of nodes net) records)
+records_text nodes net records = trace_text One (map (row_of nodes net) records)
 
 -- the link of a fate is a link of the network, and the node of a Full is an end of it
 abbrev pub FateIsIn : Network → Fate → Type 0
@@ -65,3 +68,36 @@ pub record IsWritable (net : Network) (r : Journey) : Type 0 where
 
 abbrev pub AreWritable : Network → List Journey → Type 0
 AreWritable net records = (i : ℕ) (r : Journey) → slice_get records i ≡ Some r → IsWritable net r
+
+-- ---- the second version
+
+-- the segments of a record, in order
+abbrev pub parts_of : Journey → List Part
+parts_of r = reverse (map (λ g. record { epoch = g.epoch; hops = g.hops }) (segments r))
+
+-- a segment with names
+abbrev pub named : List Name → Part → PartText
+named nodes part = record { epoch = part.epoch; hops = map (name_at nodes) part.hops }
+
+-- the row of a record in the second version: its weight is the sum over its segments
+abbrev pub segments_row : List Name → Network → Journey → RowText
+segments_row nodes net r = record {
+  id = r.id;
+  source = name_at nodes r.source;
+  dest = name_at nodes r.dest;
+  weight = sum_by (λ part. walk_weight net part.hops) (parts_of r);
+  fate = fate_text nodes net r.fate;
+  parts = map (named nodes) (parts_of r);
+}
+
+abbrev pub segments_text : List Name → Network → List Journey → List ℕ
+segments_text nodes net records = trace_text Two (map (segments_row nodes net) records)
+
+-- A record whose row of segments can be written: it has a few restamps, each at a place of its own in the hops.
+pub record HasSegments (net : Network) (r : Journey) : Type 0 where
+  pub writable : IsWritable net r
+  pub few : length r.restamps < MAX_SEGMENTS
+  pub places : ArePlaces (length r.hops) (reverse r.restamps)
+
+abbrev pub HaveSegments : Network → List Journey → Type 0
+HaveSegments net records = (i : ℕ) (r : Journey) → slice_get records i ≡ Some r → HasSegments net r

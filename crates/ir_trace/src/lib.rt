@@ -1,10 +1,12 @@
-//! Traces: a line for each packet of a run, written and read.
+//! Traces: a line for each packet of a run, written, read and checked against what each epoch was installed with.
 //!
-//! The first line is `trace 1`. Each further line is one packet, as `ID EPOCH SOURCE DEST WEIGHT FATE HOPS`, with single
-//! spaces between words and numbers in decimal without leading zeros. FATE is `delivered`, `retired`, `down X Y`,
-//! `full X Y` or `left`. Each line ends with a line feed.
+//! The first line is `trace 1` or `trace 2`. In `trace 1` each further line is one packet, as
+//! `ID EPOCH SOURCE DEST WEIGHT FATE HOPS`; in `trace 2` it is `ID SOURCE DEST WEIGHT FATE`, and then `#EPOCH HOPS` for
+//! each segment of the packet's way. Words have single spaces between, numbers are in decimal without leading zeros. FATE
+//! is `delivered`, `retired`, `down X Y`, `full X Y` or `left`. Each line ends with a line feed.
 #![tactic(auto)]
 
+mod checking;
 mod finding;
 mod numbers;
 mod outlet;
@@ -16,11 +18,15 @@ mod weight;
 mod words;
 mod writing;
 
+pub use checking::check_trace;
 pub use finding::{Finding, FindingKind};
-pub use outlet::{Outlet, TraceError, write_text};
+pub use outlet::{Outlet, TraceError};
 pub use reading::{Trace, read_trace};
-pub use row::{RowFate, TraceRow};
-pub use writing::{trace_text, write_trace};
+pub use row::{RowFate, Segment, TraceRow, Version};
+pub use writing::{trace_text, trace_text_2, write_trace, write_trace_2};
 
 /// The greatest number that a row may hold.
 pub const MAX_NUMBER: usize = 4_294_967_295;
+
+/// The most segments of a row.
+pub const MAX_SEGMENTS: usize = 4;

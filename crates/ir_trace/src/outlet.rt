@@ -1,17 +1,20 @@
 //! Where traces go out, and why a trace did not.
 ghost use Rattle.std.specs.Prelude.{◌≡◌, false, not};
-ghost use Rattle.ir_trace.specs.Outlet.{Writes};
+ghost use Rattle.ir_streams.specs.Writing.{Writes, Calls};
 
+use ir_streams::{Writer, write_text};
 use std::alloc::AllocError;
-use std::io::Write;
 use std::marker::Model;
+use thiserror::Error;
 
 /// Why a trace was not written.
-#[derive(Clone, Copy, Debug, PartialEq, Eq)]
+#[derive(Clone, Copy, Debug, PartialEq, Eq, Error)]
 pub enum TraceError {
     /// The writer gave an error, also as it was flushed, or took none of the bytes left.
+    #[error("the writer failed")]
     Unwritable = 1,
     /// A growth was refused.
+    #[error("out of memory")]
     NoMemory = 2,
 }
 
@@ -53,21 +56,7 @@ impl<W> Model for Outlet<W> {
     ghost view = { λ o. record { writer = o.writer; failed = o.failed } };
 }
 
-/// Writes all of a text, and answers whether the writer took and flushed it. What went out is a front of the text.
-pub fn write_text<W: Write>(writer: &mut W, text: &[u8]) -> bool
-    ensures { Writes result (W.contents writer.old) (W.contents writer.new) text.now }
-{
-    let mut rest = text;
-    while !rest.is_empty() {
-        match writer.write(rest) {
-            Err(_) | Ok(0) => return false,
-            Ok(n) => rest = &rest[n..],
-        }
-    }
-    writer.flush().is_ok()
-}
-
-impl<W: Write> Outlet<W> {
+impl<W: Writer> Outlet<W> {
     /// An outlet over a writer. It has not failed.
     pub fn new(writer: W) -> Outlet<W>
         ensures { result ≡ record { writer = writer; failed = false } }
@@ -95,7 +84,8 @@ impl<W: Write> Outlet<W> {
     /// Writes all of a text, and answers whether the writer took it. Else a front of the text went out, and the outlet
     /// has failed.
     pub(crate) fn write_text(&mut self, text: &[u8]) -> bool
-        ensures sent { Writes result (W.contents self.old.writer) (W.contents self.new.writer) text.now }
+        ensures calls { Calls W.wrote W.settled result self.old.writer text.now self.new.writer }
+        ensures bytes { Writes result (W.contents self.old.writer) (W.contents self.new.writer) text.now }
         ensures failed { self.new.failed ≡ not result }
     {
         let sent = write_text(&mut self.writer, text);

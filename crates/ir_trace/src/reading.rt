@@ -1,15 +1,17 @@
 //! Traces as they are read.
-ghost use Rattle.std.specs.Prelude.{◌≡◌, ◌<◌, ◌==◌, List, Some, position, MatchOption, MatchResult, IfOk, IfErr, length, map, slice_get};
+ghost use Rattle.std.specs.Prelude.{◌≡◌, ◌<◌, ◌==◌, ◌++◌, List, Some, position, MatchOption, MatchResult, IfOk, IfErr, length, map, slice_get};
 ghost use Rattle.ir_model.specs.OfGraph.{network_of_graph};
 ghost use Rattle.ir_core.specs.Journey.{Journey};
-ghost use Rattle.ir_trace.specs.Reading.{IsTrace, Tells};
-ghost use Rattle.ir_trace.specs.Again.{row_again, IsTraceOf};
-ghost use Rattle.ir_trace.specs.Spelled.{row_held};
+ghost use Rattle.ir_trace.specs.Rows.{header};
+ghost use Rattle.ir_trace.specs.Reading.{IsNoTrace, IsTrace, Tells};
+ghost use Rattle.ir_model.specs.Network.{node_count};
+ghost use Rattle.ir_trace.specs.Checked.{AreRowsOver};
+ghost use Rattle.ir_trace.specs.Again.{row_again, IsTraceOf, segments_again, AreSegmentsOf};
 ghost use Rattle.ir_trace.specs.Line.{HasNoFeed, CutsLine, IsLineOf, LineTold};
 
 use crate::finding::{Finding, FindingKind};
 use crate::resolve::resolve;
-use crate::row::TraceRow;
+use crate::row::{TraceRow, Version};
 use crate::words::{line_words, spelled};
 use ir_graph::Graph;
 use std::alloc::Global;
@@ -22,13 +24,12 @@ pub struct Trace {
 }
 
 impl Model for Trace {
-    ghost use Rattle.std.specs.Prelude.{List, map};
-    ghost use Rattle.ir_trace.specs.Reading.{Row};
-    ghost use Rattle.ir_trace.specs.Spelled.{row_held};
+    ghost use Rattle.std.specs.Prelude.{List};
+    ghost use Rattle.ir_trace.specs.Row.{Row};
 
     ghost Value = { List Row };
 
-    ghost view = { λ t. map row_held t.rows.items };
+    ghost view = { λ t. t.rows.items };
 }
 
 impl Trace {
@@ -39,10 +40,17 @@ impl Trace {
         self.rows.len()
     }
 
+    /// The rows in order.
+    pub(crate) fn all(&self) -> &[TraceRow]
+        ensures { result.now ≡ self.now }
+    {
+        self.rows.as_slice()
+    }
+
     /// The row at a place, counted from 0. Condition: the place is below `rows()`.
     pub fn row(&self, i: usize) -> &TraceRow
         requires { i < length self.now }
-        ensures { slice_get self.now i ≡ Some (row_held result.now) }
+        ensures { slice_get self.now i ≡ Some result.now }
     {
         &self.rows[i]
     }
@@ -64,18 +72,24 @@ fn cut_line(text: &[u8]) -> Option<(&[u8], &[u8])>
 }
 
 /// The row that a line says, without its line feed. The number of the line is for the finding.
-fn read_row(alloc: Global, graph: &Graph, line: &[u8], number: usize) -> Result<TraceRow, Finding>
-    ensures read { IfOk result (λ row. IsLineOf graph.now line.now (row_held row)) }
-    ensures fault { IfErr result (λ e. LineTold graph.now line.now number e.line e.kind) }
+fn read_row(
+    alloc: Global,
+    graph: &Graph,
+    version: Version,
+    line: &[u8],
+    number: usize,
+) -> Result<TraceRow, Finding>
+    ensures read { IfOk result (λ row. IsLineOf version graph.now line.now row) }
+    ensures fault { IfErr result (λ e. LineTold version graph.now line.now number e.line e.kind) }
 {
     let kind = FindingKind::BadRow;
     let Some(words) = line_words(alloc, line)? else {
         return Err(Finding { line: number, kind });
     };
-    let Some(spelling) = spelled(&words) else {
+    let Some(spelling) = spelled(alloc, version, &words)? else {
         return Err(Finding { line: number, kind });
     };
-    match resolve(alloc, graph, spelling)? {
+    match resolve(alloc, graph, &spelling)? {
         Some(row) => Ok(row),
         None => Err(Finding {
             line: number,
@@ -84,12 +98,25 @@ fn read_row(alloc: Global, graph: &Graph, line: &[u8], number: usize) -> Result<
     }
 }
 
+/// The version that the first line of a text names, and what stands behind that line.
+fn version_of(text: &[u8]) -> Option<(Version, &[u8])>
+    ensures { MatchOption result (IsNoTrace text.now) (λ p. text.now ≡ header p.0 ++ p.1.now) }
+{
+    if let Some(rest) = text.strip_prefix(b"trace 1\n".as_slice()) {
+        return Some((Version::One, rest));
+    }
+    match text.strip_prefix(b"trace 2\n".as_slice()) {
+        Some(rest) => Some((Version::Two, rest)),
+        None => None,
+    }
+}
+
 /// The trace that a text is over a graph, or its first fault.
 fn read_rows(alloc: Global, text: &[u8], graph: &Graph) -> Result<Trace, Finding>
     ensures read { IfOk result (λ trace. IsTrace graph.now text.now trace) }
     ensures fault { IfErr result (λ e. Tells graph.now text.now e.line e.kind) }
 {
-    let Some(mut rest) = text.strip_prefix(b"trace 1\n".as_slice()) else {
+    let Some((version, mut rest)) = version_of(text) else {
         return Err(Finding {
             line: 1,
             kind: FindingKind::NotTrace,
@@ -105,21 +132,25 @@ fn read_rows(alloc: Global, text: &[u8], graph: &Graph) -> Result<Trace, Finding
                 kind: FindingKind::BadRow,
             });
         };
-        rows.push(read_row(alloc, graph, current, line)?)?;
+        rows.push(read_row(alloc, graph, version, current, line)?)?;
         rest = after;
     }
     Ok(Trace { rows })
 }
 
-/// The trace that a text is over a graph, or its first fault: `NotTrace` in line 1; in a later line `BadRow`, or else
-/// `UnknownNode`; or `NoMemory`. Rows may stand in any order, and an id may be any number that a row may hold. The
-/// trace of records that can be written is read again as their rows.
+/// The trace of either version that a text is over a graph, or its first fault: `NotTrace` in line 1; in a later line
+/// `BadRow`, or else `UnknownNode`; or `NoMemory`. Rows may stand in any order, and an id may be any number that a row
+/// may hold. The trace of records that can be written is read again as their rows.
 pub fn read_trace(alloc: Global, text: &[u8], graph: &Graph) -> Result<Trace, Finding>
     ensures read { IfOk result (λ trace. IsTrace graph.now text.now trace) }
     ensures fault { IfErr result (λ e. Tells graph.now text.now e.line e.kind) }
 
+    // The nodes are those of the graph's topology, as `check_trace` asks.
+    ensures within { IfOk result (λ trace. AreRowsOver (node_count (network_of_graph graph.now)) trace) }
+
     // What is written is read again: no fault but want of memory, and the rows of the records.
     ensures again { (records : List Journey) → IsTraceOf graph.now text.now records → MatchResult result (λ trace. trace ≡ map (row_again (network_of_graph graph.now)) records) (λ e. e.kind ≡ FindingKind.NoMemory) }
+    ensures segments_again { (records : List Journey) → AreSegmentsOf graph.now text.now records → MatchResult result (λ trace. trace ≡ map (segments_again (network_of_graph graph.now)) records) (λ e. e.kind ≡ FindingKind.NoMemory) }
 {
     let _nodes = graph.number_of_nodes();
     read_rows(alloc, text, graph)

@@ -1,11 +1,11 @@
 //! The nodes and links that the names of a row stand for.
-ghost use Rattle.std.specs.Prelude.{◌≡◌, MatchOption, IfOk};
+ghost use Rattle.std.specs.Prelude.{◌≡◌, MatchOption, IfOk, map};
 ghost use Rattle.ir_model.specs.Graph.{names};
-ghost use Rattle.ir_trace.specs.Reading.{node_named, AreLinkedAs, FateIsReadAs, IsReadAs};
-ghost use Rattle.ir_trace.specs.Spelled.{texts, fate_held, text_held, row_held, AreNotLinked, IsNoFateOf, AreNoHops, AreHops, IsNoRowOf};
+ghost use Rattle.ir_trace.specs.Reading.{node_named, AreLinkedAs, FateIsReadAs, PartsAreReadAs, IsReadAs};
+ghost use Rattle.ir_trace.specs.Spelled.{texts, fate_held, part_held, text_held, AreNotLinked, IsNoFateOf, AreNoHops, AreHops, AreNoPartsOf, IsNoRowOf};
 
-use crate::row::{RowFate, TraceRow};
-use crate::words::{FateSpelling, Spelling};
+use crate::row::{RowFate, Segment, TraceRow};
+use crate::words::{FateSpelling, SegmentSpelling, Spelling};
 use ir_graph::Graph;
 use std::alloc::{AllocError, Global};
 
@@ -69,34 +69,55 @@ fn hops_of(alloc: Global, graph: &Graph, words: &[&str]) -> Result<Option<Vec<u1
     Ok(Some(hops))
 }
 
+/// The segments with numbers for names.
+fn segments_of(
+    alloc: Global,
+    graph: &Graph,
+    spellings: &[SegmentSpelling],
+) -> Result<Option<Vec<Segment>>, AllocError>
+    ensures { IfOk result (λ found. MatchOption found (AreNoPartsOf graph.now (map part_held spellings.now)) (λ segments. PartsAreReadAs graph.now (map part_held spellings.now) segments.items)) }
+{
+    let mut segments = Vec::with_capacity(alloc, spellings.len())?;
+    for spelling in spellings {
+        let Some(hops) = hops_of(alloc, graph, spelling.hops)? else {
+            return Ok(None);
+        };
+        segments.push(Segment {
+            epoch: spelling.epoch,
+            hops,
+        })?;
+    }
+    Ok(Some(segments))
+}
+
 /// The row with numbers for names. There is none where a name is not that of a node, or two are not those of a link in
 /// their order.
 pub fn resolve(
     alloc: Global,
     graph: &Graph,
-    spelling: Spelling,
+    spelling: &Spelling,
 ) -> Result<Option<TraceRow>, AllocError>
-    ensures { IfOk result (λ found. MatchOption found (IsNoRowOf graph.now (text_held spelling.entry)) (λ row. IsReadAs graph.now (text_held spelling.entry) (row_held row))) }
+    ensures { IfOk result (λ found. MatchOption found (IsNoRowOf graph.now (text_held spelling.now)) (λ row. IsReadAs graph.now (text_held spelling.now) row)) }
 {
-    let Some(source) = place_of(graph, spelling.source) else {
+    let head = spelling.head;
+    let Some(source) = place_of(graph, head.source) else {
         return Ok(None);
     };
-    let Some(dest) = place_of(graph, spelling.dest) else {
+    let Some(dest) = place_of(graph, head.dest) else {
         return Ok(None);
     };
-    let Some(fate) = fate_of(graph, spelling.fate) else {
+    let Some(fate) = fate_of(graph, head.fate) else {
         return Ok(None);
     };
-    let Some(hops) = hops_of(alloc, graph, spelling.hops)? else {
+    let Some(segments) = segments_of(alloc, graph, spelling.segments.as_slice())? else {
         return Ok(None);
     };
     Ok(Some(TraceRow {
-        id: spelling.id,
-        epoch: spelling.epoch,
+        id: head.id,
         source,
         dest,
-        weight: spelling.weight,
+        weight: head.weight,
         fate,
-        hops,
+        segments,
     }))
 }

@@ -1,5 +1,5 @@
 //! The weight of the hops of a packet.
-ghost use Rattle.std.specs.Prelude.{◌≡◌, ◌<◌, ◌≤◌, true, length, nat_lt};
+ghost use Rattle.std.specs.Prelude.{◌≡◌, ◌<◌, ◌≤◌, ◌*◌, true, length, nat_lt};
 ghost use Rattle.std.specs.List.{list_all};
 ghost use Rattle.ir_model.specs.Network.{node_count};
 ghost use Rattle.ir_model.specs.Walk.{link_weight, walk_weight};
@@ -27,7 +27,8 @@ fn link_weight(topology: &Topology, u: u16, v: u16) -> u32
 pub fn walk_weight(topology: &Topology, hops: &[u16]) -> u32
     requires within { list_all (λ x. nat_lt x (node_count topology.now)) hops.now ≡ true }
     requires few { length hops.now ≤ MAX_NODES }
-    ensures { result ≡ walk_weight topology.now hops.now }
+    ensures weight { result ≡ walk_weight topology.now hops.now }
+    ensures light { result ≤ MAX_WEIGHT * MAX_NODES }
 {
     let mut sum = 0;
     for i in 1..hops.len() {

@@ -1,10 +1,12 @@
 //! The words of a line, and the row that they spell.
-ghost use Rattle.std.specs.Prelude.{◌≡◌, ◌==◌, ◌&&◌, ◌∷◌, ◌++◌, true, MatchOption, IfOk, nat_le};
-ghost use Rattle.std.specs.List.{list_all, slice_split};
-ghost use Rattle.ir_trace.specs.Rows.{is_word, fate_words};
-ghost use Rattle.ir_trace.specs.Spelled.{texts, fate_held, text_held, HasWords, HasNoWords, Spells, SpellsNothing, IsNoFate};
+ghost use Rattle.std.specs.Prelude.{◌≡◌, ◌==◌, ◌&&◌, [], ◌∷◌, ◌++◌, true, not, ◌<◌, ◌≤◌, MatchOption, IfOk, IfSome, drop, length, map, nat_le};
+ghost use Rattle.std.specs.List.{list_all, slice_split, prefix_len};
+ghost use Rattle.ir_trace.specs.Rows.{is_word, is_mark, mark, fate_words};
+ghost use Rattle.ir_trace.specs.Spelled.{texts, fate_held, part_held, row_told, text_held, HasWords, HasNoWords, Spells, SpellsNothing, HasHead, HasNoHead, BeginsWith, BeginsWithNone, AreParts, AreNoParts, IsNoFate, IsNoMark};
 
+use crate::MAX_SEGMENTS;
 use crate::numbers::number;
+use crate::row::Version;
 use std::alloc::{AllocError, Global};
 
 /// A fate with its names.
@@ -17,16 +19,28 @@ pub enum FateSpelling<'a> {
     Left,
 }
 
-/// A row with its names.
+/// What stands in a row before its segments, with its names.
 #[derive(Clone, Copy)]
-pub struct Spelling<'a> {
+pub struct Head<'a> {
     pub id: u32,
-    pub epoch: u32,
     pub source: &'a str,
     pub dest: &'a str,
     pub weight: u32,
     pub fate: FateSpelling<'a>,
+}
+
+/// A segment with its names.
+#[derive(Clone, Copy)]
+pub struct SegmentSpelling<'a> {
+    pub epoch: u32,
     pub hops: &'a [&'a str],
+}
+
+/// A row with its names.
+#[derive(Drop)]
+pub struct Spelling<'a> {
+    pub head: Head<'a>,
+    pub segments: Vec<SegmentSpelling<'a>>,
 }
 
 /// Whether the byte is one of `!` to `~`.
@@ -91,10 +105,10 @@ fn spelled_fate<'a>(word: &str, rest: &'a [&'a str]) -> Option<(FateSpelling<'a>
     }
 }
 
-/// The row that words spell.
-pub fn spelled<'a>(words: &'a [&'a str]) -> Option<Spelling<'a>>
+/// The row that the words of a line of the first version spell.
+fn spelled_one<'a>(words: &'a [&'a str]) -> Option<(Head<'a>, SegmentSpelling<'a>)>
     requires { list_all is_word (texts words.now) ≡ true }
-    ensures { MatchOption result (SpellsNothing (texts words.now)) (λ s. Spells (texts words.now) (text_held s)) }
+    ensures { MatchOption result (SpellsNothing Version.One (texts words.now)) (λ s. Spells Version.One (texts words.now) (row_told s.0 (part_held s.1 ∷ []))) }
 {
     let [id, epoch, source, dest, weight, fate, rest @ ..] = words else {
         return None;
@@ -103,13 +117,132 @@ pub fn spelled<'a>(words: &'a [&'a str]) -> Option<Spelling<'a>>
     if hops.is_empty() {
         return None;
     }
-    Some(Spelling {
+    let head = Head {
         id: number(id)?,
-        epoch: number(epoch)?,
         source,
         dest,
         weight: number(weight)?,
         fate,
-        hops,
-    })
+    };
+    let epoch = number(epoch)?;
+    Some((head, SegmentSpelling { epoch, hops }))
+}
+
+/// What the words of a line of the second version spell before the segments, and the words of those.
+fn spelled_head<'a>(words: &'a [&'a str]) -> Option<(Head<'a>, &'a [&'a str])>
+    ensures { MatchOption result (HasNoHead (texts words.now)) (λ s. HasHead (texts words.now) (row_told s.0 []) (texts s.1.now)) }
+{
+    let [id, source, dest, weight, fate, rest @ ..] = words else {
+        return None;
+    };
+    let (fate, rest) = spelled_fate(fate, rest)?;
+    let head = Head {
+        id: number(id)?,
+        source,
+        dest,
+        weight: number(weight)?,
+        fate,
+    };
+    Some((head, rest))
+}
+
+/// Whether a word begins with `#`.
+fn is_mark(word: &str) -> bool
+    ensures { result ≡ is_mark word.now }
+{
+    let bytes = word.as_bytes();
+    !bytes.is_empty() && bytes[0] == b'#'
+}
+
+/// The epoch that a word `#EPOCH` names.
+fn marked_epoch(word: &str) -> Option<u32>
+    ensures { MatchOption result (IsNoMark word.now) (λ n. mark n ≡ word.now) }
+{
+    number(word.strip_prefix("#")?)
+}
+
+/// How many words stand before the first that begins with `#`.
+fn hop_count(words: &[&str]) -> usize
+    ensures count { result ≡ prefix_len (λ w. not (is_mark w)) (texts words.now) }
+    ensures within { result ≤ length words.now }
+{
+    for (i, word) in words.iter().enumerate() {
+        if is_mark(word) {
+            return i;
+        }
+    }
+    words.len()
+}
+
+/// The segment that words begin with, and how many of the words are its own.
+fn first_segment<'a>(words: &'a [&'a str]) -> Option<(SegmentSpelling<'a>, usize)>
+    ensures begins { MatchOption result (BeginsWithNone (texts words.now)) (λ s. BeginsWith (texts words.now) (part_held s.0) (texts (drop s.1 words.now))) }
+    ensures some { IfSome result (λ s. 0 < s.1) }
+    ensures within { IfSome result (λ s. s.1 ≤ length words.now) }
+{
+    let [mark, tail @ ..] = words else {
+        return None;
+    };
+    let epoch = marked_epoch(mark)?;
+    let count = hop_count(tail);
+    if count == 0 {
+        return None;
+    }
+    let hops = &tail[..count];
+    Some((SegmentSpelling { epoch, hops }, count + 1))
+}
+
+/// The segments that words spell, one or more and not too many.
+fn spelled_segments<'a>(
+    alloc: Global,
+    words: &'a [&'a str],
+) -> Result<Option<Vec<SegmentSpelling<'a>>>, AllocError>
+    ensures { IfOk result (λ found. MatchOption found (AreNoParts (texts words.now)) (λ s. AreParts (texts words.now) (map part_held s.items))) }
+{
+    let mut segments = Vec::new(alloc);
+    let mut rest = words;
+    while !rest.is_empty() {
+        let Some((segment, used)) = first_segment(rest) else {
+            return Ok(None);
+        };
+        segments.push(segment)?;
+        rest = &rest[used..];
+    }
+    if segments.is_empty() {
+        return Ok(None);
+    }
+    if segments.len() > MAX_SEGMENTS {
+        return Ok(None);
+    }
+    Ok(Some(segments))
+}
+
+/// The row that the words of a line spell.
+pub fn spelled<'a>(
+    alloc: Global,
+    version: Version,
+    words: &'a [&'a str],
+) -> Result<Option<Spelling<'a>>, AllocError>
+    requires { list_all is_word (texts words.now) ≡ true }
+    ensures { IfOk result (λ found. MatchOption found (SpellsNothing version (texts words.now)) (λ s. Spells version (texts words.now) (text_held s))) }
+{
+    match version {
+        Version::One => {
+            let Some((head, segment)) = spelled_one(words) else {
+                return Ok(None);
+            };
+            let mut segments = Vec::new(alloc);
+            segments.push(segment)?;
+            Ok(Some(Spelling { head, segments }))
+        }
+        Version::Two => {
+            let Some((head, rest)) = spelled_head(words) else {
+                return Ok(None);
+            };
+            match spelled_segments(alloc, rest)? {
+                Some(segments) => Ok(Some(Spelling { head, segments })),
+                None => Ok(None),
+            }
+        }
+    }
 }

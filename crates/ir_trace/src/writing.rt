@@ -1,21 +1,24 @@
 //! Traces as they are written.
-ghost use Rattle.std.specs.Prelude.{◌≡◌, ◌↔◌, ◌<◌, false, [], ◌∷◌, ◌++◌, IsTrue, IfOk, OnOk, length, string_bytes, flat_map};
+ghost use Rattle.std.specs.Prelude.{◌≡◌, ◌↔◌, ◌<◌, true, false, [], ◌∷◌, ◌++◌, IsTrue, IfOk, OnOk, length, nat_lt, string_bytes, flat_map, map};
+ghost use Rattle.std.specs.List.{list_all};
 ghost use Rattle.std.specs.Io.KnownBytes.{Appends};
 ghost use Rattle.ir_model.specs.Graph.{names};
 ghost use Rattle.ir_model.specs.Network.{node_count};
 ghost use Rattle.ir_model.specs.OfGraph.{network_of_graph};
-ghost use Rattle.ir_trace.specs.Rows.{spaced, fate_words, row_line};
-ghost use Rattle.ir_trace.specs.Outlet.{AppendsFront};
-ghost use Rattle.ir_trace.specs.Written.{name_at, link_at, other_end, fate_text, row_of, records_text, FateIsIn, IsWritable, AreWritable};
+ghost use Rattle.ir_trace.specs.Rows.{spaced, fate_words, part_words, row_line};
+ghost use Rattle.ir_streams.specs.Writing.{AppendsFront, IsSent, HasFailed};
+ghost use Rattle.ir_trace.specs.Written.{name_at, link_at, other_end, fate_text, row_of, records_text, FateIsIn, IsWritable, AreWritable, named, segments_row, segments_text, HasSegments, HaveSegments};
+ghost use Rattle.ir_trace.specs.Stretches.{parts_from, AreAscending};
 
 use crate::outlet::{Outlet, TraceError};
+use crate::row::Version;
 use crate::text::{push_name, push_names, push_next_number, push_number, push_word};
 use crate::weight::walk_weight;
-use ir_core::{Fate, Record};
+use ir_core::{Fate, Record, Restamp};
 use ir_graph::Graph;
+use ir_streams::Writer;
 use ir_tables::Topology;
 use std::alloc::{AllocError, Global};
-use std::io::Write;
 
 /// The two ends of a link, the smaller node first.
 fn ends(topology: &Topology, link: u16) -> (u16, u16)
@@ -86,7 +89,7 @@ fn push_row(
 ) -> Result<(), AllocError>
     requires nodes { node_count topology.now ≡ length graph.now }
     requires packet { IsWritable topology.now packet.now }
-    ensures { OnOk result (string_bytes text.new ≡ string_bytes text.old ++ row_line (row_of (names graph.now) topology.now packet.now)) }
+    ensures { OnOk result (string_bytes text.new ≡ string_bytes text.old ++ row_line Version.One (row_of (names graph.now) topology.now packet.now)) }
 {
     let hops = packet.hops.as_slice();
     push_number(text, packet.id as usize)?;
@@ -100,8 +103,68 @@ fn push_row(
     Ok(())
 }
 
-/// The trace of records over the topology of their graph: the line `trace 1`, and a row for each record in order. Only
-/// want of memory is refused. Condition: the topology is that of the graph; the nodes and links of each record are
+/// Writes `#EPOCH` and the names of hops, each behind a space.
+fn push_segment(
+    text: &mut String,
+    graph: &Graph,
+    epoch: u32,
+    hops: &[u16],
+) -> Result<(), AllocError>
+    requires { list_all (λ x. nat_lt x (length graph.now)) hops.now ≡ true }
+    ensures { OnOk result (string_bytes text.new ≡ string_bytes text.old ++ flat_map spaced (part_words (named (names graph.now) (record { epoch = epoch; hops = hops.now })))) }
+{
+    text.push_str(" #")?;
+    push_number(text, epoch as usize)?;
+    push_names(text, graph, hops)
+}
+
+/// Writes the segments of hops, each with its `#EPOCH`: the first is of this epoch, and each further one begins at a
+/// restamp.
+fn push_segments(
+    text: &mut String,
+    graph: &Graph,
+    epoch: u32,
+    hops: &[u16],
+    restamps: &[Restamp],
+) -> Result<(), AllocError>
+    requires hops { list_all (λ x. nat_lt x (length graph.now)) hops.now ≡ true }
+    requires places { AreAscending 0 (length hops.now) restamps.now }
+    ensures { OnOk result (string_bytes text.new ≡ string_bytes text.old ++ flat_map spaced (flat_map part_words (map (named (names graph.now)) (parts_from epoch 0 hops.now restamps.now)))) }
+{
+    let mut epoch = epoch;
+    let mut from = 0;
+    for restamp in restamps {
+        push_segment(text, graph, epoch, &hops[from..restamp.from + 1])?;
+        epoch = restamp.epoch;
+        from = restamp.from;
+    }
+    push_segment(text, graph, epoch, &hops[from..])
+}
+
+/// Writes the row of a record in the second version.
+fn push_segments_row(
+    text: &mut String,
+    graph: &Graph,
+    topology: &Topology,
+    packet: &Record,
+) -> Result<(), AllocError>
+    requires nodes { node_count topology.now ≡ length graph.now }
+    requires packet { HasSegments topology.now packet.now }
+    ensures { OnOk result (string_bytes text.new ≡ string_bytes text.old ++ row_line Version.Two (segments_row (names graph.now) topology.now packet.now)) }
+{
+    let nodes = packet.hops.as_slice();
+    push_number(text, packet.id as usize)?;
+    push_name(text, graph, packet.source)?;
+    push_name(text, graph, packet.dest)?;
+    push_next_number(text, walk_weight(topology, nodes) as usize)?;
+    push_fate(text, graph, topology, packet.fate)?;
+    push_segments(text, graph, packet.epoch, nodes, packet.restamps.as_slice())?;
+    text.push_str("\n")?;
+    Ok(())
+}
+
+/// The trace of records over the topology of their graph: the line `trace 1`, and a row for each record in order, with
+/// its first epoch and all of its hops, restamped or not. Only want of memory is refused. Condition: the topology is that of the graph; the nodes and links of each record are
 /// among its nodes and links; the hops are 1 to `ir_model::MAX_NODES` nodes, each linked to the next; the node of a
 /// `Full` is an end of its link.
 pub fn trace_text(
@@ -121,12 +184,13 @@ pub fn trace_text(
     Ok(text)
 }
 
-/// Writes the trace of records over their graph: the line `trace 1`, and a row for each record in order. `Unwritable`
-/// where the writer gives an error, also as it is flushed, or takes none of the bytes left: a front of the text went out
-/// then, and the outlet has failed. After `NoMemory` the outlet is as it was. Condition: the outlet has not failed; the
+/// Writes the trace of records over their graph: the line `trace 1`, and a row for each record in order, with its first
+/// epoch and all of its hops, restamped or not. `Unwritable` where the writer gives an error, also as it is flushed, or
+/// takes none of the bytes left: a front of the text went out then, and the outlet has failed. After `NoMemory` the outlet
+/// is as it was. Condition: the outlet has not failed; the
 /// nodes and links of each record are those of the graph; the hops are 1 to `ir_model::MAX_NODES` nodes, each linked to
 /// the next; the node of a `Full` is an end of its link.
-pub fn write_trace<W: Write>(
+pub fn write_trace<W: Writer>(
     alloc: Global,
     graph: &Graph,
     records: &[Record],
@@ -134,13 +198,62 @@ pub fn write_trace<W: Write>(
 ) -> Result<(), TraceError>
     requires open { outlet.old.failed ≡ false }
     requires records { AreWritable (network_of_graph graph.now) records.now }
+    ensures sent { OnOk result (IsSent W.wrote W.settled outlet.old.writer (records_text (names graph.now) (network_of_graph graph.now) records.now) outlet.new.writer) }
     ensures ok { OnOk result (Appends (W.contents outlet.old.writer) (W.contents outlet.new.writer) (records_text (names graph.now) (network_of_graph graph.now) records.now)) }
+    ensures broken { result ≡ Err TraceError.Unwritable → HasFailed W.wrote W.settled outlet.old.writer (records_text (names graph.now) (network_of_graph graph.now) records.now) outlet.new.writer }
     ensures unwritable { result ≡ Err TraceError.Unwritable → AppendsFront (W.contents outlet.old.writer) (W.contents outlet.new.writer) (records_text (names graph.now) (network_of_graph graph.now) records.now) }
     ensures no_memory { result ≡ Err TraceError.NoMemory → outlet.new ≡ outlet.old }
     ensures failed { IsTrue outlet.new.failed ↔ (result ≡ Err TraceError.Unwritable) }
 {
     let topology = Topology::of(alloc, graph)?;
     let text = trace_text(alloc, graph, &topology, records)?;
+    if outlet.write_text(text.as_bytes()) {
+        Ok(())
+    } else {
+        Err(TraceError::Unwritable)
+    }
+}
+
+/// The trace of records in the second version: the line `trace 2`, and a row of segments for each record in order. Only
+/// want of memory is refused. Condition: that of `trace_text`, and each record has at most three restamps, each `from` a
+/// place in its hops, strictly ascending.
+pub fn trace_text_2(
+    alloc: Global,
+    graph: &Graph,
+    topology: &Topology,
+    records: &[Record],
+) -> Result<String, AllocError>
+    requires network { topology.now ≡ network_of_graph graph.now }
+    requires records { HaveSegments topology.now records.now }
+    ensures { IfOk result (λ text. string_bytes text ≡ segments_text (names graph.now) topology.now records.now) }
+{
+    let mut text = String::from_str(alloc, "trace 2\n")?;
+    for record in records {
+        push_segments_row(&mut text, graph, topology, record)?;
+    }
+    Ok(text)
+}
+
+/// Writes the trace of records over their graph in the second version: the line `trace 2`, and a row of segments for
+/// each record in order. Refused as `write_trace` is. Condition: that of `write_trace`, and each record has at most three
+/// restamps, each `from` a place in its hops, strictly ascending.
+pub fn write_trace_2<W: Writer>(
+    alloc: Global,
+    graph: &Graph,
+    records: &[Record],
+    outlet: &mut Outlet<W>,
+) -> Result<(), TraceError>
+    requires open { outlet.old.failed ≡ false }
+    requires records { HaveSegments (network_of_graph graph.now) records.now }
+    ensures sent { OnOk result (IsSent W.wrote W.settled outlet.old.writer (segments_text (names graph.now) (network_of_graph graph.now) records.now) outlet.new.writer) }
+    ensures ok { OnOk result (Appends (W.contents outlet.old.writer) (W.contents outlet.new.writer) (segments_text (names graph.now) (network_of_graph graph.now) records.now)) }
+    ensures broken { result ≡ Err TraceError.Unwritable → HasFailed W.wrote W.settled outlet.old.writer (segments_text (names graph.now) (network_of_graph graph.now) records.now) outlet.new.writer }
+    ensures unwritable { result ≡ Err TraceError.Unwritable → AppendsFront (W.contents outlet.old.writer) (W.contents outlet.new.writer) (segments_text (names graph.now) (network_of_graph graph.now) records.now) }
+    ensures no_memory { result ≡ Err TraceError.NoMemory → outlet.new ≡ outlet.old }
+    ensures failed { IsTrue outlet.new.failed ↔ (result ≡ Err TraceError.Unwritable) }
+{
+    let topology = Topology::of(alloc, graph)?;
+    let text = trace_text_2(alloc, graph, &topology, records)?;
     if outlet.write_text(text.as_bytes()) {
         Ok(())
     } else {

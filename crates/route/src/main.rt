@@ -1,12 +1,15 @@
 //! `route`: interval routing over a network. `route sim` plays the lines of a script over a topology, and prints what
-//! became of its packets; `route plan` prints the labels and rows of a topology's nodes. With no words it does as
-//! `route sim -`, with both texts from standard input.
+//! became of its packets; `route check` checks such a print; `route plan` prints the labels and rows of a topology's
+//! nodes, `route walk` a walk of that plan, `route stats` its figures, and `route draw` a drawing of it. With no words it
+//! does as `route sim -`, with both texts from standard input.
 #![tactic(auto)]
 
 mod input;
 
 use input::open;
-use ir_shell::{Sub, Words, WordsError, read_words, run_plan, run_sim};
+use ir_shell::{
+    Sub, Words, WordsError, read_words, run_check, run_draw, run_plan, run_sim, run_stats, run_walk,
+};
 use std::process::ExitCode;
 use std::{env, io};
 
@@ -31,12 +34,18 @@ fn file(words: &Words, i: usize) -> &str {
     }
 }
 
-/// Prints the plan of a topology.
-fn plan(rt: &HostRuntime, words: &Words) -> u8 {
+/// Prints what the words ask for of a topology's plan.
+fn show(rt: &HostRuntime, words: &Words) -> u8 {
+    let alloc = rt.alloc();
     let mut inputs = [open(rt, file(words, 0))];
     let mut output = rt.stdout();
     let mut faults = rt.stderr();
-    run_plan(rt.alloc(), words, &mut inputs, &mut output, &mut faults)
+    match words.sub {
+        Sub::Walk => run_walk(alloc, words, &mut inputs, &mut output, &mut faults),
+        Sub::Stats => run_stats(alloc, words, &mut inputs, &mut output, &mut faults),
+        Sub::Draw => run_draw(alloc, words, &mut inputs, &mut output, &mut faults),
+        _ => run_plan(alloc, words, &mut inputs, &mut output, &mut faults),
+    }
 }
 
 /// Plays the steps of a script over a topology, and prints the trace.
@@ -52,13 +61,31 @@ fn sim(rt: &HostRuntime, words: &Words) -> u8 {
     }
 }
 
+/// Checks a trace against a topology and a script.
+fn check(rt: &HostRuntime, words: &Words) -> u8 {
+    let mut output = rt.stdout();
+    let mut faults = rt.stderr();
+    if words.is_one_input() {
+        let mut inputs = [open(rt, "-")];
+        run_check(rt.alloc(), words, &mut inputs, &mut output, &mut faults)
+    } else {
+        let mut inputs = [
+            open(rt, file(words, 0)),
+            open(rt, file(words, 1)),
+            open(rt, file(words, 2)),
+        ];
+        run_check(rt.alloc(), words, &mut inputs, &mut output, &mut faults)
+    }
+}
+
 /// Does what the words ask for.
 fn follow(rt: &HostRuntime, words: &[String]) -> u8 {
     match read_words(rt.alloc(), words) {
         Ok(words) => match words.sub {
-            Sub::Plan => plan(rt, &words),
+            Sub::Plan | Sub::Walk | Sub::Stats | Sub::Draw => show(rt, &words),
             Sub::Sim => sim(rt, &words),
-            Sub::Live | Sub::Check => 2,
+            Sub::Check => check(rt, &words),
+            Sub::Live => 2,
         },
         Err(WordsError::Usage(text)) => {
             let _told = rt.eprint(text);

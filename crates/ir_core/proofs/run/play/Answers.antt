@@ -12,11 +12,11 @@ loop-step-preserved c =
     let lt : c.loop-step.step-index < length c.args.steps.now = omega (arith, c.loop-step-test.true) in
     let more = take_more steps i (step.Event (event.Inject 0 0)) lt in
     rw (c.in-Ok-push.ensures.items, more)
-    (ran_more c.args.opening.topology c.args.opening.kind c.args.opening.root c.args.opening.capacity c.args.opening.max_packets (take i steps) c.loop-step.replies.items
+    (ran_more c.args.opening.topology c.args.opening.kind c.args.opening.root c.args.opening.capacity c.args.opening.max_packets c.args.opening.restamps (take i steps) c.loop-step.replies.items
     c.loop-step.world c.step-reply.new.self (get_or steps i (step.Event (event.Inject 0 0))) c.step-reply.result c.loop-step.invariant c.step-reply.ensures.same_opening c.step-reply.ensures.history)
 
 pub returns-clause-played : goal.returns-clause-played
 returns-clause-played c =
     let all : take c.loop-step.step-index c.args.steps.now ≡ c.args.steps.now = take_all c.loop-step.step-index c.args.steps.now (omega arith) in
-    rw all at (ran_played c.args.opening.topology c.args.opening.kind c.args.opening.root c.args.opening.capacity c.args.opening.max_packets (take c.loop-step.step-index c.args.steps.now) c.loop-step.replies.items
+    rw all at (ran_played c.args.opening.topology c.args.opening.kind c.args.opening.root c.args.opening.capacity c.args.opening.max_packets c.args.opening.restamps (take c.loop-step.step-index c.args.steps.now) c.loop-step.replies.items
     c.loop-step.world c.loop-step.invariant c.check.ensures)

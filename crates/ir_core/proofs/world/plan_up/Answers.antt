@@ -1,11 +1,18 @@
-use Rattle.std.proofs.Common.{◌≡◌, ◌∙◌, refl, subst, length, take, Some}
+use Rattle.std.proofs.Common.{◌≡◌, ◌∙◌, ℕ, List, Bool, ap, subst, take, Some, None, Err}
 use Rattle.std.specs.Prelude.{IfOk}
 use Rattle.ir_model.specs.Network.{Network, restrict}
 use Rattle.ir_core.specs.Meaning.{IsMade}
+use Rattle.ir_core.specs.declared.world.BuildError.TheVariants.{Disconnected}
 use Rattle.ir_core.proofs.world.plan_up.Goals as goal
 
 pub returns-clause-made : goal.returns-clause-made
 returns-clause-made c =
-    let same : restrict (take c.links-links.result c.marks.result.now) c.args.topology.now ≡ restrict (take (length c.args.topology.now.links) c.args.board.now.up) c.args.topology.now =
-    rw (c.links-links.ensures.count, c.marks.ensures) refl in
-    subst (λ (net : Network). IfOk c.plan_over.result (λ p. IsMade c.args.kind c.args.root net (Some p))) (c.in-Ok.ensures ∙ same) c.plan_over.ensures.made
+    let marks = c.as_slice.ensures.value ∙ c.in-Ok.ensures.marks ∙ ap (λ (n : ℕ). take n c.args.board.now.up) c.links.ensures.count in
+    let over = c.in-Ok-only.ensures ∙ ap (λ (up : List Bool). restrict up c.args.topology.now) marks in
+    subst (λ (net : Network). IfOk c.plan_over.result (λ p. IsMade c.args.kind c.args.root net (Some p))) over c.plan_over.ensures.made
+
+pub returns-clause-disconnected : goal.returns-clause-disconnected
+returns-clause-disconnected c =
+    let marks = c.as_slice.ensures.value ∙ c.in-Ok.ensures.marks ∙ ap (λ (n : ℕ). take n c.args.board.now.up) c.links.ensures.count in
+    let over = c.in-Ok-only.ensures ∙ ap (λ (up : List Bool). restrict up c.args.topology.now) marks in
+    subst (λ (net : Network). c.plan_over.result ≡ Err Disconnected → IsMade c.args.kind c.args.root net None) over c.plan_over.ensures.disconnected

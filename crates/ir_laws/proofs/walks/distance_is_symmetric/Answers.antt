@@ -1,4 +1,4 @@
-use Rattle.ir_laws.proofs.Ways.{symmetric}
+use Rattle.ir_model.proofs.Ways.{symmetric}
 use Rattle.ir_laws.proofs.walks.distance_is_symmetric.Goals as goal
 
 pub returns : goal.returns

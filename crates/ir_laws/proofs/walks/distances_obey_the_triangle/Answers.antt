@@ -1,4 +1,4 @@
-use Rattle.ir_laws.proofs.Ways.{triangle}
+use Rattle.ir_model.proofs.Ways.{triangle}
 use Rattle.ir_laws.proofs.walks.distances_obey_the_triangle.Goals as goal
 
 pub returns : goal.returns

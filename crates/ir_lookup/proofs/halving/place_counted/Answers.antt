@@ -1,7 +1,7 @@
 use Rattle.std.proofs.Common.{◌≤◌, ◌+◌, ◌-◌, ◌/◌, slice_index, arith, refl}
 use Rattle.std.proofs.lemmas.Bool.{iff_false}
 use Rattle.ir_model.specs.Row.{labels}
-use Rattle.ir_lookup.proofs.HalvingLemmas.{lower_half, upper_half, few_compared}
+use Rattle.ir_lookup.proofs.HalvingLemmas.{lower_half, upper_half, few_compared, all_compared}
 use Rattle.ir_lookup.proofs.halving.place_counted.Goals as goal
 
 pub is_above-requires-clause-room : goal.is_above-requires-clause-room
@@ -27,3 +27,9 @@ halves-preserved g c =
     let n = c.is_above.ensures.ticked in
     let m = c.is_above.ensures.counted in
     record { halved = rw c.is_above.ensures.counted (upper_half _ c.len-high.ensures.ascending _ _ _ _ _ c.halves.invariant.halved c.halves-test.true refl below); ticks = omega arith }
+
+pub returns-then-low-eq0-clause-halves : goal.returns-then-low-eq0-clause-halves
+returns-then-low-eq0-clause-halves g c = all_compared c.args.starts.now c.args.d _ _ _ c.halves.invariant.halved (omega arith)
+
+pub returns-else-low-eq0-clause-halves : goal.returns-else-low-eq0-clause-halves
+returns-else-low-eq0-clause-halves g c = all_compared c.args.starts.now c.args.d _ _ _ c.halves.invariant.halved (omega arith)

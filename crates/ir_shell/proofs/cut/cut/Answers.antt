@@ -1,8 +1,9 @@
-use Rattle.std.proofs.Common.{◌≡◌, ◌+◌, ◌-◌, ◌∙◌, sym, ap, true, false, bytes_eq, drop, take, length, arith}
+use Rattle.std.proofs.Common.{◌≡◌, ◌+◌, ◌-◌, ◌∙◌, sym, ap, subst, ℕ, List, true, false, bytes_eq, drop, take, length, arith}
 use Rattle.std.specs.List.{prefix_len}
 use Rattle.std.proofs.lemmas.List.{take_rest}
 use Rattle.ir_model.specs.Text.{lines}
-use Rattle.ir_shell.specs.Cut.{is_cut}
+use Rattle.ir_shell.specs.Cut.{is_cut, EndsWith}
+use Rattle.ir_shell.proofs.Ends.{end_behind, end_none}
 use Rattle.ir_shell.proofs.Cutting.{is_text, before_more, at_cut, no_cut}
 use Rattle.ir_shell.proofs.cut.cut.Goals as goal
 
@@ -41,3 +42,14 @@ returns-clause-topology c = (no_cut c.args.input.now c.loop-at.at c.loop-at.inva
 
 pub returns-clause-script : goal.returns-clause-script
 returns-clause-script c = (no_cut c.args.input.now c.loop-at.at c.loop-at.invariant (omega arith)).1
+
+pub returns-then-eq-clause-end : goal.returns-then-eq-clause-end
+returns-then-eq-clause-end c =
+    let input = c.args.input.now in
+    let at = c.loop-at.at in
+    let n = c.line_len-len.result in
+    let rest : take (length input - at) (drop at input) ≡ drop at input = take_rest input at in
+    subst (λ (xs : List ℕ). EndsWith input xs) (sym (c.behind_line.ensures ∙ ap (drop (n + 1)) rest)) (end_behind input at (n + 1))
+
+pub returns-clause-end : goal.returns-clause-end
+returns-clause-end c = end_none c.args.input.now

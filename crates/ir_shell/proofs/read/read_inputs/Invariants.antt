@@ -3,4 +3,4 @@ use Rattle.ir_shell.proofs.Inputs.{IsReading}
 use Rattle.ir_shell.proofs.read.read_inputs.Given as goal
 
 abbrev pub invariant-loop-i : goal.invariant-loop-i
-invariant-loop-i g l = IsReading g.R.Read.remaining l.fn.inputs l.inputs (texts_of l.read.items) l.i
+invariant-loop-i g l = IsReading g.R.Reader.remaining g.R.Reader.gave l.fn.inputs l.inputs (texts_of l.read.items) l.i

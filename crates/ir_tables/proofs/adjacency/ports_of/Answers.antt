@@ -1,10 +1,11 @@
-use Rattle.std.proofs.Common.{◌≡◌, ◌≤◌, ◌++◌, ◌∷◌, [], ℕ, List, Some, not, length, sym, ap, ◌∙◌, arith, take, slice_get}
+use Rattle.std.proofs.Common.{◌≡◌, ◌+◌, ◌<◌, ◌≤◌, ◌++◌, ◌∷◌, [], ℕ, List, Some, not, length, sym, ap, ◌∙◌, arith, take, slice_get}
 use Rattle.std.proofs.lemmas.List.Sums.{prefix_len-le-length}
 use Rattle.ir_model.specs.declared.Hop.{Hop}
 use Rattle.ir_model.specs.Places.{neighbors_at}
 use Rattle.ir_tables.specs.Numbered.{Numbers, joins_nodes, link_between, ports_at}
-use Rattle.ir_tables.specs.ByPlace.{row_numbers}
+use Rattle.ir_tables.specs.ByPlace.{row_numbers, rows_of}
 use Rattle.ir_tables.proofs.OfGraph.{next_entry, ports_more, ports_same}
+use Rattle.ir_tables.proofs.Runs.{begins_within, joins_in_run}
 use Rattle.ir_tables.proofs.adjacency.ports_of.Goals as goal
 use Rattle.ir_tables.proofs.adjacency.ports_of.Goals.{then-v-u+in_ok-push, else-v-u}
 
@@ -12,6 +13,16 @@ pub overflow_cast-link : goal.overflow_cast-link
 overflow_cast-link c =
     let le : link_between c.args.links.now c.args.u c.unwrap-v.result.0 ≤ length c.args.links.now = prefix_len-le-length (λ x. not (joins_nodes c.args.u c.unwrap-v.result.0 x)) c.args.links.now in
     omega (arith, le, c.link_between-link.ensures, c.requires.few)
+
+pub link_between-link-requires-clause-within : goal.link_between-link-requires-clause-within
+link_between-link-requires-clause-within c = let g = c.args.graph.now in
+    let low : c.min-low.result + 1 < length g + 1 = omega (arith, c.min-low.ensures, c.requires.node) in
+    omega (arith, begins_within (rows_of g) (length g + 1) c.args.begins.now (c.min-low.result + 1) c.requires.begins low, ap length c.requires.links)
+
+pub link_between-link-requires-clause-run : goal.link_between-link-requires-clause-run
+link_between-link-requires-clause-run c = let g = c.args.graph.now in
+    let low : c.min-low.result + 1 < length g + 1 = omega (arith, c.min-low.ensures, c.requires.node) in
+    rw (c.min-low.ensures, c.requires.links) (joins_in_run (rows_of g) (length g + 1) c.args.begins.now c.args.u c.unwrap-v.result.0 c.requires.begins (omega (arith, low, c.min-low.ensures)))
 
 pub loop-place-preserved : goal.loop-place-preserved
 loop-place-preserved c =

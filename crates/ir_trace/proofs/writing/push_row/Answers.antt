@@ -5,6 +5,7 @@ use Rattle.ir_model.specs.Network.{Network, node_count}
 use Rattle.ir_model.specs.Walk.{walk_weight}
 use Rattle.ir_core.specs.Journey.{Journey}
 use Rattle.ir_core.specs.Recorded.{journey_of}
+use Rattle.ir_trace.specs.declared.row.Version.TheVariants.{One}
 use Rattle.ir_trace.specs.Rows.{spaced, fate_words, RowText, row_line}
 use Rattle.ir_trace.specs.Written.{name_at, row_of}
 use Rattle.ir_trace.proofs.WrittenRows.{walk_within, row_pieces}
@@ -31,14 +32,14 @@ returns c =
     let net : Network = c.args.topology.now in
     let old : List ℕ = string_bytes c.args.text.now in
     let row : RowText = row_of nodes net (journey_of c.packet.inside) in
-    let P : Journey → Type 0 = λ r. string_bytes c.push_str.new.self ≡ old ++ row_line (row_of nodes net r) in
+    let P : Journey → Type 0 = λ r. string_bytes c.push_str.new.self ≡ old ++ row_line One (row_of nodes net r) in
     subst P c.packet.view_is
     (c.in_ok-push_str.ensures.bytes
     ∙ ap (λ t. t ++ 10 ∷ []) (c.in_ok-push_names.ensures ∙ ap (λ hs. string_bytes c.push_fate.new.text ++ flat_map spaced (map (name_at nodes) hs)) c.as_slice-hops.ensures.value
-    ∙ ap (λ t. t ++ flat_map spaced row.hops) (c.in_ok-push_fate.ensures
-    ∙ ap (λ t. t ++ flat_map spaced (fate_words row.fate)) (c.in_ok-push_next_number-2.ensures ∙ ap (λ w. string_bytes c.push_name-2.new.text ++ spaced (decimal w)) (c.walk_weight.ensures ∙ ap (walk_weight net) c.as_slice-hops.ensures.value)
+    ∙ ap (λ t. t ++ flat_map spaced (map (name_at nodes) (journey_of c.packet.inside).hops)) (c.in_ok-push_fate.ensures
+    ∙ ap (λ t. t ++ flat_map spaced (fate_words row.fate)) (c.in_ok-push_next_number-2.ensures ∙ ap (λ w. string_bytes c.push_name-2.new.text ++ spaced (decimal w)) (c.walk_weight.ensures.weight ∙ ap (walk_weight net) c.as_slice-hops.ensures.value)
     ∙ ap (λ t. t ++ spaced (decimal row.weight)) (c.in_ok-push_name-2.ensures
     ∙ ap (λ t. t ++ spaced row.dest) (c.in_ok-push_name.ensures
     ∙ ap (λ t. t ++ spaced row.source) (c.in_ok-push_next_number.ensures
-    ∙ ap (λ t. t ++ spaced (decimal row.epoch)) c.in_ok-push_number.ensures))))))
-    ∙ row_pieces old (decimal row.id) (decimal row.epoch) row.source row.dest (decimal row.weight) (fate_words row.fate) row.hops (10 ∷ []))
+    ∙ ap (λ t. t ++ spaced (decimal (journey_of c.packet.inside).epoch)) c.in_ok-push_number.ensures))))))
+    ∙ row_pieces old (decimal row.id) (decimal (journey_of c.packet.inside).epoch) row.source row.dest (decimal row.weight) (fate_words row.fate) (map (name_at nodes) (journey_of c.packet.inside).hops) (10 ∷ []))

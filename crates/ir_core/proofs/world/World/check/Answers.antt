@@ -4,4 +4,4 @@ use Rattle.ir_core.proofs.Theorem.{all_sound}
 use Rattle.ir_core.proofs.world.World.check.Goals as goal
 
 pub returns : goal.returns
-returns c = all_sound c.args.self.now (subst (λ (s : State). IsState s) c.self.view_is c.self.invariant)
+returns c = all_sound c.args.self.now (subst (λ (s : State). IsState s) c.self.view_is c.self.invariant.state)

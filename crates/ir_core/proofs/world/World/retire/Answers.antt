@@ -9,5 +9,7 @@ invariant_of-self-2 c =
     let n = newest_known _ _ c.self.view_is c.newest-newest.result c.newest-newest.ensures.value in
     let version = ap (λ (b : Board). b.version) n in
     let current = ap (λ (b : Board). b.current) n in
-    rw (c.in-Ok.ensures.items, c.retired_below.ensures)
-    (keep_change (state_of c.self.inside) c.self.invariant _ (omega (arith, version)) (omega (arith, version)) current (omega arith))
+    record {
+      state = rw (c.in-Ok.ensures.items, c.retired_below.ensures) (keep_change (state_of c.self.inside) c.self.invariant.state _ (omega (arith, version)) (omega (arith, version)) current (omega arith));
+      room = c.self.invariant.room;
+    }

@@ -26,7 +26,7 @@ loop-port-preserved c =
     let lt : c.loop-port.port < length c.ports.result.now = omega arith in
     let at = port_read c.args.self.now s same c.args.node c.loop-port.port c.ports.result.now (record { node = 0; link = 0; weight = 0 }) c.ports.ensures lt in
     subst (λ (b : Bool). PortsSo c.args.self.now c.args.node (c.loop-port.port + 1) b c.try_way-sent.new.self) (sym c.either-acted.ensures)
-    (ports_more c.args.self.now s c.try_way-sent.new.self c.args.node c.loop-port.port c.loop-port.acted c.try_way-sent.result _ c.loop-port.invariant at.0 c.try_way-sent.ensures.moves c.try_way-sent.ensures.idle c.try_way-sent.ensures.hand)
+    (ports_more c.args.self.now s c.try_way-sent.new.self c.args.node c.loop-port.port c.loop-port.acted c.try_way-sent.result _ c.loop-port.invariant at.0 c.try_way-sent.ensures.moves c.try_way-sent.ensures.idle c.try_way-sent.ensures.hand c.try_way-sent.ensures.view)
 
 pub returns-clause-idle : goal.returns-clause-idle
 returns-clause-idle c =
@@ -41,4 +41,4 @@ returns-clause-moves c =
     (ports_all c.args.self.now c.loop-port.self c.args.node c.loop-port.port c.loop-port.acted c.loop-port.invariant le (take_all c.loop-port.port (ports_of c.args.self.now.opening.network c.args.node) le)).0
 
 pub loop-port-init : goal.loop-port-init
-loop-port-init c = ports_none c.args.self.now c.args.node c.requires.hand
+loop-port-init c = ports_none c.args.self.now c.args.node c.requires.hand c.requires.view

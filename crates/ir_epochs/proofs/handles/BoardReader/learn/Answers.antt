@@ -6,6 +6,6 @@ use Rattle.ir_epochs.proofs.Rising.{later_of}
 use Rattle.ir_epochs.proofs.handles.BoardReader.learn.Goals as goal
 
 pub returns-clause-rises : goal.returns-clause-rises
-returns-clause-rises c = let all = known c.note.new.self in
+returns-clause-rises c = let all = c.note.new.newest.front.log in
     let prefix : IsPrefix (told c.args.receipt.now) all = subst (λ (l : List Entry). IsPrefix l all) (ap (λ p. p.front.log) c.again.ensures) c.note.ensures.other in
-    later_of (told c.args.receipt.now) all prefix c.note.new.self.newest.made.rising
+    later_of (told c.args.receipt.now) all prefix c.note.new.newest.made.rising

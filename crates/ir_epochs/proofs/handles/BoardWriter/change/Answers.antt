@@ -10,11 +10,12 @@ invariant_of-next g c =
     let now = c.published-now.result.now in
     let change = c.args.change in
     let fits : Fits now.front.log change = subst (λ (p : Published). Fits p.front.log change) (sym c.published-now.ensures) c.requires.fits in
-    record { made = rw (c.if-not-add.ensures.added refl, c.again-front.ensures, c.applied-board.ensures, c.stamp_after-stamp.ensures) (made_more now.front.log now.board now.stamp change now.made fits) }
+    record { made = rw (c.record-front.ensures.added, c.applied-board.ensures, c.stamp_after-stamp.ensures) (made_more now.front.log now.board now.stamp change now.made fits) }
 
 pub invariant_of-receipt : goal.invariant_of-receipt
 invariant_of-receipt g c =
-    record { installed = rw (c.again.ensures, c.installs-install.ensures, c.stamp_after-stamp.ensures, c.if-not-add.ensures.added refl) (installed_last c.again-front.result.log c.args.change c.published-now.result.now.stamp) }
+    let now = c.published-now.result.now in
+    record { installed = rw (c.again.ensures, c.installs-install.ensures, c.stamp_after-stamp.ensures, c.record-front.ensures.added) (installed_last now.front.log c.args.change c.published-now.result.now.stamp) }
 
 pub returns-clause-change : goal.returns-clause-change
 returns-clause-change g c = search rules

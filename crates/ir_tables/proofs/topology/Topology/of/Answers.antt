@@ -12,7 +12,7 @@ use Rattle.ir_tables.proofs.topology.Topology.of.Goals as goal
 
 pub ports_of-requires-clause-few : goal.ports_of-requires-clause-few
 ports_of-requires-clause-few c =
-    omega (arith, ap length c.as_slice.ensures.value, ap length c.in_ok-links.ensures, graph_few c.args.graph.now c.number_of_nodes-nodes.ensures.graph)
+    omega (arith, ap length c.as_slice.ensures.value, ap length c.in_ok-links.ensures.links, graph_few c.args.graph.now c.number_of_nodes-nodes.ensures.graph)
 
 pub loop-u-preserved : goal.loop-u-preserved
 loop-u-preserved c =
@@ -33,7 +33,7 @@ invariant_of-result c =
     let g : Adjacency = c.args.graph.now in
     let links : List Link = c.in_ok-links.links.items in
     let ports = c.loop-u.invariant ∙ ports_whole g links c.loop-u.u (omega (arith, c.number_of_nodes-nodes.ensures.len)) in
-    let made = graph_made g c.number_of_nodes-nodes.ensures.graph links (map (λ (v : Vec Hop Global). v.items) c.loop-u.ports.items) c.in_ok-links.ensures ports in
+    let made = graph_made g c.number_of_nodes-nodes.ensures.graph links (map (λ (v : Vec Hop Global). v.items) c.loop-u.ports.items) c.in_ok-links.ensures.links ports in
     let P : Network → Type 0 = λ net. IsNetwork net in
     subst P (sym made) (graph_network g c.number_of_nodes-nodes.ensures.graph)
 
@@ -42,4 +42,4 @@ returns c =
     let g : Adjacency = c.args.graph.now in
     let links : List Link = c.in_ok-links.links.items in
     let ports = c.loop-u.invariant ∙ ports_whole g links c.loop-u.u (omega (arith, c.number_of_nodes-nodes.ensures.len)) in
-    graph_made g c.number_of_nodes-nodes.ensures.graph links (map (λ (v : Vec Hop Global). v.items) c.loop-u.ports.items) c.in_ok-links.ensures ports
+    graph_made g c.number_of_nodes-nodes.ensures.graph links (map (λ (v : Vec Hop Global). v.items) c.loop-u.ports.items) c.in_ok-links.ensures.links ports

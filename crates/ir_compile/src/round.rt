@@ -1,0 +1,149 @@
+//! The round by the longest runs: how many there are from a label on, where they are fewest, and the ports that they give.
+
+ghost use Rattle.std.specs.Prelude.{◌≡◌, ◌≢◌, ◌<◌, ◌≤◌, ◌+◌, ℕ, None, Some, length, IfOk, slice_index};
+ghost use Rattle.ir_model.specs.Compiled.{port_to};
+ghost use Rattle.ir_model.specs.Choices.{label_from};
+ghost use Rattle.ir_model.proofs.Steps.{AreSteps, Steps, HaveStepPorts, IsFirstNear, IsPlaceAfter};
+
+use std::alloc::{AllocError, Global};
+
+/// The label so many places after a label, going round.
+pub fn label_at(n: u16, start: u16, place: u16) -> u16
+    requires start { start < n }
+    requires place { place < n }
+    ensures label { result < n }
+    ensures from { result ≡ label_from n start place }
+{
+    let left = n - start;
+    if place < left {
+        start + place
+    } else {
+        place - left
+    }
+}
+
+// The place where the run that begins at a place ends, at most a whole round.
+fn place_after(n: u16, start: u16, place: u16, counts: &[u16]) -> u16
+    requires every { length counts.now ≡ n }
+    requires start { start < n }
+    requires place { place < n }
+    requires some { 0 < slice_index counts.now (label_from n start place) }
+    ensures { IsPlaceAfter n counts.now start place result }
+{
+    let count = counts[label_at(n, start, place) as usize];
+    let left = n - place;
+    if count < left { place + count } else { n }
+}
+
+// How many runs a round has that begins at a label off the own one.
+fn steps_from(n: u16, own: u16, start: u16, counts: &[u16]) -> u16
+    requires steps { AreSteps n own counts.now }
+    requires start { start < n }
+    requires off { start ≢ own }
+    ensures { Steps n counts.now start 0 result }
+{
+    let mut place = 0;
+    let mut steps = 0;
+    while place < n {
+        place = place_after(n, start, place, counts);
+        steps += 1;
+    }
+    steps
+}
+
+/// How many places after the own label the first of the rounds with the fewest runs begins. A round that begins behind
+/// the first run has no fewer, so that only the labels up to its end are tried.
+pub fn first_near(n: u16, own: u16, counts: &[u16]) -> u16
+    requires two { 1 < n }
+    requires own { own < n }
+    requires steps { AreSteps n own counts.now }
+    ensures { IsFirstNear n own counts.now result }
+{
+    let first = label_at(n, own, 1);
+    let mut best = 1;
+    let mut fewest = steps_from(n, own, first, counts);
+    let last = last_near(n, counts[first as usize]);
+    for t in 2..last {
+        let steps = steps_from(n, own, label_at(n, own, t), counts);
+        if steps < fewest {
+            fewest = steps;
+            best = t;
+        }
+    }
+    best
+}
+
+// The place behind the last one to try.
+fn last_near(n: u16, count: u16) -> u16
+    requires { 1 < n }
+    ensures inside { result ≤ n }
+    ensures near { (i : ℕ) → i < n → i ≤ 1 + count → i < result }
+{
+    if count < n - 2 { count + 2 } else { n }
+}
+
+/// The ports by label that the runs give in the round from a label on: none to the own label.
+pub fn round_ports(
+    alloc: Global,
+    n: u16,
+    own: u16,
+    start: u16,
+    counts: &[u16],
+    ports: &[u16],
+) -> Result<Vec<Option<u16>>, AllocError>
+    requires steps { AreSteps n own counts.now }
+    requires ports { length ports.now ≡ n }
+    requires own { own < n }
+    requires start { start < n }
+    requires off { start ≢ own }
+    ensures every { IfOk result (λ held. length held.items ≡ n) }
+    ensures none { IfOk result (λ held. port_to held.items own ≡ None) }
+    ensures ports { IfOk result (λ held. (k : ℕ) × Steps n counts.now start 0 k × HaveStepPorts n own counts.now ports.now start 0 k held.items) }
+{
+    let mut held = vec![in alloc; None; n as usize]?;
+    let mut place = 0;
+    while place < n {
+        let after = place_after(n, start, place, counts);
+        let port = ports[label_at(n, start, place) as usize];
+        set_ports(&mut held, n, own, start, place, after, port);
+        place = after;
+    }
+    Ok(held)
+}
+
+// Gives a port to the labels of some places but the own one.
+fn set_ports(
+    held: &mut Vec<Option<u16>>,
+    n: u16,
+    own: u16,
+    start: u16,
+    from: u16,
+    to: u16,
+    port: u16,
+)
+    requires every { length held.old.items ≡ n }
+    requires own { own < n }
+    requires start { start < n }
+    requires to { to ≤ n }
+    ensures every { length held.new.items ≡ n }
+    ensures own { port_to held.new.items own ≡ port_to held.old.items own }
+    ensures set { (k : ℕ) → from ≤ k → k < to → label_from n start k ≢ own → port_to held.new.items (label_from n start k) ≡ Some port }
+    ensures kept { (k : ℕ) → k < from → port_to held.new.items (label_from n start k) ≡ port_to held.old.items (label_from n start k) }
+{
+    for place in from..to {
+        set_port(held, own, label_at(n, start, place), port);
+    }
+}
+
+// Gives a port to a label, but none to the own one.
+fn set_port(held: &mut Vec<Option<u16>>, own: u16, d: u16, port: u16)
+    requires { d < length held.old.items }
+    ensures every { length held.new.items ≡ length held.old.items }
+    ensures own { port_to held.new.items own ≡ port_to held.old.items own }
+    ensures set { d ≢ own → port_to held.new.items d ≡ Some port }
+    ensures kept { (e : ℕ) → e ≢ d → port_to held.new.items e ≡ port_to held.old.items e }
+{
+    if d != own {
+        held[d as usize] = Some(port);
+    }
+}

@@ -1,0 +1,42 @@
+-- What an accepted packet adds.
+use Rattle.std.specs.Prelude.{◌≡◌, ℕ, ◌<◌, Bool, true, List, [], ◌∷◌, ◌++◌, length, slice_get}
+use Rattle.std.proofs.Common.{arith, sym, ap, ◌∙◌, inl, inr}
+use Rattle.std.proofs.lemmas.List.Sums.{sum_by_push, sum_by-set}
+use Rattle.std.proofs.lemmas.Option.{get_or_from_slice_get, slice_get_within}
+use Rattle.ir_core.proofs.Lists.{get_push}
+use Rattle.ir_links.specs.Ends.{Sending}
+use Rattle.ir_worker.specs.declared.parcel.Place.{Place}
+use Rattle.ir_worker.specs.Seen.{SeenParcel}
+use Rattle.ir_worker.specs.Account.{Head, one, times, times_sent, head_of}
+use Rattle.ir_control.specs.declared.injector.Accepted.{Accepted}
+use Rattle.ir_control.specs.Heads.{head_at, times_injected, AreNumbered}
+use Rattle.ir_control.specs.Outs.{SentTo}
+use Rattle.std.specs.Prelude.{None}
+use Rattle.std.proofs.lemmas.Bool.Decides.{nat_tests}
+use Rattle.ir_control.specs.Refusals.{inject_refused}
+
+pub numbered_more : (xs ys : List Accepted) (a : Accepted) → ys ≡ xs ++ a ∷ [] → a.id ≡ length xs → AreNumbered xs → AreNumbered ys
+numbered_more xs ys a e id_is numbered = λ k b got.
+    elim (get_push xs k a b (ap (λ (l : List Accepted). slice_get l k) (sym e) ∙ got)) [
+      | inl h ↦ ap (λ (x : Accepted). x.id) (sym h.1) ∙ id_is ∙ sym h.0
+      | inr h ↦ numbered k b h.1
+    ]
+
+pub account_more : (before after : List (Sending Place SeenParcel)) (u : ℕ) (x : SeenParcel) (xs ys : List Accepted) (a : Accepted)
+    → SentTo before after u x true → ys ≡ xs ++ a ∷ [] → head_of x.journey ≡ head_at a → ((p : Head → Bool) → times_sent p before ≡ times_injected p xs)
+    → (p : Head → Bool) → times_sent p after ≡ times_injected p ys
+account_more before after u x xs ys a sent e same account p =
+    let s = sent.0 in
+    let new : Sending Place SeenParcel = record s { sent = s.sent ++ x ∷ [] } in
+    let within = slice_get_within before u s sent.1 in
+    let set = sum_by-set (λ (s : Sending Place SeenParcel). times p s.sent) before u new s within in
+    let read = ap (λ (s : Sending Place SeenParcel). times p s.sent) (get_or_from_slice_get before u s s sent.1) in
+    let after_is = ap (times_sent p) sent.2 in
+    let more = sum_by_push (λ (x : SeenParcel). one p (head_of x.journey)) s.sent x in
+    let injected = ap (times_injected p) e ∙ sum_by_push (λ (a : Accepted). one p (head_at a)) xs a in
+    let heads = ap (one p) same in
+    let was = account p in
+    omega (arith, set, read, after_is, more, injected, heads, was)
+
+pub not_refused : (nodes most count source dest : ℕ) → source < nodes → dest < nodes → count < most → inject_refused nodes most count source dest ≡ None
+not_refused nodes most count source dest a b d = grind (arith, nat_tests)

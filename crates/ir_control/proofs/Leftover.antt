@@ -1,0 +1,153 @@
+-- The rows of a whole net.
+use Rattle.std.specs.Prelude.{◌≡◌, ℕ, zero, suc, ◌+◌, ◌*◌, ◌<◌, ◌≤◌, Bool, true, false, ltb, cond, List, [], ◌∷◌, All, Option, Some, None, length, map, sum_by, slice_get, slice_index, slice_index_or}
+use Rattle.std.proofs.Common.{refl, arith, sym, ap, ◌∙◌, subst}
+use Rattle.std.proofs.lemmas.Bool.{ltb-false}
+use Rattle.std.proofs.lemmas.Option.{none-some, slice_get-get_or, get_or_from_slice_get, slice_get_within}
+use Rattle.std.proofs.lemmas.List.{length-map}
+use Rattle.std.proofs.lemmas.List.Sums.{sum_by-le}
+use Rattle.ir_model.specs.Network.{node_count}
+use Rattle.ir_links.specs.Ends.{Line, Sending, Taking}
+use Rattle.ir_worker.specs.declared.node.Node.{Node}
+use Rattle.ir_worker.specs.declared.parcel.Place.{Place}
+use Rattle.ir_worker.specs.Account.{lines_out}
+use Rattle.ir_worker.specs.Wires.{In, Out}
+use Rattle.ir_control.specs.declared.net.Net.{Net}
+use Rattle.ir_control.specs.Pairs.{ArePeers, ArePaired, slot_line, line_at}
+use Rattle.ir_control.specs.Parts.{IsNodeOf, AreNodesOf, node_number}
+use Rattle.ir_control.specs.Places.{offset, way_count}
+use Rattle.ir_control.specs.Reported.{AreAllThere}
+use Rattle.ir_control.specs.Rowed.{AllGet, AreRows, AreSlotsFrom}
+use Rattle.ir_control.specs.Slots.{slot_weight, hit, once, IsAt, AllAt, AllIn}
+use Rattle.ir_control.specs.Wired.{AreEntries}
+use Rattle.ir_control.proofs.Rows.{offset_all, place_of}
+use Rattle.ir_control.proofs.Rowing.{slot_get}
+use Rattle.ir_control.proofs.Slotted.{counts_no_other, full_at}
+use Rattle.ir_control.proofs.Sums.{sum_of_none}
+use Rattle.ir_control.proofs.Wiring.{sum_nothing}
+
+module _ {X : Type 0} (slots : List (Option X)) (none : (k : ℕ) → slice_index_or slots k None ≡ None) where
+  pub none_at : (key : X → ℕ) → AllAt key slots
+  none_at key = λ k. subst (IsAt key k) (sym (none k)) tt
+
+  pub none_in : (P : X → Type 0) → AllIn P slots
+  none_in P = λ k x got. absurd (none-some x (sym (none k) ∙ got))
+
+  pub none_weigh : (f : X → ℕ) → sum_by (slot_weight f) slots ≡ 0
+  none_weigh f = sum_of_none (slot_weight f) slots None (λ k lt. ap (slot_weight f) (none k))
+
+pub all_of_get : {X : Type 0} (P : X → Type 0) (xs : List X) → AllGet (λ k x. P x) xs → All P xs
+all_of_get P xs each = λ k d lt. each k (slice_index_or xs k d) (slice_get-get_or xs k d lt)
+
+-- nodes of a net fit into a slot each
+pub nodes_fit : (net : Net) (nodes : List Node) → AreNodesOf net nodes → (n i : ℕ) → n ≡ node_count net.topology → sum_by (hit node_number i) nodes ≤ once n i
+nodes_fit net nodes are n i is = go (ltb i n) refl where
+  go : (b : Bool) → ltb i n ≡ b → sum_by (hit node_number i) nodes ≤ once n i
+  go true e = (let one_is : once n i ≡ 1 = ap (λ b. cond b 1 0) e in let most = are.apart i in omega (arith, one_is, most))
+  go false e =
+      let most = ltb-false i n e in
+      let none : sum_by (hit node_number i) nodes ≡ 0 = sum_nothing (hit node_number i) nodes (λ p x got. counts_no_other node_number x i (λ same.
+        (let within : p < length nodes = slice_get_within nodes p x got in
+         let at : slice_index_or nodes p x ≡ x = get_or_from_slice_get nodes p x x got in
+         let lt : x.index < node_count net.topology = subst (λ (m : Node). m.index < node_count net.topology) at (are.each p x within).index_in in
+         omega (arith, same, most, lt, is)))) in
+      omega (arith, none)
+
+-- once all nodes are there, each slot is full
+pub all_slots : (net : Net) (nodes : List Node) (slots : List (Option Node)) → AreAllThere net nodes → length slots ≡ node_count net.topology → AllAt node_number slots → AllIn (IsNodeOf net) slots
+    → ((w : Node → ℕ) → sum_by (slot_weight w) slots ≡ sum_by w nodes) → AreSlotsFrom net 0 slots
+all_slots net nodes slots all len at kind weighs = record {
+    count = len;
+    emptied = λ k lt. absurd (omega (arith, lt));
+    full = λ k le lt.
+      (let some = all k lt in
+       let same = weighs (hit node_number k) in
+       let f = full_at node_number slots at k (omega (arith, some, same)) in
+       (f.0, f.1, f.2, kind k f.0 f.1));
+  }
+
+module _ {P T : Type 0} where
+  line_of : (takers : List (Taking P T)) (k : ℕ) → k < length takers → (t : Taking P T) × (slice_get takers k ≡ Some t) × (line_at takers k ≡ Some t.line)
+  line_of [] k lt = absurd (omega (arith, lt))
+  line_of (t ∷ ts) zero lt = (t, refl, refl)
+  line_of (t ∷ ts) (suc k) lt = line_of ts k (omega (arith, lt))
+
+  -- rows whose ends are of the channels of their places are paired
+  pub paired_at : (peers : List ℕ) (ways : List (Line P)) (slots : List (Option (Sending P T))) (takers : List (Taking P T)) → ArePeers peers → length slots ≡ length peers → length takers ≡ length peers
+      → AllGet (λ k slot. slice_get ways k ≡ slot_line slot) slots → AllGet (λ k t. slice_get ways (slice_index peers k) ≡ Some t.line) takers → ArePaired peers slots takers
+  paired_at peers ways slots takers are outs ins out_lines in_lines = record {
+    peers_are = are;
+    slots_len = outs;
+    takers_len = omega (arith, ins);
+    here = λ k lt less.
+      (let t = line_of takers (slice_index peers k) less in
+       sym (out_lines k (slice_index_or slots k None) (slice_get-get_or slots k None (omega (arith, lt, outs)))) ∙ ap (slice_get ways) (sym (are.back k lt)) ∙ in_lines (slice_index peers k) t.0 t.1 ∙ sym t.2);
+    gone = λ k lt more. absurd (let within = are.within k lt in omega (arith, more, within, ins));
+  }
+
+pub entries_paired : (n : ℕ) (entries : List ℕ) → AreEntries n entries → ArePeers entries
+entries_paired n entries are = record {
+    within = λ k lt. (let e = are.each k (let c = are.count in omega (arith, c, lt)) in omega (arith, e, lt));
+    back = λ k lt. (let e = are.each k (let c = are.count in omega (arith, c, lt)) in ap (slice_index entries) e ∙ e);
+  }
+
+pub lines_there : (inboxes : List (Line Place)) (outs : List Out) → lines_out outs ≡ inboxes → AllGet (λ k (slot : Option Out). slice_get inboxes k ≡ slot_line slot) (map (λ s. Some s) outs)
+lines_there inboxes outs e = λ k slot got.
+    (let s = slot_get (λ (s : Out). Some s) outs k slot got in
+     ap (λ ls. slice_get ls k) (sym e) ∙ there outs k s.0 s.1 ∙ ap slot_line s.2) where
+  there : (outs : List Out) (k : ℕ) (s : Out) → slice_get outs k ≡ Some s → slice_get (lines_out outs) k ≡ Some s.line
+  there [] k s got = absurd (none-some s got)
+  there (x ∷ xs) zero s got = ap (λ (slot : Option Out). slot_line slot) got
+  there (x ∷ xs) (suc k) s got = there xs k s got
+
+pub inboxes_paired : (net : Net) (outs : List Out) (inboxes takers : List In) (senders : List (Option Out)) → lines_out outs ≡ net.inboxes.items → AreRows net (node_count net.topology) inboxes takers senders
+    → ArePaired net.entries.items (map (λ s. Some s) outs) inboxes
+inboxes_paired net outs inboxes takers senders lines rows =
+    let n = net.inboxes_are.count in
+    let m = net.entries_are.count in
+    let len = ap length lines in
+    let a = length-map outs (λ (s : Out). s.line) in
+    let b = length-map outs (λ (s : Out). Some s) in
+    let q = rows.inbox_count in
+    paired_at net.entries.items net.inboxes.items (map (λ s. Some s) outs) inboxes (entries_paired (node_count net.topology) net.entries.items net.entries_are) (omega (arith, n, m, len, a, b)) (omega (arith, q, m))
+      (lines_there net.inboxes.items outs lines)
+      (λ k t got. (let lt = slice_get_within inboxes k t got in ap (slice_get net.inboxes.items) (net.entries_are.each k (omega (arith, lt, q))) ∙ rows.inbox_lines k t got))
+
+pub ways_paired : (net : Net) (inboxes takers : List In) (senders : List (Option Out)) → AreRows net (node_count net.topology) inboxes takers senders → ArePaired net.peers.items senders takers
+ways_paired net inboxes takers senders rows =
+    let all = offset_all net.topology in
+    let n = net.ways_are.peer_count in
+    let a = rows.out_count in
+    let b = rows.in_count in
+    paired_at net.peers.items net.ways.items senders takers net.ways_are.peers_are (omega (arith, all, n, a)) (omega (arith, all, n, b)) rows.out_lines rows.in_lines
+
+-- a way of a net is of the net, and holds what each holds
+way_is : (net : Net) (k : ℕ) (line : Line Place) → slice_get net.ways.items k ≡ Some line → (line.place.opening ≡ net.opening) × (line.capacity ≡ net.capacity)
+way_is net k line got =
+    let lt = slice_get_within net.ways.items k line got in
+    let n = net.ways_are.count in
+    let at = place_of net.topology k (omega (arith, lt, n)) in
+    let is = net.ways_are.out at.0 at.1 at.2 line at.3 (ap (slice_get net.ways.items) (sym at.4) ∙ got) in
+    (ap (λ (p : Place). p.opening) is.place, is.holds)
+
+module _ (net : Net) (n : ℕ) (inboxes takers : List In) (senders : List (Option Out)) (rows : AreRows net n inboxes takers senders) where
+  pub inboxes_placed : All (λ (t : In). t.line.place.opening ≡ net.opening) inboxes
+  inboxes_placed = all_of_get (λ (t : In). t.line.place.opening ≡ net.opening) inboxes (λ k t got. ap (λ (p : Place). p.opening) (net.inboxes_are.each k t.line (rows.inbox_lines k t got)).place)
+
+  pub takers_placed : All (λ (t : In). t.line.place.opening ≡ net.opening) takers
+  takers_placed = all_of_get (λ (t : In). t.line.place.opening ≡ net.opening) takers (λ k t got. (way_is net (slice_index net.peers.items k) t.line (rows.in_lines k t got)).0)
+
+  inboxes_hold : All (λ (t : In). t.line.capacity ≤ net.capacity) inboxes
+  inboxes_hold = all_of_get (λ (t : In). t.line.capacity ≤ net.capacity) inboxes (λ k t got. (let h = (net.inboxes_are.each k t.line (rows.inbox_lines k t got)).holds in omega (arith, h)))
+
+  takers_hold : All (λ (t : In). t.line.capacity ≤ net.capacity) takers
+  takers_hold = all_of_get (λ (t : In). t.line.capacity ≤ net.capacity) takers (λ k t got. (let h = (way_is net (slice_index net.peers.items k) t.line (rows.in_lines k t got)).1 in omega (arith, h)))
+
+  pub rows_hold : n ≡ node_count net.topology → sum_by (λ (t : In). t.line.capacity) inboxes + sum_by (λ (t : In). t.line.capacity) takers ≤ node_count net.topology * net.capacity + way_count net.topology * net.capacity
+  rows_hold is =
+      let a = sum_by-le (λ (t : In). t.line.capacity) net.capacity inboxes inboxes_hold in
+      let b = sum_by-le (λ (t : In). t.line.capacity) net.capacity takers takers_hold in
+      let p : length inboxes ≡ node_count net.topology = rows.inbox_count ∙ is in
+      let q : length takers ≡ way_count net.topology = rows.in_count ∙ ap (offset net.topology) is ∙ offset_all net.topology in
+      let a_is : length inboxes * net.capacity ≡ node_count net.topology * net.capacity = ap (λ k. k * net.capacity) p in
+      let b_is : length takers * net.capacity ≡ way_count net.topology * net.capacity = ap (λ k. k * net.capacity) q in
+      omega (arith, a, b, a_is, b_is)

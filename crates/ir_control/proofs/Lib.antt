@@ -1,0 +1,16 @@
+pub mod Rows
+pub mod Nets
+pub mod Injecting
+pub mod Sums
+pub mod Meetings
+pub mod OfNet
+pub mod Handed
+pub mod Wiring
+pub mod Pairing
+pub mod Once
+pub mod Rowing
+pub mod Telling
+pub mod Leftover
+pub mod Conserved
+pub mod Returned
+pub mod Slotted

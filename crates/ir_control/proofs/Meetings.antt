@@ -1,0 +1,164 @@
+-- Each taker meets its sender, once.
+use Rattle.std.specs.Prelude.{◌≡◌, ℕ, ◌+◌, ◌<◌, ◌≤◌, zero, suc, Bool, true, false, List, [], ◌∷◌, ◌++◌, Option, Some, None, sum_by, length, slice_index, slice_index_or, slice_set, eqb}
+use Rattle.std.proofs.Common.{get_or, refl, arith, ap, ◌∙◌, subst, sym}
+use Rattle.std.proofs.lemmas.Bool.{eqb-true, eqb-false}
+use Rattle.std.proofs.lemmas.List.{length-set, get_or-set_same, get_or-set_other, length_push, get_or_read}
+use Rattle.std.proofs.lemmas.List.Sums.{sum_by_push, sum_by-append, sum_by-set}
+use Rattle.ir_links.specs.Ends.{Line, Sending, Taking}
+use Rattle.ir_control.specs.Slots.{slot_sent, times_in_slots, weight_taken}
+use Rattle.ir_control.specs.Pairs.{ArePaired, slot_line, line_at}
+use Rattle.ir_control.proofs.Sums.{sum_of_none}
+
+module _ {P : Type 0} where
+  abbrev IsNothing : Option (Line P) → Type 0
+  IsNothing None = Unit {0}
+  IsNothing (Some l) = ⊥
+
+module _ {P T : Type 0} where
+  pub record IsSettling (slots_0 : List (Option (Sending P T))) (takers_0 : List (Taking P T)) (left_0 : List T)
+      (peers : List ℕ) (slots : List (Option (Sending P T))) (takers : List (Taking P T)) (left : List T) : Type 0 where
+    pub paired : ArePaired peers slots takers
+    pub account : (w : T → ℕ) → (times_in_slots w slots + sum_by w left) + weight_taken w takers_0 ≡ (times_in_slots w slots_0 + sum_by w left_0) + weight_taken w takers
+
+  line_at_push : (ts : List (Taking P T)) (t : Taking P T) → line_at (ts ++ t ∷ []) (length ts) ≡ Some t.line
+  line_at_push [] t = refl
+  line_at_push (x ∷ ts) t = line_at_push ts t
+
+  line_at_before : (ts : List (Taking P T)) (t : Taking P T) (k : ℕ) → k < length ts → line_at (ts ++ t ∷ []) k ≡ line_at ts k
+  line_at_before [] t k lt = absurd (omega (arith, lt))
+  line_at_before (x ∷ ts) t zero lt = refl
+  line_at_before (x ∷ ts) t (suc k) lt = line_at_before ts t k (omega (arith, lt))
+
+  holds_line : (slot : Option (Sending P T)) (line : Line P) → slot_line slot ≡ Some line → (s : Sending P T) → slot ≡ Some s → s.line ≡ line
+  holds_line slot line h s e = some_same (sym (ap slot_line e) ∙ h) where
+    some_same : Some s.line ≡ Some line → s.line ≡ line
+    some_same e = ap (λ (o : Option (Line P)). elim o [ None ↦ line | Some l ↦ l ]) e
+
+  holds_some : (slot : Option (Sending P T)) (line : Line P) → slot_line slot ≡ Some line → slot ≡ None → ⊥
+  holds_some slot line h e = differ (sym (ap slot_line e) ∙ h) where
+    differ : None ≡ Some line → ⊥
+    differ e = subst (λ (o : Option (Line P)). IsNothing o) e tt
+
+  module _ (peers : List ℕ) (slots : List (Option (Sending P T))) (rest : List (Taking P T)) (t : Taking P T) (paired : ArePaired peers slots (rest ++ t ∷ [])) where
+    pub last_below : length rest < length peers
+    last_below = let len = length_push rest t in let most = paired.takers_len in omega (arith, len, most)
+
+    pub place_below : slice_index peers (length rest) < length slots
+    place_below = subst (λ (n : ℕ). slice_index peers (length rest) < n) (sym paired.slots_len) (paired.peers_are.within (length rest) last_below)
+
+    place_back : slice_index peers (slice_index peers (length rest)) ≡ length rest
+    place_back = paired.peers_are.back (length rest) last_below
+
+    pub at_place : slot_line (slice_index_or slots (slice_index peers (length rest)) None) ≡ Some t.line
+    at_place =
+        let len = length_push rest t in
+        let back = place_back in
+        paired.here (slice_index peers (length rest)) (paired.peers_are.within (length rest) last_below) (omega (arith, len, back))
+        ∙ ap (λ k. line_at (rest ++ t ∷ []) k) place_back ∙ line_at_push rest t
+
+    here_after : (k : ℕ) → k < length peers → slice_index peers k < length rest
+        → slot_line (slice_index_or (slice_set slots (slice_index peers (length rest)) None) k None) ≡ line_at rest (slice_index peers k)
+    here_after k lt before =
+        let len = length_push rest t in
+        let other : k ≡ slice_index peers (length rest) → ⊥ = λ e. (let same : slice_index peers k ≡ length rest = ap (slice_index peers) e ∙ place_back in omega (arith, same, before)) in
+        ap slot_line (get_or-set_other slots (slice_index peers (length rest)) k None None other)
+        ∙ paired.here k lt (omega (arith, len, before)) ∙ line_at_before rest t (slice_index peers k) before
+
+    gone_after : (k : ℕ) → k < length peers → length rest ≤ slice_index peers k
+        → slice_index_or (slice_set slots (slice_index peers (length rest)) None) k None ≡ None
+    gone_after k lt after = go (eqb k (slice_index peers (length rest))) refl where
+      go : (b : Bool) → eqb k (slice_index peers (length rest)) ≡ b → slice_index_or (slice_set slots (slice_index peers (length rest)) None) k None ≡ None
+      go true e =
+          ap (λ j. slice_index_or (slice_set slots (slice_index peers (length rest)) None) j None) (eqb-true k (slice_index peers (length rest)) e)
+          ∙ get_or-set_same slots (slice_index peers (length rest)) None None place_below
+      go false e =
+          let ne : k ≡ slice_index peers (length rest) → ⊥ = eqb-false k (slice_index peers (length rest)) e in
+          let not_last : slice_index peers k ≡ length rest → ⊥ = λ same. ne (sym (paired.peers_are.back k lt) ∙ ap (slice_index peers) same) in
+          let len = length_push rest t in
+          get_or-set_other slots (slice_index peers (length rest)) k None None ne ∙ paired.gone k lt (omega (arith, len, not_last, after))
+
+    pub paired_after : ArePaired peers (slice_set slots (slice_index peers (length rest)) None) rest
+    paired_after = record {
+      peers_are = paired.peers_are;
+      slots_len = length-set slots (slice_index peers (length rest)) None ∙ paired.slots_len;
+      takers_len = (let lt = last_below in omega (arith, lt));
+      here = here_after;
+      gone = gone_after;
+    }
+
+  -- what a step of the loop reads: the slot x at the place of the last taker
+  module _ (slots_0 : List (Option (Sending P T))) (takers_0 : List (Taking P T)) (left_0 : List T)
+      (peers : List ℕ) (slots : List (Option (Sending P T))) (rest : List (Taking P T)) (t : Taking P T) (left : List T)
+      (settling : IsSettling slots_0 takers_0 left_0 peers slots (rest ++ t ∷ []) left)
+      (x : Option (Sending P T)) (read : x ≡ get_or slots (slice_index peers (length rest)) x) where
+    read_none : x ≡ slice_index_or slots (slice_index peers (length rest)) None
+    read_none = get_or_read slots (slice_index peers (length rest)) x (place_below peers slots rest t settling.paired) read None
+
+    line_of_x : slot_line x ≡ Some t.line
+    line_of_x = ap slot_line read_none ∙ at_place peers slots rest t settling.paired
+
+    pub one_channel : (s : Sending P T) → x ≡ Some s → s.line ≡ t.line
+    one_channel = holds_line x t.line line_of_x
+
+    pub never_empty : x ≡ None → ⊥
+    never_empty = holds_some x t.line line_of_x
+
+    pub settled_one : (s : Sending P T) → x ≡ Some s → (more left_1 : List T) → s.sent ≡ t.taken ++ more → left_1 ≡ left ++ more
+        → IsSettling slots_0 takers_0 left_0 peers (slice_set slots (slice_index peers (length rest)) None) rest left_1
+    settled_one s is more left_1 sent appended = record {
+      paired = paired_after peers slots rest t settling.paired;
+      account = λ w.
+          (let before = settling.account w in
+          let put = sum_by-set (slot_sent w) slots (slice_index peers (length rest)) None None (place_below peers slots rest t settling.paired) in
+          let was : slot_sent w (slice_index_or slots (slice_index peers (length rest)) None) ≡ sum_by w s.sent = ap (slot_sent w) (sym read_none ∙ is) in
+          let split : sum_by w s.sent ≡ sum_by w t.taken + sum_by w more = ap (sum_by w) sent ∙ sum_by-append w t.taken more in
+          let grown : sum_by w left_1 ≡ sum_by w left + sum_by w more = ap (sum_by w) appended ∙ sum_by-append w left more in
+          let pushed = sum_by_push (λ (t : Taking P T). sum_by w t.taken) rest t in
+          omega (arith, before, put, was, split, grown, pushed));
+    }
+
+  pub all_settled : (slots_0 : List (Option (Sending P T))) (takers_0 : List (Taking P T)) (left_0 : List T)
+      (peers : List ℕ) (slots : List (Option (Sending P T))) (left : List T)
+      → IsSettling slots_0 takers_0 left_0 peers slots [] left
+      → (w : T → ℕ) → times_in_slots w slots_0 + sum_by w left_0 ≡ weight_taken w takers_0 + sum_by w left
+  all_settled slots_0 takers_0 left_0 peers slots left settling w =
+      let account = settling.account w in
+      let none : times_in_slots w slots ≡ 0 = sum_of_none (slot_sent w) slots None
+      (λ k lt. ap (slot_sent w) (settling.paired.gone k (subst (λ (n : ℕ). k < n) settling.paired.slots_len lt) (omega arith))) in
+      omega (arith, account, none)
+
+  -- the same, as the code reads it
+  module _ (slots_0 : List (Option (Sending P T))) (takers_0 : List (Taking P T)) (left_0 : List T)
+      (peers : List ℕ) (slots : List (Option (Sending P T))) (takers rest : List (Taking P T)) (t : Taking P T) (left : List T)
+      (settling : IsSettling slots_0 takers_0 left_0 peers slots takers left) (popped : takers ≡ rest ++ t ∷ [])
+      (q : ℕ) (q_is : q ≡ length rest)
+      (x : Option (Sending P T)) (read : x ≡ get_or slots (slice_index peers q) x) where
+    settling_at : IsSettling slots_0 takers_0 left_0 peers slots (rest ++ t ∷ []) left
+    settling_at = subst (λ (ts : List (Taking P T)). IsSettling slots_0 takers_0 left_0 peers slots ts left) popped settling
+
+    read_at : x ≡ get_or slots (slice_index peers (length rest)) x
+    read_at = subst (λ (k : ℕ). x ≡ get_or slots (slice_index peers k) x) q_is read
+
+    pub one_channel_at : (s : Sending P T) → Some s ≡ x → s.line ≡ t.line
+    one_channel_at s is = one_channel slots_0 takers_0 left_0 peers slots rest t left settling_at x read_at s (sym is)
+
+    pub never_empty_at : x ≡ None → ⊥
+    never_empty_at = never_empty slots_0 takers_0 left_0 peers slots rest t left settling_at x read_at
+
+    pub settled_at : (s : Sending P T) → Some s ≡ x → (more left_1 : List T) → s.sent ≡ t.taken ++ more → left_1 ≡ left ++ more
+        → (new : Option (Sending P T)) → new ≡ None
+        → IsSettling slots_0 takers_0 left_0 peers (slice_set slots (slice_index peers q) new) rest left_1
+    settled_at s is more left_1 sent appended new new_is =
+        subst (λ (slot : Option (Sending P T)). IsSettling slots_0 takers_0 left_0 peers (slice_set slots (slice_index peers q) slot) rest left_1) (sym new_is)
+        (subst (λ (k : ℕ). IsSettling slots_0 takers_0 left_0 peers (slice_set slots (slice_index peers k) None) rest left_1) (sym q_is)
+        (settled_one slots_0 takers_0 left_0 peers slots rest t left settling_at x read_at s (sym is) more left_1 sent appended))
+
+  pub room_after : (takers rest : List (Taking P T)) (t : Taking P T) (len room len_1 room_1 : ℕ) → takers ≡ rest ++ t ∷ []
+      → len + sum_by (λ t. t.line.capacity) takers ≤ room → (room_1 ≡ room) × (len_1 ≤ len + t.line.capacity)
+      → len_1 + sum_by (λ t. t.line.capacity) rest ≤ room_1
+  room_after takers rest t len room len_1 room_1 popped fits grown =
+      let sums : sum_by (λ t. t.line.capacity) takers ≡ sum_by (λ t. t.line.capacity) rest + t.line.capacity =
+      ap (sum_by (λ (t : Taking P T). t.line.capacity)) popped ∙ sum_by_push (λ (t : Taking P T). t.line.capacity) rest t in
+      let same = grown.0 in
+      let most = grown.1 in
+      omega (arith, sums, fits, same, most)

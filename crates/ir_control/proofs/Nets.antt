@@ -1,0 +1,113 @@
+-- Stamps and boards of one net.
+use Rattle.std.specs.Prelude.{◌≡◌, ℕ, ◌+◌, ◌<◌, ◌≤◌, Bool, true, List, [], ◌∷◌, ◌++◌, fold, filter, length, slice_set, option_map, take}
+use Rattle.std.proofs.Common.{refl, arith, sym, ap, ◌∙◌, subst, length-set, get_or, length-take-le}
+use Rattle.std.proofs.Math.Logic.{∥∥₁_elim}
+use Rattle.std.proofs.Math.Nat.{ℕ_set}
+use Rattle.std.proofs.lemmas.List.{length-map, length-replicate}
+use Rattle.std.proofs.lemmas.Option.{slice_get-map, slice_get_read}
+use Rattle.ir_model.specs.Network.{Network, node_count, is_up, restrict}
+use Rattle.ir_core.specs.declared.TheConstants.{MAX_LINKS}
+use Rattle.ir_core.specs.declared.board.Board.{Board}
+use Rattle.ir_core.specs.Board.{opening_board}
+use Rattle.ir_epochs.specs.declared.registry.Stamp.{Stamp}
+use Rattle.ir_epochs.specs.declared.entry.Change.{Change}
+use Rattle.ir_epochs.specs.declared.entry.Change.TheVariants.{Install, Retire, Down, Up}
+use Rattle.ir_epochs.specs.declared.entry.Entry.{Entry}
+use Rattle.ir_epochs.specs.declared.entry.Entry.TheVariants.{Opened, Changed}
+use Rattle.ir_epochs.specs.Entries.{IsCurrent, registry_of, network_of, board_of, entered, changed, Fits}
+use Rattle.ir_epochs.specs.Over.{IsOver}
+use Rattle.ir_epochs.specs.Stamps.{knows, registry_name}
+use Rattle.ir_links.specs.Ends.{Sending, WasFull}
+use Rattle.std.specs.Prelude.{false, All, zero, suc}
+use Rattle.std.proofs.lemmas.List.{set-get_or}
+use Rattle.ir_worker.specs.declared.parcel.Place.{Place}
+use Rattle.ir_worker.specs.Seen.{SeenParcel, IsOfNet, GoesTo, place_of, stamps_of}
+use Rattle.ir_control.specs.Whole.{IsParcelOf}
+use Rattle.ir_worker.specs.Account.{lines_out}
+use Rattle.ir_core.specs.Sound.{last_of}
+use Rattle.ir_control.specs.Outs.{AreEntryEnds, SentTo}
+use Rattle.std.proofs.Math.Seq.{map-set_same}
+
+-- the stamp of a board's current epoch is of the net of the board
+pub of_net : (o : Stamp) (entries : List Entry) (s : Stamp) → IsCurrent entries s → registry_of entries ≡ registry_name o → network_of entries ≡ (knows o).network → IsOfNet o s
+of_net o entries s current registry network = (
+  current.registry ∙ registry,
+  subst (λ (net : Network). IsOver net (knows s).network) network current.over,
+)
+
+-- a network over some links of another has its nodes
+pub over_nodes : (net over : Network) → IsOver net over → node_count over ≡ node_count net
+over_nodes net over h = ∥∥₁_elim h (ℕ_set (node_count over) (node_count net))
+    (λ m. ap (λ (n : Network). node_count n) m.2 ∙ length-map net.ports (filter (is_up m.0)))
+
+changed_marks : (b : Board) (c : Change) → length b.up ≡ MAX_LINKS → length (changed b c).up ≡ MAX_LINKS
+changed_marks b (Install s) h = h
+changed_marks b (Retire f) h = h
+changed_marks b (Down l) h = length-set b.up l _ ∙ h
+changed_marks b (Up l) h = length-set b.up l _ ∙ h
+
+marks_from : (b : Board) (entries : List Entry) → length b.up ≡ MAX_LINKS → length (fold entered b entries).up ≡ MAX_LINKS
+marks_from b [] h = h
+marks_from b (Opened links s ∷ entries) h = marks_from opening_board entries (length-replicate {A = Bool} MAX_LINKS true)
+marks_from b (Changed c ∷ entries) h = marks_from (changed b c) entries (changed_marks b c h)
+
+-- each board has a mark for each number that a link may have
+pub marks_len : (entries : List Entry) → length (board_of entries).up ≡ MAX_LINKS
+marks_len entries = marks_from opening_board entries (length-replicate {A = Bool} MAX_LINKS true)
+
+-- an end that stands at a place is of that place's line
+pub end_place : (o : Stamp) (restamps : ℕ) (outs : List (Sending Place SeenParcel)) (u : ℕ) (s : Sending Place SeenParcel) → AreEntryEnds o restamps (lines_out outs) → u < length outs → s ≡ get_or outs u s
+    → s.line.place ≡ place_of o restamps u u
+end_place o restamps outs u s ends lt read =
+    ends.each u s.line (slice_get-map (λ (s : Sending Place SeenParcel). s.line) outs u ∙ ap (option_map (λ (s : Sending Place SeenParcel). s.line)) (slice_get_read outs (length outs) u s refl lt read))
+
+pub goes_in : (o : Stamp) (restamps u : ℕ) (p : SeenParcel) (place : Place) → place ≡ place_of o restamps u u → p.next ≡ u → p.journey.hops ≡ u ∷ [] → IsParcelOf o p → p.journey.restamps ≡ [] → GoesTo p place
+goes_in o restamps u p place at next hops of fresh = subst (λ (place : Place). GoesTo p place) (sym at) (record {
+  last = ap last_of hops;
+  next = next;
+  of_net = of;
+  few = (let n = ap length fresh in omega (arith, n));
+  fresh = λ _. fresh;
+})
+
+pub parcel_of_net : (o : Stamp) (p : SeenParcel) (s : Stamp) → p.first ≡ s → p.later ≡ [] → IsOfNet o s → IsParcelOf o p
+parcel_of_net o p s first later of =
+    subst (λ (t : Stamp). All (λ s. IsOfNet o s) (stamps_of t p.later)) (sym first)
+    (subst (λ (l : List Stamp). All (λ s. IsOfNet o s) (stamps_of s l)) (sym later) (single of)) where
+      single : IsOfNet o s → All (λ s. IsOfNet o s) (s ∷ [])
+      single of = λ k d lt. go k d lt
+        where
+          go : (k : ℕ) (d : Stamp) → k < 1 → IsOfNet o (get_or (s ∷ []) k d)
+          go zero d lt = of
+          go (suc k) d lt = absurd (omega (arith, lt))
+
+pub lines_kept : (outs : List (Sending Place SeenParcel)) (i : ℕ) (new old : Sending Place SeenParcel) → old ≡ get_or outs i old → new.line ≡ old.line
+    → lines_out (slice_set outs i new) ≡ lines_out outs
+lines_kept outs i new old read same = map-set_same (λ (s : Sending Place SeenParcel). s.line) outs i new old (same ∙ ap (λ (s : Sending Place SeenParcel). s.line) read)
+
+pub sent_by : (outs : List (Sending Place SeenParcel)) (u : ℕ) (s new : Sending Place SeenParcel) (x : SeenParcel) → u < length outs → s ≡ get_or outs u s
+    → new ≡ record s { sent = s.sent ++ x ∷ [] } → SentTo outs (slice_set outs u new) u x true
+sent_by outs u s new x lt read e = (s, slice_get_read outs (length outs) u s refl lt read, ap (slice_set outs u) e)
+
+-- the links that are up are some of the links
+pub over_up : (net : Network) (up : List Bool) → length net.links ≤ length up → IsOver net (restrict (take (length net.links) up) net)
+over_up net up h = ∣ (take (length net.links) up, length-take-le (length net.links) up h, refl) ∣₁
+
+-- an install fits
+pub fits_install : (o s : Stamp) (entries : List Entry) (used : ℕ) → (board_of entries).current ≤ used → s.epoch ≡ used + 1 → registry_name s ≡ registry_name o → registry_of entries ≡ registry_name o
+    → network_of entries ≡ (knows o).network → length (knows o).network.links ≤ MAX_LINKS
+    → (knows s).network ≡ restrict (take (length (knows o).network.links) (board_of entries).up) (knows o).network
+    → Fits entries (Install s)
+fits_install o s entries used below epoch registry same network few made = (
+  (let e = epoch in omega (arith, below, e)),
+  registry ∙ sym same,
+  subst (λ (net : Network). IsOver net (knows s).network) (sym network)
+      (subst (λ (net : Network). IsOver (knows o).network net) (sym made)
+      (over_up (knows o).network (board_of entries).up (let n = marks_len entries in omega (arith, few, n)))),
+)
+
+-- an end that was full is as it was
+pub not_sent_by : (outs : List (Sending Place SeenParcel)) (u : ℕ) (s new : Sending Place SeenParcel) (x : SeenParcel) → u < length outs → s ≡ get_or outs u s
+    → new ≡ s → WasFull GoesTo s → SentTo outs (slice_set outs u new) u x false
+not_sent_by outs u s new x lt read e full =
+    (ap (slice_set outs u) (e ∙ read) ∙ set-get_or outs u s, (s, slice_get_read outs (length outs) u s refl lt read, full))

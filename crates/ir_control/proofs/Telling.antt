@@ -1,0 +1,52 @@
+-- Each outcome goes into the slot of its packet, and is told in order.
+use Rattle.std.specs.Prelude.{◌≡◌, ℕ, zero, suc, ◌+◌, ◌<◌, ◌≤◌, List, [], ◌∷◌, ◌++◌, All, Option, Some, None, length, map, sum_by, slice_index_or}
+use Rattle.std.proofs.Common.{refl, arith, sym, ap, ◌∙◌, subst, get_or, ◌⊎◌, inl, inr}
+use Rattle.std.proofs.lemmas.Bool.{cases_eq}
+use Rattle.std.proofs.lemmas.List.{length-map, get_or_append_left, get_or_push, map-append}
+use Rattle.std.proofs.lemmas.List.Sums.{sum_by_push}
+use Rattle.std.proofs.lemmas.List.Elements.{All-push}
+
+-- the slots and the rest, with one of the rest in hand
+pub rest_split : {X : Type 0} (f : X → ℕ) (slots before all : ℕ) (items rest : List X) (x : X) → items ≡ rest ++ x ∷ [] → slots + sum_by f items ≡ before + all → slots + (sum_by f rest + f x) ≡ before + all
+rest_split f slots before all items rest x popped was =
+    let e = ap (sum_by f) popped ∙ sum_by_push f rest x in
+    omega (arith, e, was)
+
+-- what was put into the slots is no more in the rest
+pub rest_put : {X : Type 0} (f : X → ℕ) (slots slots_1 before all : ℕ) (items rest : List X) (x : X) → items ≡ rest ++ x ∷ [] → slots + sum_by f items ≡ before + all → slots_1 ≡ slots + f x → slots_1 + sum_by f rest ≡ before + all
+rest_put f slots slots_1 before all items rest x popped was put =
+    let e = ap (sum_by f) popped ∙ sum_by_push f rest x in
+    omega (arith, e, was, put)
+
+pub fits_now : {X : Type 0} (f : X → ℕ) (slots before all m : ℕ) (items rest : List X) (x : X) → items ≡ rest ++ x ∷ [] → slots + sum_by f items ≡ before + all → before + all ≤ m → slots + f x ≤ m
+fits_now f slots before all m items rest x popped was most =
+    let e = ap (sum_by f) popped ∙ sum_by_push f rest x in
+    omega (arith, e, was, most)
+
+pub all_back : {X : Type 0} (P : X → Type 0) (items rest : List X) (x : X) → items ≡ rest ++ x ∷ [] → All P rest → P x → All P items
+all_back P items rest x popped all here = subst (All P) (sym popped) (All-push P rest x all here)
+
+pub or_any : {A : Type 0} (xs : List A) (k : ℕ) (d e : A) → k < length xs → get_or xs k d ≡ get_or xs k e
+or_any [] k d e lt = absurd (omega (arith, lt))
+or_any (y ∷ xs) zero d e lt = refl
+or_any (y ∷ xs) (suc k) d e lt = or_any xs k d e (omega (arith, lt))
+
+-- two lists of one length that have the same at each place
+pub same_list : {A : Type 0} (xs ys : List A) (d : A) → length xs ≡ length ys → ((k : ℕ) → k < length xs → slice_index_or xs k d ≡ slice_index_or ys k d) → xs ≡ ys
+same_list [] [] d n same = refl
+same_list [] (y ∷ ys) d n same = absurd (omega (arith, n))
+same_list (x ∷ xs) [] d n same = absurd (omega (arith, n))
+same_list (x ∷ xs) (y ∷ ys) d n same =
+    ap (λ z. z ∷ xs) (same 0 (omega arith)) ∙ ap (λ zs. y ∷ zs) (same_list xs ys d (omega (arith, n)) (λ k lt. same (suc k) (omega (arith, lt))))
+
+-- one outcome more
+pub told_more : {O : Type 0} (all : List (Option O)) (outcomes : List O) (o : O) (i : ℕ) → length outcomes ≡ i → slice_index_or all i None ≡ Some o
+    → ((k : ℕ) → k < i → slice_index_or (map (λ o. Some o) outcomes) k None ≡ slice_index_or all k None)
+    → (k : ℕ) → k < i + 1 → slice_index_or (map (λ o. Some o) (outcomes ++ o ∷ [])) k None ≡ slice_index_or all k None
+told_more {O} all outcomes o i len here same k lt = ap (λ (xs : List (Option O)). slice_index_or xs k None) (map-append (λ (o : O). Some o) outcomes (o ∷ [])) ∙ go (cases_eq k i) where
+  go : ((k ≡ i) ⊎ (k ≡ i → ⊥)) → slice_index_or (map (λ o. Some o) outcomes ++ Some o ∷ []) k None ≡ slice_index_or all k None
+  go (inl e) = get_or_push (map (λ (o : O). Some o) outcomes) (Some o) None k (length-map outcomes (λ (o : O). Some o) ∙ len ∙ sym e) ∙ sym here ∙ ap (λ (j : ℕ). slice_index_or all j None) (sym e)
+  go (inr ne) = get_or_append_left (map (λ (o : O). Some o) outcomes) (Some o ∷ []) None k (let m = length-map outcomes (λ (o : O). Some o) in omega (arith, m, len, lt, ne)) ∙ same k (omega (arith, lt, ne))
+
+pub map_push : {A B : Type 0} (f : A → B) (xs : List A) (x : A) (bs : List B) → bs ≡ map f xs → bs ++ f x ∷ [] ≡ map f (xs ++ x ∷ [])
+map_push {B = B} f xs x bs e = ap (λ (ys : List B). ys ++ f x ∷ []) e ∙ sym (map-append f xs (x ∷ []))

@@ -1,0 +1,39 @@
+use Rattle.std.specs.Prelude.{ℕ, ◌≡◌}
+use Rattle.std.proofs.Common.{arith}
+use Rattle.std.proofs.lemmas.Grind.{common_steps}
+use Rattle.ir_model.specs.declared.Hop.{Hop}
+use Rattle.ir_model.specs.Network.{node_count}
+use Rattle.ir_links.specs.Ends.{Line}
+use Rattle.ir_epochs.specs.declared.registry.Stamp.{Stamp}
+use Rattle.ir_worker.specs.declared.parcel.Place.{Place}
+use Rattle.ir_control.specs.Wired.{IsWay}
+use Rattle.ir_control.proofs.Rows.{filled_none, filled_all}
+use Rattle.ir_control.proofs.channels.ways_of.Goals as goal
+
+abbrev has_way : Stamp → ℕ → ℕ → ℕ → Hop → Line Place → Type 0
+has_way opening restamps capacity v hop line = IsWay opening restamps capacity v hop.node line
+
+pub loop-u-init : goal.loop-u-init
+loop-u-init c = (
+  grind (arith, common_steps),
+  λ v lt. absurd (omega (arith, lt)),
+  filled_none c.args.topology.now (has_way c.args.opening.now c.args.restamps c.args.capacity) c.new-ways.result.items c.new-ways.ensures.items,
+)
+
+pub returns-clause-ways : goal.returns-clause-ways
+returns-clause-ways c =
+    let least = c.loop-u-test.false in
+    let most = c.loop-u.auto.u-end in
+    let nodes : c.nodes-nodes.result ≡ node_count c.args.topology.now = c.nodes-nodes.ensures.count in
+    filled_all c.args.topology.now (has_way c.args.opening.now c.args.restamps c.args.capacity) c.loop-u.u c.loop-u.ways.items (omega (arith, least, most, nodes)) c.loop-u.invariant.2
+
+pub returns-clause-fits : goal.returns-clause-fits
+returns-clause-fits c =
+    let small = c.loop-u.ways.small in
+    let kept = c.loop-u.ways.ok in
+    let least = c.loop-u-test.false in
+    let most = c.loop-u.auto.u-end in
+    let nodes : c.nodes-nodes.result ≡ node_count c.args.topology.now = c.nodes-nodes.ensures.count in
+    let filled = filled_all c.args.topology.now (has_way c.args.opening.now c.args.restamps c.args.capacity) c.loop-u.u c.loop-u.ways.items (omega (arith, least, most, nodes)) c.loop-u.invariant.2 in
+    let len = filled.len in
+    omega (arith, small, kept, len)

@@ -1,0 +1,18 @@
+use Rattle.std.proofs.Common.{◌≡◌, ◌∙◌, ℕ, List, Bool, ap, sym, subst, take, Some, None, Err}
+use Rattle.std.specs.Prelude.{IfOk}
+use Rattle.ir_model.specs.Network.{Network, restrict}
+use Rattle.ir_core.specs.Meaning.{IsMade}
+use Rattle.ir_control.specs.declared.net.BuildError.TheVariants.{Disconnected}
+use Rattle.ir_control.proofs.controller.plan_up.Goals as goal
+
+pub returns-clause-made : goal.returns-clause-made
+returns-clause-made c =
+    let marks = c.as_slice.ensures.value ∙ c.in-Ok.ensures.marks ∙ ap (λ (n : ℕ). take n c.args.board.now.up) c.links.ensures.count in
+    let over = c.in-Ok-only.ensures ∙ ap (λ (up : List Bool). restrict up c.args.topology.now) marks in
+    subst (λ (net : Network). IfOk c.plan_over.result (λ p. IsMade c.args.kind c.args.root net (Some p))) over c.plan_over.ensures.made
+
+pub returns-clause-disconnected : goal.returns-clause-disconnected
+returns-clause-disconnected c =
+    let marks = c.as_slice.ensures.value ∙ c.in-Ok.ensures.marks ∙ ap (λ (n : ℕ). take n c.args.board.now.up) c.links.ensures.count in
+    let over = c.in-Ok-only.ensures ∙ ap (λ (up : List Bool). restrict up c.args.topology.now) marks in
+    subst (λ (net : Network). c.plan_over.result ≡ Err Disconnected → IsMade c.args.kind c.args.root net None) over c.plan_over.ensures.disconnected

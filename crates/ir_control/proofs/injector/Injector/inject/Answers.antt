@@ -1,0 +1,55 @@
+use Rattle.std.specs.Prelude.{◌≡◌, ◌∷◌, [], ◌++◌, List, ℕ, length, true}
+use Rattle.std.proofs.Common.{subst, sym, ap, ◌∙◌, arith}
+use Rattle.ir_epochs.specs.declared.registry.Stamp.{Stamp}
+use Rattle.std.proofs.lemmas.List.{length-map}
+use Rattle.ir_model.specs.Network.{node_count}
+use Rattle.ir_epochs.specs.Stamps.{knows}
+use Rattle.ir_core.specs.Entry.{fresh}
+use Rattle.ir_worker.specs.Seen.{SeenParcel}
+use Rattle.ir_worker.specs.Account.{head_of}
+use Rattle.ir_control.specs.declared.injector.Accepted.{Accepted}
+use Rattle.ir_control.specs.Heads.{head_at}
+use Rattle.ir_control.specs.Outs.{SentTo}
+use Rattle.ir_control.proofs.Nets.{parcel_of_net}
+use Rattle.ir_control.proofs.Injecting.{numbered_more, account_more, not_refused}
+use Rattle.ir_control.proofs.injector.Injector.inject.Goals as goal
+
+abbrev entry : ℕ → ℕ → ℕ → ℕ → Accepted
+entry id epoch source dest = record { id = id; epoch = epoch; source = source; dest = dest }
+
+abbrev parcel_of : ℕ → Stamp → ℕ → ℕ → SeenParcel
+parcel_of id s source dest = record { journey = fresh id s.epoch source dest; first = s; later = []; next = source }
+
+pub send_to-requires-clause-stamp : goal.send_to-requires-clause-stamp
+send_to-requires-clause-stamp g c =
+    parcel_of_net c.args.self.now.opening c.in-Ok.parcel c.args.self.now.newest (ap (λ (p : SeenParcel). p.first) c.in-Ok.ensures ∙ c.again.ensures) (ap (λ (p : SeenParcel). p.later) c.in-Ok.ensures) c.args.self.now.newest_of
+
+pub invariant_of-self-2-clause-account : goal.invariant_of-self-2-clause-account
+invariant_of-self-2-clause-account g c =
+    let a : Accepted = entry c.len-count.result c.epoch-epoch.result c.args.source c.args.dest in
+    account_more c.args.self.now.outs.items c.send_to.new.outs.items c.args.source c.in-Ok.parcel c.args.self.now.accepted.items c.push_reserved.new.self.items a
+    c.if-not-send_to.ensures.sent (c.push_reserved.ensures.items ∙ ap (λ (xs : List Accepted). xs ++ a ∷ []) c.reserve.ensures.items)
+    (ap (λ (p : SeenParcel). head_of p.journey) c.in-Ok.ensures
+    ∙ ap (λ (e : ℕ). head_at (entry c.len-count.result e c.args.source c.args.dest)) (ap (λ (s : Stamp). s.epoch) c.again.ensures ∙ sym c.epoch-epoch.ensures.value))
+    c.args.self.now.account
+
+pub invariant_of-self-2-clause-numbered : goal.invariant_of-self-2-clause-numbered
+invariant_of-self-2-clause-numbered g c =
+    let a : Accepted = entry c.len-count.result c.epoch-epoch.result c.args.source c.args.dest in
+    numbered_more c.args.self.now.accepted.items c.push_reserved.new.self.items a
+    (c.push_reserved.ensures.items ∙ ap (λ (xs : List Accepted). xs ++ a ∷ []) c.reserve.ensures.items)
+    (let n = c.len-count.ensures in omega (arith, n)) c.args.self.now.numbered
+
+pub returns-clause-answer : goal.returns-clause-answer
+returns-clause-answer g c =
+    let nodes : length c.args.self.now.outs.items ≡ node_count (knows c.args.self.now.opening).network = sym (length-map c.args.self.now.outs.items _) ∙ c.args.self.now.ends.count in
+    let a : Accepted = entry c.len-count.result c.epoch-epoch.result c.args.source c.args.dest in (
+      not_refused (node_count (knows c.args.self.now.opening).network) c.args.self.now.max_packets (length c.args.self.now.accepted.items) c.args.source c.args.dest (omega (arith, nodes)) (omega (arith, nodes)) (omega arith),
+      record {
+        number = (let n = c.len-count.ensures in omega (arith, n));
+        accepted = c.push_reserved.ensures.items ∙ ap (λ (xs : List Accepted). xs ++ a ∷ []) c.reserve.ensures.items
+            ∙ ap (λ (e : ℕ). c.args.self.now.accepted.items ++ entry c.len-count.result e c.args.source c.args.dest ∷ []) c.epoch-epoch.ensures.value;
+        sent = subst (λ (x : SeenParcel). SentTo c.args.self.now.outs.items c.send_to.new.outs.items c.args.source x true)
+            (c.in-Ok.ensures ∙ ap (λ (s : Stamp). parcel_of c.len-count.result s c.args.source c.args.dest) c.again.ensures) c.if-not-send_to.ensures.sent;
+      },
+    )

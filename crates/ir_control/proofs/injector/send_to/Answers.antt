@@ -1,0 +1,18 @@
+use Rattle.ir_control.proofs.Nets.{end_place, goes_in, lines_kept, sent_by, not_sent_by}
+use Rattle.ir_control.proofs.injector.send_to.Goals as goal
+
+pub send-requires-after_bounds : goal.send-requires-after_bounds
+send-requires-after_bounds g c κs within =
+    goes_in c.args.opening.now c.args.restamps c.args.node c.args.parcel _ (end_place c.args.opening.now c.args.restamps c.args.outs.now.items c.args.node c.index_mut-out.result.now c.requires.ends c.requires.node c.index_mut-out.ensures.value)
+    c.requires.next c.requires.hops c.requires.stamp c.requires.fresh
+
+pub returns-clause-sent : goal.returns-clause-sent
+returns-clause-sent g c =
+    sent_by c.args.outs.now.items c.args.node c.index_mut-out.result.now _ c.args.parcel c.requires.node c.index_mut-out.ensures.value c.in-Ok.ensures.sent
+
+pub returns-clause-lines : goal.returns-clause-lines
+returns-clause-lines g c = lines_kept c.args.outs.now.items c.args.node _ _ c.index_mut-out.ensures.value c.in-Ok.ensures.line
+
+pub returns-in-Err-clause-sent : goal.returns-in-Err-clause-sent
+returns-in-Err-clause-sent g c =
+    not_sent_by c.args.outs.now.items c.args.node c.index_mut-out.result.now _ c.args.parcel c.requires.node c.index_mut-out.ensures.value c.in-Err.ensures.sent.1 c.in-Err.ensures.sent.2

@@ -1,0 +1,39 @@
+-- Slots that hold something or nothing, and what they weigh.
+use Rattle.std.specs.Prelude.{◌≡◌, ℕ, List, Option, Some, None, cond, sum_by, slice_index_or, ltb, ◌==◌}
+use Rattle.ir_links.specs.Ends.{Sending, Taking}
+
+-- things weighed, whatever each weighs: so lists are told apart by how often each thing stands in them
+abbrev pub slot_weight : {X : Type 0} → (X → ℕ) → Option X → ℕ
+slot_weight w None = 0
+slot_weight w (Some x) = w x
+
+module _ {P T : Type 0} where
+  abbrev pub slot_sent : (T → ℕ) → Option (Sending P T) → ℕ
+  slot_sent w None = 0
+  slot_sent w (Some s) = sum_by w s.sent
+
+  abbrev pub times_in_slots : (T → ℕ) → List (Option (Sending P T)) → ℕ
+  times_in_slots w slots = sum_by (slot_sent w) slots
+
+  abbrev pub weight_taken : (T → ℕ) → List (Taking P T) → ℕ
+  weight_taken w takers = sum_by (λ t. sum_by w t.taken) takers
+
+-- 1 where the thing has this number
+abbrev pub hit : {X : Type 0} → (X → ℕ) → ℕ → X → ℕ
+hit key i x = cond (key x == i) 1 0
+
+-- 1 for a number below this one
+abbrev pub once : ℕ → ℕ → ℕ
+once m i = cond (ltb i m) 1 0
+
+-- a slot that is not empty has what has its number
+abbrev pub IsAt : {X : Type 0} → (X → ℕ) → ℕ → Option X → Type 0
+IsAt key i None = Unit {0}
+IsAt key i (Some x) = key x ≡ i
+
+abbrev pub AllAt : {X : Type 0} → (X → ℕ) → List (Option X) → Type 0
+AllAt key slots = (k : ℕ) → IsAt key k (slice_index_or slots k None)
+
+-- what stands in a slot is of this kind
+abbrev pub AllIn : {X : Type 0} → (X → Type 0) → List (Option X) → Type 0
+AllIn {X} P slots = (k : ℕ) (x : X) → slice_index_or slots k None ≡ Some x → P x

@@ -1,0 +1,25 @@
+-- What a report tells of a packet.
+use Rattle.std.specs.Prelude.{ℕ, List, All}
+use Rattle.ir_core.specs.Journey.{Journey}
+use Rattle.ir_epochs.specs.declared.registry.Stamp.{Stamp}
+use Rattle.ir_worker.specs.declared.parcel.Outcome.{Outcome}
+use Rattle.ir_worker.specs.Seen.{SeenParcel, IsOfNet, stamps_of}
+
+-- its record, its first stamp and those of its later segments
+pub record Told : Type 0 where
+  pub journey : Journey
+  pub first : Stamp
+  pub later : List Stamp
+
+abbrev pub told : Outcome → Told
+told o = record { journey = o.packet; first = o.stamp; later = o.later.items }
+
+abbrev pub told_left : SeenParcel → Told
+told_left x = record { journey = x.journey; first = x.first; later = x.later }
+
+abbrev pub outcome_number : Outcome → ℕ
+outcome_number o = o.packet.id
+
+-- all stamps of an outcome are of the net
+abbrev pub IsOutcomeIn : Stamp → Outcome → Type 0
+IsOutcomeIn opening o = ∥ All (λ s. IsOfNet opening s) (stamps_of o.stamp o.later.items) ∥₁

@@ -1,0 +1,97 @@
+//! The channels of a net.
+ghost use Rattle.std.specs.Prelude.{◌≡◌, ℕ, ◌+◌, ◌^◌, ◌<◌, ◌≤◌, Some, IfOk, length, slice_index};
+ghost use Rattle.ir_model.specs.Network.{node_count};
+ghost use Rattle.ir_control.specs.Places.{offset, way_count, IsFilled, IsFilledTo};
+ghost use Rattle.ir_control.specs.Wired.{IsWay, AreInboxes};
+
+use ir_epochs::Stamp;
+use ir_links::Channel;
+use ir_tables::Topology;
+use ir_worker::{Parcel, Place};
+use std::alloc::{AllocError, Global};
+
+// A channel between two nodes.
+fn channel(
+    alloc: Global,
+    opening: &Stamp,
+    restamps: u8,
+    capacity: usize,
+    from: u16,
+    to: u16,
+) -> Result<Channel<Parcel>, AllocError>
+    requires { 0 < capacity }
+    ensures { IfOk result (λ line. IsWay opening.now restamps capacity from to line) }
+{
+    let place = Place {
+        from,
+        to,
+        restamps,
+        opening: opening.again(),
+    };
+    Channel::new(alloc, capacity, place)
+}
+
+/// An inbox for each node.
+pub fn inboxes_of(
+    alloc: Global,
+    topology: &Topology,
+    opening: &Stamp,
+    restamps: u8,
+    capacity: usize,
+) -> Result<Vec<Channel<Parcel>>, AllocError>
+    requires { 0 < capacity }
+    ensures { IfOk result (λ inboxes. AreInboxes topology.now opening.now restamps capacity inboxes.items) }
+{
+    let nodes = topology.nodes();
+    let mut inboxes = Vec::with_capacity(alloc, nodes)?;
+    for u in 0..nodes {
+        inboxes.push(channel(alloc, opening, restamps, capacity, u as u16, u as u16)?)?;
+    }
+    Ok(inboxes)
+}
+
+// The ways out of a node come behind those of the nodes before it.
+fn add_ways(
+    alloc: Global,
+    topology: &Topology,
+    opening: &Stamp,
+    restamps: u8,
+    capacity: usize,
+    u: u16,
+    ways: &mut Vec<Channel<Parcel>>,
+) -> Result<(), AllocError>
+    requires capacity { 0 < capacity }
+    requires node { u < node_count topology.now }
+    requires before { IsFilledTo topology.now (λ v hop line. IsWay opening.now restamps capacity v hop.node line) u 0 ways.old.items }
+    ensures { IfOk result (λ _. IsFilledTo topology.now (λ v hop line. IsWay opening.now restamps capacity v hop.node line) (u + 1) 0 ways.new.items) }
+{
+    for hop in topology.ports(u as usize) {
+        ways.push(channel(alloc, opening, restamps, capacity, u, hop.node)?)?;
+    }
+    Ok(())
+}
+
+/// For each port the way out of it, in the order of the ports' places, and the place of each node's first port.
+pub fn ways_of(
+    alloc: Global,
+    topology: &Topology,
+    opening: &Stamp,
+    restamps: u8,
+    capacity: usize,
+) -> Result<(Vec<Channel<Parcel>>, Vec<usize>), AllocError>
+    requires { 0 < capacity }
+    ensures ways { IfOk result (λ made. IsFilled topology.now (λ v hop line. IsWay opening.now restamps capacity v hop.node line) made.0.items) }
+    ensures offsets { IfOk result (λ made. (length made.1.items ≡ node_count topology.now) × ((v : ℕ) → v < node_count topology.now → slice_index made.1.items v ≡ offset topology.now v)) }
+    ensures fits { IfOk result (λ _. way_count topology.now < 2 ^ 64) }
+{
+    let nodes = topology.nodes();
+    let mut ways = Vec::new(alloc);
+    let mut offsets = Vec::with_capacity(alloc, nodes)?;
+    for u in 0..nodes {
+        offsets.push(ways.len())?;
+        add_ways(
+            alloc, topology, opening, restamps, capacity, u as u16, &mut ways,
+        )?;
+    }
+    Ok((ways, offsets))
+}

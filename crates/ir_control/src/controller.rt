@@ -1,0 +1,316 @@
+//! The controller: it registers plans and changes the board.
+ghost use Rattle.std.specs.Prelude.{◌≡◌, ◌⊎◌, ◌+◌, ◌<◌, ◌≤◌, ◌∷◌, ◌++◌, [], IfOk, MatchResult, Some, None, Err, length, take};
+ghost use Rattle.std.specs.Arc.{arc_value};
+ghost use Rattle.ir_model.specs.Network.{node_count, restrict};
+ghost use Rattle.ir_model.specs.Walk.{IsDisconnected};
+ghost use Rattle.ir_core.specs.declared.TheConstants.{MAX_LINKS, MAX_EPOCHS};
+ghost use Rattle.ir_core.specs.Meaning.{IsMade};
+ghost use Rattle.ir_epochs.specs.Stamps.{IsOf, knows, registry_name};
+ghost use Rattle.ir_epochs.specs.Entries.{registry_of, network_of, links_of, board_of, changed, Fits};
+ghost use Rattle.ir_epochs.specs.declared.entry.Entry.TheVariants.{Opened, Changed};
+ghost use Rattle.ir_core.specs.declared.TheConstants.{MAX_CHANGES};
+ghost use Rattle.ir_epochs.specs.Handles.{published, writer_board, told, receipt_board};
+
+use crate::net::{BuildError, plan_over};
+use ir_core::{Board, MAX_CHANGES, MAX_EPOCHS};
+use ir_epochs::{BoardWriter, Change, Receipt, RegisterError, Registry, Stamp};
+use ir_model::Kind;
+use ir_plan::Plan;
+use ir_tables::Topology;
+use std::alloc::Global;
+use std::sync::{Arc, Wait};
+
+/// Why no epoch was installed.
+#[derive(Clone, Copy, PartialEq, Eq, Debug)]
+pub enum InstallError {
+    /// The root is no node.
+    NoNode,
+    /// Each cell of the registry is used.
+    EpochsFull,
+    /// Over the links that are up some node has no walk to some node.
+    Disconnected,
+    /// A growth was refused.
+    NoMemory,
+    TooManyChanges,
+    /// A fresh cell of the registry refused its plan.
+    Used,
+}
+
+/// Why the board was not changed.
+#[derive(Clone, Copy, PartialEq, Eq, Debug)]
+pub enum ChangeError {
+    /// No such epoch was installed.
+    NoEpoch,
+    /// The topology has no such link.
+    NoLink,
+    /// The board says so already.
+    Same,
+    /// A growth was refused.
+    NoMemory,
+    TooManyChanges,
+}
+
+impl InstallError {
+    ghost use Rattle.ir_control.specs.Changes.{install_code};
+
+    /// Its number: 1 NoNode, 2 EpochsFull, 3 Disconnected, 4 NoMemory, 5 TooManyChanges, 6 Used.
+    pub fn code(self) -> u8
+        ensures { result ≡ install_code self }
+    {
+        match self {
+            InstallError::NoNode => 1,
+            InstallError::EpochsFull => 2,
+            InstallError::Disconnected => 3,
+            InstallError::NoMemory => 4,
+            InstallError::TooManyChanges => 5,
+            InstallError::Used => 6,
+        }
+    }
+}
+
+impl ChangeError {
+    ghost use Rattle.ir_control.specs.Changes.{change_code};
+
+    /// Its number: 1 NoEpoch or NoLink, 2 Same, 3 NoMemory, 4 TooManyChanges.
+    pub fn code(self) -> u8
+        ensures { result ≡ change_code self }
+    {
+        match self {
+            ChangeError::NoEpoch | ChangeError::NoLink => 1,
+            ChangeError::Same => 2,
+            ChangeError::NoMemory => 3,
+            ChangeError::TooManyChanges => 4,
+        }
+    }
+}
+
+/// The one that changes the board of a net, and registers the plans of its epochs. `used` is how many cells of the
+/// registry are used up: an epoch whose plan was registered and not published stays left out.
+#[derive(Drop)]
+pub struct Controller<R: Wait + Drop> {
+    alloc: Global,
+    registry: Arc<Registry, Global>,
+    opening: Stamp,
+    writer: BoardWriter<R>,
+    used: u32,
+    ghost of_registry: { IsOf (arc_value registry) opening },
+    ghost registry_is: { registry_of (published writer) ≡ registry_name opening },
+    ghost network_is: { network_of (published writer) ≡ (knows opening).network },
+    ghost links_are: { links_of (published writer) ≡ length (knows opening).network.links },
+    ghost few_links: { length (knows opening).network.links ≤ MAX_LINKS },
+    ghost used_up: { ((board_of (published writer)).current ≤ used) × (used ≤ MAX_EPOCHS) },
+}
+
+// The plan of this kind and root over the links that are up in a board.
+fn plan_up(
+    alloc: Global,
+    topology: &Topology,
+    board: &Board,
+    kind: Kind,
+    root: u16,
+) -> Result<Plan, BuildError>
+    requires root { root < node_count topology.now }
+    requires links { length topology.now.links ≤ MAX_LINKS }
+    ensures made { IfOk result (λ p. IsMade kind root (restrict (take (length topology.now.links) board.now.up) topology.now) (Some p)) }
+    ensures disconnected { result ≡ Err BuildError.Disconnected → IsMade kind root (restrict (take (length topology.now.links) board.now.up) topology.now) None }
+{
+    let Ok(up) = board.marks(alloc, topology.links()) else {
+        return Err(BuildError::NoMemory);
+    };
+    let Ok(over) = topology.only(alloc, up.as_slice()) else {
+        return Err(BuildError::NoMemory);
+    };
+    plan_over(alloc, over, kind, root)
+}
+
+impl<R: Wait + Drop> Controller<R> {
+    ghost use Rattle.ir_control.specs.Changes.{retire_refused, mark_refused, install_refusal, network_up, IsChangeAnswer, IsInstallAnswer};
+    ghost use Rattle.ir_epochs.specs.declared.entry.Change.TheVariants.{Retire, Down, Up};
+    ghost use Rattle.std.specs.Prelude.{true, false};
+
+    // The controller of a board that was just opened over the stamp of epoch 1.
+    pub(crate) fn new(
+        alloc: Global,
+        registry: Arc<Registry, Global>,
+        opening: &Stamp,
+        writer: BoardWriter<R>,
+    ) -> Controller<R>
+        requires registry { IsOf (arc_value registry) opening.now }
+        requires board { published writer ≡ Opened (length (knows opening.now).network.links) opening.now ∷ [] }
+        requires few_links { length (knows opening.now).network.links ≤ MAX_LINKS }
+        ensures { (result.opening ≡ opening.now) × (result.registry ≡ registry) × (result.writer ≡ writer) × (result.used ≡ 1) }
+    {
+        Controller {
+            alloc,
+            registry,
+            opening: opening.again(),
+            writer,
+            used: 1,
+        }
+    }
+
+    /// The board as it is.
+    pub fn board(&self) -> Board
+        ensures { result ≡ board_of (published self.now.writer) }
+    {
+        self.writer.board()
+    }
+
+    /// Publishes one change, for which there is room.
+    fn change(&mut self, change: Change) -> Result<Receipt, ChangeError>
+        requires version { (board_of (published self.old.writer)).version < MAX_CHANGES }
+        requires fits { Fits (published self.old.writer) change }
+        requires epochs { (changed (board_of (published self.old.writer)) change).current ≤ self.old.used }
+        ensures answer { MatchResult result
+            (λ t. (published self.new.writer ≡ published self.old.writer ++ Changed change ∷ []) × (told t ≡ published self.new.writer))
+            (λ e. (published self.new.writer ≡ published self.old.writer) × (e ≡ ChangeError.NoMemory)) }
+        ensures same { (self.new.opening ≡ self.old.opening) × (self.new.used ≡ self.old.used) × (self.new.registry ≡ self.old.registry) }
+        ensures board { writer_board self.new.writer ≡ writer_board self.old.writer }
+        ensures receipt { IfOk result (λ t. receipt_board t ≡ writer_board self.old.writer) }
+    {
+        match self.writer.change(change) {
+            Ok(receipt) => Ok(receipt),
+            Err(_) => Err(ChangeError::NoMemory),
+        }
+    }
+
+    /// Retires the epochs below a floor. Refused are, in this order: a floor above the current epoch (`NoEpoch`), one
+    /// that is not above the present floor (`Same`), a change too many, want of memory.
+    pub fn retire(&mut self, floor: u32) -> Result<Receipt, ChangeError>
+        ensures { IsChangeAnswer (retire_refused (board_of (published self.old.writer)) floor) (Retire floor) self.old self.new result }
+    {
+        let board = self.writer.board();
+        if board.current() < floor {
+            return Err(ChangeError::NoEpoch);
+        }
+        if floor <= board.floor() {
+            return Err(ChangeError::Same);
+        }
+        if board.version() >= MAX_CHANGES {
+            return Err(ChangeError::TooManyChanges);
+        }
+        self.change(Change::Retire(floor))
+    }
+
+    /// Marks a link as down. Refused are, in this order: a number that is no link, a link that is down, a change too
+    /// many, want of memory.
+    pub fn down(&mut self, link: u16) -> Result<Receipt, ChangeError>
+        ensures { IsChangeAnswer (mark_refused (length (knows self.old.opening).network.links) (board_of (published self.old.writer)) link false) (Down link) self.old self.new result }
+    {
+        if let Some(error) = self.mark_refusal(link, false) {
+            return Err(error);
+        }
+        self.change(Change::Down(link))
+    }
+
+    /// Marks a link as up. Refused are, in this order: a number that is no link, a link that is up, a change too many,
+    /// want of memory.
+    pub fn up(&mut self, link: u16) -> Result<Receipt, ChangeError>
+        ensures { IsChangeAnswer (mark_refused (length (knows self.old.opening).network.links) (board_of (published self.old.writer)) link true) (Up link) self.old self.new result }
+    {
+        if let Some(error) = self.mark_refusal(link, true) {
+            return Err(error);
+        }
+        self.change(Change::Up(link))
+    }
+
+    // Why a link is not marked.
+    fn mark_refusal(&self, link: u16, up: bool) -> Option<ChangeError>
+        ensures { result ≡ mark_refused (length (knows self.now.opening).network.links) (board_of (published self.now.writer)) link up }
+    {
+        let topology = self.registry.plan(&self.opening).topology();
+        if link as usize >= topology.links() {
+            return Some(ChangeError::NoLink);
+        }
+        let board = self.writer.board();
+        if board.is_up(link) == up {
+            return Some(ChangeError::Same);
+        }
+        if board.version() >= MAX_CHANGES {
+            return Some(ChangeError::TooManyChanges);
+        }
+        None
+    }
+
+    // Why an epoch is not installed, before any plan is built.
+    fn install_refusal(&self, root: u16) -> Option<InstallError>
+        ensures { result ≡ install_refusal self.now root }
+    {
+        let topology = self.registry.plan(&self.opening).topology();
+        if root as usize >= topology.nodes() {
+            return Some(InstallError::NoNode);
+        }
+        if self.used as usize >= MAX_EPOCHS {
+            return Some(InstallError::EpochsFull);
+        }
+        let board = self.writer.board();
+        if board.version() >= MAX_CHANGES {
+            return Some(InstallError::TooManyChanges);
+        }
+        None
+    }
+
+    // The plan of this kind and root over the links that are up.
+    fn plan(&self, kind: Kind, root: u16) -> Result<Plan, InstallError>
+        requires { root < node_count (knows self.now.opening).network }
+        ensures { MatchResult result
+            (λ p. IsMade kind root (network_up self.now) (Some p))
+            (λ e. ((e ≡ InstallError.Disconnected) × IsDisconnected (network_up self.now)) ⊎ (e ≡ InstallError.NoMemory)) }
+    {
+        let topology = self.registry.plan(&self.opening).topology();
+        let board = self.writer.board();
+        match plan_up(self.alloc, topology, &board, kind, root) {
+            Ok(plan) => Ok(plan),
+            Err(BuildError::Disconnected) => Err(InstallError::Disconnected),
+            Err(BuildError::NoMemory) => Err(InstallError::NoMemory),
+        }
+    }
+
+    /// Builds a plan of this kind and root over the links that are up, registers it in the next cell, and makes it the
+    /// current epoch. The receipt's stamp knows that plan.
+    ///
+    /// Refused are, in this order: a root that is no node, no cell left, a change too many, some node without a walk to
+    /// some node, want of memory. After `Used`, or after want of memory once the plan was registered, the cell is used
+    /// up, and the next install takes the next number.
+    pub fn install(&mut self, kind: Kind, root: u16) -> Result<Receipt, InstallError>
+        ensures { IsInstallAnswer kind root self.old self.new result }
+    {
+        match self.install_refusal(root) {
+            Some(error) => return Err(error),
+            None => {}
+        }
+        let plan = match self.plan(kind, root) {
+            Ok(plan) => plan,
+            Err(error) => return Err(error),
+        };
+        let epoch = self.used + 1;
+        let stamp = match register(&self.registry, epoch, plan) {
+            Ok(stamp) => stamp,
+            Err(error) => {
+                if error == InstallError::Used {
+                    self.used = epoch;
+                }
+                return Err(error);
+            }
+        };
+        self.used = epoch;
+        match self.change(Change::Install(stamp)) {
+            Ok(receipt) => Ok(receipt),
+            Err(_) => Err(InstallError::NoMemory),
+        }
+    }
+}
+
+// Sets the cell of an epoch.
+fn register(registry: &Registry, epoch: u32, plan: Plan) -> Result<Stamp, InstallError>
+    requires { (1 ≤ epoch) × (epoch ≤ MAX_EPOCHS) }
+    ensures { MatchResult result
+        (λ s. IsOf registry.now s × (s.epoch ≡ epoch) × (knows s ≡ plan))
+        (λ e. (e ≡ InstallError.NoMemory) ⊎ (e ≡ InstallError.Used)) }
+{
+    match registry.register(epoch, plan) {
+        Ok(stamp) => Ok(stamp),
+        Err((RegisterError::NoMemory, _)) => Err(InstallError::NoMemory),
+        Err((RegisterError::Used, _)) => Err(InstallError::Used),
+    }
+}

@@ -1,0 +1,39 @@
+//! What is left in all channels of a net.
+ghost use Rattle.std.specs.Prelude.{◌≡◌, ◌≤◌, ◌+◌, ℕ, All, sum_by, vec_len, vec_capacity};
+ghost use Rattle.ir_worker.specs.Seen.{SeenParcel};
+ghost use Rattle.ir_control.specs.Whole.{IsParcelOf};
+ghost use Rattle.ir_control.specs.Slots.{times_in_slots, weight_taken};
+ghost use Rattle.ir_control.specs.Pairs.{ArePaired};
+
+use crate::settling::settle_all;
+use ir_epochs::Stamp;
+use ir_links::{Sender, Taker};
+use ir_worker::Parcel;
+use std::sync::Wait;
+
+/// Settles the inboxes, whose senders are the injector's, and then the ways. What was sent is what was taken and what is
+/// left, whatever each parcel weighs.
+pub fn gather<R: Wait>(
+    rt: &R,
+    opening: &Stamp,
+    entries: &[usize],
+    injected: Vec<Option<Sender<Parcel>>>,
+    inboxes: Vec<Taker<Parcel>>,
+    peers: &[usize],
+    senders: Vec<Option<Sender<Parcel>>>,
+    takers: Vec<Taker<Parcel>>,
+    left: &mut Vec<Parcel>,
+)
+    requires entries { ArePaired entries.now injected.items inboxes.items }
+    requires ways { ArePaired peers.now senders.items takers.items }
+    requires places_in { All (λ t. t.line.place.opening ≡ opening.now) inboxes.items }
+    requires places { All (λ t. t.line.place.opening ≡ opening.now) takers.items }
+    requires of_net { All (λ x. IsParcelOf opening.now x) left.old.items }
+    requires room { vec_len left.old + (sum_by (λ t. t.line.capacity) inboxes.items + sum_by (λ t. t.line.capacity) takers.items) ≤ vec_capacity left.old }
+    ensures account { (w : SeenParcel → ℕ) → (times_in_slots w injected.items + times_in_slots w senders.items) + sum_by w left.old.items
+        ≡ (weight_taken w inboxes.items + weight_taken w takers.items) + sum_by w left.new.items }
+    ensures of_net { All (λ x. IsParcelOf opening.now x) left.new.items }
+{
+    settle_all(rt, opening, entries, injected, inboxes, left);
+    settle_all(rt, opening, peers, senders, takers, left);
+}

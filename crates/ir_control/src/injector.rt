@@ -1,0 +1,231 @@
+//! The injector: it puts packets into the nodes' inboxes and keeps what was accepted.
+ghost use Rattle.std.specs.Prelude.{◌≡◌, ℕ, Bool, All, ◌+◌, ◌<◌, ◌≤◌, [], ◌∷◌, ◌++◌, IfOk, MatchResult, Some, None, length, slice_get};
+ghost use Rattle.std.specs.Arc.{arc_value};
+ghost use Rattle.ir_model.specs.Network.{node_count};
+ghost use Rattle.ir_core.specs.declared.TheConstants.{MAX_NODES, MAX_PACKETS};
+ghost use Rattle.ir_epochs.specs.Stamps.{IsOf, knows, registry_name};
+ghost use Rattle.ir_epochs.specs.Entries.{registry_of, network_of, installed_by};
+ghost use Rattle.ir_epochs.specs.Handles.{told};
+ghost use Rattle.ir_worker.specs.Seen.{IsOfNet};
+ghost use Rattle.ir_control.specs.Whole.{IsParcelOf};
+ghost use Rattle.ir_worker.specs.Account.{Head, times, times_sent, lines_out};
+ghost use Rattle.ir_control.specs.Heads.{times_injected, AreNumbered};
+ghost use Rattle.ir_control.specs.Outs.{AreEntryEnds, SentTo, WasFullAt};
+
+use ir_epochs::{Receipt, Registry, Stamp};
+use ir_links::Sender;
+use ir_worker::Parcel;
+use std::alloc::Global;
+use std::sync::{Arc, Wait};
+
+/// A packet that was accepted: its number, the epoch that it was stamped with, and its ends.
+#[derive(Clone, Copy, PartialEq, Eq, Debug)]
+pub struct Accepted {
+    pub id: u32,
+    pub epoch: u32,
+    pub source: u16,
+    pub dest: u16,
+}
+
+/// Why a packet was not accepted.
+#[derive(Clone, Copy, PartialEq, Eq, Debug)]
+pub enum InjectError {
+    /// The source or the destination is no node.
+    NoNode,
+    TooManyPackets,
+    /// A growth was refused.
+    NoMemory,
+    /// The inbox of the source had no room at one moment.
+    InboxFull,
+}
+
+impl InjectError {
+    ghost use Rattle.ir_control.specs.Refusals.{inject_code};
+
+    /// Its number: 1 NoNode, 2 TooManyPackets, 3 NoMemory, 4 InboxFull.
+    pub fn code(self) -> u8
+        ensures { result ≡ inject_code self }
+    {
+        match self {
+            InjectError::NoNode => 1,
+            InjectError::TooManyPackets => 2,
+            InjectError::NoMemory => 3,
+            InjectError::InboxFull => 4,
+        }
+    }
+}
+
+/// The injector of a net. It stamps each packet with the greatest epoch whose receipt it learnt, epoch 1 at first, and
+/// keeps a list of the packets that were accepted.
+#[derive(Drop)]
+pub struct Injector {
+    alloc: Global,
+    registry: Arc<Registry, Global>,
+    opening: Stamp,
+    newest: Stamp,
+    restamps: u8,
+    max_packets: usize,
+    pub(crate) outs: Vec<Sender<Parcel>>,
+    pub(crate) accepted: Vec<Accepted>,
+    ghost of_registry: { IsOf (arc_value registry) opening },
+    ghost newest_of: { IsOfNet opening newest },
+    ghost few_nodes: { node_count (knows opening).network ≤ MAX_NODES },
+    ghost few_packets: { max_packets ≤ MAX_PACKETS },
+    ghost counted: { length accepted.items ≤ max_packets },
+    ghost ends: { AreEntryEnds opening restamps (lines_out outs.items) },
+    ghost numbered: { AreNumbered accepted.items },
+    ghost account: { (p : Head → Bool) → times_sent p outs.items ≡ times_injected p accepted.items },
+}
+
+// Puts a parcel into an inbox, unless it has no room.
+fn send_to<R: Wait>(
+    rt: &R,
+    opening: &Stamp,
+    restamps: u8,
+    outs: &mut Vec<Sender<Parcel>>,
+    node: usize,
+    parcel: Parcel,
+) -> bool
+    requires node { node < length outs.old.items }
+    requires ends { AreEntryEnds opening.now restamps (lines_out outs.old.items) }
+    requires next { parcel.next ≡ node }
+    requires hops { parcel.journey.hops ≡ node ∷ [] }
+    requires stamp { IsParcelOf opening.now parcel }
+    requires fresh { parcel.journey.restamps ≡ [] }
+    ensures sent { SentTo outs.old.items outs.new.items node parcel result }
+    ensures lines { lines_out outs.new.items ≡ lines_out outs.old.items }
+{
+    let _ = opening;
+    let _ = restamps;
+    let out = &mut outs[node];
+    match out.send(rt, parcel) {
+        Ok(()) => {}
+        Err(_) => return false,
+    }
+    true
+}
+
+impl Injector {
+    ghost use Rattle.ir_control.specs.Accepted.{IsInjected, stamp_after_learning};
+    ghost use Rattle.ir_control.specs.Refusals.{inject_refused, IsInjectRefusal};
+
+    // An injector that accepted nothing, and learnt epoch 1.
+    pub(crate) fn new(
+        alloc: Global,
+        registry: Arc<Registry, Global>,
+        opening: &Stamp,
+        restamps: u8,
+        max_packets: usize,
+        outs: Vec<Sender<Parcel>>,
+    ) -> Injector
+        requires registry { IsOf (arc_value registry) opening.now }
+        requires few_nodes { node_count (knows opening.now).network ≤ MAX_NODES }
+        requires few_packets { max_packets ≤ MAX_PACKETS }
+        requires ends { AreEntryEnds opening.now restamps (lines_out outs.items) }
+        requires fresh { All (λ s. s.sent ≡ []) outs.items }
+        ensures { (result.opening ≡ opening.now) × (result.newest ≡ opening.now) × (result.max_packets ≡ max_packets) × (result.outs ≡ outs) × (result.accepted.items ≡ []) }
+    {
+        Injector {
+            alloc,
+            registry,
+            opening: opening.again(),
+            newest: opening.again(),
+            restamps,
+            max_packets,
+            outs,
+            accepted: Vec::new(alloc),
+        }
+    }
+
+    /// How many packets were accepted.
+    pub fn count(&self) -> u32
+        ensures { result ≡ length self.now.accepted.items }
+    {
+        self.accepted.len() as u32
+    }
+
+    /// From now on packets are stamped with the receipt's epoch, if it is an install's and a later one.
+    pub fn learn(&mut self, receipt: &Receipt)
+        requires registry { registry_of (told receipt.now) ≡ registry_name self.old.opening }
+        requires network { network_of (told receipt.now) ≡ (knows self.old.opening).network }
+        ensures newest { self.new.newest ≡ stamp_after_learning self.old.newest (installed_by (told receipt.now)) }
+        ensures same { (self.new.opening ≡ self.old.opening) × (self.new.outs ≡ self.old.outs) × (self.new.accepted ≡ self.old.accepted) × (self.new.max_packets ≡ self.old.max_packets) }
+    {
+        if let Some(stamp) = receipt.stamp()
+            && self.newest.epoch() < stamp.epoch()
+        {
+            self.newest = stamp.again();
+        }
+    }
+
+    /// Puts a packet from a source to a destination into the source's inbox, and answers its number: how many packets
+    /// were accepted before it. Its stamp is the newest one that was learnt.
+    ///
+    /// Refused are, in this order: a number that is no node, a packet above the net's limit, want of memory, a full
+    /// inbox. A refusal changes nothing.
+    pub fn inject<R: Wait>(&mut self, rt: &R, source: u16, dest: u16) -> Result<u32, InjectError>
+        ensures answer { MatchResult result
+            (λ id. (inject_refused (node_count (knows self.old.opening).network) self.old.max_packets (length self.old.accepted.items) source dest ≡ None) × IsInjected self.old self.new id source dest)
+            (λ e. IsInjectRefusal self.old source dest e × (self.new.outs.items ≡ self.old.outs.items) × (self.new.accepted.items ≡ self.old.accepted.items)) }
+        ensures same { (self.new.opening ≡ self.old.opening) × (self.new.newest ≡ self.old.newest) × (self.new.max_packets ≡ self.old.max_packets) }
+        ensures lines { lines_out self.new.outs.items ≡ lines_out self.old.outs.items }
+    {
+        let nodes = self.outs.len();
+        if source as usize >= nodes || dest as usize >= nodes {
+            return Err(InjectError::NoNode);
+        }
+        let count = self.accepted.len();
+        if count >= self.max_packets {
+            return Err(InjectError::TooManyPackets);
+        }
+        let id = count as u32;
+        let epoch = self.newest.epoch();
+        let Ok(parcel) = Parcel::start(
+            self.alloc,
+            &self.registry,
+            id,
+            self.newest.again(),
+            source,
+            dest,
+        ) else {
+            return Err(InjectError::NoMemory);
+        };
+        let Ok(()) = self.accepted.reserve(1) else {
+            return Err(InjectError::NoMemory);
+        };
+        if !send_to(
+            rt,
+            &self.opening,
+            self.restamps,
+            &mut self.outs,
+            source as usize,
+            parcel,
+        ) {
+            return Err(InjectError::InboxFull);
+        }
+        self.accepted.push_reserved(Accepted {
+            id,
+            epoch,
+            source,
+            dest,
+        });
+        Ok(id)
+    }
+
+    // Its ends.
+    pub(crate) fn into_outs(self) -> Vec<Sender<Parcel>>
+        ensures { result ≡ self.outs }
+    {
+        let Injector {
+            alloc: _,
+            registry: _,
+            opening: _,
+            newest: _,
+            restamps: _,
+            max_packets: _,
+            outs,
+            accepted: _,
+        } = self;
+        outs
+    }
+}

@@ -1,0 +1,88 @@
+//! What the nodes settled and what is left in the channels.
+ghost use Rattle.std.specs.Prelude.{◌≡◌, ◌≤◌, ◌+◌, ◌*◌, [], ℕ, All, IfOk, length, sum_by, vec_capacity};
+ghost use Rattle.ir_model.specs.Network.{node_count};
+ghost use Rattle.ir_worker.specs.Account.{lines_out};
+ghost use Rattle.ir_control.specs.Parts.{AreNodesOf};
+ghost use Rattle.ir_control.specs.Places.{way_count};
+ghost use Rattle.ir_control.specs.Reported.{AreEmptyRows, AreAllThere, IsGathered};
+ghost use Rattle.ir_control.specs.Told.{IsOutcomeIn};
+ghost use Rattle.ir_control.specs.Whole.{IsParcelOf};
+
+use crate::ends::{append_slots, take_apart};
+use crate::gathering::gather;
+use crate::net::Net;
+use crate::outcomes::empty_slots;
+use crate::placing::place_all;
+use ir_links::{Sender, Taker};
+use ir_worker::{Node, Outcome, Parcel};
+use std::alloc::{AllocError, Global};
+use std::sync::Wait;
+
+/// A slot for each node, and rows for all ends.
+#[derive(Drop)]
+pub(crate) struct Rows {
+    pub(crate) slots: Vec<Option<Node>>,
+    pub(crate) outs: Vec<Option<Sender<Parcel>>>,
+    pub(crate) inboxes: Vec<Taker<Parcel>>,
+    pub(crate) takers: Vec<Taker<Parcel>>,
+    pub(crate) senders: Vec<Option<Sender<Parcel>>>,
+    pub(crate) settled: Vec<Vec<Outcome>>,
+}
+
+/// Empty rows for so many nodes and ways.
+pub(crate) fn empty_rows(alloc: Global, nodes: usize, ways: usize) -> Result<Rows, AllocError>
+    ensures { IfOk result (λ rows. AreEmptyRows nodes ways rows) }
+{
+    Ok(Rows {
+        slots: empty_slots(alloc, nodes)?,
+        outs: Vec::with_capacity(alloc, nodes)?,
+        inboxes: Vec::with_capacity(alloc, nodes)?,
+        takers: Vec::with_capacity(alloc, ways)?,
+        senders: Vec::with_capacity(alloc, ways)?,
+        settled: Vec::with_capacity(alloc, nodes)?,
+    })
+}
+
+/// Takes all nodes apart and settles all channels: what the nodes settled, and what is left.
+pub(crate) fn left_over<R: Wait>(
+    rt: &R,
+    net: &Net,
+    nodes: Vec<Node>,
+    injected: Vec<Sender<Parcel>>,
+    rows: Rows,
+    left: &mut Vec<Parcel>,
+) -> Vec<Vec<Outcome>>
+    requires nodes { AreNodesOf net.now nodes.items }
+    requires all { AreAllThere net.now nodes.items }
+    requires injected { lines_out injected.items ≡ net.now.inboxes.items }
+    requires rows { AreEmptyRows (node_count net.now.topology) (way_count net.now.topology) rows }
+    requires empty { left.old.items ≡ [] }
+    requires room { node_count net.now.topology * net.now.capacity + way_count net.now.topology * net.now.capacity ≤ vec_capacity left.old }
+    ensures gathered { IsGathered nodes.items injected.items (λ w. sum_by (λ row. sum_by w row.items) result.items) left.new.items }
+    ensures settled { All (λ row. All (λ o. IsOutcomeIn net.now.opening o) row.items) result.items }
+    ensures left { All (λ x. IsParcelOf net.now.opening x) left.new.items }
+{
+    let Rows {
+        mut slots,
+        mut outs,
+        mut inboxes,
+        mut takers,
+        mut senders,
+        mut settled,
+    } = rows;
+    place_all(net, nodes, &mut slots);
+    append_slots(&mut outs, injected);
+    take_apart(net, slots, &mut inboxes, &mut takers, &mut senders, &mut settled);
+    gather(
+        rt,
+        &net.opening,
+        net.entries.as_slice(),
+        outs,
+        inboxes,
+        net.peers.as_slice(),
+        senders,
+        takers,
+        left,
+    );
+    settled
+}

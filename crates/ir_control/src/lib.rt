@@ -1,0 +1,25 @@
+//! A running net: its channels and parts, the injector, the controller, and the report at the end.
+#![tactic(auto)]
+
+mod channels;
+mod controller;
+mod ends;
+mod error;
+mod report;
+mod gathering;
+mod injector;
+mod leaving;
+mod net;
+mod outcomes;
+mod parts;
+mod peers;
+mod placing;
+mod reporting;
+mod settling;
+
+pub use controller::{ChangeError, Controller, InstallError};
+pub use error::NetError;
+pub use report::{FinishError, Report};
+pub use reporting::finish;
+pub use injector::{Accepted, InjectError, Injector};
+pub use net::{Net, Parts};

@@ -1,0 +1,424 @@
+//! A net: its registry, its channels, and what its parts are made of.
+ghost use Rattle.std.specs.Prelude.{◌≡◌, ◌⊎◌, ◌<◌, ◌≤◌, IfOk, IfErr, None, Some, length};
+ghost use Rattle.std.specs.Arc.{arc_value};
+ghost use Rattle.ir_model.specs.Network.{node_count};
+ghost use Rattle.ir_model.specs.Walk.{IsDisconnected};
+ghost use Rattle.ir_core.specs.Meaning.{IsMade};
+ghost use Rattle.ir_core.specs.Opened.{is_small};
+ghost use Rattle.ir_core.specs.declared.TheConstants.{MAX_PACKETS, MAX_RESTAMPS};
+ghost use Rattle.ir_control.specs.Places.{offset};
+ghost use Rattle.ir_epochs.specs.Stamps.{IsOf, knows};
+ghost use Rattle.ir_control.specs.Opened.{net_refused, IsNetRefusal};
+ghost use Rattle.ir_control.specs.Wired.{AreInboxes, AreWays, AreEntries, AreOffsets, IsOpening};
+
+use crate::channels::{inboxes_of, ways_of};
+use crate::controller::Controller;
+use crate::error::NetError;
+use crate::injector::Injector;
+use crate::parts::{all_ends, ins_of, outs_of};
+use crate::peers::peers_of;
+use ir_core::{MAX_CAPACITY, MAX_LINKS, MAX_NODES, MAX_PACKETS, MAX_RESTAMPS};
+use ir_epochs::{BoardReader, BoardWriter, RegisterError, Registry, Stamp, board};
+use ir_links::{Channel, Sender, Taker};
+use ir_model::Kind;
+use ir_plan::{Plan, PlanError};
+use ir_tables::Topology;
+use ir_worker::{Node, Parcel};
+use std::alloc::{AllocError, Global};
+use std::sync::atomic::{AtomicBool, AtomicU32, Ordering};
+use std::sync::{Arc, Wait};
+
+/// A net: the registry of its plans, an inbox for each node, and for each port a channel out of it.
+///
+/// A link that is gone from the topology has no port, so nobody could hold its channels: none are made.
+#[derive(Drop)]
+pub struct Net {
+    pub(crate) alloc: Global,
+    registry: Arc<Registry, Global>,
+    pub(crate) topology: Topology,
+    pub(crate) capacity: usize,
+    max_packets: usize,
+    restamps: u8,
+    pub(crate) opening: Stamp,
+    pub(crate) inboxes: Vec<Channel<Parcel>>,
+    pub(crate) entries: Vec<usize>,
+    pub(crate) ways: Vec<Channel<Parcel>>,
+    pub(crate) peers: Vec<usize>,
+    offsets: Vec<usize>,
+    spent: AtomicBool,
+    settled: Arc<AtomicU32, Global>,
+    ghost opened: { IsOpening (arc_value registry) topology opening },
+    ghost inboxes_are: { AreInboxes topology opening restamps capacity inboxes.items },
+    ghost entries_are: { AreEntries (node_count topology) entries.items },
+    ghost ways_are: { AreWays topology opening restamps capacity ways.items peers.items },
+    ghost offsets_are: { AreOffsets topology offsets.items },
+    ghost few_packets: { max_packets ≤ MAX_PACKETS },
+    ghost few_restamps: { restamps ≤ MAX_RESTAMPS },
+}
+
+// Whether the network, the capacity and the number of packets are within the limits.
+fn is_small(topology: &Topology, capacity: usize, max_packets: usize, restamps: u8) -> bool
+    ensures { result ≡ is_small topology.now capacity max_packets restamps }
+{
+    topology.nodes() <= MAX_NODES
+        && topology.links() <= MAX_LINKS
+        && capacity != 0
+        && capacity <= MAX_CAPACITY
+        && max_packets != 0
+        && max_packets <= MAX_PACKETS
+        && restamps as usize <= MAX_RESTAMPS
+}
+
+// Why no net is opened, before any plan is built.
+fn net_refusal(
+    topology: &Topology,
+    root: u16,
+    capacity: usize,
+    max_packets: usize,
+    restamps: u8,
+) -> Option<NetError>
+    ensures { result ≡ net_refused topology.now root capacity max_packets restamps }
+{
+    let nodes = topology.nodes();
+    if nodes == 0 {
+        return Some(NetError::Empty);
+    }
+    if nodes <= root as usize {
+        return Some(NetError::NoNode);
+    }
+    if !is_small(topology, capacity, max_packets, restamps) {
+        return Some(NetError::TooLarge);
+    }
+    None
+}
+
+/// Why there is no plan.
+pub(crate) enum BuildError {
+    Disconnected,
+    NoMemory,
+}
+
+/// The plan of this kind and root over a topology that has the root.
+pub(crate) fn plan_over(
+    alloc: Global,
+    topology: Topology,
+    kind: Kind,
+    root: u16,
+) -> Result<Plan, BuildError>
+    requires { root < node_count topology }
+    ensures made { IfOk result (λ p. IsMade kind root topology (Some p)) }
+    ensures disconnected { result ≡ Err BuildError.Disconnected → IsMade kind root topology None }
+{
+    match Plan::build(alloc, topology, kind, root) {
+        Ok(plan) => Ok(plan),
+        Err((error, _)) => match error {
+            PlanError::Disconnected => Err(BuildError::Disconnected),
+            PlanError::NoMemory => Err(BuildError::NoMemory),
+            PlanError::Empty | PlanError::NoNode => unreachable!(),
+        },
+    }
+}
+
+// A registry whose cell 1 has a plan of this kind and root over all links.
+fn registered(
+    alloc: Global,
+    topology: &Topology,
+    kind: Kind,
+    root: u16,
+) -> Result<(Registry, Stamp), NetError>
+    requires { root < node_count topology.now }
+    ensures made { IfOk result (λ r. IsOf r.0 r.1 × (r.1.epoch ≡ 1) × IsMade kind root topology.now (Some (knows r.1))) }
+    ensures refused { IfErr result (λ e. ((e ≡ NetError.Disconnected) × IsDisconnected topology.now) ⊎ ((e ≡ NetError.NoMemory) ⊎ (e ≡ NetError.Used))) }
+{
+    let Ok(over) = topology.try_clone(alloc) else {
+        return Err(NetError::NoMemory);
+    };
+    let plan = match plan_over(alloc, over, kind, root) {
+        Ok(plan) => plan,
+        Err(BuildError::Disconnected) => return Err(NetError::Disconnected),
+        Err(BuildError::NoMemory) => return Err(NetError::NoMemory),
+    };
+    let registry = Registry::new(alloc);
+    match registry.register(1, plan) {
+        Ok(stamp) => Ok((registry, stamp)),
+        Err((RegisterError::Used, _)) => Err(NetError::Used),
+        Err((RegisterError::NoMemory, _)) => Err(NetError::NoMemory),
+    }
+}
+
+// Each node's number.
+fn entries_of(alloc: Global, nodes: usize) -> Result<Vec<usize>, AllocError>
+    ensures { IfOk result (λ entries. AreEntries nodes entries.items) }
+{
+    let mut entries = Vec::with_capacity(alloc, nodes)?;
+    for u in 0..nodes {
+        entries.push(u)?;
+    }
+    Ok(entries)
+}
+
+impl Net {
+    ghost use Rattle.ir_control.specs.Nets.{IsNetFor};
+
+    /// A net over a topology, whose epoch 1 has a plan of this kind and root over all links. Each channel and inbox
+    /// holds `capacity` packets, from 1 to 1,024; there may be `max_packets` packets, from 1 to 4,096, each with
+    /// `restamps` restamps, from 0 to 3.
+    ///
+    /// Refused are, in this order: no node (`Empty`), a root that is no node, more than 256 nodes or 1,024 links or another
+    /// number out of its range (`TooLarge`), some node without a walk to some node, want of memory. `Used` would say
+    /// that a fresh cell of the registry refused its plan.
+    pub fn new(
+        alloc: Global,
+        topology: Topology,
+        kind: Kind,
+        root: u16,
+        capacity: usize,
+        max_packets: usize,
+        restamps: u8,
+    ) -> Result<Net, NetError>
+        ensures opened { IfOk result (λ net. IsNetFor topology kind root capacity max_packets restamps net) }
+        ensures accepted { IfOk result (λ _. net_refused topology root capacity max_packets restamps ≡ None) }
+        ensures refused { IfErr result (λ e. IsNetRefusal topology root capacity max_packets restamps e) }
+    {
+        if let Some(error) = net_refusal(&topology, root, capacity, max_packets, restamps) {
+            return Err(error);
+        }
+        let (registry, opening) = registered(alloc, &topology, kind, root)?;
+        match Net::wired(
+            alloc,
+            registry,
+            topology,
+            opening,
+            capacity,
+            max_packets,
+            restamps,
+        ) {
+            Ok(net) => Ok(net),
+            Err(_) => Err(NetError::NoMemory),
+        }
+    }
+
+    // With its channels.
+    fn wired(
+        alloc: Global,
+        registry: Registry,
+        topology: Topology,
+        opening: Stamp,
+        capacity: usize,
+        max_packets: usize,
+        restamps: u8,
+    ) -> Result<Net, AllocError>
+        requires opening { IsOpening registry topology opening }
+        requires capacity { 0 < capacity }
+        requires packets { max_packets ≤ MAX_PACKETS }
+        requires restamps { restamps ≤ MAX_RESTAMPS }
+        ensures topology { IfOk result (λ net. net.topology ≡ topology) }
+        ensures opening { IfOk result (λ net. net.opening ≡ opening) }
+        ensures numbers { IfOk result (λ net. (net.capacity ≡ capacity) × (net.max_packets ≡ max_packets) × (net.restamps ≡ restamps)) }
+    {
+        let Ok(registry) = Arc::new(alloc, registry) else {
+            return Err(AllocError);
+        };
+        let nodes = topology.nodes();
+        let inboxes = inboxes_of(alloc, &topology, &opening, restamps, capacity)?;
+        let entries = entries_of(alloc, nodes)?;
+        let (ways, offsets) = ways_of(alloc, &topology, &opening, restamps, capacity)?;
+        let peers = peers_of(alloc, &topology, offsets.as_slice())?;
+        let Ok(settled) = Arc::new(alloc, AtomicU32::new(0)) else {
+            return Err(AllocError);
+        };
+        Ok(Net {
+            alloc,
+            registry,
+            topology,
+            capacity,
+            max_packets,
+            restamps,
+            opening,
+            inboxes,
+            entries,
+            ways,
+            peers,
+            offsets,
+            spent: AtomicBool::new(false),
+            settled,
+        })
+    }
+}
+
+impl Net {
+    ghost use Rattle.std.specs.Prelude.{IfSome, slice_get, []};
+    ghost use Rattle.ir_epochs.specs.Stamps.{registry_name};
+    ghost use Rattle.ir_epochs.specs.Entries.{registry_of, network_of};
+    ghost use Rattle.ir_epochs.specs.Handles.{known, reader_board};
+    ghost use Rattle.ir_model.specs.Network.{ports_of};
+    ghost use Rattle.ir_control.specs.Fresh.{AreFreshOuts, AreFreshIns};
+    ghost use Rattle.ir_control.specs.Parts.{IsNodeOf};
+
+    /// The registry of its plans.
+    pub fn registry(&self) -> &Registry
+        ensures { result.now ≡ arc_value self.now.registry }
+    {
+        &self.registry
+    }
+
+    /// How many packets were settled, or about so many: a hint of which nothing is claimed.
+    pub fn settled(&self) -> u32 {
+        self.settled.load(Ordering::SeqCst)
+    }
+
+    // One node with its ends, unless one of them is gone.
+    fn node(
+        &self,
+        u: usize,
+        first: usize,
+        inbox: Taker<Parcel>,
+        reader: BoardReader,
+        senders: &mut Vec<Option<Sender<Parcel>>>,
+        takers: &mut Vec<Option<Taker<Parcel>>>,
+    ) -> Result<Option<Node>, AllocError>
+        requires node { u < node_count self.now.topology }
+        requires first { first ≡ offset self.now.topology u }
+        requires inbox { slice_get self.now.inboxes.items u ≡ Some inbox.line }
+        requires inbox_new { inbox.taken ≡ [] }
+        requires reader { (registry_of (known reader) ≡ registry_name self.now.opening) × (network_of (known reader) ≡ (knows self.now.opening).network) }
+        requires senders { AreFreshOuts self.now.ways.items senders.old.items }
+        requires takers { AreFreshIns self.now.ways.items takers.old.items }
+        ensures senders { AreFreshOuts self.now.ways.items senders.new.items }
+        ensures takers { AreFreshIns self.now.ways.items takers.new.items }
+        ensures node { IfOk result (λ given. IfSome given (λ n. IsNodeOf self.now n × (n.index ≡ u) × (reader_board n.reader ≡ reader_board reader))) }
+    {
+        let degree = self.topology.ports(u).len();
+        let Some(outs) = outs_of(self.alloc, &self.ways, first, degree, senders)? else {
+            return Ok(None);
+        };
+        let Some(ins) = ins_of(
+            self.alloc,
+            &self.ways,
+            self.peers.as_slice(),
+            first,
+            degree,
+            takers,
+        )?
+        else {
+            return Ok(None);
+        };
+        let settled = Arc::try_clone(&self.settled)?;
+        let ports = Vec::from_slice(self.alloc, self.topology.ports(u))?;
+        Ok(Some(Node::new(
+            self.alloc,
+            u as u16,
+            Arc::try_clone(&self.registry)?,
+            self.opening.again(),
+            self.restamps,
+            ports,
+            inbox,
+            ins,
+            outs,
+            reader,
+            settled,
+        )))
+    }
+}
+
+/// The parts of a net: its nodes by number, its injector and its controller.
+#[derive(Drop)]
+pub struct Parts<R: Wait + Drop> {
+    pub nodes: Vec<Node>,
+    pub injector: Injector,
+    pub controller: Controller<R>,
+}
+
+impl Net {
+    ghost use Rattle.std.specs.Prelude.{All, [], ◌∷◌, IfSome};
+    ghost use Rattle.ir_epochs.specs.declared.entry.Entry.TheVariants.{Opened};
+    ghost use Rattle.ir_epochs.specs.Handles.{known, published, reader_board, writer_board};
+    ghost use Rattle.ir_control.specs.Fresh.{AreFreshIns};
+    ghost use Rattle.ir_control.specs.Parts.{AreFirstNodes, AreFreshParts};
+
+    // All nodes, by number.
+    fn nodes<R: Wait + Drop>(
+        &self,
+        writer: &BoardWriter<R>,
+        mut inboxes: Vec<Option<Taker<Parcel>>>,
+        mut readers: Vec<BoardReader>,
+    ) -> Result<Option<Vec<Node>>, AllocError>
+        requires inboxes { AreFreshIns self.now.inboxes.items inboxes.items }
+        requires opening { published writer.now ≡ Opened (length self.now.topology.links) self.now.opening ∷ [] }
+        requires readers { All (λ x. (known x ≡ published writer.now) × (reader_board x ≡ writer_board writer.now)) readers.items }
+        ensures nodes { IfOk result (λ given. IfSome given (λ nodes. AreFirstNodes self.now (node_count self.now.topology) nodes.items)) }
+        ensures boards { IfOk result (λ given. IfSome given (λ nodes. All (λ n. reader_board n.reader ≡ writer_board writer.now) nodes.items)) }
+    {
+        let _ = writer;
+        let Some((mut senders, mut takers)) = all_ends(self.alloc, &self.ways)? else {
+            return Ok(None);
+        };
+        let mut nodes = Vec::with_capacity(self.alloc, self.inboxes.len())?;
+        for u in 0..self.inboxes.len() {
+            let first = self.first_port(u);
+            let Some(inbox) = inboxes[u].take() else {
+                return Ok(None);
+            };
+            let Some(reader) = readers.pop() else {
+                return Ok(None);
+            };
+            let Some(node) = self.node(u, first, inbox, reader, &mut senders, &mut takers)? else {
+                return Ok(None);
+            };
+            nodes.push(node)?;
+        }
+        Ok(Some(nodes))
+    }
+
+    // The place of a node's first port.
+    fn first_port(&self, u: usize) -> usize
+        requires { u < node_count self.now.topology }
+        ensures { result ≡ offset self.now.topology u }
+    {
+        self.offsets[u]
+    }
+
+    /// The parts of the net, once, and then `None`; after an error `None` too.
+    ///
+    /// An error means that there was no memory, or no place for a reader of the board.
+    pub fn parts<R: Wait + Drop>(&self, rt: R) -> Result<Option<Parts<R>>, AllocError>
+        ensures { IfOk result (λ given. IfSome given (λ parts. AreFreshParts self.now parts.nodes.items parts.injector parts.controller)) }
+    {
+        if self.spent.swap(true, Ordering::SeqCst) {
+            return Ok(None);
+        }
+        let nodes = self.topology.nodes();
+        let links = self.topology.links() as u16;
+        let Ok((writer, readers)) = board(rt, self.alloc, &self.opening, links, nodes as u16) else {
+            return Err(AllocError);
+        };
+        let Some((mut entries, inboxes)) = all_ends(self.alloc, &self.inboxes)? else {
+            return Ok(None);
+        };
+        let Some(outs) = outs_of(self.alloc, &self.inboxes, 0, nodes, &mut entries)? else {
+            return Ok(None);
+        };
+        let Some(nodes) = self.nodes(&writer, inboxes, readers)? else {
+            return Ok(None);
+        };
+        let injector = Injector::new(
+            self.alloc,
+            Arc::try_clone(&self.registry)?,
+            &self.opening,
+            self.restamps,
+            self.max_packets,
+            outs,
+        );
+        let controller = Controller::new(
+            self.alloc,
+            Arc::try_clone(&self.registry)?,
+            &self.opening,
+            writer,
+        );
+        Ok(Some(Parts {
+            nodes,
+            injector,
+            controller,
+        }))
+    }
+}

@@ -1,0 +1,82 @@
+//! The report at the end.
+ghost use Rattle.std.specs.Prelude.{◌≡◌, ◌≤◌, ◌<◌, ◌+◌, ◌*◌, [], ℕ, true, false, MatchOption, MatchResult, IfOk, length, sum_by};
+ghost use Rattle.ir_model.specs.Network.{node_count};
+ghost use Rattle.ir_control.specs.Parts.{node_number};
+ghost use Rattle.ir_control.specs.Places.{way_count};
+ghost use Rattle.ir_control.specs.Slots.{hit};
+
+use crate::leaving::Rows;
+use ir_core::Record;
+use ir_epochs::Stamp;
+use ir_worker::{Node, Outcome, Parcel};
+
+/// Why there is no report.
+#[derive(Clone, Copy, PartialEq, Eq, Debug)]
+pub enum FinishError {
+    /// The least node that is not among the parts.
+    Missing(u16),
+    /// A growth was refused.
+    NoMemory,
+}
+
+/// What came of each packet that the injector accepted, by number: its record, its first stamp, and the stamps of its
+/// later segments.
+#[derive(Drop)]
+pub struct Report {
+    pub records: Vec<Record>,
+    pub stamps: Vec<Stamp>,
+    pub later: Vec<Vec<Stamp>>,
+}
+
+// All the memory that a report takes.
+#[derive(Drop)]
+pub(crate) struct Room {
+    pub(crate) rows: Rows,
+    pub(crate) left: Vec<Parcel>,
+    pub(crate) slots: Vec<Option<Outcome>>,
+    pub(crate) records: Vec<Record>,
+    pub(crate) stamps: Vec<Stamp>,
+    pub(crate) later: Vec<Vec<Stamp>>,
+}
+
+// Whether the node of this number is among these.
+fn has_node(nodes: &Vec<Node>, u: usize) -> bool
+    ensures present { result ≡ true → 0 < sum_by (hit node_number u) nodes.now.items }
+    ensures absent { result ≡ false → sum_by (hit node_number u) nodes.now.items ≡ 0 }
+{
+    for k in 0..nodes.len() {
+        if nodes[k].index() as usize == u {
+            return true;
+        }
+    }
+    false
+}
+
+// The least number below this one whose node is not among these.
+pub(crate) fn missing(nodes: &Vec<Node>, count: usize) -> Option<u16>
+    requires { count ≤ 65536 }
+    ensures { MatchOption result
+        ((u : ℕ) → u < count → 0 < sum_by (hit node_number u) nodes.now.items)
+        (λ v. (v < count) × (sum_by (hit node_number v) nodes.now.items ≡ 0) × ((u : ℕ) → u < v → 0 < sum_by (hit node_number u) nodes.now.items)) }
+{
+    for u in 0..count {
+        if !has_node(nodes, u) {
+            return Some(u as u16);
+        }
+    }
+    None
+}
+
+impl FinishError {
+    ghost use Rattle.ir_control.specs.Reports.{finish_code};
+
+    /// Its number: 1 Missing, 2 NoMemory.
+    pub fn code(self) -> u8
+        ensures { result ≡ finish_code self }
+    {
+        match self {
+            FinishError::Missing(_) => 1,
+            FinishError::NoMemory => 2,
+        }
+    }
+}

@@ -1,0 +1,95 @@
+//! Finishing a net.
+ghost use Rattle.std.specs.Prelude.{◌≡◌, ◌≤◌, ◌<◌, ◌+◌, ◌*◌, [], ℕ, MatchOption, MatchResult, IfOk, length, sum_by};
+ghost use Rattle.ir_model.specs.Network.{node_count};
+ghost use Rattle.ir_control.specs.Parts.{AreNodesOf, IsInjectorOf};
+ghost use Rattle.ir_control.specs.Places.{way_count};
+ghost use Rattle.ir_control.specs.Reported.{AreAllThere};
+ghost use Rattle.ir_control.specs.Reports.{HasRoom, IsReport, IsFinishRefusal};
+
+use crate::report::{FinishError, Report, Room, missing};
+use crate::injector::Injector;
+use crate::leaving::{empty_rows, left_over};
+use crate::net::{Net, Parts};
+use crate::outcomes::{empty_slots, place_left, place_rows, told_in_order};
+use ir_worker::Node;
+use std::alloc::{AllocError, Global};
+use std::sync::Wait;
+
+// All the memory that a report takes: for so many nodes, ways and packets, where each channel holds so many.
+fn room_for(alloc: Global, nodes: usize, ways: usize, capacity: usize, packets: usize) -> Result<Room, AllocError>
+    ensures { IfOk result (λ room. HasRoom nodes ways capacity packets room) }
+{
+    let Some(inboxes) = nodes.checked_mul(capacity) else {
+        return Err(AllocError);
+    };
+    let Some(most) = ways.checked_mul(capacity) else {
+        return Err(AllocError);
+    };
+    let Some(most) = inboxes.checked_add(most) else {
+        return Err(AllocError);
+    };
+    Ok(Room {
+        rows: empty_rows(alloc, nodes, ways)?,
+        left: Vec::with_capacity(alloc, most)?,
+        slots: empty_slots(alloc, packets)?,
+        records: Vec::with_capacity(alloc, packets)?,
+        stamps: Vec::with_capacity(alloc, packets)?,
+        later: Vec::with_capacity(alloc, packets)?,
+    })
+}
+
+// The report, once all nodes are there.
+fn reported<R: Wait>(rt: &R, net: &Net, nodes: Vec<Node>, injector: Injector, room: Room) -> Report
+    requires nodes { AreNodesOf net.now nodes.items }
+    requires all { AreAllThere net.now nodes.items }
+    requires injector { IsInjectorOf net.now injector }
+    requires room { HasRoom (node_count net.now.topology) (way_count net.now.topology) net.now.capacity (length injector.accepted.items) room }
+    ensures { IsReport net.now nodes.items injector result }
+{
+    let Room {
+        rows,
+        mut left,
+        mut slots,
+        mut records,
+        mut stamps,
+        mut later,
+    } = room;
+    let settled = left_over(rt, net, nodes, injector.into_outs(), rows, &mut left);
+    place_rows(&net.opening, settled, &mut slots);
+    place_left(&net.opening, left, &mut slots);
+    told_in_order(slots, &mut records, &mut stamps, &mut later);
+    Report {
+        records,
+        stamps,
+        later,
+    }
+}
+
+/// Takes the parts of a net apart and reports what came of each packet that was accepted, by number. What is still in a
+/// channel is Left.
+///
+/// Refused are, in this order: the least node that is not among the parts, and want of memory. All memory is taken before
+/// a part is taken apart, and a refusal hands the parts back.
+pub fn finish<R: Wait, B: Wait + Drop>(rt: &R, net: &Net, parts: Parts<B>) -> Result<Report, (FinishError, Parts<B>)>
+    requires nodes { AreNodesOf net.now parts.nodes.items }
+    requires injector { IsInjectorOf net.now parts.injector }
+    ensures { MatchResult result
+        (λ report. IsReport net.now parts.nodes.items parts.injector report × AreAllThere net.now parts.nodes.items)
+        (λ refused. IsFinishRefusal net.now parts.nodes.items refused.0 × (refused.1 ≡ parts)) }
+{
+    let count = net.inboxes.len();
+    match missing(&parts.nodes, count) {
+        Some(node) => return Err((FinishError::Missing(node), parts)),
+        None => {}
+    }
+    let packets = parts.injector.count() as usize;
+    let Ok(room) = room_for(net.alloc, count, net.ways.len(), net.capacity, packets) else {
+        return Err((FinishError::NoMemory, parts));
+    };
+    let Parts {
+        nodes,
+        injector,
+        controller: _,
+    } = parts;
+    Ok(reported(rt, net, nodes, injector, room))
+}

@@ -1,0 +1,364 @@
+-- The epochs of a run, and those of its controller's steps alone: they are built alike.
+use Rattle.std.proofs.Common.{◌≡◌, ◌≢◌, ℕ, zero, suc, ◌+◌, ◌-◌, List, [], ◌∷◌, ◌++◌, length, take, Option, Some, None, Bool, true, false, cond, refl, sym, ap, ◌∙◌, subst, inl, inr}
+use Rattle.std.specs.Prelude.{Result, Ok, Err, not, ◌&&◌, ◌||◌, ◌==◌, nat_lt, nat_le, is_some, slice_get}
+use Rattle.std.proofs.lemmas.Option.{none-some}
+use Rattle.std.proofs.lemmas.List.Elements.{All-head, All-tail}
+use Rattle.ir_model.specs.declared.Hop.{Hop}
+use Rattle.ir_model.specs.declared.Kind.{Kind}
+use Rattle.ir_model.specs.Network.{Network, ports_of, restrict}
+use Rattle.ir_model.specs.Walk.{IsConnected, IsDisconnected}
+use Rattle.ir_model.specs.Scheme.{Scheme, IsScheme}
+use Rattle.ir_core.specs.declared.TheConstants.{MAX_CHANGES, MAX_EPOCHS}
+use Rattle.ir_core.specs.declared.board.Board.{Board}
+use Rattle.ir_core.specs.Board.{is_up, marked, retired_below, installed}
+use Rattle.ir_core.specs.declared.built.Install.{Install}
+use Rattle.ir_core.specs.declared.event.Event.{Event}
+use Rattle.ir_core.specs.declared.event.Event.TheVariants as event
+use Rattle.ir_core.specs.declared.event.Step.{Step}
+use Rattle.ir_core.specs.declared.event.Step.TheVariants as step
+use Rattle.ir_core.specs.declared.event.Reply.{Reply}
+use Rattle.ir_core.specs.declared.event.Refused.{Refused}
+use Rattle.ir_core.specs.declared.event.Refused.TheVariants.{NoNode, NoLink, NoEpoch, TooManyPackets, InboxFull, HandFull, BadView, Same, EpochsFull, TooManyChanges, NoMemory}
+use Rattle.ir_core.specs.declared.event.Way.{Way}
+use Rattle.ir_core.specs.declared.event.Way.TheVariants.{Inbox, Link}
+use Rattle.ir_core.specs.declared.packet.Held.{Held}
+use Rattle.ir_core.specs.Setting.{Setting, nodes_of, links_of, channel_of, into}
+use Rattle.ir_core.specs.Opened.{IsOpenedWith}
+use Rattle.ir_core.specs.Entry.{Entry, DidInject, DidLearn, DidTake, DidRead, DidAct, DidChange, DidInstall}
+use Rattle.ir_core.specs.History as history
+use Rattle.ir_core.specs.Meaning.{Sight, IsMade, ComesTo, InstallsUnless, install_refused, installs_made, network_up, newest, newest_of, is_full, sight_after, with_entry, injects, learns, takes, takes_from, takes_first, reads, acts, acts_on, retires, marks}
+use Rattle.ir_core.specs.State.{State}
+use Rattle.ir_core.specs.Shows.{IsAnswered}
+use Rattle.ir_core.specs.Run.{IsStepAnswered, IsRun}
+use Rattle.ir_core.specs.Drain.{after_read, after_act, after_take, after_way, after_ports, after_visit, after_visits, after_rounds}
+use Rattle.ir_core.specs.Installed.{IsControlled, IsControlRun, AreBuiltFrom, IsChange, NoneWantsMemory, AreEpochsOf}
+
+-- two schemes of one kind, root and network
+abbrev IsTwin : Scheme → Scheme → Type 0
+IsTwin s t = (s.kind ≡ t.kind) × (s.root ≡ t.root) × (s.network ≡ t.network) × IsScheme s
+
+abbrev AreTwins : List Scheme → List Scheme → Type 0
+AreTwins [] [] = Unit {0}
+AreTwins [] (t ∷ ts) = ⊥
+AreTwins (s ∷ ss) [] = ⊥
+AreTwins (s ∷ ss) (t ∷ ts) = IsTwin s t × AreTwins ss ts
+
+-- two histories with the same boards, and schemes of the same kinds, roots and networks
+record AreAlike (o p : Setting) (log other : List Entry) : Type 0 where
+  boards : history.boards log ≡ history.boards other
+  plans : AreTwins (history.plans o log) (history.plans p other)
+
+twins-length : (ss ts : List Scheme) → AreTwins ss ts → length ss ≡ length ts
+twins-length [] [] h = refl
+twins-length [] (t ∷ ts) h = absurd h
+twins-length (s ∷ ss) [] h = absurd h
+twins-length (s ∷ ss) (t ∷ ts) h = ap suc (twins-length ss ts h.1)
+
+twins-push : (ss ts : List Scheme) (s t : Scheme) → AreTwins ss ts → IsTwin s t → AreTwins (ss ++ s ∷ []) (ts ++ t ∷ [])
+twins-push [] [] s t h is = (is, tt)
+twins-push [] (y ∷ ts) s t h is = absurd h
+twins-push (x ∷ ss) [] s t h is = absurd h
+twins-push (x ∷ ss) (y ∷ ts) s t h is = (h.0, twins-push ss ts s t h.1 is)
+
+twins_built : (o p : Setting) → o.network ≡ p.network → (installs : List Install) (ss ts : List Scheme) → AreTwins ss ts → AreBuiltFrom p installs ts → AreBuiltFrom o installs ss
+twins_built o p same [] [] [] h built = tt
+twins_built o p same [] [] (t ∷ ts) h built = absurd h
+twins_built o p same [] (s ∷ ss) [] h built = absurd h
+twins_built o p same [] (s ∷ ss) (t ∷ ts) h built = absurd built
+twins_built o p same (i ∷ installs) [] [] h built = absurd built
+twins_built o p same (i ∷ installs) [] (t ∷ ts) h built = absurd h
+twins_built o p same (i ∷ installs) (s ∷ ss) [] h built = absurd h
+twins_built o p same (i ∷ installs) (s ∷ ss) (t ∷ ts) h built =
+    let twin = h.0 in
+    let made = built.0.1 in (
+      (
+        built.0.0 ∙ ap (λ (net : Network). length net.links) (sym same),
+        (twin.0 ∙ made.0, twin.1 ∙ made.1, twin.2 ∙ made.2 ∙ ap (λ (net : Network). restrict i.up.items net) (sym same), twin.3),
+      ),
+      twins_built o p same installs ss ts h.1 built.1,
+    )
+
+-- Entries of the steps that are no controller's change neither boards nor schemes.
+abbrev IsPassed : Result Entry Refused → Type 0
+IsPassed (Err e) = Unit {0}
+IsPassed (Ok (DidInject id e s d)) = Unit {0}
+IsPassed (Ok (DidLearn e)) = Unit {0}
+IsPassed (Ok (DidTake u way id)) = Unit {0}
+IsPassed (Ok (DidRead u k)) = Unit {0}
+IsPassed (Ok (DidAct u id way restamp v)) = Unit {0}
+IsPassed (Ok (DidChange b)) = ⊥
+IsPassed (Ok (DidInstall e t b)) = ⊥
+
+record SameEpochs (o : Setting) (log later : List Entry) : Type 0 where
+  boards : history.boards later ≡ history.boards log
+  plans : history.plans o later ≡ history.plans o log
+
+passed_keeps : (o : Setting) (log : List Entry) (w : Result Entry Refused) → IsPassed w → SameEpochs o log (with_entry log w)
+passed_keeps o log (Err e) is = record { boards = refl; plans = refl }
+passed_keeps o log (Ok (DidInject id e s d)) is = record { boards = refl; plans = refl }
+passed_keeps o log (Ok (DidLearn e)) is = record { boards = refl; plans = refl }
+passed_keeps o log (Ok (DidTake u way id)) is = record { boards = refl; plans = refl }
+passed_keeps o log (Ok (DidRead u k)) is = record { boards = refl; plans = refl }
+passed_keeps o log (Ok (DidAct u id way restamp v)) is = record { boards = refl; plans = refl }
+passed_keeps o log (Ok (DidChange b)) is = absurd is
+passed_keeps o log (Ok (DidInstall e t b)) is = absurd is
+
+keeps_both : (o : Setting) (log mid later : List Entry) → SameEpochs o log mid → SameEpochs o mid later → SameEpochs o log later
+keeps_both o log mid later a b = record { boards = b.boards ∙ a.boards; plans = b.plans ∙ a.plans }
+
+-- what the steps that are no controller's come to
+one_of : (a : Bool) (w v : Result Entry Refused) → IsPassed w → IsPassed v → IsPassed (cond a w v)
+one_of true w v p q = p
+one_of false w v p q = q
+
+injects_passed : (o : Setting) (s : Sight) (source dest : ℕ) → IsPassed (injects o s source dest)
+injects_passed o s source dest =
+    let did = DidInject s.injected s.learnt source dest in
+    let roomy = cond (is_full o s (into o source Inbox)) (Err InboxFull) (Ok did) in
+    one_of (not (nat_lt source (nodes_of o) && nat_lt dest (nodes_of o))) (Err NoNode) (cond (nat_le o.max_packets s.injected) (Err TooManyPackets) roomy) tt
+    (one_of (nat_le o.max_packets s.injected) (Err TooManyPackets) roomy tt (one_of (is_full o s (into o source Inbox)) (Err InboxFull) (Ok did) tt tt))
+
+learns_passed : (s : Sight) (e : ℕ) → IsPassed (learns s e)
+learns_passed s e = one_of ((e == 0) || nat_lt (newest s).current e) (Err NoEpoch) (Ok (DidLearn e)) tt tt
+
+first_passed : (u : ℕ) (way : Way) (x : Option ℕ) → IsPassed (takes_first u way x)
+first_passed u way None = tt
+first_passed u way (Some id) = tt
+
+from_passed : (s : Sight) (u : ℕ) (way : Way) (x : Option ℕ) → IsPassed (takes_from s u way x)
+from_passed s u way None = tt
+from_passed s u way (Some c) = one_of (is_some (s.hand u)) (Err HandFull) (takes_first u way (slice_get (s.waiting c) 0)) tt (first_passed u way (slice_get (s.waiting c) 0))
+
+takes_passed : (o : Setting) (s : Sight) (u : ℕ) (way : Way) → IsPassed (takes o s u way)
+takes_passed o s u way = one_of (not (nat_lt u (nodes_of o))) (Err NoNode) (takes_from s u way (channel_of o u way)) tt (from_passed s u way (channel_of o u way))
+
+reads_passed : (o : Setting) (s : Sight) (u k : ℕ) → IsPassed (reads o s u k)
+reads_passed o s u k =
+    let old = nat_lt k (s.view u) || nat_le (length s.boards) k in
+    one_of (not (nat_lt u (nodes_of o))) (Err NoNode) (cond old (Err BadView) (Ok (DidRead u k))) tt (one_of old (Err BadView) (Ok (DidRead u k)) tt tt)
+
+on_passed : (o : Setting) (s : Sight) (u : ℕ) (x : Option Held) → IsPassed (acts_on o s u x)
+on_passed o s u None = tt
+on_passed o s u (Some held) = tt
+
+acts_passed : (o : Setting) (s : Sight) (u : ℕ) → IsPassed (acts o s u)
+acts_passed o s u = one_of (not (nat_lt u (nodes_of o))) (Err NoNode) (acts_on o s u (s.hand u)) tt (on_passed o s u (s.hand u))
+
+-- a drain changes neither boards nor schemes
+kept_read : (o : Setting) (u : ℕ) (log : List Entry) → SameEpochs o log (after_read o u log)
+kept_read o u log =
+    let k = length (history.boards log) - 1 in
+    passed_keeps o log (reads o (sight_after o log) u k) (reads_passed o (sight_after o log) u k)
+
+kept_act : (o : Setting) (u : ℕ) (log : List Entry) → SameEpochs o log (after_act o u log)
+kept_act o u log = passed_keeps o log (acts o (sight_after o log) u) (acts_passed o (sight_after o log) u)
+
+kept_take : (o : Setting) (u : ℕ) (way : Way) (log : List Entry) → SameEpochs o log (after_take o u way log)
+kept_take o u way log = passed_keeps o log (takes o (sight_after o log) u way) (takes_passed o (sight_after o log) u way)
+
+kept_way : (o : Setting) (u : ℕ) (way : Way) (log : List Entry) → SameEpochs o log (after_way o u way log)
+kept_way o u way log = keeps_both o log (after_take o u way log) (after_way o u way log) (kept_take o u way log) (kept_act o u (after_take o u way log))
+
+kept_ports : (o : Setting) (u : ℕ) (hops : List Hop) (log : List Entry) → SameEpochs o log (after_ports o u hops log)
+kept_ports o u [] log = record { boards = refl; plans = refl }
+kept_ports o u (hop ∷ hops) log =
+    keeps_both o log (after_way o u (Link hop.link) log) (after_ports o u (hop ∷ hops) log) (kept_way o u (Link hop.link) log) (kept_ports o u hops (after_way o u (Link hop.link) log))
+
+kept_visit : (o : Setting) (u : ℕ) (log : List Entry) → SameEpochs o log (after_visit o u log)
+kept_visit o u log =
+    let seen = after_read o u log in
+    let acted = after_act o u seen in
+    let came = after_way o u Inbox acted in
+    keeps_both o log seen (after_visit o u log) (kept_read o u log)
+    (keeps_both o seen acted (after_visit o u log) (kept_act o u seen) (keeps_both o acted came (after_visit o u log) (kept_way o u Inbox acted) (kept_ports o u (ports_of o.network u) came)))
+
+kept_visits : (o : Setting) (k : ℕ) (log : List Entry) → SameEpochs o log (after_visits o k log)
+kept_visits o zero log = record { boards = refl; plans = refl }
+kept_visits o (suc k) log = keeps_both o log (after_visits o k log) (after_visits o (suc k) log) (kept_visits o k log) (kept_visit o k (after_visits o k log))
+
+kept_rounds : (o : Setting) (k : ℕ) (log : List Entry) → SameEpochs o log (after_rounds o k log)
+kept_rounds o zero log = record { boards = refl; plans = refl }
+kept_rounds o (suc k) log = keeps_both o log (after_rounds o k log) (after_rounds o (suc k) log) (kept_rounds o k log) (kept_visits o (nodes_of o) (after_rounds o k log))
+
+-- a step that is passed over leaves histories alike
+alike_kept : (o p : Setting) (log mid other : List Entry) → SameEpochs o log mid → AreAlike o p log other → AreAlike o p mid other
+alike_kept o p log mid other keeps is =
+    record { boards = keeps.boards ∙ is.boards; plans = subst (λ (schemes : List Scheme). AreTwins schemes (history.plans p other)) (sym keeps.plans) is.plans }
+
+-- what a change of the board comes to
+abbrev IsBoardChange : Result Entry Refused → Type 0
+IsBoardChange (Err e) = Unit {0}
+IsBoardChange (Ok (DidChange b)) = Unit {0}
+IsBoardChange (Ok (DidInstall e t b)) = ⊥
+IsBoardChange (Ok (DidInject id e s d)) = ⊥
+IsBoardChange (Ok (DidLearn e)) = ⊥
+IsBoardChange (Ok (DidTake u way id)) = ⊥
+IsBoardChange (Ok (DidRead u k)) = ⊥
+IsBoardChange (Ok (DidAct u id way restamp v)) = ⊥
+
+change_or : (a b c : Bool) (x y z : Refused) (board : Board) → IsBoardChange (cond a (Err x) (cond b (Err y) (cond c (Err z) (Ok (DidChange board)))))
+change_or true b c x y z board = tt
+change_or false true c x y z board = tt
+change_or false false true x y z board = tt
+change_or false false false x y z board = tt
+
+mark_or : (o : Setting) (s : Sight) (l : ℕ) (up : Bool) → IsBoardChange (marks o s l up)
+mark_or o s l true = change_or (not (nat_lt l (links_of o))) (is_up (newest s) l) (nat_le MAX_CHANGES (newest s).version) NoLink Same TooManyChanges (marked (newest s) l true)
+mark_or o s l false = change_or (not (nat_lt l (links_of o))) (not (is_up (newest s) l)) (nat_le MAX_CHANGES (newest s).version) NoLink Same TooManyChanges (marked (newest s) l false)
+
+change_comes : (o : Setting) (s : Sight) (e : Event) → IsChange e → (w : Result Entry Refused) → ComesTo o s e w → IsBoardChange w
+change_comes o s (event.Retire f) is w comes =
+    subst (λ (x : Result Entry Refused). IsBoardChange x) (sym comes)
+    (change_or (nat_lt (newest s).current f) (nat_le f (newest s).floor) (nat_le MAX_CHANGES (newest s).version) NoEpoch Same TooManyChanges (retired_below (newest s) f))
+change_comes o s (event.Down l) is w comes = subst (λ (x : Result Entry Refused). IsBoardChange x) (sym comes) (mark_or o s l false)
+change_comes o s (event.Up l) is w comes = subst (λ (x : Result Entry Refused). IsBoardChange x) (sym comes) (mark_or o s l true)
+change_comes o s (event.Install kind root) is w comes = absurd is
+change_comes o s (event.Inject source dest) is w comes = absurd is
+change_comes o s (event.Learn e) is w comes = absurd is
+change_comes o s (event.Take u way) is w comes = absurd is
+change_comes o s (event.Read u k) is w comes = absurd is
+change_comes o s (event.Act u) is w comes = absurd is
+
+-- Two settings over one network. A change comes to the same by the same boards.
+module _ (o p : Setting) (over : o.network ≡ p.network) where
+  marks_same : (s t : Sight) (l : ℕ) (up : Bool) → s.boards ≡ t.boards → marks o s l up ≡ marks p t l up
+  marks_same s t l up same =
+      ap (λ (boards : List Board). marks o (record s { boards = boards }) l up) same ∙ ap (λ (net : Network). marks (record o { network = net }) t l up) over
+
+  change_same : (s t : Sight) → s.boards ≡ t.boards → (e : Event) → IsChange e → (w v : Result Entry Refused) → ComesTo o s e w → ComesTo p t e v → w ≡ v
+  change_same s t same (event.Retire f) is w v comes goes = comes ∙ ap (λ (boards : List Board). retires (record s { boards = boards }) f) same ∙ sym goes
+  change_same s t same (event.Down l) is w v comes goes = comes ∙ marks_same s t l false same ∙ sym goes
+  change_same s t same (event.Up l) is w v comes goes = comes ∙ marks_same s t l true same ∙ sym goes
+  change_same s t same (event.Install kind root) is w v comes goes = absurd is
+  change_same s t same (event.Inject source dest) is w v comes goes = absurd is
+  change_same s t same (event.Learn e) is w v comes goes = absurd is
+  change_same s t same (event.Take u way) is w v comes goes = absurd is
+  change_same s t same (event.Read u k) is w v comes goes = absurd is
+  change_same s t same (event.Act u) is w v comes goes = absurd is
+
+  changed : (log other : List Entry) → AreAlike o p log other → (w : Result Entry Refused) → IsBoardChange w → AreAlike o p (with_entry log w) (with_entry other w)
+  changed log other is (Err e) h = is
+  changed log other is (Ok (DidChange b)) h = record { boards = ap (λ (boards : List Board). boards ++ b ∷ []) is.boards; plans = is.plans }
+  changed log other is (Ok (DidInstall e t b)) h = absurd h
+  changed log other is (Ok (DidInject id e s d)) h = absurd h
+  changed log other is (Ok (DidLearn e)) h = absurd h
+  changed log other is (Ok (DidTake u way id)) h = absurd h
+  changed log other is (Ok (DidRead u k)) h = absurd h
+  changed log other is (Ok (DidAct u id way restamp v)) h = absurd h
+
+  change_alike : (log other : List Entry) → AreAlike o p log other → (e : Event) → IsChange e → (w v : Result Entry Refused) → ComesTo o (sight_after o log) e w → ComesTo p (sight_after p other) e v →
+      AreAlike o p (with_entry log w) (with_entry other v)
+  change_alike log other is e change w v comes goes =
+      let same = change_same (sight_after o log) (sight_after p other) is.boards e change w v comes goes in
+      subst (λ (x : Result Entry Refused). AreAlike o p (with_entry log w) (with_entry other x)) same (changed log other is w (change_comes o (sight_after o log) e change w comes))
+
+  -- an install, which is refused by both or accepted by both
+  up_same : (log other : List Entry) → AreAlike o p log other → network_up o (sight_after o log) ≡ network_up p (sight_after p other)
+  up_same log other is =
+      ap (λ (boards : List Board). restrict (take (links_of o) (newest_of boards).up) o.network) is.boards
+      ∙ ap (λ (net : Network). restrict (take (length net.links) (newest_of (history.boards other)).up) net) over
+
+  refused_same : (log other : List Entry) → AreAlike o p log other → (root : ℕ) → install_refused o (sight_after o log) root ≡ install_refused p (sight_after p other) root
+  refused_same log other is root =
+      ap (λ (boards : List Board). install_refused o (record (sight_after o log) { boards = boards }) root) is.boards
+      ∙ ap (λ (n : ℕ). cond (not (nat_lt root (nodes_of o))) (Some NoNode) (cond (nat_le MAX_EPOCHS n) (Some EpochsFull) (cond (nat_le MAX_CHANGES (newest_of (history.boards other)).version) (Some TooManyChanges) None))) (twins-length _ _ is.plans)
+      ∙ ap (λ (net : Network). install_refused (record p { network = net }) (sight_after p other) root) over
+
+  not_both : (kind : Kind) (root : ℕ) (net : Network) (t : Scheme) → IsMade kind root net (Some t) → IsDisconnected net → ⊥
+  not_both kind root net t made apart =
+      let walk = subst (λ (n : Network). IsConnected n) made.2 made.3.connected apart.0 apart.1 apart.2 apart.3 in
+      apart.4 walk.0 walk.1
+
+  installed_alike : (log other : List Entry) → AreAlike o p log other → (kind : Kind) (root : ℕ) (x y : Option Scheme) → IsMade kind root (network_up o (sight_after o log)) x → IsMade kind root (network_up p (sight_after p other)) y →
+      AreAlike o p (with_entry log (installs_made (sight_after o log) x)) (with_entry other (installs_made (sight_after p other) y))
+  installed_alike log other is kind root None None made given = is
+  installed_alike log other is kind root None (Some u) made given =
+      absurd (not_both kind root (network_up p (sight_after p other)) u given (subst (λ (net : Network). IsDisconnected net) (up_same log other is) made))
+  installed_alike log other is kind root (Some t) None made given =
+      absurd (not_both kind root (network_up o (sight_after o log)) t made (subst (λ (net : Network). IsDisconnected net) (sym (up_same log other is)) given))
+  installed_alike log other is kind root (Some t) (Some u) made given =
+      let count = twins-length (history.plans o log) (history.plans p other) is.plans in
+      let board = ap (λ (boards : List Board). installed (newest_of boards) (length (history.plans o log) + 1)) is.boards ∙ ap (λ (n : ℕ). installed (newest_of (history.boards other)) (n + 1)) count in
+      record {
+        boards = ap (λ (boards : List Board). boards ++ installed (newest_of (history.boards log)) (length (history.plans o log) + 1) ∷ []) is.boards ∙ ap (λ (b : Board). history.boards other ++ b ∷ []) board;
+        plans = twins-push (history.plans o log) (history.plans p other) t u is.plans
+            (made.0 ∙ sym given.0, made.1 ∙ sym given.1, made.2 ∙ up_same log other is ∙ sym given.2, made.3);
+      }
+
+  install_alike : (log other : List Entry) → AreAlike o p log other → (kind : Kind) (root : ℕ) (w v : Result Entry Refused) (x y : Option Refused) → x ≡ y →
+      InstallsUnless o (sight_after o log) kind root w x → InstallsUnless p (sight_after p other) kind root v y → AreAlike o p (with_entry log w) (with_entry other v)
+  install_alike log other is kind root w v (Some e) (Some f) same comes goes =
+      subst (λ (z : Result Entry Refused). AreAlike o p (with_entry log z) (with_entry other v)) (sym comes) (subst (λ (z : Result Entry Refused). AreAlike o p log (with_entry other z)) (sym goes) is)
+  install_alike log other is kind root w v (Some e) None same comes goes = absurd (none-some e (sym same))
+  install_alike log other is kind root w v None (Some f) same comes goes = absurd (none-some f same)
+  install_alike log other is kind root w v None None same comes goes =
+      subst (λ (z : Result Entry Refused). AreAlike o p (with_entry log z) (with_entry other v)) (sym comes.2)
+      (subst (λ (z : Result Entry Refused). AreAlike o p (with_entry log (installs_made (sight_after o log) comes.0)) (with_entry other z)) (sym goes.2) (installed_alike log other is kind root comes.0 goes.0 comes.1 goes.1))
+
+  -- what an event that is no controller's comes to
+  event_passed : (s : Sight) (w v : Result Entry Refused) → IsPassed v → w ≡ v → IsPassed w
+  event_passed s w v is comes = subst (λ (x : Result Entry Refused). IsPassed x) (sym comes) is
+
+  skipped : (log other later next : List Entry) → AreAlike o p log other → (w : Result Entry Refused) → IsPassed w → later ≡ with_entry log w → next ≡ other → AreAlike o p later next
+  skipped log other later next is w passed went stays =
+      subst (λ (x : List Entry). AreAlike o p x next) (sym went) (subst (λ (x : List Entry). AreAlike o p (with_entry log w) x) (sym stays) (alike_kept o p log (with_entry log w) other (passed_keeps o log w passed) is))
+
+  taken : (log other later next : List Entry) (w v : Result Entry Refused) → later ≡ with_entry log w → next ≡ with_entry other v → AreAlike o p (with_entry log w) (with_entry other v) → AreAlike o p later next
+  taken log other later next w v went goes is =
+      subst (λ (x : List Entry). AreAlike o p x next) (sym went) (subst (λ (x : List Entry). AreAlike o p (with_entry log w) x) (sym goes) is)
+
+  event_alike : (log other later next : List Entry) → AreAlike o p log other → (e : Event) (w : Result Entry Refused) → ComesTo o (sight_after o log) e w → later ≡ with_entry log w → IsControlled p other (step.Event e) next → AreAlike o p later next
+  event_alike log other later next is (event.Install kind root) w comes went t =
+      taken log other later next w t.0 went t.2
+      (install_alike log other is kind root w t.0 (install_refused o (sight_after o log) root) (install_refused p (sight_after p other) root) (refused_same log other is root) comes t.1)
+  event_alike log other later next is (event.Retire f) w comes went t = taken log other later next w t.0 went t.2 (change_alike log other is (event.Retire f) tt w t.0 comes t.1)
+  event_alike log other later next is (event.Down l) w comes went t = taken log other later next w t.0 went t.2 (change_alike log other is (event.Down l) tt w t.0 comes t.1)
+  event_alike log other later next is (event.Up l) w comes went t = taken log other later next w t.0 went t.2 (change_alike log other is (event.Up l) tt w t.0 comes t.1)
+  event_alike log other later next is (event.Inject source dest) w comes went stays =
+      skipped log other later next is w (event_passed (sight_after o log) w (injects o (sight_after o log) source dest) (injects_passed o (sight_after o log) source dest) comes) went stays
+  event_alike log other later next is (event.Learn e) w comes went stays =
+      skipped log other later next is w (event_passed (sight_after o log) w (learns (sight_after o log) e) (learns_passed (sight_after o log) e) comes) went stays
+  event_alike log other later next is (event.Take u way) w comes went stays =
+      skipped log other later next is w (event_passed (sight_after o log) w (takes o (sight_after o log) u way) (takes_passed o (sight_after o log) u way) comes) went stays
+  event_alike log other later next is (event.Read u k) w comes went stays =
+      skipped log other later next is w (event_passed (sight_after o log) w (reads o (sight_after o log) u k) (reads_passed o (sight_after o log) u k) comes) went stays
+  event_alike log other later next is (event.Act u) w comes went stays =
+      skipped log other later next is w (event_passed (sight_after o log) w (acts o (sight_after o log) u) (acts_passed o (sight_after o log) u) comes) went stays
+
+  answer_alike : (log other later next : List Entry) → AreAlike o p log other → (e : Event) (reply : Result Reply Refused) → reply ≢ Err NoMemory → IsAnswered o log e reply later → IsControlled p other (step.Event e) next → AreAlike o p later next
+  answer_alike log other later next is e reply memory (inl a) t = event_alike log other later next is e a.0 a.1 a.3 t
+  answer_alike log other later next is e reply memory (inr a) t = absurd (memory a.1)
+
+  step_alike : (log other later next : List Entry) → AreAlike o p log other → (x : Step) (reply : Result Reply Refused) → reply ≢ Err NoMemory → IsStepAnswered o log x reply later → IsControlled p other x next → AreAlike o p later next
+  step_alike log other later next is (step.Event e) reply memory answered t = answer_alike log other later next is e reply memory answered t
+  step_alike log other later next is step.Drain reply memory answered stays =
+      let keeps = kept_rounds o (suc answered.1.rounds) log in
+      subst (λ (x : List Entry). AreAlike o p x next) (sym answered.1.ends)
+      (subst (λ (x : List Entry). AreAlike o p (after_rounds o (suc answered.1.rounds) log) x) (sym stays) (alike_kept o p log (after_rounds o (suc answered.1.rounds) log) other keeps is))
+
+  run_alike : (steps : List Step) (replies : List (Result Reply Refused)) (log other later next : List Entry) → AreAlike o p log other → NoneWantsMemory replies → IsRun o log steps replies later → IsControlRun p other steps next →
+      AreAlike o p later next
+  run_alike [] [] log other later next is memory run control =
+      subst (λ (x : List Entry). AreAlike o p x next) (sym run) (subst (λ (x : List Entry). AreAlike o p log x) (sym control) is)
+  run_alike [] (reply ∷ replies) log other later next is memory run control = absurd run
+  run_alike (x ∷ steps) [] log other later next is memory run control = absurd run
+  run_alike (x ∷ steps) (reply ∷ replies) log other later next is memory run control =
+      run_alike steps replies run.0 control.0 later next
+      (step_alike log other run.0 control.0 is x reply (All-head (λ (r : Result Reply Refused). r ≢ Err NoMemory) reply replies memory) run.1 control.1)
+      (All-tail (λ (r : Result Reply Refused). r ≢ Err NoMemory) reply replies memory) run.2 control.2
+
+-- the first epochs of two openings alike
+opened_alike : (net : Network) (kind : Kind) (root room most limit : ℕ) (o p : Setting) → IsOpenedWith net kind root room most limit o → IsOpenedWith net kind root room most limit p → AreAlike o p [] []
+opened_alike net kind root room most limit o p a b =
+    let made = a.first in
+    let given = b.first in
+    record { boards = refl; plans = ((made.0 ∙ sym given.0, made.1 ∙ sym given.1, made.2 ∙ sym given.2, made.3), tt) }
+
+-- the epochs of a run are built from the installs of its steps
+pub epochs_built : (net : Network) (kind : Kind) (root room most limit : ℕ) (steps : List Step) (replies : List (Result Reply Refused)) (world : State) (installs : List Install) →
+    AreEpochsOf net kind root room most limit steps replies world installs
+epochs_built net kind root room most limit steps replies world installs opened played memory built =
+    let o = world.opening in
+    let over = opened.network ∙ sym built.opened.network in
+    let alike = run_alike o built.setting over steps replies [] [] played.log built.log (opened_alike net kind root room most limit o built.setting opened built.opened) memory played.run built.run in
+    subst (λ (schemes : List Scheme). AreBuiltFrom o installs schemes) (sym played.shows.plans) (twins_built o built.setting over installs (history.plans o played.log) (history.plans built.setting built.log) alike.plans built.built)

@@ -1,0 +1,206 @@
+-- What the controller's steps of a list install.
+use Rattle.std.proofs.Common.{◌≡◌, ◌≢◌, ℕ, zero, suc, ◌<◌, ◌≤◌, List, [], ◌∷◌, ◌++◌, length, take, map, filter, replicate, slice_get, slice_index_or, Option, Some, None, refl, sym, ap, ◌∙◌, subst, arith, true, false, Bool, cond, inl, inr}
+use Rattle.std.specs.Prelude.{Result, Ok, Err, is_ok, IfOk, not, nat_lt, nat_le}
+use Rattle.std.proofs.lemmas.Option.{slice_get_within}
+use Rattle.ir_model.specs.declared.Hop.{Hop}
+use Rattle.ir_model.specs.declared.Kind.{Kind}
+use Rattle.ir_model.specs.Network.{Network, IsNetwork, is_up, restrict}
+use Rattle.ir_model.specs.Scheme.{Scheme}
+use Rattle.ir_core.specs.declared.TheConstants.{MAX_LINKS, MAX_CHANGES}
+use Rattle.ir_core.specs.declared.board.Board.{Board}
+use Rattle.ir_core.specs.declared.built.Install.{Install}
+use Rattle.ir_core.specs.declared.event.Event.{Event}
+use Rattle.ir_core.specs.declared.event.Event.TheVariants as event
+use Rattle.ir_core.specs.declared.event.Step.{Step}
+use Rattle.ir_core.specs.declared.event.Step.TheVariants as step
+use Rattle.ir_core.specs.declared.event.Reply.{Reply}
+use Rattle.ir_core.specs.declared.event.Refused.{Refused}
+use Rattle.ir_core.specs.declared.event.Refused.TheVariants.{NoMemory, Disconnected, NoEpoch, NoLink, Same, TooManyChanges}
+use Rattle.ir_core.specs.Board.{marked, retired_below}
+use Rattle.ir_core.specs.Board.{is_up as up_on}
+use Rattle.ir_core.specs.Setting.{Setting, links_of}
+use Rattle.ir_core.specs.Opened.{IsOpenedWith}
+use Rattle.ir_core.specs.Entry.{Entry, DidChange}
+use Rattle.ir_core.specs.History as history
+use Rattle.ir_core.specs.Meaning.{IsMade, ComesTo, InstallsUnless, install_refused, installs_made, newest, newest_of, sight_after, with_entry}
+use Rattle.ir_core.specs.State.{State, IsState, sight_in}
+use Rattle.ir_core.specs.Shows.{Shows, AnswersAfter, IsAnswered, reply_to}
+use Rattle.ir_core.specs.Installed.{IsTaken, IsControlled, IsControlRun, IsBuiltFrom, AreBuiltFrom, AreInstalls, ControlsOn, IsChange}
+
+built_push : (o : Setting) (installs : List Install) (schemes : List Scheme) (i : Install) (t : Scheme) → AreBuiltFrom o installs schemes → IsBuiltFrom o i t → AreBuiltFrom o (installs ++ i ∷ []) (schemes ++ t ∷ [])
+built_push o [] [] i t b is = (is, tt)
+built_push o [] (s ∷ schemes) i t b is = absurd b
+built_push o (x ∷ installs) [] i t b is = absurd b
+built_push o (x ∷ installs) (s ∷ schemes) i t b is = (b.0, built_push o installs schemes i t b.1 is)
+
+ok_err : (x : Entry) (e : Refused) → ◌≡◌ {A = Result Entry Refused} (Ok x) (Err e) → ⊥
+ok_err x e q = cc
+
+same_ok : (x y : Entry) → ◌≡◌ {A = Result Entry Refused} (Ok x) (Ok y) → x ≡ y
+same_ok x y e = cc
+
+-- the plans after a change of the board
+plans_kept : (o : Setting) (log : List Entry) (a b c : Bool) (x y z : Refused) (board : Board) →
+    history.plans o (with_entry log (cond a (Err x) (cond b (Err y) (cond c (Err z) (Ok (DidChange board)))))) ≡ history.plans o log
+plans_kept o log true b c x y z board = refl
+plans_kept o log false true c x y z board = refl
+plans_kept o log false false true x y z board = refl
+plans_kept o log false false false x y z board = refl
+
+change_plans : (o : Setting) (log : List Entry) (e : Event) → IsChange e → (wanted : Result Entry Refused) → ComesTo o (sight_after o log) e wanted → history.plans o (with_entry log wanted) ≡ history.plans o log
+change_plans o log (event.Retire f) is wanted comes =
+    let x = sight_after o log in
+    ap (λ (w : Result Entry Refused). history.plans o (with_entry log w)) comes
+    ∙ plans_kept o log (nat_lt (newest x).current f) (nat_le f (newest x).floor) (nat_le MAX_CHANGES (newest x).version) NoEpoch Same TooManyChanges (retired_below (newest x) f)
+change_plans o log (event.Down l) is wanted comes =
+    let x = sight_after o log in
+    ap (λ (w : Result Entry Refused). history.plans o (with_entry log w)) comes
+    ∙ plans_kept o log (not (nat_lt l (links_of o))) (not (up_on (newest x) l)) (nat_le MAX_CHANGES (newest x).version) NoLink Same TooManyChanges (marked (newest x) l false)
+change_plans o log (event.Up l) is wanted comes =
+    let x = sight_after o log in
+    ap (λ (w : Result Entry Refused). history.plans o (with_entry log w)) comes
+    ∙ plans_kept o log (not (nat_lt l (links_of o))) (up_on (newest x) l) (nat_le MAX_CHANGES (newest x).version) NoLink Same TooManyChanges (marked (newest x) l true)
+change_plans o log (event.Install kind root) is wanted comes = absurd is
+change_plans o log (event.Inject source dest) is wanted comes = absurd is
+change_plans o log (event.Learn e) is wanted comes = absurd is
+change_plans o log (event.Take u way) is wanted comes = absurd is
+change_plans o log (event.Read u k) is wanted comes = absurd is
+change_plans o log (event.Act u) is wanted comes = absurd is
+
+change_controlled : (o : Setting) (log later : List Entry) (e : Event) → IsChange e → IsTaken o log e later → IsControlled o log (step.Event e) later
+change_controlled o log later (event.Retire f) is t = t
+change_controlled o log later (event.Down l) is t = t
+change_controlled o log later (event.Up l) is t = t
+change_controlled o log later (event.Install kind root) is t = absurd is
+change_controlled o log later (event.Inject source dest) is t = absurd is
+change_controlled o log later (event.Learn e) is t = absurd is
+change_controlled o log later (event.Take u way) is t = absurd is
+change_controlled o log later (event.Read u k) is t = absurd is
+change_controlled o log later (event.Act u) is t = absurd is
+
+-- a change of the board
+pub change_taken : (s new : State) (e : Event) (reply : Result Reply Refused) → IsChange e → new.opening ≡ s.opening → ((log : List Entry) → Shows log s → AnswersAfter log e reply s.opening new) → reply ≢ Err NoMemory →
+    (installs : List Install) → ControlsOn s (step.Event e) installs new installs
+change_taken s new e reply is same answers memory installs = (same, λ log k built. by_answer log built (answers log k).0 (answers log k).1 (answers log k).2)
+  where
+    by_answer : (log : List Entry) → AreBuiltFrom s.opening installs (history.plans s.opening log) → (later : List Entry) → IsAnswered s.opening log e reply later → Shows later new →
+        (x : List Entry) × IsControlled s.opening log (step.Event e) x × Shows x new × AreBuiltFrom s.opening installs (history.plans s.opening x)
+    by_answer log built later (inl a) shows =
+        let plans = ap (λ (x : List Entry). history.plans s.opening x) a.3 ∙ change_plans s.opening log e is a.0 a.1 in
+        (later, change_controlled s.opening log later e is (a.0, a.1, a.3), shows, subst (λ (schemes : List Scheme). AreBuiltFrom s.opening installs schemes) (sym plans) built)
+    by_answer log built later (inr a) shows = absurd (memory a.1)
+
+-- an install, accepted or refused
+module _ (s new : State) (kind : Kind) (root : ℕ) (reply : Result Reply Refused) (same : new.opening ≡ s.opening)
+    (answers : (log : List Entry) → Shows log s → AnswersAfter log (event.Install kind root) reply s.opening new) (memory : reply ≢ Err NoMemory) where
+  refused_by : (log later : List Entry) (installs : List Install) (wanted : Result Entry Refused) → is_ok (reply_to wanted) ≡ false → later ≡ with_entry log wanted →
+      AreBuiltFrom s.opening installs (history.plans s.opening log) → AreBuiltFrom s.opening installs (history.plans s.opening later)
+  refused_by log later installs (Ok entry) not is built = cc
+  refused_by log later installs (Err e) not is built = subst (λ (x : List Entry). AreBuiltFrom s.opening installs (history.plans s.opening x)) (sym is) built
+
+  pub install_refused_so : is_ok reply ≡ false → (installs : List Install) → ControlsOn s (step.Event (event.Install kind root)) installs new installs
+  install_refused_so not installs = (same, λ log k built. by_answer log built (answers log k).0 (answers log k).1 (answers log k).2)
+    where
+      by_answer : (log : List Entry) → AreBuiltFrom s.opening installs (history.plans s.opening log) → (later : List Entry) → IsAnswered s.opening log (event.Install kind root) reply later → Shows later new →
+          (x : List Entry) × IsControlled s.opening log (step.Event (event.Install kind root)) x × Shows x new × AreBuiltFrom s.opening installs (history.plans s.opening x)
+      by_answer log built later (inl a) shows =
+          (later, (a.0, a.1, a.3), shows, refused_by log later installs a.0 (sym (ap (λ (r : Result Reply Refused). is_ok r) a.2) ∙ not) a.3 built)
+      by_answer log built later (inr a) shows = absurd (memory a.1)
+
+  built_by : (log later : List Entry) (installs : List Install) (i : Install) (wanted : Result Entry Refused) (x : Option Refused) → is_ok (reply_to wanted) ≡ true → later ≡ with_entry log wanted →
+      InstallsUnless s.opening (sight_after s.opening log) kind root wanted x → ((t : Scheme) → IsMade kind root (restrict (take (links_of s.opening) (newest (sight_after s.opening log)).up) s.opening.network) (Some t) → IsBuiltFrom s.opening i t) →
+      AreBuiltFrom s.opening installs (history.plans s.opening log) → AreBuiltFrom s.opening (installs ++ i ∷ []) (history.plans s.opening later)
+  built_by log later installs i (Err e) x did is comes from built = cc
+  built_by log later installs i (Ok entry) (Some e) did is comes from built = absurd (ok_err entry e comes)
+  built_by log later installs i (Ok entry) None did is comes from built = by_made comes.0 comes.1 comes.2
+    where
+      by_made : (made : Option Scheme) → IsMade kind root (restrict (take (links_of s.opening) (newest (sight_after s.opening log)).up) s.opening.network) made → Ok entry ≡ installs_made (sight_after s.opening log) made →
+          AreBuiltFrom s.opening (installs ++ i ∷ []) (history.plans s.opening later)
+      by_made None m e = absurd (ok_err entry Disconnected e)
+      by_made (Some t) m e =
+          let plans = ap (λ (x : List Entry). history.plans s.opening x) is ∙ ap (λ (x : Entry). history.plans s.opening (x ∷ log)) (same_ok entry _ e) in
+          subst (λ (schemes : List Scheme). AreBuiltFrom s.opening (installs ++ i ∷ []) schemes) (sym plans) (built_push s.opening installs (history.plans s.opening log) i t built (from t m))
+
+  pub install_accepted_so : is_ok reply ≡ true → (i : Install) → i.kind ≡ kind → i.root ≡ root → length i.up.items ≡ links_of s.opening → i.up.items ≡ take (links_of s.opening) (newest (sight_in s)).up → (installs : List Install) →
+      ControlsOn s (step.Event (event.Install kind root)) installs new (installs ++ i ∷ [])
+  install_accepted_so did i same_kind same_root marks is_up installs = (same, λ log k built. by_answer log k built (answers log k).0 (answers log k).1 (answers log k).2)
+    where
+      by_answer : (log : List Entry) → Shows log s → AreBuiltFrom s.opening installs (history.plans s.opening log) → (later : List Entry) → IsAnswered s.opening log (event.Install kind root) reply later → Shows later new →
+          (x : List Entry) × IsControlled s.opening log (step.Event (event.Install kind root)) x × Shows x new × AreBuiltFrom s.opening (installs ++ i ∷ []) (history.plans s.opening x)
+      by_answer log k built later (inl a) shows =
+          let here : i.up.items ≡ take (links_of s.opening) (newest (sight_after s.opening log)).up = is_up ∙ ap (λ (boards : List Board). take (links_of s.opening) (newest_of boards).up) k.boards in (
+            later,
+            (a.0, a.1, a.3),
+            shows,
+            built_by log later installs i a.0 (install_refused s.opening (sight_after s.opening log) root) (sym (ap (λ (r : Result Reply Refused). is_ok r) a.2) ∙ did) a.3 a.1
+                (λ t m. (marks, subst (λ (k : Kind). IsMade k i.root (restrict i.up.items s.opening.network) (Some t)) (sym same_kind) (subst (λ (n : ℕ). IsMade kind n (restrict i.up.items s.opening.network) (Some t)) (sym same_root) (subst (λ (xs : List Bool). IsMade kind root (restrict xs s.opening.network) (Some t)) (sym here) m)))) built,
+          )
+      by_answer log k built later (inr a) shows = absurd (memory a.1)
+
+-- with all links up a network is as it was
+all_up : (n m l : ℕ) → l < n → n ≤ m → slice_index_or (take n (replicate m true)) l false ≡ true
+all_up zero m l lt le = absurd (omega arith)
+all_up (suc n) zero l lt le = absurd (omega arith)
+all_up (suc n) (suc m) zero lt le = refl
+all_up (suc n) (suc m) (suc l) lt le = all_up n m l (omega arith) (omega arith)
+
+filter_all : (t : Hop → Bool) (xs : List Hop) → ((k : ℕ) (x : Hop) → slice_get xs k ≡ Some x → t x ≡ true) → filter t xs ≡ xs
+filter_all t [] h = refl
+filter_all t (y ∷ xs) h = rw (h 0 y refl) (ap (λ (l : List Hop). y ∷ l) (filter_all t xs (λ k x e. h (suc k) x e)))
+
+rows_all : (t : Hop → Bool) (rows : List (List Hop)) → ((u k : ℕ) (x : Hop) → slice_get (slice_index_or rows u []) k ≡ Some x → t x ≡ true) → map (filter t) rows ≡ rows
+rows_all t [] h = refl
+rows_all t (row ∷ rows) h =
+    ap (λ (r : List Hop). r ∷ map (filter t) rows) (filter_all t row (λ k x e. h 0 k x e)) ∙ ap (λ (rs : List (List Hop)). row ∷ rs) (rows_all t rows (λ u k x e. h (suc u) k x e))
+
+restrict_all : (net : Network) → IsNetwork net → length net.links ≤ MAX_LINKS → restrict (take (length net.links) (replicate MAX_LINKS true)) net ≡ net
+restrict_all net ok few =
+    ap (λ (ports : List (List Hop)). record { links = net.links; ports = ports })
+    (rows_all (is_up (take (length net.links) (replicate MAX_LINKS true))) net.ports (λ u k x e. (let port = ok.ports u k x e in all_up (length net.links) MAX_LINKS x.link (slice_get_within net.links x.link port.0 port.1) few)))
+
+-- the install of the first epoch
+pub first_built : (s : State) → IsState s → Shows [] s → (i : Install) → length i.up.items ≡ links_of s.opening → i.up.items ≡ take (links_of s.opening) (newest (sight_in s)).up →
+    IsMade i.kind i.root s.opening.network (Some s.opening.first) → AreBuiltFrom s.opening (i ∷ []) (s.opening.first ∷ [])
+first_built s ok k i marks is_up made =
+    let here : i.up.items ≡ take (links_of s.opening) (replicate MAX_LINKS true) = is_up ∙ ap (λ (boards : List Board). take (links_of s.opening) (newest_of boards).up) k.boards in
+    let whole = ap (λ (xs : List Bool). restrict xs s.opening.network) here ∙ restrict_all s.opening.network ok.opening.network ok.opening.few_links in
+    ((marks, subst (λ (net : Network). IsMade i.kind i.root net (Some s.opening.first)) (sym whole) made), tt)
+
+run_more : (o : Setting) (log mid later : List Entry) (steps : List Step) (s : Step) → IsControlRun o log steps mid → IsControlled o mid s later → IsControlRun o log (steps ++ s ∷ []) later
+run_more o log mid later [] s run next = (later, subst (λ (x : List Entry). IsControlled o x s later) run next, refl)
+run_more o log mid later (y ∷ steps) s run next = (run.0, run.1, run_more o run.0 mid later steps s run.2 next)
+
+-- the steps so far
+pub record ControlSo (net : Network) (kind : Kind) (root room most limit : ℕ) (steps : List Step) (world : State) (installs : List Install) : Type 0 where
+  pub opened : IsOpenedWith net kind root room most limit world.opening
+  pub log : List Entry
+  pub run : IsControlRun world.opening [] steps log
+  pub shows : Shows log world
+  pub built : AreBuiltFrom world.opening installs (history.plans world.opening log)
+
+pub control_none : (net : Network) (kind : Kind) (root room most limit : ℕ) (world : State) (installs : List Install) → IsOpenedWith net kind root room most limit world.opening → Shows [] world →
+    AreBuiltFrom world.opening installs (history.plans world.opening []) → ControlSo net kind root room most limit [] world installs
+control_none net kind root room most limit world installs opened shows built = record { opened = opened; log = []; run = refl; shows = shows; built = built }
+
+pub control_more : (net : Network) (kind : Kind) (root room most limit : ℕ) (steps : List Step) (s : Step) (world new : State) (installs more : List Install) → ControlSo net kind root room most limit steps world installs →
+    ControlsOn world s installs new more → ControlSo net kind root room most limit (steps ++ s ∷ []) new more
+control_more net kind root room most limit steps s world new installs more so on =
+    let next = on.1 so.log so.shows so.built in
+    let back = sym on.0 in
+    record {
+      opened = subst (λ (o : Setting). IsOpenedWith net kind root room most limit o) back so.opened;
+      log = next.0;
+      run = subst (λ (o : Setting). IsControlRun o [] (steps ++ s ∷ []) next.0) back (run_more world.opening [] so.log next.0 steps s so.run next.1);
+      shows = next.2;
+      built = subst (λ (o : Setting). AreBuiltFrom o more (history.plans o next.0)) back next.3;
+    }
+
+pub control_all : (net : Network) (kind : Kind) (root room most limit : ℕ) (steps all : List Step) (world : State) (installs : List Install) → steps ≡ all → ControlSo net kind root room most limit steps world installs →
+    AreInstalls net kind root room most limit all installs
+control_all net kind root room most limit steps all world installs same so =
+    record { setting = world.opening; opened = so.opened; log = so.log; run = subst (λ (xs : List Step). IsControlRun world.opening [] xs so.log) same so.run; built = so.built }
+
+-- what holds of all installs holds of these
+pub of_installs : {X E : Type 0} (r : Result X E) (Q : List Install → Type 0) → IfOk r (λ _. (installs : List Install) → Q installs) → (installs : List Install) → IfOk r (λ _. Q installs)
+of_installs (Ok x) Q k installs = k installs
+of_installs (Err e) Q k installs = tt

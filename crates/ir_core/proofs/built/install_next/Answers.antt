@@ -1,0 +1,18 @@
+use Rattle.std.proofs.Common.{List, ◌∙◌, refl, sym, subst}
+use Rattle.ir_core.specs.declared.event.Event.TheVariants as event
+use Rattle.ir_core.specs.declared.event.Step.TheVariants as step
+use Rattle.ir_core.specs.declared.built.Install.{Install}
+use Rattle.ir_core.specs.Installed.{ControlsOn}
+use Rattle.ir_core.proofs.Controls.{install_refused_so, install_accepted_so}
+use Rattle.ir_core.proofs.built.install_next.Goals as goal
+
+pub returns-then-not-new : goal.returns-then-not-new
+returns-then-not-new c =
+    install_refused_so c.args.world.now c.apply-reply.new.self c.args.kind c.args.root c.apply-reply.result c.apply-reply.ensures.same_opening c.apply-reply.ensures.history c.in-Ok-accepted.ensures.memory
+    (sym c.in-Ok-accepted.ensures.told ∙ c.if-not-new.true) c.args.built.now.items
+
+pub returns : goal.returns
+returns c =
+    subst (λ (xs : List Install). ControlsOn c.args.world.now (step.Event (event.Install c.args.kind c.args.root)) c.args.built.now.items c.apply-reply.new.self xs) (sym c.in-Ok-push.ensures.items)
+    (install_accepted_so c.args.world.now c.apply-reply.new.self c.args.kind c.args.root c.apply-reply.result c.apply-reply.ensures.same_opening c.apply-reply.ensures.history c.in-Ok-accepted.ensures.memory
+    (sym c.in-Ok-accepted.ensures.told ∙ c.if-not-new.false) (record { kind = c.args.kind; root = c.args.root; up = c.in-Ok.up }) refl refl c.in-Ok.ensures.count c.in-Ok.ensures.marks c.args.built.now.items)

@@ -1,0 +1,19 @@
+use Rattle.std.proofs.Common.{arith, ap}
+use Rattle.ir_core.specs.Inside.{state_of}
+use Rattle.ir_core.specs.declared.board.Board.{Board}
+use Rattle.ir_core.proofs.Keeps.{keep_change, newest_known}
+use Rattle.ir_core.proofs.world.World.mark.Goals as goal
+
+pub invariant_of-self-2 : goal.invariant_of-self-2
+invariant_of-self-2 c =
+    let n = newest_known _ _ c.self.view_is c.newest-newest.result c.newest-newest.ensures.value in
+    let version = ap (λ (b : Board). b.version) n in
+    let current = ap (λ (b : Board). b.current) n in
+    let floor = ap (λ (b : Board). b.floor) n in
+    let epochs = c.self.invariant.state.boards.current in
+    let live = c.self.invariant.state.boards.floor in
+    record {
+      state = rw (c.in-Ok.ensures.items, c.marked.ensures)
+          (keep_change (state_of c.self.inside) c.self.invariant.state _ (omega (arith, version)) (omega (arith, version)) current (omega (arith, current, floor, epochs, live)));
+      room = c.self.invariant.room;
+    }

@@ -1,0 +1,88 @@
+-- What the epochs of a list of steps are built from.
+use Rattle.std.specs.Prelude.{◌≡◌, ◌≢◌, ℕ, Some, Result, Err, List, [], ◌∷◌, length, All}
+use Rattle.ir_model.specs.declared.Kind.{Kind}
+use Rattle.ir_model.specs.Network.{Network, restrict}
+use Rattle.ir_model.specs.Scheme.{Scheme}
+use Rattle.ir_core.specs.declared.event.Event.{Event}
+use Rattle.ir_core.specs.declared.event.Event.TheVariants as event
+use Rattle.ir_core.specs.declared.event.Step.{Step}
+use Rattle.ir_core.specs.declared.event.Step.TheVariants as step
+use Rattle.ir_core.specs.declared.event.Reply.{Reply}
+use Rattle.ir_core.specs.declared.event.Refused.{Refused}
+use Rattle.ir_core.specs.declared.event.Refused.TheVariants.{NoMemory}
+use Rattle.ir_core.specs.declared.built.Install.{Install}
+use Rattle.ir_core.specs.Setting.{Setting, links_of}
+use Rattle.ir_core.specs.Opened.{IsOpenedWith}
+use Rattle.ir_core.specs.Entry.{Entry}
+use Rattle.ir_core.specs.History as history
+use Rattle.ir_core.specs.Meaning.{IsMade, ComesTo, sight_after, with_entry}
+use Rattle.ir_core.specs.State.{State}
+use Rattle.ir_core.specs.Shows.{Shows}
+use Rattle.ir_core.specs.Run.{IsPlayed}
+
+-- an event after a history is accepted or refused by its meaning, not for want of memory
+abbrev pub IsTaken : Setting → List Entry → Event → List Entry → Type 0
+IsTaken o log e later = (wanted : Result Entry Refused) × ComesTo o (sight_after o log) e wanted × (later ≡ with_entry log wanted)
+
+-- The history after a step of which only the controller's are looked at: installs, retirements and marks of links.
+abbrev pub IsControlled : Setting → List Entry → Step → List Entry → Type 0
+IsControlled o log (step.Event (event.Install kind root)) later = IsTaken o log (event.Install kind root) later
+IsControlled o log (step.Event (event.Retire f)) later = IsTaken o log (event.Retire f) later
+IsControlled o log (step.Event (event.Down l)) later = IsTaken o log (event.Down l) later
+IsControlled o log (step.Event (event.Up l)) later = IsTaken o log (event.Up l) later
+IsControlled o log (step.Event (event.Inject source dest)) later = later ≡ log
+IsControlled o log (step.Event (event.Learn e)) later = later ≡ log
+IsControlled o log (step.Event (event.Take u way)) later = later ≡ log
+IsControlled o log (step.Event (event.Read u k)) later = later ≡ log
+IsControlled o log (step.Event (event.Act u)) later = later ≡ log
+IsControlled o log step.Drain later = later ≡ log
+
+abbrev pub IsControlRun : Setting → List Entry → List Step → List Entry → Type 0
+IsControlRun o log [] later = later ≡ log
+IsControlRun o log (s ∷ steps) later = (mid : List Entry) × IsControlled o log s mid × IsControlRun o mid steps later
+
+-- an epoch's scheme is of this kind and root, over the links that are marked; there is a mark for each link
+abbrev pub IsBuiltFrom : Setting → Install → Scheme → Type 0
+IsBuiltFrom o i s = (length i.up.items ≡ links_of o) × IsMade i.kind i.root (restrict i.up.items o.network) (Some s)
+
+abbrev pub AreBuiltFrom : Setting → List Install → List Scheme → Type 0
+AreBuiltFrom o [] [] = Unit {0}
+AreBuiltFrom o [] (s ∷ schemes) = ⊥
+AreBuiltFrom o (i ∷ installs) [] = ⊥
+AreBuiltFrom o (i ∷ installs) (s ∷ schemes) = IsBuiltFrom o i s × AreBuiltFrom o installs schemes
+
+-- The installs of a list of steps, by epoch: each epoch after the controller's steps is built from its install.
+pub record AreInstalls (net : Network) (kind : Kind) (root room most limit : ℕ) (steps : List Step) (installs : List Install) : Type 0 where
+  pub setting : Setting
+  pub opened : IsOpenedWith net kind root room most limit setting
+  pub log : List Entry
+  pub run : IsControlRun setting [] steps log
+  pub built : AreBuiltFrom setting installs (history.plans setting log)
+
+-- no reply to a step is want of memory
+abbrev pub NoneWantsMemory : List (Result Reply Refused) → Type 0
+NoneWantsMemory replies = All (λ reply. reply ≢ Err NoMemory) replies
+
+-- Where no step of a run wanted memory, its epochs were built from the installs of the same opening and steps.
+abbrev pub AreEpochsOf : Network → Kind → ℕ → ℕ → ℕ → ℕ → List Step → List (Result Reply Refused) → State → List Install → Type 0
+AreEpochsOf net kind root room most limit steps replies world installs =
+    IsOpenedWith net kind root room most limit world.opening → IsPlayed world.opening steps replies world → NoneWantsMemory replies
+    → AreInstalls net kind root room most limit steps installs → AreBuiltFrom world.opening installs world.plans
+
+-- one step more, of a world and the installs so far
+abbrev pub ControlsOn : State → Step → List Install → State → List Install → Type 0
+ControlsOn s x installs new more =
+    (new.opening ≡ s.opening) × ((log : List Entry) → Shows log s → AreBuiltFrom s.opening installs (history.plans s.opening log) →
+    (later : List Entry) × IsControlled s.opening log x later × Shows later new × AreBuiltFrom s.opening more (history.plans s.opening later))
+
+-- an event that changes a board and installs nothing
+abbrev pub IsChange : Event → Type 0
+IsChange (event.Retire f) = Unit {0}
+IsChange (event.Down l) = Unit {0}
+IsChange (event.Up l) = Unit {0}
+IsChange (event.Install kind root) = ⊥
+IsChange (event.Inject source dest) = ⊥
+IsChange (event.Learn e) = ⊥
+IsChange (event.Take u way) = ⊥
+IsChange (event.Read u k) = ⊥
+IsChange (event.Act u) = ⊥

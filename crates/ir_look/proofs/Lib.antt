@@ -1,0 +1,8 @@
+pub mod PlanLines
+pub mod WalkLines
+pub mod StatsSums
+pub mod Pairs
+pub mod PlanTables
+pub mod Determined
+pub mod Drawn
+pub mod Escapes

@@ -1,0 +1,7 @@
+pub mod Words
+pub mod PlanText
+pub mod WalkText
+pub mod StatsText
+pub mod Quoted
+pub mod Drawing
+pub mod Before

@@ -1,0 +1,19 @@
+//! The texts that show a plan: its rows, a walk of it, its figures, and a drawing.
+#![tactic(auto)]
+
+mod draw;
+mod laws;
+pub mod plan_text;
+mod stats;
+mod walk;
+mod weights;
+mod worst;
+
+pub use draw::draw_text;
+pub use laws::{
+    drawing_is_determined, escaped_text_is_read_again, stats_text_is_determined,
+    walk_text_is_determined,
+};
+pub use stats::stats_text;
+pub use walk::walk_text;
+pub use worst::Pair;

@@ -1,0 +1,158 @@
+//! The text of a plan's figures.
+ghost use Rattle.std.specs.Prelude.{◌≡◌, ◌<◌, ◌≤◌, ◌++◌, IfOk, IfSome, OnOk, length, string_bytes};
+ghost use Rattle.ir_model.specs.Graph.{names};
+ghost use Rattle.ir_model.specs.Network.{node_count};
+ghost use Rattle.ir_model.specs.Table.{table_size, weight_in};
+ghost use Rattle.ir_look.specs.StatsText.{IsGreatestRow, IsWorstOf, AreWalkWeights, AreDistances, head_words, count_line, node_line, greatest_line, worst_line, rows_text, weights_text, IsStatsOf};
+ghost use Rattle.ir_look.specs.Before.{ArePositive};
+ghost use Rattle.ir_look.specs.Words.{line_text};
+
+use crate::plan_text::kind_text;
+use crate::weights::{distances, sum_of_pairs, walk_weights};
+use crate::worst::{Pair, worst};
+use ir_graph::Graph;
+use ir_plan::Plan;
+use ir_tables::Table;
+use ir_trace::text::{push_name, push_next_number, push_word};
+use std::alloc::{AllocError, Global};
+
+/// The first node with a row that no other node's exceeds.
+fn greatest_row(plan: &Plan) -> u16
+    ensures { IsGreatestRow plan.now result }
+{
+    let mut best = 0;
+    for u in 1..plan.nodes() {
+        if plan.row(best).len() < plan.row(u as u16).len() {
+            best = u as u16;
+        }
+    }
+    best
+}
+
+/// Writes the first line.
+fn push_head(text: &mut String, plan: &Plan) -> Result<(), AllocError>
+    ensures { OnOk result (string_bytes text.new ≡ string_bytes text.old ++ line_text (head_words plan.now)) }
+{
+    text.push_str("stats")?;
+    push_word(text, kind_text(plan.kind()))?;
+    push_next_number(text, plan.nodes())?;
+    text.push_str("\n")?;
+    Ok(())
+}
+
+/// Writes a line of a word and a number.
+fn push_count(text: &mut String, what: &str, count: usize) -> Result<(), AllocError>
+    ensures { OnOk result (string_bytes text.new ≡ string_bytes text.old ++ count_line what.now count) }
+{
+    text.push_str(what)?;
+    push_next_number(text, count)?;
+    text.push_str("\n")?;
+    Ok(())
+}
+
+/// Writes a line of a word, a node and a number.
+fn push_node_count(
+    text: &mut String,
+    graph: &Graph,
+    what: &str,
+    u: u16,
+    count: usize,
+) -> Result<(), AllocError>
+    requires { u < length graph.now }
+    ensures { OnOk result (string_bytes text.new ≡ string_bytes text.old ++ node_line (names graph.now) what.now u count) }
+{
+    text.push_str(what)?;
+    push_name(text, graph, u)?;
+    push_next_number(text, count)?;
+    text.push_str("\n")?;
+    Ok(())
+}
+
+/// Writes the line of the greatest row, which is that of a node.
+fn push_greatest(text: &mut String, graph: &Graph, plan: &Plan, u: u16) -> Result<(), AllocError>
+    requires nodes { node_count plan.now.network ≡ length graph.now }
+    requires node { u < length graph.now }
+    ensures { OnOk result (string_bytes text.new ≡ string_bytes text.old ++ greatest_line (names graph.now) plan.now u) }
+{
+    let count = plan.row(u).len();
+    push_node_count(text, graph, "greatest-row", u, count)?;
+    Ok(())
+}
+
+/// Writes the line of the worst pair, if there is one.
+fn push_worst(
+    text: &mut String,
+    graph: &Graph,
+    walks: &Table,
+    distances: &Table,
+    worst: Option<Pair>,
+) -> Result<(), AllocError>
+    requires walks { table_size walks.now ≡ length graph.now }
+    requires distances { table_size distances.now ≡ length graph.now }
+    requires worst { IfSome worst (λ p. (p.from < length graph.now) × (p.to < length graph.now)) }
+    ensures { OnOk result (string_bytes text.new ≡ string_bytes text.old ++ worst_line (names graph.now) (weight_in walks.now) (weight_in distances.now) worst) }
+{
+    let Some(pair) = worst else {
+        return Ok(());
+    };
+    text.push_str("worst")?;
+    push_name(text, graph, pair.from)?;
+    push_name(text, graph, pair.to)?;
+    push_next_number(text, walks.distance(pair.from, pair.to) as usize)?;
+    push_next_number(text, distances.distance(pair.from, pair.to) as usize)?;
+    text.push_str("\n")?;
+    Ok(())
+}
+
+/// Writes the lines that count what a plan holds, of which one is for the greatest row.
+fn push_rows(text: &mut String, graph: &Graph, plan: &Plan, greatest: u16) -> Result<(), AllocError>
+    requires nodes { node_count plan.now.network ≡ length graph.now }
+    requires greatest { greatest < length graph.now }
+    ensures { OnOk result (string_bytes text.new ≡ string_bytes text.old ++ rows_text (names graph.now) plan.now greatest) }
+{
+    let nodes = plan.nodes();
+    push_head(text, plan)?;
+    push_count(text, "links", plan.topology().links())?;
+    push_count(text, "starts", plan.labels())?;
+    push_count(text, "entries", nodes * (nodes - 1))?;
+    push_greatest(text, graph, plan, greatest)?;
+    Ok(())
+}
+
+/// Writes the lines that weigh the walks of a plan of so many nodes, of which one is for the worst pair.
+fn push_weights(
+    text: &mut String,
+    graph: &Graph,
+    nodes: usize,
+    walks: &Table,
+    distances: &Table,
+    worst: Option<Pair>,
+) -> Result<(), AllocError>
+    requires few { nodes ≤ 1024 }
+    requires nodes { nodes ≡ length graph.now }
+    requires walks { table_size walks.now ≡ nodes }
+    requires distances { table_size distances.now ≡ nodes }
+    requires worst { IfSome worst (λ p. (p.from < nodes) × (p.to < nodes)) }
+    ensures { OnOk result (string_bytes text.new ≡ string_bytes text.old ++ weights_text (names graph.now) nodes (weight_in walks.now) (weight_in distances.now) worst) }
+{
+    push_count(text, "walks", sum_of_pairs(nodes, walks) as usize)?;
+    push_count(text, "distances", sum_of_pairs(nodes, distances) as usize)?;
+    push_worst(text, graph, walks, distances, worst)?;
+    Ok(())
+}
+
+/// The text of the figures of a plan. Condition: the plan is over the graph's network. It is refused for memory alone.
+pub fn stats_text(alloc: Global, graph: &Graph, plan: &Plan) -> Result<String, AllocError>
+    requires { node_count plan.now.network ≡ length graph.now }
+    ensures { IfOk result (λ text. IsStatsOf (names graph.now) plan.now (string_bytes text)) }
+{
+    let nodes = plan.nodes();
+    let walks = walk_weights(alloc, plan)?;
+    let distances = distances(alloc, plan)?;
+    let greatest = greatest_row(plan);
+    let worst = worst(nodes, &walks, &distances);
+    let mut text = String::new(alloc);
+    push_rows(&mut text, graph, plan, greatest)?;
+    push_weights(&mut text, graph, nodes, &walks, &distances, worst)?;
+    Ok(text)
+}

@@ -1,0 +1,323 @@
+//! Packets that are restamped on their way.
+
+use ir_core::{
+    Event, Fate, Install, Kind, OpenError, Opening, Played, Restamp, Step, Way, World, installs,
+    play,
+};
+use ir_graph::Graph;
+use ir_tables::Topology;
+use std::alloc::Global;
+use std::test::Fail;
+
+fn topology(alloc: Global, edges: &[(&str, &str, u32)]) -> Result<Topology, Fail> {
+    let mut graph = Graph::new(alloc);
+    for (u, v, weight) in edges {
+        let Ok(_) = graph.add_edge(u, v, *weight) else {
+            return Err("refused".into());
+        };
+    }
+    let Ok(topology) = Topology::of(alloc, &graph) else {
+        return Err("no memory".into());
+    };
+    Ok(topology)
+}
+
+/// The path a, b, c: links a-b and b-c.
+fn path(alloc: Global) -> Result<Topology, Fail> {
+    topology(alloc, &[("a", "b", 1), ("b", "c", 1)])
+}
+
+/// Nodes u p q r t s; links u-p, u-q, p-q, p-t, q-r, q-t, q-s.
+fn cross(alloc: Global) -> Result<Topology, Fail> {
+    topology(
+        alloc,
+        &[
+            ("u", "p", 1),
+            ("u", "q", 1),
+            ("p", "q", 9),
+            ("q", "r", 1),
+            ("q", "t", 9),
+            ("p", "t", 1),
+            ("q", "s", 1),
+        ],
+    )
+}
+
+fn played(
+    alloc: Global,
+    topology: Topology,
+    root: u16,
+    restamps: u8,
+    steps: &[Step],
+) -> Result<Played, Fail> {
+    let opening = Opening {
+        topology,
+        kind: Kind::Tree,
+        root,
+        capacity: 16,
+        max_packets: 4096,
+        restamps,
+    };
+    let Ok(played) = play(alloc, opening, steps) else {
+        return Err("not opened".into());
+    };
+    Ok(played)
+}
+
+/// What became of packet 0, first stamped with epoch 1.
+fn ended(p: &Played, hops: &[u16], restamps: &[Restamp], fate: Fate) -> bool {
+    let Some(record) = p.world.packet(0) else {
+        return false;
+    };
+    record.epoch == 1
+        && record.hops.as_slice() == hops
+        && record.restamps.as_slice() == restamps
+        && record.fate == fate
+}
+
+fn event(event: Event) -> Step {
+    Step::Event(event)
+}
+
+#[test]
+fn restamped_in_a_channel(rt: HostRuntime) -> Result<(), Fail> {
+    let steps = [
+        event(Event::Inject(0, 4)),
+        event(Event::Take(0, Way::Inbox)),
+        event(Event::Act(0)),
+        event(Event::Install(Kind::Shortest, 0)),
+        event(Event::Retire(2)),
+        Step::Drain,
+    ];
+    let p = played(rt.alloc(), cross(rt.alloc())?, 0, 1, &steps)?;
+    assert!(rt;
+        ended(
+            &p,
+            &[0, 1, 4],
+            &[Restamp { epoch: 2, from: 1 }],
+            Fate::Delivered
+        )
+    );
+    let none = played(rt.alloc(), cross(rt.alloc())?, 0, 0, &steps)?;
+    assert!(rt; ended(&none, &[0], &[], Fate::Retired));
+    Ok(())
+}
+
+#[test]
+fn turned_back_by_a_restamp(rt: HostRuntime) -> Result<(), Fail> {
+    let steps = [
+        event(Event::Inject(0, 4)),
+        event(Event::Take(0, Way::Inbox)),
+        event(Event::Act(0)),
+        event(Event::Take(1, Way::Link(0))),
+        event(Event::Act(1)),
+        event(Event::Install(Kind::Shortest, 0)),
+        event(Event::Retire(2)),
+        Step::Drain,
+    ];
+    let p = played(rt.alloc(), cross(rt.alloc())?, 0, 1, &steps)?;
+    assert!(rt;
+        ended(
+            &p,
+            &[0, 1, 2, 0, 1, 4],
+            &[Restamp { epoch: 2, from: 2 }],
+            Fate::Delivered
+        )
+    );
+    Ok(())
+}
+
+#[test]
+fn restamped_twice_or_dropped(rt: HostRuntime) -> Result<(), Fail> {
+    let steps = [
+        event(Event::Inject(0, 4)),
+        event(Event::Take(0, Way::Inbox)),
+        event(Event::Act(0)),
+        event(Event::Take(1, Way::Link(0))),
+        event(Event::Act(1)),
+        event(Event::Install(Kind::Shortest, 0)),
+        event(Event::Retire(2)),
+        event(Event::Take(2, Way::Link(2))),
+        event(Event::Read(2, 2)),
+        event(Event::Act(2)),
+        event(Event::Install(Kind::Tree, 0)),
+        event(Event::Retire(3)),
+        Step::Drain,
+    ];
+    let once = played(rt.alloc(), cross(rt.alloc())?, 0, 1, &steps)?;
+    assert!(rt;
+        ended(
+            &once,
+            &[0, 1, 2],
+            &[Restamp { epoch: 2, from: 2 }],
+            Fate::Retired
+        )
+    );
+    let twice = played(rt.alloc(), cross(rt.alloc())?, 0, 2, &steps)?;
+    assert!(rt;
+        ended(
+            &twice,
+            &[0, 1, 2, 0, 1, 2, 4],
+            &[Restamp { epoch: 2, from: 2 }, Restamp { epoch: 3, from: 3 }],
+            Fate::Delivered,
+        )
+    );
+    Ok(())
+}
+
+#[test]
+fn restamped_at_the_end_or_the_source(rt: HostRuntime) -> Result<(), Fail> {
+    let steps = [
+        event(Event::Inject(1, 2)),
+        event(Event::Take(1, Way::Inbox)),
+        event(Event::Act(1)),
+        event(Event::Install(Kind::Tree, 1)),
+        event(Event::Retire(2)),
+        Step::Drain,
+    ];
+    let p = played(rt.alloc(), path(rt.alloc())?, 1, 1, &steps)?;
+    assert!(rt;
+        ended(
+            &p,
+            &[1, 2],
+            &[Restamp { epoch: 2, from: 1 }],
+            Fate::Delivered
+        )
+    );
+    let none = played(rt.alloc(), path(rt.alloc())?, 1, 0, &steps)?;
+    assert!(rt; ended(&none, &[1], &[], Fate::Retired));
+    let before = [
+        event(Event::Install(Kind::Tree, 1)),
+        event(Event::Retire(2)),
+        event(Event::Inject(1, 2)),
+        Step::Drain,
+    ];
+    let source = played(rt.alloc(), path(rt.alloc())?, 1, 1, &before)?;
+    assert!(rt;
+        ended(
+            &source,
+            &[1, 2],
+            &[Restamp { epoch: 2, from: 0 }],
+            Fate::Delivered
+        )
+    );
+    Ok(())
+}
+
+#[test]
+fn too_many_restamps(rt: HostRuntime) -> Result<(), Fail> {
+    let four = World::new(rt.alloc(), path(rt.alloc())?, Kind::Tree, 1, 16, 4096, 4);
+    assert!(rt; matches!(four, Err(OpenError::TooLarge)));
+    let no_root = World::new(rt.alloc(), path(rt.alloc())?, Kind::Tree, 3, 16, 4096, 4);
+    assert!(rt; matches!(no_root, Err(OpenError::NoNode)));
+    let three = World::new(rt.alloc(), path(rt.alloc())?, Kind::Tree, 1, 16, 4096, 3);
+    assert!(rt; three.is_ok());
+    Ok(())
+}
+
+/// What an epoch was built from: kind, root and marks are these.
+fn built(i: &Install, kind: Kind, root: u16, up: &[bool]) -> bool {
+    i.kind == kind && i.root == root && i.up.as_slice() == up
+}
+
+#[test]
+fn installs_of_a_list(rt: HostRuntime) -> Result<(), Fail> {
+    let opening = Opening {
+        topology: path(rt.alloc())?,
+        kind: Kind::Tree,
+        root: 1,
+        capacity: 16,
+        max_packets: 4096,
+        restamps: 0,
+    };
+    let steps = [
+        event(Event::Install(Kind::Shortest, 0)),
+        event(Event::Down(0)),
+        event(Event::Install(Kind::Tree, 1)),
+        event(Event::Inject(1, 2)),
+        event(Event::Install(Kind::Tree, 3)),
+        event(Event::Up(0)),
+        Step::Drain,
+        event(Event::Install(Kind::Tree, 2)),
+    ];
+    let Ok(list) = installs(rt.alloc(), &opening, &steps) else {
+        return Err("not opened".into());
+    };
+    assert!(rt; list.len() == 3);
+    assert!(rt;
+        list.get(0)
+            .is_some_and(|i| built(i, Kind::Tree, 1, &[true, true]))
+    );
+    assert!(rt;
+        list.get(1)
+            .is_some_and(|i| built(i, Kind::Shortest, 0, &[true, true]))
+    );
+    assert!(rt;
+        list.get(2)
+            .is_some_and(|i| built(i, Kind::Tree, 2, &[true, true]))
+    );
+    let wide = Opening {
+        topology: cross(rt.alloc())?,
+        kind: Kind::Tree,
+        root: 0,
+        capacity: 16,
+        max_packets: 4096,
+        restamps: 0,
+    };
+    let down = [
+        event(Event::Down(0)),
+        event(Event::Install(Kind::Tree, 0)),
+        event(Event::Up(0)),
+    ];
+    let Ok(two) = installs(rt.alloc(), &wide, &down) else {
+        return Err("not opened".into());
+    };
+    assert!(rt; two.len() == 2);
+    let marks = [false, true, true, true, true, true, true];
+    assert!(rt; two.get(1).is_some_and(|i| built(i, Kind::Tree, 0, &marks)));
+    let Err(OpenError::TooLarge) = installs(
+        rt.alloc(),
+        &Opening {
+            topology: path(rt.alloc())?,
+            kind: Kind::Tree,
+            root: 0,
+            capacity: 0,
+            max_packets: 1,
+            restamps: 0,
+        },
+        &[],
+    ) else {
+        return Err("opened".into());
+    };
+    Ok(())
+}
+
+/// A ring of so many nodes, or all pairs of them.
+fn numbered(alloc: Global, nodes: u16, complete: bool) -> Result<Topology, Fail> {
+    let mut graph = Graph::new(alloc);
+    for u in 0..nodes {
+        for v in 0..u {
+            if complete || v + 1 == u || (v == 0 && u + 1 == nodes) {
+                let from = format!(in alloc; "n{v}")?;
+                let to = format!(in alloc; "n{u}")?;
+                let Ok(_) = graph.add_edge(from.as_str(), to.as_str(), 1) else {
+                    return Err("the edge is refused".into());
+                };
+            }
+        }
+    }
+    Ok(Topology::of(alloc, &graph)?)
+}
+
+fn opens(alloc: Global, topology: Topology) -> Option<OpenError> {
+    World::new(alloc, topology, Kind::Shortest, 0, 16, 4096, 3).err()
+}
+
+#[test]
+fn the_largest_networks(rt: HostRuntime) -> Result<(), Fail> {
+    assert!(rt; opens(rt.alloc(), numbered(rt.alloc(), 256, false)?).is_none());
+    assert!(rt; opens(rt.alloc(), numbered(rt.alloc(), 257, false)?) == Some(OpenError::TooLarge));
+    assert!(rt; opens(rt.alloc(), numbered(rt.alloc(), 45, true)?).is_none());
+    assert!(rt; opens(rt.alloc(), numbered(rt.alloc(), 46, true)?) == Some(OpenError::TooLarge));
+    Ok(())
+}

@@ -1,0 +1,56 @@
+-- What a graph, a root, a script and a trace come to as a check.
+use Rattle.std.specs.Prelude.{◌≡◌, ◌≢◌, ◌⊎◌, ℕ, List, [], length, None, MatchResult}
+use Rattle.ir_model.specs.Graph.{Adjacency, names}
+use Rattle.ir_model.specs.OfGraph.{network_of_graph}
+use Rattle.ir_core.specs.declared.event.OpenError.{OpenError}
+use Rattle.ir_core.specs.declared.event.OpenError.TheVariants as openings
+use Rattle.ir_core.specs.declared.built.Install.{Install}
+use Rattle.ir_core.specs.Opened.{IsOpenRefusal, open_refused}
+use Rattle.ir_core.specs.Installed.{AreInstalls}
+use Rattle.ir_script.specs.Script.{Listing, listing_of}
+use Rattle.ir_trace.specs.declared.finding.Finding.{Finding}
+use Rattle.ir_trace.specs.declared.finding.FindingKind.TheVariants.{NoMemory}
+use Rattle.ir_trace.specs.Row.{Row}
+use Rattle.ir_trace.specs.Reading.{IsTrace, Tells}
+use Rattle.ir_trace.specs.Checked.{Finds}
+use Rattle.ir_trace.specs.Sound.{IsSoundTrace}
+use Rattle.ir_shell.specs.declared.words.Words.{Words}
+use Rattle.ir_shell.specs.Answer.{Answer, Ran, Found, Refused}
+use Rattle.ir_shell.specs.Lines.{script_line, opening_line, finding_line, ok_line}
+use Rattle.ir_shell.specs.Openings.{root_name, AnswersRoot}
+
+-- no finding: the text is that of a trace of so many rows, and they are sound by the plans of these installs
+abbrev pub IsClean : Adjacency → List Install → List ℕ → ℕ → Type 0
+IsClean g installs trace count = (rows : List Row) × IsTrace g trace rows × IsSoundTrace (network_of_graph g) installs rows × (count ≡ length rows)
+
+-- the first finding: that of the text, or else that of its rows
+abbrev pub IsFound : Adjacency → List Install → List ℕ → Finding → Type 0
+IsFound g installs trace f =
+    Tells g trace f.line f.kind ⊎ ((rows : List Row) × IsTrace g trace rows × Finds (network_of_graph g) installs rows f.line f.kind)
+
+-- the answer to a trace, by the installs of a script
+abbrev pub AnswersTrace : Adjacency → List ℕ → List Install → Answer → Type 0
+AnswersTrace g trace installs (Ran text refused) = (count : ℕ) × IsClean g installs trace count × (text ≡ ok_line count) × (refused ≡ [])
+AnswersTrace g trace installs (Found text) = (f : Finding) × (f.kind ≢ NoMemory) × IsFound g installs trace f × (text ≡ finding_line f)
+AnswersTrace g trace installs (Refused line) = ⊥
+
+-- the installs are those of the script's steps, in a world that is opened over the network of the graph as the words say
+abbrev pub AreReplayed : Adjacency → Words → Listing → ℕ → List Install → Type 0
+AreReplayed g words script root installs =
+    (open_refused (network_of_graph g) root words.capacity words.packets words.restamps ≡ None)
+    × AreInstalls (network_of_graph g) words.kind root words.capacity words.packets words.restamps script.steps installs
+
+-- the answer to a graph, a script, a trace and the number of a root: that of the trace by the script's installs, or the
+-- refusal of the opening
+abbrev pub AnswersCheck : Adjacency → Words → Listing → List ℕ → ℕ → Answer → Type 0
+AnswersCheck g words script trace root (Refused line) =
+    (e : OpenError) × (e ≢ openings.NoMemory) × IsOpenRefusal (network_of_graph g) root words.capacity words.packets words.restamps e × (line ≡ opening_line e)
+AnswersCheck g words script trace root answer = (installs : List Install) × AreReplayed g words script root installs × AnswersTrace g trace installs answer
+
+-- the answer to a graph, the lines of a script and a trace: the script's first fault comes before the refusal of the
+-- opening, and both before the trace's findings
+abbrev pub AnswersChecked : Words → List (List ℕ) → List ℕ → Adjacency → Answer → Type 0
+AnswersChecked words script trace g answer =
+    MatchResult (listing_of (names g) (network_of_graph g) script)
+    (λ listing. AnswersRoot g (root_name words) (AnswersCheck g words listing trace) answer)
+    (λ f. answer ≡ Refused (script_line f))

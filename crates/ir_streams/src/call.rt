@@ -1,0 +1,29 @@
+//! What a call of a reader or a writer came to.
+use std::io;
+use thiserror::Error;
+
+/// Why a call of a reader or a writer moved no bytes.
+#[derive(Clone, Copy, Debug, PartialEq, Eq, Error)]
+pub enum CallError {
+    #[error("the call was interrupted")]
+    Interrupted,
+    #[error("the call failed")]
+    Failed,
+}
+
+impl CallError {
+    ghost use Rattle.std.specs.Prelude.{◌≡◌, ◌↔◌};
+    ghost use Rattle.std.specs.IoError.{error_kind};
+    ghost use Rattle.std.specs.declared.io.ErrorKind.TheVariants.{Interrupted};
+
+    /// What an error of `std::io` says of its call.
+    pub fn of(error: io::Error) -> CallError
+        ensures { (result ≡ CallError.Interrupted) ↔ (error_kind error ≡ Interrupted) }
+    {
+        if error.kind() == io::ErrorKind::Interrupted {
+            CallError::Interrupted
+        } else {
+            CallError::Failed
+        }
+    }
+}

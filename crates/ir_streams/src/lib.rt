@@ -1,0 +1,27 @@
+//! Readers and writers whose calls contracts can speak of, and what is read and written by such calls.
+//!
+//! What `std::io` says of a call holds of a body, too, that never made it. `Reader` and `Writer` have a word for each of
+//! their calls, which the call alone can give; each `std::io::Read` is such a reader, and each `std::io::Write` such a
+//! writer. So contracts say that a call failed, and which calls were made.
+#![tactic(auto)]
+
+mod call;
+mod reader;
+mod reading;
+mod writer;
+mod writing;
+
+pub use call::CallError;
+pub use reader::Reader;
+pub use reading::{NoInput, read_text};
+pub use writer::Writer;
+pub use writing::write_text;
+
+/// The most bytes of an input.
+pub const MAX_INPUT_BYTES: usize = 16_777_216;
+
+/// The most calls of a reader.
+pub const MAX_READS: usize = 20_000_000;
+
+/// The most calls of a writer for one write, or for one flush.
+pub const MAX_TRIES: usize = 1_000_000;

@@ -1,0 +1,58 @@
+//! All of a text, to a writer.
+ghost use Rattle.std.specs.Io.{WritesAtMost};
+ghost use Rattle.std.specs.Io.KnownBytes.{Keeps, WriteAppends};
+ghost use Rattle.ir_streams.specs.Writing.{PutsSome, Flushes, Calls, Writes};
+
+use crate::MAX_TRIES;
+use crate::call::CallError;
+use crate::writer::Writer;
+
+/// Writes some of the bytes, and answers how many the writer took. A call that was interrupted is made again; the calls
+/// are `MAX_TRIES` at most.
+fn put_some<W: Writer>(writer: &mut W, bytes: &[u8]) -> Result<usize, CallError>
+    ensures calls { PutsSome W.wrote W.settled writer.old bytes.now result writer.new }
+    ensures bound { WritesAtMost result bytes.now }
+    ensures bytes { WriteAppends (W.contents writer.old) (W.contents writer.new) result bytes.now }
+{
+    for _turn in 0..MAX_TRIES - 1 {
+        match writer.put(bytes) {
+            Ok(n) => return Ok(n),
+            Err(CallError::Failed) => return Err(CallError::Failed),
+            Err(CallError::Interrupted) => {}
+        }
+    }
+    writer.put(bytes)
+}
+
+/// Flushes the writer. A call that was interrupted is made again; the calls are `MAX_TRIES` at most.
+fn flush<W: Writer>(writer: &mut W) -> Result<(), CallError>
+    ensures calls { Flushes W.wrote W.settled writer.old result writer.new }
+    ensures bytes { Keeps (W.contents writer.old) (W.contents writer.new) }
+{
+    for _turn in 0..MAX_TRIES - 1 {
+        match writer.settle() {
+            Ok(()) => return Ok(()),
+            Err(CallError::Failed) => return Err(CallError::Failed),
+            Err(CallError::Interrupted) => {}
+        }
+    }
+    writer.settle()
+}
+
+/// Writes all of a text, and answers whether the writer took and flushed it. A call that was interrupted is made again,
+/// `MAX_TRIES` times in a row at most. Nothing is written after a call that failed, and the answer is false only where one
+/// did. What went out is a front of the text.
+pub fn write_text<W: Writer>(writer: &mut W, text: &[u8]) -> bool
+    ensures calls { Calls W.wrote W.settled result writer.old text.now writer.new }
+    ensures bytes { Writes result (W.contents writer.old) (W.contents writer.new) text.now }
+{
+    let mut rest = text;
+    while !rest.is_empty() {
+        match put_some(writer, rest) {
+            Ok(0) => return false,
+            Ok(n) => rest = &rest[n..],
+            Err(_) => return false,
+        }
+    }
+    flush(writer).is_ok()
+}

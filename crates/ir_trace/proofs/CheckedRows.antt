@@ -1,0 +1,290 @@
+-- What the checker computes of a row is what the definition says of it.
+use Rattle.std.proofs.Common.{◌≡◌, ◌<◌, ◌≤◌, ◌-◌, ◌==◌, ℕ, zero, suc, Bool, true, false, not, ◌&&◌, ◌||◌, List, [], ◌∷◌, ◌++◌, length, slice_get, nat_lt, nat_le, Option, Some, None, refl, sym, ap, subst, ◌∙◌, arith, inl, inr, ⊎_elim}
+use Rattle.std.specs.List.{list_all}
+use Rattle.std.proofs.lemmas.Bool.{and_parts, and_from, or_cases, eqb-true, eq-eqb, ltb-true, lt-ltb, leb-true, le-leb, both_ways}
+use Rattle.std.proofs.lemmas.Option.{slice_get-get_or}
+use Rattle.ir_model.specs.Network.{Network, node_count}
+use Rattle.ir_model.specs.declared.Kind.{Kind}
+use Rattle.ir_model.specs.declared.Kind.TheVariants.{Tree, Shortest, Compact}
+use Rattle.ir_model.specs.Walk.{IsDistance, walk_weight}
+use Rattle.ir_model.specs.Table.{IsShortestTable, IsNearerTable}
+use Rattle.ir_model.specs.Compact.{IsCompactTable}
+use Rattle.ir_model.specs.Scheme.{Scheme, IsScheme, IsTableOf, table_port}
+use Rattle.ir_model.proofs.Tables.{prescribed_nearer, shortest_is_nearer}
+use Rattle.ir_core.specs.Sound.{last_of}
+use Rattle.ir_trace.specs.declared.row.RowFate.{RowFate}
+use Rattle.ir_trace.specs.declared.row.RowFate.TheVariants.{Delivered, Retired, Down, Full, Left}
+use Rattle.ir_trace.specs.declared.finding.FindingKind.{FindingKind}
+use Rattle.ir_trace.specs.declared.finding.FindingKind.TheVariants.{UnknownEpoch, NotAPrefix, NotAtDestination, BadWeight}
+use Rattle.ir_trace.specs.Row.{Part, Row}
+use Rattle.ir_trace.specs.Checked.{plan_at, no_part, last_part, is_part_over, IsRowOver, KnowsEpochs, IsFrontOfWalk, IsWholeWalk, AreJoined, ArePair, GoesOn, FollowsWalks, HasArrived, Weighs, IsOfShortestWays, ArrivesShortest}
+use Rattle.ir_trace.specs.Inspect.{is_node, next_of, leads_through, follows_from, are_known, are_joined, fits_fate, goes_on, is_delivered, has_arrived, weight_of, first_of_four, found_of, AreOver, IsOverPlan, AreOverPlans}
+use Rattle.ir_trace.proofs.Inspecting.{part_facts}
+use Rattle.ir_trace.proofs.Fronts.{leads_through-push, front, front_back, whole, whole_back}
+
+-- the test is true exactly where the fact holds
+pub record Tells (b : Bool) (P : Type 0) : Type 0 where
+  pub yes : b ≡ true → P
+  pub back : P → b ≡ true
+
+no : (b : Bool) (P : Type 0) → Tells b P → b ≡ false → P → ⊥
+no b P t e p = both_ways b e (t.back p)
+
+-- ---- epochs
+
+known_tells : (n : ℕ) (parts : List Part) → are_known n parts ≡ true → (i : ℕ) (part : Part) → slice_get parts i ≡ Some part → (0 < part.epoch) × (part.epoch ≤ n)
+known_tells n [] h i part at = absurd (cc at)
+known_tells n (p ∷ parts) h zero part at =
+    let here = and_parts (nat_lt 0 p.epoch) (nat_le p.epoch n) (and_parts (nat_lt 0 p.epoch && nat_le p.epoch n) (are_known n parts) h).0 in
+    let same : p ≡ part = cc at in
+    subst (λ (q : Part). (0 < q.epoch) × (q.epoch ≤ n)) same (ltb-true 0 p.epoch here.0, leb-true p.epoch n here.1)
+known_tells n (p ∷ parts) h (suc i) part at = known_tells n parts (and_parts (nat_lt 0 p.epoch && nat_le p.epoch n) (are_known n parts) h).1 i part at
+
+known_back : (n : ℕ) (parts : List Part) → ((i : ℕ) (part : Part) → slice_get parts i ≡ Some part → (0 < part.epoch) × (part.epoch ≤ n)) → are_known n parts ≡ true
+known_back n [] h = refl
+known_back n (p ∷ parts) h =
+    let here = h 0 p refl in
+    and_from (nat_lt 0 p.epoch && nat_le p.epoch n) (are_known n parts) (and_from (nat_lt 0 p.epoch) (nat_le p.epoch n) (lt-ltb 0 p.epoch here.0) (le-leb p.epoch n here.1)) (known_back n parts (λ i part at. h (suc i) part at))
+
+-- ---- parts
+
+pub all_at : (test : Part → Bool) (parts : List Part) → list_all test parts ≡ true → (i : ℕ) (part : Part) → slice_get parts i ≡ Some part → test part ≡ true
+all_at test [] h i part at = absurd (cc at)
+all_at test (p ∷ parts) h zero part at = let same : p ≡ part = cc at in ap test (sym same) ∙ (and_parts (test p) (list_all test parts) h).0
+all_at test (p ∷ parts) h (suc i) part at = all_at test parts (and_parts (test p) (list_all test parts) h).1 i part at
+
+-- the parts of a row whose epochs are known
+pub over_plans : (n : ℕ) (plans : List Scheme) (d : ℕ) (parts : List Part) → AreOver n plans → are_known (length plans) parts ≡ true → list_all (is_part_over n) parts ≡ true → d < n → AreOverPlans plans d parts
+over_plans n plans d parts over known parts_over d_in i part at =
+    let epoch = known_tells (length plans) parts known i part at in
+    let nodes : node_count (plan_at plans part.epoch).network ≡ n = (over part.epoch epoch.0 epoch.1).1 in
+    record {
+      above = epoch.0;
+      within = epoch.1;
+      hops = subst (λ (m : ℕ). is_part_over m part ≡ true) (sym nodes) (all_at (is_part_over n) parts parts_over i part at);
+      dest = omega (arith, nodes);
+    }
+
+module _ (n : ℕ) (plans : List Scheme) (over : AreOver n plans) (d : ℕ) where
+  follows_tells : (u : ℕ) (part : Part) → IsOverPlan plans d part → Tells (follows_from (plan_at plans part.epoch) d u part.hops) ((slice_get part.hops 0 ≡ Some u) × IsFrontOfWalk (plan_at plans part.epoch) d part.hops)
+  follows_tells u part is = by part.hops (part_facts (node_count t.network) part is.hops).within
+    where
+      t : Scheme
+      t = plan_at plans part.epoch
+
+      by : (hops : List ℕ) → list_all (λ x. nat_lt x (node_count t.network)) hops ≡ true → Tells (follows_from t d u hops) ((slice_get hops 0 ≡ Some u) × IsFrontOfWalk t d hops)
+      by [] within = record { yes = λ e. absurd (cc e); back = λ p. absurd p.1 }
+      by (x ∷ rest) within =
+          let scheme : IsScheme t = (over part.epoch is.above is.within).0 in
+          let x_in : x < node_count t.network = ltb-true x (node_count t.network) (and_parts (nat_lt x (node_count t.network)) (list_all (λ x. nat_lt x (node_count t.network)) rest) within).0 in
+          record {
+            yes = λ e. (let both = and_parts (x == u) (leads_through t d x rest) e in (ap (λ (y : ℕ). Some y) (eqb-true x u both.0), (front t scheme d is.dest x rest x_in both.1).front));
+            back = λ p. and_from (x == u) (leads_through t d x rest) (eq-eqb x u (let e : Some x ≡ Some u = p.0 in cc e)) (front_back t scheme d is.dest x rest p.1);
+          }
+
+  pub joined_tells : (u above : ℕ) (parts : List Part) → AreOverPlans plans d parts → Tells (are_joined plans d u above parts) (AreJoined plans d u above parts)
+  joined_tells u above [] is = record { yes = λ e. tt; back = λ p. refl }
+  joined_tells u above (part ∷ parts) is =
+      let here = follows_tells u part (is 0 part refl) in
+      let later = joined_tells (last_of part.hops) part.epoch parts (λ i p at. is (suc i) p at) in
+      let f = follows_from (plan_at plans part.epoch) d u part.hops in
+      let rest = are_joined plans d (last_of part.hops) part.epoch parts in
+      record {
+        yes = λ e. (let one = and_parts (nat_lt above part.epoch) (f && rest) e in let two = and_parts f rest one.1 in
+            let p = here.yes two.0 in (ltb-true above part.epoch one.0, p.0, p.1, later.yes two.1));
+        back = λ p. and_from (nat_lt above part.epoch) (f && rest) (lt-ltb above part.epoch p.0) (and_from f rest (here.back (p.1, p.2)) (later.back p.3));
+      }
+
+  -- the table of its epoch leads through each part
+  pub record IsLed (part : Part) : Type 0 where
+    pub first : ℕ
+    pub rest : List ℕ
+    pub hops : part.hops ≡ first ∷ rest
+    pub within : first < node_count (plan_at plans part.epoch).network
+    pub led : leads_through (plan_at plans part.epoch) d first rest ≡ true
+
+  led_from : (u : ℕ) (part : Part) → IsOverPlan plans d part → follows_from (plan_at plans part.epoch) d u part.hops ≡ true → IsLed part
+  led_from u part is h = by part.hops refl (part_facts (node_count t.network) part is.hops).within h
+    where
+      t : Scheme
+      t = plan_at plans part.epoch
+
+      by : (hops : List ℕ) → part.hops ≡ hops → list_all (λ x. nat_lt x (node_count t.network)) hops ≡ true → follows_from t d u hops ≡ true → IsLed part
+      by [] e within f = absurd (cc f)
+      by (x ∷ rest) e within f = record {
+        first = x;
+        rest = rest;
+        hops = e;
+        within = ltb-true x (node_count t.network) (and_parts (nat_lt x (node_count t.network)) (list_all (λ x. nat_lt x (node_count t.network)) rest) within).0;
+        led = (and_parts (x == u) (leads_through t d x rest) f).1;
+      }
+
+  pub part_led : (u above : ℕ) (parts : List Part) → AreOverPlans plans d parts → are_joined plans d u above parts ≡ true → (i : ℕ) (part : Part) → slice_get parts i ≡ Some part → IsLed part
+  part_led u above [] is h i part at = absurd (cc at)
+  part_led u above (p ∷ parts) is h zero part at =
+      let one = and_parts (nat_lt above p.epoch) (follows_from (plan_at plans p.epoch) d u p.hops && are_joined plans d (last_of p.hops) p.epoch parts) h in
+      let two = and_parts (follows_from (plan_at plans p.epoch) d u p.hops) (are_joined plans d (last_of p.hops) p.epoch parts) one.1 in
+      let same : p ≡ part = cc at in
+      subst IsLed same (led_from u p (is 0 p refl) two.0)
+  part_led u above (p ∷ parts) is h (suc i) part at =
+      let one = and_parts (nat_lt above p.epoch) (follows_from (plan_at plans p.epoch) d u p.hops && are_joined plans d (last_of p.hops) p.epoch parts) h in
+      let two = and_parts (follows_from (plan_at plans p.epoch) d u p.hops) (are_joined plans d (last_of p.hops) p.epoch parts) one.1 in
+      part_led (last_of p.hops) p.epoch parts (λ j q e. is (suc j) q e) two.1 i part at
+
+  short_part : (part : Part) → IsOverPlan plans d part → IsLed part → nat_le (length part.hops) 1024 ≡ true
+  short_part part is led =
+      let t = plan_at plans part.epoch in
+      let scheme : IsScheme t = (over part.epoch is.above is.within).0 in
+      le-leb (length part.hops) 1024 (omega (arith, (front t scheme d is.dest led.first led.rest led.within led.led).short, scheme.network.few_nodes, ap length led.hops))
+
+  pub short_parts : (u above : ℕ) (parts : List Part) → AreOverPlans plans d parts → are_joined plans d u above parts ≡ true → list_all (λ part. nat_le (length part.hops) 1024) parts ≡ true
+  short_parts u above parts is h = all parts (λ i part at. short_part part (is i part at) (part_led u above parts is h i part at))
+    where
+      all : (ps : List Part) → ((i : ℕ) (part : Part) → slice_get ps i ≡ Some part → nat_le (length part.hops) 1024 ≡ true) → list_all (λ part. nat_le (length part.hops) 1024) ps ≡ true
+      all [] each = refl
+      all (p ∷ ps) each = and_from (nat_le (length p.hops) 1024) (list_all (λ part. nat_le (length part.hops) 1024) ps) (each 0 p refl) (all ps (λ i part at. each (suc i) part at))
+
+  -- ---- the end of the way
+
+  module _ (part : Part) (is : IsOverPlan plans d part) (led : IsLed part) where
+    on_tells : (v : ℕ) → Tells (is_node (next_of (plan_at plans part.epoch) (last_of part.hops) d) v) (IsFrontOfWalk (plan_at plans part.epoch) d (part.hops ++ v ∷ []))
+    on_tells v = subst (λ (hops : List ℕ). Tells (is_node (next_of (plan_at plans part.epoch) (last_of hops) d) v) (IsFrontOfWalk (plan_at plans part.epoch) d (hops ++ v ∷ []))) (sym led.hops) (record {
+      yes = λ e. (front (plan_at plans part.epoch) (over part.epoch is.above is.within).0 d is.dest led.first (led.rest ++ v ∷ []) led.within
+          (leads_through-push (plan_at plans part.epoch) d led.first led.rest v ∙ and_from (leads_through (plan_at plans part.epoch) d led.first led.rest) (is_node (next_of (plan_at plans part.epoch) (last_of (led.first ∷ led.rest)) d) v) led.led e)).front;
+      back = λ p. (and_parts (leads_through (plan_at plans part.epoch) d led.first led.rest) (is_node (next_of (plan_at plans part.epoch) (last_of (led.first ∷ led.rest)) d) v)
+          (sym (leads_through-push (plan_at plans part.epoch) d led.first led.rest v) ∙ front_back (plan_at plans part.epoch) (over part.epoch is.above is.within).0 d is.dest led.first (led.rest ++ v ∷ []) p)).1;
+    })
+
+    fate_tells : (fate : RowFate) → Tells (fits_fate fate (last_of part.hops) (next_of (plan_at plans part.epoch) (last_of part.hops) d)) (GoesOn (plan_at plans part.epoch) d part.hops fate)
+    fate_tells Delivered = record { yes = λ e. tt; back = λ p. refl }
+    fate_tells Retired = record { yes = λ e. tt; back = λ p. refl }
+    fate_tells Left = record { yes = λ e. tt; back = λ p. refl }
+    fate_tells (Full from to) =
+        let u = last_of part.hops in
+        let on = on_tells to in
+        let b = is_node (next_of (plan_at plans part.epoch) (last_of part.hops) d) to in
+        record {
+          yes = λ e. (let both = and_parts (u == from) b e in (on.yes both.1, eqb-true u from both.0));
+          back = λ p. and_from (u == from) b (eq-eqb u from p.1) (on.back p.0);
+        }
+    fate_tells (Down low high) =
+        let u = last_of part.hops in
+        let test = λ (v : ℕ). is_node (next_of (plan_at plans part.epoch) (last_of part.hops) d) v in
+        record {
+          yes = λ e. ⊎_elim
+              (λ (h : ((u == low) && test high) ≡ true). (let both = and_parts (u == low) (test high) h in (high, (on_tells high).yes both.1, inl (eqb-true u low both.0, refl))))
+              (λ (h : ((u == high) && test low) ≡ true). (let both = and_parts (u == high) (test low) h in (low, (on_tells low).yes both.1, inr (eqb-true u high both.0, refl))))
+              (or_cases ((u == low) && test high) ((u == high) && test low) e);
+          back = λ p. by p.0 p.1 p.2;
+        }
+      where
+        first : (a b : Bool) → a ≡ true → (a || b) ≡ true
+        first true b e = refl
+        first false b e = absurd (cc e)
+
+        second : (a b : Bool) → b ≡ true → (a || b) ≡ true
+        second true b e = refl
+        second false b e = e
+
+        by : (v : ℕ) → IsFrontOfWalk (plan_at plans part.epoch) d (part.hops ++ v ∷ []) → ArePair (last_of part.hops) v low high → fits_fate (Down low high) (last_of part.hops) (next_of (plan_at plans part.epoch) (last_of part.hops) d) ≡ true
+        by v on (inl ends) =
+            first _ _ (and_from (last_of part.hops == low) (is_node (next_of (plan_at plans part.epoch) (last_of part.hops) d) high) (eq-eqb (last_of part.hops) low ends.0)
+            (subst (λ (x : ℕ). is_node (next_of (plan_at plans part.epoch) (last_of part.hops) d) x ≡ true) ends.1 ((on_tells v).back on)))
+        by v on (inr ends) =
+            second _ _ (and_from (last_of part.hops == high) (is_node (next_of (plan_at plans part.epoch) (last_of part.hops) d) low) (eq-eqb (last_of part.hops) high ends.0)
+            (subst (λ (x : ℕ). is_node (next_of (plan_at plans part.epoch) (last_of part.hops) d) x ≡ true) ends.1 ((on_tells v).back on)))
+
+    whole_tells : Tells (last_of part.hops == d) (IsWholeWalk (plan_at plans part.epoch) d part.hops)
+    whole_tells = subst (λ (hops : List ℕ). Tells (last_of hops == d) (IsWholeWalk (plan_at plans part.epoch) d hops)) (sym led.hops) (record {
+      yes = λ e. (refl, whole (plan_at plans part.epoch) (over part.epoch is.above is.within).0 d is.dest led.first led.rest led.led (eqb-true (last_of (led.first ∷ led.rest)) d e));
+      back = λ p. eq-eqb (last_of (led.first ∷ led.rest)) d (whole_back (plan_at plans part.epoch) d led.first led.rest p.1);
+    })
+
+    arrived_tells : (fate : RowFate) → Tells (not (is_delivered fate) || (last_of part.hops == d)) (fate ≡ Delivered → IsWholeWalk (plan_at plans part.epoch) d part.hops)
+    arrived_tells Delivered = record { yes = λ e same. whole_tells.yes e; back = λ p. whole_tells.back (p refl) }
+    arrived_tells Retired = record { yes = λ e same. absurd (cc same); back = λ p. refl }
+    arrived_tells (Down low high) = record { yes = λ e same. absurd (cc same); back = λ p. refl }
+    arrived_tells (Full from to) = record { yes = λ e same. absurd (cc same); back = λ p. refl }
+    arrived_tells Left = record { yes = λ e same. absurd (cc same); back = λ p. refl }
+
+-- ---- rows
+
+-- what is found of a row alone
+abbrev pub IsFound : Network → List Scheme → Row → Option FindingKind → Type 0
+IsFound net plans row None = KnowsEpochs plans row.parts × FollowsWalks plans row × HasArrived plans row × Weighs net row
+IsFound net plans row (Some UnknownEpoch) = KnowsEpochs plans row.parts → ⊥
+IsFound net plans row (Some NotAPrefix) = KnowsEpochs plans row.parts × (FollowsWalks plans row → ⊥)
+IsFound net plans row (Some NotAtDestination) = KnowsEpochs plans row.parts × FollowsWalks plans row × (HasArrived plans row → ⊥)
+IsFound net plans row (Some BadWeight) = KnowsEpochs plans row.parts × FollowsWalks plans row × HasArrived plans row × (Weighs net row → ⊥)
+IsFound net plans row (Some kind) = ⊥
+
+module _ (net : Network) (plans : List Scheme) (row : Row) (over : AreOver (node_count net) plans) (is : IsRowOver (node_count net) row) where
+  last_is : slice_get row.parts (length row.parts - 1) ≡ Some (last_part row.parts)
+  last_is = slice_get-get_or row.parts (length row.parts - 1) no_part (let some = is.some in omega arith)
+
+  follows : are_known (length plans) row.parts ≡ true → Tells (are_joined plans row.dest row.source 0 row.parts && goes_on plans row.dest row.fate row.parts) (FollowsWalks plans row)
+  follows known =
+      let each = over_plans (node_count net) plans row.dest row.parts over known is.parts is.dest in
+      let joined = joined_tells (node_count net) plans over row.dest row.source 0 row.parts each in
+      let last = last_part row.parts in
+      let led = λ (h : are_joined plans row.dest row.source 0 row.parts ≡ true). part_led (node_count net) plans over row.dest row.source 0 row.parts each h (length row.parts - 1) last last_is in
+      let fate = λ (h : are_joined plans row.dest row.source 0 row.parts ≡ true). fate_tells (node_count net) plans over row.dest last (each (length row.parts - 1) last last_is) (led h) row.fate in
+      record {
+        yes = λ e. (let both = and_parts (are_joined plans row.dest row.source 0 row.parts) (goes_on plans row.dest row.fate row.parts) e in record { joined = joined.yes both.0; goes_on = (fate both.0).yes both.1 });
+        back = λ p. (let h = joined.back p.joined in and_from (are_joined plans row.dest row.source 0 row.parts) (goes_on plans row.dest row.fate row.parts) h ((fate h).back p.goes_on));
+      }
+
+  arrives : are_known (length plans) row.parts ≡ true → are_joined plans row.dest row.source 0 row.parts ≡ true → Tells (has_arrived row.dest row.fate row.parts) (HasArrived plans row)
+  arrives known h =
+      let each = over_plans (node_count net) plans row.dest row.parts over known is.parts is.dest in
+      let last = last_part row.parts in
+      arrived_tells (node_count net) plans over row.dest last (each (length row.parts - 1) last last_is) (part_led (node_count net) plans over row.dest row.source 0 row.parts each h (length row.parts - 1) last last_is) row.fate
+
+  pub found : IsFound net plans row (found_of net plans row)
+  found = by (are_known (length plans) row.parts) (are_joined plans row.dest row.source 0 row.parts && goes_on plans row.dest row.fate row.parts) (has_arrived row.dest row.fate row.parts) (weight_of net row.parts == row.weight) refl refl refl refl
+    where
+      by : (a b c e : Bool) → are_known (length plans) row.parts ≡ a → (are_joined plans row.dest row.source 0 row.parts && goes_on plans row.dest row.fate row.parts) ≡ b → has_arrived row.dest row.fate row.parts ≡ c → (weight_of net row.parts == row.weight) ≡ e
+          → IsFound net plans row (first_of_four a b c e)
+      by false b c e ha hb hc he = λ known. both_ways (are_known (length plans) row.parts) ha (known_back (length plans) row.parts known)
+      by true false c e ha hb hc he = (known_tells (length plans) row.parts ha, no _ _ (follows ha) hb)
+      by true true false e ha hb hc he =
+          let joined = (and_parts (are_joined plans row.dest row.source 0 row.parts) (goes_on plans row.dest row.fate row.parts) hb).0 in
+          (known_tells (length plans) row.parts ha, (follows ha).yes hb, no _ _ (arrives ha joined) hc)
+      by true true true false ha hb hc he =
+          let joined = (and_parts (are_joined plans row.dest row.source 0 row.parts) (goes_on plans row.dest row.fate row.parts) hb).0 in
+          (known_tells (length plans) row.parts ha, (follows ha).yes hb, (arrives ha joined).yes hc, λ w. both_ways (weight_of net row.parts == row.weight) he (eq-eqb (weight_of net row.parts) row.weight (sym w)))
+      by true true true true ha hb hc he =
+          let joined = (and_parts (are_joined plans row.dest row.source 0 row.parts) (goes_on plans row.dest row.fate row.parts) hb).0 in
+          (known_tells (length plans) row.parts ha, (follows ha).yes hb, (arrives ha joined).yes hc, sym (eqb-true (weight_of net row.parts) row.weight he))
+
+  -- with a kind of shortest ways the whole of the last walk weighs the distance
+  pub shortest : KnowsEpochs plans row.parts → HasArrived plans row → ArrivesShortest plans row
+  shortest known arrived delivered kind = by (last_part row.parts).hops (part_facts (node_count net) (last_part row.parts) (all_at (is_part_over (node_count net)) row.parts is.parts (length row.parts - 1) (last_part row.parts) last_is)).within (arrived delivered)
+    where
+      t : Scheme
+      t = plan_at plans (last_part row.parts).epoch
+
+      scheme : IsScheme (plan_at plans (last_part row.parts).epoch)
+      scheme = let e = known (length row.parts - 1) (last_part row.parts) last_is in (over (last_part row.parts).epoch e.0 e.1).0
+
+      nodes : node_count (plan_at plans (last_part row.parts).epoch).network ≡ node_count net
+      nodes = let e = known (length row.parts - 1) (last_part row.parts) last_is in (over (last_part row.parts).epoch e.0 e.1).1
+
+      nearer : (k : Kind) → k ≡ (plan_at plans (last_part row.parts).epoch).kind → IsOfShortestWays k → IsNearerTable (plan_at plans (last_part row.parts).epoch).network (table_port (plan_at plans (last_part row.parts).epoch))
+      nearer Tree e short = absurd short
+      nearer Shortest e short =
+          let table : IsShortestTable (plan_at plans (last_part row.parts).epoch).network (table_port (plan_at plans (last_part row.parts).epoch)) = subst (λ (k : Kind). IsTableOf k (plan_at plans (last_part row.parts).epoch).network (plan_at plans (last_part row.parts).epoch).order scheme.parents (table_port (plan_at plans (last_part row.parts).epoch))) (sym e) scheme.table in
+          shortest_is_nearer (plan_at plans (last_part row.parts).epoch).network (table_port (plan_at plans (last_part row.parts).epoch)) table
+      nearer Compact e short =
+          let table : IsCompactTable (plan_at plans (last_part row.parts).epoch).network (plan_at plans (last_part row.parts).epoch).order (table_port (plan_at plans (last_part row.parts).epoch)) = subst (λ (k : Kind). IsTableOf k (plan_at plans (last_part row.parts).epoch).network (plan_at plans (last_part row.parts).epoch).order scheme.parents (table_port (plan_at plans (last_part row.parts).epoch))) (sym e) scheme.table in
+          table.nearer
+
+      table : IsNearerTable (plan_at plans (last_part row.parts).epoch).network (table_port (plan_at plans (last_part row.parts).epoch))
+      table = nearer (plan_at plans (last_part row.parts).epoch).kind refl kind
+
+      by : (hops : List ℕ) → list_all (λ u. nat_lt u (node_count net)) hops ≡ true → IsWholeWalk (plan_at plans (last_part row.parts).epoch) row.dest hops
+          → (u : ℕ) × (slice_get hops 0 ≡ Some u) × IsDistance (plan_at plans (last_part row.parts).epoch).network u row.dest (walk_weight (plan_at plans (last_part row.parts).epoch).network hops)
+      by [] within whole = absurd whole
+      by (u ∷ rest) within whole =
+          let u_in : u < node_count net = ltb-true u (node_count net) (and_parts (nat_lt u (node_count net)) (list_all (λ u. nat_lt u (node_count net)) rest) within).0 in
+          (u, refl, (prescribed_nearer (plan_at plans (last_part row.parts).epoch).network scheme.network (table_port (plan_at plans (last_part row.parts).epoch)) table u row.dest (omega (arith, u_in, nodes)) (omega (arith, is.dest, nodes)) (u ∷ rest) whole).1)

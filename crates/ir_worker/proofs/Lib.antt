@@ -1,0 +1,8 @@
+pub mod Acts
+pub mod Counts
+pub mod Dues
+pub mod Nodes
+pub mod Promised
+pub mod Routes
+pub mod Serves
+pub mod Ways

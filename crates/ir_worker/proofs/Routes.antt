@@ -1,0 +1,270 @@
+-- The segments of a parcel, each with its stamp, when it goes on or is restamped.
+use Rattle.std.proofs.Common.{◌≡◌, ◌≢◌, ℕ, zero, suc, ◌+◌, ◌-◌, ◌*◌, ◌<◌, ◌≤◌, List, [], ◌∷◌, ◌++◌, length, drop, slice_get, Some, refl, sym, ap, ◌∙◌, subst, arith, true, false, Bool, cond, inl, inr}
+use Rattle.std.specs.Prelude.{reverse}
+use Rattle.std.proofs.lemmas.List.{length-append, length_push, length-drop, length-take-le, length-reverse, reverse-append}
+use Rattle.std.proofs.Math.Logic.{∥∥₁_elim}
+use Rattle.std.proofs.Math.Bridge.{le_prop}
+use Rattle.ir_model.specs.Network.{node_count}
+use Rattle.ir_model.specs.Scheme.{Scheme, label_in, IsScheme}
+use Rattle.ir_core.specs.declared.TheConstants.{MAX_NODES, MAX_HOPS, MAX_RESTAMPS}
+use Rattle.ir_core.specs.declared.event.Way.{Way}
+use Rattle.ir_core.specs.declared.event.Way.TheVariants.{Inbox, Link}
+use Rattle.ir_core.specs.declared.packet.Fate.{Fate}
+use Rattle.ir_core.specs.declared.packet.Fate.TheVariants.{Retired}
+use Rattle.ir_core.specs.declared.packet.Restamp.{Restamp}
+use Rattle.ir_core.specs.Journey.{Journey, segments, segments_in, present, present_in, stamp_of, until}
+use Rattle.ir_core.specs.Entry.{restamped, hops_here}
+use Rattle.ir_core.specs.Sound.{AreRising, ArePlaces, last_of}
+use Rattle.ir_core.specs.State.{IsBeginning, IsDue, IsNew, InHand}
+use Rattle.ir_core.proofs.Walks.{IsBeginning-push, first-push, next_hop-away, walk_of, prefix}
+use Rattle.ir_core.proofs.Segments.{gone, past_in, present_gone, segments_gone, segments_split, places_more, rising_same, reverse_push, stamped, begun, present_stamped, segments_stamped}
+use Rattle.ir_core.proofs.Routed.{front_of}
+use Rattle.ir_epochs.specs.declared.registry.Stamp.{Stamp}
+use Rattle.ir_epochs.specs.Stamps.{knows}
+use Rattle.ir_worker.specs.Seen.{SeenParcel, stamp_in, stamps_of, present_stamp, EachBy, IsStretch, IsRouted, IsNext, IsUnderWay, IsKept}
+
+-- the stamps before the present one
+abbrev pub earlier_in : List Stamp → Stamp → List Stamp
+earlier_in [] first = []
+earlier_in (s ∷ older) first = older ++ first ∷ []
+
+stamps_split : (latest : List Stamp) (first : Stamp) → latest ++ first ∷ [] ≡ stamp_in latest first ∷ earlier_in latest first
+stamps_split [] first = refl
+stamps_split (s ∷ older) first = refl
+
+pub split_of : (first : Stamp) (later : List Stamp) → stamps_of first later ≡ present_stamp first later ∷ earlier_in (reverse later) first
+split_of first later = stamps_split (reverse later) first
+
+pub stamps_push : (first : Stamp) (later : List Stamp) (s : Stamp) → stamps_of first (later ++ s ∷ []) ≡ s ∷ stamps_of first later
+stamps_push first later s = ap (λ (l : List Stamp). l ++ first ∷ []) (reverse-append later (s ∷ []))
+
+pub present_push : (first : Stamp) (later : List Stamp) (s : Stamp) → present_stamp first (later ++ s ∷ []) ≡ s
+present_push first later s = ap (λ (l : List Stamp). stamp_in l first) (reverse-append later (s ∷ []))
+
+-- the present segment with its stamp, and the earlier ones with theirs
+pub each_split : (P : Stamp → Journey → Type 0) (stamps ss : List Stamp) (s : Stamp) → stamps ≡ s ∷ ss → (gs rest : List Journey) (g : Journey) → gs ≡ g ∷ rest → EachBy P stamps gs → P s g × EachBy P ss rest
+each_split P stamps ss s e gs rest g f k = subst (λ (x : List Journey). EachBy P (s ∷ ss) x) f (subst (λ (x : List Stamp). EachBy P x gs) e k)
+
+pub each_join : (P : Stamp → Journey → Type 0) (stamps ss : List Stamp) (s : Stamp) → stamps ≡ s ∷ ss → (gs rest : List Journey) (g : Journey) → gs ≡ g ∷ rest → P s g → EachBy P ss rest → EachBy P stamps gs
+each_join P stamps ss s e gs rest g f here k =
+    let both : EachBy P (s ∷ ss) (g ∷ rest) = (here, k) in
+    subst (λ (x : List Stamp). EachBy P x gs) (sym e) (subst (λ (x : List Journey). EachBy P (s ∷ ss) x) (sym f) both)
+
+pub split_routed : (first : Stamp) (later : List Stamp) (r : Journey) → IsRouted (stamps_of first later) r →
+    IsStretch (present_stamp first later) (present r) × EachBy IsStretch (earlier_in (reverse later) first) (past_in (reverse r.restamps) r)
+split_routed first later r k =
+    each_split IsStretch (stamps_of first later) (earlier_in (reverse later) first) (present_stamp first later) (split_of first later)
+    (segments r) (past_in (reverse r.restamps) r) (present r) (segments_split (reverse r.restamps) r) k.each
+
+-- the last hop is that of the present segment
+last_drop : (k : ℕ) (hops : List ℕ) → k < length hops → last_of (drop k hops) ≡ last_of hops
+last_drop zero hops lt = refl
+last_drop (suc k) [] lt = absurd (omega arith)
+last_drop (suc k) (x ∷ []) lt = absurd (omega arith)
+last_drop (suc k) (x ∷ y ∷ rest) lt = last_drop k (y ∷ rest) (omega arith)
+
+last_in : (latest : List Restamp) (r : Journey) → ArePlaces (length r.hops) latest → last_of (present_in latest r).hops ≡ last_of r.hops
+last_in [] r k = refl
+last_in (s ∷ older) r k = last_drop s.from r.hops k.0
+
+pub last_present : (stamps : List Stamp) (r : Journey) → IsRouted stamps r → last_of (present r).hops ≡ last_of r.hops
+last_present stamps r k = last_in (reverse r.restamps) r k.places
+
+-- the present segment is under way
+pub under_way : (first : Stamp) (later : List Stamp) (r : Journey) (next address : ℕ) → IsKept first later r next address → IsUnderWay (knows (present_stamp first later)) (present r) next
+under_way first later r next address k =
+    let st = (split_routed first later r k.routed).0 in
+    record { source_in = st.source_in; dest_in = st.dest_in; few = st.few; begins = st.begins; follows = st.follows; goes = k.goes; left = k.left }
+
+longer : (b : Bool) (u : ℕ) (hops : List ℕ) → length hops ≤ length (cond b (hops ++ u ∷ []) hops)
+longer true u hops = rw length_push (omega arith)
+longer false u hops = omega arith
+
+-- one more hop or none, which the table of the present stamp allows, and another fate
+pub routed_gone : (first : Stamp) (later : List Stamp) (r : Journey) (b : Bool) (u : ℕ) (fate : Fate) → IsRouted (stamps_of first later) r → slice_get (gone b u fate (present r)).hops 0 ≡ Some (present r).source →
+    IsBeginning (knows (present_stamp first later)) r.dest (gone b u fate (present r)).hops → IsRouted (stamps_of first later) (gone b u fate r)
+routed_gone first later r b u fate k begins follows =
+    let latest = reverse r.restamps in
+    let now = segments_gone latest b u fate r k.places in
+    let was = segments_split latest r in
+    let each = split_routed first later r k in
+    let st = each.0 in
+    let here : IsStretch (present_stamp first later) (gone b u fate (present r)) =
+    record { epoch = st.epoch; source_in = st.source_in; dest_in = st.dest_in; few = st.few; begins = begins; follows = follows } in
+    record {
+      few = k.few;
+      places = places_more latest (length r.hops) _ (longer b u r.hops) k.places;
+      rising = subst AreRising (sym now) (rising_same (present r) (gone b u fate (present r)) (past_in latest r) refl (subst AreRising was k.rising));
+      each = each_join IsStretch (stamps_of first later) (earlier_in (reverse later) first) (present_stamp first later) (split_of first later)
+          (segments (gone b u fate r)) (past_in latest r) (gone b u fate (present r)) now here each.1;
+    }
+
+pub gone_present : (stamps : List Stamp) (r : Journey) (b : Bool) (u : ℕ) (fate : Fate) → IsRouted stamps r → present (gone b u fate r) ≡ gone b u fate (present r)
+gone_present stamps r b u fate k = present_gone (reverse r.restamps) b u fate r k.places
+
+-- the hops of a new packet
+new_hops : (r : Journey) (u : ℕ) → r.restamps ≡ [] → (present r).hops ≡ u ∷ [] → r.hops ≡ u ∷ []
+new_hops r u none e = ap (λ (l : List Restamp). (present_in (reverse l) r).hops) (sym none) ∙ e
+
+here_is : (t : Scheme) (u : ℕ) (way : Way) (r : Journey) → IsDue t (present r) u way → IsNew r (InHand u way) → hops_here way u r.hops ≡ front_of way r.hops ++ u ∷ []
+here_is t u Inbox r due new = new_hops r u new due.0
+here_is t u (Link l) r due new = refl
+
+-- the segment that a restamp ends
+retired_here : (first : Stamp) (later : List Stamp) (u : ℕ) (way : Way) (r : Journey) → ∥ IsScheme (knows (present_stamp first later)) ∥₁ → IsRouted (stamps_of first later) r → IsDue (knows (present_stamp first later)) (present r) u way → IsNew r (InHand u way) →
+    IsRouted (stamps_of first later) (record r { hops = front_of way r.hops ++ u ∷ []; fate = Retired })
+retired_here first later u Inbox r is k due new =
+    let st = (split_routed first later r k).0 in
+    subst (λ (hops : List ℕ). IsRouted (stamps_of first later) (record r { hops = hops; fate = Retired })) (new_hops r u new due.0) (routed_gone first later r false u Retired k st.begins st.follows)
+retired_here first later u (Link l) r is k due new =
+    let t = knows (present_stamp first later) in
+    let st = (split_routed first later r k).0 in
+    let away : last_of (present r).hops ≢ r.dest = λ e. ∥∥₁_elim is (λ x y. absurd x) (λ w. next_hop-away t w (last_of (present r).hops) r.dest st.dest_in due.0 due.1 e) in
+    let more = IsBeginning-push t r.dest (present r).hops u st.follows away (due.0, due.1, due.3) in
+    routed_gone first later r true u Retired k (first-push (present r).hops (present r).source u st.begins) more
+
+places_front : (way : Way) (u : ℕ) (r : Journey) → IsNew r (InHand u way) → ArePlaces (length r.hops) (reverse r.restamps) → ArePlaces (length (front_of way r.hops)) (reverse r.restamps)
+places_front Inbox u r new k = subst (λ (l : List Restamp). ArePlaces 0 (reverse l)) (sym new) tt
+places_front (Link l) u r new k = k
+
+rising_begun : (u e : ℕ) (r : Journey) (latest : List Restamp) (x : Journey) → (present_in latest x).epoch < e → AreRising (segments_in latest x) → AreRising (begun u e r ∷ segments_in latest x)
+rising_begun u e r [] x lt k = (lt, k)
+rising_begun u e r (s ∷ older) x lt k = (lt, k)
+
+restamped_is : (u e : ℕ) (way : Way) (r : Journey) → hops_here way u r.hops ≡ front_of way r.hops ++ u ∷ [] →
+    restamped u way e r ≡ stamped u (front_of way r.hops) (record { epoch = e; from = length (front_of way r.hops) }) r
+restamped_is u e way r here =
+    let from : length (front_of way r.hops ++ u ∷ []) - 1 ≡ length (front_of way r.hops) = rw length_push (omega arith) in
+    ap (λ (hops : List ℕ). record r { hops = hops; restamps = r.restamps ++ record { epoch = e; from = length hops - 1 } ∷ [] }) here
+    ∙ ap (λ (n : ℕ). stamped u (front_of way r.hops) (record { epoch = e; from = n }) r) from
+
+-- a restamp
+module _ (first : Stamp) (later : List Stamp) (s : Stamp) (u : ℕ) (way : Way) (r : Journey) (is : ∥ IsScheme (knows (present_stamp first later)) ∥₁) (k : IsRouted (stamps_of first later) r)
+    (u_in : u < node_count (knows s).network) (nodes : node_count (knows s).network ≡ node_count (knows (present_stamp first later)).network)
+    (due : IsDue (knows (present_stamp first later)) (present r) u way) (new : IsNew r (InHand u way)) (above : stamp_of r < s.epoch) (left : length r.restamps < MAX_RESTAMPS) where
+  front : List ℕ
+  front = front_of way r.hops
+
+  mark : Restamp
+  mark = record { epoch = s.epoch; from = length (front_of way r.hops) }
+
+  same : restamped u way s.epoch r ≡ stamped u (front_of way r.hops) (record { epoch = s.epoch; from = length (front_of way r.hops) }) r
+  same = restamped_is u s.epoch way r (here_is (knows (present_stamp first later)) u way r due new)
+
+  stamped_routed : IsRouted (stamps_of first (later ++ s ∷ [])) (stamped u (front_of way r.hops) (record { epoch = s.epoch; from = length (front_of way r.hops) }) r)
+  stamped_routed =
+      let ended = retired_here first later u way r is k due new in
+      let all = segments_stamped u s.epoch (front_of way r.hops) r in
+      let st = (split_routed first later r k).0 in
+      let d_in = st.dest_in in
+      let few_nodes = st.few in
+      let here : IsStretch s (begun u s.epoch r) = record { epoch = refl; source_in = u_in; dest_in = omega arith; few = omega arith; begins = refl; follows = tt } in
+      record {
+        few = rw length_push (omega arith);
+        places = subst (λ (l : List Restamp). ArePlaces (length (front_of way r.hops ++ u ∷ [])) l) (sym (reverse_push r.restamps (record { epoch = s.epoch; from = length (front_of way r.hops) }))) (rw length_push (omega arith), places_front way u r new k.places);
+        rising = subst AreRising (sym all) (rising_begun u s.epoch r (reverse r.restamps) (record r { hops = front_of way r.hops ++ u ∷ []; fate = Retired }) above ended.rising);
+        each = each_join IsStretch (stamps_of first (later ++ s ∷ [])) (stamps_of first later) s (stamps_push first later s)
+            (segments (stamped u (front_of way r.hops) (record { epoch = s.epoch; from = length (front_of way r.hops) }) r)) (segments (record r { hops = front_of way r.hops ++ u ∷ []; fate = Retired })) (begun u s.epoch r) all here ended.each;
+      }
+
+  pub restamp_routed : IsRouted (stamps_of first (later ++ s ∷ [])) (restamped u way s.epoch r)
+  restamp_routed = subst (λ (x : Journey). IsRouted (stamps_of first (later ++ s ∷ [])) x) (sym same) stamped_routed
+
+  -- the new segment is this node alone
+  pub restamp_present : present (restamped u way s.epoch r) ≡ begun u s.epoch r
+  restamp_present = ap present same ∙ present_stamped u s.epoch (front_of way r.hops) r
+
+-- the most hops of so many segments, but one
+abbrev most : List Restamp → ℕ → ℕ
+most [] m = m
+most (s ∷ older) m = m + most older m
+
+-- a segment has no more hops than there are nodes
+stretch_short : (s : Stamp) (g : Journey) → IsStretch s g → length g.hops ≤ MAX_NODES
+stretch_short s g k = ∥∥₁_elim s.sound le_prop (λ is.
+    let w = is.walks g.source g.dest k.source_in k.dest_in in
+    let walk = walk_of (knows s) g.source g.dest w.0 w.1 in
+    let p = prefix (knows s) g.dest g.hops w.0 g.source k.begins walk.begins k.follows walk.steps in
+    let lengths = ap length p.1 in
+    let few = k.few in
+    omega (arith, w.2, length-append g.hops p.0, lengths))
+
+few_hops : (latest : List Restamp) (r : Journey) (stamps : List Stamp) → ArePlaces (length r.hops) latest → EachBy IsStretch stamps (segments_in latest r) → length r.hops ≤ most latest (MAX_NODES - 1) + 1
+few_hops [] r [] places each = absurd each
+few_hops [] r (s ∷ ss) places each = let short = stretch_short s (present_in [] r) each.0 in omega arith
+few_hops (x ∷ older) r [] places each = absurd each
+few_hops (x ∷ older) r (s ∷ ss) places each =
+    let lt = places.0 in
+    let short = stretch_short s (present_in (x ∷ older) r) each.0 in
+    let here = length-drop x.from r.hops in
+    let there = length-take-le (x.from + 1) r.hops (omega arith) in
+    let below = few_hops older (until x r) ss (rw there (places_more older x.from (x.from + 1) (omega arith) places.1)) each.1 in
+    omega arith
+
+most_few : (latest : List Restamp) → length latest ≤ 3 → most latest (MAX_NODES - 1) ≤ 4 * (MAX_NODES - 1)
+most_few [] le = omega arith
+most_few (a ∷ []) le = omega arith
+most_few (a ∷ b ∷ []) le = omega arith
+most_few (a ∷ b ∷ c ∷ []) le = omega arith
+most_few (a ∷ b ∷ c ∷ d ∷ rest) le = absurd (omega arith)
+
+-- the hops of a segment under way are fewer than the nodes
+short_on : (s : Stamp) (g : Journey) (next : ℕ) → IsStretch s g → IsNext (knows s) g next → length g.hops < MAX_NODES
+short_on s g next k (inl e) = rw e.0 (omega arith)
+short_on s g next k (inr on) = ∥∥₁_elim s.sound le_prop (λ is.
+    let more = IsBeginning-push (knows s) g.dest g.hops next k.follows (next_hop-away (knows s) is (last_of g.hops) g.dest k.dest_in on.0 on.1) on in
+    let w = is.walks g.source g.dest k.source_in k.dest_in in
+    let walk = walk_of (knows s) g.source g.dest w.0 w.1 in
+    let p = prefix (knows s) g.dest (g.hops ++ next ∷ []) w.0 g.source (first-push g.hops g.source next k.begins) walk.begins more walk.steps in
+    let lengths = ap length p.1 in
+    let few = k.few in
+    omega (arith, w.2, length-append (g.hops ++ next ∷ []) p.0, length-append g.hops (next ∷ []), lengths))
+
+room_in : (latest : List Restamp) (r : Journey) (stamps : List Stamp) → ArePlaces (length r.hops) latest → EachBy IsStretch stamps (segments_in latest r) → length (present_in latest r).hops < MAX_NODES → length latest ≤ 3 → length r.hops < MAX_HOPS
+room_in [] r stamps places each short le = omega arith
+room_in (x ∷ older) r [] places each short le = absurd each
+room_in (x ∷ older) r (s ∷ ss) places each short le =
+    let lt = places.0 in
+    let here = length-drop x.from r.hops in
+    let there = length-take-le (x.from + 1) r.hops (omega arith) in
+    let below = few_hops older (until x r) ss (rw there (places_more older x.from (x.from + 1) (omega arith) places.1)) each.1 in
+    let bound = most_below older (omega arith) in
+    omega arith
+  where
+    most_below : (older : List Restamp) → length older ≤ 2 → most older (MAX_NODES - 1) ≤ 3 * (MAX_NODES - 1)
+    most_below [] le = omega arith
+    most_below (a ∷ []) le = omega arith
+    most_below (a ∷ b ∷ []) le = omega arith
+    most_below (a ∷ b ∷ c ∷ rest) le = absurd (omega arith)
+
+-- a parcel's hops leave room for one more
+pub room : (first : Stamp) (later : List Stamp) (r : Journey) (next address : ℕ) → IsKept first later r next address → length r.hops < MAX_HOPS
+room first later r next address k =
+    let st = (split_routed first later r k.routed).0 in
+    let few = k.routed.few in
+    let reversed = length-reverse r.restamps in
+    room_in (reverse r.restamps) r (stamps_of first later) k.routed.places k.routed.each (short_on (present_stamp first later) (present r) next st k.goes) (omega arith)
+
+-- a restamped parcel is kept
+abbrev pub IsRestampable : Stamp → ℕ → Way → SeenParcel → Type 0
+IsRestampable s u way p =
+    (node_count (knows s).network ≡ node_count (knows (present_stamp p.first p.later)).network) × IsDue (knows (present_stamp p.first p.later)) (present p.journey) u way
+    × IsNew p.journey (InHand u way) × (stamp_of p.journey < s.epoch) × (length p.journey.restamps < MAX_RESTAMPS)
+
+pub restamp_kept : (first : Stamp) (later : List Stamp) (s : Stamp) (u : ℕ) (way : Way) (r : Journey) (next address : ℕ) → IsKept first later r next address → u < node_count (knows s).network →
+    (p : SeenParcel) → (let seen : SeenParcel = record { journey = r; first = first; later = later; next = next } in seen) ≡ p → IsRestampable s u way p →
+    (address' : ℕ) → address' ≡ label_in (knows s) r.dest → (later' : List Stamp) → later' ≡ later ++ s ∷ [] → (r' : Journey) → r' ≡ restamped u way s.epoch r → IsKept first later' r' u address'
+restamp_kept first later s u way r next address k u_in p view may address' label later' grown r' made =
+    let ok : IsRestampable s u way (record { journey = r; first = first; later = later; next = next }) = subst (λ (x : SeenParcel). IsRestampable s u way x) (sym view) may in
+    let is = (present_stamp first later).sound in
+    let routed = restamp_routed first later s u way r is k.routed u_in ok.0 ok.1 ok.2 ok.3 ok.4 in
+    let now = restamp_present first later s u way r is k.routed u_in ok.0 ok.1 ok.2 ok.3 ok.4 in
+    let same = present_push first later s in
+    let whole : IsKept first (later ++ s ∷ []) (restamped u way s.epoch r) u address' = record {
+      routed = routed;
+      first_epoch = k.first_epoch;
+      labelled = label ∙ ap (λ (x : Stamp). label_in (knows x) r.dest) (sym same);
+      goes = inl (ap (λ (g : Journey). g.hops) now ∙ ap (λ (x : ℕ). x ∷ []) (sym (ap (λ (g : Journey). g.source) now)), sym (ap (λ (g : Journey). g.source) now));
+      left = k.left;
+    } in
+    subst (λ (l : List Stamp). IsKept first l r' u address') (sym grown) (subst (λ (x : Journey). IsKept first (later ++ s ∷ []) x u address') (sym made) whole)

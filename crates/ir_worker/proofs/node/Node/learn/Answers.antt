@@ -1,0 +1,9 @@
+use Rattle.std.proofs.Common.{refl}
+use Rattle.ir_epochs.specs.Handles.{known}
+use Rattle.ir_worker.proofs.Nodes.{causes_later}
+use Rattle.ir_worker.proofs.node.Node.learn.Goals as goal
+
+pub invariant_of-self-clause-causes : goal.invariant_of-self-clause-causes
+invariant_of-self-clause-causes c =
+    let n = c.args.self.now in
+    causes_later (known n.reader) (known c.learn.new.self) n.outcomes.items n.outcomes.items n.causes c.learn.ensures.old refl

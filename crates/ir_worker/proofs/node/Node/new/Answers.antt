@@ -1,0 +1,16 @@
+use Rattle.std.proofs.Common.{ap, []}
+use Rattle.ir_epochs.specs.Handles.{known}
+use Rattle.ir_worker.proofs.Counts.{same_account}
+use Rattle.ir_worker.proofs.Nodes.{none_of_net, no_causes}
+use Rattle.ir_worker.proofs.node.Node.new.Goals as goal
+
+pub invariant_of-result-clause-account : goal.invariant_of-result-clause-account
+invariant_of-result-clause-account c =
+    same_account c.args.inbox c.new.result.inbox c.args.ins.items c.new.result.ports.items c.args.outs.items [] c.new-2.result.items c.requires.fresh
+    c.new.ensures.0 (ap (λ v. v.items) c.new.ensures.1) c.new-2.ensures.items
+
+pub invariant_of-result-clause-of_net : goal.invariant_of-result-clause-of_net
+invariant_of-result-clause-of_net c = none_of_net c.args.opening c.args.restamps c.new-2.result.items c.new-2.ensures.items
+
+pub invariant_of-result-clause-causes : goal.invariant_of-result-clause-causes
+invariant_of-result-clause-causes c = no_causes (known c.args.reader) c.new-2.result.items c.new-2.ensures.items

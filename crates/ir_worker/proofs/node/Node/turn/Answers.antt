@@ -1,0 +1,161 @@
+use Rattle.std.proofs.Common.{◌∙◌, subst, sym, ap, refl, List, ◌+◌}
+use Rattle.ir_model.specs.declared.Hop.{Hop}
+use Rattle.ir_core.specs.Journey.{Journey}
+use Rattle.ir_core.specs.Sound.{last_of}
+use Rattle.ir_core.specs.declared.board.Board.{Board}
+use Rattle.ir_epochs.specs.Entries.{board_of}
+use Rattle.ir_epochs.specs.Handles.{known}
+use Rattle.ir_worker.specs.Seen.{SeenParcel}
+use Rattle.ir_worker.specs.Account.{head_of}
+use Rattle.ir_worker.specs.Acts.{restamp_on, with_restamp, way_then, CauseHolds}
+use Rattle.ir_worker.specs.Ends.{CameBy}
+use Rattle.ir_worker.specs.Wires.{SentOver, WasFullFor}
+use Rattle.ir_worker.proofs.Acts.{live_on, live_here, cause_here}
+use Rattle.ir_worker.proofs.Counts.{same_account, balanced_sent, balanced_settled, settled_behind}
+use Rattle.ir_worker.proofs.Nodes.{ends_kept, taken_place, same_of_net, more_of_net, current_of_net, head_with, goes_by_board, settles_by_board, causes_same, causes_later, causes_more}
+use Rattle.ir_worker.proofs.node.Node.turn.Goals as goal
+
+pub invariant_of-self-clause-account : goal.invariant_of-self-clause-account
+invariant_of-self-clause-account g c =
+    let n = c.args.self.now in
+    same_account n.entrances.inbox n.entrances.inbox n.entrances.ports.items n.entrances.ports.items n.outs.items n.outcomes.items c.reserve.new.self.items n.account refl refl c.reserve.ensures.items
+
+pub invariant_of-self-clause-of_net : goal.invariant_of-self-clause-of_net
+invariant_of-self-clause-of_net g c =
+    let n = c.args.self.now in
+    same_of_net n.opening n.restamps n.outcomes.items c.reserve.new.self.items n.of_net c.reserve.ensures.items
+
+pub invariant_of-self-clause-causes : goal.invariant_of-self-clause-causes
+invariant_of-self-clause-causes g c =
+    let n = c.args.self.now in
+    causes_same (known n.reader) n.outcomes.items c.reserve.new.self.items n.causes c.reserve.ensures.items
+
+pub ready-parcel-requires-clause-current : goal.ready-parcel-requires-clause-current
+ready-parcel-requires-clause-current g c =
+    let n = c.args.self.now in
+    current_of_net n.opening (known c.read-board.new.self) c.stamp.result c.stamp.ensures (c.read-board.ensures.opening.registry ∙ n.of_board.0) (c.read-board.ensures.opening.network ∙ n.of_board.1)
+
+pub ready-parcel-requires-clause-of_net : goal.ready-parcel-requires-clause-of_net
+ready-parcel-requires-clause-of_net g c =
+    let n = c.args.self.now in
+    (taken_place n.opening n.restamps n.index n.ports.items n.entrances.inbox n.entrances.ports.items n.outs.items n.ends c.poll.new.self.inbox c.poll.new.self.ports.items c.in-Some.parcel n.entrances.next c.in-Some.ensures.took c.way-way.result c.way-way.ensures).of_net
+
+pub ready-parcel-requires-clause-few : goal.ready-parcel-requires-clause-few
+ready-parcel-requires-clause-few g c =
+    let n = c.args.self.now in
+    (taken_place n.opening n.restamps n.index n.ports.items n.entrances.inbox n.entrances.ports.items n.outs.items n.ends c.poll.new.self.inbox c.poll.new.self.ports.items c.in-Some.parcel n.entrances.next c.in-Some.ensures.took c.way-way.result c.way-way.ensures).few
+
+pub ready-parcel-requires-clause-is_new : goal.ready-parcel-requires-clause-is_new
+ready-parcel-requires-clause-is_new g c =
+    let n = c.args.self.now in
+    (taken_place n.opening n.restamps n.index n.ports.items n.entrances.inbox n.entrances.ports.items n.outs.items n.ends c.poll.new.self.inbox c.poll.new.self.ports.items c.in-Some.parcel n.entrances.next c.in-Some.ensures.took c.way-way.result c.way-way.ensures).is_new
+
+pub ready-parcel-requires-clause-came : goal.ready-parcel-requires-clause-came
+ready-parcel-requires-clause-came g c =
+    let n = c.args.self.now in
+    let place = (taken_place n.opening n.restamps n.index n.ports.items n.entrances.inbox n.entrances.ports.items n.outs.items n.ends c.poll.new.self.inbox c.poll.new.self.ports.items c.in-Some.parcel n.entrances.next c.in-Some.ensures.took c.way-way.result c.way-way.ensures).came in
+    subst (λ (xs : List Hop). CameBy xs n.index c.way-way.result (last_of c.in-Some.parcel.journey.hops) c.in-Some.parcel.next) (sym c.as_slice-ports.ensures.value) place
+
+pub invariant_of-self-in-Ok-1 : goal.invariant_of-self-in-Ok-1
+invariant_of-self-in-Ok-1 g c =
+    let n = c.args.self.now in
+    let p = c.in-Some.parcel in
+    let b = c.read-board.result in
+    let x = restamp_on n.restamps p b c.way-way.result n.index in
+    let same = ap (λ (y : SeenParcel). head_of y.journey) c.ready-parcel.ensures.parcel ∙ head_with x c.stamp.result c.way-way.result n.index p in
+    let a = c.in-Ok.ensures.acts in
+    record {
+      of_registry = n.of_registry;
+      of_board = (c.read-board.ensures.opening.registry ∙ n.of_board.0, c.read-board.ensures.opening.network ∙ n.of_board.1);
+      ends = ends_kept n.opening n.restamps n.index n.ports.items n.entrances.inbox n.entrances.ports.items n.outs.items c.poll.new.self.inbox c.poll.new.self.ports.items c.pass_on.new.outs.items n.ends
+          c.poll.ensures.inbox c.poll.ensures.ins c.pass_on.ensures.lines;
+      account = balanced_sent n.entrances.inbox n.entrances.ports.items c.poll.new.self.inbox c.poll.new.self.ports.items n.outs.items c.pass_on.new.outs.items n.outcomes.items c.reserve.new.self.items n.account
+          p a.1 n.entrances.next c.in-Some.ensures.took c.as_slice-ports.result.now a.0 a.4 (ap head_of a.2.journey ∙ same) c.reserve.ensures.items;
+      of_net = same_of_net n.opening n.restamps n.outcomes.items c.reserve.new.self.items n.of_net c.reserve.ensures.items;
+      causes = causes_later (known n.reader) (known c.read-board.new.self) n.outcomes.items c.reserve.new.self.items n.causes c.read-board.ensures.later c.reserve.ensures.items;
+    }
+
+pub invariant_of-self-in-Err : goal.invariant_of-self-in-Err
+invariant_of-self-in-Err g c =
+    let n = c.args.self.now in
+    let p = c.in-Some.parcel in
+    let b = c.read-board.result in
+    let x = restamp_on n.restamps p b c.way-way.result n.index in
+    let same = ap (λ (y : SeenParcel). head_of y.journey) c.ready-parcel.ensures.parcel ∙ head_with x c.stamp.result c.way-way.result n.index p in
+    let a = c.in-Err.ensures.acts in
+    let behind = settled_behind n.outcomes.items c.reserve.new.self.items c.push_reserved.new.self.items c.in-Err.outcome c.push_reserved.ensures.items c.reserve.ensures.items in
+    record {
+      of_registry = n.of_registry;
+      of_board = (c.read-board.ensures.opening.registry ∙ n.of_board.0, c.read-board.ensures.opening.network ∙ n.of_board.1);
+      ends = ends_kept n.opening n.restamps n.index n.ports.items n.entrances.inbox n.entrances.ports.items n.outs.items c.poll.new.self.inbox c.poll.new.self.ports.items c.pass_on.new.outs.items n.ends
+          c.poll.ensures.inbox c.poll.ensures.ins c.pass_on.ensures.lines;
+      account = balanced_settled n.entrances.inbox n.entrances.ports.items c.poll.new.self.inbox c.poll.new.self.ports.items n.outs.items c.pass_on.new.outs.items n.outcomes.items c.push_reserved.new.self.items n.account
+          p n.entrances.next c.in-Some.ensures.took a.3 c.in-Err.outcome behind (ap head_of a.2.packet ∙ same);
+      of_net = more_of_net n.opening n.restamps n.outcomes.items c.push_reserved.new.self.items c.in-Err.outcome n.of_net behind c.ready-parcel.result.0 c.ready-parcel.ensures.of_net c.ready-parcel.ensures.few
+          a.2.first a.2.later (ap (λ (r : Journey). r.restamps) a.2.packet);
+      causes = causes_more (known n.reader) (known c.read-board.new.self) n.outcomes.items c.push_reserved.new.self.items c.in-Err.outcome n.causes c.read-board.ensures.later behind (ap (λ k. k + 1) a.2.version ∙ c.read-board.ensures.version)
+          (subst (λ (x : Board). CauseHolds x c.in-Err.outcome.packet c.in-Err.outcome.packet.fate) c.read-board.ensures.board (cause_here c.read-board.result a.0 c.ready-parcel.result.1 n.index c.ready-parcel.result.0 a.1 c.in-Err.outcome a.2));
+    }
+
+pub returns-in-Ok : goal.returns-in-Ok
+returns-in-Ok g c =
+    let n = c.args.self.now in
+    let p = c.in-Some.parcel in
+    let a = c.in-Ok.ensures.acts in
+    let on = goes_by_board c.read-board.result (board_of (known c.read-board.new.self)) n.restamps p c.stamp.result c.way-way.result c.ready-parcel.result.1 n.index c.ready-parcel.result.0 a.0 a.1
+    c.read-board.ensures.board c.ready-parcel.ensures.parcel c.ready-parcel.ensures.way a.2 in
+    let x = restamp_on n.restamps p (board_of (known c.read-board.new.self)) c.way-way.result n.index in
+    record {
+      same = record { index = refl; registry = refl; opening = refl; restamps = refl; ports = refl; inbox = c.poll.ensures.inbox; ins = c.poll.ensures.ins; outs = c.pass_on.ensures.lines; reader = c.read-board.ensures.same };
+      way = c.poll.ensures.way;
+      later = c.read-board.ensures.later;
+      rises = c.read-board.ensures.rises;
+      does = record {
+        parcel = p;
+        way = c.way-way.result;
+        takes = record { took = c.in-Some.ensures.took; by = c.way-way.ensures };
+        number = sym c.id-id.ensures;
+        current = c.stamp.result;
+        is_current = c.stamp.ensures;
+        hop = a.0;
+        onward = a.1;
+        goes = on;
+        node = a.3;
+        sent = subst (λ (xs : List Hop). SentOver xs n.outs.items c.pass_on.new.outs.items a.0 a.1) c.as_slice-ports.ensures.value a.4;
+        outcomes = c.reserve.ensures.items;
+        live = live_on (board_of (known c.read-board.new.self)) (board_of (known n.reader)) (way_then x c.way-way.result) n.index (with_restamp x c.stamp.result c.way-way.result n.index p) a.0 a.1 on c.read-board.ensures.rises.0;
+      };
+    }
+
+pub returns-in-Err : goal.returns-in-Err
+returns-in-Err g c =
+    let n = c.args.self.now in
+    let p = c.in-Some.parcel in
+    let a = c.in-Err.ensures.acts in
+    let on = settles_by_board c.read-board.result (board_of (known c.read-board.new.self)) n.restamps p c.stamp.result c.way-way.result c.ready-parcel.result.1 n.index c.ready-parcel.result.0 a.0 a.1 c.in-Err.outcome
+    c.read-board.ensures.board c.ready-parcel.ensures.parcel c.ready-parcel.ensures.way a.2 in
+    let x = restamp_on n.restamps p (board_of (known c.read-board.new.self)) c.way-way.result n.index in
+    record {
+      same = record { index = refl; registry = refl; opening = refl; restamps = refl; ports = refl; inbox = c.poll.ensures.inbox; ins = c.poll.ensures.ins; outs = c.pass_on.ensures.lines; reader = c.read-board.ensures.same };
+      way = c.poll.ensures.way;
+      later = c.read-board.ensures.later;
+      rises = c.read-board.ensures.rises;
+      does = record {
+        parcel = p;
+        way = c.way-way.result;
+        takes = record { took = c.in-Some.ensures.took; by = c.way-way.ensures };
+        number = sym c.id-id.ensures;
+        current = c.stamp.result;
+        is_current = c.stamp.ensures;
+        refused = a.0;
+        verdict = a.1;
+        outcome = c.in-Err.outcome;
+        settled = on;
+        full = subst (λ (xs : List Hop). WasFullFor xs n.outs.items a.1) c.as_slice-ports.ensures.value a.4;
+        outs = a.3;
+        outcomes = settled_behind n.outcomes.items c.reserve.new.self.items c.push_reserved.new.self.items c.in-Err.outcome c.push_reserved.ensures.items c.reserve.ensures.items;
+        version = ap (λ k. k + 1) a.2.version ∙ c.read-board.ensures.version;
+        cause = cause_here (board_of (known c.read-board.new.self)) a.0 (way_then x c.way-way.result) n.index (with_restamp x c.stamp.result c.way-way.result n.index p) a.1 c.in-Err.outcome on;
+        live = live_here (board_of (known c.read-board.new.self)) (board_of (known n.reader)) a.0 (way_then x c.way-way.result) n.index (with_restamp x c.stamp.result c.way-way.result n.index p) a.1 c.in-Err.outcome on c.read-board.ensures.rises.0;
+      };
+    }

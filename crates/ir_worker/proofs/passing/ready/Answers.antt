@@ -1,0 +1,29 @@
+use Rattle.std.proofs.Common.{◌∙◌, ap}
+use Rattle.ir_core.specs.Sound.{last_of}
+use Rattle.ir_epochs.specs.Stamps.{knows}
+use Rattle.ir_worker.specs.Seen.{SeenParcel, present_stamp}
+use Rattle.ir_worker.proofs.Dues.{due_at, now_of_net, same_nodes, restamped_of_net, restamped_last}
+use Rattle.ir_worker.proofs.passing.ready.Goals as goal
+
+pub restamp-requires-in-Some-clause-nodes : goal.restamp-requires-in-Some-clause-nodes
+restamp-requires-in-Some-clause-nodes c =
+    let p = c.args.parcel in
+    same_nodes c.args.opening.now c.args.current (present_stamp p.first p.later) c.requires.current (now_of_net c.args.opening.now p.first p.later c.requires.of_net)
+
+pub restamp-requires-in-Some-clause-due : goal.restamp-requires-in-Some-clause-due
+restamp-requires-in-Some-clause-due c =
+    let p = c.args.parcel in
+    due_at c.args.opening.now (present_stamp p.first p.later) c.plan-plan.result.now (c.plan-plan.ensures ∙ ap knows c.stamp.ensures.stamp) c.nodes-nodes.ensures.scheme (now_of_net c.args.opening.now p.first p.later c.requires.of_net).1
+    p.journey p.next c.args.at c.args.way c.args.ports.now c.requires.ports c.stamp.ensures.under_way c.stamp.ensures.last c.requires.came
+
+pub returns-in-Some-clause-of_net : goal.returns-in-Some-clause-of_net
+returns-in-Some-clause-of_net c =
+    let p = c.args.parcel in
+    let made = c.restamp-in-Some.ensures in
+    restamped_of_net c.args.opening.now p.first p.later c.args.current c.restamp-in-Some.result (ap (λ (x : SeenParcel). x.first) made) (ap (λ (x : SeenParcel). x.later) made) c.requires.current c.requires.of_net
+
+pub returns-in-Some-clause-came : goal.returns-in-Some-clause-came
+returns-in-Some-clause-came c =
+    let p = c.args.parcel in
+    let made = c.restamp-in-Some.ensures in
+    (ap (λ (x : SeenParcel). last_of x.journey.hops) made ∙ restamped_last c.args.ports.now c.args.at c.args.way c.args.current.epoch p.next p.journey c.requires.came, ap (λ (x : SeenParcel). x.next) made)

@@ -1,0 +1,109 @@
+-- What contracts see of a parcel, and where it goes.
+use Rattle.std.specs.Prelude.{◌≡◌, ◌⊎◌, ℕ, ◌<◌, ◌≤◌, List, [], ◌∷◌, ◌++◌, Some, All, length, reverse, slice_get}
+use Rattle.ir_model.specs.Network.{node_count}
+use Rattle.ir_model.specs.Scheme.{Scheme, label_in}
+use Rattle.ir_core.specs.declared.TheConstants.{MAX_NODES, MAX_RESTAMPS}
+use Rattle.ir_core.specs.declared.packet.Fate.TheVariants.{Left}
+use Rattle.ir_core.specs.Journey.{Journey, segments, present}
+use Rattle.ir_core.specs.Sound.{IsSound, AreRising, ArePlaces, last_of}
+use Rattle.ir_core.specs.State.{IsBeginning, StepsTo}
+use Rattle.ir_epochs.specs.declared.registry.Stamp.{Stamp}
+use Rattle.ir_epochs.specs.Stamps.{knows, registry_name}
+use Rattle.ir_epochs.specs.Over.{IsOver}
+use Rattle.ir_worker.specs.declared.parcel.Place.{Place}
+
+-- A packet's record so far, its first stamp and those of its later segments, and the node that it goes to.
+pub record SeenParcel : Type 0 where
+  pub journey : Journey
+  pub first : Stamp
+  pub later : List Stamp
+  pub next : ℕ
+
+-- of stamps, the latest first: the latest, or the first of all where there is no other
+abbrev pub stamp_in : List Stamp → Stamp → Stamp
+stamp_in [] first = first
+stamp_in (s ∷ older) first = s
+
+-- all stamps, the latest first, and the stamp of the present segment
+abbrev pub stamps_of : Stamp → List Stamp → List Stamp
+stamps_of first later = reverse later ++ first ∷ []
+
+abbrev pub present_stamp : Stamp → List Stamp → Stamp
+present_stamp first later = stamp_in (reverse later) first
+
+abbrev pub stamp_now : SeenParcel → Stamp
+stamp_now p = present_stamp p.first p.later
+
+-- each segment with its stamp, the latest first
+abbrev pub EachBy : (Stamp → Journey → Type 0) → List Stamp → List Journey → Type 0
+EachBy P [] [] = Unit {0}
+EachBy P [] (g ∷ gs) = ⊥
+EachBy P (s ∷ ss) [] = ⊥
+EachBy P (s ∷ ss) (g ∷ gs) = P s g × EachBy P ss gs
+
+-- A segment is a beginning of the walk that the plan of its stamp prescribes from its first node to the destination.
+pub record IsStretch (s : Stamp) (g : Journey) : Type 0 where
+  pub epoch : g.epoch ≡ s.epoch
+  pub source_in : g.source < node_count (knows s).network
+  pub dest_in : g.dest < node_count (knows s).network
+  pub few : node_count (knows s).network ≤ MAX_NODES
+  pub begins : slice_get g.hops 0 ≡ Some g.source
+  pub follows : IsBeginning (knows s) g.dest g.hops
+
+-- The segments of a journey are such, one for each stamp; their epochs rise, and each restamp stands at a place of its
+-- own.
+pub record IsRouted (stamps : List Stamp) (r : Journey) : Type 0 where
+  pub few : length r.restamps ≤ MAX_RESTAMPS
+  pub places : ArePlaces (length r.hops) (reverse r.restamps)
+  pub rising : AreRising (segments r)
+  pub each : EachBy IsStretch stamps (segments r)
+
+-- A segment is sound by the plan of its stamp.
+abbrev pub IsSoundBy : Stamp → Journey → Type 0
+IsSoundBy s g = (g.epoch ≡ s.epoch) × IsSound (knows s) g
+
+-- A journey is sound by its stamps: each segment is, their epochs rise, and each restamp stands at a place of its own.
+pub record IsSoundJourney (stamps : List Stamp) (r : Journey) : Type 0 where
+  pub few : length r.restamps ≤ MAX_RESTAMPS
+  pub places : ArePlaces (length r.hops) (reverse r.restamps)
+  pub rising : AreRising (segments r)
+  pub each : EachBy IsSoundBy stamps (segments r)
+
+-- the node that follows the hops of a segment, or its first node while the packet is there
+abbrev pub IsNext : Scheme → Journey → ℕ → Type 0
+IsNext t g next = ((g.hops ≡ g.source ∷ []) × (next ≡ g.source)) ⊎ StepsTo t g.dest (last_of g.hops) next
+
+-- a segment under way: a beginning of its walk, and the node that it goes to
+pub record IsUnderWay (t : Scheme) (g : Journey) (next : ℕ) : Type 0 where
+  pub source_in : g.source < node_count t.network
+  pub dest_in : g.dest < node_count t.network
+  pub few : node_count t.network ≤ MAX_NODES
+  pub begins : slice_get g.hops 0 ≡ Some g.source
+  pub follows : IsBeginning t g.dest g.hops
+  pub goes : IsNext t g next
+  pub left : g.fate ≡ Left
+
+-- what is true of every parcel
+pub record IsKept (first : Stamp) (later : List Stamp) (r : Journey) (next address : ℕ) : Type 0 where
+  pub routed : IsRouted (stamps_of first later) r
+  pub first_epoch : r.epoch ≡ first.epoch
+  pub labelled : address ≡ label_in (knows (present_stamp first later)) r.dest
+  pub goes : IsNext (knows (present_stamp first later)) (present r) next
+  pub left : r.fate ≡ Left
+
+-- a stamp of the net of the opening's stamp: of its registry, with a plan over links of its network
+abbrev pub IsOfNet : Stamp → Stamp → Type 0
+IsOfNet opening s = (registry_name s ≡ registry_name opening) × IsOver (knows opening).network (knows s).network
+
+-- A parcel goes to a place of its net if its last hop is the place's first node and the node that it goes to the
+-- second, all its stamps are of the net, and it has had no more restamps than the net allows, and none in an inbox.
+pub record GoesTo (p : SeenParcel) (place : Place) : Type 0 where
+  pub last : last_of p.journey.hops ≡ place.from
+  pub next : p.next ≡ place.to
+  pub of_net : All (λ s. IsOfNet place.opening s) (stamps_of p.first p.later)
+  pub few : length p.journey.restamps ≤ place.restamps
+  pub fresh : place.from ≡ place.to → p.journey.restamps ≡ []
+
+-- a place of the net of the opening's stamp, which allows so many restamps
+abbrev pub place_of : Stamp → ℕ → ℕ → ℕ → Place
+place_of opening restamps from to = record { from = from; to = to; restamps = restamps; opening = opening }

@@ -1,0 +1,112 @@
+-- What one turn of a node does.
+use Rattle.std.specs.Prelude.{◌≡◌, ℕ, ◌+◌, ◌≤◌, Bool, Option, List, [], ◌∷◌, ◌++◌, length}
+use mathlib.Core.List.{IsPrefix}
+use Rattle.ir_model.specs.declared.Hop.{Hop}
+use Rattle.ir_core.specs.declared.board.Board.{Board}
+use Rattle.ir_core.specs.declared.event.Way.{Way}
+use Rattle.ir_core.specs.declared.event.Verdict.{Verdict}
+use Rattle.ir_core.specs.declared.event.Verdict.TheVariants.{Arrives}
+use Rattle.ir_core.specs.Journey.{stamp_of}
+use Rattle.ir_epochs.specs.declared.registry.Stamp.{Stamp}
+use Rattle.ir_epochs.specs.Entries.{board_of, Rises, IsCurrent}
+use Rattle.ir_epochs.specs.Handles.{known}
+use Rattle.ir_worker.specs.declared.parcel.Outcome.{Outcome}
+use Rattle.ir_worker.specs.declared.node.Node.{Node}
+use Rattle.ir_worker.specs.declared.node.Turn.{Turn}
+use Rattle.ir_worker.specs.declared.node.Turn.TheVariants.{Idle, Sent, Settled}
+use Rattle.ir_worker.specs.Seen.{SeenParcel}
+use Rattle.ir_worker.specs.Acts.{restamp_on, with_restamp, way_then, GoesOnAs, SettlesAs, CauseHolds}
+use Rattle.ir_worker.specs.Wires.{way_after, TookAt, IsWayAt, SentOver, WasFullFor}
+use Rattle.ir_worker.specs.Same.{IsSameNode}
+
+-- the board of what the node has read or learnt
+abbrev pub board_in : Node → Board
+board_in n = board_of (known n.reader)
+
+-- nothing was taken, sent or settled
+pub record HoldsAll (a b : Node) : Type 0 where
+  pub inbox : b.entrances.inbox ≡ a.entrances.inbox
+  pub ins : b.entrances.ports.items ≡ a.entrances.ports.items
+  pub outs : b.outs.items ≡ a.outs.items
+  pub outcomes : b.outcomes.items ≡ a.outcomes.items
+
+-- one parcel was taken on the way whose turn it was, and nothing on the others
+pub record Takes (a b : Node) (p : SeenParcel) (way : Way) : Type 0 where
+  pub took : TookAt a.entrances.inbox a.entrances.ports.items b.entrances.inbox b.entrances.ports.items p a.entrances.next
+  pub by : IsWayAt a.ports.items way a.entrances.next
+
+-- The epoch that a parcel is restamped with, by the board that was read; the parcel after that; and the way by which it
+-- is then judged.
+abbrev pub restamp_in : Node → Node → SeenParcel → Way → Option ℕ
+restamp_in a b p way = restamp_on a.restamps p (board_in b) way a.index
+
+abbrev pub in_hand : Node → Node → SeenParcel → Way → Stamp → SeenParcel
+in_hand a b p way current = with_restamp (restamp_in a b p way) current way a.index p
+
+abbrev pub way_in : Node → Node → SeenParcel → Way → Way
+way_in a b p way = way_then (restamp_in a b p way) way
+
+-- The parcel that was taken was restamped, where that is due, with the stamp that is current on the board that was read,
+-- and sent on by the core's verdict by that board: to this node, and over no other port. Its present segment is of no epoch that the
+-- node knew to be retired before.
+pub record Sends (a b : Node) (id to : ℕ) : Type 0 where
+  pub parcel : SeenParcel
+  pub way : Way
+  pub takes : Takes a b parcel way
+  pub number : parcel.journey.id ≡ id
+  pub current : Stamp
+  pub is_current : IsCurrent (known b.reader) current
+  pub hop : Hop
+  pub onward : SeenParcel
+  pub goes : GoesOnAs (board_in b) (way_in a b parcel way) a.index (in_hand a b parcel way current) hop onward
+  pub node : hop.node ≡ to
+  pub sent : SentOver a.ports.items a.outs.items b.outs.items hop onward
+  pub outcomes : b.outcomes.items ≡ a.outcomes.items
+  pub live : (board_in a).floor ≤ stamp_of onward.journey
+
+-- The parcel that was taken was restamped, where that is due, and settled by the core's verdict by the board that was
+-- read, whose version the outcome holds, and on which the cause that it names held; the earlier outcomes stay. If it was delivered, its present segment is of no
+-- epoch that the node knew to be retired before.
+pub record Settles (a b : Node) (id : ℕ) : Type 0 where
+  pub parcel : SeenParcel
+  pub way : Way
+  pub takes : Takes a b parcel way
+  pub number : parcel.journey.id ≡ id
+  pub current : Stamp
+  pub is_current : IsCurrent (known b.reader) current
+  pub refused : Bool
+  pub verdict : Verdict
+  pub outcome : Outcome
+  pub settled : SettlesAs (board_in b) refused (way_in a b parcel way) a.index (in_hand a b parcel way current) verdict outcome
+  pub full : WasFullFor a.ports.items a.outs.items verdict
+  pub outs : b.outs.items ≡ a.outs.items
+  pub outcomes : b.outcomes.items ≡ a.outcomes.items ++ outcome ∷ []
+  pub version : outcome.version + 1 ≡ length (known b.reader)
+  pub cause : CauseHolds (board_in b) outcome.packet outcome.packet.fate
+  pub live : verdict ≡ Arrives → (board_in a).floor ≤ stamp_of outcome.packet
+
+abbrev pub Does : Node → Node → Turn → Type 0
+Does a b Idle = HoldsAll a b
+Does a b (Sent id to) = Sends a b id to
+Does a b (Settled id) = Settles a b id
+
+-- The node a turned, and is b: the way whose turn it was is polled and the next one's turn comes, and what it knows of
+-- the board never gets shorter.
+pub record IsTurn (a b : Node) (turn : Turn) : Type 0 where
+  pub same : IsSameNode a b
+  pub way : b.entrances.next ≡ way_after (length a.entrances.ports.items) a.entrances.next
+  pub later : IsPrefix (known a.reader) (known b.reader)
+  pub rises : Rises (board_in a) (board_in b)
+  pub does : Does a b turn
+
+-- for want of memory nothing was polled, and all is as it was
+pub record IsUntouched (a b : Node) : Type 0 where
+  pub same : IsSameNode a b
+  pub way : b.entrances.next ≡ a.entrances.next
+  pub reader : known b.reader ≡ known a.reader
+  pub holds : HoldsAll a b
+
+-- The node a made these turns, the latest first, and is b.
+abbrev pub AreTurns : Node → List Turn → Node → Type 0
+AreTurns a [] b = a ≡ b
+AreTurns a (turn ∷ turns) b = (m : Node) × AreTurns a turns m × IsTurn m b turn

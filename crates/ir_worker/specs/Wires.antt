@@ -1,0 +1,66 @@
+-- The ends that a node owns, and what one step on them changes.
+use Rattle.std.specs.Prelude.{◌≡◌, ℕ, zero, suc, ◌+◌, ◌<◌, ◌≤◌, List, [], ◌∷◌, ◌++◌, Some, map, slice_get, slice_set, nat_lt, cond}
+use Rattle.ir_model.specs.declared.Hop.{Hop}
+use Rattle.ir_model.specs.Network.{node_count, ports_of}
+use Rattle.ir_core.specs.declared.TheConstants.{MAX_NODES, MAX_RESTAMPS}
+use Rattle.ir_core.specs.declared.event.Way.{Way}
+use Rattle.ir_core.specs.declared.event.Way.TheVariants.{Inbox, Link}
+use Rattle.ir_core.specs.declared.event.Verdict.{Verdict}
+use Rattle.ir_core.specs.declared.event.Verdict.TheVariants.{CameByDown, BelowFloor, Arrives, LeavesByDown, NoRoom, GoesOn}
+use Rattle.ir_links.specs.Ends.{Sending, Taking, WasFull}
+use Rattle.ir_epochs.specs.declared.registry.Stamp.{Stamp}
+use Rattle.ir_epochs.specs.Stamps.{knows}
+use Rattle.ir_worker.specs.declared.parcel.Place.{Place}
+use Rattle.ir_worker.specs.Seen.{SeenParcel, GoesTo, place_of}
+
+abbrev pub In : Type 0
+In = Taking Place SeenParcel
+
+abbrev pub Out : Type 0
+Out = Sending Place SeenParcel
+
+abbrev pub after_taking : In → SeenParcel → In
+after_taking t p = record t { taken = t.taken ++ p ∷ [] }
+
+abbrev pub after_sending : Out → SeenParcel → Out
+after_sending s p = record s { sent = s.sent ++ p ∷ [] }
+
+-- the way that is polled after way k, of an inbox and so many ports
+abbrev pub way_after : ℕ → ℕ → ℕ
+way_after ports k = cond (nat_lt k ports) (k + 1) 0
+
+-- One parcel was taken on way k, and nothing on the others: the inbox is way 0, and port j is way j + 1.
+abbrev pub TookAt : In → List In → In → List In → SeenParcel → ℕ → Type 0
+TookAt inbox ins inbox' ins' p zero = (inbox' ≡ after_taking inbox p) × (ins' ≡ ins) × GoesTo p inbox.line.place
+TookAt inbox ins inbox' ins' p (suc j) =
+    (inbox' ≡ inbox) × ((t : In) × (slice_get ins j ≡ Some t) × (ins' ≡ slice_set ins j (after_taking t p)) × GoesTo p t.line.place)
+
+-- the way by which the core takes from way k of a node with these ports
+abbrev pub IsWayAt : List Hop → Way → ℕ → Type 0
+IsWayAt ports way zero = way ≡ Inbox
+IsWayAt ports way (suc j) = (mine : Hop) × (slice_get ports j ≡ Some mine) × (way ≡ Link mine.link)
+
+-- one parcel was sent over the port of this hop, and nothing over the others
+abbrev pub SentOver : List Hop → List Out → List Out → Hop → SeenParcel → Type 0
+SentOver ports outs outs' h q =
+    (j : ℕ) × (s : Out) × (slice_get ports j ≡ Some h) × (slice_get outs j ≡ Some s) × (outs' ≡ slice_set outs j (after_sending s q))
+
+-- where a verdict says that there was no room, the channel of the hop's port was full at one moment
+abbrev pub WasFullFor : List Hop → List Out → Verdict → Type 0
+WasFullFor ports outs (NoRoom h) = (j : ℕ) × (s : Out) × (slice_get ports j ≡ Some h) × (slice_get outs j ≡ Some s) × WasFull GoesTo s
+WasFullFor ports outs (CameByDown l) = Unit {0}
+WasFullFor ports outs BelowFloor = Unit {0}
+WasFullFor ports outs Arrives = Unit {0}
+WasFullFor ports outs (LeavesByDown l) = Unit {0}
+WasFullFor ports outs (GoesOn h) = Unit {0}
+
+-- The ends of the node u of the net of an opening's stamp, which allows so many restamps: for each of its ports, in order, one that takes what comes
+-- from the neighbour and one that sends to it, and one that takes from its inbox.
+pub record AreEndsOf (opening : Stamp) (restamps u : ℕ) (ports : List Hop) (inbox : In) (ins : List In) (outs : List Out) : Type 0 where
+  pub node_in : u < node_count (knows opening).network
+  pub few : node_count (knows opening).network ≤ MAX_NODES
+  pub few_restamps : restamps ≤ MAX_RESTAMPS
+  pub all_ports : ports ≡ ports_of (knows opening).network u
+  pub inbox_place : inbox.line.place ≡ place_of opening restamps u u
+  pub in_places : map (λ (t : In). t.line.place) ins ≡ map (λ (h : Hop). place_of opening restamps h.node u) ports
+  pub out_places : map (λ (s : Out). s.line.place) outs ≡ map (λ (h : Hop). place_of opening restamps u h.node) ports

@@ -1,0 +1,69 @@
+//! The ways by which parcels come to a node. They are polled in turn, and nothing else moves the turn on.
+ghost use Rattle.std.specs.Prelude.{◌≡◌, ◌≤◌, length, MatchOption};
+
+use crate::parcel::Parcel;
+use ir_links::Taker;
+use std::sync::Wait;
+
+/// An inbox and the ports' ways in, and which of them is polled next: the inbox is way 0, and port `j` is way `j + 1`.
+#[derive(Drop)]
+pub struct Entrances {
+    inbox: Taker<Parcel>,
+    ports: Vec<Taker<Parcel>>,
+    next: usize,
+    ghost next_in: { next ≤ length ports.items },
+}
+
+impl Entrances {
+    ghost use Rattle.ir_worker.specs.Account.{lines_in};
+    ghost use Rattle.ir_worker.specs.Wires.{way_after, TookAt};
+
+    /// The inbox is polled first.
+    pub fn new(inbox: Taker<Parcel>, ports: Vec<Taker<Parcel>>) -> Entrances
+        ensures { (result.inbox ≡ inbox) × (result.ports ≡ ports) × (result.next ≡ 0) }
+    {
+        Entrances {
+            inbox,
+            ports,
+            next: 0,
+        }
+    }
+
+    /// The way that is polled next.
+    pub fn next(&self) -> usize
+        ensures way { result ≡ self.now.next }
+        ensures in_range { result ≤ length self.now.ports.items }
+    {
+        self.next
+    }
+
+    /// Polls the way whose turn it is, and moves the turn on by one.
+    pub fn poll<R: Wait>(&mut self, rt: &R) -> Option<Parcel>
+        ensures way { self.new.next ≡ way_after (length self.old.ports.items) self.old.next }
+        ensures took { MatchOption result
+            ((self.new.inbox ≡ self.old.inbox) × (self.new.ports.items ≡ self.old.ports.items))
+            (λ p. TookAt self.old.inbox self.old.ports.items self.new.inbox self.new.ports.items p self.old.next) }
+        ensures inbox { self.new.inbox.line ≡ self.old.inbox.line }
+        ensures ins { lines_in self.new.ports.items ≡ lines_in self.old.ports.items }
+    {
+        let way = self.next;
+        self.next = if way < self.ports.len() { way + 1 } else { 0 };
+        if way == 0 {
+            return self.inbox.take(rt);
+        }
+        let taker = &mut self.ports[way - 1];
+        taker.take(rt)
+    }
+
+    /// The inbox and the ports' ways in.
+    pub fn into_takers(self) -> (Taker<Parcel>, Vec<Taker<Parcel>>)
+        ensures { (result.0 ≡ self.inbox) × (result.1 ≡ self.ports) }
+    {
+        let Entrances {
+            inbox,
+            ports,
+            next: _,
+        } = self;
+        (inbox, ports)
+    }
+}

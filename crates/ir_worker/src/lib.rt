@@ -1,0 +1,17 @@
+//! Nodes that turn on threads of their own, and the parcels that they pass on.
+//!
+//! A parcel carries a packet's record with the stamp of its epoch. A node takes parcels from its inbox and its ports,
+//! reads the board, and does with each what the packet core's verdict says: it sends the parcel on, or settles it.
+#![tactic(auto)]
+
+mod entrances;
+mod node;
+mod parcel;
+mod passing;
+mod running;
+mod serving;
+
+pub use node::{Ends, Node, Turn};
+pub use parcel::{Outcome, Parcel, Place};
+pub use running::run_all;
+pub use serving::{ComesBack, Gate, NoMemory, serve};

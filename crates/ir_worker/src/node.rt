@@ -1,0 +1,218 @@
+//! Nodes, and their turns.
+ghost use Rattle.std.specs.Prelude.{◌≡◌, ◌≤◌, [], length, map, All};
+ghost use Rattle.std.specs.Arc.{arc_value};
+ghost use Rattle.ir_epochs.specs.Stamps.{IsOf, knows, registry_name};
+ghost use Rattle.ir_epochs.specs.Entries.{registry_of, network_of};
+ghost use Rattle.ir_epochs.specs.Handles.{known};
+ghost use Rattle.ir_worker.specs.Outcomes.{IsOutcomeOf, IsCauseKnown};
+ghost use Rattle.ir_worker.specs.Account.{IsBalanced};
+ghost use Rattle.ir_worker.specs.Wires.{AreEndsOf};
+
+use crate::entrances::Entrances;
+use crate::parcel::{Outcome, Parcel};
+use crate::passing::{pass_on, ready};
+use ir_core::{Hop, Way};
+use ir_epochs::{BoardReader, Receipt, Registry, Stamp};
+use ir_links::{Bound, Sender, Taker};
+use std::alloc::{AllocError, Global};
+use std::sync::{Arc, Wait};
+use std::sync::atomic::{AtomicU32, Ordering};
+
+/// What a turn did.
+#[derive(Clone, Copy, Debug, PartialEq, Eq)]
+pub enum Turn {
+    /// The way that was polled had no parcel.
+    Idle,
+    /// The packet of this id went on to this node.
+    Sent(u32, u16),
+    /// The packet of this id was delivered or dropped, which its outcome tells.
+    Settled(u32),
+}
+
+/// A node of a net. It owns the ends that take from its inbox and from each port, and those that send over each port.
+/// The heads of the parcels that it took are those that it sent and settled, each as often. The causes of the drops that
+/// it keeps held on boards that it has read.
+#[derive(Drop)]
+pub struct Node {
+    index: u16,
+    registry: Arc<Registry, Global>,
+    opening: Stamp,
+    restamps: u8,
+    ports: Vec<Hop>,
+    entrances: Entrances,
+    outs: Vec<Sender<Parcel>>,
+    reader: BoardReader,
+    outcomes: Vec<Outcome>,
+    settled: Arc<AtomicU32, Global>,
+    ghost of_registry: { IsOf (arc_value registry) opening },
+    ghost of_board: { (registry_of (known reader) ≡ registry_name opening) × (network_of (known reader) ≡ (knows opening).network) },
+    ghost ends: { AreEndsOf opening restamps index ports.items entrances.inbox entrances.ports.items outs.items },
+    ghost account: { IsBalanced entrances.inbox entrances.ports.items outs.items outcomes.items },
+    ghost of_net: { ∥ All (IsOutcomeOf opening restamps) outcomes.items ∥₁ },
+    ghost causes: { ∥ All (IsCauseKnown (known reader)) outcomes.items ∥₁ },
+}
+
+/// What a node is made of, once it is taken apart.
+#[derive(Drop)]
+pub struct Ends {
+    pub inbox: Taker<Parcel>,
+    pub ins: Vec<Taker<Parcel>>,
+    pub outs: Vec<Sender<Parcel>>,
+    pub outcomes: Vec<Outcome>,
+}
+
+impl Node {
+    ghost use Rattle.std.specs.Prelude.{◌<◌, MatchResult};
+    ghost use mathlib.Core.List.{IsPrefix};
+    ghost use Rattle.ir_model.specs.Network.{node_count, ports_of};
+    ghost use Rattle.ir_epochs.specs.Entries.{board_of, Rises};
+    ghost use Rattle.ir_epochs.specs.Handles.{told, reader_board, receipt_board};
+    ghost use Rattle.ir_worker.specs.Same.{IsSameNode};
+    ghost use Rattle.ir_worker.specs.Turns.{IsTurn, IsUntouched, HoldsAll};
+    ghost use Rattle.ir_worker.specs.Wires.{IsWayAt};
+
+    /// A node with its ends, which have taken and sent nothing. It counts in `settled`, with the net's other nodes, what it
+    /// settles: a hint of which nothing is claimed.
+    pub fn new(
+        alloc: Global,
+        index: u16,
+        registry: Arc<Registry, Global>,
+        opening: Stamp,
+        restamps: u8,
+        ports: Vec<Hop>,
+        inbox: Taker<Parcel>,
+        ins: Vec<Taker<Parcel>>,
+        outs: Vec<Sender<Parcel>>,
+        reader: BoardReader,
+        settled: Arc<AtomicU32, Global>,
+    ) -> Node
+        requires registry { IsOf (arc_value registry) opening }
+        requires board { (registry_of (known reader) ≡ registry_name opening) × (network_of (known reader) ≡ (knows opening).network) }
+        requires ends { AreEndsOf opening restamps index ports.items inbox ins.items outs.items }
+        requires fresh { IsBalanced inbox ins.items outs.items [] }
+        ensures node { (result.index ≡ index) × (result.registry ≡ registry) × (result.opening ≡ opening) × (result.restamps ≡ restamps) × (result.ports ≡ ports) × (result.reader ≡ reader) }
+        ensures ends { (result.entrances.inbox ≡ inbox) × (result.entrances.ports ≡ ins) × (result.outs ≡ outs) }
+        ensures start { (result.entrances.next ≡ 0) × (result.outcomes.items ≡ []) }
+    {
+        Node {
+            index,
+            registry,
+            opening,
+            restamps,
+            ports,
+            entrances: Entrances::new(inbox, ins),
+            outs,
+            reader,
+            outcomes: Vec::new(alloc),
+            settled,
+        }
+    }
+
+    /// Its number in its net.
+    pub fn index(&self) -> u16
+        ensures { result ≡ self.now.index }
+    {
+        self.index
+    }
+
+    /// From now on it knows the receipt's change: each later turn reads a board of at least its version.
+    pub fn learn(&mut self, receipt: &Receipt)
+        requires { receipt_board receipt.now ≡ reader_board self.old.reader }
+        ensures same { IsSameNode self.old self.new }
+        ensures holds { HoldsAll self.old self.new }
+        ensures way { self.new.entrances.next ≡ self.old.entrances.next }
+        ensures later { IsPrefix (known self.old.reader) (known self.new.reader) }
+        ensures receipt { IsPrefix (told receipt.now) (known self.new.reader) }
+        ensures rises { Rises (board_of (told receipt.now)) (board_of (known self.new.reader)) }
+    {
+        self.reader.learn(receipt);
+    }
+
+    // The way by which the packet core takes from what is polled next.
+    fn way(&self) -> Way
+        ensures { IsWayAt self.now.ports.items result self.now.entrances.next }
+    {
+        let next = self.entrances.next();
+        if next == 0 {
+            return Way::Inbox;
+        }
+        Way::Link(self.ports[next - 1].link)
+    }
+
+    /// One turn: it makes room for one outcome, and then polls the way whose turn it is. A parcel that was there is
+    /// restamped, where its epoch is retired and the net still allows it, and sent on or settled, by the board that is
+    /// then read.
+    ///
+    /// Where there is no memory for the outcome nothing is polled.
+    pub fn turn<R: Wait>(&mut self, rt: &R) -> Result<Turn, AllocError>
+        ensures { MatchResult result (λ turn. IsTurn self.old self.new turn) (λ _. IsUntouched self.old self.new) }
+    {
+        self.outcomes.reserve(1)?;
+        let way = self.way();
+        let Some(parcel) = self.entrances.poll(rt) else {
+            return Ok(Turn::Idle);
+        };
+        let id = parcel.id();
+        let board = self.reader.read();
+        let ports = self.ports.as_slice();
+        let (parcel, way) = ready(
+            &self.registry,
+            &self.opening,
+            self.restamps,
+            &board,
+            self.reader.stamp(),
+            self.index,
+            ports,
+            way,
+            parcel,
+        );
+        match pass_on(
+            rt,
+            &self.registry,
+            &self.opening,
+            self.restamps,
+            &board,
+            self.index,
+            ports,
+            &mut self.outs,
+            way,
+            parcel,
+        ) {
+            Ok(to) => Ok(Turn::Sent(id, to)),
+            Err(outcome) => {
+                self.outcomes.push_reserved(outcome);
+                self.settled.fetch_add(1, Ordering::SeqCst);
+                Ok(Turn::Settled(id))
+            }
+        }
+    }
+
+    /// The ends of its inbox and ports, and what was settled here.
+    pub fn into_ends(self) -> Ends
+        ensures ends { (result.inbox ≡ self.entrances.inbox) × (result.ins ≡ self.entrances.ports) × (result.outs ≡ self.outs) × (result.outcomes ≡ self.outcomes) }
+        ensures account { IsBalanced result.inbox result.ins.items result.outs.items result.outcomes.items }
+        ensures places { AreEndsOf self.opening self.restamps self.index self.ports.items result.inbox result.ins.items result.outs.items }
+        ensures of_net { ∥ All (IsOutcomeOf self.opening self.restamps) result.outcomes.items ∥₁ }
+        ensures causes { ∥ All (IsCauseKnown (known self.reader)) result.outcomes.items ∥₁ }
+    {
+        let Node {
+            index: _,
+            registry: _,
+            opening: _,
+            restamps: _,
+            ports: _,
+            entrances,
+            outs,
+            reader: _,
+            outcomes,
+            settled: _,
+        } = self;
+        let (inbox, ins) = entrances.into_takers();
+        Ends {
+            inbox,
+            ins,
+            outs,
+            outcomes,
+        }
+    }
+}

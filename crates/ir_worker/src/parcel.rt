@@ -1,0 +1,322 @@
+//! Parcels, where they go, and what they come to.
+ghost use Rattle.std.specs.Prelude.{◌≡◌, ◌<◌, ◌≤◌, [], ◌∷◌, ◌++◌, length, IfOk, MatchResult, Some, false, vec_capacity};
+ghost use Rattle.ir_model.specs.Network.{node_count};
+ghost use Rattle.ir_model.specs.Scheme.{IsScheme, label_in, next_hop};
+ghost use Rattle.ir_core.specs.declared.TheConstants.{MAX_NODES, MAX_RESTAMPS};
+ghost use Rattle.ir_core.specs.declared.event.Verdict.{Verdict};
+ghost use Rattle.ir_core.specs.declared.packet.Fate.TheVariants.{Full, Left};
+ghost use Rattle.ir_core.specs.Journey.{present, stamp_of};
+ghost use Rattle.ir_core.specs.Entry.{judged, restamped, fresh};
+ghost use Rattle.ir_core.specs.Sound.{LeadsOn, last_of};
+ghost use Rattle.ir_core.specs.State.{IsDue, IsNew, InHand};
+ghost use Rattle.ir_epochs.specs.Stamps.{IsOf, knows};
+ghost use Rattle.ir_worker.specs.Seen.{IsUnderWay, IsSoundJourney, stamps_of, stamp_now};
+
+use ir_core::{Board, Hop, MAX_RESTAMPS, Record, Ruling, Verdict, Way, judge};
+use ir_epochs::{Registry, Stamp};
+use ir_links::Bound;
+use ir_plan::Plan;
+use std::alloc::{AllocError, Global};
+use std::marker::Model;
+
+/// Where a channel leads: from a node to a node, which for an inbox are one. Contracts see of which net it is: the
+/// registry of the opening's stamp, the network of its plan, and how many restamps the net allows a packet.
+#[derive(Drop)]
+pub struct Place {
+    pub from: u16,
+    pub to: u16,
+    pub restamps: u8,
+    pub opening: Stamp,
+}
+
+/// A packet on its way, which is moved and never copied. Its hops are segments, joined end to end, of rising epochs; each
+/// is a beginning of the walk that the plan of its own stamp prescribes from its first node to the destination. `next` is
+/// the node that follows the last segment, or its first node while the packet is there; the address is the destination's
+/// label in the plan of the present stamp. Without a restamp there is one segment, from the source.
+#[derive(Drop)]
+pub struct Parcel {
+    packet: Record,
+    first: Stamp,
+    later: Vec<Stamp>,
+    address: u16,
+    next: u16,
+}
+
+impl Model for Parcel {
+    ghost use Rattle.std.specs.Prelude.{◌≡◌, ◌≤◌, length, vec_capacity};
+    ghost use Rattle.ir_core.specs.declared.TheConstants.{MAX_RESTAMPS};
+    ghost use Rattle.ir_worker.specs.Seen.{SeenParcel, IsKept};
+
+    ghost Value = { SeenParcel };
+
+    ghost view = { λ p. record { journey = p.packet; first = p.first; later = p.later.items; next = p.next } };
+
+    ghost invariant = { λ p. IsKept p.first p.later.items p.packet p.next p.address × (MAX_RESTAMPS ≤ vec_capacity p.later) × (length p.later.items ≡ length p.packet.restamps) };
+}
+
+impl Bound for Parcel {
+    type Place = Place;
+
+    ghost use Rattle.ir_worker.specs.Seen.{GoesTo};
+
+    ghost id_of = { λ p. p.journey.id };
+
+    ghost goes_to = { GoesTo };
+
+    fn id(&self) -> u32 {
+        self.packet.id
+    }
+}
+
+/// What a packet came to: its record with its first stamp and those of its later segments, and the version of the board
+/// that the node had read when it settled it. The record is sound by the plans that the stamps know.
+#[derive(Drop)]
+pub struct Outcome {
+    pub packet: Record,
+    pub stamp: Stamp,
+    pub later: Vec<Stamp>,
+    pub version: u32,
+    ghost epoch: { packet.epoch ≡ stamp.epoch },
+    ghost sound: { ∥ IsSoundJourney (stamps_of stamp later.items) packet ∥₁ },
+}
+
+impl Parcel {
+    ghost use Rattle.ir_worker.specs.Acts.{GoesOnAs, SettlesAs, verdict_on};
+
+    /// A new packet at its source. It has room for all hops and restamps that it can have.
+    pub fn start(
+        alloc: Global,
+        registry: &Registry,
+        id: u32,
+        stamp: Stamp,
+        source: u16,
+        dest: u16,
+    ) -> Result<Parcel, AllocError>
+        requires registry { IsOf registry.now stamp }
+        requires source { source < node_count (knows stamp).network }
+        requires dest { dest < node_count (knows stamp).network }
+        requires few { node_count (knows stamp).network ≤ MAX_NODES }
+        ensures { IfOk result (λ p. p ≡ record { journey = fresh id stamp.epoch source dest; first = stamp; later = []; next = source }) }
+    {
+        let plan = registry.plan(&stamp);
+        let _nodes = plan.nodes();
+        let address = plan.label_of(dest);
+        let packet = Record::start(alloc, id, stamp.epoch(), source, dest)?;
+        let later = Vec::with_capacity(alloc, MAX_RESTAMPS)?;
+        Ok(Parcel {
+            packet,
+            first: stamp,
+            later,
+            address,
+            next: source,
+        })
+    }
+
+    /// The epoch that it was stamped with first.
+    pub fn epoch(&self) -> u32
+        ensures { result ≡ self.now.journey.epoch }
+    {
+        self.packet.epoch
+    }
+
+    /// The destination's label in the plan of its present stamp.
+    pub fn address(&self) -> u16
+        ensures { result ≡ label_in (knows (stamp_now self.now)) self.now.journey.dest }
+    {
+        self.address
+    }
+
+    pub fn source(&self) -> u16
+        ensures { result ≡ self.now.journey.source }
+    {
+        self.packet.source
+    }
+
+    pub fn dest(&self) -> u16
+        ensures { result ≡ self.now.journey.dest }
+    {
+        self.packet.dest
+    }
+
+    /// The nodes that it came by, its source first.
+    pub fn hops(&self) -> &[u16]
+        ensures { result.now ≡ self.now.journey.hops }
+    {
+        self.packet.hops.as_slice()
+    }
+
+    /// The node that it goes to.
+    pub fn next(&self) -> u16
+        ensures { result ≡ self.now.next }
+    {
+        self.next
+    }
+
+    /// The stamp of its present segment.
+    pub fn stamp(&self) -> &Stamp
+        ensures stamp { result.now ≡ stamp_now self.now }
+        ensures epoch { stamp_of self.now.journey ≡ result.now.epoch }
+        ensures under_way { IsUnderWay (knows (stamp_now self.now)) (present self.now.journey) self.now.next }
+        ensures last { last_of (present self.now.journey).hops ≡ last_of self.now.journey.hops }
+    {
+        match self.later.as_slice().last() {
+            None => &self.first,
+            Some(stamp) => stamp,
+        }
+    }
+
+    // How many restamps it has had.
+    pub(crate) fn restamped(&self) -> usize
+        ensures { result ≡ length self.now.journey.restamps }
+    {
+        self.packet.restamp_count()
+    }
+
+    // What comes of it at a node that took it by this way, where each channel has room.
+    pub(crate) fn judge(&self, plan: &Plan, board: &Board, way: Way, at: u16) -> Verdict
+        requires plan { plan.now ≡ knows (stamp_now self.now) }
+        requires at_in { at < node_count (knows (stamp_now self.now)).network }
+        ensures { result ≡ verdict_on self.now board.now false way at }
+    {
+        let _nodes = plan.nodes();
+        judge(plan, board, way, at, self.packet.stamp(), self.address)
+    }
+
+    // A new segment of it begins at a node, of this stamp.
+    pub(crate) fn restamp(self, stamp: Stamp, plan: &Plan, way: Way, at: u16) -> Parcel
+        requires plan { plan.now ≡ knows stamp }
+        requires at_in { at < node_count (knows stamp).network }
+        requires nodes { node_count (knows stamp).network ≡ node_count (knows (stamp_now self)).network }
+        requires due { IsDue (knows (stamp_now self)) (present self.journey) at way }
+        requires is_new { IsNew self.journey (InHand at way) }
+        requires above { stamp_of self.journey < stamp.epoch }
+        requires left { length self.journey.restamps < MAX_RESTAMPS }
+        ensures { result ≡ record { journey = restamped at way stamp.epoch self.journey; first = self.first; later = self.later ++ stamp ∷ []; next = at } }
+    {
+        let _nodes = plan.nodes();
+        let Parcel {
+            mut packet,
+            first,
+            mut later,
+            address: _,
+            next: _,
+        } = self;
+        packet.restamp(at, way, stamp.epoch());
+        let address = plan.label_of(packet.destination());
+        later.push_reserved(stamp);
+        Parcel {
+            packet,
+            first,
+            later,
+            address,
+            next: at,
+        }
+    }
+
+    // What a node makes of it that took it by this way, by this board: it is to go on by a hop, or it is settled.
+    pub(crate) fn act(
+        self,
+        plan: &Plan,
+        board: &Board,
+        way: Way,
+        at: u16,
+    ) -> Result<(Parcel, Hop), Outcome>
+        requires plan { plan.now ≡ knows (stamp_now self) }
+        requires at_in { at < node_count (knows (stamp_now self)).network }
+        requires due { IsDue (knows (stamp_now self)) (present self.journey) at way }
+        ensures acts { MatchResult result (λ r. GoesOnAs board.now way at self r.1 r.0) (λ o. (v : Verdict) × SettlesAs board.now false way at self v o) }
+        ensures leads { IfOk result (λ r. LeadsOn (knows (stamp_now self)) (present r.0.journey) r.1.link r.1.node) }
+        ensures here { IfOk result (λ r. last_of r.0.journey.hops ≡ at) }
+        ensures table { IfOk result (λ r. next_hop (knows (stamp_now self)) at self.journey.dest ≡ Some r.1) }
+    {
+        let _nodes = plan.nodes();
+        let verdict = self.judge(plan, board, way, at);
+        let Parcel {
+            mut packet,
+            first,
+            later,
+            address,
+            next: _,
+        } = self;
+        packet.act(
+            at,
+            way,
+            Ruling {
+                restamp: None,
+                verdict,
+            },
+        );
+        if let Verdict::GoesOn(hop) = verdict {
+            let next = hop.node;
+            return Ok((
+                Parcel {
+                    packet,
+                    first,
+                    later,
+                    address,
+                    next,
+                },
+                hop,
+            ));
+        }
+        Err(Outcome {
+            packet,
+            stamp: first,
+            later,
+            version: board.version(),
+        })
+    }
+
+    // What it comes to where the channel of the hop that it was to go on by was full.
+    pub(crate) fn refused(self, hop: Hop, version: u32) -> Outcome
+        requires leads { LeadsOn (knows (stamp_now self)) (present self.journey) hop.link hop.node }
+        ensures packet { result.packet ≡ record self.journey { fate = Full hop.link hop.node } }
+        ensures stamp { result.stamp ≡ self.first }
+        ensures later { result.later.items ≡ self.later }
+        ensures version { result.version ≡ version }
+    {
+        let Parcel {
+            mut packet,
+            first,
+            later,
+            address: _,
+            next,
+        } = self;
+        packet.act(
+            next,
+            Way::Inbox,
+            Ruling {
+                restamp: None,
+                verdict: Verdict::NoRoom(hop),
+            },
+        );
+        Outcome {
+            packet,
+            stamp: first,
+            later,
+            version,
+        }
+    }
+
+    /// What is left of it at the end: its record as it is.
+    pub fn into_left(self) -> Outcome
+        ensures packet { result.packet ≡ self.journey }
+        ensures left { self.journey.fate ≡ Left }
+        ensures stamp { result.stamp ≡ self.first }
+        ensures later { result.later.items ≡ self.later }
+    {
+        let Parcel {
+            packet,
+            first,
+            later,
+            address: _,
+            next: _,
+        } = self;
+        Outcome {
+            packet,
+            stamp: first,
+            later,
+            version: 0,
+        }
+    }
+}
