@@ -2,8 +2,6 @@
 #![tactic(auto)]
 
 #[cfg(test)]
-mod checked;
-#[cfg(test)]
 mod checks;
 #[cfg(test)]
 mod compiled;
@@ -13,8 +11,6 @@ mod errors;
 mod graphs;
 #[cfg(test)]
 mod hostile;
-#[cfg(test)]
-mod looks;
 #[cfg(test)]
 mod numbers;
 #[cfg(test)]
@@ -29,8 +25,6 @@ mod rings;
 mod runs;
 #[cfg(test)]
 mod scripts;
-#[cfg(test)]
-mod simulations;
 #[cfg(test)]
 mod tables;
 #[cfg(test)]
