@@ -2,8 +2,6 @@
 #![tactic(auto)]
 
 #[cfg(test)]
-mod checks;
-#[cfg(test)]
 mod compiled;
 #[cfg(test)]
 mod errors;
@@ -25,6 +23,8 @@ mod rings;
 mod runs;
 #[cfg(test)]
 mod scripts;
+#[cfg(test)]
+mod streams;
 #[cfg(test)]
 mod tables;
 #[cfg(test)]
