@@ -2,10 +2,6 @@
 #![tactic(auto)]
 
 #[cfg(test)]
-mod checked;
-#[cfg(test)]
-mod checks;
-#[cfg(test)]
 mod compiled;
 #[cfg(test)]
 mod errors;
@@ -13,8 +9,6 @@ mod errors;
 mod graphs;
 #[cfg(test)]
 mod hostile;
-#[cfg(test)]
-mod looks;
 #[cfg(test)]
 mod numbers;
 #[cfg(test)]
@@ -30,7 +24,7 @@ mod runs;
 #[cfg(test)]
 mod scripts;
 #[cfg(test)]
-mod simulations;
+mod streams;
 #[cfg(test)]
 mod tables;
 #[cfg(test)]
