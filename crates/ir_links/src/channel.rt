@@ -1,12 +1,13 @@
 //! A channel, its two ends, and what is left at the end.
 //!
 //! The account of a channel is this project's own rule. The queue is crossbeam's bounded one, under a rule of ours.
-ghost use Rattle.std.specs.Prelude.{◌≡◌, ◌<◌, ◌+◌, ◌≤◌, List, [], ◌∷◌, ◌++◌, length, All, IfOk, IfSome, None, true, MatchOption, MatchResult, vec_len, vec_capacity};
+ghost use Rattle.std.specs.Prelude.{◌≡◌, ◌<◌, ◌+◌, ◌≤◌, List, [], ◌∷◌, ◌++◌, length, All, IfOk, IfErr, IfNone, IfSome, None, true, MatchOption, MatchResult, vec_len, vec_capacity};
 ghost use Rattle.crossbeam_queue.specs.Passes.{view as pass_view, IsSamePass, IsPassOf, ruled_capacity};
-ghost use Rattle.ir_links.specs.Ends.{WasFull, WasEmpty};
+ghost use Rattle.ir_links.specs.Ends.{WasFull, WasEmpty, WasRefused, FoundNone};
 ghost use Rattle.ir_links.specs.Rule.{terms_of, known, knows_base, knows_both};
 
-use crate::rule::{Bound, Empties, InOrder, Named, Naming, Roles, Sends, Takes, View};
+use crate::moments::{Moments, Shared};
+use crate::rule::{Bound, Empties, InOrder, Named, Naming, Roles, View};
 use atomic_table::{Perch, Seat};
 use crossbeam_queue::{Pass, RuledArrayQueue};
 use std::alloc::{AllocError, Global};
@@ -22,12 +23,6 @@ pub trait Rests {
 
 impl<S, V> Rests for Seat<S, V> {
     type On = Perch<S, V>;
-}
-
-#[derive(Drop)]
-struct Shared<T: Bound> {
-    queue: RuledArrayQueue<T, View<T, T::Place>, InOrder>,
-    place: T::Place,
 }
 
 /// Carries items to one place, oldest first, and holds at most its capacity of them.
@@ -170,17 +165,17 @@ impl<T: Bound> Sender<T> {
     /// Puts the item behind those in the channel, or gives it back.
     ///
     /// The sent list grows by the item exactly where the answer is `Ok`. It is `Full` only where the channel held as
-    /// many items as it can at one moment of the call. They are then the last of the sent list, and each goes to the
-    /// place.
-    pub fn send<R: Wait>(&mut self, rt: &R, item: T) -> Result<(), Full<T>>
+    /// many items as it can at one moment of the call, at which the push of this call was refused. They are then the last
+    /// of the sent list, and each goes to the place.
+    pub fn send<R: Moments<T>>(&mut self, rt: &R, item: T) -> Result<(), Full<T>>
         requires { T.goes_to item self.old.line.place }
         ensures sent { MatchResult result
             (λ _. self.new ≡ record self.old { sent = self.old.sent ++ item ∷ [] })
             (λ full. (full.item ≡ item) × (self.new ≡ self.old) × WasFull T.goes_to self.old) }
+        ensures moment { IfErr result (λ _. WasRefused R.was_full T.goes_to self.old) }
         ensures line { self.new.line ≡ self.old.line }
     {
-        let queue = &self.shared.queue;
-        let answer = queue.push_as::<Sends, R>(rt, &mut self.pass, item);
+        let answer = rt.push(&self.shared, &mut self.pass, item);
         answer.map_err(|item| Full { item })
     }
 }
@@ -196,15 +191,17 @@ impl<T: Bound> Taker<T> {
     /// Takes the oldest item in the channel.
     ///
     /// The taken list grows by that item, which goes to the channel's place. `None` comes only where the queue held
-    /// nothing at one moment of the call, when the taken list was all that had been sent, and each item of it goes to
-    /// the place: the taker alone doesn't know that, and the channel's rule shows it at a step.
-    pub fn take<R: Wait>(&mut self, rt: &R) -> Option<T>
+    /// nothing at one moment of the call, at which the pop of this call was refused. The taken list was then all that had
+    /// been sent, and each item of it goes to the place: the taker alone doesn't know that, and the channel's rule shows
+    /// it at a step.
+    pub fn take<R: Moments<T>>(&mut self, rt: &R) -> Option<T>
         ensures taken { MatchOption result
             ((self.new ≡ self.old) × WasEmpty T.goes_to self.old)
             (λ item. (self.new ≡ record self.old { taken = self.old.taken ++ item ∷ [] }) × T.goes_to item self.old.line.place) }
+        ensures moment { IfNone result (FoundNone R.was_empty T.goes_to self.old) }
         ensures line { self.new.line ≡ self.old.line }
     {
-        self.shared.queue.pop_as::<Takes, R>(rt, &mut self.pass)
+        rt.pop(&self.shared, &mut self.pass)
     }
 }
 

@@ -1,0 +1,64 @@
+//! The path a, b, c of links of weight 1, and its plans.
+ghost use Rattle.std.specs.Prelude.{◌≡◌, IfOk};
+
+use ir_graph::{Graph, GraphError};
+use ir_plan::{Kind, Plan, PlanError};
+use ir_tables::Topology;
+use std::alloc::Global;
+
+/// Adds an edge; again, where there was no memory.
+fn add_edge(graph: &mut Graph, u: &str, v: &str) -> Result<(), &'static str> {
+    let before = (graph.number_of_nodes(), graph.number_of_edges());
+    match graph.add_edge(u, v, 1) {
+        Ok(_) => return Ok(()),
+        Err(GraphError::NoMemory) => {}
+        Err(_) => return Err("an edge is refused"),
+    }
+    if (graph.number_of_nodes(), graph.number_of_edges()) != before {
+        return Err("a refused edge changes the graph");
+    }
+    match graph.add_edge(u, v, 1) {
+        Ok(_) => Ok(()),
+        Err(_) => Err("an edge is refused again"),
+    }
+}
+
+/// The network of the path.
+pub fn path(alloc: Global) -> Result<Topology, &'static str> {
+    let mut graph = Graph::new(alloc);
+    add_edge(&mut graph, "a", "b")?;
+    add_edge(&mut graph, "b", "c")?;
+    if let Ok(topology) = Topology::of(alloc, &graph) {
+        return Ok(topology);
+    }
+    match Topology::of(alloc, &graph) {
+        Ok(topology) => Ok(topology),
+        Err(_) => Err("a topology is refused again"),
+    }
+}
+
+/// A copy of a topology.
+pub fn copy(alloc: Global, topology: &Topology) -> Result<Topology, &'static str>
+    ensures { IfOk result (λ copied. copied ≡ topology.now) }
+{
+    if let Ok(copied) = topology.try_clone(alloc) {
+        return Ok(copied);
+    }
+    match topology.try_clone(alloc) {
+        Ok(copied) => Ok(copied),
+        Err(_) => Err("a copy is refused again"),
+    }
+}
+
+/// A plan over a topology, which comes back where there was no memory.
+pub fn plan(alloc: Global, topology: Topology, kind: Kind) -> Result<Plan, &'static str> {
+    let topology = match Plan::build(alloc, topology, kind, 0) {
+        Ok(plan) => return Ok(plan),
+        Err((PlanError::NoMemory, topology)) => topology,
+        Err(_) => return Err("a plan is refused"),
+    };
+    match Plan::build(alloc, topology, kind, 0) {
+        Ok(plan) => Ok(plan),
+        Err(_) => Err("a plan is refused again"),
+    }
+}
