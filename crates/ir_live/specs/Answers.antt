@@ -21,14 +21,14 @@ refusal_in (Ok installed) = None
 refusal_in (Err why) = Some why
 
 -- the refusal of one command, with its place
-abbrev pub refusal_at : ℕ → Answer → List (ℕ × Refused)
-refusal_at k (Ok installed) = []
-refusal_at k (Err why) = (k, why) ∷ []
+abbrev pub refusal_at : ℕ → Option Refused → List (ℕ × Refused)
+refusal_at k None = []
+refusal_at k (Some why) = (k, why) ∷ []
 
 -- the refused commands' places and refusals, where the first answer is that of place k
 abbrev pub refusals_from : ℕ → List Answer → List (ℕ × Refused)
 refusals_from k [] = []
-refusals_from k (answer ∷ answers) = refusal_at k answer ++ refusals_from (k + 1) answers
+refusals_from k (answer ∷ answers) = refusal_at k (refusal_in answer) ++ refusals_from (k + 1) answers
 
 -- the greatest epoch known, once an answer is known
 abbrev pub epoch_after : ℕ → Answer → ℕ
