@@ -1,1 +1,3 @@
 pub mod Commanded
+pub mod Promised
+pub mod Kept

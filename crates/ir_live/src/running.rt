@@ -1,7 +1,6 @@
 //! A live run.
-ghost use Rattle.std.specs.Prelude.{◌≡◌, ◌<◌, ℕ, Err, IfOk, IfErr, map};
+ghost use Rattle.std.specs.Prelude.{◌≡◌, IfOk, IfErr, map};
 ghost use Rattle.std.specs.Borrow.{Bor};
-ghost use Rattle.ir_model.specs.Network.{node_count};
 ghost use Rattle.ir_live.specs.Lives.{IsLive, IsRefusal};
 ghost use Rattle.ir_live.specs.Runs.{live_error};
 
@@ -55,7 +54,7 @@ pub fn run_live<R: Threads + Wait + Sync, G: Gate, S: Starter>(
     starter: &S,
 ) -> Result<Live, LiveError>
     ensures live { IfOk result (λ live. IsLive (Bor R) net.now commands.now live) }
-    ensures refused { IfErr result (λ error. IsRefusal S.unstarted net.now starter.now error) }
+    ensures refused { IfErr result (λ error. IsRefusal S.unstarted starter.now error) }
 {
     let Ok(given) = net.parts(rt) else {
         return Err(LiveError::NoMemory);
