@@ -13,8 +13,8 @@ pub kept_back : {H : Type 0} (f : H → Node) (hs : List H) (yielded nodes : Lis
     ((k : ℕ) (b : Node × Option NoMemory) → k < length hs → (h : H) × (h ≡ slice_index_or hs k h) × IsSameNode (f h) (slice_index_or back k b).0) →
     CameBack nodes back
 kept_back {H} f hs yielded nodes back all many came promised kept = subst (λ (ns : List Node). CameBack ns back) (sym (map-id yielded) ∙ all) (record {
-    count = omega (arith, many, came);
-    each = λ k d e lt.
+  count = omega (arith, many, came);
+  each = λ k d e lt.
       (let it = kept k e (omega (arith, many, lt)) in
-       subst (λ (n : Node). IsSameNode n (slice_index_or back k e).0) (ap f it.1 ∙ promised k it.0 d lt) it.2);
-  })
+      subst (λ (n : Node). IsSameNode n (slice_index_or back k e).0) (ap f it.1 ∙ promised k it.0 d lt) it.2);
+})

@@ -1,5 +1,8 @@
 //! A live run.
 ghost use Rattle.std.specs.Prelude.{◌≡◌, IfOk, IfErr, map};
+ghost use Rattle.ir_model.specs.Network.{node_count};
+ghost use Rattle.ir_control.specs.Parts.{AreFirstNodes, IsInjectorOf};
+ghost use Rattle.ir_control.specs.Reports.{IsReport};
 ghost use Rattle.std.specs.Borrow.{Bor};
 ghost use Rattle.ir_live.specs.Lives.{IsLive, IsRefusal};
 ghost use Rattle.ir_live.specs.Runs.{live_error};
@@ -9,7 +12,7 @@ use crate::desk::Desk;
 use crate::live::{Live, LiveError};
 use crate::starter::Starter;
 use crate::working::{NotRun, Run, run_nodes};
-use ir_control::{Net, Parts, finish};
+use ir_control::{FinishError, Net, Parts, finish};
 use ir_worker::{Gate, NoMemory, Node};
 use std::alloc::{AllocError, Global};
 use std::sync::Wait;
@@ -37,6 +40,43 @@ fn all_back(alloc: Global, back: Vec<(Node, Option<NoMemory>)>) -> Result<Vec<No
         nodes.push(node)?;
     }
     Ok(nodes)
+}
+
+// The report of a run.
+fn reported<R: Wait, B: Wait + Drop>(
+    rt: &R,
+    alloc: Global,
+    net: &Net,
+    run: Run<B>,
+) -> Result<Live, LiveError>
+    requires nodes { AreFirstNodes net.now (node_count net.now.topology) (map (λ b. b.0) run.back.items) }
+    requires injector { IsInjectorOf net.now run.desk.injector }
+    ensures report { IfOk result (λ live. IsReport net.now (map (λ b. b.0) run.back.items) run.desk.injector live.report) }
+    ensures refusals { IfOk result (λ live. live.refusals ≡ run.refusals) }
+    ensures refused { IfErr result (λ error. error ≡ LiveError.NoMemory) }
+{
+    let Run {
+        back,
+        desk,
+        refusals,
+    } = run;
+    let Ok(nodes) = all_back(alloc, back) else {
+        return Err(LiveError::NoMemory);
+    };
+    let Desk {
+        injector,
+        controller,
+    } = desk;
+    let parts = Parts {
+        nodes,
+        injector,
+        controller,
+    };
+    match finish(rt, net, parts) {
+        Ok(report) => Ok(Live { report, refusals }),
+        Err((FinishError::NoMemory, _)) => Err(LiveError::NoMemory),
+        Err((FinishError::Missing(_), _)) => unreachable!(),
+    }
 }
 
 /// Starts a thread for each node of a net, which runs `serve`, unless the starter says no; carries out the commands in
@@ -74,35 +114,5 @@ pub fn run_live<R: Threads + Wait + Sync, G: Gate, S: Starter>(
     match run_nodes(rt, alloc, net, nodes, desk, commands, gate, starter) {
         Ok(run) => reported(rt, alloc, net, run),
         Err(why) => Err(stopped(why)),
-    }
-}
-
-// The report of a run.
-fn reported<R: Wait, B: Wait + Drop>(
-    rt: &R,
-    alloc: Global,
-    net: &Net,
-    run: Run<B>,
-) -> Result<Live, LiveError> {
-    let Run {
-        back,
-        desk,
-        refusals,
-    } = run;
-    let Ok(nodes) = all_back(alloc, back) else {
-        return Err(LiveError::NoMemory);
-    };
-    let Desk {
-        injector,
-        controller,
-    } = desk;
-    let parts = Parts {
-        nodes,
-        injector,
-        controller,
-    };
-    match finish(rt, net, parts) {
-        Ok(report) => Ok(Live { report, refusals }),
-        Err(_) => Err(LiveError::NoMemory),
     }
 }

@@ -29,7 +29,9 @@ returns g c =
         came_back = kept_back (λ h. h.promise.0.value) c.loop-node.running.items c.loop-node.yielded c.captures.nodes.items c.in-Ok-join_promised.back.items
             end.0 c.loop-node.invariant.0 (omega (arith, running, back, many)) c.loop-node.invariant.1
             (λ k b lt. (let kept = (c.in-Ok-join_promised.ensures.each k b (omega (arith, running, lt))).1 in (kept.handle, kept.handle_is, kept.kept)));
-        answers = c.in-Ok-told.ensures.0; carried_out = c.in-Ok-told.ensures.1; refusals = c.in-Ok-told.ensures.2;
+        answers = c.in-Ok-told.ensures.0;
+        carried_out = c.in-Ok-told.ensures.1;
+        refusals = c.in-Ok-told.ensures.2;
       };
       stopped = tt;
     }
