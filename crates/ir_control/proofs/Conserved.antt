@@ -79,12 +79,12 @@ module _ (accepted : List Accepted) (numbered : AreNumbered accepted) (os : List
 
   pub heads_are : length os ≡ length accepted → ((k : ℕ) (x : Outcome) → slice_get os k ≡ Some x → x.packet.id ≡ k) → map (λ o. head_of o.packet) os ≡ map head_at accepted
   heads_are len number = map_eq (λ (o : Outcome). head_of o.packet) head_at os accepted len
-    (λ k x y at_x at_y.
+      (λ k x y at_x at_y.
       (let id : x.packet.id ≡ y.id = number k x at_x ∙ sym (numbered k y at_y) in
-       let epoch : x.packet.epoch ≡ y.epoch = same_field k x y at_x at_y (number k x at_x) (λ h. h.epoch) in
-       let source : x.packet.source ≡ y.source = same_field k x y at_x at_y (number k x at_x) (λ h. h.source) in
-       let dest : x.packet.dest ≡ y.dest = same_field k x y at_x at_y (number k x at_x) (λ h. h.dest) in
-       (cc)))
+      let epoch : x.packet.epoch ≡ y.epoch = same_field k x y at_x at_y (number k x at_x) (λ h. h.epoch) in
+      let source : x.packet.source ≡ y.source = same_field k x y at_x at_y (number k x at_x) (λ h. h.source) in
+      let dest : x.packet.dest ≡ y.dest = same_field k x y at_x at_y (number k x at_x) (λ h. h.dest) in
+      (cc)))
 
 pub there_some : {O : Type 0} (os : List O) (k : ℕ) (x : O) → slice_get os k ≡ Some x → slice_index_or (map (λ o. Some o) os) k None ≡ Some x
 there_some [] k x got = absurd (none-some x got)

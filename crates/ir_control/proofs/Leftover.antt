@@ -46,24 +46,24 @@ nodes_fit net nodes are n i is = go (ltb i n) refl where
   go false e =
       let most = ltb-false i n e in
       let none : sum_by (hit node_number i) nodes ≡ 0 = sum_nothing (hit node_number i) nodes (λ p x got. counts_no_other node_number x i (λ same.
-        (let within : p < length nodes = slice_get_within nodes p x got in
-         let at : slice_index_or nodes p x ≡ x = get_or_from_slice_get nodes p x x got in
-         let lt : x.index < node_count net.topology = subst (λ (m : Node). m.index < node_count net.topology) at (are.each p x within).index_in in
-         omega (arith, same, most, lt, is)))) in
+      (let within : p < length nodes = slice_get_within nodes p x got in
+      let at : slice_index_or nodes p x ≡ x = get_or_from_slice_get nodes p x x got in
+      let lt : x.index < node_count net.topology = subst (λ (m : Node). m.index < node_count net.topology) at (are.each p x within).index_in in
+      omega (arith, same, most, lt, is)))) in
       omega (arith, none)
 
 -- once all nodes are there, each slot is full
 pub all_slots : (net : Net) (nodes : List Node) (slots : List (Option Node)) → AreAllThere net nodes → length slots ≡ node_count net.topology → AllAt node_number slots → AllIn (IsNodeOf net) slots
     → ((w : Node → ℕ) → sum_by (slot_weight w) slots ≡ sum_by w nodes) → AreSlotsFrom net 0 slots
 all_slots net nodes slots all len at kind weighs = record {
-    count = len;
-    emptied = λ k lt. absurd (omega (arith, lt));
-    full = λ k le lt.
+  count = len;
+  emptied = λ k lt. absurd (omega (arith, lt));
+  full = λ k le lt.
       (let some = all k lt in
-       let same = weighs (hit node_number k) in
-       let f = full_at node_number slots at k (omega (arith, some, same)) in
-       (f.0, f.1, f.2, kind k f.0 f.1));
-  }
+      let same = weighs (hit node_number k) in
+      let f = full_at node_number slots at k (omega (arith, some, same)) in
+      (f.0, f.1, f.2, kind k f.0 f.1));
+}
 
 module _ {P T : Type 0} where
   line_of : (takers : List (Taking P T)) (k : ℕ) → k < length takers → (t : Taking P T) × (slice_get takers k ≡ Some t) × (line_at takers k ≡ Some t.line)
@@ -79,25 +79,25 @@ module _ {P T : Type 0} where
     slots_len = outs;
     takers_len = omega (arith, ins);
     here = λ k lt less.
-      (let t = line_of takers (slice_index peers k) less in
-       sym (out_lines k (slice_index_or slots k None) (slice_get-get_or slots k None (omega (arith, lt, outs)))) ∙ ap (slice_get ways) (sym (are.back k lt)) ∙ in_lines (slice_index peers k) t.0 t.1 ∙ sym t.2);
+        (let t = line_of takers (slice_index peers k) less in
+        sym (out_lines k (slice_index_or slots k None) (slice_get-get_or slots k None (omega (arith, lt, outs)))) ∙ ap (slice_get ways) (sym (are.back k lt)) ∙ in_lines (slice_index peers k) t.0 t.1 ∙ sym t.2);
     gone = λ k lt more. absurd (let within = are.within k lt in omega (arith, more, within, ins));
   }
 
 pub entries_paired : (n : ℕ) (entries : List ℕ) → AreEntries n entries → ArePeers entries
 entries_paired n entries are = record {
-    within = λ k lt. (let e = are.each k (let c = are.count in omega (arith, c, lt)) in omega (arith, e, lt));
-    back = λ k lt. (let e = are.each k (let c = are.count in omega (arith, c, lt)) in ap (slice_index entries) e ∙ e);
-  }
+  within = λ k lt. (let e = are.each k (let c = are.count in omega (arith, c, lt)) in omega (arith, e, lt));
+  back = λ k lt. (let e = are.each k (let c = are.count in omega (arith, c, lt)) in ap (slice_index entries) e ∙ e);
+}
 
 pub lines_there : (inboxes : List (Line Place)) (outs : List Out) → lines_out outs ≡ inboxes → AllGet (λ k (slot : Option Out). slice_get inboxes k ≡ slot_line slot) (map (λ s. Some s) outs)
 lines_there inboxes outs e = λ k slot got.
     (let s = slot_get (λ (s : Out). Some s) outs k slot got in
-     ap (λ ls. slice_get ls k) (sym e) ∙ there outs k s.0 s.1 ∙ ap slot_line s.2) where
-  there : (outs : List Out) (k : ℕ) (s : Out) → slice_get outs k ≡ Some s → slice_get (lines_out outs) k ≡ Some s.line
-  there [] k s got = absurd (none-some s got)
-  there (x ∷ xs) zero s got = ap (λ (slot : Option Out). slot_line slot) got
-  there (x ∷ xs) (suc k) s got = there xs k s got
+    ap (λ ls. slice_get ls k) (sym e) ∙ there outs k s.0 s.1 ∙ ap slot_line s.2) where
+      there : (outs : List Out) (k : ℕ) (s : Out) → slice_get outs k ≡ Some s → slice_get (lines_out outs) k ≡ Some s.line
+      there [] k s got = absurd (none-some s got)
+      there (x ∷ xs) zero s got = ap (λ (slot : Option Out). slot_line slot) got
+      there (x ∷ xs) (suc k) s got = there xs k s got
 
 pub inboxes_paired : (net : Net) (outs : List Out) (inboxes takers : List In) (senders : List (Option Out)) → lines_out outs ≡ net.inboxes.items → AreRows net (node_count net.topology) inboxes takers senders
     → ArePaired net.entries.items (map (λ s. Some s) outs) inboxes
@@ -109,8 +109,8 @@ inboxes_paired net outs inboxes takers senders lines rows =
     let b = length-map outs (λ (s : Out). Some s) in
     let q = rows.inbox_count in
     paired_at net.entries.items net.inboxes.items (map (λ s. Some s) outs) inboxes (entries_paired (node_count net.topology) net.entries.items net.entries_are) (omega (arith, n, m, len, a, b)) (omega (arith, q, m))
-      (lines_there net.inboxes.items outs lines)
-      (λ k t got. (let lt = slice_get_within inboxes k t got in ap (slice_get net.inboxes.items) (net.entries_are.each k (omega (arith, lt, q))) ∙ rows.inbox_lines k t got))
+    (lines_there net.inboxes.items outs lines)
+    (λ k t got. (let lt = slice_get_within inboxes k t got in ap (slice_get net.inboxes.items) (net.entries_are.each k (omega (arith, lt, q))) ∙ rows.inbox_lines k t got))
 
 pub ways_paired : (net : Net) (inboxes takers : List In) (senders : List (Option Out)) → AreRows net (node_count net.topology) inboxes takers senders → ArePaired net.peers.items senders takers
 ways_paired net inboxes takers senders rows =

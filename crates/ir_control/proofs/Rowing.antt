@@ -30,8 +30,8 @@ module _ {X : Type 0} where
   all_get_append Q [] ys all more = λ k x got. subst (λ (j : ℕ). Q j x) (let z : 0 + k ≡ k = omega arith in z) (more k x got)
   all_get_append Q (y ∷ xs) ys all more =
       get_after Q y (xs ++ ys) (all 0 y refl)
-        (all_get_append (λ j z. Q (suc j) z) xs ys (λ j z at. all (suc j) z at)
-          (λ p x got. subst (λ (j : ℕ). Q j x) (let z : length (y ∷ xs) + p ≡ suc (length xs + p) = omega arith in z) (more p x got)))
+      (all_get_append (λ j z. Q (suc j) z) xs ys (λ j z at. all (suc j) z at)
+      (λ p x got. subst (λ (j : ℕ). Q j x) (let z : length (y ∷ xs) + p ≡ suc (length xs + p) = omega arith in z) (more p x got)))
 
   pub all_get_none : (Q : ℕ → X → Type 0) (xs : List X) → xs ≡ [] → AllGet Q xs
   all_get_none Q xs e = λ k x got. absurd (none-some x (sym (ap (λ ys. slice_get ys k) e) ∙ got))
@@ -42,7 +42,7 @@ module _ {X : Type 0} where
 
   pub all_get_push : (Q : ℕ → X → Type 0) (xs : List X) (y : X) → AllGet Q xs → Q (length xs) y → AllGet Q (xs ++ y ∷ [])
   all_get_push Q xs y all here = all_get_append Q xs (y ∷ []) all
-    (λ p x got. (let e = slice_get_one y x p got in
+      (λ p x got. (let e = slice_get_one y x p got in
       subst (λ (z : X). Q (length xs + p) z) e.1 (subst (λ (j : ℕ). Q j y) (let same = e.0 in let z : length xs ≡ length xs + p = omega (arith, same) in z) here)))
 
 pub slot_get : {A B : Type 0} (f : A → B) (xs : List A) (p : ℕ) (b : B) → slice_get (map f xs) p ≡ Some b → (a : A) × (slice_get xs p ≡ Some a) × (f a ≡ b)
@@ -58,13 +58,13 @@ slots_weigh {A} g (x ∷ xs) =
 
 pub rows_none : (net : Net) (inboxes takers : List In) (senders : List (Option Out)) → inboxes ≡ [] → takers ≡ [] → senders ≡ [] → AreRows net 0 inboxes takers senders
 rows_none net inboxes takers senders a b c = record {
-    inbox_count = ap length a;
-    inbox_lines = all_get_none _ inboxes a;
-    in_count = (let n = ap length b in let z = offset_zero net.topology in omega (arith, n, z));
-    in_lines = all_get_none _ takers b;
-    out_count = (let n = ap length c in let z = offset_zero net.topology in omega (arith, n, z));
-    out_lines = all_get_none _ senders c;
-  }
+  inbox_count = ap length a;
+  inbox_lines = all_get_none _ inboxes a;
+  in_count = (let n = ap length b in let z = offset_zero net.topology in omega (arith, n, z));
+  in_lines = all_get_none _ takers b;
+  out_count = (let n = ap length c in let z = offset_zero net.topology in omega (arith, n, z));
+  out_lines = all_get_none _ senders c;
+}
 
 pub rows_more : (net : Net) (u : ℕ) (n : Node) (inboxes inboxes_1 takers takers_1 : List In) (senders senders_1 : List (Option Out)) → AreRows net u inboxes takers senders → n.index ≡ u → IsNodeOf net n
     → inboxes_1 ≡ inboxes ++ n.entrances.inbox ∷ [] → takers_1 ≡ takers ++ n.entrances.ports.items → senders_1 ≡ senders ++ map (λ s. Some s) n.outs.items → AreRows net (u + 1) inboxes_1 takers_1 senders_1
@@ -75,16 +75,16 @@ rows_more net u n inboxes inboxes_1 takers takers_1 senders senders_1 rows at is
     record {
       inbox_count = (let e = ap length a in let p = length_push inboxes n.entrances.inbox in let q = rows.inbox_count in omega (arith, e, p, q));
       inbox_lines = subst (AllGet (λ k (t : In). slice_get net.inboxes.items k ≡ Some t.line)) (sym a)
-        (all_get_push (λ k t. slice_get net.inboxes.items k ≡ Some t.line) inboxes n.entrances.inbox rows.inbox_lines (ap (slice_get net.inboxes.items) (rows.inbox_count ∙ sym at) ∙ is.inbox));
+          (all_get_push (λ k t. slice_get net.inboxes.items k ≡ Some t.line) inboxes n.entrances.inbox rows.inbox_lines (ap (slice_get net.inboxes.items) (rows.inbox_count ∙ sym at) ∙ is.inbox));
       in_count = (let e = ap length b in let p = length-append takers n.entrances.ports.items in let q = rows.in_count in let d = is.ins_count in omega (arith, e, p, q, d, degree, next));
       in_lines = subst (AllGet (λ k (t : In). slice_get net.ways.items (slice_index net.peers.items k) ≡ Some t.line)) (sym b)
-        (all_get_append (λ k t. slice_get net.ways.items (slice_index net.peers.items k) ≡ Some t.line) takers n.entrances.ports.items rows.in_lines
+          (all_get_append (λ k t. slice_get net.ways.items (slice_index net.peers.items k) ≡ Some t.line) takers n.entrances.ports.items rows.in_lines
           (λ p t got. ap (λ k. slice_get net.ways.items (slice_index net.peers.items (k + p))) (rows.in_count ∙ ap (offset net.topology) (sym at)) ∙ is.ins p t got));
       out_count = (let e = ap length c in let p = length-append senders (map (λ (s : Out). Some s) n.outs.items) in let m = length-map n.outs.items (λ (s : Out). Some s) in let q = rows.out_count in let d = is.outs_count in omega (arith, e, p, m, q, d, degree, next));
       out_lines = subst (AllGet (λ k (slot : Option Out). slice_get net.ways.items k ≡ slot_line slot)) (sym c)
-        (all_get_append (λ k slot. slice_get net.ways.items k ≡ slot_line slot) senders (map (λ (s : Out). Some s) n.outs.items) rows.out_lines
+          (all_get_append (λ k slot. slice_get net.ways.items k ≡ slot_line slot) senders (map (λ (s : Out). Some s) n.outs.items) rows.out_lines
           (λ p slot got. (let s = slot_get (λ (s : Out). Some s) n.outs.items p slot got in
-            ap (λ k. slice_get net.ways.items (k + p)) (rows.out_count ∙ ap (offset net.topology) (sym at)) ∙ is.outs p s.0 s.1 ∙ ap slot_line s.2)));
+          ap (λ k. slice_get net.ways.items (k + p)) (rows.out_count ∙ ap (offset net.topology) (sym at)) ∙ is.outs p s.0 s.1 ∙ ap slot_line s.2)));
     }
 
 pub room_here : (net : Net) (u : ℕ) (n : Node) → n.index ≡ u → IsNodeOf net n → (u < node_count net.topology) × (offset net.topology u + length n.entrances.ports.items ≤ way_count net.topology) × (offset net.topology u + length n.outs.items ≤ way_count net.topology)
@@ -94,9 +94,11 @@ room_here net u n at is =
     let most = offset_le net.topology (u + 1) in
     let degree : length (ports_of net.topology n.index) ≡ length (ports_of net.topology u) = ap (λ v. length (ports_of net.topology v)) at in
     let a = is.ins_count in
-    let b = is.outs_count in
-    (here, (let z : offset net.topology u + length n.entrances.ports.items ≤ way_count net.topology = omega (arith, next, most, degree, a) in z),
-      (let z : offset net.topology u + length n.outs.items ≤ way_count net.topology = omega (arith, next, most, degree, b) in z))
+    let b = is.outs_count in (
+      here,
+      (let z : offset net.topology u + length n.entrances.ports.items ≤ way_count net.topology = omega (arith, next, most, degree, a) in z),
+      (let z : offset net.topology u + length n.outs.items ≤ way_count net.topology = omega (arith, next, most, degree, b) in z),
+    )
 
 get_or_any_here : {A : Type 0} (xs : List A) (k : ℕ) (d e : A) → k < length xs → get_or xs k d ≡ get_or xs k e
 get_or_any_here [] k d e lt = absurd (omega (arith, lt))
@@ -118,15 +120,15 @@ never_empty net u slots x from lt read none =
 
 pub slots_next : (net : Net) (u : ℕ) (slots : List (Option Node)) (new : Option Node) → AreSlotsFrom net u slots → u < node_count net.topology → new ≡ None → AreSlotsFrom net (u + 1) (slice_set slots u new)
 slots_next net u slots new from lt none = record {
-    count = length-set slots u new ∙ from.count;
-    emptied = λ k less. gone k less (eqb k u) refl;
-    full = λ k le less. (let other : k ≡ u → ⊥ = λ e. absurd (omega (arith, le, e)) in
+  count = length-set slots u new ∙ from.count;
+  emptied = λ k less. gone k less (eqb k u) refl;
+  full = λ k le less. (let other : k ≡ u → ⊥ = λ e. absurd (omega (arith, le, e)) in
       let f = from.full k (omega (arith, le)) less in
       (f.0, get_or-set_other slots u k new None other ∙ f.1, f.2, f.3));
-  } where
-    gone : (k : ℕ) → k < u + 1 → (b : Bool) → eqb k u ≡ b → slice_index_or (slice_set slots u new) k None ≡ None
-    gone k less true e = ap (λ j. slice_index_or (slice_set slots u new) j None) (eqb-true k u e) ∙ get_or-set_same slots u new None (let c = from.count in omega (arith, c, lt)) ∙ none
-    gone k less false e = get_or-set_other slots u k new None (eqb-false k u e) ∙ from.emptied k (let ne = eqb-false k u e in omega (arith, less, ne))
+} where
+  gone : (k : ℕ) → k < u + 1 → (b : Bool) → eqb k u ≡ b → slice_index_or (slice_set slots u new) k None ≡ None
+  gone k less true e = ap (λ j. slice_index_or (slice_set slots u new) j None) (eqb-true k u e) ∙ get_or-set_same slots u new None (let c = from.count in omega (arith, c, lt)) ∙ none
+  gone k less false e = get_or-set_other slots u k new None (eqb-false k u e) ∙ from.emptied k (let ne = eqb-false k u e in omega (arith, less, ne))
 
 -- what a slot held goes out of the slots' sum
 pub moved_out : (f : Node → ℕ) (slots : List (Option Node)) (u : ℕ) (new : Option Node) (n : Node) → u < length slots → slice_index_or slots u None ≡ Some n → new ≡ None
@@ -140,26 +142,26 @@ moved_out f slots u new n lt got none =
 pub weighed_none : (slots : List (Option Node)) (inboxes takers : List In) (senders : List (Option Out)) (settled : List (List Outcome)) → inboxes ≡ [] → takers ≡ [] → senders ≡ [] → (f : (Outcome → ℕ) → ℕ) → ((w : Outcome → ℕ) → f w ≡ 0)
     → AreWeighed slots slots inboxes takers senders f
 weighed_none slots inboxes takers senders settled a b c f zeros = record {
-    settlings = λ w. (let z = zeros w in omega (arith, z));
-    takings = λ w. (let p = ap (weight_taken w) a in let q = ap (weight_taken w) b in omega (arith, p, q));
-    sendings = λ w. (let p = ap (times_in_slots w) c in omega (arith, p));
-  }
+  settlings = λ w. (let z = zeros w in omega (arith, z));
+  takings = λ w. (let p = ap (weight_taken w) a in let q = ap (weight_taken w) b in omega (arith, p, q));
+  sendings = λ w. (let p = ap (times_in_slots w) c in omega (arith, p));
+}
 
 pub weighed_more : (all slots : List (Option Node)) (u : ℕ) (new : Option Node) (n : Node) (inboxes inboxes_1 takers takers_1 : List In) (senders senders_1 : List (Option Out)) (f f_1 : (Outcome → ℕ) → ℕ)
     → u < length slots → slice_index_or slots u None ≡ Some n → new ≡ None → AreWeighed all slots inboxes takers senders f
     → inboxes_1 ≡ inboxes ++ n.entrances.inbox ∷ [] → takers_1 ≡ takers ++ n.entrances.ports.items → senders_1 ≡ senders ++ map (λ s. Some s) n.outs.items → ((w : Outcome → ℕ) → f_1 w ≡ f w + sum_by w n.outcomes.items)
     → AreWeighed all (slice_set slots u new) inboxes_1 takers_1 senders_1 f_1
 weighed_more all slots u new n inboxes inboxes_1 takers takers_1 senders senders_1 f f_1 lt got none was a b c d = record {
-    settlings = λ w. (let out = moved_out (node_settled w) slots u new n lt got none in let before = was.settlings w in let more = d w in omega (arith, out, before, more));
-    takings = λ w. (let out = moved_out (node_taken w) slots u new n lt got none in let before = was.takings w in
+  settlings = λ w. (let out = moved_out (node_settled w) slots u new n lt got none in let before = was.settlings w in let more = d w in omega (arith, out, before, more));
+  takings = λ w. (let out = moved_out (node_taken w) slots u new n lt got none in let before = was.takings w in
       let p = ap (weight_taken w) a ∙ sum_by_push (λ (t : In). sum_by w t.taken) inboxes n.entrances.inbox in
       let q = ap (weight_taken w) b ∙ sum_by-append (λ (t : In). sum_by w t.taken) takers n.entrances.ports.items in
       omega (arith, out, before, p, q));
-    sendings = λ w. (let out = moved_out (node_sent w) slots u new n lt got none in let before = was.sendings w in
+  sendings = λ w. (let out = moved_out (node_sent w) slots u new n lt got none in let before = was.sendings w in
       let p = ap (times_in_slots w) c ∙ sum_by-append (slot_sent w) senders (map (λ (s : Out). Some s) n.outs.items) in
       let q = slots_weigh (slot_sent w) n.outs.items in
       omega (arith, out, before, p, q));
-  }
+}
 
 -- empty slots weigh nothing
 pub emptied_all : (f : Node → ℕ) (net : Net) (u : ℕ) (slots : List (Option Node)) → u ≡ node_count net.topology → AreSlotsFrom net u slots → sum_by (slot_weight f) slots ≡ 0
@@ -168,10 +170,10 @@ emptied_all f net u slots at from = sum_of_none (slot_weight f) slots None (λ k
 pub weighed_all : (net : Net) (u : ℕ) (all slots : List (Option Node)) (inboxes takers : List In) (senders : List (Option Out)) (f : (Outcome → ℕ) → ℕ) → u ≡ node_count net.topology → AreSlotsFrom net u slots
     → AreWeighed all slots inboxes takers senders f → AreWeighed all [] inboxes takers senders f
 weighed_all net u all slots inboxes takers senders f at from was = record {
-    settlings = λ w. (let z = emptied_all (node_settled w) net u slots at from in let e = was.settlings w in omega (arith, z, e));
-    takings = λ w. (let z = emptied_all (node_taken w) net u slots at from in let e = was.takings w in omega (arith, z, e));
-    sendings = λ w. (let z = emptied_all (node_sent w) net u slots at from in let e = was.sendings w in omega (arith, z, e));
-  }
+  settlings = λ w. (let z = emptied_all (node_settled w) net u slots at from in let e = was.settlings w in omega (arith, z, e));
+  takings = λ w. (let z = emptied_all (node_taken w) net u slots at from in let e = was.takings w in omega (arith, z, e));
+  sendings = λ w. (let z = emptied_all (node_sent w) net u slots at from in let e = was.sendings w in omega (arith, z, e));
+}
 
 -- all outcomes of a node of a net are of the net
 pub node_outcomes : (net : Net) (n : Node) → IsNodeOf net n → All (λ o. IsOutcomeIn net.opening o) n.outcomes.items

@@ -72,7 +72,14 @@ pub(crate) fn left_over<R: Wait>(
     } = rows;
     place_all(net, nodes, &mut slots);
     append_slots(&mut outs, injected);
-    take_apart(net, slots, &mut inboxes, &mut takers, &mut senders, &mut settled);
+    take_apart(
+        net,
+        slots,
+        &mut inboxes,
+        &mut takers,
+        &mut senders,
+        &mut settled,
+    );
     gather(
         rt,
         &net.opening,

@@ -43,7 +43,10 @@ impl Member for Node {
 }
 
 /// So many empty slots.
-pub(crate) fn empty_slots<T: Drop>(alloc: Global, count: usize) -> Result<Vec<Option<T>>, AllocError>
+pub(crate) fn empty_slots<T: Drop>(
+    alloc: Global,
+    count: usize,
+) -> Result<Vec<Option<T>>, AllocError>
     ensures { IfOk result (λ slots. (length slots.items ≡ count) × ((k : ℕ) → slice_index_or slots.items k None ≡ None)) }
 {
     let mut slots = Vec::with_capacity(alloc, count)?;
@@ -54,7 +57,11 @@ pub(crate) fn empty_slots<T: Drop>(alloc: Global, count: usize) -> Result<Vec<Op
 }
 
 /// Puts the outcomes of each row into the slots of their packets.
-pub(crate) fn place_rows(opening: &Stamp, mut rows: Vec<Vec<Outcome>>, slots: &mut Vec<Option<Outcome>>)
+pub(crate) fn place_rows(
+    opening: &Stamp,
+    mut rows: Vec<Vec<Outcome>>,
+    slots: &mut Vec<Option<Outcome>>,
+)
     requires at { AllAt outcome_number slots.old.items }
     requires fits { (i : ℕ) → sum_by (slot_weight (hit outcome_number i)) slots.old.items + sum_by (λ row. sum_by (hit outcome_number i) row.items) rows.items ≤ once (length slots.old.items) i }
     requires all { AllIn (λ o. IsOutcomeIn opening.now o) slots.old.items }
@@ -92,7 +99,7 @@ pub(crate) fn told_in_order(
     records: &mut Vec<Record>,
     stamps: &mut Vec<Stamp>,
     later: &mut Vec<Vec<Stamp>>,
-) 
+)
     requires full { (k : ℕ) → k < length slots.items → (o : Outcome) × (slice_index_or slots.items k None ≡ Some o) }
     requires start { (records.old.items ≡ []) × (stamps.old.items ≡ []) × (later.old.items ≡ []) }
     requires room { (length slots.items ≤ vec_capacity records.old) × (length slots.items ≤ vec_capacity stamps.old) × (length slots.items ≤ vec_capacity later.old) }

@@ -6,17 +6,23 @@ ghost use Rattle.ir_control.specs.Places.{way_count};
 ghost use Rattle.ir_control.specs.Reported.{AreAllThere};
 ghost use Rattle.ir_control.specs.Reports.{HasRoom, IsReport, IsFinishRefusal};
 
-use crate::report::{FinishError, Report, Room, missing};
 use crate::injector::Injector;
 use crate::leaving::{empty_rows, left_over};
 use crate::net::{Net, Parts};
 use crate::outcomes::{empty_slots, place_left, place_rows, told_in_order};
+use crate::report::{FinishError, Report, Room, missing};
 use ir_worker::Node;
 use std::alloc::{AllocError, Global};
 use std::sync::Wait;
 
 // All the memory that a report takes: for so many nodes, ways and packets, where each channel holds so many.
-fn room_for(alloc: Global, nodes: usize, ways: usize, capacity: usize, packets: usize) -> Result<Room, AllocError>
+fn room_for(
+    alloc: Global,
+    nodes: usize,
+    ways: usize,
+    capacity: usize,
+    packets: usize,
+) -> Result<Room, AllocError>
     ensures { IfOk result (λ room. HasRoom nodes ways capacity packets room) }
 {
     let Some(inboxes) = nodes.checked_mul(capacity) else {
@@ -70,7 +76,11 @@ fn reported<R: Wait>(rt: &R, net: &Net, nodes: Vec<Node>, injector: Injector, ro
 ///
 /// Refused are, in this order: the least node that is not among the parts, and want of memory. All memory is taken before
 /// a part is taken apart, and a refusal hands the parts back.
-pub fn finish<R: Wait, B: Wait + Drop>(rt: &R, net: &Net, parts: Parts<B>) -> Result<Report, (FinishError, Parts<B>)>
+pub fn finish<R: Wait, B: Wait + Drop>(
+    rt: &R,
+    net: &Net,
+    parts: Parts<B>,
+) -> Result<Report, (FinishError, Parts<B>)>
     requires nodes { AreNodesOf net.now parts.nodes.items }
     requires injector { IsInjectorOf net.now parts.injector }
     ensures { MatchResult result

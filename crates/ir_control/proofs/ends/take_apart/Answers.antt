@@ -11,13 +11,13 @@ use Rattle.ir_control.proofs.ends.take_apart.Goals as goal
 
 pub loop-u-init : goal.loop-u-init
 loop-u-init c = record {
-    slots = c.requires.slots;
-    rows = rows_none c.args.net.now c.args.inboxes.now.items c.args.takers.now.items c.args.senders.now.items c.requires.start.0 c.requires.start.1 c.requires.start.2;
-    weighed = weighed_none c.args.slots.items c.args.inboxes.now.items c.args.takers.now.items c.args.senders.now.items [] c.requires.start.0 c.requires.start.1 c.requires.start.2 _ (λ w. ap (sum_by (λ row. sum_by w row.items)) c.requires.start.3);
-    settled = ap length c.requires.start.3;
-    kind = subst (All (λ row. All (λ (o : Outcome). IsOutcomeIn c.args.net.now.opening o) row.items)) (sym c.requires.start.3) (λ k d lt. absurd (omega (arith, lt)));
-    room = c.requires.room;
-  }
+  slots = c.requires.slots;
+  rows = rows_none c.args.net.now c.args.inboxes.now.items c.args.takers.now.items c.args.senders.now.items c.requires.start.0 c.requires.start.1 c.requires.start.2;
+  weighed = weighed_none c.args.slots.items c.args.inboxes.now.items c.args.takers.now.items c.args.senders.now.items [] c.requires.start.0 c.requires.start.1 c.requires.start.2 _ (λ w. ap (sum_by (λ row. sum_by w row.items)) c.requires.start.3);
+  settled = ap length c.requires.start.3;
+  kind = subst (All (λ row. All (λ (o : Outcome). IsOutcomeIn c.args.net.now.opening o) row.items)) (sym c.requires.start.3) (λ k d lt. absurd (omega (arith, lt)));
+  room = c.requires.room;
+}
 
 pub unreachable-requires : goal.unreachable-requires
 unreachable-requires c =
@@ -63,10 +63,10 @@ loop-u-preserved c =
     record {
       slots = slots_next c.args.net.now c.loop-u.u c.loop-u.slots.items c.take.new.self c.loop-u.invariant.slots lt c.take.ensures.after;
       rows = rows_more c.args.net.now c.loop-u.u c.in-Some.node c.loop-u.inboxes.items c.append_ends.new.inboxes.items c.loop-u.takers.items c.append_ends.new.takers.items c.loop-u.senders.items c.append_ends.new.senders.items
-        c.loop-u.invariant.rows here.1 here.2 c.append_ends.ensures.inboxes c.append_ends.ensures.takers c.append_ends.ensures.senders;
+          c.loop-u.invariant.rows here.1 here.2 c.append_ends.ensures.inboxes c.append_ends.ensures.takers c.append_ends.ensures.senders;
       weighed = weighed_more c.args.slots.items c.loop-u.slots.items c.loop-u.u c.take.new.self c.in-Some.node c.loop-u.inboxes.items c.append_ends.new.inboxes.items c.loop-u.takers.items c.append_ends.new.takers.items c.loop-u.senders.items c.append_ends.new.senders.items _ _
-        (let c0 = c.loop-u.invariant.slots.count in omega (arith, c0, lt)) here.0 c.take.ensures.after c.loop-u.invariant.weighed c.append_ends.ensures.inboxes c.append_ends.ensures.takers c.append_ends.ensures.senders
-        (λ w. ap (sum_by (λ row. sum_by w row.items)) c.append_ends.ensures.settled ∙ sum_by_push (λ row. sum_by w row.items) c.loop-u.settled.items c.in-Some.node.outcomes);
+          (let c0 = c.loop-u.invariant.slots.count in omega (arith, c0, lt)) here.0 c.take.ensures.after c.loop-u.invariant.weighed c.append_ends.ensures.inboxes c.append_ends.ensures.takers c.append_ends.ensures.senders
+          (λ w. ap (sum_by (λ row. sum_by w row.items)) c.append_ends.ensures.settled ∙ sum_by_push (λ row. sum_by w row.items) c.loop-u.settled.items c.in-Some.node.outcomes);
       settled = (let p = ap length c.append_ends.ensures.settled in let q = length_push c.loop-u.settled.items c.in-Some.node.outcomes in let s = c.loop-u.invariant.settled in omega (arith, p, q, s));
       kind = subst (All (λ row. All (λ (o : Outcome). IsOutcomeIn c.args.net.now.opening o) row.items)) (sym c.append_ends.ensures.settled) (All-push (λ row. All (λ (o : Outcome). IsOutcomeIn c.args.net.now.opening o) row.items) c.loop-u.settled.items c.in-Some.node.outcomes c.loop-u.invariant.kind (node_outcomes c.args.net.now c.in-Some.node here.2));
       room = (let a = kept.0 in let a0 = was.0 in omega (arith, a, a0), let b = kept.1 in let b0 = was.1 in omega (arith, b, b0), let d = kept.2 in let d0 = was.2 in omega (arith, d, d0), let f = kept.3 in let f0 = was.3 in omega (arith, f, f0));

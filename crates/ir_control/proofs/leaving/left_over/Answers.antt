@@ -13,25 +13,25 @@ use Rattle.ir_control.proofs.leaving.left_over.Goals as goal
 pub place_all-requires-clause-fits : goal.place_all-requires-clause-fits
 place_all-requires-clause-fits g c = λ i.
     (let none = none_weigh c.args.rows.slots.items c.requires.rows.slots_empty (hit node_number i) in
-     let most = nodes_fit c.args.net.now c.args.nodes.items c.requires.nodes (length c.args.rows.slots.items) i c.requires.rows.slots_count in
-     omega (arith, none, most))
+    let most = nodes_fit c.args.net.now c.args.nodes.items c.requires.nodes (length c.args.rows.slots.items) i c.requires.rows.slots_count in
+    omega (arith, none, most))
 
 pub take_apart-requires-clause-slots : goal.take_apart-requires-clause-slots
 take_apart-requires-clause-slots g c =
     all_slots c.args.net.now c.args.nodes.items c.place_all.new.slots.items c.requires.all (c.place_all.ensures.length ∙ c.requires.rows.slots_count) c.place_all.ensures.at c.place_all.ensures.all
-      (λ w. (let none = none_weigh c.args.rows.slots.items c.requires.rows.slots_empty w in let put = c.place_all.ensures.weighs w in omega (arith, none, put)))
+    (λ w. (let none = none_weigh c.args.rows.slots.items c.requires.rows.slots_empty w in let put = c.place_all.ensures.weighs w in omega (arith, none, put)))
 
 pub gather-requires-clause-entries : goal.gather-requires-clause-entries
 gather-requires-clause-entries g c =
     let outs_are : c.append_slots.new.into.items ≡ map (λ (s : Out). Some s) c.args.injected.items = c.append_slots.ensures.items ∙ ap (λ (xs : List (Option Out)). xs ++ map (λ (s : Out). Some s) c.args.injected.items) c.requires.rows.outs.0 in
     subst (λ (es : List ℕ). ArePaired es c.append_slots.new.into.items c.take_apart.new.inboxes.items) (sym c.as_slice.ensures.value)
-      (subst (λ (slots : List (Option Out)). ArePaired c.args.net.now.entries.items slots c.take_apart.new.inboxes.items) (sym outs_are)
-        (inboxes_paired c.args.net.now c.args.injected.items c.take_apart.new.inboxes.items c.take_apart.new.takers.items c.take_apart.new.senders.items c.requires.injected c.take_apart.ensures.rows))
+    (subst (λ (slots : List (Option Out)). ArePaired c.args.net.now.entries.items slots c.take_apart.new.inboxes.items) (sym outs_are)
+    (inboxes_paired c.args.net.now c.args.injected.items c.take_apart.new.inboxes.items c.take_apart.new.takers.items c.take_apart.new.senders.items c.requires.injected c.take_apart.ensures.rows))
 
 pub gather-requires-clause-ways : goal.gather-requires-clause-ways
 gather-requires-clause-ways g c =
     subst (λ (ps : List ℕ). ArePaired ps c.take_apart.new.senders.items c.take_apart.new.takers.items) (sym c.as_slice-2.ensures.value)
-      (ways_paired c.args.net.now c.take_apart.new.inboxes.items c.take_apart.new.takers.items c.take_apart.new.senders.items c.take_apart.ensures.rows)
+    (ways_paired c.args.net.now c.take_apart.new.inboxes.items c.take_apart.new.takers.items c.take_apart.new.senders.items c.take_apart.ensures.rows)
 
 pub gather-requires-clause-places_in : goal.gather-requires-clause-places_in
 gather-requires-clause-places_in g c =
@@ -51,13 +51,13 @@ gather-requires-clause-room g c =
 
 pub returns-clause-gathered : goal.returns-clause-gathered
 returns-clause-gathered g c = record {
-    settlings = λ w. (let a = c.take_apart.ensures.weighed.settlings w in let b = c.place_all.ensures.weighs (node_settled w) in let z = none_weigh c.args.rows.slots.items c.requires.rows.slots_empty (node_settled w) in omega (arith, a, b, z));
-    leavings = λ w.
+  settlings = λ w. (let a = c.take_apart.ensures.weighed.settlings w in let b = c.place_all.ensures.weighs (node_settled w) in let z = none_weigh c.args.rows.slots.items c.requires.rows.slots_empty (node_settled w) in omega (arith, a, b, z));
+  leavings = λ w.
       (let t = c.take_apart.ensures.weighed.takings w in let t1 = c.place_all.ensures.weighs (node_taken w) in let tz = none_weigh c.args.rows.slots.items c.requires.rows.slots_empty (node_taken w) in
-       let s = c.take_apart.ensures.weighed.sendings w in let s1 = c.place_all.ensures.weighs (node_sent w) in let sz = none_weigh c.args.rows.slots.items c.requires.rows.slots_empty (node_sent w) in
-       let outs_are : c.append_slots.new.into.items ≡ map (λ (s : Out). Some s) c.args.injected.items = c.append_slots.ensures.items ∙ ap (λ (xs : List (Option Out)). xs ++ map (λ (s : Out). Some s) c.args.injected.items) c.requires.rows.outs.0 in
-       let o = ap (times_in_slots w) outs_are ∙ slots_weigh (slot_sent w) c.args.injected.items in
-       let account = c.gather.ensures.account w in
-       let empty = ap (sum_by w) c.requires.empty in
-       omega (arith, t, t1, tz, s, s1, sz, o, account, empty));
-  }
+      let s = c.take_apart.ensures.weighed.sendings w in let s1 = c.place_all.ensures.weighs (node_sent w) in let sz = none_weigh c.args.rows.slots.items c.requires.rows.slots_empty (node_sent w) in
+      let outs_are : c.append_slots.new.into.items ≡ map (λ (s : Out). Some s) c.args.injected.items = c.append_slots.ensures.items ∙ ap (λ (xs : List (Option Out)). xs ++ map (λ (s : Out). Some s) c.args.injected.items) c.requires.rows.outs.0 in
+      let o = ap (times_in_slots w) outs_are ∙ slots_weigh (slot_sent w) c.args.injected.items in
+      let account = c.gather.ensures.account w in
+      let empty = ap (sum_by w) c.requires.empty in
+      omega (arith, t, t1, tz, s, s1, sz, o, account, empty));
+}

@@ -20,26 +20,26 @@ left_in opening x o e is = ∣ subst (λ (t : Told). All (λ s. IsOfNet opening 
 pub place-requires-clause-fits : goal.place-requires-clause-fits
 place-requires-clause-fits c = λ i.
     (let number : (t : Told) → ℕ = λ t. hit (λ (s : Told). s.journey.id) i t in
-     let now = fits_now (hit (λ (x : SeenParcel). x.journey.id) i) (sum_by (slot_weight (hit outcome_number i)) c.loop-parcel.slots.items) (sum_by (slot_weight (hit outcome_number i)) c.args.slots.now.items)
-       (sum_by (hit (λ (x : SeenParcel). x.journey.id) i) c.args.left.items) (once (length c.args.slots.now.items) i) c.loop-parcel.left.items c.pop.new.self.items c.in-Some.parcel c.in-Some.ensures.items (c.loop-parcel.invariant.weighs (λ t. hit (λ (s : Told). s.journey.id) i t)) (c.requires.fits i) in
-     let len = ap (λ n. once n i) c.loop-parcel.invariant.len in
-     let same : hit outcome_number i c.into_left.result ≡ hit (λ (x : SeenParcel). x.journey.id) i c.in-Some.parcel = ap (λ j. hit (λ (s : Told). s.journey.id) i j) (is_told c.in-Some.parcel c.into_left.result c.into_left.ensures.packet c.into_left.ensures.stamp c.into_left.ensures.later) in
-     omega (arith, now, len, same))
+    let now = fits_now (hit (λ (x : SeenParcel). x.journey.id) i) (sum_by (slot_weight (hit outcome_number i)) c.loop-parcel.slots.items) (sum_by (slot_weight (hit outcome_number i)) c.args.slots.now.items)
+    (sum_by (hit (λ (x : SeenParcel). x.journey.id) i) c.args.left.items) (once (length c.args.slots.now.items) i) c.loop-parcel.left.items c.pop.new.self.items c.in-Some.parcel c.in-Some.ensures.items (c.loop-parcel.invariant.weighs (λ t. hit (λ (s : Told). s.journey.id) i t)) (c.requires.fits i) in
+    let len = ap (λ n. once n i) c.loop-parcel.invariant.len in
+    let same : hit outcome_number i c.into_left.result ≡ hit (λ (x : SeenParcel). x.journey.id) i c.in-Some.parcel = ap (λ j. hit (λ (s : Told). s.journey.id) i j) (is_told c.in-Some.parcel c.into_left.result c.into_left.ensures.packet c.into_left.ensures.stamp c.into_left.ensures.later) in
+    omega (arith, now, len, same))
 
 pub place-requires-clause-belongs : goal.place-requires-clause-belongs
 place-requires-clause-belongs c =
     left_in c.args.opening.now c.in-Some.parcel c.into_left.result (is_told c.in-Some.parcel c.into_left.result c.into_left.ensures.packet c.into_left.ensures.stamp c.into_left.ensures.later)
-      (all_last (λ (x : SeenParcel). IsParcelOf c.args.opening.now x) c.pop.new.self.items c.loop-parcel.left.items c.in-Some.parcel c.in-Some.ensures.items c.loop-parcel.invariant.rest)
+    (all_last (λ (x : SeenParcel). IsParcelOf c.args.opening.now x) c.pop.new.self.items c.loop-parcel.left.items c.in-Some.parcel c.in-Some.ensures.items c.loop-parcel.invariant.rest)
 
 pub loop-parcel-preserved : goal.loop-parcel-preserved
 loop-parcel-preserved c = record {
-    len = c.place.ensures.length ∙ c.loop-parcel.invariant.len;
-    at = c.place.ensures.at;
-    kind = c.place.ensures.all;
-    rest = all_front (λ (x : SeenParcel). IsParcelOf c.args.opening.now x) c.pop.new.self.items c.loop-parcel.left.items c.in-Some.parcel c.in-Some.ensures.items c.loop-parcel.invariant.rest;
-    weighs = λ w. (let put = c.place.ensures.weighs (λ o. w (told o)) in
-       let same = ap w (is_told c.in-Some.parcel c.into_left.result c.into_left.ensures.packet c.into_left.ensures.stamp c.into_left.ensures.later) in
-       rest_put (λ (x : SeenParcel). w (told_left x)) (sum_by (slot_weight (λ o. w (told o))) c.loop-parcel.slots.items) (sum_by (slot_weight (λ o. w (told o))) c.place.new.slots.items) (sum_by (slot_weight (λ o. w (told o))) c.args.slots.now.items)
-       (sum_by (λ x. w (told_left x)) c.args.left.items) c.loop-parcel.left.items c.pop.new.self.items c.in-Some.parcel c.in-Some.ensures.items (c.loop-parcel.invariant.weighs w) (omega (arith, put, same)));
-    fates = λ all. c.loop-parcel.invariant.fates (all_back (λ (x : SeenParcel). x.journey.fate ≡ Left) c.loop-parcel.left.items c.pop.new.self.items c.in-Some.parcel c.in-Some.ensures.items all c.into_left.ensures.left);
-  }
+  len = c.place.ensures.length ∙ c.loop-parcel.invariant.len;
+  at = c.place.ensures.at;
+  kind = c.place.ensures.all;
+  rest = all_front (λ (x : SeenParcel). IsParcelOf c.args.opening.now x) c.pop.new.self.items c.loop-parcel.left.items c.in-Some.parcel c.in-Some.ensures.items c.loop-parcel.invariant.rest;
+  weighs = λ w. (let put = c.place.ensures.weighs (λ o. w (told o)) in
+      let same = ap w (is_told c.in-Some.parcel c.into_left.result c.into_left.ensures.packet c.into_left.ensures.stamp c.into_left.ensures.later) in
+      rest_put (λ (x : SeenParcel). w (told_left x)) (sum_by (slot_weight (λ o. w (told o))) c.loop-parcel.slots.items) (sum_by (slot_weight (λ o. w (told o))) c.place.new.slots.items) (sum_by (slot_weight (λ o. w (told o))) c.args.slots.now.items)
+      (sum_by (λ x. w (told_left x)) c.args.left.items) c.loop-parcel.left.items c.pop.new.self.items c.in-Some.parcel c.in-Some.ensures.items (c.loop-parcel.invariant.weighs w) (omega (arith, put, same)));
+  fates = λ all. c.loop-parcel.invariant.fates (all_back (λ (x : SeenParcel). x.journey.fate ≡ Left) c.loop-parcel.left.items c.pop.new.self.items c.in-Some.parcel c.in-Some.ensures.items all c.into_left.ensures.left);
+}

@@ -23,16 +23,19 @@ loop-i-preserved c =
     let lt : c.loop-i.i < length c.args.slots.items = omega (arith, n, e, ok) in
     let was = c.loop-i.invariant.told in
     let here : slice_index_or c.args.slots.items c.loop-i.i None ≡ Some c.in-Some.outcome =
-        sym (c.loop-i.invariant.full c.loop-i.i (omega arith) (omega (arith, n, lt))) ∙ sym (or_any c.loop-i.slots.items c.loop-i.i c.index_mut.result.now None (omega (arith, n, lt))) ∙ sym c.index_mut.ensures.value ∙ sym c.in-Some.ensures.value in
+    sym (c.loop-i.invariant.full c.loop-i.i (omega arith) (omega (arith, n, lt))) ∙ sym (or_any c.loop-i.slots.items c.loop-i.i c.index_mut.result.now None (omega (arith, n, lt))) ∙ sym c.index_mut.ensures.value ∙ sym c.in-Some.ensures.value in
     record {
       count = length-set c.loop-i.slots.items c.loop-i.i c.take.new.self ∙ n;
       full = λ k le less. (let z = length-set c.loop-i.slots.items c.loop-i.i c.take.new.self in
-        get_or-set_other c.loop-i.slots.items c.loop-i.i k c.take.new.self None (λ same. absurd (omega (arith, le, same))) ∙ c.loop-i.invariant.full k (omega (arith, le)) (omega (arith, less, z)));
-      told = (was.0 ++ c.in-Some.outcome ∷ [], (let p = length_push was.0 c.in-Some.outcome in let q = was.1 in omega (arith, p, q)),
+          get_or-set_other c.loop-i.slots.items c.loop-i.i k c.take.new.self None (λ same. absurd (omega (arith, le, same))) ∙ c.loop-i.invariant.full k (omega (arith, le)) (omega (arith, less, z)));
+      told = (
+        was.0 ++ c.in-Some.outcome ∷ [],
+        (let p = length_push was.0 c.in-Some.outcome in let q = was.1 in omega (arith, p, q)),
         told_more c.args.slots.items was.0 c.in-Some.outcome c.loop-i.i was.1 here was.2,
         c.push_reserved.ensures.items ∙ map_push (λ (o : Outcome). o.packet) was.0 c.in-Some.outcome c.loop-i.records.items was.3,
         c.push_reserved-in-loop-i.ensures.items ∙ map_push (λ (o : Outcome). o.stamp) was.0 c.in-Some.outcome c.loop-i.stamps.items was.4,
-        c.push_reserved-in-loop-i-2.ensures.items ∙ map_push (λ (o : Outcome). o.later) was.0 c.in-Some.outcome c.loop-i.later.items was.5);
+        c.push_reserved-in-loop-i-2.ensures.items ∙ map_push (λ (o : Outcome). o.later) was.0 c.in-Some.outcome c.loop-i.later.items was.5,
+      );
       room = (let r = c.loop-i.invariant.room in (let a = r.0 in let x = c.push_reserved.ensures.capacity in omega (arith, a, x), let b = r.1 in let y = c.push_reserved-in-loop-i.ensures.capacity in omega (arith, b, y), let d = r.2 in let z = c.push_reserved-in-loop-i-2.ensures.capacity in omega (arith, d, z)));
     }
 

@@ -13,26 +13,26 @@ use Rattle.ir_control.proofs.reporting.reported.Goals as goal
 pub place_rows-requires-clause-fits : goal.place_rows-requires-clause-fits
 place_rows-requires-clause-fits g c = λ i.
     (let none = none_weigh c.args.room.slots.items c.requires.room.slots_empty (hit outcome_number i) in
-     let each = once_each c.args.nodes.items c.args.injector c.into_outs.result.items (ap (λ v. v.items) c.into_outs.ensures) _ c.left_over-settled.new.left.items c.left_over-settled.ensures.gathered i in
-     let m = ap (λ n. once n i) c.requires.room.slots_count in
-     omega (arith, none, each, m))
+    let each = once_each c.args.nodes.items c.args.injector c.into_outs.result.items (ap (λ v. v.items) c.into_outs.ensures) _ c.left_over-settled.new.left.items c.left_over-settled.ensures.gathered i in
+    let m = ap (λ n. once n i) c.requires.room.slots_count in
+    omega (arith, none, each, m))
 
 pub place_left-requires-clause-fits : goal.place_left-requires-clause-fits
 place_left-requires-clause-fits g c = λ i.
     (let none = none_weigh c.args.room.slots.items c.requires.room.slots_empty (hit outcome_number i) in
-     let each = once_each c.args.nodes.items c.args.injector c.into_outs.result.items (ap (λ v. v.items) c.into_outs.ensures) _ c.left_over-settled.new.left.items c.left_over-settled.ensures.gathered i in
-     let m = ap (λ n. once n i) (c.place_rows.ensures.length ∙ c.requires.room.slots_count) in
-     let put = c.place_rows.ensures.weighs (hit outcome_number i) in
-     omega (arith, none, each, m, put))
+    let each = once_each c.args.nodes.items c.args.injector c.into_outs.result.items (ap (λ v. v.items) c.into_outs.ensures) _ c.left_over-settled.new.left.items c.left_over-settled.ensures.gathered i in
+    let m = ap (λ n. once n i) (c.place_rows.ensures.length ∙ c.requires.room.slots_count) in
+    let put = c.place_rows.ensures.weighs (hit outcome_number i) in
+    omega (arith, none, each, m, put))
 
 pub told_in_order-requires-clause-full : goal.told_in_order-requires-clause-full
 told_in_order-requires-clause-full g c = λ k lt.
     (let none = none_weigh c.args.room.slots.items c.requires.room.slots_empty (hit outcome_number k) in
-     let each = once_each c.args.nodes.items c.args.injector c.into_outs.result.items (ap (λ v. v.items) c.into_outs.ensures) _ c.left_over-settled.new.left.items c.left_over-settled.ensures.gathered k in
-     let put = c.place_rows.ensures.weighs (hit outcome_number k) in
-     let more = c.place_left.ensures.weighs (hit (λ (t : Told). t.journey.id) k) in
-     let len = c.place_left.ensures.length ∙ c.place_rows.ensures.length ∙ c.requires.room.slots_count in
-     full_here c.place_left.new.slots.items (length c.args.injector.accepted.items) k c.place_left.ensures.at (omega (arith, none, each, put, more)) (omega (arith, lt, len)))
+    let each = once_each c.args.nodes.items c.args.injector c.into_outs.result.items (ap (λ v. v.items) c.into_outs.ensures) _ c.left_over-settled.new.left.items c.left_over-settled.ensures.gathered k in
+    let put = c.place_rows.ensures.weighs (hit outcome_number k) in
+    let more = c.place_left.ensures.weighs (hit (λ (t : Told). t.journey.id) k) in
+    let len = c.place_left.ensures.length ∙ c.place_rows.ensures.length ∙ c.requires.room.slots_count in
+    full_here c.place_left.new.slots.items (length c.args.injector.accepted.items) k c.place_left.ensures.at (omega (arith, none, each, put, more)) (omega (arith, lt, len)))
 
 pub returns : goal.returns
 returns g c =
@@ -44,25 +44,25 @@ returns g c =
       stamps = t.3;
       later = t.4;
       heads = heads_are c.args.injector.accepted.items c.args.injector.numbered t.0
-        (λ p. (let none = none_weigh c.args.room.slots.items c.requires.room.slots_empty (outcome_weight p) in
+          (λ p. (let none = none_weigh c.args.room.slots.items c.requires.room.slots_empty (outcome_weight p) in
           let all = conserved c.args.nodes.items c.args.injector c.into_outs.result.items (ap (λ v. v.items) c.into_outs.ensures) _ c.left_over-settled.new.left.items c.left_over-settled.ensures.gathered p in
           let put = c.place_rows.ensures.weighs (outcome_weight p) in
           let more = c.place_left.ensures.weighs (λ (t : Told). one p (head_of t.journey)) in
           let sum = ap (sum_by (slot_weight (outcome_weight p))) t.1 ∙ slots_weigh (slot_weight (outcome_weight p)) t.0 in
           omega (arith, none, all, put, more, sum)))
-        len (numbers_are c.place_left.new.slots.items t.0 t.1 c.place_left.ensures.at);
+          len (numbers_are c.place_left.new.slots.items t.0 t.1 c.place_left.ensures.at);
       sound = all_sound c.place_left.new.slots.items t.0 t.1;
       of_net = all_told c.place_left.new.slots.items t.0 t.1 (λ (o : Outcome). IsOutcomeIn c.args.net.now.opening o) c.place_left.ensures.all;
       left = c.left_over-settled.new.left.items;
       left_is = λ w. (let is = c.left_over-settled.ensures.gathered.leavings w in
-        let same = ap (sum_by (λ (s : Out). sum_by w s.sent)) (ap (λ v. v.items) c.into_outs.ensures) in
-        omega (arith, is, same));
+          let same = ap (sum_by (λ (s : Out). sum_by w s.sent)) (ap (λ v. v.items) c.into_outs.ensures) in
+          omega (arith, is, same));
       fates = c.place_left.ensures.fates;
       told_are = λ w.
-        (let none = none_weigh c.args.room.slots.items c.requires.room.slots_empty (λ (o : Outcome). w (told o)) in
-         let all = c.left_over-settled.ensures.gathered.settlings (λ (o : Outcome). w (told o)) in
-         let put = c.place_rows.ensures.weighs (λ (o : Outcome). w (told o)) in
-         let more = c.place_left.ensures.weighs w in
-         let sum = ap (sum_by (slot_weight (λ (o : Outcome). w (told o)))) t.1 ∙ slots_weigh (slot_weight (λ (o : Outcome). w (told o))) t.0 in
-         omega (arith, none, all, put, more, sum));
+          (let none = none_weigh c.args.room.slots.items c.requires.room.slots_empty (λ (o : Outcome). w (told o)) in
+          let all = c.left_over-settled.ensures.gathered.settlings (λ (o : Outcome). w (told o)) in
+          let put = c.place_rows.ensures.weighs (λ (o : Outcome). w (told o)) in
+          let more = c.place_left.ensures.weighs w in
+          let sum = ap (sum_by (slot_weight (λ (o : Outcome). w (told o)))) t.1 ∙ slots_weigh (slot_weight (λ (o : Outcome). w (told o))) t.0 in
+          omega (arith, none, all, put, more, sum));
     }
