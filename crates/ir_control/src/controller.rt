@@ -19,34 +19,45 @@ use ir_plan::Plan;
 use ir_tables::Topology;
 use std::alloc::Global;
 use std::sync::{Arc, Wait};
+use thiserror::Error;
 
 /// Why no epoch was installed.
-#[derive(Clone, Copy, PartialEq, Eq, Debug)]
+#[derive(Clone, Copy, PartialEq, Eq, Debug, Error)]
 pub enum InstallError {
     /// The root is no node.
+    #[error("no such node")]
     NoNode,
     /// Each cell of the registry is used.
+    #[error("no epoch is left")]
     EpochsFull,
     /// Over the links that are up some node has no walk to some node.
+    #[error("some node has no walk to some node")]
     Disconnected,
     /// A growth was refused.
+    #[error("out of memory")]
     NoMemory,
+    #[error("too many changes of the board")]
     TooManyChanges,
     /// A fresh cell of the registry refused its plan.
+    #[error("a fresh cell refused its plan")]
     Used,
 }
 
 /// Why the board was not changed.
-#[derive(Clone, Copy, PartialEq, Eq, Debug)]
+#[derive(Clone, Copy, PartialEq, Eq, Debug, Error)]
 pub enum ChangeError {
     /// No such epoch was installed.
+    #[error("no such epoch")]
     NoEpoch,
     /// The topology has no such link.
+    #[error("no such link")]
     NoLink,
-    /// The board says so already.
+    #[error("the board says so already")]
     Same,
     /// A growth was refused.
+    #[error("out of memory")]
     NoMemory,
+    #[error("too many changes of the board")]
     TooManyChanges,
 }
 

@@ -2,22 +2,27 @@
 ghost use Rattle.std.specs.Prelude.{◌≡◌};
 ghost use Rattle.ir_control.specs.Opened.{code_of};
 
+use thiserror::Error;
+
 /// Why a net was not opened.
-#[derive(Clone, Copy, PartialEq, Eq, Debug)]
+#[derive(Clone, Copy, PartialEq, Eq, Debug, Error)]
 pub enum NetError {
-    /// The root is no node.
+    #[error("the root is no node")]
     NoNode,
-    /// The topology has no node.
+    #[error("the topology has no node")]
     Empty,
-    /// Some node has no walk to some node.
+    #[error("some node has no walk to some node")]
     Disconnected,
     /// Too many nodes or links, or a capacity, a number of packets or a number of restamps out of its range.
+    #[error("a number is out of its range")]
     TooLarge,
     /// A growth was refused.
+    #[error("out of memory")]
     NoMemory,
-    /// No place is left for a reader of the board.
+    #[error("no place is left for a reader of the board")]
     TooManyReaders,
     /// A fresh cell of the registry refused its plan.
+    #[error("a fresh cell refused its plan")]
     Used,
 }
 

@@ -17,6 +17,7 @@ use ir_links::Sender;
 use ir_worker::Parcel;
 use std::alloc::Global;
 use std::sync::{Arc, Wait};
+use thiserror::Error;
 
 /// A packet that was accepted: its number, the epoch that it was stamped with, and its ends.
 #[derive(Clone, Copy, PartialEq, Eq, Debug)]
@@ -28,14 +29,18 @@ pub struct Accepted {
 }
 
 /// Why a packet was not accepted.
-#[derive(Clone, Copy, PartialEq, Eq, Debug)]
+#[derive(Clone, Copy, PartialEq, Eq, Debug, Error)]
 pub enum InjectError {
     /// The source or the destination is no node.
+    #[error("no such node")]
     NoNode,
+    #[error("too many packets")]
     TooManyPackets,
     /// A growth was refused.
+    #[error("out of memory")]
     NoMemory,
     /// The inbox of the source had no room at one moment.
+    #[error("the inbox is full")]
     InboxFull,
 }
 

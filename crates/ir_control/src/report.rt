@@ -9,13 +9,16 @@ use crate::leaving::Rows;
 use ir_core::Record;
 use ir_epochs::Stamp;
 use ir_worker::{Node, Outcome, Parcel};
+use thiserror::Error;
 
 /// Why there is no report.
-#[derive(Clone, Copy, PartialEq, Eq, Debug)]
+#[derive(Clone, Copy, PartialEq, Eq, Debug, Error)]
 pub enum FinishError {
     /// The least node that is not among the parts.
+    #[error("node {0} is missing")]
     Missing(u16),
     /// A growth was refused.
+    #[error("out of memory")]
     NoMemory,
 }
 
