@@ -1,17 +1,17 @@
 -- Steps on a node's ends: their channels, their counts, and the way of what was taken.
-use Rattle.std.specs.Prelude.{◌≡◌, ◌≢◌, ℕ, zero, suc, ◌-◌, ◌<◌, ◌≤◌, ◌++◌, ◌∷◌, [], List, Option, Some, None, MatchOption, All, length, map, slice_get, slice_set, option_map}
+use Rattle.std.specs.Prelude.{◌≡◌, ◌≢◌, ℕ, zero, suc, ◌-◌, ◌<◌, ◌≤◌, ◌++◌, ◌∷◌, [], List, Option, Some, None, MatchOption, IfNone, All, length, map, slice_get, slice_set, option_map}
 use Rattle.std.proofs.Common.{ap, ◌∙◌, sym, refl, subst, get_or, arith}
 use Rattle.std.proofs.Math.Seq.{map-set_same}
 use Rattle.std.proofs.lemmas.List.{set-get_or, length-map}
 use Rattle.std.proofs.lemmas.Option.{slice_get_read, slice_get-map, same_Some}
 use Rattle.ir_model.specs.declared.Hop.{Hop}
 use Rattle.ir_core.specs.Sound.{last_of}
-use Rattle.ir_links.specs.Ends.{WasEmpty}
+use Rattle.ir_links.specs.Ends.{WasEmpty, FoundNone, Word}
 use Rattle.ir_epochs.specs.declared.registry.Stamp.{Stamp}
 use Rattle.ir_worker.specs.declared.parcel.Place.{Place}
 use Rattle.ir_worker.specs.Seen.{SeenParcel, GoesTo, IsOfNet, place_of, stamps_of}
 use Rattle.ir_worker.specs.Account.{lines_in, lines_out}
-use Rattle.ir_worker.specs.Wires.{In, Out, after_taking, after_sending, TookAt, SentOver}
+use Rattle.ir_worker.specs.Wires.{In, Out, WasEmptyAt, after_taking, after_sending, TookAt, SentOver}
 
 -- an end that was used is of the channel that it was of
 pub lines_out_kept : (outs : List Out) (i : ℕ) (new old : Out) → old ≡ get_or outs i old → new.line ≡ old.line → lines_out (slice_set outs i new) ≡ lines_out outs
@@ -36,6 +36,15 @@ pub took_port : (inbox : In) (ins : List In) (w : ℕ) (new old : In) (answer : 
     MatchOption answer ((inbox ≡ inbox) × (slice_set ins (w - 1) new ≡ ins)) (λ p. TookAt inbox ins inbox (slice_set ins (w - 1) new) p w)
 took_port inbox ins w new old None some lt read h = (refl, set_kept ins (w - 1) new old read h.0)
 took_port inbox ins w new old (Some p) some lt read h = took_from inbox ins w new old p some (slice_get_read ins (length ins) (w - 1) old refl lt read) h.0 h.1
+
+-- a port gave nothing since its pop was refused
+pub empty_port : (was_empty : Word SeenParcel) (inbox : In) (ins : List In) (w : ℕ) (old : In) (answer : Option SeenParcel) → w ≢ 0 → w - 1 < length ins → old ≡ get_or ins (w - 1) old → IfNone answer (FoundNone was_empty GoesTo old) →
+    IfNone answer (WasEmptyAt was_empty inbox ins w)
+empty_port was_empty inbox ins w old (Some p) some lt read found = tt
+empty_port was_empty inbox ins zero old None some lt read found = absurd (some refl)
+empty_port was_empty inbox ins (suc j) old None some lt read found =
+    let same : suc j - 1 ≡ j = omega arith in
+    (old, ap (λ k. slice_get ins k) (sym same) ∙ slice_get_read ins (length ins) (suc j - 1) old refl lt read, found)
 
 -- the place of an end at a port
 pub place_at : {A : Type 0} (place : A → Place) (ends : List A) (f : Hop → Place) (ports : List Hop) → map place ends ≡ map f ports → (j : ℕ) (h : Hop) → slice_get ports j ≡ Some h → (s : A) → slice_get ends j ≡ Some s → place s ≡ f h

@@ -7,6 +7,7 @@ use Rattle.ir_core.specs.declared.event.Way.{Way}
 use Rattle.ir_core.specs.declared.event.Verdict.{Verdict}
 use Rattle.ir_core.specs.declared.event.Verdict.TheVariants.{Arrives}
 use Rattle.ir_core.specs.Journey.{stamp_of}
+use Rattle.ir_links.specs.Ends.{Word}
 use Rattle.ir_epochs.specs.declared.registry.Stamp.{Stamp}
 use Rattle.ir_epochs.specs.Entries.{board_of, Rises, IsCurrent}
 use Rattle.ir_epochs.specs.Handles.{known}
@@ -16,7 +17,7 @@ use Rattle.ir_worker.specs.declared.node.Turn.{Turn}
 use Rattle.ir_worker.specs.declared.node.Turn.TheVariants.{Idle, Sent, Settled}
 use Rattle.ir_worker.specs.Seen.{SeenParcel}
 use Rattle.ir_worker.specs.Acts.{restamp_on, with_restamp, way_then, GoesOnAs, SettlesAs, CauseHolds}
-use Rattle.ir_worker.specs.Wires.{way_after, TookAt, IsWayAt, SentOver, WasFullFor}
+use Rattle.ir_worker.specs.Wires.{way_after, TookAt, IsWayAt, SentOver, WasFullFor, WasEmptyAt}
 use Rattle.ir_worker.specs.Same.{IsSameNode}
 
 -- the board of what the node has read or learnt
@@ -64,41 +65,6 @@ pub record Sends (a b : Node) (id to : ℕ) : Type 0 where
   pub outcomes : b.outcomes.items ≡ a.outcomes.items
   pub live : (board_in a).floor ≤ stamp_of onward.journey
 
--- The parcel that was taken was restamped, where that is due, and settled by the core's verdict by the board that was
--- read, whose version the outcome holds, and on which the cause that it names held; the earlier outcomes stay. If it was delivered, its present segment is of no
--- epoch that the node knew to be retired before.
-pub record Settles (a b : Node) (id : ℕ) : Type 0 where
-  pub parcel : SeenParcel
-  pub way : Way
-  pub takes : Takes a b parcel way
-  pub number : parcel.journey.id ≡ id
-  pub current : Stamp
-  pub is_current : IsCurrent (known b.reader) current
-  pub refused : Bool
-  pub verdict : Verdict
-  pub outcome : Outcome
-  pub settled : SettlesAs (board_in b) refused (way_in a b parcel way) a.index (in_hand a b parcel way current) verdict outcome
-  pub full : WasFullFor a.ports.items a.outs.items verdict
-  pub outs : b.outs.items ≡ a.outs.items
-  pub outcomes : b.outcomes.items ≡ a.outcomes.items ++ outcome ∷ []
-  pub version : outcome.version + 1 ≡ length (known b.reader)
-  pub cause : CauseHolds (board_in b) outcome.packet outcome.packet.fate
-  pub live : verdict ≡ Arrives → (board_in a).floor ≤ stamp_of outcome.packet
-
-abbrev pub Does : Node → Node → Turn → Type 0
-Does a b Idle = HoldsAll a b
-Does a b (Sent id to) = Sends a b id to
-Does a b (Settled id) = Settles a b id
-
--- The node a turned, and is b: the way whose turn it was is polled and the next one's turn comes, and what it knows of
--- the board never gets shorter.
-pub record IsTurn (a b : Node) (turn : Turn) : Type 0 where
-  pub same : IsSameNode a b
-  pub way : b.entrances.next ≡ way_after (length a.entrances.ports.items) a.entrances.next
-  pub later : IsPrefix (known a.reader) (known b.reader)
-  pub rises : Rises (board_in a) (board_in b)
-  pub does : Does a b turn
-
 -- for want of memory nothing was polled, and all is as it was
 pub record IsUntouched (a b : Node) : Type 0 where
   pub same : IsSameNode a b
@@ -106,7 +72,45 @@ pub record IsUntouched (a b : Node) : Type 0 where
   pub reader : known b.reader ≡ known a.reader
   pub holds : HoldsAll a b
 
--- The node a made these turns, the latest first, and is b.
-abbrev pub AreTurns : Node → List Turn → Node → Type 0
-AreTurns a [] b = a ≡ b
-AreTurns a (turn ∷ turns) b = (m : Node) × AreTurns a turns m × IsTurn m b turn
+-- In the words for a refused push and a refused pop.
+module _ (was_full was_empty : Word SeenParcel) where
+  -- The parcel that was taken was restamped, where that is due, and settled by the core's verdict by the board that was
+  -- read, whose version the outcome holds, and on which the cause that it names held; the earlier outcomes stay. If it was delivered, its present segment is of no
+  -- epoch that the node knew to be retired before.
+  pub record Settles (a b : Node) (id : ℕ) : Type 0 where
+    pub parcel : SeenParcel
+    pub way : Way
+    pub takes : Takes a b parcel way
+    pub number : parcel.journey.id ≡ id
+    pub current : Stamp
+    pub is_current : IsCurrent (known b.reader) current
+    pub refused : Bool
+    pub verdict : Verdict
+    pub outcome : Outcome
+    pub settled : SettlesAs (board_in b) refused (way_in a b parcel way) a.index (in_hand a b parcel way current) verdict outcome
+    pub full : WasFullFor was_full a.ports.items a.outs.items verdict
+    pub outs : b.outs.items ≡ a.outs.items
+    pub outcomes : b.outcomes.items ≡ a.outcomes.items ++ outcome ∷ []
+    pub version : outcome.version + 1 ≡ length (known b.reader)
+    pub cause : CauseHolds (board_in b) outcome.packet outcome.packet.fate
+    pub live : verdict ≡ Arrives → (board_in a).floor ≤ stamp_of outcome.packet
+
+  -- Idle is told only where the pop of the way whose turn it was is refused.
+  abbrev pub Does : Node → Node → Turn → Type 0
+  Does a b Idle = HoldsAll a b × WasEmptyAt was_empty a.entrances.inbox a.entrances.ports.items a.entrances.next
+  Does a b (Sent id to) = Sends a b id to
+  Does a b (Settled id) = Settles a b id
+
+  -- The node a turned, and is b: the way whose turn it was is polled and the next one's turn comes, and what it knows of
+  -- the board never gets shorter.
+  pub record IsTurn (a b : Node) (turn : Turn) : Type 0 where
+    pub same : IsSameNode a b
+    pub way : b.entrances.next ≡ way_after (length a.entrances.ports.items) a.entrances.next
+    pub later : IsPrefix (known a.reader) (known b.reader)
+    pub rises : Rises (board_in a) (board_in b)
+    pub does : Does a b turn
+
+  -- The node a made these turns, the latest first, and is b.
+  abbrev pub AreTurns : Node → List Turn → Node → Type 0
+  AreTurns a [] b = a ≡ b
+  AreTurns a (turn ∷ turns) b = (m : Node) × AreTurns a turns m × IsTurn m b turn

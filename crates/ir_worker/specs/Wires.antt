@@ -7,7 +7,7 @@ use Rattle.ir_core.specs.declared.event.Way.{Way}
 use Rattle.ir_core.specs.declared.event.Way.TheVariants.{Inbox, Link}
 use Rattle.ir_core.specs.declared.event.Verdict.{Verdict}
 use Rattle.ir_core.specs.declared.event.Verdict.TheVariants.{CameByDown, BelowFloor, Arrives, LeavesByDown, NoRoom, GoesOn}
-use Rattle.ir_links.specs.Ends.{Sending, Taking, WasFull}
+use Rattle.ir_links.specs.Ends.{Sending, Taking, Word, WasRefused, FoundNone}
 use Rattle.ir_epochs.specs.declared.registry.Stamp.{Stamp}
 use Rattle.ir_epochs.specs.Stamps.{knows}
 use Rattle.ir_worker.specs.declared.parcel.Place.{Place}
@@ -45,14 +45,19 @@ abbrev pub SentOver : List Hop → List Out → List Out → Hop → SeenParcel 
 SentOver ports outs outs' h q =
     (j : ℕ) × (s : Out) × (slice_get ports j ≡ Some h) × (slice_get outs j ≡ Some s) × (outs' ≡ slice_set outs j (after_sending s q))
 
--- where a verdict says that there was no room, the channel of the hop's port was full at one moment
-abbrev pub WasFullFor : List Hop → List Out → Verdict → Type 0
-WasFullFor ports outs (NoRoom h) = (j : ℕ) × (s : Out) × (slice_get ports j ≡ Some h) × (slice_get outs j ≡ Some s) × WasFull GoesTo s
-WasFullFor ports outs (CameByDown l) = Unit {0}
-WasFullFor ports outs BelowFloor = Unit {0}
-WasFullFor ports outs Arrives = Unit {0}
-WasFullFor ports outs (LeavesByDown l) = Unit {0}
-WasFullFor ports outs (GoesOn h) = Unit {0}
+-- where a verdict says that there was no room, the push to the channel of the hop's port was refused, which was full then
+abbrev pub WasFullFor : Word SeenParcel → List Hop → List Out → Verdict → Type 0
+WasFullFor was_full ports outs (NoRoom h) = (j : ℕ) × (s : Out) × (slice_get ports j ≡ Some h) × (slice_get outs j ≡ Some s) × WasRefused was_full GoesTo s
+WasFullFor was_full ports outs (CameByDown l) = Unit {0}
+WasFullFor was_full ports outs BelowFloor = Unit {0}
+WasFullFor was_full ports outs Arrives = Unit {0}
+WasFullFor was_full ports outs (LeavesByDown l) = Unit {0}
+WasFullFor was_full ports outs (GoesOn h) = Unit {0}
+
+-- The pop of way k was refused, whose channel was empty then: the inbox is way 0, and port j is way j + 1.
+abbrev pub WasEmptyAt : Word SeenParcel → In → List In → ℕ → Type 0
+WasEmptyAt was_empty inbox ins zero = FoundNone was_empty GoesTo inbox
+WasEmptyAt was_empty inbox ins (suc j) = (t : In) × (slice_get ins j ≡ Some t) × FoundNone was_empty GoesTo t
 
 -- The ends of the node u of the net of an opening's stamp, which allows so many restamps: for each of its ports, in order, one that takes what comes
 -- from the neighbour and one that sends to it, and one that takes from its inbox.

@@ -1,9 +1,8 @@
 //! The ways by which parcels come to a node. They are polled in turn, and nothing else moves the turn on.
-ghost use Rattle.std.specs.Prelude.{◌≡◌, ◌≤◌, length, MatchOption};
+ghost use Rattle.std.specs.Prelude.{◌≡◌, ◌≤◌, length, IfNone, MatchOption};
 
 use crate::parcel::Parcel;
-use ir_links::Taker;
-use std::sync::Wait;
+use ir_links::{Moments, Taker};
 
 /// An inbox and the ports' ways in, and which of them is polled next: the inbox is way 0, and port `j` is way `j + 1`.
 #[derive(Drop)]
@@ -16,7 +15,7 @@ pub struct Entrances {
 
 impl Entrances {
     ghost use Rattle.ir_worker.specs.Account.{lines_in};
-    ghost use Rattle.ir_worker.specs.Wires.{way_after, TookAt};
+    ghost use Rattle.ir_worker.specs.Wires.{way_after, TookAt, WasEmptyAt};
 
     /// The inbox is polled first.
     pub fn new(inbox: Taker<Parcel>, ports: Vec<Taker<Parcel>>) -> Entrances
@@ -37,12 +36,14 @@ impl Entrances {
         self.next
     }
 
-    /// Polls the way whose turn it is, and moves the turn on by one.
-    pub fn poll<R: Wait>(&mut self, rt: &R) -> Option<Parcel>
+    /// Polls the way whose turn it is, and moves the turn on by one. There is no parcel only where the pop of that way was
+    /// refused.
+    pub fn poll<R: Moments<Parcel>>(&mut self, rt: &R) -> Option<Parcel>
         ensures way { self.new.next ≡ way_after (length self.old.ports.items) self.old.next }
         ensures took { MatchOption result
             ((self.new.inbox ≡ self.old.inbox) × (self.new.ports.items ≡ self.old.ports.items))
             (λ p. TookAt self.old.inbox self.old.ports.items self.new.inbox self.new.ports.items p self.old.next) }
+        ensures empty { IfNone result (WasEmptyAt R.was_empty self.old.inbox self.old.ports.items self.old.next) }
         ensures inbox { self.new.inbox.line ≡ self.old.inbox.line }
         ensures ins { lines_in self.new.ports.items ≡ lines_in self.old.ports.items }
     {

@@ -13,15 +13,15 @@ use crate::parcel::{Outcome, Parcel};
 use crate::passing::{pass_on, ready};
 use ir_core::{Hop, Way};
 use ir_epochs::{BoardReader, Receipt, Registry, Stamp};
-use ir_links::{Bound, Sender, Taker};
+use ir_links::{Bound, Moments, Sender, Taker};
 use std::alloc::{AllocError, Global};
+use std::sync::Arc;
 use std::sync::atomic::{AtomicU32, Ordering};
-use std::sync::{Arc, Wait};
 
 /// What a turn did.
 #[derive(Clone, Copy, Debug, PartialEq, Eq)]
 pub enum Turn {
-    /// The way that was polled had no parcel.
+    /// The way that was polled had no parcel: its pop was refused.
     Idle,
     /// The packet of this id went on to this node.
     Sent(u32, u16),
@@ -144,8 +144,8 @@ impl Node {
     /// then read.
     ///
     /// Where there is no memory for the outcome nothing is polled.
-    pub fn turn<R: Wait>(&mut self, rt: &R) -> Result<Turn, AllocError>
-        ensures { MatchResult result (λ turn. IsTurn self.old self.new turn) (λ _. IsUntouched self.old self.new) }
+    pub fn turn<R: Moments<Parcel>>(&mut self, rt: &R) -> Result<Turn, AllocError>
+        ensures { MatchResult result (λ turn. IsTurn R.was_full R.was_empty self.old self.new turn) (λ _. IsUntouched self.old self.new) }
     {
         self.outcomes.reserve(1)?;
         let way = self.way();

@@ -16,8 +16,7 @@ ghost use Rattle.ir_worker.specs.Wires.{Out, SentOver, WasFullFor};
 use crate::parcel::{Outcome, Parcel};
 use ir_core::{Board, Hop, Way};
 use ir_epochs::{Registry, Stamp};
-use ir_links::Sender;
-use std::sync::Wait;
+use ir_links::{Moments, Sender};
 
 // The port of a hop.
 fn port_to(ports: &[Hop], hop: Hop) -> usize
@@ -76,7 +75,7 @@ pub fn ready(
 }
 
 // Sends a parcel on over the port that the verdict names, or settles it.
-pub fn pass_on<R: Wait>(
+pub fn pass_on<R: Moments<Parcel>>(
     rt: &R,
     registry: &Registry,
     opening: &Stamp,
@@ -97,7 +96,7 @@ pub fn pass_on<R: Wait>(
     requires came { CameBy ports.now at way (last_of parcel.journey.hops) parcel.next }
     ensures acts { MatchResult result
         (λ to. (h : Hop) × (q : SeenParcel) × GoesOnAs board.now way at parcel h q × (h.node ≡ to) × SentOver ports.now outs.old.items outs.new.items h q)
-        (λ o. (refused : Bool) × (v : Verdict) × SettlesAs board.now refused way at parcel v o × (outs.new.items ≡ outs.old.items) × WasFullFor ports.now outs.old.items v) }
+        (λ o. (refused : Bool) × (v : Verdict) × SettlesAs board.now refused way at parcel v o × (outs.new.items ≡ outs.old.items) × WasFullFor R.was_full ports.now outs.old.items v) }
     ensures lines { lines_out outs.new.items ≡ lines_out outs.old.items }
 {
     let plan = registry.plan(parcel.stamp());

@@ -6,8 +6,9 @@ ghost use Rattle.ir_worker.specs.Same.{IsSameNode};
 ghost use Rattle.ir_worker.specs.Turns.{AreTurns, IsUntouched};
 
 use crate::node::{Node, Turn};
+use crate::parcel::Parcel;
+use ir_links::Moments;
 use std::snapshot::Snapshot;
-use std::sync::Wait;
 use std::sync::atomic::{AtomicBool, Ordering};
 use std::thread;
 use std::thread::Promise;
@@ -33,13 +34,13 @@ fn rest_after(turn: Turn) {
 /// is no memory for a turn it sets the flag and ends, and tells so.
 ///
 /// What comes back is the node that was given, after a list of turns.
-pub fn serve<R: Wait, G: Gate>(
+pub fn serve<R: Moments<Parcel>, G: Gate>(
     rt: &R,
     mut node: Node,
     gate: &G,
     stop: &AtomicBool,
 ) -> (Node, Option<NoMemory>)
-    ensures turns { (turns : List Turn) × MatchOption result.1 (AreTurns node turns result.0) (λ _. (m : Node) × AreTurns node turns m × IsUntouched m result.0) }
+    ensures turns { (turns : List Turn) × MatchOption result.1 (AreTurns R.was_full R.was_empty node turns result.0) (λ _. (m : Node) × AreTurns R.was_full R.was_empty node turns m × IsUntouched m result.0) }
     ensures same { IsSameNode node result.0 }
 {
     let mut number = 0;

@@ -5,6 +5,7 @@
 
 mod channels;
 mod epochs;
+mod nets;
 mod networks;
 mod worlds;
 
@@ -16,7 +17,8 @@ use std::sync::Wait;
 fn found<R: Wait>(rt: &R, alloc: Global) -> Result<(), &'static str> {
     worlds::try_world(alloc)?;
     channels::try_channel(rt, alloc)?;
-    epochs::try_epochs(rt, alloc)
+    epochs::try_epochs(rt, alloc)?;
+    nets::try_net(rt, alloc)
 }
 
 fn main(rt: HostRuntime) -> io::Result<()> {

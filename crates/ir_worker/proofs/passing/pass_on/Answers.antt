@@ -72,6 +72,6 @@ returns-in-Err-send-clause-acts g c =
         c.index_mut-out.result.now,
         c.port_to-port.ensures,
         slice_get_read c.args.outs.now.items (length c.args.outs.now.items) c.port_to-port.result c.index_mut-out.result.now refl (omega arith) c.index_mut-out.ensures.value,
-        kept.2,
+        c.in-Err-send.ensures.moment,
       ),
     )

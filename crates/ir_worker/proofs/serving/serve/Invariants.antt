@@ -5,4 +5,4 @@ use Rattle.ir_worker.specs.Same.{IsSameNode}
 use Rattle.ir_worker.proofs.serving.serve.Given as goal
 
 abbrev pub invariant-loop : goal.invariant-loop
-invariant-loop g l = record { turns : (turns : List Turn) × AreTurns l.fn.node turns l.node; same : IsSameNode l.fn.node l.node }
+invariant-loop g l = record { turns : (turns : List Turn) × AreTurns g.R.Moments.was_full g.R.Moments.was_empty l.fn.node turns l.node; same : IsSameNode l.fn.node l.node }

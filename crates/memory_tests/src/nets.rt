@@ -1,0 +1,186 @@
+//! A net, turn by turn.
+ghost use Rattle.std.specs.Prelude.{◌≡◌, IfOk};
+ghost use Rattle.ir_model.specs.Network.{node_count};
+ghost use Rattle.ir_worker.specs.Same.{IsSameNode};
+ghost use Rattle.ir_control.specs.Parts.{AreFirstNodes, AreFreshParts, AreNodesOf, IsInjectorOf};
+
+use crate::networks::{copy, path};
+use ir_control::{
+    Controller, FinishError, InjectError, Injector, InstallError, Net, NetError, Parts, Report,
+    finish,
+};
+use ir_core::Fate;
+use ir_plan::Kind;
+use ir_tables::Topology;
+use ir_worker::Node;
+use std::alloc::Global;
+use std::sync::Wait;
+
+/// A net over a topology.
+fn opened(alloc: Global, topology: &Topology) -> Result<Net, &'static str> {
+    match Net::new(alloc, copy(alloc, topology)?, Kind::Tree, 1, 2, 4, 1) {
+        Ok(net) => return Ok(net),
+        Err(NetError::NoMemory) => {}
+        Err(_) => return Err("a net is refused"),
+    }
+    match Net::new(alloc, copy(alloc, topology)?, Kind::Tree, 1, 2, 4, 1) {
+        Ok(net) => Ok(net),
+        Err(_) => Err("a net is refused again"),
+    }
+}
+
+/// A net and its parts; another one, where there was no memory, since the first then has none left.
+fn parted<'a, R: Wait>(
+    rt: &'a R,
+    alloc: Global,
+    topology: &Topology,
+) -> Result<(Net, Parts<&'a R>), &'static str>
+    ensures { IfOk result (λ p. AreFreshParts p.0 p.1.nodes.items p.1.injector p.1.controller) }
+{
+    let net = opened(alloc, topology)?;
+    match net.parts(rt) {
+        Ok(Some(parts)) => return Ok((net, parts)),
+        Ok(None) => return Err("no parts are given"),
+        Err(_) => {}
+    }
+    let Ok(None) = net.parts(rt) else {
+        return Err("parts that were refused are given");
+    };
+    let net = opened(alloc, topology)?;
+    match net.parts(rt) {
+        Ok(Some(parts)) => Ok((net, parts)),
+        _ => Err("no other parts are given"),
+    }
+}
+
+/// A packet for the net; again, where there was no memory and no packet was accepted.
+fn inject<R: Wait>(
+    rt: &R,
+    net: &Net,
+    injector: &mut Injector,
+    source: u16,
+    dest: u16,
+) -> Result<(), &'static str>
+    requires { IsInjectorOf net.now injector.old }
+    ensures { IsInjectorOf net.now injector.new }
+{
+    let _ = net;
+    let before = injector.count();
+    match injector.inject(rt, source, dest) {
+        Ok(_) => return Ok(()),
+        Err(InjectError::NoMemory) => {}
+        Err(_) => return Err("a packet is refused"),
+    }
+    if injector.count() != before {
+        return Err("a refused packet is accepted");
+    }
+    match injector.inject(rt, source, dest) {
+        Ok(_) => Ok(()),
+        Err(_) => Err("a packet is refused again"),
+    }
+}
+
+/// An install; again, where there was no memory and the board stands as it was.
+fn install<R: Wait>(controller: &mut Controller<&R>) -> Result<(), &'static str> {
+    let before = controller.board().version();
+    match controller.install(Kind::Shortest, 0) {
+        Ok(_) => return Ok(()),
+        Err(InstallError::NoMemory) => {}
+        Err(_) => return Err("an install is refused"),
+    }
+    if controller.board().version() != before {
+        return Err("a refused install changes the board");
+    }
+    match controller.install(Kind::Shortest, 0) {
+        Ok(_) => Ok(()),
+        Err(_) => Err("an install is refused again"),
+    }
+}
+
+/// A turn of a node; again, where there was no memory.
+#[tactic(auto, using(crate::proofs::Turned::same_again))]
+fn turn<R: Wait>(rt: &R, node: &mut Node) -> Result<(), &'static str>
+    ensures { IsSameNode node.old node.new }
+{
+    match node.turn(rt) {
+        Ok(_) => return Ok(()),
+        Err(_) => {}
+    }
+    match node.turn(rt) {
+        Ok(_) => Ok(()),
+        Err(_) => Err("a turn is refused again"),
+    }
+}
+
+/// A turn of the node of this number.
+fn turn_at<R: Wait>(rt: &R, net: &Net, nodes: &mut Vec<Node>, u: usize) -> Result<(), &'static str>
+    requires { AreFirstNodes net.now (node_count net.now.topology) nodes.old.items }
+    ensures { AreFirstNodes net.now (node_count net.now.topology) nodes.new.items }
+{
+    let _ = net;
+    if u >= nodes.len() {
+        return Err("there is no such node");
+    }
+    let node = &mut nodes[u];
+    turn(rt, node)
+}
+
+/// Eight turns of each of three nodes.
+fn turns<R: Wait>(rt: &R, net: &Net, nodes: &mut Vec<Node>) -> Result<(), &'static str>
+    requires { AreFirstNodes net.now (node_count net.now.topology) nodes.old.items }
+    ensures { AreFirstNodes net.now (node_count net.now.topology) nodes.new.items }
+{
+    for k in 0..24 {
+        turn_at(rt, net, nodes, k % 3)?;
+    }
+    Ok(())
+}
+
+/// The report; again, where there was no memory and the parts came back.
+fn report<R: Wait>(rt: &R, net: &Net, parts: Parts<&R>) -> Result<Report, &'static str>
+    requires nodes { AreNodesOf net.now parts.nodes.items }
+    requires injector { IsInjectorOf net.now parts.injector }
+{
+    let parts = match finish(rt, net, parts) {
+        Ok(report) => return Ok(report),
+        Err((FinishError::NoMemory, parts)) => parts,
+        Err(_) => return Err("the report is refused"),
+    };
+    match finish(rt, net, parts) {
+        Ok(report) => Ok(report),
+        Err(_) => Err("the report is refused again"),
+    }
+}
+
+/// Whether a report has two packets that were delivered over three and two nodes.
+fn is_whole(report: &Report) -> bool {
+    let [first, second] = report.records.as_slice() else {
+        return false;
+    };
+    let hops = (first.hops.len(), second.hops.len());
+    hops == (3, 2) && first.fate == Fate::Delivered && second.fate == Fate::Delivered
+}
+
+/// Two packets over a net whose board changes.
+pub fn try_net<R: Wait>(rt: &R, alloc: Global) -> Result<(), &'static str> {
+    let (net, parts) = parted(rt, alloc, &path(alloc)?)?;
+    let Parts {
+        mut nodes,
+        mut injector,
+        mut controller,
+    } = parts;
+    inject(rt, &net, &mut injector, 0, 2)?;
+    install(&mut controller)?;
+    inject(rt, &net, &mut injector, 2, 1)?;
+    turns(rt, &net, &mut nodes)?;
+    let parts = Parts {
+        nodes,
+        injector,
+        controller,
+    };
+    if is_whole(&report(rt, &net, parts)?) {
+        Ok(())
+    } else {
+        Err("the report is another one")
+    }
+}
