@@ -121,13 +121,13 @@ ways_paired net inboxes takers senders rows =
     paired_at net.peers.items net.ways.items senders takers net.ways_are.peers_are (omega (arith, all, n, a)) (omega (arith, all, n, b)) rows.out_lines rows.in_lines
 
 -- a way of a net is of the net, and holds what each holds
-way_is : (net : Net) (k : ℕ) (line : Line Place) → slice_get net.ways.items k ≡ Some line → (line.place.opening ≡ net.opening) × (line.capacity ≡ net.capacity)
+way_is : (net : Net) (k : ℕ) (line : Line Place) → slice_get net.ways.items k ≡ Some line → (line.place.opening ≡ net.opening) × (line.capacity ≡ net.capacity) × (line.place.restamps ≡ net.restamps)
 way_is net k line got =
     let lt = slice_get_within net.ways.items k line got in
     let n = net.ways_are.count in
     let at = place_of net.topology k (omega (arith, lt, n)) in
     let is = net.ways_are.out at.0 at.1 at.2 line at.3 (ap (slice_get net.ways.items) (sym at.4) ∙ got) in
-    (ap (λ (p : Place). p.opening) is.place, is.holds)
+    (ap (λ (p : Place). p.opening) is.place, is.holds, ap (λ (p : Place). p.restamps) is.place)
 
 module _ (net : Net) (n : ℕ) (inboxes takers : List In) (senders : List (Option Out)) (rows : AreRows net n inboxes takers senders) where
   pub inboxes_placed : All (λ (t : In). t.line.place.opening ≡ net.opening) inboxes
@@ -135,6 +135,12 @@ module _ (net : Net) (n : ℕ) (inboxes takers : List In) (senders : List (Optio
 
   pub takers_placed : All (λ (t : In). t.line.place.opening ≡ net.opening) takers
   takers_placed = all_of_get (λ (t : In). t.line.place.opening ≡ net.opening) takers (λ k t got. (way_is net (slice_index net.peers.items k) t.line (rows.in_lines k t got)).0)
+
+  pub inboxes_limited : All (λ (t : In). t.line.place.restamps ≡ net.restamps) inboxes
+  inboxes_limited = all_of_get (λ (t : In). t.line.place.restamps ≡ net.restamps) inboxes (λ k t got. ap (λ (p : Place). p.restamps) (net.inboxes_are.each k t.line (rows.inbox_lines k t got)).place)
+
+  pub takers_limited : All (λ (t : In). t.line.place.restamps ≡ net.restamps) takers
+  takers_limited = all_of_get (λ (t : In). t.line.place.restamps ≡ net.restamps) takers (λ k t got. (way_is net (slice_index net.peers.items k) t.line (rows.in_lines k t got)).2)
 
   inboxes_hold : All (λ (t : In). t.line.capacity ≤ net.capacity) inboxes
   inboxes_hold = all_of_get (λ (t : In). t.line.capacity ≤ net.capacity) inboxes (λ k t got. (let h = (net.inboxes_are.each k t.line (rows.inbox_lines k t got)).holds in omega (arith, h)))

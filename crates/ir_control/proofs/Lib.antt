@@ -12,5 +12,6 @@ pub mod Rowing
 pub mod Telling
 pub mod Leftover
 pub mod Conserved
+pub mod Few
 pub mod Returned
 pub mod Slotted

@@ -1,5 +1,5 @@
--- What is left in the channels of a net is of the net.
-use Rattle.std.specs.Prelude.{◌≡◌, List, [], ◌∷◌, ◌++◌, All, length, slice_index_or}
+-- What is left in the channels of a net is of the net, and has no more restamps than it allows.
+use Rattle.std.specs.Prelude.{◌≡◌, ℕ, ◌≤◌, List, [], ◌∷◌, ◌++◌, All, length, slice_index_or}
 use Rattle.std.proofs.Common.{arith, subst, sym}
 use Rattle.std.proofs.lemmas.List.{length_push}
 use Rattle.std.proofs.lemmas.List.Elements.{All-append}
@@ -9,7 +9,7 @@ use Rattle.ir_epochs.specs.declared.registry.Stamp.{Stamp}
 use Rattle.ir_links.specs.Ends.{Taking}
 use Rattle.ir_worker.specs.declared.parcel.Place.{Place}
 use Rattle.ir_worker.specs.Seen.{SeenParcel, GoesTo}
-use Rattle.ir_control.specs.Whole.{IsParcelOf}
+use Rattle.ir_control.specs.Whole.{IsParcelOf, IsFew}
 
 pub all_front : {X : Type 0} (P : X → Type 0) (xs ys : List X) (x : X) → ys ≡ xs ++ x ∷ [] → All P ys → All P xs
 all_front P xs ys x e all = λ k d lt.
@@ -40,3 +40,18 @@ pub all_left : (o : Stamp) (left more after : List SeenParcel) (t : Taking Place
 all_left o left more after t e all at goes =
     subst (All (IsIn o)) (sym e)
     (All-append (IsIn o) left more all (λ k d lt. subst (λ (s : Stamp). IsParcelOf s (slice_index_or more k d)) at (goes k d lt).of_net))
+
+abbrev IsLimited : ℕ → Taking Place SeenParcel → Type 0
+IsLimited limit t = t.line.place.restamps ≡ limit
+
+pub limits_rest : (limit : ℕ) (takers rest : List (Taking Place SeenParcel)) (t : Taking Place SeenParcel) → takers ≡ rest ++ t ∷ [] → All (IsLimited limit) takers → All (IsLimited limit) rest
+limits_rest limit takers rest t e all = all_front (IsLimited limit) rest takers t e all
+
+pub limit_last : (limit : ℕ) (takers rest : List (Taking Place SeenParcel)) (t : Taking Place SeenParcel) → takers ≡ rest ++ t ∷ [] → All (IsLimited limit) takers → t.line.place.restamps ≡ limit
+limit_last limit takers rest t e all = all_last (IsLimited limit) rest takers t e all
+
+pub few_left : (limit : ℕ) (left more after : List SeenParcel) (t : Taking Place SeenParcel) → after ≡ left ++ more → All (IsFew limit) left → t.line.place.restamps ≡ limit
+    → All (λ x. GoesTo x t.line.place) more → All (IsFew limit) after
+few_left limit left more after t e all at goes =
+    subst (All (IsFew limit)) (sym e)
+    (All-append (IsFew limit) left more all (λ k d lt. subst (λ (n : ℕ). IsFew n (slice_index_or more k d)) at (goes k d lt).few))

@@ -30,6 +30,7 @@ node_back net a b is same =
     record {
       index_in = subst (λ (u : ℕ). u < node_count net.topology) (sym same.index) is.index_in;
       opening = same.opening ∙ is.opening;
+      restamps = same.restamps ∙ is.restamps;
       inbox = ap (slice_get net.inboxes.items) same.index ∙ is.inbox ∙ ap Some (sym same.inbox);
       outs_count = (let e = ap length same.outs in let p = length-map b.outs.items (λ (s : Out). s.line) in let q = length-map a.outs.items (λ (s : Out). s.line) in let n = is.outs_count in omega (arith, e, p, q, n, degree));
       outs = λ p s got.

@@ -77,10 +77,11 @@ module _ (registry : Registry) (net : Network) (o : Stamp) (opening : IsOpening 
 pub node_of : (net : Net) (n : Node) (u first degree : ℕ) (row : List Hop) (inbox : Taking Place SeenParcel) (ins : List (Taking Place SeenParcel)) (outs : List (Sending Place SeenParcel))
     → u < node_count net.topology → first ≡ offset net.topology u → degree ≡ length row → row ≡ ports_of net.topology u
     → slice_get net.inboxes.items u ≡ Some inbox.line → AreOutsAt net.ways.items first degree outs → AreInsAt net.ways.items net.peers.items first degree ins
-    → n.index ≡ u → n.opening ≡ net.opening → n.entrances.inbox ≡ inbox → n.entrances.ports.items ≡ ins → n.outs.items ≡ outs → IsNodeOf net n
-node_of net n u first degree row inbox ins outs lt at degree_is row_is inbox_is outs_at ins_at index opening inbox_same ins_same outs_same = record {
+    → n.index ≡ u → n.opening ≡ net.opening → n.restamps ≡ net.restamps → n.entrances.inbox ≡ inbox → n.entrances.ports.items ≡ ins → n.outs.items ≡ outs → IsNodeOf net n
+node_of net n u first degree row inbox ins outs lt at degree_is row_is inbox_is outs_at ins_at index opening restamps inbox_same ins_same outs_same = record {
   index_in = subst (λ k. k < node_count net.topology) (sym index) lt;
   opening = opening;
+  restamps = restamps;
   inbox = ap (slice_get net.inboxes.items) index ∙ inbox_is ∙ ap (λ (t : Taking Place SeenParcel). Some t.line) (sym inbox_same);
   outs_count = ap (λ (xs : List (Sending Place SeenParcel)). length xs) outs_same ∙ outs_at.count ∙ degree_is ∙ ap (λ (r : List Hop). length r) row_is ∙ ap (λ k. length (ports_of net.topology k)) (sym index);
   outs = λ p s got. ap (λ k. slice_get net.ways.items (offset net.topology k + p)) index ∙ ap (λ k. slice_get net.ways.items (k + p)) (sym at)

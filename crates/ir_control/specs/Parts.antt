@@ -15,11 +15,12 @@ use Rattle.ir_control.specs.declared.net.Net.{Net}
 use Rattle.ir_control.specs.declared.injector.Injector.{Injector}
 use Rattle.ir_control.specs.declared.controller.Controller.{Controller}
 
--- A node of a net: its inbox is that of its number, its ways out are those of its ports' places, and its ways in those of
+-- A node of a net, which allows as many restamps as the net: its inbox is that of its number, its ways out are those of its ports' places, and its ways in those of
 -- their peers.
 pub record IsNodeOf (net : Net) (n : Node) : Type 0 where
   pub index_in : n.index < node_count net.topology
   pub opening : n.opening ≡ net.opening
+  pub restamps : n.restamps ≡ net.restamps
   pub inbox : slice_get net.inboxes.items n.index ≡ Some n.entrances.inbox.line
   pub outs_count : length n.outs.items ≡ length (ports_of net.topology n.index)
   pub outs : (p : ℕ) (s : Sending Place SeenParcel) → slice_get n.outs.items p ≡ Some s → slice_get net.ways.items (offset net.topology n.index + p) ≡ Some s.line

@@ -34,7 +34,7 @@ abbrev pub IsSoundOutcome : Outcome → Type 0
 IsSoundOutcome o = (o.packet.epoch ≡ o.stamp.epoch) × ∥ IsSoundJourney (stamps_of o.stamp o.later.items) o.packet ∥₁
 
 -- The report tells these outcomes: their heads are those of the accepted packets, in order, each is sound by its stamps,
--- which are of the net, and they are what the nodes settled and what is left, each as often. What is left is what was
+-- which are of the net, and has no more restamps than the net allows; and they are what the nodes settled and what is left, each as often. What is left is what was
 -- sent and not taken, and has the fate Left.
 pub record IsReport (net : Net) (nodes : List Node) (injector : Injector) (report : Report) : Type 0 where
   pub outcomes : List Outcome
@@ -44,6 +44,7 @@ pub record IsReport (net : Net) (nodes : List Node) (injector : Injector) (repor
   pub heads : map (λ o. head_of o.packet) outcomes ≡ map head_at injector.accepted.items
   pub sound : All IsSoundOutcome outcomes
   pub of_net : All (IsOutcomeIn net.opening) outcomes
+  pub few : All (λ o. length o.packet.restamps ≤ net.restamps) outcomes
   pub left : List SeenParcel
   pub left_is : (w : SeenParcel → ℕ) → sum_by (λ s. sum_by w s.sent) injector.outs.items + sum_by (node_sent w) nodes ≡ sum_by (node_taken w) nodes + sum_by w left
   pub fates : All (λ x. x.journey.fate ≡ Left) left

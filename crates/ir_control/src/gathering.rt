@@ -1,7 +1,7 @@
 //! What is left in all channels of a net.
 ghost use Rattle.std.specs.Prelude.{◌≡◌, ◌≤◌, ◌+◌, ℕ, All, sum_by, vec_len, vec_capacity};
 ghost use Rattle.ir_worker.specs.Seen.{SeenParcel};
-ghost use Rattle.ir_control.specs.Whole.{IsParcelOf};
+ghost use Rattle.ir_control.specs.Whole.{IsParcelOf, IsFew};
 ghost use Rattle.ir_control.specs.Slots.{times_in_slots, weight_taken};
 ghost use Rattle.ir_control.specs.Pairs.{ArePaired};
 
@@ -16,6 +16,7 @@ use std::sync::Wait;
 pub fn gather<R: Wait>(
     rt: &R,
     opening: &Stamp,
+    restamps: u8,
     entries: &[usize],
     injected: Vec<Option<Sender<Parcel>>>,
     inboxes: Vec<Taker<Parcel>>,
@@ -28,12 +29,16 @@ pub fn gather<R: Wait>(
     requires ways { ArePaired peers.now senders.items takers.items }
     requires places_in { All (λ t. t.line.place.opening ≡ opening.now) inboxes.items }
     requires places { All (λ t. t.line.place.opening ≡ opening.now) takers.items }
+    requires limits_in { All (λ t. t.line.place.restamps ≡ restamps) inboxes.items }
+    requires limits { All (λ t. t.line.place.restamps ≡ restamps) takers.items }
     requires of_net { All (λ x. IsParcelOf opening.now x) left.old.items }
+    requires few { All (λ x. IsFew restamps x) left.old.items }
     requires room { vec_len left.old + (sum_by (λ t. t.line.capacity) inboxes.items + sum_by (λ t. t.line.capacity) takers.items) ≤ vec_capacity left.old }
     ensures account { (w : SeenParcel → ℕ) → (times_in_slots w injected.items + times_in_slots w senders.items) + sum_by w left.old.items
         ≡ (weight_taken w inboxes.items + weight_taken w takers.items) + sum_by w left.new.items }
     ensures of_net { All (λ x. IsParcelOf opening.now x) left.new.items }
+    ensures few { All (λ x. IsFew restamps x) left.new.items }
 {
-    settle_all(rt, opening, entries, injected, inboxes, left);
-    settle_all(rt, opening, peers, senders, takers, left);
+    settle_all(rt, opening, restamps, entries, injected, inboxes, left);
+    settle_all(rt, opening, restamps, peers, senders, takers, left);
 }

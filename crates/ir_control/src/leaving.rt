@@ -6,7 +6,7 @@ ghost use Rattle.ir_control.specs.Parts.{AreNodesOf};
 ghost use Rattle.ir_control.specs.Places.{way_count};
 ghost use Rattle.ir_control.specs.Reported.{AreEmptyRows, AreAllThere, IsGathered};
 ghost use Rattle.ir_control.specs.Told.{IsOutcomeIn};
-ghost use Rattle.ir_control.specs.Whole.{IsParcelOf};
+ghost use Rattle.ir_control.specs.Whole.{IsParcelOf, IsFew};
 
 use crate::ends::{append_slots, take_apart};
 use crate::gathering::gather;
@@ -61,6 +61,7 @@ pub(crate) fn left_over<R: Wait>(
     ensures gathered { IsGathered nodes.items injected.items (λ w. sum_by (λ row. sum_by w row.items) result.items) left.new.items }
     ensures settled { All (λ row. All (λ o. IsOutcomeIn net.now.opening o) row.items) result.items }
     ensures left { All (λ x. IsParcelOf net.now.opening x) left.new.items }
+    ensures few { All (λ x. IsFew net.now.restamps x) left.new.items }
 {
     let Rows {
         mut slots,
@@ -83,6 +84,7 @@ pub(crate) fn left_over<R: Wait>(
     gather(
         rt,
         &net.opening,
+        net.restamps,
         net.entries.as_slice(),
         outs,
         inboxes,

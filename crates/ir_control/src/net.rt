@@ -38,7 +38,7 @@ pub struct Net {
     pub(crate) topology: Topology,
     pub(crate) capacity: usize,
     max_packets: usize,
-    restamps: u8,
+    pub(crate) restamps: u8,
     pub(crate) opening: Stamp,
     pub(crate) inboxes: Vec<Channel<Parcel>>,
     pub(crate) entries: Vec<usize>,

@@ -1,5 +1,5 @@
 -- Parts of a net that move by hand, and a node that was taken away from them.
-use Rattle.std.specs.Prelude.{◌≡◌, ℕ, All, sum_by}
+use Rattle.std.specs.Prelude.{◌≡◌, All, sum_by}
 use Rattle.ir_epochs.specs.Handles.{reader_board, writer_board}
 use Rattle.ir_worker.specs.declared.node.Node.{Node}
 use Rattle.ir_control.specs.declared.net.Net.{Net}

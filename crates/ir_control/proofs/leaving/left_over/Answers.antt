@@ -6,7 +6,7 @@ use Rattle.ir_control.specs.Pairs.{ArePaired}
 use Rattle.ir_control.specs.Parts.{node_number}
 use Rattle.ir_control.specs.Rowed.{node_settled, node_taken, node_sent}
 use Rattle.ir_control.specs.Slots.{slot_sent, times_in_slots, hit}
-use Rattle.ir_control.proofs.Leftover.{none_weigh, nodes_fit, all_slots, inboxes_paired, ways_paired, inboxes_placed, takers_placed, rows_hold}
+use Rattle.ir_control.proofs.Leftover.{none_weigh, nodes_fit, all_slots, inboxes_paired, ways_paired, inboxes_placed, takers_placed, inboxes_limited, takers_limited, rows_hold}
 use Rattle.ir_control.proofs.Rowing.{slots_weigh}
 use Rattle.ir_control.proofs.leaving.left_over.Goals as goal
 
@@ -40,6 +40,14 @@ gather-requires-clause-places_in g c =
 pub gather-requires-clause-places : goal.gather-requires-clause-places
 gather-requires-clause-places g c =
     takers_placed c.args.net.now (node_count c.args.net.now.topology) c.take_apart.new.inboxes.items c.take_apart.new.takers.items c.take_apart.new.senders.items c.take_apart.ensures.rows
+
+pub gather-requires-clause-limits_in : goal.gather-requires-clause-limits_in
+gather-requires-clause-limits_in g c =
+    inboxes_limited c.args.net.now (node_count c.args.net.now.topology) c.take_apart.new.inboxes.items c.take_apart.new.takers.items c.take_apart.new.senders.items c.take_apart.ensures.rows
+
+pub gather-requires-clause-limits : goal.gather-requires-clause-limits
+gather-requires-clause-limits g c =
+    takers_limited c.args.net.now (node_count c.args.net.now.topology) c.take_apart.new.inboxes.items c.take_apart.new.takers.items c.take_apart.new.senders.items c.take_apart.ensures.rows
 
 pub gather-requires-clause-room : goal.gather-requires-clause-room
 gather-requires-clause-room g c =

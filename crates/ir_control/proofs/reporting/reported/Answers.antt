@@ -1,11 +1,13 @@
-use Rattle.std.specs.Prelude.{length, sum_by}
+use Rattle.std.specs.Prelude.{◌≡◌, ℕ, ◌+◌, length, sum_by}
 use Rattle.std.proofs.Common.{arith, ap, ◌∙◌}
 use Rattle.ir_worker.specs.declared.parcel.Outcome.{Outcome}
 use Rattle.ir_worker.specs.Account.{head_of, one}
 use Rattle.ir_worker.specs.Wires.{Out}
+use Rattle.ir_control.specs.Rowed.{node_settled}
 use Rattle.ir_control.specs.Slots.{slot_weight, hit, once}
-use Rattle.ir_control.specs.Told.{Told, told, outcome_number, IsOutcomeIn}
+use Rattle.ir_control.specs.Told.{Told, told, told_left, outcome_number, IsOutcomeIn}
 use Rattle.ir_control.proofs.Conserved.{conserved, once_each, heads_are, numbers_are, all_told, all_sound, told_count, full_here, outcome_weight}
+use Rattle.ir_control.proofs.Few.{few_told}
 use Rattle.ir_control.proofs.Leftover.{none_weigh}
 use Rattle.ir_control.proofs.Rowing.{slots_weigh}
 use Rattle.ir_control.proofs.reporting.reported.Goals as goal
@@ -37,6 +39,13 @@ told_in_order-requires-clause-full g c = λ k lt.
 pub returns : goal.returns
 returns g c =
     let t = c.told_in_order.ensures in
+    let told_are : (w : Told → ℕ) → sum_by (λ o. w (told o)) t.0 ≡ sum_by (node_settled (λ o. w (told o))) c.args.nodes.items + sum_by (λ x. w (told_left x)) c.left_over-settled.new.left.items = λ w.
+    (let none = none_weigh c.args.room.slots.items c.requires.room.slots_empty (λ (o : Outcome). w (told o)) in
+    let all = c.left_over-settled.ensures.gathered.settlings (λ (o : Outcome). w (told o)) in
+    let put = c.place_rows.ensures.weighs (λ (o : Outcome). w (told o)) in
+    let more = c.place_left.ensures.weighs w in
+    let sum = ap (sum_by (slot_weight (λ (o : Outcome). w (told o)))) t.1 ∙ slots_weigh (slot_weight (λ (o : Outcome). w (told o))) t.0 in
+    omega (arith, none, all, put, more, sum)) in
     let len = told_count c.place_left.new.slots.items t.0 t.1 ∙ c.place_left.ensures.length ∙ c.place_rows.ensures.length ∙ c.requires.room.slots_count in
     record {
       outcomes = t.0;
@@ -58,11 +67,6 @@ returns g c =
           let same = ap (sum_by (λ (s : Out). sum_by w s.sent)) (ap (λ v. v.items) c.into_outs.ensures) in
           omega (arith, is, same));
       fates = c.place_left.ensures.fates;
-      told_are = λ w.
-          (let none = none_weigh c.args.room.slots.items c.requires.room.slots_empty (λ (o : Outcome). w (told o)) in
-          let all = c.left_over-settled.ensures.gathered.settlings (λ (o : Outcome). w (told o)) in
-          let put = c.place_rows.ensures.weighs (λ (o : Outcome). w (told o)) in
-          let more = c.place_left.ensures.weighs w in
-          let sum = ap (sum_by (slot_weight (λ (o : Outcome). w (told o)))) t.1 ∙ slots_weigh (slot_weight (λ (o : Outcome). w (told o))) t.0 in
-          omega (arith, none, all, put, more, sum));
+      few = few_told c.args.net.now c.args.nodes.items c.requires.nodes.each c.left_over-settled.new.left.items c.left_over-settled.ensures.few t.0 told_are;
+      told_are = told_are;
     }

@@ -2,7 +2,7 @@ use Rattle.std.specs.Prelude.{◌≡◌, length, []}
 use Rattle.std.proofs.Common.{subst, arith, ◌∙◌, refl}
 use Rattle.std.proofs.lemmas.Grind.{common_steps}
 use Rattle.ir_control.proofs.Meetings.{IsSettling, one_channel_at, never_empty_at, settled_at, all_settled, room_after}
-use Rattle.ir_control.proofs.OfNet.{places_rest, place_last, all_left}
+use Rattle.ir_control.proofs.OfNet.{places_rest, place_last, all_left, limits_rest, limit_last, few_left}
 use Rattle.ir_control.proofs.settling.settle_all.Goals as goal
 
 pub settle_into-requires-clause-one : goal.settle_into-requires-clause-one
@@ -22,6 +22,9 @@ loop-taker-preserved-in-Some-take g c =
       same = c.settle_into.ensures.room.0 ∙ c.loop-taker.invariant.same;
       used = room_after c.loop-taker.takers.items c.pop.new.self.items c.in-Some.taker _ _ _ _ c.in-Some.ensures.items c.loop-taker.invariant.used (refl, c.settle_into.ensures.room.1);
       places = places_rest c.args.opening.now c.loop-taker.takers.items c.pop.new.self.items c.in-Some.taker c.in-Some.ensures.items c.loop-taker.invariant.places;
+      limits = limits_rest c.args.restamps c.loop-taker.takers.items c.pop.new.self.items c.in-Some.taker c.in-Some.ensures.items c.loop-taker.invariant.limits;
+      few = few_left c.args.restamps c.loop-taker.left.items c.settle_into.ensures.left.0 c.settle_into.new.into.items c.in-Some.taker c.settle_into.ensures.left.1 c.loop-taker.invariant.few
+          (limit_last c.args.restamps c.loop-taker.takers.items c.pop.new.self.items c.in-Some.taker c.in-Some.ensures.items c.loop-taker.invariant.limits) c.settle_into.ensures.left.3;
       of_net = all_left c.args.opening.now c.loop-taker.left.items c.settle_into.ensures.left.0 c.settle_into.new.into.items c.in-Some.taker c.settle_into.ensures.left.1 c.loop-taker.invariant.of_net
           (place_last c.args.opening.now c.loop-taker.takers.items c.pop.new.self.items c.in-Some.taker c.in-Some.ensures.items c.loop-taker.invariant.places) c.settle_into.ensures.left.3;
     }

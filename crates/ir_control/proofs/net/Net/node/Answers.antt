@@ -54,7 +54,7 @@ returns-clause-node c =
       node_of c.args.self.now c.new.result c.args.u c.args.first (length c.ports-degree.result.now) c.ports-degree.result.now c.args.inbox c.in-Some-2.ins.items c.in-Some.outs.items
           c.requires.node c.requires.first refl c.ports-degree.ensures c.requires.inbox outs_at
           (subst (λ (ps : List ℕ). AreInsAt c.args.self.now.ways.items ps c.args.first (length c.ports-degree.result.now) c.in-Some-2.ins.items) c.as_slice.ensures.value ins_at)
-          n.0 (n.2 ∙ c.again.ensures) e.0 (ap (λ v. v.items) e.1) (ap (λ v. v.items) e.2),
+          n.0 (n.2 ∙ c.again.ensures) n.3 e.0 (ap (λ v. v.items) e.1) (ap (λ v. v.items) e.2),
       n.0,
       ap reader_board n.5,
     )

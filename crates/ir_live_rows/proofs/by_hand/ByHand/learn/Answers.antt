@@ -1,5 +1,4 @@
-use Rattle.std.proofs.Common.{arith, ◌∙◌, ap, sym, subst, ◌≡◌, length}
-use Rattle.std.proofs.lemmas.List.Elements.{All-set}
+use Rattle.std.proofs.Common.{arith}
 use Rattle.ir_epochs.specs.Handles.{reader_board, writer_board}
 use Rattle.ir_worker.specs.declared.node.Node.{Node}
 use Rattle.ir_live_rows.proofs.Kept.{nodes_set, board_set}

@@ -1,7 +1,6 @@
-use Rattle.std.proofs.Common.{arith, ◌∙◌, ap, sym, subst}
+use Rattle.std.proofs.Common.{arith}
 use Rattle.ir_epochs.specs.Handles.{reader_board, writer_board}
 use Rattle.ir_worker.specs.declared.node.Node.{Node}
-use Rattle.ir_control.specs.Parts.{IsNodeOf}
 use Rattle.ir_live_rows.proofs.Kept.{nodes_left, boards_left, away_node, away_board, away_apart}
 use Rattle.ir_live_rows.proofs.by_hand.ByHand.take_away.Goals as goal
 
