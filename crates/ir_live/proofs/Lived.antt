@@ -1,5 +1,5 @@
 -- A live run, of a run of the nodes and its report.
-use Rattle.std.specs.Prelude.{◌≡◌, ℕ, List, [], ◌++◌, Option, Some, IfSome, Result, Ok, Err, IfOk, length, map}
+use Rattle.std.specs.Prelude.{◌≡◌, ℕ, List, ◌++◌, Option, Some, IfSome, Result, Ok, Err, IfOk, length, map}
 use Rattle.std.proofs.Common.{ap, ◌∙◌, subst}
 use Rattle.ir_model.specs.Network.{node_count}
 use Rattle.ir_epochs.specs.declared.registry.Stamp.{Stamp}
