@@ -1,8 +1,6 @@
 -- What commands keep of an injector, and the packets that they put in.
-use Rattle.std.specs.Prelude.{◌≡◌, ℕ, suc, ◌+◌, List, [], ◌∷◌, ◌++◌, Bool, true, false, Option, Some, None, Result, Ok, Err, length, nat_lt, cond}
-use Rattle.std.proofs.Common.{refl, arith, sym, ap, ◌∙◌, subst, append-nil, append_assoc, length-append}
-use Rattle.ir_model.specs.declared.Kind.{Kind}
-use Rattle.ir_core.specs.declared.event.Refused.{Refused}
+use Rattle.std.specs.Prelude.{◌≡◌, ℕ, ◌+◌, List, [], ◌∷◌, ◌++◌, Bool, true, false, Option, Some, None, Ok, Err, length, nat_lt, cond}
+use Rattle.std.proofs.Common.{refl, sym, ap, ◌∙◌, subst, append-nil, append_assoc, length-append}
 use Rattle.ir_epochs.specs.declared.registry.Stamp.{Stamp}
 use Rattle.ir_epochs.specs.declared.entry.Change.{Change}
 use Rattle.ir_worker.specs.Account.{lines_out}

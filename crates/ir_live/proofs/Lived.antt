@@ -1,6 +1,6 @@
 -- A live run, of a run of the nodes and its report.
-use Rattle.std.specs.Prelude.{◌≡◌, ℕ, List, [], ◌++◌, Option, Some, IfSome, Result, Ok, Err, IfOk, length, map}
-use Rattle.std.proofs.Common.{ap, ◌∙◌, subst}
+use Rattle.std.specs.Prelude.{◌≡◌, ℕ, List, ◌++◌, Option, Some, IfSome, Result, Ok, Err, IfOk, length, map}
+use Rattle.std.proofs.Common.{ap, sym, ◌∙◌, subst}
 use Rattle.ir_model.specs.Network.{node_count}
 use Rattle.ir_epochs.specs.declared.registry.Stamp.{Stamp}
 use Rattle.ir_worker.specs.declared.node.Node.{Node}
@@ -14,15 +14,25 @@ use Rattle.ir_live.specs.declared.command.Command.{Command}
 use Rattle.ir_live.specs.declared.desk.Desk.{Desk}
 use Rattle.ir_live.specs.declared.live.Live.{Live}
 use Rattle.ir_live.specs.declared.live.LiveError.{LiveError}
+use Rattle.ir_live.specs.declared.working.NotRun.{NotRun}
+use Rattle.ir_live.specs.declared.working.NotRun.TheVariants as not_run
 use Rattle.ir_live.specs.declared.working.Run.{Run}
 use Rattle.ir_live.specs.Answers.{accepted_from}
-use Rattle.ir_live.specs.Lives.{IsLive}
-use Rattle.ir_live.specs.Runs.{IsRun}
+use Rattle.ir_live.specs.Lives.{IsLive, IsRefusal}
+use Rattle.ir_live.specs.Runs.{IsRun, IsStopped, live_error}
 use Rattle.ir_live.proofs.Accepting.{same_injector, injector_kept, accepted_are}
 use Rattle.ir_live.proofs.Handed.{first_back, same_back, all_there}
 
 pub given : {A : Type 0} (P : A → Type 0) (o : Option A) (x : A) → o ≡ Some x → IfSome o P → P x
 given {A} P o x is h = subst (λ (z : Option A). IfSome z P) is h
+
+-- a thread that was not started is that of a node of the net
+pub refused : {S : Type 0} (unstarted : S → ℕ → Type 0) (net : Net) (s : S) (n : ℕ) (nodes : List Node) (why : NotRun) (error : LiveError) →
+    AreFirstNodes net n nodes → error ≡ live_error why → IsStopped unstarted s nodes why → IsRefusal unstarted net s error
+refused {S} unstarted net s n nodes why error first is stopped = subst (λ (e : LiveError). IsRefusal unstarted net s e) (sym is) (by_case why stopped) where
+  by_case : (why : NotRun) → IsStopped unstarted s nodes why → IsRefusal unstarted net s (live_error why)
+  by_case not_run.NoThread h = (h.1.index, (first.each h.0 h.1 h.2).0.index_in, h.3)
+  by_case not_run.NoMemory h = tt
 
 module _ {B : Type 0} (net : Net) (nodes : List Node) (opened : Desk B) (commands : List Command) (run : Run B)
     (fresh : AreFreshParts net nodes opened.injector opened.controller) (done : IsRun nodes opened commands run) where

@@ -1,5 +1,5 @@
 -- What came of commands: the refusals by place, and the packets that were accepted.
-use Rattle.std.specs.Prelude.{◌≡◌, ℕ, suc, ◌+◌, List, [], ◌∷◌, ◌++◌, Option, Some, None, Result, Ok, Err, length, nat_lt, cond}
+use Rattle.std.specs.Prelude.{ℕ, ◌+◌, List, [], ◌∷◌, ◌++◌, Option, Some, None, Result, Ok, Err, length, nat_lt, cond}
 use Rattle.ir_core.specs.declared.event.Refused.{Refused}
 use Rattle.ir_epochs.specs.declared.registry.Stamp.{Stamp}
 use Rattle.ir_control.specs.declared.injector.Accepted.{Accepted}

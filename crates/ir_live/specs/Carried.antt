@@ -1,8 +1,7 @@
 -- What commands do with an injector and a controller of one net.
-use Rattle.std.specs.Prelude.{◌≡◌, ℕ, ◌∷◌, [], Bool, true, false, List, Option, Some, None, Result, Ok, Err, length}
+use Rattle.std.specs.Prelude.{◌≡◌, ℕ, ◌∷◌, [], true, false, List, Option, Some, None, Ok, Err, length}
 use Rattle.ir_model.specs.declared.Kind.{Kind}
 use Rattle.ir_model.specs.Network.{node_count}
-use Rattle.ir_core.specs.declared.event.Refused.{Refused}
 use Rattle.ir_epochs.specs.declared.handles.Receipt.{Receipt}
 use Rattle.ir_epochs.specs.declared.entry.Change.{Change}
 use Rattle.ir_epochs.specs.declared.entry.Change.TheVariants as change

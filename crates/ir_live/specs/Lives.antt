@@ -1,5 +1,6 @@
 -- What a live run answers.
 use Rattle.std.specs.Prelude.{◌≡◌, ℕ, ◌<◌, List, length, slice_index_or}
+use Rattle.ir_model.specs.Network.{node_count}
 use Rattle.ir_worker.specs.declared.node.Node.{Node}
 use Rattle.ir_worker.specs.Same.{IsSameNode}
 use Rattle.ir_control.specs.declared.net.Net.{Net}
@@ -38,8 +39,8 @@ pub record IsLive (B : Type 0) (net : Net) (commands : List Command) (live : Liv
   pub injector_of : IsInjectorOf net closed.injector
   pub report : IsReport net last closed.injector live.report
 
--- a thread was not started only where the starter has a word of it
-abbrev pub IsRefusal : {S : Type 0} → (S → ℕ → Type 0) → S → LiveError → Type 0
-IsRefusal unstarted s Spent = Unit {0}
-IsRefusal unstarted s NoThread = (u : ℕ) × unstarted s u
-IsRefusal unstarted s NoMemory = Unit {0}
+-- a thread was not started only where the starter has a word of it, for a node of the net
+abbrev pub IsRefusal : {S : Type 0} → (S → ℕ → Type 0) → Net → S → LiveError → Type 0
+IsRefusal unstarted net s Spent = Unit {0}
+IsRefusal unstarted net s NoThread = (u : ℕ) × (u < node_count net.topology) × unstarted s u
+IsRefusal unstarted net s NoMemory = Unit {0}

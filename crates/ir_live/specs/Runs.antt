@@ -1,5 +1,5 @@
 -- What nodes that turned on threads of their own came to, while commands were carried out.
-use Rattle.std.specs.Prelude.{◌≡◌, ℕ, ◌<◌, List, [], ◌∷◌, length, slice_index_or, Option}
+use Rattle.std.specs.Prelude.{◌≡◌, ℕ, ◌<◌, List, length, slice_index_or, slice_get, Option, Some}
 use Rattle.ir_worker.specs.declared.node.Node.{Node}
 use Rattle.ir_worker.specs.declared.serving.NoMemory.{NoMemory as Short}
 use Rattle.ir_worker.specs.Same.{IsSameNode}
@@ -25,10 +25,10 @@ pub record IsRun {B : Type 0} (nodes : List Node) (desk : Desk B) (commands : Li
   pub carried_out : AreCarriedOut commands desk answers run.desk
   pub refusals : run.refusals.items ≡ refusals_from 0 answers
 
--- the thread of some node was not started, or a growth was refused
-abbrev pub IsStopped : {S : Type 0} → (S → ℕ → Type 0) → S → NotRun → Type 0
-IsStopped unstarted s NoThread = (u : ℕ) × unstarted s u
-IsStopped unstarted s NoMemory = Unit {0}
+-- the thread of one of these nodes was not started, or a growth was refused
+abbrev pub IsStopped : {S : Type 0} → (S → ℕ → Type 0) → S → List Node → NotRun → Type 0
+IsStopped unstarted s nodes NoThread = (k : ℕ) × (n : Node) × (slice_get nodes k ≡ Some n) × unstarted s n.index
+IsStopped unstarted s nodes NoMemory = Unit {0}
 
 -- the error of a live run for why nodes did not run
 abbrev pub live_error : NotRun → LiveError

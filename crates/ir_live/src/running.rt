@@ -94,7 +94,7 @@ pub fn run_live<R: Threads + Wait + Sync, G: Gate, S: Starter>(
     starter: &S,
 ) -> Result<Live, LiveError>
     ensures live { IfOk result (λ live. IsLive (Bor R) net.now commands.now live) }
-    ensures refused { IfErr result (λ error. IsRefusal S.unstarted starter.now error) }
+    ensures refused { IfErr result (λ error. IsRefusal S.unstarted net.now starter.now error) }
 {
     let Ok(given) = net.parts(rt) else {
         return Err(LiveError::NoMemory);

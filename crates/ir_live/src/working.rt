@@ -59,7 +59,7 @@ pub(crate) fn run_nodes<R: Threads + Wait + Sync, G: Gate, S: Starter, B: Wait +
     starter: &S,
 ) -> Result<Run<B>, NotRun>
     ensures run { IfOk result (λ run. IsRun nodes.items desk commands.now run) }
-    ensures stopped { IfErr result (λ why. IsStopped S.unstarted starter.now why) }
+    ensures stopped { IfErr result (λ why. IsStopped S.unstarted starter.now nodes.items why) }
 {
     let (stop, ended) = (AtomicBool::new(false), AtomicBool::new(false));
     let (stop, ended) = (&stop, &ended);
@@ -68,7 +68,7 @@ pub(crate) fn run_nodes<R: Threads + Wait + Sync, G: Gate, S: Starter, B: Wait +
         rt,
         move |scope| -> Result<Run<B>, NotRun>
             ensures run { IfOk result (λ run. IsRun nodes.items desk commands.entry.now run) }
-            ensures stopped { IfErr result (λ why. IsStopped S.unstarted starter.entry.now why) }
+            ensures stopped { IfErr result (λ why. IsStopped S.unstarted starter.entry.now nodes.items why) }
         {
             let mut desk = desk;
             let Ok(mut running) = Vec::with_capacity(alloc, nodes.len()) else {

@@ -2,7 +2,6 @@ pub mod Acts
 pub mod Counts
 pub mod Dues
 pub mod Nodes
-pub mod Promised
 pub mod Routes
 pub mod Serves
 pub mod Ways

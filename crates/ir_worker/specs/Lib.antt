@@ -1,6 +1,5 @@
 pub mod Account
 pub mod Acts
-pub mod Back
 pub mod Ends
 pub mod Outcomes
 pub mod Same

@@ -8,10 +8,8 @@ mod entrances;
 mod node;
 mod parcel;
 mod passing;
-mod running;
 mod serving;
 
 pub use node::{Ends, Node, Turn};
 pub use parcel::{Outcome, Parcel, Place};
-pub use running::run_all;
 pub use serving::{ComesBack, Gate, NoMemory, serve};

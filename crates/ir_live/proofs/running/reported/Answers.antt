@@ -1,4 +1,4 @@
-use Rattle.std.specs.Prelude.{◌≡◌, List}
+use Rattle.std.specs.Prelude.{List}
 use Rattle.std.proofs.Common.{sym, subst, arith}
 use Rattle.ir_model.specs.Network.{node_count}
 use Rattle.ir_worker.specs.declared.node.Node.{Node}

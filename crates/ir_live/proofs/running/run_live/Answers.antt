@@ -1,4 +1,4 @@
-use Rattle.ir_live.proofs.Lived.{given, nodes_back, injector_back, lived}
+use Rattle.ir_live.proofs.Lived.{given, refused, nodes_back, injector_back, lived}
 use Rattle.ir_live.proofs.running.run_live.Goals as goal
 
 pub reported-requires-clause-nodes : goal.reported-requires-clause-nodes
@@ -13,3 +13,8 @@ pub returns-in-Ok-run_nodes-clause-live : goal.returns-in-Ok-run_nodes-clause-li
 returns-in-Ok-run_nodes-clause-live g c =
     lived c.args.net.now c.in-Some.parts.nodes.items _ c.args.commands.now c.in-Ok-run_nodes.run' (given _ c.in-Ok.given c.in-Some.parts c.in-Some.is c.in-Ok.ensures) c.in-Ok-run_nodes.ensures.run
     c.reported.result c.reported.ensures.report c.reported.ensures.refusals
+
+pub returns-in-Err-clause-refused : goal.returns-in-Err-clause-refused
+returns-in-Err-clause-refused g c =
+    let fresh = given _ c.in-Ok.given c.in-Some.parts c.in-Some.is c.in-Ok.ensures in
+    refused g.S.Starter.unstarted c.args.net.now c.args.starter.now _ c.in-Some.parts.nodes.items c.in-Err.why c.stopped.result fresh.nodes_are c.stopped.ensures c.in-Err.ensures.stopped

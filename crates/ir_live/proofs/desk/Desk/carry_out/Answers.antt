@@ -2,7 +2,6 @@ use Rattle.std.specs.Prelude.{◌≡◌, Ok, None, Option}
 use Rattle.std.proofs.Common.{refl, sym, subst}
 use Rattle.ir_core.specs.declared.event.Refused.{Refused}
 use Rattle.ir_live.specs.declared.command.Command.{Command}
-use Rattle.ir_live.specs.declared.command.Command.TheVariants.{Install}
 use Rattle.ir_live.specs.declared.desk.Desk.{Desk}
 use Rattle.ir_live.specs.Answers.{Answer, answer_of, refusal_in}
 use Rattle.ir_live.specs.Carried.{IsCarriedOut}

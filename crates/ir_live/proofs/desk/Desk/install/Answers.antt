@@ -1,7 +1,6 @@
 use Rattle.std.specs.Prelude.{◌≡◌, Option, Some}
 use Rattle.std.proofs.Common.{refl, ap, ◌∙◌}
 use Rattle.ir_epochs.specs.declared.registry.Stamp.{Stamp}
-use Rattle.ir_epochs.specs.declared.entry.Entry.{Entry}
 use Rattle.ir_epochs.specs.declared.entry.Change.TheVariants.{Install}
 use Rattle.ir_epochs.specs.Entries.{installed_by}
 use Rattle.ir_epochs.specs.Handles.{told, published}

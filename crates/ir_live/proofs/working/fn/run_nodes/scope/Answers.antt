@@ -1,6 +1,9 @@
-use Rattle.std.proofs.Common.{◌≡◌, ◌∙◌, ap, refl, rules, arith}
+use Rattle.std.proofs.Common.{subst, ◌∙◌, ap, refl, rules, arith, get_or}
 use Rattle.std.proofs.lemmas.Iterator.Adapters.{YieldsList-from_vec}
-use Rattle.std.proofs.lemmas.Iterator.Consumers.{YieldsList-end}
+use Rattle.std.proofs.lemmas.Iterator.Consumers.{YieldsList-turn, YieldsList-end}
+use Rattle.std.proofs.lemmas.Option.{slice_get_read}
+use Rattle.std.specs.Prelude.{◌≡◌, ℕ, ◌<◌, List, Some, length, slice_get}
+use Rattle.ir_worker.specs.declared.node.Node.{Node}
 use Rattle.ir_worker.specs.declared.serving.ComesBack.{ComesBack}
 use Rattle.ir_live.proofs.Kept.{kept_back}
 use Rattle.ir_live.proofs.Promised.{promised_push}
@@ -11,11 +14,21 @@ loop-node-preserved g c =
     promised_push (λ h. h.promise.0.value) c.loop-node.running.items c.push.new.self.items c.loop-node.yielded c.in-Ok-spawn_with.handle c.in-Some.node c.loop-node.invariant.0 c.loop-node.invariant.1 c.in-Ok-push.ensures.items
     (ap (λ (p : ComesBack). p.0.value) c.in-Ok-spawn_with.ensures.ok ∙ c.of.ensures)
 
+-- the node of this turn is one of the nodes
+taken : (nodes : List Node) (k : ℕ) (n : Node) → (k < length nodes) × (n ≡ get_or nodes k n) → slice_get nodes k ≡ Some n
+taken nodes k n turn = slice_get_read nodes (length nodes) k n refl turn.0 turn.1
+
 pub returns-then-not-starts : goal.returns-then-not-starts
-returns-then-not-starts g c = record { run = tt; stopped = (c.index-index.result, c.if-not-starts.ensures refl) }
+returns-then-not-starts g c =
+    let turn = YieldsList-turn (YieldsList-from_vec {s = c.into_iter-node-iterator.result} c.captures.nodes.items (search rules) (search rules))
+    c.loop-node.yielded c.loop-node.node-iterator c.loop-node.yielded_by c.next.result c.next.new.self c.in-Some.node c.in-Some.is c.next.ensures.steps in
+    record { run = tt; stopped = (length c.loop-node.yielded, c.in-Some.node, taken c.captures.nodes.items (length c.loop-node.yielded) c.in-Some.node turn, subst (λ (u : ℕ). g.S.Starter.unstarted c.captures.starter.now u) c.index-index.ensures (c.if-not-starts.ensures refl)) }
 
 pub returns-in-Err : goal.returns-in-Err
-returns-in-Err g c = record { run = tt; stopped = (c.index-index.result, c.refused.ensures) }
+returns-in-Err g c =
+    let turn = YieldsList-turn (YieldsList-from_vec {s = c.into_iter-node-iterator.result} c.captures.nodes.items (search rules) (search rules))
+    c.loop-node.yielded c.loop-node.node-iterator c.loop-node.yielded_by c.next.result c.next.new.self c.in-Some.node c.in-Some.is c.next.ensures.steps in
+    record { run = tt; stopped = (length c.loop-node.yielded, c.in-Some.node, taken c.captures.nodes.items (length c.loop-node.yielded) c.in-Some.node turn, subst (λ (u : ℕ). g.S.Starter.unstarted c.captures.starter.now u) c.index-index.ensures c.refused.ensures) }
 
 pub returns : goal.returns
 returns g c =

@@ -1,6 +1,0 @@
-use Rattle.std.specs.Prelude.{◌≡◌, ◌<◌, ℕ, length, slice_index_or}
-use Rattle.ir_worker.proofs.running.fn.run_all.scope.Given as goal
-
-abbrev pub invariant-loop-node : goal.invariant-loop-node
-invariant-loop-node g l = (length l.running.items ≡ length l.yielded)
-    × ((k : ℕ) (d : _) (e : _) → k < length l.yielded → (slice_index_or l.running.items k d).promise.0.value ≡ slice_index_or l.yielded k e)
