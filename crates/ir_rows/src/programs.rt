@@ -120,7 +120,7 @@ fn words_that_are_refused(rt: HostRuntime) -> Result<(), Fail> {
     assert!(rt; is_usage(rt.alloc(), &["plan", "--kind", "longest", "-"])?);
     assert!(rt; is_usage(rt.alloc(), &["plan", "--depth", "1", "-"])?);
     assert!(rt; is_usage(rt.alloc(), &["plan", "--capacity", "many", "-"])?);
-    assert!(rt; is_usage(rt.alloc(), &["live", "-"])?);
+    assert!(rt; is_usage(rt.alloc(), &["live", "topology"])?);
     assert!(rt; is_usage(rt.alloc(), &["sim"])?);
     assert!(rt; is_usage(rt.alloc(), &["sim", "topology"])?);
     assert!(rt; is_usage(rt.alloc(), &["sim", "-", "script"])?);
