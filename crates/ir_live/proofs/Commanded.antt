@@ -1,0 +1,78 @@
+-- Answers of commands, and one more of them.
+use Rattle.std.specs.Prelude.{◌≡◌, ℕ, suc, ◌+◌, ◌<◌, List, [], ◌∷◌, ◌++◌, Option, Some, None, Result, Ok, Err, MatchOption, length, take}
+use Rattle.std.proofs.lemmas.List.{take_more, length-take-le}
+use Rattle.std.proofs.Common.{get_or, refl, arith, sym, ap, ◌∙◌, subst, append-nil, append_assoc}
+use Rattle.ir_model.specs.declared.Kind.{Kind}
+use Rattle.ir_core.specs.declared.event.Refused.{Refused}
+use Rattle.ir_epochs.specs.declared.registry.Stamp.{Stamp}
+use Rattle.ir_epochs.specs.declared.handles.Receipt.{Receipt}
+use Rattle.ir_epochs.specs.declared.entry.Change.{Change}
+use Rattle.ir_control.specs.declared.controller.ChangeError.{ChangeError}
+use Rattle.ir_control.specs.Changes.{IsChangeAnswer}
+use Rattle.ir_live.specs.declared.command.Command.{Command}
+use Rattle.ir_live.specs.declared.command.Command.TheVariants.{Install}
+use Rattle.ir_live.specs.declared.desk.Desk.{Desk}
+use Rattle.ir_live.specs.Answers.{Answer, answer_of, refusal_in, refusal_at, refusals_from}
+use Rattle.ir_live.specs.Carried.{IsCarriedOut, IsChangedAs, AreCarriedOut}
+use Rattle.ir_live.specs.Words.{change_refusal}
+
+pub answered : (r : Option Refused) → r ≡ refusal_in (answer_of r)
+answered None = refl
+answered (Some why) = refl
+
+module _ {B : Type 0} where
+  pub installed : (kind : Kind) (root : ℕ) (before after : Desk B) (r : Option Refused) →
+      MatchOption r ((s : Stamp) × IsCarriedOut (Install kind root) before (Ok (Some s)) after) (λ why. IsCarriedOut (Install kind root) before (Err why) after) →
+      (answer : Answer) × (r ≡ refusal_in answer) × IsCarriedOut (Install kind root) before answer after
+  installed kind root before after None h = (Ok (Some h.0), refl, h.1)
+  installed kind root before after (Some why) h = (Err why, refl, h)
+
+  pub changed_as : (refused : Option ChangeError) (c : Change) (before after : Desk B) (result : Result Receipt ChangeError) (r : Option Refused) → r ≡ change_refusal result →
+      after.injector ≡ before.injector → IsChangeAnswer refused c before.controller after.controller result → IsChangedAs refused c before (answer_of r) after
+  changed_as refused c before after result r told same is = subst (λ (o : Option Refused). IsChangedAs refused c before (answer_of o) after) (sym told) (by_case result is) where
+    by_case : (result : Result Receipt ChangeError) → IsChangeAnswer refused c before.controller after.controller result → IsChangedAs refused c before (answer_of (change_refusal result)) after
+    by_case (Ok t) is = (same, (t, is))
+    by_case (Err e) is = (same, (e, refl, is))
+
+  -- one more command, with its answer
+  pub carried_more : (commands : List Command) (a b d : Desk B) (answers : List Answer) (c : Command) (answer : Answer) →
+      AreCarriedOut commands a answers b → IsCarriedOut c b answer d → AreCarriedOut (commands ++ c ∷ []) a (answers ++ answer ∷ []) d
+  carried_more [] a b d [] c answer done one = (d, subst (λ (z : Desk B). IsCarriedOut c z answer d) done one, refl)
+  carried_more [] a b d (x ∷ answers) c answer done one = absurd done
+  carried_more (k ∷ commands) a b d [] c answer done one = absurd done
+  carried_more (k ∷ commands) a b d (x ∷ answers) c answer done one = (done.0, done.1, carried_more commands done.0 b d answers c answer done.2 one)
+
+  -- as many answers as commands
+  pub as_many : (commands : List Command) (a b : Desk B) (answers : List Answer) → AreCarriedOut commands a answers b → length answers ≡ length commands
+  as_many [] a b [] done = refl
+  as_many [] a b (x ∷ answers) done = absurd done
+  as_many (k ∷ commands) a b [] done = absurd done
+  as_many (k ∷ commands) a b (x ∷ answers) done = ap suc (as_many commands done.0 b answers done.2)
+
+-- one more answer
+pub refusals_more : (k : ℕ) (answers : List Answer) (answer : Answer) → refusals_from k (answers ++ answer ∷ []) ≡ refusals_from k answers ++ refusal_at (k + length answers) (refusal_in answer)
+refusals_more k [] answer = append-nil (refusal_at k (refusal_in answer)) ∙ ap (λ (n : ℕ). refusal_at n (refusal_in answer)) (let e : k ≡ k + 0 = omega arith in e)
+refusals_more k (x ∷ answers) answer =
+    ap (λ (rest : List (ℕ × Refused)). refusal_at k (refusal_in x) ++ rest) (refusals_more (k + 1) answers answer)
+    ∙ sym (append_assoc (refusal_at k (refusal_in x)) (refusals_from (k + 1) answers) (refusal_at (k + 1 + length answers) (refusal_in answer)))
+    ∙ ap (λ (n : ℕ). refusal_at k (refusal_in x) ++ refusals_from (k + 1) answers ++ refusal_at n (refusal_in answer)) (let e : k + 1 + length answers ≡ k + suc (length answers) = omega arith in e)
+
+module _ {B : Type 0} where
+  -- the first commands with their answers, one more of them, and the refusals
+  pub carried_to : (commands : List Command) (place : ℕ) (c default : Command) (a b d : Desk B) (before after : List (ℕ × Refused)) (r : Option Refused) →
+      place < length commands → c ≡ get_or commands place default →
+      (answers : List Answer) × AreCarriedOut (take place commands) a answers b × (before ≡ refusals_from 0 answers) →
+      (answer : Answer) × (r ≡ refusal_in answer) × IsCarriedOut c b answer d →
+      after ≡ before ++ refusal_at place r →
+      (answers : List Answer) × AreCarriedOut (take (place + 1) commands) a answers d × (after ≡ refusals_from 0 answers)
+  carried_to commands place c default a b d before after r lt is done one told = (
+    done.0 ++ one.0 ∷ [],
+    subst (λ (ks : List Command). AreCarriedOut ks a (done.0 ++ one.0 ∷ []) d) (ap (λ (k : Command). take place commands ++ k ∷ []) is ∙ sym (take_more commands place default lt))
+        (carried_more (take place commands) a b d done.0 c one.0 done.1 one.2),
+    told ∙ ap (λ (xs : List (ℕ × Refused)). xs ++ refusal_at place r) done.2
+        ∙ ap (λ (n : ℕ). refusals_from 0 done.0 ++ refusal_at n r) many
+        ∙ ap (λ (o : Option Refused). refusals_from 0 done.0 ++ refusal_at (0 + length done.0) o) one.1
+        ∙ sym (refusals_more 0 done.0 one.0),
+  ) where
+    many : place ≡ 0 + length done.0
+    many = (let n : length done.0 ≡ length (take place commands) = as_many (take place commands) a b done.0 done.1 in let t : length (take place commands) ≡ place = length-take-le place commands (omega arith) in omega (arith, n, t))

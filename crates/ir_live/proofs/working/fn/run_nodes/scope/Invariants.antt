@@ -1,0 +1,6 @@
+use Rattle.std.specs.Prelude.{◌≡◌, ◌<◌, ℕ, length, slice_index_or}
+use Rattle.ir_live.proofs.working.fn.run_nodes.scope.Given as goal
+
+abbrev pub invariant-loop-node : goal.invariant-loop-node
+invariant-loop-node g l = (length l.running.items ≡ length l.yielded)
+    × ((k : ℕ) (d : _) (e : _) → k < length l.yielded → (slice_index_or l.running.items k d).promise.0.value ≡ slice_index_or l.yielded k e)

@@ -1,0 +1,97 @@
+-- What commands do with an injector and a controller of one net.
+use Rattle.std.specs.Prelude.{◌≡◌, ℕ, ◌∷◌, [], true, false, List, Option, Some, None, Ok, Err, length}
+use Rattle.ir_model.specs.declared.Kind.{Kind}
+use Rattle.ir_model.specs.Network.{node_count}
+use Rattle.ir_epochs.specs.declared.handles.Receipt.{Receipt}
+use Rattle.ir_epochs.specs.declared.entry.Change.{Change}
+use Rattle.ir_epochs.specs.declared.entry.Change.TheVariants as change
+use Rattle.ir_epochs.specs.declared.registry.Stamp.{Stamp}
+use Rattle.ir_epochs.specs.Stamps.{knows}
+use Rattle.ir_epochs.specs.Entries.{board_of}
+use Rattle.ir_epochs.specs.Handles.{published}
+use Rattle.ir_worker.specs.Account.{lines_out}
+use Rattle.ir_control.specs.declared.injector.Injector.{Injector}
+use Rattle.ir_control.specs.declared.injector.InjectError.{InjectError}
+use Rattle.ir_control.specs.declared.controller.InstallError.{InstallError}
+use Rattle.ir_control.specs.declared.controller.ChangeError.{ChangeError}
+use Rattle.ir_control.specs.Accepted.{IsInjected, stamp_after_learning}
+use Rattle.ir_control.specs.Refusals.{inject_refused, IsInjectRefusal}
+use Rattle.ir_control.specs.Changes.{retire_refused, mark_refused, Installs, IsNoInstall, IsChangeAnswer}
+use Rattle.ir_live.specs.declared.command.Command.{Command}
+use Rattle.ir_live.specs.declared.command.Command.TheVariants.{Inject, Install, Retire, Down, Up, Drain}
+use Rattle.ir_live.specs.declared.desk.Desk.{Desk}
+use Rattle.ir_live.specs.Answers.{Answer}
+use Rattle.ir_live.specs.Words.{inject_word, install_word, change_word}
+
+-- the same injector, of the same inboxes and with the same limit
+pub record IsSameInjector (before after : Injector) : Type 0 where
+  pub opening : after.opening ≡ before.opening
+  pub lines : lines_out after.outs.items ≡ lines_out before.outs.items
+  pub most : after.max_packets ≡ before.max_packets
+
+-- nothing was put in
+pub record InjectsNothing (before after : Injector) : Type 0 where
+  pub outs : after.outs.items ≡ before.outs.items
+  pub accepted : after.accepted.items ≡ before.accepted.items
+
+-- what an injector answers to an inject
+abbrev pub IsInjectAnswer : ℕ → ℕ → Injector → Answer → Injector → Type 0
+IsInjectAnswer source dest before (Ok (Some s)) after = ⊥
+IsInjectAnswer source dest before (Ok None) after =
+    (inject_refused (node_count (knows before.opening).network) before.max_packets (length before.accepted.items) source dest ≡ None)
+    × ((id : ℕ) × IsInjected before after id source dest)
+IsInjectAnswer source dest before (Err why) after =
+    ((e : InjectError) × (why ≡ inject_word e) × IsInjectRefusal before source dest e) × InjectsNothing before after
+
+-- The injector has learnt of an epoch that was installed: it stamps with that epoch, if it is a later one. Nothing else
+-- changed.
+pub record HasLearnt (before after : Injector) (s : Stamp) : Type 0 where
+  pub newest : after.newest ≡ stamp_after_learning before.newest (Some s)
+  pub outs : after.outs ≡ before.outs
+  pub accepted : after.accepted ≡ before.accepted
+  pub opening : after.opening ≡ before.opening
+  pub most : after.max_packets ≡ before.max_packets
+
+module _ {B : Type 0} where
+  -- An epoch was installed, whose stamp is this one, and the injector has learnt of it.
+  pub record InstallsAndLearns (before after : Desk B) (kind : Kind) (root : ℕ) (s : Stamp) : Type 0 where
+    pub receipt : Receipt
+    pub installs : Installs kind root before.controller after.controller receipt
+    pub stamp_is : installs.stamp ≡ s
+    pub learnt : HasLearnt before.injector after.injector s
+
+  -- what a controller answers to a command that changes the board and installs nothing
+  abbrev pub IsChangedAs : Option ChangeError → Change → Desk B → Answer → Desk B → Type 0
+  IsChangedAs refused c before (Ok (Some s)) after = ⊥
+  IsChangedAs refused c before (Ok None) after =
+      (after.injector ≡ before.injector) × ((t : Receipt) × IsChangeAnswer refused c before.controller after.controller (Ok t))
+  IsChangedAs refused c before (Err why) after =
+      (after.injector ≡ before.injector) × ((e : ChangeError) × (why ≡ change_word e) × IsChangeAnswer refused c before.controller after.controller (Err e))
+
+  -- how many links the net of a desk has
+  abbrev pub desk_links : Desk B → ℕ
+  desk_links d = length (knows d.controller.opening).network.links
+
+  -- what comes of a command: the injector and the controller before it, the answer, and both after it
+  abbrev pub IsCarriedOut : Command → Desk B → Answer → Desk B → Type 0
+  IsCarriedOut (Inject source dest) before answer after =
+      IsInjectAnswer source dest before.injector answer after.injector × IsSameInjector before.injector after.injector × (after.injector.newest ≡ before.injector.newest) × (after.controller ≡ before.controller)
+  IsCarriedOut (Install kind root) before (Ok None) after = ⊥
+  IsCarriedOut (Install kind root) before (Ok (Some s)) after = InstallsAndLearns before after kind root s
+  IsCarriedOut (Install kind root) before (Err why) after =
+      (after.injector ≡ before.injector) × ((e : InstallError) × (why ≡ install_word e) × IsNoInstall root before.controller after.controller e)
+  IsCarriedOut (Retire floor) before answer after =
+      IsChangedAs (retire_refused (board_of (published before.controller.writer)) floor) (change.Retire floor) before answer after
+  IsCarriedOut (Down link) before answer after =
+      IsChangedAs (mark_refused (desk_links before) (board_of (published before.controller.writer)) link false) (change.Down link) before answer after
+  IsCarriedOut (Up link) before answer after =
+      IsChangedAs (mark_refused (desk_links before) (board_of (published before.controller.writer)) link true) (change.Up link) before answer after
+  IsCarriedOut Drain before answer after =
+      (answer ≡ Ok None) × (after.injector ≡ before.injector) × (after.controller ≡ before.controller)
+
+  -- an answer to each command, in order
+  abbrev pub AreCarriedOut : List Command → Desk B → List Answer → Desk B → Type 0
+  AreCarriedOut [] before [] after = after ≡ before
+  AreCarriedOut [] before (answer ∷ answers) after = ⊥
+  AreCarriedOut (c ∷ commands) before [] after = ⊥
+  AreCarriedOut (c ∷ commands) before (answer ∷ answers) after = (next : Desk B) × IsCarriedOut c before answer next × AreCarriedOut commands next answers after

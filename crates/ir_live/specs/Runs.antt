@@ -1,0 +1,36 @@
+-- What nodes that turned on threads of their own came to, while commands were carried out.
+use Rattle.std.specs.Prelude.{◌≡◌, ℕ, ◌<◌, List, length, slice_index_or, Option}
+use Rattle.ir_worker.specs.declared.node.Node.{Node}
+use Rattle.ir_worker.specs.declared.serving.NoMemory.{NoMemory as Short}
+use Rattle.ir_worker.specs.Same.{IsSameNode}
+use Rattle.ir_live.specs.declared.command.Command.{Command}
+use Rattle.ir_live.specs.declared.desk.Desk.{Desk}
+use Rattle.ir_live.specs.declared.live.LiveError.{LiveError}
+use Rattle.ir_live.specs.declared.live.LiveError.TheVariants as live
+use Rattle.ir_live.specs.declared.working.NotRun.{NotRun}
+use Rattle.ir_live.specs.declared.working.NotRun.TheVariants.{NoThread, NoMemory}
+use Rattle.ir_live.specs.declared.working.Run.{Run}
+use Rattle.ir_live.specs.Answers.{Answer, refusals_from}
+use Rattle.ir_live.specs.Carried.{AreCarriedOut}
+
+-- the same nodes, in the same order
+pub record CameBack (before : List Node) (after : List (Node × Option Short)) : Type 0 where
+  pub count : length after ≡ length before
+  pub each : (k : ℕ) (d : Node) (e : Node × Option Short) → k < length before → IsSameNode (slice_index_or before k d) (slice_index_or after k e).0
+
+-- The nodes came back, and each command had its answer.
+pub record IsRun {B : Type 0} (nodes : List Node) (desk : Desk B) (commands : List Command) (run : Run B) : Type 0 where
+  pub came_back : CameBack nodes run.back.items
+  pub answers : List Answer
+  pub carried_out : AreCarriedOut commands desk answers run.desk
+  pub refusals : run.refusals.items ≡ refusals_from 0 answers
+
+-- the thread of some node was not started, or a growth was refused
+abbrev pub IsStopped : {S : Type 0} → (S → ℕ → Type 0) → S → NotRun → Type 0
+IsStopped unstarted s NoThread = (u : ℕ) × unstarted s u
+IsStopped unstarted s NoMemory = Unit {0}
+
+-- the error of a live run for why nodes did not run
+abbrev pub live_error : NotRun → LiveError
+live_error NoThread = live.NoThread
+live_error NoMemory = live.NoMemory

@@ -1,0 +1,117 @@
+//! The desk where commands are carried out.
+ghost use Rattle.std.specs.Prelude.{◌≡◌};
+ghost use Rattle.ir_live.specs.Words.{change_refusal};
+
+use crate::command::{Command, change_word, inject_word, install_word};
+use ir_control::{ChangeError, Controller, Injector, Net};
+use ir_core::Refused;
+use ir_epochs::Receipt;
+use ir_model::Kind;
+use std::sync::Wait;
+use std::sync::atomic::{AtomicBool, Ordering};
+use std::thread;
+
+/// An injector and a controller of one net.
+#[derive(Drop)]
+pub struct Desk<B: Wait + Drop> {
+    pub(crate) injector: Injector,
+    pub(crate) controller: Controller<B>,
+    ghost of_one_net: { controller.opening ≡ injector.opening },
+}
+
+// Why the board was not changed, if it was not.
+fn refusal_of(answer: Result<Receipt, ChangeError>) -> Option<Refused>
+    ensures { result ≡ change_refusal answer }
+{
+    match answer {
+        Ok(_) => None,
+        Err(error) => Some(change_word(error)),
+    }
+}
+
+// Looks until so many packets are settled or a node has ended, and lets others go first between two looks.
+fn drain<R: Wait>(rt: &R, net: &Net, count: u32, ended: &AtomicBool) {
+    for _ in rt.forever() {
+        if net.settled() == count || ended.load(Ordering::SeqCst) {
+            break;
+        }
+        thread::yield_now();
+    }
+}
+
+impl<B: Wait + Drop> Desk<B> {
+    ghost use Rattle.std.specs.Prelude.{Ok, Err, Some, MatchOption};
+    ghost use Rattle.ir_epochs.specs.declared.registry.Stamp.{Stamp};
+    ghost use Rattle.ir_live.specs.Answers.{Answer, answer_of, refusal_in};
+    ghost use Rattle.ir_live.specs.Carried.{IsCarriedOut};
+    ghost use Rattle.ir_live.specs.declared.command.Command.TheVariants.{Inject, Install, Retire, Down, Up};
+
+    // Puts a packet in.
+    fn inject<R: Wait>(&mut self, rt: &R, source: u16, dest: u16) -> Option<Refused>
+        ensures { IsCarriedOut (Inject source dest) self.old (answer_of result) self.new }
+    {
+        match self.injector.inject(rt, source, dest) {
+            Ok(_) => None,
+            Err(error) => Some(inject_word(error)),
+        }
+    }
+
+    // Installs an epoch, of which the injector learns at once.
+    fn install(&mut self, kind: Kind, root: u16) -> Option<Refused>
+        ensures { MatchOption result
+            ((s : Stamp) × IsCarriedOut (Install kind root) self.old (Ok (Some s)) self.new)
+            (λ why. IsCarriedOut (Install kind root) self.old (Err why) self.new) }
+    {
+        match self.controller.install(kind, root) {
+            Ok(receipt) => {
+                self.injector.learn(&receipt);
+                None
+            }
+            Err(error) => Some(install_word(error)),
+        }
+    }
+
+    // Retires epochs.
+    fn retire(&mut self, floor: u32) -> Option<Refused>
+        ensures { IsCarriedOut (Retire floor) self.old (answer_of result) self.new }
+    {
+        refusal_of(self.controller.retire(floor))
+    }
+
+    // Marks a link as down.
+    fn down(&mut self, link: u16) -> Option<Refused>
+        ensures { IsCarriedOut (Down link) self.old (answer_of result) self.new }
+    {
+        refusal_of(self.controller.down(link))
+    }
+
+    // Marks a link as up.
+    fn up(&mut self, link: u16) -> Option<Refused>
+        ensures { IsCarriedOut (Up link) self.old (answer_of result) self.new }
+    {
+        refusal_of(self.controller.up(link))
+    }
+
+    // Carries out a command, and answers why not.
+    pub(crate) fn carry_out<R: Wait>(
+        &mut self,
+        rt: &R,
+        net: &Net,
+        ended: &AtomicBool,
+        command: Command,
+    ) -> Option<Refused>
+        ensures { (answer : Answer) × (result ≡ refusal_in answer) × IsCarriedOut command self.old answer self.new }
+    {
+        match command {
+            Command::Inject(source, dest) => self.inject(rt, source, dest),
+            Command::Install(kind, root) => self.install(kind, root),
+            Command::Retire(floor) => self.retire(floor),
+            Command::Down(link) => self.down(link),
+            Command::Up(link) => self.up(link),
+            Command::Drain => {
+                drain(rt, net, self.injector.count(), ended);
+                None
+            }
+        }
+    }
+}

@@ -1,0 +1,15 @@
+//! A live run of a net: each node turns on a thread of its own while commands are carried out, and then there is a report.
+#![tactic(auto)]
+
+mod carrying;
+mod command;
+mod desk;
+mod live;
+mod running;
+mod starter;
+mod working;
+
+pub use command::Command;
+pub use live::{Live, LiveError};
+pub use running::run_live;
+pub use starter::{Every, Starter};

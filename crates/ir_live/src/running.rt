@@ -1,0 +1,118 @@
+//! A live run.
+ghost use Rattle.std.specs.Prelude.{◌≡◌, IfOk, IfErr, map};
+ghost use Rattle.ir_model.specs.Network.{node_count};
+ghost use Rattle.ir_control.specs.Parts.{AreFirstNodes, IsInjectorOf};
+ghost use Rattle.ir_control.specs.Reports.{IsReport};
+ghost use Rattle.std.specs.Borrow.{Bor};
+ghost use Rattle.ir_live.specs.Lives.{IsLive, IsRefusal};
+ghost use Rattle.ir_live.specs.Runs.{live_error};
+
+use crate::command::Command;
+use crate::desk::Desk;
+use crate::live::{Live, LiveError};
+use crate::starter::Starter;
+use crate::working::{NotRun, Run, run_nodes};
+use ir_control::{FinishError, Net, Parts, finish};
+use ir_worker::{Gate, NoMemory, Node};
+use std::alloc::{AllocError, Global};
+use std::sync::Wait;
+use std::thread::Threads;
+
+// Why a run has no report.
+fn stopped(why: NotRun) -> LiveError
+    ensures { result ≡ live_error why }
+{
+    match why {
+        NotRun::NoThread => LiveError::NoThread,
+        NotRun::NoMemory => LiveError::NoMemory,
+    }
+}
+
+// The nodes that came back, unless one had no memory.
+fn all_back(alloc: Global, back: Vec<(Node, Option<NoMemory>)>) -> Result<Vec<Node>, AllocError>
+    ensures { IfOk result (λ nodes. nodes.items ≡ map (λ b. b.0) back.items) }
+{
+    let mut nodes = Vec::with_capacity(alloc, back.len())?;
+    for (node, short) in back {
+        if short.is_some() {
+            return Err(AllocError);
+        }
+        nodes.push(node)?;
+    }
+    Ok(nodes)
+}
+
+// The report of a run.
+fn reported<R: Wait, B: Wait + Drop>(
+    rt: &R,
+    alloc: Global,
+    net: &Net,
+    run: Run<B>,
+) -> Result<Live, LiveError>
+    requires nodes { AreFirstNodes net.now (node_count net.now.topology) (map (λ b. b.0) run.back.items) }
+    requires injector { IsInjectorOf net.now run.desk.injector }
+    ensures report { IfOk result (λ live. IsReport net.now (map (λ b. b.0) run.back.items) run.desk.injector live.report) }
+    ensures refusals { IfOk result (λ live. live.refusals ≡ run.refusals) }
+    ensures refused { IfErr result (λ error. error ≡ LiveError.NoMemory) }
+{
+    let Run {
+        back,
+        desk,
+        refusals,
+    } = run;
+    let Ok(nodes) = all_back(alloc, back) else {
+        return Err(LiveError::NoMemory);
+    };
+    let Desk {
+        injector,
+        controller,
+    } = desk;
+    let parts = Parts {
+        nodes,
+        injector,
+        controller,
+    };
+    match finish(rt, net, parts) {
+        Ok(report) => Ok(Live { report, refusals }),
+        Err((FinishError::NoMemory, _)) => Err(LiveError::NoMemory),
+        Err((FinishError::Missing(_), _)) => unreachable!(),
+    }
+}
+
+/// Starts a thread for each node of a net, which runs `serve`, unless the starter says no; carries out the commands in
+/// order, where the injector learns of each install at once; then lets the nodes end, waits until each has come back, and
+/// reports what came of each packet. A refused command stands among the refusals, and the run goes on.
+///
+/// Refused are: a net whose parts were handed out before (`Spent`), a thread that was not started (`NoThread`), and want
+/// of memory, a node's too. After any answer the net is spent.
+pub fn run_live<R: Threads + Wait + Sync, G: Gate, S: Starter>(
+    rt: &R,
+    alloc: Global,
+    net: &Net,
+    commands: &[Command],
+    gate: &G,
+    starter: &S,
+) -> Result<Live, LiveError>
+    ensures live { IfOk result (λ live. IsLive (Bor R) net.now commands.now live) }
+    ensures refused { IfErr result (λ error. IsRefusal S.unstarted starter.now error) }
+{
+    let Ok(given) = net.parts(rt) else {
+        return Err(LiveError::NoMemory);
+    };
+    let Some(parts) = given else {
+        return Err(LiveError::Spent);
+    };
+    let Parts {
+        nodes,
+        injector,
+        controller,
+    } = parts;
+    let desk = Desk {
+        injector,
+        controller,
+    };
+    match run_nodes(rt, alloc, net, nodes, desk, commands, gate, starter) {
+        Ok(run) => reported(rt, alloc, net, run),
+        Err(why) => Err(stopped(why)),
+    }
+}

@@ -1,0 +1,115 @@
+//! Nodes that turn on threads of their own while commands are carried out.
+ghost use Rattle.std.specs.Prelude.{◌≡◌, IfOk, IfErr, Err, false};
+ghost use Rattle.ir_worker.specs.Same.{IsSameNode};
+ghost use Rattle.ir_live.specs.Runs.{IsRun, IsStopped};
+
+use crate::carrying::carry_out_all;
+use crate::command::Command;
+use crate::desk::Desk;
+use crate::starter::Starter;
+use ir_control::Net;
+use ir_core::Refused;
+use ir_worker::{ComesBack, Gate, NoMemory, Node, serve};
+use std::alloc::Global;
+use std::snapshot::Snapshot;
+use std::sync::Wait;
+use std::sync::atomic::{AtomicBool, Ordering};
+use std::thread;
+use std::thread::Threads;
+
+/// Why nodes did not run.
+#[derive(Clone, Copy, Debug, PartialEq, Eq)]
+pub(crate) enum NotRun {
+    NoThread,
+    NoMemory,
+}
+
+/// What came of a run: the nodes that came back, the injector and the controller, and the refused commands.
+#[derive(Drop)]
+pub(crate) struct Run<B: Wait + Drop> {
+    pub(crate) back: Vec<(Node, Option<NoMemory>)>,
+    pub(crate) desk: Desk<B>,
+    pub(crate) refusals: Vec<(usize, Refused)>,
+}
+
+// Serves, and tells by a flag that it has ended.
+fn serve_and_tell<R: Wait, G: Gate>(
+    rt: &R,
+    node: Node,
+    gate: &G,
+    stop: &AtomicBool,
+    ended: &AtomicBool,
+) -> (Node, Option<NoMemory>)
+    ensures { IsSameNode node result.0 }
+{
+    let back = serve(rt, node, gate, stop);
+    ended.store(true, Ordering::SeqCst);
+    back
+}
+
+/// Starts a thread for each node, carries out the commands, lets the nodes end, and waits until each has come back.
+pub(crate) fn run_nodes<R: Threads + Wait + Sync, G: Gate, S: Starter, B: Wait + Drop>(
+    rt: &R,
+    alloc: Global,
+    net: &Net,
+    nodes: Vec<Node>,
+    desk: Desk<B>,
+    commands: &[Command],
+    gate: &G,
+    starter: &S,
+) -> Result<Run<B>, NotRun>
+    ensures run { IfOk result (λ run. IsRun nodes.items desk commands.now run) }
+    ensures stopped { IfErr result (λ why. IsStopped S.unstarted starter.now why) }
+{
+    let (stop, ended) = (AtomicBool::new(false), AtomicBool::new(false));
+    let (stop, ended) = (&stop, &ended);
+    thread::scope(
+        thread::scope_env(),
+        rt,
+        move |scope| -> Result<Run<B>, NotRun>
+            ensures run { IfOk result (λ run. IsRun nodes.items desk commands.entry.now run) }
+            ensures stopped { IfErr result (λ why. IsStopped S.unstarted starter.entry.now why) }
+        {
+            let mut desk = desk;
+            let Ok(mut running) = Vec::with_capacity(alloc, nodes.len()) else {
+                return Err(NotRun::NoMemory);
+            };
+            for node in nodes {
+                let index = node.index();
+                if !starter.starts(index) {
+                    stop.store(true, Ordering::SeqCst);
+                    return Err(NotRun::NoThread);
+                }
+                let promise = ComesBack(Snapshot::of(&node));
+                let handle = match scope.spawn_with(
+                    promise,
+                    move || serve_and_tell(rt, node, gate, stop, ended),
+                ) {
+                    Ok(handle) => handle,
+                    Err(error) => {
+                        stop.store(true, Ordering::SeqCst);
+                        starter.refused(index, error);
+                        return Err(NotRun::NoThread);
+                    }
+                };
+                let Ok(()) = running.push(handle) else {
+                    stop.store(true, Ordering::SeqCst);
+                    return Err(NotRun::NoMemory);
+                };
+            }
+            let told = carry_out_all(rt, alloc, net, ended, &mut desk, commands);
+            stop.store(true, Ordering::SeqCst);
+            let Ok(refusals) = told else {
+                return Err(NotRun::NoMemory);
+            };
+            let Ok(back) = thread::join_promised(rt, running) else {
+                return Err(NotRun::NoMemory);
+            };
+            Ok(Run {
+                back,
+                desk,
+                refusals,
+            })
+        },
+    )
+}
