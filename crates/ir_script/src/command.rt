@@ -6,11 +6,11 @@ ghost use Rattle.ir_model.specs.Text.{words_of};
 ghost use Rattle.ir_script.specs.Command.{event_of_one, event_of_two, event_of_three, step_of, line_step, is_of_simulation, command_of, command_named, line_command};
 
 use crate::fault::ScriptFault;
-use crate::live::Command;
 use crate::word::{link_between, link_of, node_of, number_of};
 use ir_adjlist::scan;
 use ir_core::{Event, Kind, Step, Way};
 use ir_graph::Graph;
+use ir_live::Command;
 use ir_tables::Topology;
 
 /// The event of a first word that one follows.

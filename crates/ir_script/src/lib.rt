@@ -13,7 +13,8 @@ mod word;
 
 pub use fault::{ScriptError, ScriptFault};
 pub use ir_core::Step;
-pub use live::{Command, LiveScript, parse_live};
+pub use ir_live::Command;
+pub use live::{LiveScript, parse_live};
 pub use script::{Script, parse_script};
 
 /// The most digits of a number.

@@ -10,26 +10,9 @@ use crate::fault::ScriptError;
 use crate::script::{error_at, keep};
 use ir_adjlist::scan;
 use ir_graph::Graph;
-use ir_model::Kind;
+use ir_live::Command;
 use ir_tables::Topology;
 use std::alloc::Global;
-
-/// One command of a live run.
-#[derive(Clone, Copy, Debug, PartialEq, Eq)]
-pub enum Command {
-    /// A packet from a source to a destination.
-    Inject(u16, u16),
-    /// A plan of a kind and root over the links that are up becomes the current epoch.
-    Install(Kind, u16),
-    /// The epochs below this one are retired.
-    Retire(u32),
-    /// A link goes down.
-    Down(u16),
-    /// A link comes up.
-    Up(u16),
-    /// Waiting, until every packet has come to its end or a node has stopped.
-    Drain,
-}
 
 /// The commands of a script, and beside each the number of its line.
 #[derive(Drop)]

@@ -19,7 +19,7 @@ use Rattle.ir_script.specs.Script.{Listing}
 use Rattle.ir_trace.specs.Checked.{IsInstall, AreInstalls}
 use Rattle.ir_shell.specs.declared.words.Words.{Words}
 use Rattle.ir_shell.specs.declared.reply.Reply.{Reply}
-use Rattle.ir_shell.specs.Answer.{Answer, Ran, Found, Refused}
+use Rattle.ir_shell.specs.Answer.{Answer, Ran, Found, Refused, NoThread}
 use Rattle.ir_shell.specs.Replies.{answer_of}
 use Rattle.ir_shell.specs.Cut.{topology_part, script_part, EndsWith}
 use Rattle.ir_shell.specs.Openings.{AnswersTopology}
@@ -54,6 +54,7 @@ by_answer : (g : Adjacency) (words : Words) (script : Listing Step) (trace : Lis
 by_answer g words script trace root installs are (Ran text refused) h = (installs, are, h)
 by_answer g words script trace root installs are (Found text) h = (installs, are, h)
 by_answer g words script trace root installs are (Refused line) h = absurd h
+by_answer g words script trace root installs are NoThread h = absurd h
 
 -- the answer to a trace by the installs of a script
 pub by_installs : {E : Type 0} (g : Adjacency) (words : Words) (script : Listing Step) (trace : List ℕ) (root : ℕ) (installs : List Install) → AreReplayed g words script root installs →

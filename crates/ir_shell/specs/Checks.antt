@@ -16,7 +16,7 @@ use Rattle.ir_trace.specs.Reading.{IsTrace, Tells}
 use Rattle.ir_trace.specs.Checked.{Finds}
 use Rattle.ir_trace.specs.Sound.{IsSoundTrace}
 use Rattle.ir_shell.specs.declared.words.Words.{Words}
-use Rattle.ir_shell.specs.Answer.{Answer, Ran, Found, Refused}
+use Rattle.ir_shell.specs.Answer.{Answer, Ran, Found, Refused, NoThread}
 use Rattle.ir_shell.specs.Lines.{script_line, opening_line, finding_line, ok_line}
 use Rattle.ir_shell.specs.Openings.{root_name, AnswersRoot}
 
@@ -34,6 +34,7 @@ abbrev pub AnswersTrace : Adjacency → List ℕ → List Install → Answer →
 AnswersTrace g trace installs (Ran text refused) = (count : ℕ) × IsClean g installs trace count × (text ≡ ok_line count) × (refused ≡ [])
 AnswersTrace g trace installs (Found text) = (f : Finding) × (f.kind ≢ NoMemory) × IsFound g installs trace f × (text ≡ finding_line f)
 AnswersTrace g trace installs (Refused line) = ⊥
+AnswersTrace g trace installs NoThread = ⊥
 
 -- the installs are those of the script's steps, in a world that is opened over the network of the graph as the words say
 abbrev pub AreReplayed : Adjacency → Words → Listing Step → ℕ → List Install → Type 0

@@ -19,7 +19,7 @@ use Rattle.ir_core.specs.declared.event.Step.{Step}
 use Rattle.ir_script.specs.Script.{Listing, listing_of}
 use Rattle.ir_trace.specs.Written.{records_text, segments_text}
 use Rattle.ir_shell.specs.declared.words.Words.{Words}
-use Rattle.ir_shell.specs.Answer.{Answer, Ran, Found, Refused}
+use Rattle.ir_shell.specs.Answer.{Answer, Ran, Found, Refused, NoThread}
 use Rattle.ir_shell.specs.Lines.{script_line, opening_line, refused_line}
 use Rattle.ir_shell.specs.Openings.{root_name, AnswersRoot}
 
@@ -63,6 +63,7 @@ pub record IsRun (g : Adjacency) (words : Words) (root : ℕ) (script : Listing 
 abbrev pub AnswersRun : Adjacency → Words → Listing Step → ℕ → Answer → Type 0
 AnswersRun g words script root (Ran text refused) = IsRun g words root script text refused
 AnswersRun g words script root (Found text) = ⊥
+AnswersRun g words script root NoThread = ⊥
 AnswersRun g words script root (Refused line) =
     (e : OpenError) × (e ≢ openings.NoMemory) × IsOpenRefusal (network_of_graph g) root words.capacity words.packets words.restamps e × (line ≡ opening_line e)
 
