@@ -72,7 +72,11 @@ fn words_that_are_refused(rt: HostRuntime) -> Result<(), Fail> {
         "plan --packets 0 -",
         "plan --packets 4097 -",
         "plan - --to a",
-        "live -",
+        "live",
+        "live topology",
+        "live - script",
+        "live one two three",
+        "live --restamps 4 -",
         "sim",
         "sim topology",
         "sim - script",
@@ -97,6 +101,7 @@ fn words_that_ask_for_a_text(rt: HostRuntime) -> Result<(), Fail> {
     for (line, part) in [
         ("plan --help", "--capacity"),
         ("sim --help", "inject"),
+        ("live --help", "inject"),
         ("--version", "route 1.0.0\n"),
     ] {
         let Err(WordsError::Help(text)) = asked_by(rt.alloc(), line)? else {

@@ -121,20 +121,20 @@ module _ (nodes : List Name) (net : Network) (is_net : IsNetwork net) (count : l
   line_within : (line : List ℕ) → StepWithin (line_step nodes net line)
   line_within line = choice_within (not (list_all is_plain (content line))) (Err BadByte) (step_of nodes net (words line)) tt (words_within (words line))
 
-  abbrev ListingWithin : Result Listing (ℕ × ScriptFault) → Type 0
+  abbrev ListingWithin : Result (Listing Step) (ℕ × ScriptFault) → Type 0
   ListingWithin (Ok listing) = list_all (is_within net) listing.steps ≡ true
   ListingWithin (Err e) = Unit {0}
 
-  front_within : (number : ℕ) (said : Result (Option Step) ScriptFault) (later : Result Listing (ℕ × ScriptFault)) → StepWithin said → ListingWithin later → ListingWithin (with_line number said later)
+  front_within : (number : ℕ) (said : Result (Option Step) ScriptFault) (later : Result (Listing Step) (ℕ × ScriptFault)) → StepWithin said → ListingWithin later → ListingWithin (with_line number said later)
   front_within number (Err f) later hs hl = tt
   front_within number (Ok None) later hs hl = hl
   front_within number (Ok (Some s)) (Err e) hs hl = tt
   front_within number (Ok (Some s)) (Ok later) hs hl = and_from _ _ hs hl
 
-  from_within : (number : ℕ) (ls : List (List ℕ)) → ListingWithin (listing_from nodes net number ls)
+  from_within : (number : ℕ) (ls : List (List ℕ)) → ListingWithin (listing_from line_step nodes net number ls)
   from_within number [] = refl
-  from_within number (l ∷ ls) = front_within number (line_step nodes net l) (listing_from nodes net (number + 1) ls) (line_within l) (from_within (number + 1) ls)
+  from_within number (l ∷ ls) = front_within number (line_step nodes net l) (listing_from line_step nodes net (number + 1) ls) (line_within l) (from_within (number + 1) ls)
 
   -- the steps of a script name nodes and links of the network
-  pub steps_within : (ls : List (List ℕ)) (listing : Listing) → listing_of nodes net ls ≡ Ok listing → list_all (is_within net) listing.steps ≡ true
-  steps_within ls listing e = let P : Result Listing (ℕ × ScriptFault) → Type 0 = λ r. ListingWithin r in subst P e (from_within 1 ls)
+  pub steps_within : (ls : List (List ℕ)) (listing : Listing Step) → listing_of nodes net ls ≡ Ok listing → list_all (is_within net) listing.steps ≡ true
+  steps_within ls listing e = let P : Result (Listing Step) (ℕ × ScriptFault) → Type 0 = λ r. ListingWithin r in subst P e (from_within 1 ls)

@@ -1,5 +1,5 @@
 -- What one line of a script says.
-use Rattle.std.specs.Prelude.{ℕ, not, ◌&&◌, ◌==◌, Bool, if◌then◌else◌, List, [], ◌∷◌, length, nat_le, Option, Some, None, Result, Ok, Err, bytes_eq, codes, find, position}
+use Rattle.std.specs.Prelude.{ℕ, not, ◌&&◌, ◌||◌, ◌==◌, Bool, if◌then◌else◌, List, [], ◌∷◌, length, nat_le, Option, Some, None, Result, Ok, Err, bytes_eq, codes, find, position}
 use Rattle.std.specs.List.{list_all}
 use Rattle.ir_model.specs.declared.Hop.{Hop}
 use Rattle.ir_model.specs.declared.Kind.TheVariants.{Tree, Shortest, Compact}
@@ -12,6 +12,8 @@ use Rattle.ir_core.specs.declared.event.Event.{Event}
 use Rattle.ir_core.specs.declared.event.Event.TheVariants.{Inject, Learn, Take, Read, Act, Install, Retire, Down, Up}
 use Rattle.ir_core.specs.declared.event.Step.{Step}
 use Rattle.ir_core.specs.declared.event.Step.TheVariants as step
+use Rattle.ir_live.specs.declared.command.Command.{Command}
+use Rattle.ir_live.specs.declared.command.Command.TheVariants as command
 use Rattle.ir_script.specs.declared.TheConstants.{MAX_DIGITS, MAX_NUMBER}
 use Rattle.ir_script.specs.declared.fault.ScriptFault.{ScriptFault}
 use Rattle.ir_script.specs.declared.fault.ScriptFault.TheVariants.{BadByte, BadCommand, BadNumber, UnknownNode, UnknownLink}
@@ -113,3 +115,43 @@ step_of nodes net (command ∷ first ∷ second ∷ third ∷ fourth ∷ more) =
 -- what a line says: its bytes are looked at first
 abbrev pub line_step : List Name → Network → List ℕ → Result (Option Step) ScriptFault
 line_step nodes net line = if not (list_all is_plain (content line)) then Err BadByte else step_of nodes net (words line)
+
+-- ---- the commands of a live run
+
+-- the first words of the lines that are of a simulation alone
+abbrev pub is_of_simulation : Name → Bool
+is_of_simulation word = bytes_eq word (codes "learn") || bytes_eq word (codes "take") || bytes_eq word (codes "read") || bytes_eq word (codes "act")
+
+-- the command that a step is
+abbrev pub command_of : Step → Result Command ScriptFault
+command_of (step.Event (Inject u v)) = Ok (command.Inject u v)
+command_of (step.Event (Install kind r)) = Ok (command.Install kind r)
+command_of (step.Event (Retire f)) = Ok (command.Retire f)
+command_of (step.Event (Down l)) = Ok (command.Down l)
+command_of (step.Event (Up l)) = Ok (command.Up l)
+command_of step.Drain = Ok command.Drain
+command_of (step.Event (Learn e)) = Err BadCommand
+command_of (step.Event (Take u way)) = Err BadCommand
+command_of (step.Event (Read u k)) = Err BadCommand
+command_of (step.Event (Act u)) = Err BadCommand
+
+-- a command of a line
+abbrev pub some_command : Result Command ScriptFault → Result (Option Command) ScriptFault
+some_command (Err e) = Err e
+some_command (Ok c) = Ok (Some c)
+
+-- a step as the command of a line
+abbrev pub as_command : Result (Option Step) ScriptFault → Result (Option Command) ScriptFault
+as_command (Err e) = Err e
+as_command (Ok None) = Ok None
+as_command (Ok (Some s)) = some_command (command_of s)
+
+-- the command that the words of a line name: none where there is no word. A line of a simulation alone is no command,
+-- whatever follows its first word; each other line names what it names in a simulation.
+abbrev pub command_named : List Name → Network → List Name → Result (Option Command) ScriptFault
+command_named nodes net [] = Ok None
+command_named nodes net (word ∷ more) = if is_of_simulation word then Err BadCommand else as_command (step_of nodes net (word ∷ more))
+
+-- what a line of a live run's script says
+abbrev pub line_command : List Name → Network → List ℕ → Result (Option Command) ScriptFault
+line_command nodes net line = if not (list_all is_plain (content line)) then Err BadByte else command_named nodes net (words line)

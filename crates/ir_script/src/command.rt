@@ -3,13 +3,14 @@ ghost use Rattle.std.specs.Prelude.{◌≡◌};
 ghost use Rattle.ir_model.specs.Graph.{names};
 ghost use Rattle.ir_model.specs.OfGraph.{network_of_graph};
 ghost use Rattle.ir_model.specs.Text.{words_of};
-ghost use Rattle.ir_script.specs.Command.{event_of_one, event_of_two, event_of_three, step_of, line_step};
+ghost use Rattle.ir_script.specs.Command.{event_of_one, event_of_two, event_of_three, step_of, line_step, is_of_simulation, command_of, command_named, line_command};
 
 use crate::fault::ScriptFault;
 use crate::word::{link_between, link_of, node_of, number_of};
 use ir_adjlist::scan;
 use ir_core::{Event, Kind, Step, Way};
 use ir_graph::Graph;
+use ir_live::Command;
 use ir_tables::Topology;
 
 /// The event of a first word that one follows.
@@ -126,4 +127,68 @@ pub fn line_step(
         return Err(ScriptFault::BadByte);
     }
     step_of(graph, topology, words)
+}
+
+/// Whether a first word begins a line of a simulation alone.
+fn is_of_simulation(word: &[u8]) -> bool
+    ensures { result ≡ is_of_simulation word.now }
+{
+    word == b"learn".as_slice()
+        || word == b"take".as_slice()
+        || word == b"read".as_slice()
+        || word == b"act".as_slice()
+}
+
+/// The command that a step is.
+fn command_of(step: Step) -> Result<Command, ScriptFault>
+    ensures { result ≡ command_of step }
+{
+    match step {
+        Step::Event(Event::Inject(source, dest)) => Ok(Command::Inject(source, dest)),
+        Step::Event(Event::Install(kind, root)) => Ok(Command::Install(kind, root)),
+        Step::Event(Event::Retire(floor)) => Ok(Command::Retire(floor)),
+        Step::Event(Event::Down(link)) => Ok(Command::Down(link)),
+        Step::Event(Event::Up(link)) => Ok(Command::Up(link)),
+        Step::Drain => Ok(Command::Drain),
+        Step::Event(Event::Learn(_) | Event::Take(_, _) | Event::Read(_, _) | Event::Act(_)) => {
+            Err(ScriptFault::BadCommand)
+        }
+    }
+}
+
+/// The command that the words of a line name; none where it has no word.
+fn command_named(
+    graph: &Graph,
+    topology: &Topology,
+    words: &[u8],
+) -> Result<Option<Command>, ScriptFault>
+    requires { topology.now ≡ network_of_graph graph.now }
+    ensures { result ≡ command_named (names graph.now) topology.now (words_of words.now) }
+{
+    let Some((word, _)) = scan::next_word(words) else {
+        return Ok(None);
+    };
+    if is_of_simulation(word) {
+        return Err(ScriptFault::BadCommand);
+    }
+    match step_of(graph, topology, words)? {
+        Some(step) => Ok(Some(command_of(step)?)),
+        None => Ok(None),
+    }
+}
+
+/// The command that a line of a live run's script names; none where it has no word.
+pub fn line_command(
+    graph: &Graph,
+    topology: &Topology,
+    line: &[u8],
+) -> Result<Option<Command>, ScriptFault>
+    requires { topology.now ≡ network_of_graph graph.now }
+    ensures { result ≡ line_command (names graph.now) topology.now line.now }
+{
+    let words = scan::without_comment(line);
+    if !scan::all_plain(words) {
+        return Err(ScriptFault::BadByte);
+    }
+    command_named(graph, topology, words)
 }

@@ -1,16 +1,20 @@
-//! Scripts of a simulation: texts of which each line names a step, and what is wrong with them.
+//! Scripts: texts of which each line names a step of a simulation, or a command of a live run, and what is wrong with them.
 //!
-//! A script is read over a graph and its topology, so that its steps name nodes and links by number. `specs/Command`
-//! says what each line means, `specs/Script` what a whole script says: its steps with their lines, or its first fault.
+//! A script is read over a graph and its topology, so that its steps and commands name nodes and links by number.
+//! `specs/Command` says what each line means, `specs/Script` what a whole script says: its steps or commands with their
+//! lines, or its first fault.
 #![tactic(auto)]
 
 mod command;
 mod fault;
+mod live;
 mod script;
 mod word;
 
 pub use fault::{ScriptError, ScriptFault};
 pub use ir_core::Step;
+pub use ir_live::Command;
+pub use live::{LiveScript, parse_live};
 pub use script::{Script, parse_script};
 
 /// The most digits of a number.

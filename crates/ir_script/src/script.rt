@@ -51,7 +51,7 @@ impl Script {
 }
 
 /// The error for a fault in a line.
-fn error_at(line: usize, kind: ScriptFault) -> ScriptError
+pub fn error_at(line: usize, kind: ScriptFault) -> ScriptError
     ensures { result ≡ told_script line kind }
 {
     match kind {
@@ -60,21 +60,21 @@ fn error_at(line: usize, kind: ScriptFault) -> ScriptError
     }
 }
 
-/// Keeps the step of a line, if it has one, and the line's number.
-fn keep_step(
-    steps: &mut Vec<Step>,
+/// Keeps the step or command of a line, if it has one, and the line's number.
+pub fn keep<T: Copy>(
+    kept: &mut Vec<T>,
     numbers: &mut Vec<usize>,
-    step: Option<Step>,
+    named: Option<T>,
     line: usize,
 ) -> Result<(), AllocError>
-    ensures steps { OnOk result (steps.new.items ≡ steps.old.items ++ option_to_list step) }
-    ensures lines { OnOk result (numbers.new.items ≡ numbers.old.items ++ line_of step line) }
+    ensures kept { OnOk result (kept.new.items ≡ kept.old.items ++ option_to_list named) }
+    ensures lines { OnOk result (numbers.new.items ≡ numbers.old.items ++ line_of named line) }
 {
-    let Some(step) = step else {
+    let Some(item) = named else {
         return Ok(());
     };
     numbers.push(line)?;
-    steps.push(step)?;
+    kept.push(item)?;
     Ok(())
 }
 
@@ -114,7 +114,7 @@ pub fn parse_script(
         line += 1;
         match line_step(graph, topology, current) {
             Err(kind) => return Err(error_at(line, kind)),
-            Ok(step) => keep_step(&mut steps, &mut numbers, step, line)?,
+            Ok(step) => keep(&mut steps, &mut numbers, step, line)?,
         }
         rest = after;
     }

@@ -5,3 +5,5 @@ pub mod Records
 pub mod Replays
 pub mod Ends
 pub mod Runs
+pub mod Reports
+pub mod Lived

@@ -19,7 +19,7 @@ use Rattle.ir_script.specs.Script.{Listing}
 use Rattle.ir_trace.specs.Checked.{IsInstall, AreInstalls}
 use Rattle.ir_shell.specs.declared.words.Words.{Words}
 use Rattle.ir_shell.specs.declared.reply.Reply.{Reply}
-use Rattle.ir_shell.specs.Answer.{Answer, Ran, Found, Refused}
+use Rattle.ir_shell.specs.Answer.{Answer, Ran, Found, Refused, NoThread}
 use Rattle.ir_shell.specs.Replies.{answer_of}
 use Rattle.ir_shell.specs.Cut.{topology_part, script_part, EndsWith}
 use Rattle.ir_shell.specs.Openings.{AnswersTopology}
@@ -49,14 +49,15 @@ pub replayed : (net : Network) (kind : Kind) (root room most limit : ℕ) (steps
 replayed net kind root room most limit steps installs is =
     subst (λ (n : Network). AreInstalls n installs) is.opened.network (each_install is.setting installs (plans is.setting is.log) is.built)
 
-by_answer : (g : Adjacency) (words : Words) (script : Listing) (trace : List ℕ) (root : ℕ) (installs : List Install) → AreReplayed g words script root installs →
+by_answer : (g : Adjacency) (words : Words) (script : Listing Step) (trace : List ℕ) (root : ℕ) (installs : List Install) → AreReplayed g words script root installs →
     (answer : Answer) → AnswersTrace g trace installs answer → AnswersCheck g words script trace root answer
 by_answer g words script trace root installs are (Ran text refused) h = (installs, are, h)
 by_answer g words script trace root installs are (Found text) h = (installs, are, h)
 by_answer g words script trace root installs are (Refused line) h = absurd h
+by_answer g words script trace root installs are NoThread h = absurd h
 
 -- the answer to a trace by the installs of a script
-pub by_installs : {E : Type 0} (g : Adjacency) (words : Words) (script : Listing) (trace : List ℕ) (root : ℕ) (installs : List Install) → AreReplayed g words script root installs →
+pub by_installs : {E : Type 0} (g : Adjacency) (words : Words) (script : Listing Step) (trace : List ℕ) (root : ℕ) (installs : List Install) → AreReplayed g words script root installs →
     (result : Result Reply E) → IfOk result (λ reply. AnswersTrace g trace installs (answer_of reply)) → IfOk result (λ reply. AnswersCheck g words script trace root (answer_of reply))
 by_installs g words script trace root installs are (Ok reply) h = by_answer g words script trace root installs are (answer_of reply) h
 by_installs g words script trace root installs are (Err e) h = h

@@ -5,6 +5,7 @@ use Rattle.std.proofs.lemmas.Slice.Zip.{length-zip, get_or-zip}
 use Rattle.std.specs.List.{zip}
 use Rattle.ir_core.specs.declared.event.Reply.{Reply}
 use Rattle.ir_core.specs.declared.event.Refused.{Refused}
+use Rattle.ir_shell.specs.Lives.{refusal_line}
 use Rattle.ir_shell.specs.Plays.{reply_line, refused_text}
 
 -- the pieces of a line that says what is wrong where
@@ -25,3 +26,9 @@ replies_more lines replies i d in_lines in_replies =
 pub replies_all : (lines : List ℕ) (replies : List (Result Reply Refused)) (i : ℕ) → min (length lines) (length replies) ≤ i
     → flat_map reply_line (take i (zip lines replies)) ≡ refused_text lines replies
 replies_all lines replies i past = ap (flat_map reply_line) (take_all i (zip lines replies) (omega (arith, length-zip lines replies)))
+
+-- one more refusal of a command
+pub refusals_more : (lines : List ℕ) (refusals : List (ℕ × Refused)) (i : ℕ) (d : ℕ × Refused) → i < length refusals
+    → flat_map (refusal_line lines) (take i refusals) ++ refusal_line lines (get_or refusals i d) ≡ flat_map (refusal_line lines) (take (i + 1) refusals)
+refusals_more lines refusals i d within =
+    flat_map_more (refusal_line lines) [] (take i refusals) (get_or refusals i d) ∙ ap (flat_map (refusal_line lines)) (sym (take_more refusals i d within))

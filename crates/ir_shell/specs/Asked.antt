@@ -14,6 +14,7 @@ use Rattle.ir_shell.specs.Cut.{topology_part, script_part, EndsWith}
 use Rattle.ir_shell.specs.Openings.{AnswersTopology}
 use Rattle.ir_shell.specs.Looks.{LookAnswers}
 use Rattle.ir_shell.specs.Plays.{AnswersScript}
+use Rattle.ir_shell.specs.Lives.{AnswersLiveScript}
 use Rattle.ir_shell.specs.Checks.{AnswersChecked}
 
 -- the files are the one word `-`
@@ -26,7 +27,7 @@ is_dash (file ∷ other ∷ files) = false
 abbrev pub is_one_input : Words → Bool
 is_one_input words = is_dash (map string_bytes words.files.items)
 
--- the inputs of `plan`, `walk`, `stats` and `draw`, of `sim`, and of `check`, in the order of reading
+-- the inputs of `plan`, `walk`, `stats` and `draw`, of `sim` and `live`, and of `check`, in the order of reading
 abbrev pub look_sources : Words → List Source
 look_sources words = if is_one_input words then Input ∷ [] else Topology ∷ []
 
@@ -43,6 +44,14 @@ SimAnswers words (input ∷ []) answer =
     AnswersTopology words.format (topology_part (lines input)) (AnswersScript words (script_part (lines input))) answer
 SimAnswers words (topology ∷ script ∷ []) answer = AnswersTopology words.format (lines topology) (AnswersScript words (lines script)) answer
 SimAnswers words (text ∷ other ∷ third ∷ texts) answer = ⊥
+
+-- the answers of `live` to the same
+abbrev pub LiveAnswers : Type 0 → Words → List (List ℕ) → Answer → Type 0
+LiveAnswers B words [] answer = ⊥
+LiveAnswers B words (input ∷ []) answer =
+    AnswersTopology words.format (topology_part (lines input)) (AnswersLiveScript B words (script_part (lines input))) answer
+LiveAnswers B words (topology ∷ script ∷ []) answer = AnswersTopology words.format (lines topology) (AnswersLiveScript B words (lines script)) answer
+LiveAnswers B words (text ∷ other ∷ third ∷ texts) answer = ⊥
 
 -- the answers of `check` to one text that is cut into topology, script and trace, or to the three texts
 abbrev pub CheckAnswers : Words → List (List ℕ) → Answer → Type 0

@@ -7,6 +7,7 @@ use Rattle.ir_core.specs.declared.event.OpenError.TheVariants as openings
 use Rattle.ir_core.specs.declared.built.Install.{Install}
 use Rattle.ir_core.specs.Opened.{IsOpenRefusal, open_refused}
 use Rattle.ir_core.specs.Installed.{AreInstalls}
+use Rattle.ir_core.specs.declared.event.Step.{Step}
 use Rattle.ir_script.specs.Script.{Listing, listing_of}
 use Rattle.ir_trace.specs.declared.finding.Finding.{Finding}
 use Rattle.ir_trace.specs.declared.finding.FindingKind.TheVariants.{NoMemory}
@@ -15,7 +16,7 @@ use Rattle.ir_trace.specs.Reading.{IsTrace, Tells}
 use Rattle.ir_trace.specs.Checked.{Finds}
 use Rattle.ir_trace.specs.Sound.{IsSoundTrace}
 use Rattle.ir_shell.specs.declared.words.Words.{Words}
-use Rattle.ir_shell.specs.Answer.{Answer, Ran, Found, Refused}
+use Rattle.ir_shell.specs.Answer.{Answer, Ran, Found, Refused, NoThread}
 use Rattle.ir_shell.specs.Lines.{script_line, opening_line, finding_line, ok_line}
 use Rattle.ir_shell.specs.Openings.{root_name, AnswersRoot}
 
@@ -33,16 +34,17 @@ abbrev pub AnswersTrace : Adjacency → List ℕ → List Install → Answer →
 AnswersTrace g trace installs (Ran text refused) = (count : ℕ) × IsClean g installs trace count × (text ≡ ok_line count) × (refused ≡ [])
 AnswersTrace g trace installs (Found text) = (f : Finding) × (f.kind ≢ NoMemory) × IsFound g installs trace f × (text ≡ finding_line f)
 AnswersTrace g trace installs (Refused line) = ⊥
+AnswersTrace g trace installs NoThread = ⊥
 
 -- the installs are those of the script's steps, in a world that is opened over the network of the graph as the words say
-abbrev pub AreReplayed : Adjacency → Words → Listing → ℕ → List Install → Type 0
+abbrev pub AreReplayed : Adjacency → Words → Listing Step → ℕ → List Install → Type 0
 AreReplayed g words script root installs =
     (open_refused (network_of_graph g) root words.capacity words.packets words.restamps ≡ None)
     × AreInstalls (network_of_graph g) words.kind root words.capacity words.packets words.restamps script.steps installs
 
 -- the answer to a graph, a script, a trace and the number of a root: that of the trace by the script's installs, or the
 -- refusal of the opening
-abbrev pub AnswersCheck : Adjacency → Words → Listing → List ℕ → ℕ → Answer → Type 0
+abbrev pub AnswersCheck : Adjacency → Words → Listing Step → List ℕ → ℕ → Answer → Type 0
 AnswersCheck g words script trace root (Refused line) =
     (e : OpenError) × (e ≢ openings.NoMemory) × IsOpenRefusal (network_of_graph g) root words.capacity words.packets words.restamps e × (line ≡ opening_line e)
 AnswersCheck g words script trace root answer = (installs : List Install) × AreReplayed g words script root installs × AnswersTrace g trace installs answer

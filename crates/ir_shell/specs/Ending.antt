@@ -5,8 +5,8 @@ use Rattle.ir_streams.specs.declared.reading.NoInput.TheVariants as unread
 use Rattle.ir_shell.specs.declared.ending.Ending.{Ending}
 use Rattle.ir_shell.specs.declared.ending.Ending.TheVariants as endings
 use Rattle.ir_shell.specs.declared.read.Source.{Source}
-use Rattle.ir_shell.specs.Answer.{Answer, Ran, Found, Refused, printed}
-use Rattle.ir_shell.specs.Lines.{unreadable_line, too_large_line, unwritable_line, out_of_memory_line}
+use Rattle.ir_shell.specs.Answer.{Answer, Ran, Found, Refused, NoThread, printed}
+use Rattle.ir_shell.specs.Lines.{unreadable_line, too_large_line, unwritable_line, out_of_memory_line, no_thread_line}
 
 -- the exit status
 abbrev pub status_of : Ending → ℕ
@@ -17,6 +17,7 @@ status_of endings.Refused = 1
 status_of endings.Found = 1
 status_of endings.Unwritable = 1
 status_of endings.NoMemory = 3
+status_of endings.NoThread = 3
 
 -- What a run comes to by the answers to its texts. `read` says that these are the texts of all inputs, and `stops` that the
 -- reading stopped at this source, and why. `out` says what the writer of the output was given, and whether it took all of it,
@@ -34,6 +35,7 @@ EndsAs answers endings.Unwritable read stops out unused told =
     (texts : List (List ℕ)) × (answer : Answer) × (text : List ℕ) × read texts × answers texts answer × (printed answer ≡ Some text) × out false text × told unwritable_line
 EndsAs answers endings.NoMemory read stops out unused told =
     (((texts : List (List ℕ)) × read texts) ⊎ ((source : Source) × stops source unread.NoMemory)) × unused × told out_of_memory_line
+EndsAs answers endings.NoThread read stops out unused told = (texts : List (List ℕ)) × read texts × answers texts NoThread × unused × told no_thread_line
 
 -- A run with this status ends in one of the ways that have it.
 abbrev pub Ends : (List (List ℕ) → Answer → Type 0) → ℕ → (read : List (List ℕ) → Type 0) (stops : Source → NoInput → Type 0) (out : Bool → List ℕ → Type 0) (unused : Type 0) (told : List ℕ → Type 0) → Type 0

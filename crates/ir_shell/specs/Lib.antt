@@ -7,6 +7,7 @@ pub mod Openings
 pub mod Plans
 pub mod Looks
 pub mod Plays
+pub mod Lives
 pub mod Checks
 pub mod Asked
 pub mod Replied

@@ -6,6 +6,8 @@ use Rattle.ir_core.specs.declared.event.OpenError.{OpenError}
 use Rattle.ir_core.specs.declared.event.OpenError.TheVariants as openings
 use Rattle.ir_core.specs.declared.event.Refused.{Refused}
 use Rattle.ir_core.specs.declared.event.Refused.TheVariants as steps
+use Rattle.ir_control.specs.declared.error.NetError.{NetError}
+use Rattle.ir_control.specs.declared.error.NetError.TheVariants as nets
 use Rattle.ir_trace.specs.declared.finding.Finding.{Finding}
 use Rattle.ir_trace.specs.declared.finding.FindingKind.{FindingKind}
 use Rattle.ir_trace.specs.declared.finding.FindingKind.TheVariants as findings
@@ -39,6 +41,15 @@ open_error_name openings.Empty = codes "Empty"
 open_error_name openings.Disconnected = codes "Disconnected"
 open_error_name openings.TooLarge = codes "TooLarge"
 open_error_name openings.NoMemory = codes "NoMemory"
+
+abbrev pub net_error_name : NetError → List ℕ
+net_error_name nets.NoNode = codes "NoNode"
+net_error_name nets.Empty = codes "Empty"
+net_error_name nets.Disconnected = codes "Disconnected"
+net_error_name nets.TooLarge = codes "TooLarge"
+net_error_name nets.NoMemory = codes "NoMemory"
+net_error_name nets.TooManyReaders = codes "TooManyReaders"
+net_error_name nets.Used = codes "Used"
 
 abbrev pub refusal_name : Refused → List ℕ
 refusal_name steps.NoNode = codes "NoNode"
@@ -89,6 +100,10 @@ script_line f = numbered_line (codes "script") f.0 (script_fault_name f.1)
 abbrev pub opening_line : OpenError → List ℕ
 opening_line e = codes "opening " ++ open_error_name e ++ 10 ∷ []
 
+-- the same of a net
+abbrev pub net_line : NetError → List ℕ
+net_line e = codes "opening " ++ net_error_name e ++ 10 ∷ []
+
 -- `refused LINE NAME`
 abbrev pub refused_line : ℕ → Refused → List ℕ
 refused_line line e = numbered_line (codes "refused") line (refusal_name e)
@@ -110,3 +125,6 @@ unwritable_line = codes "output unwritable\n"
 
 abbrev pub out_of_memory_line : List ℕ
 out_of_memory_line = codes "out of memory\n"
+
+abbrev pub no_thread_line : List ℕ
+no_thread_line = codes "no thread\n"

@@ -10,7 +10,7 @@ use Rattle.ir_plan.specs.declared.error.PlanError.{PlanError}
 use Rattle.ir_plan.specs.declared.error.PlanError.TheVariants as plans
 use Rattle.ir_core.specs.declared.event.OpenError.{OpenError}
 use Rattle.ir_core.specs.declared.event.OpenError.TheVariants.{NoNode, Empty, Disconnected, TooLarge, NoMemory}
-use Rattle.ir_shell.specs.Answer.{Answer, Ran, Found, Refused}
+use Rattle.ir_shell.specs.Answer.{Answer, Ran, Found, Refused, NoThread}
 use Rattle.ir_shell.specs.Lines.{opening_line}
 
 -- the refusals of a plan, in order
@@ -39,6 +39,7 @@ pub record IsTextOfPlan (g : Adjacency) (kind : Kind) (root : ℕ) (says : Schem
 abbrev pub AnswersText : Adjacency → Kind → ℕ → (Scheme → List ℕ → Type 0) → Answer → Type 0
 AnswersText g kind root says (Ran text refusals) = IsTextOfPlan g kind root says text × (refusals ≡ [])
 AnswersText g kind root says (Found text) = ⊥
+AnswersText g kind root says NoThread = ⊥
 AnswersText g kind root says (Refused line) = (e : OpenError) × RefusesPlan (network_of_graph g) root e × (line ≡ opening_line e)
 
 -- why there is no plan, for an error of its building

@@ -15,15 +15,16 @@ use Rattle.ir_core.specs.State.{State}
 use Rattle.ir_core.specs.Opened.{IsOpenedWith, IsOpenRefusal, open_refused}
 use Rattle.ir_core.specs.Run.{IsPlayed}
 use Rattle.ir_script.specs.declared.script.Script.{Script}
+use Rattle.ir_core.specs.declared.event.Step.{Step}
 use Rattle.ir_script.specs.Script.{Listing, listing_of}
 use Rattle.ir_trace.specs.Written.{records_text, segments_text}
 use Rattle.ir_shell.specs.declared.words.Words.{Words}
-use Rattle.ir_shell.specs.Answer.{Answer, Ran, Found, Refused}
+use Rattle.ir_shell.specs.Answer.{Answer, Ran, Found, Refused, NoThread}
 use Rattle.ir_shell.specs.Lines.{script_line, opening_line, refused_line}
 use Rattle.ir_shell.specs.Openings.{root_name, AnswersRoot}
 
 -- the steps of a script, and beside each the number of its line
-abbrev pub listing_in : Script → Listing
+abbrev pub listing_in : Script → Listing Step
 listing_in script = record { steps = script.steps.items; lines = script.lines.items }
 
 -- want of memory for a step
@@ -47,7 +48,7 @@ run_text restamps nodes net records = if restamps == 0 then records_text nodes n
 
 -- The steps of a script are played in a world that is opened over the network of the graph as the words say, and none
 -- of them wants memory. The text is the trace of the world's records, and the refused lines are those of its replies.
-pub record IsRun (g : Adjacency) (words : Words) (root : ℕ) (script : Listing) (text refused : List ℕ) : Type 0 where
+pub record IsRun (g : Adjacency) (words : Words) (root : ℕ) (script : Listing Step) (text refused : List ℕ) : Type 0 where
   pub setting : Setting
   pub replies : List (Result Reply Refusal)
   pub world : State
@@ -59,9 +60,10 @@ pub record IsRun (g : Adjacency) (words : Words) (root : ℕ) (script : Listing)
   pub told : refused ≡ refused_text script.lines replies
 
 -- the answer to a graph, a script and the number of a root: the script's run, or the refusal of the opening
-abbrev pub AnswersRun : Adjacency → Words → Listing → ℕ → Answer → Type 0
+abbrev pub AnswersRun : Adjacency → Words → Listing Step → ℕ → Answer → Type 0
 AnswersRun g words script root (Ran text refused) = IsRun g words root script text refused
 AnswersRun g words script root (Found text) = ⊥
+AnswersRun g words script root NoThread = ⊥
 AnswersRun g words script root (Refused line) =
     (e : OpenError) × (e ≢ openings.NoMemory) × IsOpenRefusal (network_of_graph g) root words.capacity words.packets words.restamps e × (line ≡ opening_line e)
 

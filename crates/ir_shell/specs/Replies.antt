@@ -2,9 +2,10 @@
 use Rattle.std.specs.Prelude.{string_bytes}
 use Rattle.ir_shell.specs.declared.reply.Reply.{Reply}
 use Rattle.ir_shell.specs.declared.reply.Reply.TheVariants as replies
-use Rattle.ir_shell.specs.Answer.{Answer, Ran, Found, Refused}
+use Rattle.ir_shell.specs.Answer.{Answer, Ran, Found, Refused, NoThread}
 
 abbrev pub answer_of : Reply → Answer
 answer_of (replies.Ran text refusals) = Ran (string_bytes text) (string_bytes refusals)
 answer_of (replies.Found line) = Found (string_bytes line)
 answer_of (replies.Refused line) = Refused (string_bytes line)
+answer_of replies.NoThread = NoThread

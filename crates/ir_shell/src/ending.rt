@@ -15,6 +15,8 @@ pub enum Ending {
     Found,
     Unwritable,
     NoMemory,
+    /// A thread was not started.
+    NoThread,
 }
 
 /// The exit status.
@@ -28,6 +30,6 @@ pub fn status_of(ending: Ending) -> u8
         | Ending::Refused
         | Ending::Found
         | Ending::Unwritable => 1,
-        Ending::NoMemory => 3,
+        Ending::NoMemory | Ending::NoThread => 3,
     }
 }

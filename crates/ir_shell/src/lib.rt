@@ -6,6 +6,8 @@ mod checking;
 mod cut;
 mod ending;
 mod lines;
+mod live;
+mod living;
 mod look;
 mod open;
 mod plan;
@@ -19,7 +21,10 @@ mod words;
 mod write;
 
 pub use check::run_check;
-pub use ir_script::{Script, ScriptError, ScriptFault, parse_script};
+pub use ir_script::{
+    Command, LiveScript, Script, ScriptError, ScriptFault, parse_live, parse_script,
+};
+pub use living::run_live_text;
 pub use planning::{run_draw, run_plan, run_stats, run_walk};
 pub use read::Source;
 pub use sim::run_sim;

@@ -1,10 +1,11 @@
 //! The lines that tell of a refusal, and of an input that was not read.
 ghost use Rattle.std.specs.Prelude.{◌≡◌, ◌++◌, IfOk, OnOk, string_bytes};
-ghost use Rattle.ir_shell.specs.Lines.{finding_name, finding_line, ok_line, fault_name, script_fault_name, open_error_name, refusal_name, topology_line, script_line, opening_line, unreadable_line, too_large_line};
+ghost use Rattle.ir_shell.specs.Lines.{finding_name, finding_line, ok_line, fault_name, script_fault_name, open_error_name, refusal_name, topology_line, script_line, opening_line, unreadable_line, too_large_line, net_error_name, net_line};
 ghost use Rattle.ir_shell.specs.Plays.{reply_line};
 ghost use Rattle.ir_shell.specs.Words.{numbered_line};
 
 use crate::read::Source;
+use ir_control::NetError;
 use ir_core::{OpenError, Refused, Reply};
 use ir_model::Fault;
 use ir_script::ScriptFault;
@@ -83,6 +84,20 @@ fn open_error_name(error: OpenError) -> &'static str
         OpenError::Disconnected => "Disconnected",
         OpenError::TooLarge => "TooLarge",
         OpenError::NoMemory => "NoMemory",
+    }
+}
+
+fn net_error_name(error: NetError) -> &'static str
+    ensures { result.now ≡ net_error_name error }
+{
+    match error {
+        NetError::NoNode => "NoNode",
+        NetError::Empty => "Empty",
+        NetError::Disconnected => "Disconnected",
+        NetError::TooLarge => "TooLarge",
+        NetError::NoMemory => "NoMemory",
+        NetError::TooManyReaders => "TooManyReaders",
+        NetError::Used => "Used",
     }
 }
 
@@ -172,6 +187,14 @@ pub fn opening_line(alloc: Global, error: OpenError) -> Result<String, AllocErro
     ensures { IfOk result (λ text. string_bytes text ≡ opening_line error) }
 {
     let name = open_error_name(error);
+    format!(in alloc; "opening {name}\n")
+}
+
+/// The line of a refused opening of a net.
+pub fn net_line(alloc: Global, error: NetError) -> Result<String, AllocError>
+    ensures { IfOk result (λ text. string_bytes text ≡ net_line error) }
+{
+    let name = net_error_name(error);
     format!(in alloc; "opening {name}\n")
 }
 

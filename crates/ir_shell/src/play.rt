@@ -46,7 +46,7 @@ fn refused_text(
 }
 
 /// The trace of records: that of their segments where packets may be restamped.
-fn run_text(
+pub fn run_text(
     alloc: Global,
     graph: &Graph,
     topology: &Topology,

@@ -19,6 +19,8 @@ pub enum Reply {
     Found(String),
     /// The line that tells why an input is refused.
     Refused(String),
+    /// A thread was not started.
+    NoThread,
 }
 
 /// Writes what the inputs come to.
@@ -29,6 +31,10 @@ pub fn write_reply<W: Writer, F: Writer>(reply: &Reply, output: &mut W, faults: 
         Reply::Refused(line) => {
             tell(faults, line.as_bytes());
             Ending::Refused
+        }
+        Reply::NoThread => {
+            tell(faults, b"no thread\n");
+            Ending::NoThread
         }
         Reply::Found(line) => {
             if write_text(output, line.as_bytes()) {

@@ -26,7 +26,7 @@ pub enum Task {
 }
 
 /// Where the texts are read, in order.
-fn sources_of(task: Task, words: &Words) -> &'static [Source]
+pub fn sources_of(task: Task, words: &Words) -> &'static [Source]
     ensures { result.now ≡ sources_of task words.now }
 {
     if words.is_one_input() {

@@ -26,8 +26,8 @@ pub enum Format {
 }
 
 /// What the words ask for. The files are the one word `-`, which stands for standard input with all texts, or else one
-/// for each text: the topology for `plan`, `walk`, `stats` and `draw`, the topology and the script for `sim`, and the trace
-/// too for `check`. No other number of files is read, and `-` beside another file is refused.
+/// for each text: the topology for `plan`, `walk`, `stats` and `draw`, the topology and the script for `sim` and `live`, and
+/// the trace too for `check`. No other number of files is read, and `-` beside another file is refused.
 #[derive(Drop)]
 pub struct Words {
     pub sub: Sub,
@@ -114,8 +114,13 @@ static STATS_ABOUT: &str =
 
 static DRAW_ABOUT: &str = "Prints a drawing of a topology's plan for Graphviz";
 
+static SIM_ABOUT: &str = "Plays the lines of a script, and prints what became of its packets";
+
+static LIVE_ABOUT: &str =
+    "Plays the lines of a script while each node runs in a thread of its own, and prints what became of its packets";
+
 static SCRIPT_LINES: &str = "\
-Lines of a script:
+Lines of a script ('learn', 'take', 'read' and 'act' are lines of 'sim' alone):
   inject A B          A packet from node A to node B
   drain               Every packet is carried on, round by round, until none moves
   down A B            The link between A and B goes down
@@ -131,6 +136,18 @@ Lines of a script:
   act N               Node N acts on the packet in its hand: delivers it, sends it on or drops it
   # TEXT              A comment, behind a line's words too";
 
+static LIVE_LINES: &str = "\
+Lines of a script:
+  inject A B          A packet from node A to node B
+  drain               Waiting, until every packet has come to its end or a node has stopped
+  down A B            The link between A and B goes down
+  up A B              The link between A and B comes up
+  install tree R      A tree plan from root R over the links that are up becomes the current epoch
+  install shortest R  The same with a plan of shortest ways
+  install compact R   The same with the fewest intervals at each node
+  retire F            The epochs below F are retired
+  # TEXT              A comment, behind a line's words too";
+
 static SIM_USAGE: &str = "route sim [OPTIONS] <TOPOLOGY> <SCRIPT>\n       route sim [OPTIONS] -";
 
 static SIM_FILES: &str = "\
@@ -138,6 +155,17 @@ error: 'route sim' takes the files of a topology and of a script, or '-' alone
 
 Usage: route sim [OPTIONS] <TOPOLOGY> <SCRIPT>
        route sim [OPTIONS] -
+
+For more information, try '--help'.
+";
+
+static LIVE_USAGE: &str = "route live [OPTIONS] <TOPOLOGY> <SCRIPT>\n       route live [OPTIONS] -";
+
+static LIVE_FILES: &str = "\
+error: 'route live' takes the files of a topology and of a script, or '-' alone
+
+Usage: route live [OPTIONS] <TOPOLOGY> <SCRIPT>
+       route live [OPTIONS] -
 
 For more information, try '--help'.
 ";
@@ -239,8 +267,14 @@ fn draw_command<'a>(alloc: Global) -> Result<Command<'a>, AllocError> {
         .arg(to)
 }
 
-/// The command of `sim`.
-fn sim_command<'a>(alloc: Global) -> Result<Command<'a>, AllocError> {
+/// The command of a subcommand that plays a script: its name, what it is about, its usage, and the lines of its scripts.
+fn script_command<'a>(
+    alloc: Global,
+    name: &'a str,
+    about: &'a str,
+    usage: &'a str,
+    lines: &'a str,
+) -> Result<Command<'a>, AllocError> {
     let topology = Arg::new(alloc, "topology")
         .value_name("TOPOLOGY")
         .required(true)
@@ -256,11 +290,11 @@ fn sim_command<'a>(alloc: Global) -> Result<Command<'a>, AllocError> {
         .value_parser(clap::value_parser!(u16).range(0..=3))
         .default_value("0")
         .help("The most restamps of a packet; above 0 the trace has its segments");
-    with_options(alloc, "sim")?
+    with_options(alloc, name)?
         .arg(restamps)?
-        .about("Plays the lines of a script, and prints what became of its packets")
-        .override_usage(SIM_USAGE)
-        .after_help(SCRIPT_LINES)
+        .about(about)
+        .override_usage(usage)
+        .after_help(lines)
         .arg(topology)?
         .arg(script)
 }
@@ -298,7 +332,8 @@ fn route_command<'a>(alloc: Global) -> Result<Command<'a>, AllocError> {
         .subcommand(walk_command(alloc)?)?
         .subcommand(topology_command(alloc, "stats", STATS_ABOUT)?)?
         .subcommand(draw_command(alloc)?)?
-        .subcommand(sim_command(alloc)?)?
+        .subcommand(script_command(alloc, "sim", SIM_ABOUT, SIM_USAGE, SCRIPT_LINES)?)?
+        .subcommand(script_command(alloc, "live", LIVE_ABOUT, LIVE_USAGE, LIVE_LINES)?)?
         .subcommand(check_command(alloc)?)
 }
 
@@ -386,8 +421,8 @@ fn has_its_files(words: &Words) -> bool {
 }
 
 /// What the words behind the program's name ask for. Words that are refused give the text for standard error, `--help` and
-/// `--version` the text for standard output. Refused are also a number of files that the subcommand does not take, `-`
-/// beside another file, and the subcommand that is not there yet: `live`.
+/// `--version` the text for standard output. Refused are also a number of files that the subcommand does not take, and `-`
+/// beside another file.
 pub fn read_words(alloc: Global, words: &[String]) -> Result<Words, WordsError> {
     let mut all: Vec<&str> = Vec::with_capacity(alloc, words.len() + 1)?;
     all.push("route")?;
@@ -403,6 +438,7 @@ pub fn read_words(alloc: Global, words: &[String]) -> Result<Words, WordsError> 
     };
     let (sub, files) = match name {
         "sim" => (Sub::Sim, SIM_FILES),
+        "live" => (Sub::Live, LIVE_FILES),
         "check" => (Sub::Check, CHECK_FILES),
         "walk" => (Sub::Walk, SIM_FILES),
         "stats" => (Sub::Stats, SIM_FILES),

@@ -1,16 +1,20 @@
 //! `route`: interval routing over a network. `route sim` plays the lines of a script over a topology, and prints what
-//! became of its packets; `route check` checks such a print; `route plan` prints the labels and rows of a topology's
-//! nodes, `route walk` a walk of that plan, `route stats` its figures, and `route draw` a drawing of it. With no words it
-//! does as `route sim -`, with both texts from standard input.
+//! became of its packets; `route live` does so while each node runs in a thread of its own; `route check` checks such a
+//! print; `route plan` prints the labels and rows of a topology's nodes, `route walk` a walk of that plan, `route stats`
+//! its figures, and `route draw` a drawing of it. With no words it does as `route sim -`, with both texts from standard
+//! input.
 #![tactic(auto)]
 
 mod input;
 
 use input::open;
 use ir_shell::{
-    Sub, Words, WordsError, read_words, run_check, run_draw, run_plan, run_sim, run_stats, run_walk,
+    Sub, Words, WordsError, read_words, run_check, run_draw, run_live_text, run_plan, run_sim,
+    run_stats, run_walk,
 };
 use std::process::ExitCode;
+use std::sync::Wait;
+use std::thread::Threads;
 use std::{env, io};
 
 /// The words behind the program's name; `sim -` where there are none.
@@ -61,6 +65,33 @@ fn sim(rt: &HostRuntime, words: &Words) -> u8 {
     }
 }
 
+/// Carries out the commands of a script over a topology, while each node runs in a thread of its own, and prints the trace.
+fn live<T: Threads + Wait + Sync>(rt: &HostRuntime, threads: &T, words: &Words) -> u8 {
+    let mut output = rt.stdout();
+    let mut faults = rt.stderr();
+    if words.is_one_input() {
+        let mut inputs = [open(rt, "-")];
+        run_live_text(
+            threads,
+            rt.alloc(),
+            words,
+            &mut inputs,
+            &mut output,
+            &mut faults,
+        )
+    } else {
+        let mut inputs = [open(rt, file(words, 0)), open(rt, file(words, 1))];
+        run_live_text(
+            threads,
+            rt.alloc(),
+            words,
+            &mut inputs,
+            &mut output,
+            &mut faults,
+        )
+    }
+}
+
 /// Checks a trace against a topology and a script.
 fn check(rt: &HostRuntime, words: &Words) -> u8 {
     let mut output = rt.stdout();
@@ -79,13 +110,13 @@ fn check(rt: &HostRuntime, words: &Words) -> u8 {
 }
 
 /// Does what the words ask for.
-fn follow(rt: &HostRuntime, words: &[String]) -> u8 {
+fn follow<T: Threads + Wait + Sync>(rt: &HostRuntime, threads: &T, words: &[String]) -> u8 {
     match read_words(rt.alloc(), words) {
         Ok(words) => match words.sub {
             Sub::Plan | Sub::Walk | Sub::Stats | Sub::Draw => show(rt, &words),
             Sub::Sim => sim(rt, &words),
             Sub::Check => check(rt, &words),
-            Sub::Live => 2,
+            Sub::Live => live(rt, threads, &words),
         },
         Err(WordsError::Usage(text)) => {
             let _told = rt.eprint(text);
@@ -107,7 +138,7 @@ fn follow(rt: &HostRuntime, words: &[String]) -> u8 {
 
 fn main(rt: HostRuntime) -> ExitCode {
     let status = match words(&rt) {
-        Ok(words) => follow(&rt, words.as_slice()),
+        Ok(words) => follow(&rt, &rt, words.as_slice()),
         Err(error) if error.kind() == io::ErrorKind::OutOfMemory => {
             let _told = rt.eprintln("out of memory");
             3

@@ -5,6 +5,7 @@ use Rattle.ir_model.specs.Graph.{names}
 use Rattle.ir_model.specs.Network.{node_count}
 use Rattle.ir_model.specs.OfGraph.{network_of_graph}
 use Rattle.ir_model.specs.Text.{lines}
+use Rattle.ir_script.specs.Command.{line_step}
 use Rattle.ir_script.proofs.Scripts.{read_all}
 use Rattle.ir_script.proofs.StepsWithin.{steps_within}
 use Rattle.ir_script.proofs.script.parse_script.Goals as goal
@@ -17,4 +18,4 @@ returns-clause-within c =
     let count : length (names g) ≡ node_count net = same ∙ sym (ap node_count c.requires) in
     let ended : c.loop-rest.rest.now ≡ [] = nil_from_length c.loop-rest.rest.now (eqb-true _ _ (sym c.is_empty.ensures ∙ c.loop-rest-test.false)) in
     steps_within (names g) net c.nodes-nodes.ensures.network count (lines c.args.text.now) _
-    (read_all (names g) net c.args.text.now c.loop-rest.steps.items c.loop-rest.numbers.items c.loop-rest.line c.loop-rest.rest.now c.loop-rest.invariant ended)
+    (read_all line_step (names g) net c.args.text.now c.loop-rest.steps.items c.loop-rest.numbers.items c.loop-rest.line c.loop-rest.rest.now c.loop-rest.invariant ended)

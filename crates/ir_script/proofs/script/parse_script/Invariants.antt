@@ -1,10 +1,11 @@
 use Rattle.std.proofs.Common.{length}
 use Rattle.ir_model.specs.Graph.{names}
+use Rattle.ir_script.specs.Command.{line_step}
 use Rattle.ir_script.proofs.Scripts.{IsRead}
 use Rattle.ir_script.proofs.script.parse_script.Given as goal
 
 abbrev pub invariant-loop-rest : goal.invariant-loop-rest
-invariant-loop-rest l = IsRead (names l.graph) l.topology l.text l.steps.items l.numbers.items l.line l.rest
+invariant-loop-rest l = IsRead line_step (names l.graph) l.topology l.text l.steps.items l.numbers.items l.line l.rest
 
 abbrev pub decreases-loop-rest : goal.decreases-loop-rest
 decreases-loop-rest l = length l.rest

@@ -1,0 +1,72 @@
+-- What a graph, a root and a script come to as a live run.
+use Rattle.std.specs.Prelude.{◌≡◌, ◌≢◌, ℕ, Bool, true, false, List, None, MatchResult, flat_map, slice_index_or}
+use Rattle.std.specs.List.{list_any}
+use Rattle.ir_model.specs.Graph.{Adjacency, names}
+use Rattle.ir_model.specs.OfGraph.{network_of_graph}
+use Rattle.ir_core.specs.declared.event.Refused.{Refused as Refusal}
+use Rattle.ir_core.specs.declared.event.Refused.TheVariants as refusals
+use Rattle.ir_control.specs.declared.error.NetError.{NetError}
+use Rattle.ir_control.specs.declared.error.NetError.TheVariants as nets
+use Rattle.ir_control.specs.declared.net.Net.{Net}
+use Rattle.ir_control.specs.Nets.{IsNetFor}
+use Rattle.ir_control.specs.Opened.{net_refused, IsNetRefusal}
+use Rattle.ir_live.specs.declared.command.Command.{Command}
+use Rattle.ir_live.specs.declared.live.Live.{Live}
+use Rattle.ir_live.specs.Lives.{IsLive}
+use Rattle.ir_script.specs.declared.live.LiveScript.{LiveScript}
+use Rattle.ir_script.specs.Script.{Listing, live_listing_of}
+use Rattle.ir_shell.specs.declared.words.Words.{Words}
+use Rattle.ir_shell.specs.Answer.{Answer, Ran, Found, Refused, NoThread}
+use Rattle.ir_shell.specs.Lines.{script_line, net_line, refused_line}
+use Rattle.ir_shell.specs.Openings.{root_name, AnswersRoot}
+use Rattle.ir_shell.specs.Plays.{run_text}
+
+-- the commands of a script, and beside each the number of its line
+abbrev pub commands_in : LiveScript → Listing Command
+commands_in script = record { steps = script.commands.items; lines = script.lines.items }
+
+-- want of memory for a command, which stands at a place among the commands
+abbrev pub is_for_memory : ℕ × Refusal → Bool
+is_for_memory (place, refusals.NoMemory) = true
+is_for_memory (place, refusal) = false
+
+-- the line of a command that was refused: the number is that of the command's line
+abbrev pub refusal_line : List ℕ → ℕ × Refusal → List ℕ
+refusal_line lines refusal = refused_line (slice_index_or lines refusal.0 0) refusal.1
+
+-- a line for each command that was refused, in order
+abbrev pub refusals_text : List ℕ → List (ℕ × Refusal) → List ℕ
+refusals_text lines refusals = flat_map (refusal_line lines) refusals
+
+-- A net that is opened over the network of the graph as the words say.
+pub record IsOpenedNet (g : Adjacency) (words : Words) (root : ℕ) (net : Net) : Type 0 where
+  pub accepted : net_refused (network_of_graph g) root words.capacity words.packets words.restamps ≡ None
+  pub opened : IsNetFor (network_of_graph g) words.kind root words.capacity words.packets words.restamps net
+
+-- The commands of a script are carried out over such a net while its nodes turn on threads of their own, and none of them
+-- wants memory. The text is the trace of the records that are reported, and the refused lines are those of the commands
+-- that were refused.
+pub record IsLiveRun (B : Type 0) (g : Adjacency) (words : Words) (root : ℕ) (script : Listing Command) (text refused : List ℕ) : Type 0 where
+  pub net : Net
+  pub live : Live
+  pub opened : IsOpenedNet g words root net
+  pub ran : IsLive B net script.steps live
+  pub in_memory : list_any is_for_memory live.refusals.items ≡ false
+  pub trace : text ≡ run_text words.restamps (names g) (network_of_graph g) live.report.records.items
+  pub told : refused ≡ refusals_text script.lines live.refusals.items
+
+-- the answer to a graph, a script and the number of a root: the script's live run, or the refusal of the opening; or a
+-- thread of a net that was opened was not started
+abbrev pub AnswersLive : Type 0 → Adjacency → Words → Listing Command → ℕ → Answer → Type 0
+AnswersLive B g words script root (Ran text refused) = IsLiveRun B g words root script text refused
+AnswersLive B g words script root (Found text) = ⊥
+AnswersLive B g words script root (Refused line) =
+    (e : NetError) × (e ≢ nets.NoMemory) × IsNetRefusal (network_of_graph g) root words.capacity words.packets words.restamps e × (line ≡ net_line e)
+AnswersLive B g words script root NoThread = (net : Net) × IsOpenedNet g words root net
+
+-- the answer to a graph and the lines of a script: the script's first fault comes before the refusal of the opening
+abbrev pub AnswersLiveScript : Type 0 → Words → List (List ℕ) → Adjacency → Answer → Type 0
+AnswersLiveScript B words script g answer =
+    MatchResult (live_listing_of (names g) (network_of_graph g) script)
+    (λ listing. AnswersRoot g (root_name words) (AnswersLive B g words listing) answer)
+    (λ f. answer ≡ Refused (script_line f))
