@@ -15,8 +15,8 @@ use ir_core::{Hop, Way};
 use ir_epochs::{BoardReader, Receipt, Registry, Stamp};
 use ir_links::{Bound, Sender, Taker};
 use std::alloc::{AllocError, Global};
-use std::sync::{Arc, Wait};
 use std::sync::atomic::{AtomicU32, Ordering};
+use std::sync::{Arc, Wait};
 
 /// What a turn did.
 #[derive(Clone, Copy, Debug, PartialEq, Eq)]
