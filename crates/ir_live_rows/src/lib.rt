@@ -5,3 +5,5 @@
 mod epochs;
 #[cfg(test)]
 mod links;
+#[cfg(test)]
+mod live;
