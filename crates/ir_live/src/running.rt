@@ -1,5 +1,5 @@
 //! A live run.
-ghost use Rattle.std.specs.Prelude.{◌≡◌, IfOk, IfErr, map};
+ghost use Rattle.std.specs.Prelude.{◌≡◌, All, IfOk, IfErr, None, map};
 ghost use Rattle.ir_model.specs.Network.{node_count};
 ghost use Rattle.ir_control.specs.Parts.{AreFirstNodes, IsInjectorOf};
 ghost use Rattle.ir_control.specs.Reports.{IsReport};
@@ -30,7 +30,8 @@ fn stopped(why: NotRun) -> LiveError
 
 // The nodes that came back, unless one had no memory.
 fn all_back(alloc: Global, back: Vec<(Node, Option<NoMemory>)>) -> Result<Vec<Node>, AllocError>
-    ensures { IfOk result (λ nodes. nodes.items ≡ map (λ b. b.0) back.items) }
+    ensures nodes { IfOk result (λ nodes. nodes.items ≡ map (λ b. b.0) back.items) }
+    ensures served { IfOk result (λ _. All (λ b. b.1 ≡ None) back.items) }
 {
     let mut nodes = Vec::with_capacity(alloc, back.len())?;
     for (node, short) in back {

@@ -9,6 +9,8 @@ mod epochs;
 #[cfg(test)]
 mod links;
 #[cfg(test)]
+mod live;
+#[cfg(test)]
 mod nets;
 #[cfg(test)]
 mod turns;
