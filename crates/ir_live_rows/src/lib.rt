@@ -1,5 +1,5 @@
-//! Worked runs of channels, of the registry of plans and of the board, by hand and between threads; and of whole nets by
-//! hand.
+//! Worked runs by hand and between threads: of channels, of the registry of plans and of the board; of whole nets; and of
+//! live runs.
 #![tactic(auto)]
 
 #[cfg(test)]
@@ -12,5 +12,7 @@ mod links;
 mod live;
 #[cfg(test)]
 mod nets;
+#[cfg(test)]
+mod programs;
 #[cfg(test)]
 mod turns;
