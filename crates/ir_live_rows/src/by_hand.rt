@@ -23,7 +23,7 @@ pub struct ByHand<R: Wait + Drop> {
 }
 
 /// The network of a list of edges of weight 1.
-pub fn network(alloc: Global, edges: &[(&str, &str)]) -> Option<Topology> {
+pub(crate) fn network(alloc: Global, edges: &[(&str, &str)]) -> Option<Topology> {
     let mut graph = Graph::new(alloc);
     for (u, v) in edges {
         let Ok(_) = graph.add_edge(u, v, 1) else {
@@ -35,7 +35,7 @@ pub fn network(alloc: Global, edges: &[(&str, &str)]) -> Option<Topology> {
 
 /// A net over the path a, b, c, whose links are a-b and b-c: nodes 0, 1 and 2, links 0 and 1. Its plan is of the tree with
 /// root b.
-pub fn path(alloc: Global, capacity: usize, restamps: u8) -> Option<Net> {
+pub(crate) fn path(alloc: Global, capacity: usize, restamps: u8) -> Option<Net> {
     let topology = network(alloc, &[("a", "b"), ("b", "c")])?;
     Net::new(alloc, topology, Kind::Tree, 1, capacity, 4_096, restamps).ok()
 }
@@ -49,7 +49,7 @@ pub struct Became<'a> {
 }
 
 /// Whether that became of the packet of this id.
-pub fn tells(report: &Report, id: usize, what: Became<'_>) -> bool {
+pub(crate) fn tells(report: &Report, id: usize, what: Became<'_>) -> bool {
     let (Some(record), Some(stamp)) = (report.records.get(id), report.stamps.get(id)) else {
         return false;
     };
@@ -62,7 +62,7 @@ pub fn tells(report: &Report, id: usize, what: Became<'_>) -> bool {
 }
 
 /// One turn of a node.
-pub fn turned<R: Wait>(rt: &R, node: &mut Node) -> Option<Turn>
+pub(crate) fn turned<R: Wait>(rt: &R, node: &mut Node) -> Option<Turn>
     ensures { IsSameNode node.old node.new }
 {
     match node.turn(rt) {
@@ -73,7 +73,7 @@ pub fn turned<R: Wait>(rt: &R, node: &mut Node) -> Option<Turn>
 
 impl<R: Wait + Drop> ByHand<R> {
     /// The net's parts, where they were not handed out before.
-    pub fn of(rt: R, net: Net) -> Option<ByHand<R>> {
+    pub(crate) fn of(rt: R, net: Net) -> Option<ByHand<R>> {
         match net.parts(rt) {
             Ok(Some(parts)) => Some(ByHand { net, parts }),
             _ => None,
@@ -81,7 +81,7 @@ impl<R: Wait + Drop> ByHand<R> {
     }
 
     /// How many nodes are there, and whether the net gives its parts once more.
-    pub fn handed_out<B: Wait + Drop>(&self, rt: B) -> (usize, bool) {
+    pub(crate) fn handed_out<B: Wait + Drop>(&self, rt: B) -> (usize, bool) {
         (
             self.parts.nodes.len(),
             matches!(self.net.parts(rt), Ok(None)),
@@ -89,7 +89,7 @@ impl<R: Wait + Drop> ByHand<R> {
     }
 
     /// One turn of the node at this place.
-    pub fn turn<B: Wait>(&mut self, rt: &B, at: usize) -> Option<Turn> {
+    pub(crate) fn turn<B: Wait>(&mut self, rt: &B, at: usize) -> Option<Turn> {
         if at >= self.parts.nodes.len() {
             return None;
         }
@@ -98,7 +98,7 @@ impl<R: Wait + Drop> ByHand<R> {
     }
 
     /// Whether each of these nodes, one after another, turns as is said beside it.
-    pub fn turns<B: Wait>(&mut self, rt: &B, wanted: &[(usize, Turn)]) -> bool {
+    pub(crate) fn turns<B: Wait>(&mut self, rt: &B, wanted: &[(usize, Turn)]) -> bool {
         for (at, turn) in wanted {
             if self.turn(rt, *at) != Some(*turn) {
                 return false;
@@ -107,14 +107,19 @@ impl<R: Wait + Drop> ByHand<R> {
         true
     }
 
-    pub fn inject<B: Wait>(&mut self, rt: &B, source: u16, dest: u16) -> Result<u32, InjectError>
+    pub(crate) fn inject<B: Wait>(
+        &mut self,
+        rt: &B,
+        source: u16,
+        dest: u16,
+    ) -> Result<u32, InjectError>
         ensures { writer_board self.new.parts.controller.writer ≡ writer_board self.old.parts.controller.writer }
     {
         self.parts.injector.inject(rt, source, dest)
     }
 
     /// The version after a link was marked.
-    pub fn mark(&mut self, link: u16, up: bool) -> Result<u32, ChangeError> {
+    pub(crate) fn mark(&mut self, link: u16, up: bool) -> Result<u32, ChangeError> {
         let answer = if up {
             self.parts.controller.up(link)
         } else {
@@ -126,20 +131,20 @@ impl<R: Wait + Drop> ByHand<R> {
         }
     }
 
-    pub fn install(&mut self, kind: Kind, root: u16) -> Result<Receipt, InstallError>
+    pub(crate) fn install(&mut self, kind: Kind, root: u16) -> Result<Receipt, InstallError>
         ensures { IfOk result (λ t. receipt_board t ≡ writer_board self.new.parts.controller.writer) }
     {
         self.parts.controller.install(kind, root)
     }
 
-    pub fn retire(&mut self, floor: u32) -> Result<Receipt, ChangeError>
+    pub(crate) fn retire(&mut self, floor: u32) -> Result<Receipt, ChangeError>
         ensures { IfOk result (λ t. receipt_board t ≡ writer_board self.new.parts.controller.writer) }
     {
         self.parts.controller.retire(floor)
     }
 
     /// The epoch after an install that the injector learns.
-    pub fn install_and_learn(
+    pub(crate) fn install_and_learn(
         &mut self,
         kind: Kind,
         root: u16,
@@ -156,7 +161,7 @@ impl<R: Wait + Drop> ByHand<R> {
     }
 
     /// The node at this place learns a receipt.
-    pub fn learn(&mut self, at: usize, receipt: &Receipt) -> Option<()>
+    pub(crate) fn learn(&mut self, at: usize, receipt: &Receipt) -> Option<()>
         requires { receipt_board receipt.now ≡ writer_board self.old.parts.controller.writer }
         ensures { writer_board self.new.parts.controller.writer ≡ writer_board self.old.parts.controller.writer }
     {
@@ -169,7 +174,7 @@ impl<R: Wait + Drop> ByHand<R> {
     }
 
     /// Takes away the node at this place.
-    pub fn take_away(&mut self, at: usize) -> Option<Node>
+    pub(crate) fn take_away(&mut self, at: usize) -> Option<Node>
         ensures away { IfSome result (λ n. IsAway self.new.net self.new.parts n) }
         ensures board { writer_board self.new.parts.controller.writer ≡ writer_board self.old.parts.controller.writer }
     {
@@ -180,14 +185,14 @@ impl<R: Wait + Drop> ByHand<R> {
     }
 
     /// Brings a node back, behind the others.
-    pub fn bring_back(&mut self, node: Node) -> Option<()>
+    pub(crate) fn bring_back(&mut self, node: Node) -> Option<()>
         requires { IsAway self.old.net self.old.parts node }
     {
         self.parts.nodes.push(node).ok()
     }
 
     /// The report, or why there is none and all that there was.
-    pub fn finish<B: Wait>(self, rt: &B) -> Result<Report, (FinishError, ByHand<R>)>
+    pub(crate) fn finish<B: Wait>(self, rt: &B) -> Result<Report, (FinishError, ByHand<R>)>
         ensures { IfErr result (λ refused. (refused.1.net ≡ self.net) × (refused.1.parts ≡ self.parts)) }
     {
         let ByHand { net, parts } = self;
