@@ -16,9 +16,12 @@ use std::sync::Wait;
 /// What is wrong first.
 fn found<R: Wait>(rt: &R, alloc: Global) -> Result<(), &'static str> {
     worlds::try_world(alloc)?;
+    worlds::try_full_inbox(alloc)?;
+    worlds::try_full_channel(alloc)?;
     channels::try_channel(rt, alloc)?;
     epochs::try_epochs(rt, alloc)?;
-    nets::try_net(rt, alloc)
+    nets::try_net(rt, alloc)?;
+    nets::try_full_channel(rt, alloc)
 }
 
 fn main(rt: HostRuntime) -> io::Result<()> {

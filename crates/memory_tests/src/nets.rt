@@ -12,18 +12,18 @@ use ir_control::{
 use ir_core::Fate;
 use ir_plan::Kind;
 use ir_tables::Topology;
-use ir_worker::Node;
+use ir_worker::{Node, Turn};
 use std::alloc::Global;
 use std::sync::Wait;
 
-/// A net over a topology.
-fn opened(alloc: Global, topology: &Topology) -> Result<Net, &'static str> {
-    match Net::new(alloc, copy(alloc, topology)?, Kind::Tree, 1, 2, 4, 1) {
+/// A net over a topology, each channel of this capacity.
+fn opened(alloc: Global, topology: &Topology, capacity: usize) -> Result<Net, &'static str> {
+    match Net::new(alloc, copy(alloc, topology)?, Kind::Tree, 1, capacity, 4, 1) {
         Ok(net) => return Ok(net),
         Err(NetError::NoMemory) => {}
         Err(_) => return Err("a net is refused"),
     }
-    match Net::new(alloc, copy(alloc, topology)?, Kind::Tree, 1, 2, 4, 1) {
+    match Net::new(alloc, copy(alloc, topology)?, Kind::Tree, 1, capacity, 4, 1) {
         Ok(net) => Ok(net),
         Err(_) => Err("a net is refused again"),
     }
@@ -33,11 +33,12 @@ fn opened(alloc: Global, topology: &Topology) -> Result<Net, &'static str> {
 fn parted<'a, R: Wait>(
     rt: &'a R,
     alloc: Global,
-    topology: &Topology,
+    capacity: usize,
 ) -> Result<(Net, Parts<&'a R>), &'static str>
     ensures { IfOk result (λ p. AreFreshParts p.0 p.1.nodes.items p.1.injector p.1.controller) }
 {
-    let net = opened(alloc, topology)?;
+    let topology = path(alloc)?;
+    let net = opened(alloc, &topology, capacity)?;
     match net.parts(rt) {
         Ok(Some(parts)) => return Ok((net, parts)),
         Ok(None) => return Err("no parts are given"),
@@ -46,7 +47,7 @@ fn parted<'a, R: Wait>(
     let Ok(None) = net.parts(rt) else {
         return Err("parts that were refused are given");
     };
-    let net = opened(alloc, topology)?;
+    let net = opened(alloc, &topology, capacity)?;
     match net.parts(rt) {
         Ok(Some(parts)) => Ok((net, parts)),
         _ => Err("no other parts are given"),
@@ -97,23 +98,38 @@ fn install<R: Wait>(controller: &mut Controller<&R>) -> Result<(), &'static str>
     }
 }
 
-/// A turn of a node; again, where there was no memory.
+/// Whether a turn answered this.
+fn answered(turn: Turn, wanted: Turn) -> Result<(), &'static str> {
+    if turn == wanted {
+        Ok(())
+    } else {
+        Err("a turn answers something else")
+    }
+}
+
+/// A turn of a node, which answers this; again, where there was no memory, for then nothing was polled.
 #[tactic(auto, using(crate::proofs::Turned::same_again))]
-fn turn<R: Wait>(rt: &R, node: &mut Node) -> Result<(), &'static str>
+fn turn<R: Wait>(rt: &R, node: &mut Node, wanted: Turn) -> Result<(), &'static str>
     ensures { IsSameNode node.old node.new }
 {
     match node.turn(rt) {
-        Ok(_) => return Ok(()),
+        Ok(turn) => return answered(turn, wanted),
         Err(_) => {}
     }
     match node.turn(rt) {
-        Ok(_) => Ok(()),
+        Ok(turn) => answered(turn, wanted),
         Err(_) => Err("a turn is refused again"),
     }
 }
 
-/// A turn of the node of this number.
-fn turn_at<R: Wait>(rt: &R, net: &Net, nodes: &mut Vec<Node>, u: usize) -> Result<(), &'static str>
+/// A turn of the node of this number, which answers this.
+fn turn_at<R: Wait>(
+    rt: &R,
+    net: &Net,
+    nodes: &mut Vec<Node>,
+    u: usize,
+    wanted: Turn,
+) -> Result<(), &'static str>
     requires { AreFirstNodes net.now (node_count net.now.topology) nodes.old.items }
     ensures { AreFirstNodes net.now (node_count net.now.topology) nodes.new.items }
 {
@@ -122,16 +138,22 @@ fn turn_at<R: Wait>(rt: &R, net: &Net, nodes: &mut Vec<Node>, u: usize) -> Resul
         return Err("there is no such node");
     }
     let node = &mut nodes[u];
-    turn(rt, node)
+    turn(rt, node, wanted)
 }
 
-/// Eight turns of each of three nodes.
-fn turns<R: Wait>(rt: &R, net: &Net, nodes: &mut Vec<Node>) -> Result<(), &'static str>
+/// Turns of nodes, each of which answers what stands beside its number.
+fn turns<R: Wait>(
+    rt: &R,
+    net: &Net,
+    nodes: &mut Vec<Node>,
+    wanted: &[(usize, Turn)],
+) -> Result<(), &'static str>
     requires { AreFirstNodes net.now (node_count net.now.topology) nodes.old.items }
     ensures { AreFirstNodes net.now (node_count net.now.topology) nodes.new.items }
 {
-    for k in 0..24 {
-        turn_at(rt, net, nodes, k % 3)?;
+    for k in 0..wanted.len() {
+        let (u, turn) = wanted[k];
+        turn_at(rt, net, nodes, u, turn)?;
     }
     Ok(())
 }
@@ -152,18 +174,25 @@ fn report<R: Wait>(rt: &R, net: &Net, parts: Parts<&R>) -> Result<Report, &'stat
     }
 }
 
-/// Whether a report has two packets that were delivered over three and two nodes.
-fn is_whole(report: &Report) -> bool {
+/// Whether a report has two packets, with so many hops and these fates.
+fn is_report(report: &Report, wanted: [(usize, Fate); 2]) -> Result<(), &'static str> {
     let [first, second] = report.records.as_slice() else {
-        return false;
+        return Err("the report has other packets");
     };
-    let hops = (first.hops.len(), second.hops.len());
-    hops == (3, 2) && first.fate == Fate::Delivered && second.fate == Fate::Delivered
+    if [
+        (first.hops.len(), first.fate),
+        (second.hops.len(), second.fate),
+    ] == wanted
+    {
+        Ok(())
+    } else {
+        Err("the report is another one")
+    }
 }
 
 /// Two packets over a net whose board changes.
 pub fn try_net<R: Wait>(rt: &R, alloc: Global) -> Result<(), &'static str> {
-    let (net, parts) = parted(rt, alloc, &path(alloc)?)?;
+    let (net, parts) = parted(rt, alloc, 2)?;
     let Parts {
         mut nodes,
         mut injector,
@@ -172,15 +201,47 @@ pub fn try_net<R: Wait>(rt: &R, alloc: Global) -> Result<(), &'static str> {
     inject(rt, &net, &mut injector, 0, 2)?;
     install(&mut controller)?;
     inject(rt, &net, &mut injector, 2, 1)?;
-    turns(rt, &net, &mut nodes)?;
+    let wanted = [
+        (0, Turn::Sent(0, 1)),
+        (1, Turn::Idle),
+        (2, Turn::Sent(1, 1)),
+        (0, Turn::Idle),
+        (1, Turn::Sent(0, 2)),
+        (2, Turn::Settled(0)),
+        (1, Turn::Settled(1)),
+    ];
+    turns(rt, &net, &mut nodes, &wanted)?;
     let parts = Parts {
         nodes,
         injector,
         controller,
     };
-    if is_whole(&report(rt, &net, parts)?) {
-        Ok(())
-    } else {
-        Err("the report is another one")
-    }
+    let both = [(3, Fate::Delivered), (2, Fate::Delivered)];
+    is_report(&report(rt, &net, parts)?, both)
+}
+
+/// A packet that waits in a channel, and one that finds it full.
+pub fn try_full_channel<R: Wait>(rt: &R, alloc: Global) -> Result<(), &'static str> {
+    let (net, parts) = parted(rt, alloc, 1)?;
+    let Parts {
+        mut nodes,
+        mut injector,
+        controller,
+    } = parts;
+    inject(rt, &net, &mut injector, 0, 2)?;
+    turns(rt, &net, &mut nodes, &[(0, Turn::Sent(0, 1))])?;
+    inject(rt, &net, &mut injector, 0, 2)?;
+    turns(
+        rt,
+        &net,
+        &mut nodes,
+        &[(0, Turn::Idle), (0, Turn::Settled(1))],
+    )?;
+    let parts = Parts {
+        nodes,
+        injector,
+        controller,
+    };
+    let full = Fate::Full { link: 0, to: 1 };
+    is_report(&report(rt, &net, parts)?, [(1, Fate::Left), (1, full)])
 }

@@ -1,7 +1,7 @@
 //! A world, step by step.
 
 use crate::networks::{copy, path};
-use ir_core::{Event, Fate, OpenError, Refused, World};
+use ir_core::{Event, Fate, OpenError, Refused, Way, World};
 use ir_plan::Kind;
 use ir_tables::Topology;
 use std::alloc::Global;
@@ -36,70 +36,132 @@ fn look_at(world: &World) -> Sight {
     }
 }
 
-/// A world over the path.
-fn opened(alloc: Global, topology: &Topology) -> Result<World, &'static str> {
-    match World::new(alloc, copy(alloc, topology)?, Kind::Tree, 1, 2, 4, 1) {
+/// A world over the path, each channel of this capacity.
+fn opened(alloc: Global, topology: &Topology, capacity: usize) -> Result<World, &'static str> {
+    match World::new(alloc, copy(alloc, topology)?, Kind::Tree, 1, capacity, 4, 1) {
         Ok(world) => return Ok(world),
         Err(OpenError::NoMemory) => {}
         Err(_) => return Err("a world is refused"),
     }
-    match World::new(alloc, copy(alloc, topology)?, Kind::Tree, 1, 2, 4, 1) {
+    match World::new(alloc, copy(alloc, topology)?, Kind::Tree, 1, capacity, 4, 1) {
         Ok(world) => Ok(world),
         Err(_) => Err("a world is refused again"),
     }
 }
 
-/// An event; again, where there was no memory and the world stands as it was.
-fn step(world: &mut World, event: Event) -> Result<(), &'static str> {
+/// Why an event is refused, if it is.
+fn refusal(world: &mut World, event: Event) -> Option<Refused> {
+    world.apply(event).err()
+}
+
+/// An event, refused for this cause alone; again, where there was no memory and the world stands as it was.
+fn step(world: &mut World, event: Event, wanted: Option<Refused>) -> Result<(), &'static str> {
     let before = look_at(world);
-    match world.apply(event) {
-        Ok(_) => return Ok(()),
-        Err(Refused::NoMemory) => {}
-        Err(_) => return Err("an event is refused"),
+    let first = refusal(world, event);
+    if first == wanted {
+        return Ok(());
+    }
+    if first != Some(Refused::NoMemory) {
+        return Err("an event answers something else");
     }
     if look_at(world) != before {
         return Err("a refused event changes the world");
     }
-    match world.apply(event) {
-        Ok(_) => Ok(()),
-        Err(_) => Err("an event is refused again"),
+    if refusal(world, event) == wanted {
+        Ok(())
+    } else {
+        Err("an event answers something else the second time")
     }
 }
 
 /// These events, and then a drain.
-fn play(world: &mut World, events: &[Event]) -> Result<(), &'static str> {
-    for event in events {
-        step(world, *event)?;
+fn play(world: &mut World, events: &[(Event, Option<Refused>)]) -> Result<(), &'static str> {
+    for (event, wanted) in events {
+        step(world, *event, *wanted)?;
     }
     world.drain();
     Ok(())
 }
 
+/// Whether this is seen of a world.
+fn stands(world: &World, wanted: Sight) -> Result<(), &'static str> {
+    if look_at(world) == wanted {
+        Ok(())
+    } else {
+        Err("the world is another one")
+    }
+}
+
 /// Packets over three epochs, one of them after a link was down and up again.
 pub fn try_world(alloc: Global) -> Result<(), &'static str> {
-    let mut world = opened(alloc, &path(alloc)?)?;
-    play(&mut world, &[Event::Inject(0, 2), Event::Inject(2, 1)])?;
-    let install = Event::Install(Kind::Shortest, 0);
-    play(&mut world, &[install, Event::Learn(2), Event::Inject(2, 0)])?;
-    let marks = [Event::Retire(2), Event::Down(1), Event::Up(1)];
-    play(&mut world, &marks)?;
+    let mut world = opened(alloc, &path(alloc)?, 2)?;
     play(
         &mut world,
-        &[
-            Event::Install(Kind::Compact, 2),
-            Event::Learn(3),
-            Event::Inject(1, 2),
-        ],
+        &[(Event::Inject(0, 2), None), (Event::Inject(2, 1), None)],
     )?;
+    let second = [
+        (Event::Install(Kind::Shortest, 0), None),
+        (Event::Learn(2), None),
+        (Event::Inject(2, 0), None),
+    ];
+    play(&mut world, &second)?;
+    let marks = [
+        (Event::Retire(2), None),
+        (Event::Down(1), None),
+        (Event::Down(1), Some(Refused::Same)),
+        (Event::Up(1), None),
+    ];
+    play(&mut world, &marks)?;
+    let third = [
+        (Event::Install(Kind::Compact, 2), None),
+        (Event::Learn(3), None),
+        (Event::Inject(1, 2), None),
+    ];
+    play(&mut world, &third)?;
     let all = Sight {
         packets: 4,
         boards: 6,
         hops: 10,
         delivered: 4,
     };
-    if look_at(&world) == all {
-        Ok(())
-    } else {
-        Err("the world is another one")
-    }
+    stands(&world, all)
+}
+
+/// A full inbox refuses a packet, which it takes when it is empty again.
+pub fn try_full_inbox(alloc: Global) -> Result<(), &'static str> {
+    let mut world = opened(alloc, &path(alloc)?, 1)?;
+    let full = [
+        (Event::Inject(0, 2), None),
+        (Event::Inject(0, 1), Some(Refused::InboxFull)),
+    ];
+    play(&mut world, &full)?;
+    play(&mut world, &[(Event::Inject(0, 1), None)])?;
+    let both = Sight {
+        packets: 2,
+        boards: 1,
+        hops: 5,
+        delivered: 2,
+    };
+    stands(&world, both)
+}
+
+/// A full channel drops a packet.
+pub fn try_full_channel(alloc: Global) -> Result<(), &'static str> {
+    let mut world = opened(alloc, &path(alloc)?, 1)?;
+    let twice = [
+        (Event::Inject(0, 2), None),
+        (Event::Take(0, Way::Inbox), None),
+        (Event::Act(0), None),
+        (Event::Inject(0, 2), None),
+        (Event::Take(0, Way::Inbox), None),
+        (Event::Act(0), None),
+    ];
+    play(&mut world, &twice)?;
+    let one = Sight {
+        packets: 2,
+        boards: 1,
+        hops: 4,
+        delivered: 1,
+    };
+    stands(&world, one)
 }
