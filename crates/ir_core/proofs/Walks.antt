@@ -8,7 +8,8 @@ use Rattle.ir_model.specs.declared.Kind.TheVariants.{Tree, Shortest, Compact}
 use Rattle.ir_model.specs.Network.{Network, node_count, port_at}
 use Rattle.ir_model.specs.Table.{next_node, Continues, IsPrescribedWalk}
 use Rattle.ir_model.specs.Scheme.{Scheme, next_hop, table_port, IsScheme, IsTableOf}
-use Rattle.ir_core.specs.Sound.{last_of, IsPrefixOf}
+use mathlib.Core.List.{IsPrefix}
+use Rattle.ir_core.specs.Sound.{last_of}
 use Rattle.ir_core.specs.State.{IsBeginning, StepsTo}
 
 -- the walk that a table prescribes, step by step
@@ -91,7 +92,7 @@ StepsTo-same t d u v w (h, e, p) (k, f, q) =
     sym p ∙ ap (λ (x : Hop). x.node) same ∙ q
 
 -- a beginning is a prefix of the walk from the same node
-pub prefix : (t : Scheme) (d : ℕ) (hops walk : List ℕ) (u : ℕ) → slice_get hops 0 ≡ Some u → starts_with walk u → IsBeginning t d hops → IsWalk t d walk → IsPrefixOf hops walk
+pub prefix : (t : Scheme) (d : ℕ) (hops walk : List ℕ) (u : ℕ) → slice_get hops 0 ≡ Some u → starts_with walk u → IsBeginning t d hops → IsWalk t d walk → IsPrefix hops walk
 prefix t d [] walk u e s b w = elim b [ ]
 prefix t d (x ∷ hops) [] u e s b w = elim w [ ]
 prefix t d (x ∷ []) (y ∷ walk) u e s b w =

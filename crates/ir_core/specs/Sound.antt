@@ -2,6 +2,7 @@
 -- prescribes.
 use Rattle.std.specs.Prelude.{◌≡◌, ℕ, ◌<◌, ◌≤◌, List, [], ◌∷◌, ◌++◌, length, reverse, Some}
 use Rattle.std.specs.List.{AllByRecursion}
+use mathlib.Core.List.{IsPrefix}
 use Rattle.ir_model.specs.declared.Hop.{Hop}
 use Rattle.ir_model.specs.declared.Kind.{Kind}
 use Rattle.ir_model.specs.declared.Kind.TheVariants.{Tree, Shortest, Compact}
@@ -17,9 +18,6 @@ use Rattle.ir_core.specs.Entry.{Entry}
 use Rattle.ir_core.specs.History as history
 use Rattle.ir_core.specs.Meaning.{plan_of}
 
-abbrev pub IsPrefixOf : List ℕ → List ℕ → Type 0
-IsPrefixOf xs ys = (rest : List ℕ) × (xs ++ rest ≡ ys)
-
 abbrev pub last_of : List ℕ → ℕ
 last_of [] = 0
 last_of (x ∷ []) = x
@@ -31,7 +29,7 @@ LeadsOn t r link node = (h : Hop) × (next_hop t (last_of r.hops) r.dest ≡ Som
 
 -- the walk goes on after the hops, along this link to this node
 abbrev pub GoesOnAlong : Scheme → Journey → List ℕ → ℕ → ℕ → Type 0
-GoesOnAlong t r walk link node = IsPrefixOf (r.hops ++ node ∷ []) walk × LeadsOn t r link node
+GoesOnAlong t r walk link node = IsPrefix (r.hops ++ node ∷ []) walk × LeadsOn t r link node
 
 -- with a kind of shortest ways, the hops weigh the distance from the source to the destination
 abbrev pub WeighsTheDistance : Kind → Scheme → Journey → Type 0
@@ -54,7 +52,7 @@ pub record IsSound (t : Scheme) (r : Journey) : Type 0 where
   pub walk : List ℕ
   pub prescribed : IsPrescribedWalk t.network (table_port t) r.source r.dest walk
   pub not_empty : 0 < length r.hops
-  pub follows : IsPrefixOf r.hops walk
+  pub follows : IsPrefix r.hops walk
   pub fate : FateFits t r walk r.fate
 
 -- Its stamp is an epoch that was installed, and it is sound by that epoch's scheme.

@@ -119,8 +119,8 @@ impl World {
         boards.push(Board::opening())?;
         let mut plans = Vec::with_capacity(alloc, 1)?;
         plans.push(plan)?;
-        let views = first_views(alloc, nodes)?;
-        let hands = empty_hands(alloc, nodes)?;
+        let views = vec![in alloc; 0usize; nodes]?;
+        let hands = vec![in alloc; None; nodes]?;
         let channels = empty_channels(alloc, nodes + 2 * links, capacity)?;
         Ok(World {
             alloc,
@@ -642,26 +642,4 @@ fn empty_channels(alloc: Global, count: usize, room: usize) -> Result<Vec<Queue>
         channels.push(Queue::new(alloc, room)?)?;
     }
     Ok(channels)
-}
-
-fn empty_hands(alloc: Global, count: usize) -> Result<Vec<Option<Held>>, AllocError>
-    ensures { IfOk result (λ v. v.items ≡ replicate count None) }
-{
-    let mut hands = Vec::with_capacity(alloc, count)?;
-    for i in 0..count {
-        let _ = i;
-        hands.push(None)?;
-    }
-    Ok(hands)
-}
-
-fn first_views(alloc: Global, count: usize) -> Result<Vec<usize>, AllocError>
-    ensures { IfOk result (λ v. v.items ≡ replicate count 0) }
-{
-    let mut views = Vec::with_capacity(alloc, count)?;
-    for i in 0..count {
-        let _ = i;
-        views.push(0)?;
-    }
-    Ok(views)
 }

@@ -16,7 +16,8 @@ use Rattle.ir_model.specs.Scheme.{Scheme, table_port, next_hop, IsScheme, IsTabl
 use Rattle.ir_model.proofs.Tables.{prescribed_nearer, prescribed_shortest}
 use Rattle.ir_core.specs.declared.packet.Fate.{Fate}
 use Rattle.ir_core.specs.declared.packet.Fate.TheVariants as fate
-use Rattle.ir_core.specs.Sound.{IsPrefixOf, last_of, IsSound, WeighsTheDistance}
+use mathlib.Core.List.{IsPrefix}
+use Rattle.ir_core.specs.Sound.{last_of, IsSound, WeighsTheDistance}
 use Rattle.ir_core.proofs.Walks.{port_of}
 use Rattle.ir_trace.specs.declared.row.RowFate.{RowFate}
 use Rattle.ir_trace.specs.declared.row.RowFate.TheVariants.{Delivered, Retired, Down, Full, Left}
@@ -65,7 +66,7 @@ module _ (net : Network) (t : Scheme) (is : IsScheme t) (same : t.network.links 
   record Going (u : ℕ) (rest : List ℕ) (v : ℕ) : Type 0 where
     walk : List ℕ
     prescribed : IsPrescribedWalk t.network (table_port t) u d walk
-    prefix : IsPrefixOf ((u ∷ rest) ++ v ∷ []) walk
+    prefix : IsPrefix ((u ∷ rest) ++ v ∷ []) walk
     hop : Hop
     next : next_hop t (last_of (u ∷ rest)) d ≡ Some hop
     node : hop.node ≡ v
@@ -95,7 +96,7 @@ module _ (net : Network) (t : Scheme) (is : IsScheme t) (same : t.network.links 
         ordered = kind.ordered;
       }
 
-  along : (u : ℕ) (rest : List ℕ) (v : ℕ) (g : Going u rest v) → IsPrefixOf (u ∷ rest) g.walk
+  along : (u : ℕ) (rest : List ℕ) (v : ℕ) (g : Going u rest v) → IsPrefix (u ∷ rest) g.walk
   along u rest v g = (v ∷ g.prefix.0, sym (append_assoc (u ∷ rest) (v ∷ []) g.prefix.0) ∙ g.prefix.1)
 
   weighs : (k : Kind) → k ≡ t.kind → (u : ℕ) (rest : List ℕ) → u < node_count t.network → IsPrescribedWalk t.network (table_port t) u d (u ∷ rest) → WeighsTheDistance k t (segment_of id d epoch (u ∷ rest) fate.Delivered)

@@ -8,7 +8,8 @@ use Rattle.ir_model.specs.declared.Hop.{Hop}
 use Rattle.ir_model.specs.Network.{node_count, port_at}
 use Rattle.ir_model.specs.Table.{Continues, IsPrescribedWalk}
 use Rattle.ir_model.specs.Scheme.{Scheme, table_port, IsScheme}
-use Rattle.ir_core.specs.Sound.{last_of, IsPrefixOf}
+use mathlib.Core.List.{IsPrefix}
+use Rattle.ir_core.specs.Sound.{last_of}
 use Rattle.ir_core.proofs.Walks.{no_port_at_home}
 use Rattle.ir_trace.specs.Checked.{IsFrontOfWalk}
 use Rattle.ir_trace.specs.Inspect.{is_node, next_of, leads_through}
@@ -41,7 +42,7 @@ module _ (t : Scheme) (is : IsScheme t) (d : ℕ) (d_in : d < node_count t.netwo
   away : (u v : ℕ) → next_of t u d ≡ Some v → u ≢ d
   away u v e same = none-some v (sym at_home ∙ ap (λ (x : ℕ). next_of t x d) (sym same) ∙ e)
 
-  through : (u : ℕ) (rest walk : List ℕ) → Continues t.network (table_port t) d u walk → leads_through t d u rest ≡ true → IsPrefixOf rest walk
+  through : (u : ℕ) (rest walk : List ℕ) → Continues t.network (table_port t) d u walk → leads_through t d u rest ≡ true → IsPrefix rest walk
   through u [] walk c h = (walk, refl)
   through u (v ∷ rest) [] c h =
       let next : next_of t u d ≡ Some v = node_is (next_of t u d) v (and_parts (is_node (next_of t u d) v) (leads_through t d v rest) h).0 in
@@ -54,7 +55,7 @@ module _ (t : Scheme) (is : IsScheme t) (d : ℕ) (d_in : d < node_count t.netwo
       let later = through v rest walk (subst (λ (x : ℕ). Continues t.network (table_port t) d x walk) (sym same) c.2) both.1 in
       (later.0, ap (λ (x : ℕ). x ∷ (rest ++ later.0)) same ∙ ap (λ (xs : List ℕ). y ∷ xs) later.1)
 
-  back : (u : ℕ) (rest walk : List ℕ) → Continues t.network (table_port t) d u walk → IsPrefixOf rest walk → leads_through t d u rest ≡ true
+  back : (u : ℕ) (rest walk : List ℕ) → Continues t.network (table_port t) d u walk → IsPrefix rest walk → leads_through t d u rest ≡ true
   back u [] walk c h = refl
   back u (v ∷ rest) [] c h = absurd (cc h.1)
   back u (v ∷ rest) (y ∷ walk) c h =
@@ -83,7 +84,7 @@ module _ (t : Scheme) (is : IsScheme t) (d : ℕ) (d_in : d < node_count t.netwo
   pub front_back : (u : ℕ) (rest : List ℕ) → IsFrontOfWalk t d (u ∷ rest) → leads_through t d u rest ≡ true
   front_back u rest f = of_walk f.0 f.1 f.2
     where
-      of_walk : (walk : List ℕ) → IsPrescribedWalk t.network (table_port t) u d walk → IsPrefixOf (u ∷ rest) walk → leads_through t d u rest ≡ true
+      of_walk : (walk : List ℕ) → IsPrescribedWalk t.network (table_port t) u d walk → IsPrefix (u ∷ rest) walk → leads_through t d u rest ≡ true
       of_walk [] p q = absurd p
       of_walk (x ∷ walk) p q = back u rest walk p.1 (q.0, cc q.1)
 

@@ -9,7 +9,8 @@ use Rattle.ir_model.specs.Table.{IsPrescribedWalk}
 use Rattle.ir_model.specs.Scheme.{Scheme, table_port}
 use Rattle.ir_core.specs.declared.built.Install.{Install}
 use Rattle.ir_core.specs.Meaning.{IsMade}
-use Rattle.ir_core.specs.Sound.{IsPrefixOf, last_of}
+use mathlib.Core.List.{IsPrefix}
+use Rattle.ir_core.specs.Sound.{last_of}
 use Rattle.ir_trace.specs.declared.TheConstants.{MAX_SEGMENTS}
 use Rattle.ir_trace.specs.declared.row.RowFate.{RowFate}
 use Rattle.ir_trace.specs.declared.row.RowFate.TheVariants.{Delivered, Retired, Down, Full, Left}
@@ -74,7 +75,7 @@ KnowsEpochs plans parts = (i : ℕ) (part : Part) → slice_get parts i ≡ Some
 -- the hops are a prefix of the walk that the scheme prescribes from the first of them to d
 abbrev pub IsFrontOfWalk : Scheme → ℕ → List ℕ → Type 0
 IsFrontOfWalk t d [] = ⊥
-IsFrontOfWalk t d (u ∷ rest) = (walk : List ℕ) × IsPrescribedWalk t.network (table_port t) u d walk × IsPrefixOf (u ∷ rest) walk
+IsFrontOfWalk t d (u ∷ rest) = (walk : List ℕ) × IsPrescribedWalk t.network (table_port t) u d walk × IsPrefix (u ∷ rest) walk
 
 -- the hops are the whole walk
 abbrev pub IsWholeWalk : Scheme → ℕ → List ℕ → Type 0

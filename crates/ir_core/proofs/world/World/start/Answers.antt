@@ -1,4 +1,4 @@
-use Rattle.std.proofs.Common.{◌≡◌, ◌+◌, ◌*◌, ◌∙◌, ap, ℕ, List, [], ◌∷◌, ◌++◌, map, replicate, arith, length, None}
+use Rattle.std.proofs.Common.{◌≡◌, ◌+◌, ◌*◌, ◌∙◌, ap, ℕ, List, [], ◌∷◌, ◌++◌, map, replicate, arith, length, None, rules}
 use Rattle.ir_model.specs.Network.{node_count}
 use Rattle.ir_model.specs.Scheme.{Scheme}
 use Rattle.ir_core.specs.declared.board.Board.{Board}
@@ -12,8 +12,8 @@ invariant_of-result c =
     let o : Setting = record { network = c.args.topology; first = c.args.plan; capacity = c.args.capacity; max_packets = c.args.max_packets; restamps = c.args.restamps } in
     let boards = c.in_ok-push.ensures.items ∙ ap (λ (l : List Board). l ++ c.opening.result ∷ []) c.in_ok-boards.ensures.items ∙ ap (λ (b : Board). b ∷ []) c.opening.ensures in
     let plans = c.in_ok-push-2.ensures.items ∙ ap (λ (l : List Scheme). l ++ c.args.plan ∷ []) c.in_ok-plans.ensures.items in
-    let views = c.in_ok-views.ensures ∙ ap (λ (n : ℕ). replicate n 0) c.nodes-nodes.ensures.count in
-    let hands = c.in_ok-hands.ensures ∙ ap (λ (n : ℕ). replicate n None) c.nodes-nodes.ensures.count in
+    let views = c.in_ok-views.ensures.items_if_clones_equal (λ y p. p) ∙ ap (λ (n : ℕ). replicate n 0) c.nodes-nodes.ensures.count in
+    let hands = c.in_ok-hands.ensures.items_if_clones_equal (λ y p. search rules) ∙ ap (λ (n : ℕ). replicate n None) c.nodes-nodes.ensures.count in
     let count : c.nodes-nodes.result + 2 * c.links-links.result ≡ node_count c.args.topology + 2 * length c.args.topology.links = omega (arith, c.nodes-nodes.ensures.count, c.links-links.ensures) in
     let channels = c.in_ok-channels.ensures.empty ∙ ap (λ (n : ℕ). replicate n []) count in
     record {
@@ -27,8 +27,8 @@ returns-clause-history c =
     let o : Setting = record { network = c.args.topology; first = c.args.plan; capacity = c.args.capacity; max_packets = c.args.max_packets; restamps = c.args.restamps } in
     let boards = c.in_ok-push.ensures.items ∙ ap (λ (l : List Board). l ++ c.opening.result ∷ []) c.in_ok-boards.ensures.items ∙ ap (λ (b : Board). b ∷ []) c.opening.ensures in
     let plans = c.in_ok-push-2.ensures.items ∙ ap (λ (l : List Scheme). l ++ c.args.plan ∷ []) c.in_ok-plans.ensures.items in
-    let views = c.in_ok-views.ensures ∙ ap (λ (n : ℕ). replicate n 0) c.nodes-nodes.ensures.count in
-    let hands = c.in_ok-hands.ensures ∙ ap (λ (n : ℕ). replicate n None) c.nodes-nodes.ensures.count in
+    let views = c.in_ok-views.ensures.items_if_clones_equal (λ y p. p) ∙ ap (λ (n : ℕ). replicate n 0) c.nodes-nodes.ensures.count in
+    let hands = c.in_ok-hands.ensures.items_if_clones_equal (λ y p. search rules) ∙ ap (λ (n : ℕ). replicate n None) c.nodes-nodes.ensures.count in
     let count : c.nodes-nodes.result + 2 * c.links-links.result ≡ node_count c.args.topology + 2 * length c.args.topology.links = omega (arith, c.nodes-nodes.ensures.count, c.links-links.ensures) in
     let channels = c.in_ok-channels.ensures.empty ∙ ap (λ (n : ℕ). replicate n []) count in
     made_shows o _ (made_is o c.push.new.self.items c.push-2.new.self.items c.in_ok-views.views.items c.in_ok-hands.hands.items (map ids_of c.in_ok-channels.channels.items) c.new.result.items
