@@ -8,6 +8,7 @@ ghost use Rattle.ir_control.specs.Slots.{hit};
 use crate::leaving::Rows;
 use ir_core::Record;
 use ir_epochs::Stamp;
+use ir_links::Remains;
 use ir_worker::{Node, Outcome, Parcel};
 use thiserror::Error;
 
@@ -35,7 +36,7 @@ pub struct Report {
 #[derive(Drop)]
 pub(crate) struct Room {
     pub(crate) rows: Rows,
-    pub(crate) left: Vec<Parcel>,
+    pub(crate) channels: Vec<Remains<Parcel>>,
     pub(crate) slots: Vec<Option<Outcome>>,
     pub(crate) records: Vec<Record>,
     pub(crate) stamps: Vec<Stamp>,

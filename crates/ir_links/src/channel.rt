@@ -234,7 +234,7 @@ impl<T: Bound> Taker<T> {
 /// What was sent is what was taken and then what is left, which is no more than the channel holds, and each item of it
 /// goes to the channel's place.
 pub fn join<T: Bound>(sender: Sender<T>, taker: Taker<T>) -> Remains<T>
-    requires { sender.line ≡ taker.line }
+    requires one { sender.line ≡ taker.line }
     ensures line { result.line ≡ taker.line }
     ensures left { sender.sent ≡ taker.taken ++ result.left }
     ensures room { length result.left ≤ taker.line.capacity }

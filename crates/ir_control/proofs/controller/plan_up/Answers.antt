@@ -1,4 +1,4 @@
-use Rattle.std.proofs.Common.{◌≡◌, ◌∙◌, ℕ, List, Bool, ap, sym, subst, take, Some, None, Err}
+use Rattle.std.proofs.Common.{◌≡◌, ◌∙◌, ℕ, List, Bool, ap, subst, take, Some, None, Err}
 use Rattle.std.specs.Prelude.{IfOk}
 use Rattle.ir_model.specs.Network.{Network, restrict}
 use Rattle.ir_core.specs.Meaning.{IsMade}
