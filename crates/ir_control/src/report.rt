@@ -1,8 +1,6 @@
 //! The report at the end.
-ghost use Rattle.std.specs.Prelude.{◌≡◌, ◌≤◌, ◌<◌, ◌+◌, ◌*◌, [], ℕ, true, false, MatchOption, MatchResult, IfOk, length, sum_by};
-ghost use Rattle.ir_model.specs.Network.{node_count};
+ghost use Rattle.std.specs.Prelude.{◌≡◌, ◌≤◌, ◌<◌, ℕ, true, false, MatchOption, sum_by};
 ghost use Rattle.ir_control.specs.Parts.{node_number};
-ghost use Rattle.ir_control.specs.Places.{way_count};
 ghost use Rattle.ir_control.specs.Slots.{hit};
 
 use crate::leaving::Rows;

@@ -1,5 +1,5 @@
 //! Finishing a net.
-ghost use Rattle.std.specs.Prelude.{◌≡◌, ◌≤◌, ◌<◌, ◌+◌, [], ℕ, MatchOption, MatchResult, IfOk, length, sum_by};
+ghost use Rattle.std.specs.Prelude.{◌≡◌, ◌<◌, ◌+◌, MatchResult, IfOk, length};
 ghost use Rattle.ir_model.specs.Network.{node_count};
 ghost use Rattle.ir_control.specs.Parts.{AreNodesOf, IsInjectorOf};
 ghost use Rattle.ir_control.specs.Places.{way_count};
