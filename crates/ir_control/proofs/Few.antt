@@ -1,6 +1,6 @@
 -- No packet of a report has had more restamps than the net allows.
-use Rattle.std.specs.Prelude.{◌≡◌, ℕ, ◌+◌, ◌<◌, ◌≤◌, Bool, true, false, ltb, cond, List, All, Some, length, slice_get, slice_index_or, sum_by}
-use Rattle.std.proofs.Common.{refl, arith, sym, ap, ◌∙◌, subst}
+use Rattle.std.specs.Prelude.{◌≡◌, ℕ, ◌+◌, ◌≤◌, Bool, true, false, ltb, cond, List, All, length, slice_index_or, sum_by}
+use Rattle.std.proofs.Common.{refl, arith, subst}
 use Rattle.std.proofs.Math.Logic.{∥∥₁_elim}
 use Rattle.std.proofs.Math.Nat.{ℕ_set}
 use Rattle.std.proofs.lemmas.Bool.{ltb-false, ltb-true}

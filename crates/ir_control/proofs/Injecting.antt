@@ -1,5 +1,5 @@
 -- What an accepted packet adds.
-use Rattle.std.specs.Prelude.{◌≡◌, ℕ, ◌<◌, Bool, true, List, [], ◌∷◌, ◌++◌, length, slice_get}
+use Rattle.std.specs.Prelude.{◌≡◌, ℕ, ◌<◌, Bool, List, [], ◌∷◌, ◌++◌, length, slice_get}
 use Rattle.std.proofs.Common.{arith, sym, ap, ◌∙◌, inl, inr}
 use Rattle.std.proofs.lemmas.List.Sums.{sum_by_push, sum_by-set}
 use Rattle.std.proofs.lemmas.Option.{get_or_from_slice_get, slice_get_within}
@@ -23,7 +23,7 @@ numbered_more xs ys a e id_is numbered = λ k b got.
     ]
 
 pub account_more : (before after : List (Sending Place SeenParcel)) (u : ℕ) (x : SeenParcel) (xs ys : List Accepted) (a : Accepted)
-    → SentTo before after u x true → ys ≡ xs ++ a ∷ [] → head_of x.journey ≡ head_at a → ((p : Head → Bool) → times_sent p before ≡ times_injected p xs)
+    → SentTo before after u x → ys ≡ xs ++ a ∷ [] → head_of x.journey ≡ head_at a → ((p : Head → Bool) → times_sent p before ≡ times_injected p xs)
     → (p : Head → Bool) → times_sent p after ≡ times_injected p ys
 account_more before after u x xs ys a sent e same account p =
     let s = sent.0 in

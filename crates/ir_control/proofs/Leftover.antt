@@ -1,10 +1,9 @@
 -- The rows of a whole net.
-use Rattle.std.specs.Prelude.{◌≡◌, ℕ, zero, suc, ◌+◌, ◌*◌, ◌<◌, ◌≤◌, Bool, true, false, ltb, cond, List, [], ◌∷◌, All, Option, Some, None, length, map, sum_by, slice_get, slice_index, slice_index_or}
+use Rattle.std.specs.Prelude.{◌≡◌, ℕ, zero, suc, ◌+◌, ◌<◌, ◌≤◌, Bool, true, false, ltb, cond, List, [], ◌∷◌, All, Option, Some, None, length, map, sum_by, slice_get, slice_index, slice_index_or}
 use Rattle.std.proofs.Common.{refl, arith, sym, ap, ◌∙◌, subst}
 use Rattle.std.proofs.lemmas.Bool.{ltb-false}
 use Rattle.std.proofs.lemmas.Option.{none-some, slice_get-get_or, get_or_from_slice_get, slice_get_within}
 use Rattle.std.proofs.lemmas.List.{length-map}
-use Rattle.std.proofs.lemmas.List.Sums.{sum_by-le}
 use Rattle.ir_model.specs.Network.{node_count}
 use Rattle.ir_links.specs.Ends.{Line, Sending, Taking}
 use Rattle.ir_worker.specs.declared.node.Node.{Node}
@@ -120,14 +119,14 @@ ways_paired net inboxes takers senders rows =
     let b = rows.in_count in
     paired_at net.peers.items net.ways.items senders takers net.ways_are.peers_are (omega (arith, all, n, a)) (omega (arith, all, n, b)) rows.out_lines rows.in_lines
 
--- a way of a net is of the net, and holds what each holds
-way_is : (net : Net) (k : ℕ) (line : Line Place) → slice_get net.ways.items k ≡ Some line → (line.place.opening ≡ net.opening) × (line.capacity ≡ net.capacity) × (line.place.restamps ≡ net.restamps)
+-- a way of a net is of the net
+way_is : (net : Net) (k : ℕ) (line : Line Place) → slice_get net.ways.items k ≡ Some line → (line.place.opening ≡ net.opening) × (line.place.restamps ≡ net.restamps)
 way_is net k line got =
     let lt = slice_get_within net.ways.items k line got in
     let n = net.ways_are.count in
     let at = place_of net.topology k (omega (arith, lt, n)) in
     let is = net.ways_are.out at.0 at.1 at.2 line at.3 (ap (slice_get net.ways.items) (sym at.4) ∙ got) in
-    (ap (λ (p : Place). p.opening) is.place, is.holds, ap (λ (p : Place). p.restamps) is.place)
+    (ap (λ (p : Place). p.opening) is.place, ap (λ (p : Place). p.restamps) is.place)
 
 module _ (net : Net) (n : ℕ) (inboxes takers : List In) (senders : List (Option Out)) (rows : AreRows net n inboxes takers senders) where
   pub inboxes_placed : All (λ (t : In). t.line.place.opening ≡ net.opening) inboxes
@@ -140,20 +139,10 @@ module _ (net : Net) (n : ℕ) (inboxes takers : List In) (senders : List (Optio
   inboxes_limited = all_of_get (λ (t : In). t.line.place.restamps ≡ net.restamps) inboxes (λ k t got. ap (λ (p : Place). p.restamps) (net.inboxes_are.each k t.line (rows.inbox_lines k t got)).place)
 
   pub takers_limited : All (λ (t : In). t.line.place.restamps ≡ net.restamps) takers
-  takers_limited = all_of_get (λ (t : In). t.line.place.restamps ≡ net.restamps) takers (λ k t got. (way_is net (slice_index net.peers.items k) t.line (rows.in_lines k t got)).2)
+  takers_limited = all_of_get (λ (t : In). t.line.place.restamps ≡ net.restamps) takers (λ k t got. (way_is net (slice_index net.peers.items k) t.line (rows.in_lines k t got)).1)
 
-  inboxes_hold : All (λ (t : In). t.line.capacity ≤ net.capacity) inboxes
-  inboxes_hold = all_of_get (λ (t : In). t.line.capacity ≤ net.capacity) inboxes (λ k t got. (let h = (net.inboxes_are.each k t.line (rows.inbox_lines k t got)).holds in omega (arith, h)))
-
-  takers_hold : All (λ (t : In). t.line.capacity ≤ net.capacity) takers
-  takers_hold = all_of_get (λ (t : In). t.line.capacity ≤ net.capacity) takers (λ k t got. (let h = (way_is net (slice_index net.peers.items k) t.line (rows.in_lines k t got)).1 in omega (arith, h)))
-
-  pub rows_hold : n ≡ node_count net.topology → sum_by (λ (t : In). t.line.capacity) inboxes + sum_by (λ (t : In). t.line.capacity) takers ≤ node_count net.topology * net.capacity + way_count net.topology * net.capacity
-  rows_hold is =
-      let a = sum_by-le (λ (t : In). t.line.capacity) net.capacity inboxes inboxes_hold in
-      let b = sum_by-le (λ (t : In). t.line.capacity) net.capacity takers takers_hold in
+  pub rows_count : n ≡ node_count net.topology → length inboxes + length takers ≡ node_count net.topology + way_count net.topology
+  rows_count is =
       let p : length inboxes ≡ node_count net.topology = rows.inbox_count ∙ is in
       let q : length takers ≡ way_count net.topology = rows.in_count ∙ ap (offset net.topology) is ∙ offset_all net.topology in
-      let a_is : length inboxes * net.capacity ≡ node_count net.topology * net.capacity = ap (λ k. k * net.capacity) p in
-      let b_is : length takers * net.capacity ≡ way_count net.topology * net.capacity = ap (λ k. k * net.capacity) q in
-      omega (arith, a, b, a_is, b_is)
+      omega (arith, p, q)

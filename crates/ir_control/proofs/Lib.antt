@@ -6,7 +6,6 @@ pub mod Meetings
 pub mod OfNet
 pub mod Handed
 pub mod Wiring
-pub mod Pairing
 pub mod Once
 pub mod Rowing
 pub mod Telling

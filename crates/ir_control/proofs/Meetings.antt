@@ -1,11 +1,12 @@
 -- Each taker meets its sender, once.
 use Rattle.std.specs.Prelude.{◌≡◌, ℕ, ◌+◌, ◌<◌, ◌≤◌, zero, suc, Bool, true, false, List, [], ◌∷◌, ◌++◌, Option, Some, None, sum_by, length, slice_index, slice_index_or, slice_set, eqb}
-use Rattle.std.proofs.Common.{get_or, refl, arith, ap, ◌∙◌, subst, sym}
+use Rattle.std.proofs.Common.{get_or, refl, arith, ap, ◌∙◌, subst, sym, append_assoc}
+use Rattle.std.proofs.lemmas.List.{append-nil}
 use Rattle.std.proofs.lemmas.Bool.{eqb-true, eqb-false}
 use Rattle.std.proofs.lemmas.List.{length-set, get_or-set_same, get_or-set_other, length_push, get_or_read}
 use Rattle.std.proofs.lemmas.List.Sums.{sum_by_push, sum_by-append, sum_by-set}
-use Rattle.ir_links.specs.Ends.{Line, Sending, Taking}
-use Rattle.ir_control.specs.Slots.{slot_sent, times_in_slots, weight_taken}
+use Rattle.ir_links.specs.Ends.{Line, Sending, Taking, Remaining}
+use Rattle.ir_control.specs.Slots.{slot_sent, times_in_slots, weight_taken, left_in}
 use Rattle.ir_control.specs.Pairs.{ArePaired, slot_line, line_at}
 use Rattle.ir_control.proofs.Sums.{sum_of_none}
 
@@ -153,12 +154,12 @@ module _ {P T : Type 0} where
         (subst (λ (k : ℕ). IsSettling slots_0 takers_0 left_0 peers (slice_set slots (slice_index peers k) None) rest left_1) (sym q_is)
         (settled_one slots_0 takers_0 left_0 peers slots rest t left settling_at x read_at s (sym is) more left_1 sent appended))
 
-  pub room_after : (takers rest : List (Taking P T)) (t : Taking P T) (len room len_1 room_1 : ℕ) → takers ≡ rest ++ t ∷ []
-      → len + sum_by (λ t. t.line.capacity) takers ≤ room → (room_1 ≡ room) × (len_1 ≤ len + t.line.capacity)
-      → len_1 + sum_by (λ t. t.line.capacity) rest ≤ room_1
-  room_after takers rest t len room len_1 room_1 popped fits grown =
-      let sums : sum_by (λ t. t.line.capacity) takers ≡ sum_by (λ t. t.line.capacity) rest + t.line.capacity =
-      ap (sum_by (λ (t : Taking P T). t.line.capacity)) popped ∙ sum_by_push (λ (t : Taking P T). t.line.capacity) rest t in
-      let same = grown.0 in
-      let most = grown.1 in
-      omega (arith, sums, fits, same, most)
+  -- one channel more, and one taker less
+  pub room_after : (takers rest : List (Taking P T)) (t : Taking P T) (len len_1 room : ℕ) → takers ≡ rest ++ t ∷ [] → len + length takers ≤ room → len_1 ≡ len + 1 → len_1 + length rest ≤ room
+  room_after takers rest t len len_1 room popped fits grown =
+      let lengths : length takers ≡ length rest + 1 = ap length popped ∙ length_push rest t in
+      omega (arith, lengths, fits, grown)
+
+  pub left_push : (channels : List (Remaining P T)) (r : Remaining P T) → left_in (channels ++ r ∷ []) ≡ left_in channels ++ r.left
+  left_push [] r = append-nil r.left
+  left_push (c ∷ cs) r = ap (λ (l : List T). c.left ++ l) (left_push cs r) ∙ sym (append_assoc c.left (left_in cs) r.left)

@@ -17,7 +17,7 @@ use Rattle.ir_epochs.specs.declared.entry.Entry.TheVariants.{Opened, Changed}
 use Rattle.ir_epochs.specs.Entries.{IsCurrent, registry_of, network_of, board_of, entered, changed, Fits}
 use Rattle.ir_epochs.specs.Over.{IsOver}
 use Rattle.ir_epochs.specs.Stamps.{knows, registry_name}
-use Rattle.ir_links.specs.Ends.{Sending, WasFull}
+use Rattle.ir_links.specs.Ends.{Sending, Word, WasRefused}
 use Rattle.std.specs.Prelude.{false, All, zero, suc}
 use Rattle.std.proofs.lemmas.List.{set-get_or}
 use Rattle.ir_worker.specs.declared.parcel.Place.{Place}
@@ -25,7 +25,7 @@ use Rattle.ir_worker.specs.Seen.{SeenParcel, IsOfNet, GoesTo, place_of, stamps_o
 use Rattle.ir_control.specs.Whole.{IsParcelOf}
 use Rattle.ir_worker.specs.Account.{lines_out}
 use Rattle.ir_core.specs.Sound.{last_of}
-use Rattle.ir_control.specs.Outs.{AreEntryEnds, SentTo}
+use Rattle.ir_control.specs.Outs.{AreEntryEnds, SentTo, IsSent}
 use Rattle.std.proofs.Math.Seq.{map-set_same}
 
 -- the stamp of a board's current epoch is of the net of the board
@@ -86,7 +86,7 @@ pub lines_kept : (outs : List (Sending Place SeenParcel)) (i : ℕ) (new old : S
 lines_kept outs i new old read same = map-set_same (λ (s : Sending Place SeenParcel). s.line) outs i new old (same ∙ ap (λ (s : Sending Place SeenParcel). s.line) read)
 
 pub sent_by : (outs : List (Sending Place SeenParcel)) (u : ℕ) (s new : Sending Place SeenParcel) (x : SeenParcel) → u < length outs → s ≡ get_or outs u s
-    → new ≡ record s { sent = s.sent ++ x ∷ [] } → SentTo outs (slice_set outs u new) u x true
+    → new ≡ record s { sent = s.sent ++ x ∷ [] } → SentTo outs (slice_set outs u new) u x
 sent_by outs u s new x lt read e = (s, slice_get_read outs (length outs) u s refl lt read, ap (slice_set outs u) e)
 
 -- the links that are up are some of the links
@@ -106,8 +106,8 @@ fits_install o s entries used below epoch registry same network few made = (
       (over_up (knows o).network (board_of entries).up (let n = marks_len entries in omega (arith, few, n)))),
 )
 
--- an end that was full is as it was
-pub not_sent_by : (outs : List (Sending Place SeenParcel)) (u : ℕ) (s new : Sending Place SeenParcel) (x : SeenParcel) → u < length outs → s ≡ get_or outs u s
-    → new ≡ s → WasFull GoesTo s → SentTo outs (slice_set outs u new) u x false
-not_sent_by outs u s new x lt read e full =
+-- an end whose push was refused is as it was
+pub not_sent_by : (was_full : Word SeenParcel) (outs : List (Sending Place SeenParcel)) (u : ℕ) (s new : Sending Place SeenParcel) (x : SeenParcel) → u < length outs → s ≡ get_or outs u s
+    → new ≡ s → WasRefused was_full GoesTo s → IsSent was_full outs (slice_set outs u new) u x false
+not_sent_by was_full outs u s new x lt read e full =
     (ap (slice_set outs u) (e ∙ read) ∙ set-get_or outs u s, (s, slice_get_read outs (length outs) u s refl lt read, full))

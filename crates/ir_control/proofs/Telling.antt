@@ -3,8 +3,8 @@ use Rattle.std.specs.Prelude.{◌≡◌, ℕ, zero, suc, ◌+◌, ◌<◌, ◌�
 use Rattle.std.proofs.Common.{refl, arith, sym, ap, ◌∙◌, subst, get_or, ◌⊎◌, inl, inr}
 use Rattle.std.proofs.lemmas.Bool.{cases_eq}
 use Rattle.std.proofs.lemmas.List.{length-map, get_or_append_left, get_or_push, map-append}
-use Rattle.std.proofs.lemmas.List.Sums.{sum_by_push}
-use Rattle.std.proofs.lemmas.List.Elements.{All-push}
+use Rattle.std.proofs.lemmas.List.Sums.{sum_by_push, sum_by-cons, sum_by-append}
+use Rattle.std.proofs.lemmas.List.Elements.{All-push, All-nil, All-cons, All-head, All-tail}
 
 -- the slots and the rest, with one of the rest in hand
 pub rest_split : {X : Type 0} (f : X → ℕ) (slots before all : ℕ) (items rest : List X) (x : X) → items ≡ rest ++ x ∷ [] → slots + sum_by f items ≡ before + all → slots + (sum_by f rest + f x) ≡ before + all
@@ -23,8 +23,39 @@ fits_now f slots before all m items rest x popped was most =
     let e = ap (sum_by f) popped ∙ sum_by_push f rest x in
     omega (arith, e, was, most)
 
+-- the same, with the first of the rest in hand
+pub head_fits : {X : Type 0} (f : X → ℕ) (slots before all m : ℕ) (items rest : List X) (x : X) → items ≡ x ∷ rest → slots + sum_by f items ≡ before + all → before + all ≤ m → slots + f x ≤ m
+head_fits f slots before all m items rest x taken was most =
+    let e = ap (sum_by f) taken ∙ sum_by-cons f x rest in
+    omega (arith, e, was, most)
+
+pub head_put : {X : Type 0} (f : X → ℕ) (slots slots_1 before all : ℕ) (items rest : List X) (x : X) → items ≡ x ∷ rest → slots + sum_by f items ≡ before + all → slots_1 ≡ slots + f x → slots_1 + sum_by f rest ≡ before + all
+head_put f slots slots_1 before all items rest x taken was put =
+    let e = ap (sum_by f) taken ∙ sum_by-cons f x rest in
+    omega (arith, e, was, put)
+
+-- a channel in hand
+pub part_fits : {X : Type 0} (f : X → ℕ) (slots before all m : ℕ) (items rest part : List X) → items ≡ rest ++ part → slots + sum_by f items ≡ before + all → before + all ≤ m → slots + sum_by f part ≤ m
+part_fits f slots before all m items rest part popped was most =
+    let e = ap (sum_by f) popped ∙ sum_by-append f rest part in
+    omega (arith, e, was, most)
+
+pub part_put : {X : Type 0} (f : X → ℕ) (slots slots_1 before all : ℕ) (items rest part : List X) → items ≡ rest ++ part → slots + sum_by f items ≡ before + all → slots_1 ≡ slots + sum_by f part → slots_1 + sum_by f rest ≡ before + all
+part_put f slots slots_1 before all items rest part popped was put =
+    let e = ap (sum_by f) popped ∙ sum_by-append f rest part in
+    omega (arith, e, was, put)
+
 pub all_back : {X : Type 0} (P : X → Type 0) (items rest : List X) (x : X) → items ≡ rest ++ x ∷ [] → All P rest → P x → All P items
 all_back P items rest x popped all here = subst (All P) (sym popped) (All-push P rest x all here)
+
+-- the first part and the last part of what holds of each
+pub all_first : {X : Type 0} (P : X → Type 0) (xs ys : List X) → All P (xs ++ ys) → All P xs
+all_first P [] ys all = All-nil P
+all_first P (x ∷ xs) ys all = All-cons P x xs (All-head P x (xs ++ ys) all) (all_first P xs ys (All-tail P x (xs ++ ys) all))
+
+pub all_rest : {X : Type 0} (P : X → Type 0) (xs ys : List X) → All P (xs ++ ys) → All P ys
+all_rest P [] ys all = all
+all_rest P (x ∷ xs) ys all = all_rest P xs ys (All-tail P x (xs ++ ys) all)
 
 pub or_any : {A : Type 0} (xs : List A) (k : ℕ) (d e : A) → k < length xs → get_or xs k d ≡ get_or xs k e
 or_any [] k d e lt = absurd (omega (arith, lt))

@@ -4,7 +4,6 @@ use Rattle.ir_epochs.specs.declared.registry.Stamp.{Stamp}
 use Rattle.ir_core.specs.Entry.{fresh}
 use Rattle.ir_control.specs.declared.injector.Injector.{Injector}
 use Rattle.ir_control.specs.Outs.{SentTo}
-use mathlib.Core.Bool.{true}
 
 -- the later of two stamps
 abbrev pub stamp_after_learning : Stamp → Option Stamp → Stamp
@@ -16,4 +15,4 @@ stamp_after_learning s (Some t) = cond (nat_lt s.epoch t.epoch) t s
 pub record IsInjected (before after : Injector) (id source dest : ℕ) : Type 0 where
   pub number : id ≡ length before.accepted.items
   pub accepted : after.accepted.items ≡ before.accepted.items ++ record { id = id; epoch = before.newest.epoch; source = source; dest = dest } ∷ []
-  pub sent : SentTo before.outs.items after.outs.items source (record { journey = fresh id before.newest.epoch source dest; first = before.newest; later = []; next = source }) true
+  pub sent : SentTo before.outs.items after.outs.items source (record { journey = fresh id before.newest.epoch source dest; first = before.newest; later = []; next = source })

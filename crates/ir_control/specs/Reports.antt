@@ -1,5 +1,5 @@
 -- What a report says of the parts of a net.
-use Rattle.std.specs.Prelude.{◌≡◌, ℕ, ◌+◌, ◌*◌, ◌<◌, ◌≤◌, List, [], All, None, length, map, sum_by, slice_index_or, vec_capacity}
+use Rattle.std.specs.Prelude.{◌≡◌, ℕ, ◌+◌, ◌<◌, ◌≤◌, List, [], All, None, length, map, sum_by, slice_index_or, vec_capacity}
 use Rattle.ir_core.specs.declared.packet.Fate.TheVariants.{Left}
 use Rattle.ir_model.specs.Network.{node_count}
 use Rattle.ir_worker.specs.declared.node.Node.{Node}
@@ -20,9 +20,9 @@ use Rattle.ir_control.specs.Slots.{hit}
 use Rattle.ir_control.specs.Told.{Told, told, told_left, IsOutcomeIn}
 
 -- room for a report of so many packets
-pub record HasRoom (n ways capacity m : ℕ) (room : Room) : Type 0 where
+pub record HasRoom (n ways m : ℕ) (room : Room) : Type 0 where
   pub rows : AreEmptyRows n ways room.rows
-  pub left : (room.left.items ≡ []) × (n * capacity + ways * capacity ≤ vec_capacity room.left)
+  pub channels : (room.channels.items ≡ []) × (n + ways ≤ vec_capacity room.channels)
   pub slots_count : length room.slots.items ≡ m
   pub slots_empty : (k : ℕ) → slice_index_or room.slots.items k None ≡ None
   pub records : (room.records.items ≡ []) × (m ≤ vec_capacity room.records)

@@ -1,6 +1,6 @@
 -- Slots that hold something or nothing, and what they weigh.
-use Rattle.std.specs.Prelude.{◌≡◌, ℕ, List, Option, Some, None, cond, sum_by, slice_index_or, ltb, ◌==◌}
-use Rattle.ir_links.specs.Ends.{Sending, Taking}
+use Rattle.std.specs.Prelude.{◌≡◌, ℕ, List, [], ◌∷◌, ◌++◌, Option, Some, None, cond, sum_by, slice_index_or, ltb, ◌==◌}
+use Rattle.ir_links.specs.Ends.{Sending, Taking, Remaining}
 
 -- things weighed, whatever each weighs: so lists are told apart by how often each thing stands in them
 abbrev pub slot_weight : {X : Type 0} → (X → ℕ) → Option X → ℕ
@@ -17,6 +17,11 @@ module _ {P T : Type 0} where
 
   abbrev pub weight_taken : (T → ℕ) → List (Taking P T) → ℕ
   weight_taken w takers = sum_by (λ t. sum_by w t.taken) takers
+
+  -- all that is left in channels, one channel after another
+  abbrev pub left_in : List (Remaining P T) → List T
+  left_in [] = []
+  left_in (r ∷ rs) = r.left ++ left_in rs
 
 -- 1 where the thing has this number
 abbrev pub hit : {X : Type 0} → (X → ℕ) → ℕ → X → ℕ

@@ -1,7 +1,7 @@
 //! The controller: it registers plans and changes the board.
-ghost use Rattle.std.specs.Prelude.{◌≡◌, ◌⊎◌, ◌+◌, ◌<◌, ◌≤◌, ◌∷◌, ◌++◌, [], IfOk, MatchResult, Some, None, Err, length, take};
+ghost use Rattle.std.specs.Prelude.{◌≡◌, ◌⊎◌, ◌+◌, ◌<◌, ◌≤◌, ◌∷◌, ◌++◌, [], IfOk, MatchResult, Some, None, Err, length};
 ghost use Rattle.std.specs.Arc.{arc_value};
-ghost use Rattle.ir_model.specs.Network.{node_count, restrict};
+ghost use Rattle.ir_model.specs.Network.{node_count};
 ghost use Rattle.ir_model.specs.Walk.{IsDisconnected};
 ghost use Rattle.ir_core.specs.declared.TheConstants.{MAX_LINKS, MAX_EPOCHS};
 ghost use Rattle.ir_core.specs.Meaning.{IsMade};
@@ -11,12 +11,10 @@ ghost use Rattle.ir_epochs.specs.declared.entry.Entry.TheVariants.{Opened, Chang
 ghost use Rattle.ir_core.specs.declared.TheConstants.{MAX_CHANGES};
 ghost use Rattle.ir_epochs.specs.Handles.{published, writer_board, told, receipt_board};
 
-use crate::net::{BuildError, plan_over};
-use ir_core::{Board, MAX_CHANGES, MAX_EPOCHS};
+use ir_core::{Board, BuildError, MAX_CHANGES, MAX_EPOCHS, plan_up};
 use ir_epochs::{BoardWriter, Change, Receipt, RegisterError, Registry, Stamp};
 use ir_model::Kind;
 use ir_plan::Plan;
-use ir_tables::Topology;
 use std::alloc::Global;
 use std::sync::{Arc, Wait};
 use thiserror::Error;
@@ -110,28 +108,6 @@ pub struct Controller<R: Wait + Drop> {
     ghost links_are: { links_of (published writer) ≡ length (knows opening).network.links },
     ghost few_links: { length (knows opening).network.links ≤ MAX_LINKS },
     ghost used_up: { ((board_of (published writer)).current ≤ used) × (used ≤ MAX_EPOCHS) },
-}
-
-// The plan of this kind and root over the links that are up in a board.
-fn plan_up(
-    alloc: Global,
-    topology: &Topology,
-    board: &Board,
-    kind: Kind,
-    root: u16,
-) -> Result<Plan, BuildError>
-    requires root { root < node_count topology.now }
-    requires links { length topology.now.links ≤ MAX_LINKS }
-    ensures made { IfOk result (λ p. IsMade kind root (restrict (take (length topology.now.links) board.now.up) topology.now) (Some p)) }
-    ensures disconnected { result ≡ Err BuildError.Disconnected → IsMade kind root (restrict (take (length topology.now.links) board.now.up) topology.now) None }
-{
-    let Ok(up) = board.marks(alloc, topology.links()) else {
-        return Err(BuildError::NoMemory);
-    };
-    let Ok(over) = topology.only(alloc, up.as_slice()) else {
-        return Err(BuildError::NoMemory);
-    };
-    plan_over(alloc, over, kind, root)
 }
 
 impl<R: Wait + Drop> Controller<R> {

@@ -1,20 +1,18 @@
 //! What is left in all channels of a net.
-ghost use Rattle.std.specs.Prelude.{◌≡◌, ◌≤◌, ◌+◌, ℕ, All, sum_by, vec_len, vec_capacity};
+ghost use Rattle.std.specs.Prelude.{◌≡◌, ◌≤◌, ◌+◌, ℕ, All, sum_by, length, vec_len, vec_capacity};
 ghost use Rattle.ir_worker.specs.Seen.{SeenParcel};
 ghost use Rattle.ir_control.specs.Whole.{IsParcelOf, IsFew};
-ghost use Rattle.ir_control.specs.Slots.{times_in_slots, weight_taken};
+ghost use Rattle.ir_control.specs.Slots.{times_in_slots, weight_taken, left_in};
 ghost use Rattle.ir_control.specs.Pairs.{ArePaired};
 
-use crate::settling::settle_all;
+use crate::settling::join_all;
 use ir_epochs::Stamp;
-use ir_links::{Sender, Taker};
+use ir_links::{Remains, Sender, Taker};
 use ir_worker::Parcel;
-use std::sync::Wait;
 
-/// Settles the inboxes, whose senders are the injector's, and then the ways. What was sent is what was taken and what is
-/// left, whatever each parcel weighs.
-pub fn gather<R: Wait>(
-    rt: &R,
+/// Brings the ends of the inboxes together, whose senders are the injector's, and then those of the ways. What was sent is
+/// what was taken and what is left, whatever each parcel weighs.
+pub fn gather(
     opening: &Stamp,
     restamps: u8,
     entries: &[usize],
@@ -23,7 +21,7 @@ pub fn gather<R: Wait>(
     peers: &[usize],
     senders: Vec<Option<Sender<Parcel>>>,
     takers: Vec<Taker<Parcel>>,
-    left: &mut Vec<Parcel>,
+    channels: &mut Vec<Remains<Parcel>>,
 )
     requires entries { ArePaired entries.now injected.items inboxes.items }
     requires ways { ArePaired peers.now senders.items takers.items }
@@ -31,14 +29,14 @@ pub fn gather<R: Wait>(
     requires places { All (λ t. t.line.place.opening ≡ opening.now) takers.items }
     requires limits_in { All (λ t. t.line.place.restamps ≡ restamps) inboxes.items }
     requires limits { All (λ t. t.line.place.restamps ≡ restamps) takers.items }
-    requires of_net { All (λ x. IsParcelOf opening.now x) left.old.items }
-    requires few { All (λ x. IsFew restamps x) left.old.items }
-    requires room { vec_len left.old + (sum_by (λ t. t.line.capacity) inboxes.items + sum_by (λ t. t.line.capacity) takers.items) ≤ vec_capacity left.old }
-    ensures account { (w : SeenParcel → ℕ) → (times_in_slots w injected.items + times_in_slots w senders.items) + sum_by w left.old.items
-        ≡ (weight_taken w inboxes.items + weight_taken w takers.items) + sum_by w left.new.items }
-    ensures of_net { All (λ x. IsParcelOf opening.now x) left.new.items }
-    ensures few { All (λ x. IsFew restamps x) left.new.items }
+    requires of_net { All (λ x. IsParcelOf opening.now x) (left_in channels.old.items) }
+    requires few { All (λ x. IsFew restamps x) (left_in channels.old.items) }
+    requires room { vec_len channels.old + (length inboxes.items + length takers.items) ≤ vec_capacity channels.old }
+    ensures account { (w : SeenParcel → ℕ) → (times_in_slots w injected.items + times_in_slots w senders.items) + sum_by w (left_in channels.old.items)
+        ≡ (weight_taken w inboxes.items + weight_taken w takers.items) + sum_by w (left_in channels.new.items) }
+    ensures of_net { All (λ x. IsParcelOf opening.now x) (left_in channels.new.items) }
+    ensures few { All (λ x. IsFew restamps x) (left_in channels.new.items) }
 {
-    settle_all(rt, opening, restamps, entries, injected, inboxes, left);
-    settle_all(rt, opening, restamps, peers, senders, takers, left);
+    join_all(opening, restamps, entries, injected, inboxes, channels);
+    join_all(opening, restamps, peers, senders, takers, channels);
 }

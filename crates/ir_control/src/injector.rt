@@ -10,13 +10,13 @@ ghost use Rattle.ir_worker.specs.Seen.{IsOfNet};
 ghost use Rattle.ir_control.specs.Whole.{IsParcelOf};
 ghost use Rattle.ir_worker.specs.Account.{Head, times, times_sent, lines_out};
 ghost use Rattle.ir_control.specs.Heads.{times_injected, AreNumbered};
-ghost use Rattle.ir_control.specs.Outs.{AreEntryEnds, SentTo, WasFullAt};
+ghost use Rattle.ir_control.specs.Outs.{AreEntryEnds, IsSent};
 
 use ir_epochs::{Receipt, Registry, Stamp};
-use ir_links::Sender;
+use ir_links::{Moments, Sender};
 use ir_worker::Parcel;
 use std::alloc::Global;
-use std::sync::{Arc, Wait};
+use std::sync::Arc;
 use thiserror::Error;
 
 /// A packet that was accepted: its number, the epoch that it was stamped with, and its ends.
@@ -39,7 +39,7 @@ pub enum InjectError {
     /// A growth was refused.
     #[error("out of memory")]
     NoMemory,
-    /// The inbox of the source had no room at one moment.
+    /// The inbox of the source had no room: the push was refused.
     #[error("the inbox is full")]
     InboxFull,
 }
@@ -83,7 +83,7 @@ pub struct Injector {
 }
 
 // Puts a parcel into an inbox, unless it has no room.
-fn send_to<R: Wait>(
+fn send_to<R: Moments<Parcel>>(
     rt: &R,
     opening: &Stamp,
     restamps: u8,
@@ -97,7 +97,7 @@ fn send_to<R: Wait>(
     requires hops { parcel.journey.hops ≡ node ∷ [] }
     requires stamp { IsParcelOf opening.now parcel }
     requires fresh { parcel.journey.restamps ≡ [] }
-    ensures sent { SentTo outs.old.items outs.new.items node parcel result }
+    ensures sent { IsSent R.was_full outs.old.items outs.new.items node parcel result }
     ensures lines { lines_out outs.new.items ≡ lines_out outs.old.items }
 {
     let _ = opening;
@@ -167,11 +167,16 @@ impl Injector {
     /// were accepted before it. Its stamp is the newest one that was learnt.
     ///
     /// Refused are, in this order: a number that is no node, a packet above the net's limit, want of memory, a full
-    /// inbox. A refusal changes nothing.
-    pub fn inject<R: Wait>(&mut self, rt: &R, source: u16, dest: u16) -> Result<u32, InjectError>
+    /// inbox, where the push of this call was refused. A refusal changes nothing.
+    pub fn inject<R: Moments<Parcel>>(
+        &mut self,
+        rt: &R,
+        source: u16,
+        dest: u16,
+    ) -> Result<u32, InjectError>
         ensures answer { MatchResult result
             (λ id. (inject_refused (node_count (knows self.old.opening).network) self.old.max_packets (length self.old.accepted.items) source dest ≡ None) × IsInjected self.old self.new id source dest)
-            (λ e. IsInjectRefusal self.old source dest e × (self.new.outs.items ≡ self.old.outs.items) × (self.new.accepted.items ≡ self.old.accepted.items)) }
+            (λ e. IsInjectRefusal R.was_full self.old source dest e × (self.new.outs.items ≡ self.old.outs.items) × (self.new.accepted.items ≡ self.old.accepted.items)) }
         ensures same { (self.new.opening ≡ self.old.opening) × (self.new.newest ≡ self.old.newest) × (self.new.max_packets ≡ self.old.max_packets) }
         ensures lines { lines_out self.new.outs.items ≡ lines_out self.old.outs.items }
     {

@@ -1,10 +1,11 @@
 //! What the nodes settled and what is left in the channels.
-ghost use Rattle.std.specs.Prelude.{◌≡◌, ◌≤◌, ◌+◌, ◌*◌, [], ℕ, All, IfOk, length, sum_by, vec_capacity};
+ghost use Rattle.std.specs.Prelude.{◌≡◌, ◌≤◌, ◌+◌, [], All, IfOk, sum_by, vec_capacity};
 ghost use Rattle.ir_model.specs.Network.{node_count};
 ghost use Rattle.ir_worker.specs.Account.{lines_out};
 ghost use Rattle.ir_control.specs.Parts.{AreNodesOf};
 ghost use Rattle.ir_control.specs.Places.{way_count};
 ghost use Rattle.ir_control.specs.Reported.{AreEmptyRows, AreAllThere, IsGathered};
+ghost use Rattle.ir_control.specs.Slots.{left_in};
 ghost use Rattle.ir_control.specs.Told.{IsOutcomeIn};
 ghost use Rattle.ir_control.specs.Whole.{IsParcelOf, IsFew};
 
@@ -13,10 +14,9 @@ use crate::gathering::gather;
 use crate::net::Net;
 use crate::outcomes::empty_slots;
 use crate::placing::place_all;
-use ir_links::{Sender, Taker};
+use ir_links::{Remains, Sender, Taker};
 use ir_worker::{Node, Outcome, Parcel};
 use std::alloc::{AllocError, Global};
-use std::sync::Wait;
 
 /// A slot for each node, and rows for all ends.
 #[derive(Drop)]
@@ -43,25 +43,24 @@ pub(crate) fn empty_rows(alloc: Global, nodes: usize, ways: usize) -> Result<Row
     })
 }
 
-/// Takes all nodes apart and settles all channels: what the nodes settled, and what is left.
-pub(crate) fn left_over<R: Wait>(
-    rt: &R,
+/// Takes all nodes apart and brings the ends of all channels together: what the nodes settled, and what is left.
+pub(crate) fn left_over(
     net: &Net,
     nodes: Vec<Node>,
     injected: Vec<Sender<Parcel>>,
     rows: Rows,
-    left: &mut Vec<Parcel>,
+    channels: &mut Vec<Remains<Parcel>>,
 ) -> Vec<Vec<Outcome>>
     requires nodes { AreNodesOf net.now nodes.items }
     requires all { AreAllThere net.now nodes.items }
     requires injected { lines_out injected.items ≡ net.now.inboxes.items }
     requires rows { AreEmptyRows (node_count net.now.topology) (way_count net.now.topology) rows }
-    requires empty { left.old.items ≡ [] }
-    requires room { node_count net.now.topology * net.now.capacity + way_count net.now.topology * net.now.capacity ≤ vec_capacity left.old }
-    ensures gathered { IsGathered nodes.items injected.items (λ w. sum_by (λ row. sum_by w row.items) result.items) left.new.items }
+    requires empty { channels.old.items ≡ [] }
+    requires room { node_count net.now.topology + way_count net.now.topology ≤ vec_capacity channels.old }
+    ensures gathered { IsGathered nodes.items injected.items (λ w. sum_by (λ row. sum_by w row.items) result.items) (left_in channels.new.items) }
     ensures settled { All (λ row. All (λ o. IsOutcomeIn net.now.opening o) row.items) result.items }
-    ensures left { All (λ x. IsParcelOf net.now.opening x) left.new.items }
-    ensures few { All (λ x. IsFew net.now.restamps x) left.new.items }
+    ensures left { All (λ x. IsParcelOf net.now.opening x) (left_in channels.new.items) }
+    ensures few { All (λ x. IsFew net.now.restamps x) (left_in channels.new.items) }
 {
     let Rows {
         mut slots,
@@ -82,7 +81,6 @@ pub(crate) fn left_over<R: Wait>(
         &mut settled,
     );
     gather(
-        rt,
         &net.opening,
         net.restamps,
         net.entries.as_slice(),
@@ -91,7 +89,7 @@ pub(crate) fn left_over<R: Wait>(
         net.peers.as_slice(),
         senders,
         takers,
-        left,
+        channels,
     );
     settled
 }

@@ -4,7 +4,6 @@ ghost use Rattle.std.specs.Arc.{arc_value};
 ghost use Rattle.ir_model.specs.Network.{node_count};
 ghost use Rattle.ir_model.specs.Walk.{IsDisconnected};
 ghost use Rattle.ir_core.specs.Meaning.{IsMade};
-ghost use Rattle.ir_core.specs.Opened.{is_small};
 ghost use Rattle.ir_core.specs.declared.TheConstants.{MAX_PACKETS, MAX_RESTAMPS};
 ghost use Rattle.ir_control.specs.Places.{offset};
 ghost use Rattle.ir_epochs.specs.Stamps.{IsOf, knows};
@@ -17,11 +16,10 @@ use crate::error::NetError;
 use crate::injector::Injector;
 use crate::parts::{all_ends, ins_of, outs_of};
 use crate::peers::peers_of;
-use ir_core::{MAX_CAPACITY, MAX_LINKS, MAX_NODES, MAX_PACKETS, MAX_RESTAMPS};
+use ir_core::{BuildError, MAX_PACKETS, MAX_RESTAMPS, is_small, plan_over};
 use ir_epochs::{BoardReader, BoardWriter, RegisterError, Registry, Stamp, board};
 use ir_links::{Channel, Sender, Taker};
 use ir_model::Kind;
-use ir_plan::{Plan, PlanError};
 use ir_tables::Topology;
 use ir_worker::{Node, Parcel};
 use std::alloc::{AllocError, Global};
@@ -56,19 +54,6 @@ pub struct Net {
     ghost few_restamps: { restamps ≤ MAX_RESTAMPS },
 }
 
-// Whether the network, the capacity and the number of packets are within the limits.
-fn is_small(topology: &Topology, capacity: usize, max_packets: usize, restamps: u8) -> bool
-    ensures { result ≡ is_small topology.now capacity max_packets restamps }
-{
-    topology.nodes() <= MAX_NODES
-        && topology.links() <= MAX_LINKS
-        && capacity != 0
-        && capacity <= MAX_CAPACITY
-        && max_packets != 0
-        && max_packets <= MAX_PACKETS
-        && restamps as usize <= MAX_RESTAMPS
-}
-
 // Why no net is opened, before any plan is built.
 fn net_refusal(
     topology: &Topology,
@@ -90,33 +75,6 @@ fn net_refusal(
         return Some(NetError::TooLarge);
     }
     None
-}
-
-/// Why there is no plan.
-pub(crate) enum BuildError {
-    Disconnected,
-    NoMemory,
-}
-
-/// The plan of this kind and root over a topology that has the root.
-pub(crate) fn plan_over(
-    alloc: Global,
-    topology: Topology,
-    kind: Kind,
-    root: u16,
-) -> Result<Plan, BuildError>
-    requires { root < node_count topology }
-    ensures made { IfOk result (λ p. IsMade kind root topology (Some p)) }
-    ensures disconnected { result ≡ Err BuildError.Disconnected → IsMade kind root topology None }
-{
-    match Plan::build(alloc, topology, kind, root) {
-        Ok(plan) => Ok(plan),
-        Err((error, _)) => match error {
-            PlanError::Disconnected => Err(BuildError::Disconnected),
-            PlanError::NoMemory => Err(BuildError::NoMemory),
-            PlanError::Empty | PlanError::NoNode => unreachable!(),
-        },
-    }
 }
 
 // A registry whose cell 1 has a plan of this kind and root over all links.

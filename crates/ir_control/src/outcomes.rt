@@ -3,7 +3,7 @@ ghost use Rattle.std.specs.Prelude.{◌≡◌, ◌≤◌, ◌<◌, ◌+◌, [], 
 ghost use Rattle.ir_core.specs.declared.packet.Fate.TheVariants.{Left};
 ghost use Rattle.ir_worker.specs.declared.parcel.Outcome.{Outcome};
 ghost use Rattle.ir_worker.specs.Seen.{SeenParcel};
-ghost use Rattle.ir_control.specs.Slots.{slot_weight, hit, once, AllAt, AllIn};
+ghost use Rattle.ir_control.specs.Slots.{slot_weight, hit, once, AllAt, AllIn, left_in};
 ghost use Rattle.ir_control.specs.Told.{Told, told, told_left, outcome_number, IsOutcomeIn};
 ghost use Rattle.ir_control.specs.Whole.{IsParcelOf};
 
@@ -11,8 +11,10 @@ use crate::net::Net;
 use crate::placing::{Member, place, place_all};
 use ir_core::Record;
 use ir_epochs::Stamp;
+use ir_links::Remains;
 use ir_worker::{Node, Outcome, Parcel};
 use std::alloc::{AllocError, Global};
+use std::sync::Wait;
 
 impl Member for Outcome {
     type Whole = Stamp;
@@ -76,20 +78,50 @@ pub(crate) fn place_rows(
     }
 }
 
-/// Puts what is left of each parcel into the slot of its packet.
-pub(crate) fn place_left(opening: &Stamp, mut left: Vec<Parcel>, slots: &mut Vec<Option<Outcome>>)
+// Puts what is left of each parcel of a channel into the slot of its packet, as it is taken.
+fn place_rest<R: Wait>(
+    rt: &R,
+    opening: &Stamp,
+    mut channel: Remains<Parcel>,
+    slots: &mut Vec<Option<Outcome>>,
+)
     requires at { AllAt outcome_number slots.old.items }
-    requires fits { (i : ℕ) → sum_by (slot_weight (hit outcome_number i)) slots.old.items + sum_by (hit (λ x. x.journey.id) i) left.items ≤ once (length slots.old.items) i }
+    requires fits { (i : ℕ) → sum_by (slot_weight (hit outcome_number i)) slots.old.items + sum_by (hit (λ x. x.journey.id) i) channel.left ≤ once (length slots.old.items) i }
     requires all { AllIn (λ o. IsOutcomeIn opening.now o) slots.old.items }
-    requires belongs { All (λ x. IsParcelOf opening.now x) left.items }
+    requires belongs { All (λ x. IsParcelOf opening.now x) channel.left }
     ensures length { length slots.new.items ≡ length slots.old.items }
     ensures at { AllAt outcome_number slots.new.items }
     ensures all { AllIn (λ o. IsOutcomeIn opening.now o) slots.new.items }
-    ensures weighs { (w : Told → ℕ) → sum_by (slot_weight (λ o. w (told o))) slots.new.items ≡ sum_by (slot_weight (λ o. w (told o))) slots.old.items + sum_by (λ x. w (told_left x)) left.items }
-    ensures fates { All (λ x. x.journey.fate ≡ Left) left.items }
+    ensures weighs { (w : Told → ℕ) → sum_by (slot_weight (λ o. w (told o))) slots.new.items ≡ sum_by (slot_weight (λ o. w (told o))) slots.old.items + sum_by (λ x. w (told_left x)) channel.left }
+    ensures fates { All (λ x. x.journey.fate ≡ Left) channel.left }
 {
-    while let Some(parcel) = left.pop() {
-        place(opening, parcel.into_left(), slots);
+    for _ in rt.forever() {
+        match channel.take(rt) {
+            Some(parcel) => place(opening, parcel.into_left(), slots),
+            None => break,
+        }
+    }
+}
+
+/// Puts what is left of each parcel in the channels into the slot of its packet.
+pub(crate) fn place_left<R: Wait>(
+    rt: &R,
+    opening: &Stamp,
+    mut channels: Vec<Remains<Parcel>>,
+    slots: &mut Vec<Option<Outcome>>,
+)
+    requires at { AllAt outcome_number slots.old.items }
+    requires fits { (i : ℕ) → sum_by (slot_weight (hit outcome_number i)) slots.old.items + sum_by (hit (λ x. x.journey.id) i) (left_in channels.items) ≤ once (length slots.old.items) i }
+    requires all { AllIn (λ o. IsOutcomeIn opening.now o) slots.old.items }
+    requires belongs { All (λ x. IsParcelOf opening.now x) (left_in channels.items) }
+    ensures length { length slots.new.items ≡ length slots.old.items }
+    ensures at { AllAt outcome_number slots.new.items }
+    ensures all { AllIn (λ o. IsOutcomeIn opening.now o) slots.new.items }
+    ensures weighs { (w : Told → ℕ) → sum_by (slot_weight (λ o. w (told o))) slots.new.items ≡ sum_by (slot_weight (λ o. w (told o))) slots.old.items + sum_by (λ x. w (told_left x)) (left_in channels.items) }
+    ensures fates { All (λ x. x.journey.fate ≡ Left) (left_in channels.items) }
+{
+    while let Some(channel) = channels.pop() {
+        place_rest(rt, opening, channel, slots);
     }
 }
 

@@ -1,13 +1,12 @@
 //! The report at the end.
-ghost use Rattle.std.specs.Prelude.{◌≡◌, ◌≤◌, ◌<◌, ◌+◌, ◌*◌, [], ℕ, true, false, MatchOption, MatchResult, IfOk, length, sum_by};
-ghost use Rattle.ir_model.specs.Network.{node_count};
+ghost use Rattle.std.specs.Prelude.{◌≡◌, ◌≤◌, ◌<◌, ℕ, true, false, MatchOption, sum_by};
 ghost use Rattle.ir_control.specs.Parts.{node_number};
-ghost use Rattle.ir_control.specs.Places.{way_count};
 ghost use Rattle.ir_control.specs.Slots.{hit};
 
 use crate::leaving::Rows;
 use ir_core::Record;
 use ir_epochs::Stamp;
+use ir_links::Remains;
 use ir_worker::{Node, Outcome, Parcel};
 use thiserror::Error;
 
@@ -35,7 +34,7 @@ pub struct Report {
 #[derive(Drop)]
 pub(crate) struct Room {
     pub(crate) rows: Rows,
-    pub(crate) left: Vec<Parcel>,
+    pub(crate) channels: Vec<Remains<Parcel>>,
     pub(crate) slots: Vec<Option<Outcome>>,
     pub(crate) records: Vec<Record>,
     pub(crate) stamps: Vec<Stamp>,

@@ -1,5 +1,5 @@
 //! Finishing a net.
-ghost use Rattle.std.specs.Prelude.{◌≡◌, ◌≤◌, ◌<◌, ◌+◌, ◌*◌, [], ℕ, MatchOption, MatchResult, IfOk, length, sum_by};
+ghost use Rattle.std.specs.Prelude.{◌≡◌, ◌<◌, ◌+◌, MatchResult, IfOk, length};
 ghost use Rattle.ir_model.specs.Network.{node_count};
 ghost use Rattle.ir_control.specs.Parts.{AreNodesOf, IsInjectorOf};
 ghost use Rattle.ir_control.specs.Places.{way_count};
@@ -15,28 +15,16 @@ use ir_worker::Node;
 use std::alloc::{AllocError, Global};
 use std::sync::Wait;
 
-// All the memory that a report takes: for so many nodes, ways and packets, where each channel holds so many.
-fn room_for(
-    alloc: Global,
-    nodes: usize,
-    ways: usize,
-    capacity: usize,
-    packets: usize,
-) -> Result<Room, AllocError>
-    ensures { IfOk result (λ room. HasRoom nodes ways capacity packets room) }
+// All the memory that a report takes: for so many nodes, ways and packets.
+fn room_for(alloc: Global, nodes: usize, ways: usize, packets: usize) -> Result<Room, AllocError>
+    ensures { IfOk result (λ room. HasRoom nodes ways packets room) }
 {
-    let Some(inboxes) = nodes.checked_mul(capacity) else {
-        return Err(AllocError);
-    };
-    let Some(most) = ways.checked_mul(capacity) else {
-        return Err(AllocError);
-    };
-    let Some(most) = inboxes.checked_add(most) else {
+    let Some(channels) = nodes.checked_add(ways) else {
         return Err(AllocError);
     };
     Ok(Room {
         rows: empty_rows(alloc, nodes, ways)?,
-        left: Vec::with_capacity(alloc, most)?,
+        channels: Vec::with_capacity(alloc, channels)?,
         slots: empty_slots(alloc, packets)?,
         records: Vec::with_capacity(alloc, packets)?,
         stamps: Vec::with_capacity(alloc, packets)?,
@@ -49,20 +37,20 @@ fn reported<R: Wait>(rt: &R, net: &Net, nodes: Vec<Node>, injector: Injector, ro
     requires nodes { AreNodesOf net.now nodes.items }
     requires all { AreAllThere net.now nodes.items }
     requires injector { IsInjectorOf net.now injector }
-    requires room { HasRoom (node_count net.now.topology) (way_count net.now.topology) net.now.capacity (length injector.accepted.items) room }
+    requires room { HasRoom (node_count net.now.topology) (way_count net.now.topology) (length injector.accepted.items) room }
     ensures { IsReport net.now nodes.items injector result }
 {
     let Room {
         rows,
-        mut left,
+        mut channels,
         mut slots,
         mut records,
         mut stamps,
         mut later,
     } = room;
-    let settled = left_over(rt, net, nodes, injector.into_outs(), rows, &mut left);
+    let settled = left_over(net, nodes, injector.into_outs(), rows, &mut channels);
     place_rows(&net.opening, settled, &mut slots);
-    place_left(&net.opening, left, &mut slots);
+    place_left(rt, &net.opening, channels, &mut slots);
     told_in_order(slots, &mut records, &mut stamps, &mut later);
     Report {
         records,
@@ -93,7 +81,7 @@ pub fn finish<R: Wait, B: Wait + Drop>(
         None => {}
     }
     let packets = parts.injector.count() as usize;
-    let Ok(room) = room_for(net.alloc, count, net.ways.len(), net.capacity, packets) else {
+    let Ok(room) = room_for(net.alloc, count, net.ways.len(), packets) else {
         return Err((FinishError::NoMemory, parts));
     };
     let Parts {

@@ -11,6 +11,7 @@ mod event;
 mod laws;
 mod marks;
 mod packet;
+mod planning;
 mod queue;
 mod run;
 mod verdict;
@@ -22,6 +23,7 @@ pub use event::{Action, Event, OpenError, Refused, Reply, Ruling, Step, Verdict,
 pub use ir_model::{Hop, Kind};
 pub use laws::{epochs_of_installs, without_restamps};
 pub use packet::{Fate, Held, Record, Restamp};
+pub use planning::{BuildError, is_small, plan_over, plan_up};
 pub use run::{Opening, Played, play};
 pub use verdict::{decide, judge};
 pub use world::World;

@@ -1,22 +1,20 @@
 ghost use Rattle.std.specs.Prelude.{◌≡◌, ℕ, ◌+◌, ◌-◌, ◌<◌, ◌≤◌, List, [], ◌∷◌, ◌++◌, length, map, All, replicate, IfOk, IfErr, IfSome, take, slice_get, slice_index, slice_index_or, unwrap_or, option_copied, Some, None};
-ghost use Rattle.ir_model.specs.Network.{node_count, ports_of, restrict};
+ghost use Rattle.ir_model.specs.Network.{ports_of};
 ghost use Rattle.ir_core.specs.declared.TheConstants.{MAX_LINKS, MAX_CHANGES};
 ghost use Rattle.ir_core.specs.declared.event.Way.TheVariants.{Link as WayLink};
-ghost use Rattle.ir_core.specs.Meaning.{IsMade};
-ghost use Rattle.ir_core.specs.Opened.{is_small, open_refused};
+ghost use Rattle.ir_core.specs.Opened.{open_refused};
 ghost use Rattle.ir_core.specs.Setting.{channel_in, channel_of};
 ghost use Rattle.ir_core.specs.Queue.{ids_of, room_of};
 
 use crate::board::Board;
 use crate::event::{Event, OpenError, Refused, Reply, Ruling, Step, Verdict, Way};
 use crate::packet::{Held, Record};
+use crate::planning::{BuildError, is_small, plan_over, plan_up};
 use crate::queue::Queue;
 use crate::verdict::judge;
-use crate::{
-    MAX_CAPACITY, MAX_CHANGES, MAX_EPOCHS, MAX_LINKS, MAX_NODES, MAX_PACKETS, MAX_RESTAMPS,
-};
+use crate::{MAX_CHANGES, MAX_EPOCHS, MAX_LINKS};
 use ir_model::{Hop, Kind};
-use ir_plan::{Plan, PlanError};
+use ir_plan::Plan;
 use ir_tables::Topology;
 use std::alloc::{AllocError, Global};
 use std::marker::Model;
@@ -520,50 +518,6 @@ impl World {
     }
 }
 
-/// Why there is no plan.
-enum BuildError {
-    Disconnected,
-    NoMemory,
-}
-
-/// The plan of this kind and root over a topology that has the root.
-fn plan_over(alloc: Global, topology: Topology, kind: Kind, root: u16) -> Result<Plan, BuildError>
-    requires { root < node_count topology }
-    ensures made { IfOk result (λ p. IsMade kind root topology (Some p)) }
-    ensures disconnected { result ≡ Err BuildError.Disconnected → IsMade kind root topology None }
-{
-    match Plan::build(alloc, topology, kind, root) {
-        Ok(plan) => Ok(plan),
-        Err((error, _)) => match error {
-            PlanError::Disconnected => Err(BuildError::Disconnected),
-            PlanError::NoMemory => Err(BuildError::NoMemory),
-            PlanError::Empty | PlanError::NoNode => unreachable!(),
-        },
-    }
-}
-
-/// The plan of this kind and root over the links that are up in a board.
-fn plan_up(
-    alloc: Global,
-    topology: &Topology,
-    board: &Board,
-    kind: Kind,
-    root: u16,
-) -> Result<Plan, BuildError>
-    requires root { root < node_count topology.now }
-    requires links { length topology.now.links ≤ MAX_LINKS }
-    ensures made { IfOk result (λ p. IsMade kind root (restrict (take (length topology.now.links) board.now.up) topology.now) (Some p)) }
-    ensures disconnected { result ≡ Err BuildError.Disconnected → IsMade kind root (restrict (take (length topology.now.links) board.now.up) topology.now) None }
-{
-    let Ok(up) = board.marks(alloc, topology.links()) else {
-        return Err(BuildError::NoMemory);
-    };
-    let Ok(over) = topology.only(alloc, up.as_slice()) else {
-        return Err(BuildError::NoMemory);
-    };
-    plan_over(alloc, over, kind, root)
-}
-
 /// Why no world is opened, before any plan is built.
 pub(crate) fn open_refusal(
     topology: &Topology,
@@ -585,19 +539,6 @@ pub(crate) fn open_refusal(
         return Some(OpenError::TooLarge);
     }
     None
-}
-
-/// Whether the network, the capacity, the number of packets and that of restamps are within the limits.
-fn is_small(topology: &Topology, capacity: usize, max_packets: usize, restamps: u8) -> bool
-    ensures { result ≡ is_small topology.now capacity max_packets restamps }
-{
-    topology.nodes() <= MAX_NODES
-        && topology.links() <= MAX_LINKS
-        && capacity != 0
-        && capacity <= MAX_CAPACITY
-        && max_packets != 0
-        && max_packets <= MAX_PACKETS
-        && restamps as usize <= MAX_RESTAMPS
 }
 
 /// The number of the channel that a node takes from by this way.

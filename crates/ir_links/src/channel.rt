@@ -4,7 +4,7 @@
 ghost use Rattle.std.specs.Prelude.{◌≡◌, ◌<◌, ◌+◌, ◌≤◌, List, [], ◌∷◌, ◌++◌, length, All, IfOk, IfErr, IfNone, IfSome, None, true, MatchOption, MatchResult, vec_len, vec_capacity};
 ghost use Rattle.crossbeam_queue.specs.Passes.{view as pass_view, IsSamePass, IsPassOf, ruled_capacity};
 ghost use Rattle.ir_links.specs.Ends.{WasFull, WasEmpty, WasRefused, FoundNone};
-ghost use Rattle.ir_links.specs.Rule.{terms_of, known, knows_base, knows_both};
+ghost use Rattle.ir_links.specs.Rule.{terms_of, known, knows_base};
 
 use crate::moments::{Moments, Shared};
 use crate::rule::{Bound, Empties, InOrder, Named, Naming, Roles, View};
@@ -97,6 +97,30 @@ impl<T: Bound> Model for Taker<T> {
 
     ghost invariant = { λ s. IsPassOf (arc_value s.shared).queue s.pass
         × (pass_view s.pass ≡ knows_taken (arc_value s.shared).place (ruled_capacity (arc_value s.shared).queue) (pass_view s.pass).taken) };
+}
+
+/// What is left of a channel whose two ends were brought together. Contracts see the channel's `Line`, and the list of
+/// the items that it still holds, oldest first.
+#[derive(Drop)]
+pub struct Remains<T: Bound> {
+    shared: Arc<Shared<T>, Global>,
+    pass: Pass<T, View<T, T::Place>>,
+}
+
+impl<T: Bound> Model for Remains<T> {
+    ghost use Rattle.std.specs.Prelude.{◌≡◌, ◌++◌, length, drop};
+    ghost use Rattle.std.specs.Arc.{arc_value};
+    ghost use Rattle.crossbeam_queue.specs.Passes.{view as pass_view, IsPassOf, ruled_capacity};
+    ghost use Rattle.ir_links.specs.Ends.{Remaining};
+    ghost use Rattle.ir_links.specs.Rule.{knows_both};
+
+    ghost Value = { Remaining T.Place T };
+
+    ghost view = { λ r. record { line = record { name = r.pass.table_id; place = (arc_value r.shared).place; capacity = ruled_capacity (arc_value r.shared).queue }; left = drop (length (pass_view r.pass).taken) (pass_view r.pass).sent } };
+
+    ghost invariant = { λ r. IsPassOf (arc_value r.shared).queue r.pass
+        × (pass_view r.pass ≡ knows_both (arc_value r.shared).place (ruled_capacity (arc_value r.shared).queue) (pass_view r.pass).sent (pass_view r.pass).taken)
+        × ((pass_view r.pass).sent ≡ (pass_view r.pass).taken ++ drop (length (pass_view r.pass).taken) (pass_view r.pass).sent) };
 }
 
 // Tells the rule where the channel leads and how much it holds.
@@ -205,25 +229,37 @@ impl<T: Bound> Taker<T> {
     }
 }
 
-// Pops until nothing is left.
-fn empty<T: Bound, R: Wait>(
-    rt: &R,
-    shared: &Shared<T>,
-    pass: &mut Pass<T, View<T, T::Place>>,
-    into: &mut Vec<T>,
-)
-    requires queue { IsPassOf shared.now.queue pass.old }
-    requires knows { pass_view pass.old ≡ knows_both shared.now.place (ruled_capacity shared.now.queue) (pass_view pass.old).sent (pass_view pass.old).taken }
-    requires room { vec_len into.old + ruled_capacity shared.now.queue ≤ vec_capacity into.old }
-    ensures left { (left : List T) × (into.new.items ≡ into.old.items ++ left) × ((pass_view pass.old).sent ≡ (pass_view pass.old).taken ++ left) × All (λ x. T.goes_to x shared.now.place) left }
-    ensures room { (vec_capacity into.new ≡ vec_capacity into.old) × (vec_len into.new ≤ vec_len into.old + ruled_capacity shared.now.queue) }
+/// Brings the two ends of a channel together, for what is left in it. It takes no memory.
+///
+/// What was sent is what was taken and then what is left, which is no more than the channel holds, and each item of it
+/// goes to the channel's place.
+pub fn join<T: Bound>(sender: Sender<T>, taker: Taker<T>) -> Remains<T>
+    requires one { sender.line ≡ taker.line }
+    ensures line { result.line ≡ taker.line }
+    ensures left { sender.sent ≡ taker.taken ++ result.left }
+    ensures room { length result.left ≤ taker.line.capacity }
+    ensures goes { All (λ x. T.goes_to x taker.line.place) result.left }
 {
-    shared.queue.learn_as::<Empties>(pass);
-    for _ in rt.forever() {
-        match shared.queue.pop_as::<Empties, R>(rt, pass) {
-            Some(item) => into.push_reserved(item),
-            None => break,
-        }
+    let Sender {
+        shared: _,
+        mut pass,
+    } = sender;
+    let Taker {
+        shared,
+        pass: taking,
+    } = taker;
+    shared.queue.absorb::<Roles>(&mut pass, taking);
+    shared.queue.learn_as::<Empties>(&mut pass);
+    Remains { shared, pass }
+}
+
+impl<T: Bound> Remains<T> {
+    /// Takes the oldest item that is left, or none where nothing is left.
+    pub fn take<R: Wait>(&mut self, rt: &R) -> Option<T>
+        ensures left { MatchOption result ((self.old.left ≡ []) × (self.new ≡ self.old)) (λ item. self.old.left ≡ item ∷ self.new.left) }
+        ensures line { self.new.line ≡ self.old.line }
+    {
+        self.shared.queue.pop_as::<Empties, R>(rt, &mut self.pass)
     }
 }
 
@@ -237,16 +273,13 @@ pub fn settle_into<T: Bound, R: Wait>(rt: &R, sender: Sender<T>, taker: Taker<T>
     ensures left { (left : List T) × (into.new.items ≡ into.old.items ++ left) × (sender.sent ≡ taker.taken ++ left) × All (λ x. T.goes_to x taker.line.place) left }
     ensures room { (vec_capacity into.new ≡ vec_capacity into.old) × (vec_len into.new ≤ vec_len into.old + taker.line.capacity) }
 {
-    let Sender {
-        shared: _,
-        mut pass,
-    } = sender;
-    let Taker {
-        shared,
-        pass: taking,
-    } = taker;
-    shared.queue.absorb::<Roles>(&mut pass, taking);
-    empty(rt, &shared, &mut pass, into);
+    let mut remains = join(sender, taker);
+    for _ in rt.forever() {
+        match remains.take(rt) {
+            Some(item) => into.push_reserved(item),
+            None => break,
+        }
+    }
 }
 
 /// What is left in the channel, oldest first, by the account of `settle_into`.

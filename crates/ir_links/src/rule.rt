@@ -134,14 +134,14 @@ pub struct Empties;
 
 impl<T: Bound> Outcome<T, View<T, T::Place>> for Empties {
     ghost use Rattle.std.specs.Prelude.{◌≡◌, List, ◌++◌, ◌∷◌};
-    ghost use Rattle.ir_links.specs.Rule.{after_take, Goes};
+    ghost use Rattle.ir_links.specs.Rule.{after_take};
 
-    ghost then = { λ v x w. (w ≡ after_take v x) × Goes T.goes_to v x × ((rest : List T) × (v.sent ≡ v.taken ++ x ∷ rest)) };
+    ghost then = { λ v x w. (w ≡ after_take v x) × ((rest : List T) × (v.sent ≡ v.taken ++ x ∷ rest)) };
 }
 
 impl<T: Bound> Lesson<T, View<T, T::Place>> for Empties {
     ghost use Rattle.std.specs.Prelude.{◌≡◌, ◌++◌};
-    ghost use Rattle.ir_links.specs.Rule.{FitsIn};
+    ghost use Rattle.ir_links.specs.Rule.{FitsIn, GoBy};
 
-    ghost fact = { λ v items. (v.sent ≡ v.taken ++ items) × FitsIn v items };
+    ghost fact = { λ v items. (v.sent ≡ v.taken ++ items) × FitsIn v items × GoBy T.goes_to v.terms items };
 }

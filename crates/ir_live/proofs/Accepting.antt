@@ -3,7 +3,9 @@ use Rattle.std.specs.Prelude.{◌≡◌, ℕ, ◌+◌, List, [], ◌∷◌, ◌+
 use Rattle.std.proofs.Common.{refl, sym, ap, ◌∙◌, subst, append-nil, append_assoc, length-append}
 use Rattle.ir_epochs.specs.declared.registry.Stamp.{Stamp}
 use Rattle.ir_epochs.specs.declared.entry.Change.{Change}
+use Rattle.ir_links.specs.Ends.{Word}
 use Rattle.ir_worker.specs.Account.{lines_out}
+use Rattle.ir_worker.specs.Seen.{SeenParcel}
 use Rattle.ir_control.specs.declared.net.Net.{Net}
 use Rattle.ir_control.specs.declared.injector.Injector.{Injector}
 use Rattle.ir_control.specs.declared.injector.Accepted.{Accepted}
@@ -42,15 +44,15 @@ learnt before after s is = record {
   newest = ap (λ (t : Stamp). t.epoch) is.newest ∙ later_epoch before.newest s;
 }
 
-injected : (source dest : ℕ) (before after : Injector) (answer : Answer) → IsInjectAnswer source dest before answer after → IsSameInjector before after → after.newest ≡ before.newest →
+injected : (was_full : Word SeenParcel) (source dest : ℕ) (before after : Injector) (answer : Answer) → IsInjectAnswer was_full source dest before answer after → IsSameInjector before after → after.newest ≡ before.newest →
     Kept before after (accepted_by (length before.accepted.items) before.newest.epoch (Inject source dest) answer) (epoch_after before.newest.epoch answer)
-injected source dest before after (Ok (Some s)) is same newest = absurd is
-injected source dest before after (Ok None) is same newest = record {
+injected was_full source dest before after (Ok (Some s)) is same newest = absurd is
+injected was_full source dest before after (Ok None) is same newest = record {
   same = same;
   accepted = is.1.1.accepted ∙ ap (λ (id : ℕ). before.accepted.items ++ record { id = id; epoch = before.newest.epoch; source = source; dest = dest } ∷ []) is.1.1.number;
   newest = ap (λ (s : Stamp). s.epoch) newest;
 }
-injected source dest before after (Err why) is same newest = record {
+injected was_full source dest before after (Err why) is same newest = record {
   same = same;
   accepted = is.1.accepted ∙ sym (append-nil before.accepted.items);
   newest = ap (λ (s : Stamp). s.epoch) newest;
@@ -65,9 +67,10 @@ module _ {B : Type 0} where
   changed refused c before after (Ok None) is = unchanged before.injector after.injector is.0
   changed refused c before after (Err why) is = unchanged before.injector after.injector is.0
 
-  carried : (c : Command) (before after : Desk B) (answer : Answer) → IsCarriedOut c before answer after →
+module _ (was_full : Word SeenParcel) {B : Type 0} where
+  carried : (c : Command) (before after : Desk B) (answer : Answer) → IsCarriedOut was_full c before answer after →
       Kept before.injector after.injector (accepted_by (length before.injector.accepted.items) before.injector.newest.epoch c answer) (epoch_after before.injector.newest.epoch answer)
-  carried (Inject source dest) before after answer is = injected source dest before.injector after.injector answer is.0 is.1 is.2
+  carried (Inject source dest) before after answer is = injected was_full source dest before.injector after.injector answer is.0 is.1 is.2
   carried (Install kind root) before after (Ok None) is = absurd is
   carried (Install kind root) before after (Ok (Some s)) is = learnt before.injector after.injector s is.learnt
   carried (Install kind root) before after (Err why) is = unchanged before.injector after.injector is.0
@@ -76,7 +79,7 @@ module _ {B : Type 0} where
   carried (Up link) before after answer is = changed _ _ before after answer is
   carried Drain before after answer is = subst (λ (a : Answer). Kept before.injector after.injector [] (epoch_after before.injector.newest.epoch a)) (sym is.0) (unchanged before.injector after.injector is.1)
 
-  pub same_injector : (commands : List Command) (a b : Desk B) (answers : List Answer) → AreCarriedOut commands a answers b → IsSameInjector a.injector b.injector
+  pub same_injector : (commands : List Command) (a b : Desk B) (answers : List Answer) → AreCarriedOut was_full commands a answers b → IsSameInjector a.injector b.injector
   same_injector [] a b [] done = (unchanged a.injector b.injector (ap (λ (d : Desk B). d.injector) done)).same
   same_injector [] a b (x ∷ answers) done = absurd done
   same_injector (c ∷ commands) a b [] done = absurd done
@@ -85,7 +88,7 @@ module _ {B : Type 0} where
       let q = same_injector commands done.0 b answers done.2 in
       record { opening = q.opening ∙ p.opening; lines = q.lines ∙ p.lines; most = q.most ∙ p.most }
 
-  pub accepted_are : (commands : List Command) (a b : Desk B) (answers : List Answer) → AreCarriedOut commands a answers b →
+  pub accepted_are : (commands : List Command) (a b : Desk B) (answers : List Answer) → AreCarriedOut was_full commands a answers b →
       b.injector.accepted.items ≡ a.injector.accepted.items ++ accepted_from (length a.injector.accepted.items) a.injector.newest.epoch commands answers
   accepted_are [] a b [] done = ap (λ (d : Desk B). d.injector.accepted.items) done ∙ sym (append-nil a.injector.accepted.items)
   accepted_are [] a b (x ∷ answers) done = absurd done

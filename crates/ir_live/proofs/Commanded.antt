@@ -7,13 +7,14 @@ use Rattle.ir_core.specs.declared.event.Refused.{Refused}
 use Rattle.ir_epochs.specs.declared.registry.Stamp.{Stamp}
 use Rattle.ir_epochs.specs.declared.handles.Receipt.{Receipt}
 use Rattle.ir_epochs.specs.declared.entry.Change.{Change}
+use Rattle.ir_links.specs.Ends.{Word}
+use Rattle.ir_worker.specs.Seen.{SeenParcel}
 use Rattle.ir_control.specs.declared.controller.ChangeError.{ChangeError}
 use Rattle.ir_control.specs.Changes.{IsChangeAnswer}
 use Rattle.ir_live.specs.declared.command.Command.{Command}
-use Rattle.ir_live.specs.declared.command.Command.TheVariants.{Install}
 use Rattle.ir_live.specs.declared.desk.Desk.{Desk}
 use Rattle.ir_live.specs.Answers.{Answer, answer_of, refusal_in, refusal_at, refusals_from}
-use Rattle.ir_live.specs.Carried.{IsCarriedOut, IsChangedAs, AreCarriedOut}
+use Rattle.ir_live.specs.Carried.{IsCarriedOut, IsChangedAs, IsInstalledAs, AreCarriedOut}
 use Rattle.ir_live.specs.Words.{change_refusal}
 
 pub answered : (r : Option Refused) → r ≡ refusal_in (answer_of r)
@@ -22,8 +23,8 @@ answered (Some why) = refl
 
 module _ {B : Type 0} where
   pub installed : (kind : Kind) (root : ℕ) (before after : Desk B) (r : Option Refused) →
-      MatchOption r ((s : Stamp) × IsCarriedOut (Install kind root) before (Ok (Some s)) after) (λ why. IsCarriedOut (Install kind root) before (Err why) after) →
-      (answer : Answer) × (r ≡ refusal_in answer) × IsCarriedOut (Install kind root) before answer after
+      MatchOption r ((s : Stamp) × IsInstalledAs kind root before (Ok (Some s)) after) (λ why. IsInstalledAs kind root before (Err why) after) →
+      (answer : Answer) × (r ≡ refusal_in answer) × IsInstalledAs kind root before answer after
   installed kind root before after None h = (Ok (Some h.0), refl, h.1)
   installed kind root before after (Some why) h = (Err why, refl, h)
 
@@ -34,16 +35,17 @@ module _ {B : Type 0} where
     by_case (Ok t) is = (same, (t, is))
     by_case (Err e) is = (same, (e, refl, is))
 
+module _ (was_full : Word SeenParcel) {B : Type 0} where
   -- one more command, with its answer
   pub carried_more : (commands : List Command) (a b d : Desk B) (answers : List Answer) (c : Command) (answer : Answer) →
-      AreCarriedOut commands a answers b → IsCarriedOut c b answer d → AreCarriedOut (commands ++ c ∷ []) a (answers ++ answer ∷ []) d
-  carried_more [] a b d [] c answer done one = (d, subst (λ (z : Desk B). IsCarriedOut c z answer d) done one, refl)
+      AreCarriedOut was_full commands a answers b → IsCarriedOut was_full c b answer d → AreCarriedOut was_full (commands ++ c ∷ []) a (answers ++ answer ∷ []) d
+  carried_more [] a b d [] c answer done one = (d, subst (λ (z : Desk B). IsCarriedOut was_full c z answer d) done one, refl)
   carried_more [] a b d (x ∷ answers) c answer done one = absurd done
   carried_more (k ∷ commands) a b d [] c answer done one = absurd done
   carried_more (k ∷ commands) a b d (x ∷ answers) c answer done one = (done.0, done.1, carried_more commands done.0 b d answers c answer done.2 one)
 
   -- as many answers as commands
-  pub as_many : (commands : List Command) (a b : Desk B) (answers : List Answer) → AreCarriedOut commands a answers b → length answers ≡ length commands
+  pub as_many : (commands : List Command) (a b : Desk B) (answers : List Answer) → AreCarriedOut was_full commands a answers b → length answers ≡ length commands
   as_many [] a b [] done = refl
   as_many [] a b (x ∷ answers) done = absurd done
   as_many (k ∷ commands) a b [] done = absurd done
@@ -57,22 +59,22 @@ refusals_more k (x ∷ answers) answer =
     ∙ sym (append_assoc (refusal_at k (refusal_in x)) (refusals_from (k + 1) answers) (refusal_at (k + 1 + length answers) (refusal_in answer)))
     ∙ ap (λ (n : ℕ). refusal_at k (refusal_in x) ++ refusals_from (k + 1) answers ++ refusal_at n (refusal_in answer)) (let e : k + 1 + length answers ≡ k + suc (length answers) = omega arith in e)
 
-module _ {B : Type 0} where
+module _ (was_full : Word SeenParcel) {B : Type 0} where
   -- the first commands with their answers, one more of them, and the refusals
   pub carried_to : (commands : List Command) (place : ℕ) (c default : Command) (a b d : Desk B) (before after : List (ℕ × Refused)) (r : Option Refused) →
       place < length commands → c ≡ get_or commands place default →
-      (answers : List Answer) × AreCarriedOut (take place commands) a answers b × (before ≡ refusals_from 0 answers) →
-      (answer : Answer) × (r ≡ refusal_in answer) × IsCarriedOut c b answer d →
+      (answers : List Answer) × AreCarriedOut was_full (take place commands) a answers b × (before ≡ refusals_from 0 answers) →
+      (answer : Answer) × (r ≡ refusal_in answer) × IsCarriedOut was_full c b answer d →
       after ≡ before ++ refusal_at place r →
-      (answers : List Answer) × AreCarriedOut (take (place + 1) commands) a answers d × (after ≡ refusals_from 0 answers)
+      (answers : List Answer) × AreCarriedOut was_full (take (place + 1) commands) a answers d × (after ≡ refusals_from 0 answers)
   carried_to commands place c default a b d before after r lt is done one told = (
     done.0 ++ one.0 ∷ [],
-    subst (λ (ks : List Command). AreCarriedOut ks a (done.0 ++ one.0 ∷ []) d) (ap (λ (k : Command). take place commands ++ k ∷ []) is ∙ sym (take_more commands place default lt))
-        (carried_more (take place commands) a b d done.0 c one.0 done.1 one.2),
+    subst (λ (ks : List Command). AreCarriedOut was_full ks a (done.0 ++ one.0 ∷ []) d) (ap (λ (k : Command). take place commands ++ k ∷ []) is ∙ sym (take_more commands place default lt))
+        (carried_more was_full (take place commands) a b d done.0 c one.0 done.1 one.2),
     told ∙ ap (λ (xs : List (ℕ × Refused)). xs ++ refusal_at place r) done.2
         ∙ ap (λ (n : ℕ). refusals_from 0 done.0 ++ refusal_at n r) many
         ∙ ap (λ (o : Option Refused). refusals_from 0 done.0 ++ refusal_at (0 + length done.0) o) one.1
         ∙ sym (refusals_more 0 done.0 one.0),
   ) where
     many : place ≡ 0 + length done.0
-    many = (let n : length done.0 ≡ length (take place commands) = as_many (take place commands) a b done.0 done.1 in let t : length (take place commands) ≡ place = length-take-le place commands (omega arith) in omega (arith, n, t))
+    many = (let n : length done.0 ≡ length (take place commands) = as_many was_full (take place commands) a b done.0 done.1 in let t : length (take place commands) ≡ place = length-take-le place commands (omega arith) in omega (arith, n, t))

@@ -5,6 +5,8 @@ use Rattle.ir_model.specs.Network.{node_count}
 use Rattle.ir_epochs.specs.declared.registry.Stamp.{Stamp}
 use Rattle.ir_worker.specs.declared.node.Node.{Node}
 use Rattle.ir_worker.specs.declared.serving.NoMemory.{NoMemory}
+use Rattle.ir_links.specs.Ends.{Word}
+use Rattle.ir_worker.specs.Seen.{SeenParcel}
 use Rattle.ir_control.specs.declared.net.Net.{Net}
 use Rattle.ir_control.specs.declared.injector.Accepted.{Accepted}
 use Rattle.ir_control.specs.Parts.{AreFreshParts, AreFirstNodes, IsInjectorOf}
@@ -34,21 +36,21 @@ refused {S} unstarted net s n nodes why error first is stopped = subst (λ (e : 
   by_case not_run.NoThread h = (h.1.index, (first.each h.0 h.1 h.2).0.index_in, h.3)
   by_case not_run.NoMemory h = tt
 
-module _ {B : Type 0} (net : Net) (nodes : List Node) (opened : Desk B) (commands : List Command) (run : Run B)
-    (fresh : AreFreshParts net nodes opened.injector opened.controller) (done : IsRun nodes opened commands run) where
+module _ (was_full : Word SeenParcel) {B : Type 0} (net : Net) (nodes : List Node) (opened : Desk B) (commands : List Command) (run : Run B)
+    (fresh : AreFreshParts net nodes opened.injector opened.controller) (done : IsRun was_full nodes opened commands run) where
   pub nodes_back : AreFirstNodes net (node_count net.topology) (map (λ (b : Node × Option NoMemory). b.0) run.back.items)
   nodes_back = first_back net (node_count net.topology) nodes run.back.items fresh.nodes_are done.came_back
 
   pub injector_back : IsInjectorOf net run.desk.injector
-  injector_back = injector_kept net opened.injector run.desk.injector fresh.injector_of (same_injector commands opened run.desk done.answers done.carried_out)
+  injector_back = injector_kept net opened.injector run.desk.injector fresh.injector_of (same_injector was_full commands opened run.desk done.answers done.carried_out)
 
   accepted : run.desk.injector.accepted.items ≡ accepted_from 0 1 commands done.answers
   accepted =
-      accepted_are commands opened run.desk done.answers done.carried_out
+      accepted_are was_full commands opened run.desk done.answers done.carried_out
       ∙ ap (λ (xs : List Accepted). xs ++ accepted_from (length xs) opened.injector.newest.epoch commands done.answers) fresh.nothing
       ∙ ap (λ (e : ℕ). accepted_from 0 e commands done.answers) (ap (λ (s : Stamp). s.epoch) fresh.learnt ∙ net.opened.epoch)
 
-  is_live : (live : Live) → IsReport net (map (λ (b : Node × Option NoMemory). b.0) run.back.items) run.desk.injector live.report → live.refusals ≡ run.refusals → IsLive B net commands live
+  is_live : (live : Live) → IsReport net (map (λ (b : Node × Option NoMemory). b.0) run.back.items) run.desk.injector live.report → live.refusals ≡ run.refusals → IsLive B was_full net commands live
   is_live live report told = record {
     first = nodes;
     opened = opened;
@@ -68,6 +70,6 @@ module _ {B : Type 0} (net : Net) (nodes : List Node) (opened : Desk B) (command
 
   pub lived : (result : Result Live LiveError) →
       IfOk result (λ live. IsReport net (map (λ (b : Node × Option NoMemory). b.0) run.back.items) run.desk.injector live.report) →
-      IfOk result (λ live. live.refusals ≡ run.refusals) → IfOk result (λ live. IsLive B net commands live)
+      IfOk result (λ live. live.refusals ≡ run.refusals) → IfOk result (λ live. IsLive B was_full net commands live)
   lived (Ok live) report told = is_live live report told
   lived (Err e) report told = tt

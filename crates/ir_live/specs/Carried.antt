@@ -9,7 +9,9 @@ use Rattle.ir_epochs.specs.declared.registry.Stamp.{Stamp}
 use Rattle.ir_epochs.specs.Stamps.{knows}
 use Rattle.ir_epochs.specs.Entries.{board_of}
 use Rattle.ir_epochs.specs.Handles.{published}
+use Rattle.ir_links.specs.Ends.{Word}
 use Rattle.ir_worker.specs.Account.{lines_out}
+use Rattle.ir_worker.specs.Seen.{SeenParcel}
 use Rattle.ir_control.specs.declared.injector.Injector.{Injector}
 use Rattle.ir_control.specs.declared.injector.InjectError.{InjectError}
 use Rattle.ir_control.specs.declared.controller.InstallError.{InstallError}
@@ -34,14 +36,14 @@ pub record InjectsNothing (before after : Injector) : Type 0 where
   pub outs : after.outs.items ≡ before.outs.items
   pub accepted : after.accepted.items ≡ before.accepted.items
 
--- what an injector answers to an inject
-abbrev pub IsInjectAnswer : ℕ → ℕ → Injector → Answer → Injector → Type 0
-IsInjectAnswer source dest before (Ok (Some s)) after = ⊥
-IsInjectAnswer source dest before (Ok None) after =
+-- what an injector answers to an inject, where the word tells of refused pushes
+abbrev pub IsInjectAnswer : Word SeenParcel → ℕ → ℕ → Injector → Answer → Injector → Type 0
+IsInjectAnswer was_full source dest before (Ok (Some s)) after = ⊥
+IsInjectAnswer was_full source dest before (Ok None) after =
     (inject_refused (node_count (knows before.opening).network) before.max_packets (length before.accepted.items) source dest ≡ None)
     × ((id : ℕ) × IsInjected before after id source dest)
-IsInjectAnswer source dest before (Err why) after =
-    ((e : InjectError) × (why ≡ inject_word e) × IsInjectRefusal before source dest e) × InjectsNothing before after
+IsInjectAnswer was_full source dest before (Err why) after =
+    ((e : InjectError) × (why ≡ inject_word e) × IsInjectRefusal was_full before source dest e) × InjectsNothing before after
 
 -- The injector has learnt of an epoch that was installed: it stamps with that epoch, if it is a later one. Nothing else
 -- changed.
@@ -72,20 +74,32 @@ module _ {B : Type 0} where
   abbrev pub desk_links : Desk B → ℕ
   desk_links d = length (knows d.controller.opening).network.links
 
+  -- what comes of an install
+  abbrev pub IsInstalledAs : Kind → ℕ → Desk B → Answer → Desk B → Type 0
+  IsInstalledAs kind root before (Ok None) after = ⊥
+  IsInstalledAs kind root before (Ok (Some s)) after = InstallsAndLearns before after kind root s
+  IsInstalledAs kind root before (Err why) after =
+      (after.injector ≡ before.injector) × ((e : InstallError) × (why ≡ install_word e) × IsNoInstall root before.controller after.controller e)
+
+  -- what comes of a retirement, and of a mark of a link
+  abbrev pub IsRetiredAs : ℕ → Desk B → Answer → Desk B → Type 0
+  IsRetiredAs floor before answer after = IsChangedAs (retire_refused (board_of (published before.controller.writer)) floor) (change.Retire floor) before answer after
+
+  abbrev pub IsDownAs : ℕ → Desk B → Answer → Desk B → Type 0
+  IsDownAs link before answer after = IsChangedAs (mark_refused (desk_links before) (board_of (published before.controller.writer)) link false) (change.Down link) before answer after
+
+  abbrev pub IsUpAs : ℕ → Desk B → Answer → Desk B → Type 0
+  IsUpAs link before answer after = IsChangedAs (mark_refused (desk_links before) (board_of (published before.controller.writer)) link true) (change.Up link) before answer after
+
+module _ (was_full : Word SeenParcel) {B : Type 0} where
   -- what comes of a command: the injector and the controller before it, the answer, and both after it
   abbrev pub IsCarriedOut : Command → Desk B → Answer → Desk B → Type 0
   IsCarriedOut (Inject source dest) before answer after =
-      IsInjectAnswer source dest before.injector answer after.injector × IsSameInjector before.injector after.injector × (after.injector.newest ≡ before.injector.newest) × (after.controller ≡ before.controller)
-  IsCarriedOut (Install kind root) before (Ok None) after = ⊥
-  IsCarriedOut (Install kind root) before (Ok (Some s)) after = InstallsAndLearns before after kind root s
-  IsCarriedOut (Install kind root) before (Err why) after =
-      (after.injector ≡ before.injector) × ((e : InstallError) × (why ≡ install_word e) × IsNoInstall root before.controller after.controller e)
-  IsCarriedOut (Retire floor) before answer after =
-      IsChangedAs (retire_refused (board_of (published before.controller.writer)) floor) (change.Retire floor) before answer after
-  IsCarriedOut (Down link) before answer after =
-      IsChangedAs (mark_refused (desk_links before) (board_of (published before.controller.writer)) link false) (change.Down link) before answer after
-  IsCarriedOut (Up link) before answer after =
-      IsChangedAs (mark_refused (desk_links before) (board_of (published before.controller.writer)) link true) (change.Up link) before answer after
+      IsInjectAnswer was_full source dest before.injector answer after.injector × IsSameInjector before.injector after.injector × (after.injector.newest ≡ before.injector.newest) × (after.controller ≡ before.controller)
+  IsCarriedOut (Install kind root) before answer after = IsInstalledAs kind root before answer after
+  IsCarriedOut (Retire floor) before answer after = IsRetiredAs floor before answer after
+  IsCarriedOut (Down link) before answer after = IsDownAs link before answer after
+  IsCarriedOut (Up link) before answer after = IsUpAs link before answer after
   IsCarriedOut Drain before answer after =
       (answer ≡ Ok None) × (after.injector ≡ before.injector) × (after.controller ≡ before.controller)
 

@@ -1,8 +1,10 @@
 -- What a live run answers.
 use Rattle.std.specs.Prelude.{◌≡◌, ℕ, ◌<◌, List, length, slice_index_or}
 use Rattle.ir_model.specs.Network.{node_count}
+use Rattle.ir_links.specs.Ends.{Word}
 use Rattle.ir_worker.specs.declared.node.Node.{Node}
 use Rattle.ir_worker.specs.Same.{IsSameNode}
+use Rattle.ir_worker.specs.Seen.{SeenParcel}
 use Rattle.ir_control.specs.declared.net.Net.{Net}
 use Rattle.ir_control.specs.Parts.{AreNodesOf, IsInjectorOf, AreFreshParts}
 use Rattle.ir_control.specs.Reported.{AreAllThere}
@@ -22,14 +24,14 @@ pub record AreSameNodes (before after : List Node) : Type 0 where
 
 -- A live run of a net: its parts were handed out, and each command had its answer of the injector and the controller. The
 -- report is that of the nodes, however many turns each made, and of the packets that the commands put in. The refusals
--- are those of the refused commands, with their places.
-pub record IsLive (B : Type 0) (net : Net) (commands : List Command) (live : Live) : Type 0 where
+-- are those of the refused commands, with their places. The word tells of refused pushes.
+pub record IsLive (B : Type 0) (was_full : Word SeenParcel) (net : Net) (commands : List Command) (live : Live) : Type 0 where
   pub first : List Node
   pub opened : Desk B
   pub handed_out : AreFreshParts net first opened.injector opened.controller
   pub answers : List Answer
   pub closed : Desk B
-  pub carried_out : AreCarriedOut commands opened answers closed
+  pub carried_out : AreCarriedOut was_full commands opened answers closed
   pub refusals : live.refusals.items ≡ refusals_from 0 answers
   pub accepted : closed.injector.accepted.items ≡ accepted_from 0 1 commands answers
   pub last : List Node

@@ -1,8 +1,10 @@
 -- What nodes that turned on threads of their own came to, while commands were carried out.
 use Rattle.std.specs.Prelude.{◌≡◌, ℕ, ◌<◌, List, length, slice_index_or, slice_get, Option, Some}
+use Rattle.ir_links.specs.Ends.{Word}
 use Rattle.ir_worker.specs.declared.node.Node.{Node}
 use Rattle.ir_worker.specs.declared.serving.NoMemory.{NoMemory as Short}
 use Rattle.ir_worker.specs.Same.{IsSameNode}
+use Rattle.ir_worker.specs.Seen.{SeenParcel}
 use Rattle.ir_live.specs.declared.command.Command.{Command}
 use Rattle.ir_live.specs.declared.desk.Desk.{Desk}
 use Rattle.ir_live.specs.declared.live.LiveError.{LiveError}
@@ -19,10 +21,10 @@ pub record CameBack (before : List Node) (after : List (Node × Option Short)) :
   pub each : (k : ℕ) (d : Node) (e : Node × Option Short) → k < length before → IsSameNode (slice_index_or before k d) (slice_index_or after k e).0
 
 -- The nodes came back, and each command had its answer.
-pub record IsRun {B : Type 0} (nodes : List Node) (desk : Desk B) (commands : List Command) (run : Run B) : Type 0 where
+pub record IsRun (was_full : Word SeenParcel) {B : Type 0} (nodes : List Node) (desk : Desk B) (commands : List Command) (run : Run B) : Type 0 where
   pub came_back : CameBack nodes run.back.items
   pub answers : List Answer
-  pub carried_out : AreCarriedOut commands desk answers run.desk
+  pub carried_out : AreCarriedOut was_full commands desk answers run.desk
   pub refusals : run.refusals.items ≡ refusals_from 0 answers
 
 -- the thread of one of these nodes was not started, or a growth was refused

@@ -7,6 +7,8 @@ use crate::command::Command;
 use crate::desk::Desk;
 use ir_control::Net;
 use ir_core::Refused;
+use ir_links::Moments;
+use ir_worker::Parcel;
 use std::alloc::{AllocError, Global};
 use std::sync::Wait;
 use std::sync::atomic::AtomicBool;
@@ -26,7 +28,7 @@ fn note(
 }
 
 /// Carries out commands in order, and answers each refused one's place, counted from 0, with its refusal.
-pub(crate) fn carry_out_all<R: Wait, B: Wait + Drop>(
+pub(crate) fn carry_out_all<R: Moments<Parcel>, B: Wait + Drop>(
     rt: &R,
     alloc: Global,
     net: &Net,
@@ -34,7 +36,7 @@ pub(crate) fn carry_out_all<R: Wait, B: Wait + Drop>(
     desk: &mut Desk<B>,
     commands: &[Command],
 ) -> Result<Vec<(usize, Refused)>, AllocError>
-    ensures { IfOk result (λ refusals. (answers : List Answer) × AreCarriedOut commands.now desk.old answers desk.new × (refusals.items ≡ refusals_from 0 answers)) }
+    ensures { IfOk result (λ refusals. (answers : List Answer) × AreCarriedOut R.was_full commands.now desk.old answers desk.new × (refusals.items ≡ refusals_from 0 answers)) }
 {
     let mut refusals = Vec::with_capacity(alloc, commands.len())?;
     for place in 0..commands.len() {

@@ -6,7 +6,9 @@ use crate::command::{Command, change_word, inject_word, install_word};
 use ir_control::{ChangeError, Controller, Injector, Net};
 use ir_core::Refused;
 use ir_epochs::Receipt;
+use ir_links::Moments;
 use ir_model::Kind;
+use ir_worker::Parcel;
 use std::sync::Wait;
 use std::sync::atomic::{AtomicBool, Ordering};
 use std::thread;
@@ -43,12 +45,12 @@ impl<B: Wait + Drop> Desk<B> {
     ghost use Rattle.std.specs.Prelude.{Ok, Err, Some, MatchOption};
     ghost use Rattle.ir_epochs.specs.declared.registry.Stamp.{Stamp};
     ghost use Rattle.ir_live.specs.Answers.{Answer, answer_of, refusal_in};
-    ghost use Rattle.ir_live.specs.Carried.{IsCarriedOut};
-    ghost use Rattle.ir_live.specs.declared.command.Command.TheVariants.{Inject, Install, Retire, Down, Up};
+    ghost use Rattle.ir_live.specs.Carried.{IsInstalledAs, IsRetiredAs, IsDownAs, IsUpAs, IsCarriedOut};
+    ghost use Rattle.ir_live.specs.declared.command.Command.TheVariants.{Inject};
 
     // Puts a packet in.
-    fn inject<R: Wait>(&mut self, rt: &R, source: u16, dest: u16) -> Option<Refused>
-        ensures { IsCarriedOut (Inject source dest) self.old (answer_of result) self.new }
+    fn inject<R: Moments<Parcel>>(&mut self, rt: &R, source: u16, dest: u16) -> Option<Refused>
+        ensures { IsCarriedOut R.was_full (Inject source dest) self.old (answer_of result) self.new }
     {
         match self.injector.inject(rt, source, dest) {
             Ok(_) => None,
@@ -59,8 +61,8 @@ impl<B: Wait + Drop> Desk<B> {
     // Installs an epoch, of which the injector learns at once.
     fn install(&mut self, kind: Kind, root: u16) -> Option<Refused>
         ensures { MatchOption result
-            ((s : Stamp) × IsCarriedOut (Install kind root) self.old (Ok (Some s)) self.new)
-            (λ why. IsCarriedOut (Install kind root) self.old (Err why) self.new) }
+            ((s : Stamp) × IsInstalledAs kind root self.old (Ok (Some s)) self.new)
+            (λ why. IsInstalledAs kind root self.old (Err why) self.new) }
     {
         match self.controller.install(kind, root) {
             Ok(receipt) => {
@@ -73,34 +75,34 @@ impl<B: Wait + Drop> Desk<B> {
 
     // Retires epochs.
     fn retire(&mut self, floor: u32) -> Option<Refused>
-        ensures { IsCarriedOut (Retire floor) self.old (answer_of result) self.new }
+        ensures { IsRetiredAs floor self.old (answer_of result) self.new }
     {
         refusal_of(self.controller.retire(floor))
     }
 
     // Marks a link as down.
     fn down(&mut self, link: u16) -> Option<Refused>
-        ensures { IsCarriedOut (Down link) self.old (answer_of result) self.new }
+        ensures { IsDownAs link self.old (answer_of result) self.new }
     {
         refusal_of(self.controller.down(link))
     }
 
     // Marks a link as up.
     fn up(&mut self, link: u16) -> Option<Refused>
-        ensures { IsCarriedOut (Up link) self.old (answer_of result) self.new }
+        ensures { IsUpAs link self.old (answer_of result) self.new }
     {
         refusal_of(self.controller.up(link))
     }
 
     // Carries out a command, and answers why not.
-    pub(crate) fn carry_out<R: Wait>(
+    pub(crate) fn carry_out<R: Moments<Parcel>>(
         &mut self,
         rt: &R,
         net: &Net,
         ended: &AtomicBool,
         command: Command,
     ) -> Option<Refused>
-        ensures { (answer : Answer) × (result ≡ refusal_in answer) × IsCarriedOut command self.old answer self.new }
+        ensures { (answer : Answer) × (result ≡ refusal_in answer) × IsCarriedOut R.was_full command self.old answer self.new }
     {
         match command {
             Command::Inject(source, dest) => self.inject(rt, source, dest),

@@ -13,7 +13,8 @@ use crate::live::{Live, LiveError};
 use crate::starter::Starter;
 use crate::working::{NotRun, Run, run_nodes};
 use ir_control::{FinishError, Net, Parts, finish};
-use ir_worker::{Gate, NoMemory, Node};
+use ir_links::Moments;
+use ir_worker::{Gate, NoMemory, Node, Parcel};
 use std::alloc::{AllocError, Global};
 use std::sync::Wait;
 use std::thread::Threads;
@@ -84,9 +85,11 @@ fn reported<R: Wait, B: Wait + Drop>(
 /// order, where the injector learns of each install at once; then lets the nodes end, waits until each has come back, and
 /// reports what came of each packet. A refused command stands among the refusals, and the run goes on.
 ///
+/// A packet is refused for a full inbox only where the push of its inject was refused.
+///
 /// Refused are: a net whose parts were handed out before (`Spent`), a thread that was not started (`NoThread`), and want
 /// of memory, a node's too. After any answer the net is spent.
-pub fn run_live<R: Threads + Wait + Sync, G: Gate, S: Starter>(
+pub fn run_live<R: Threads + Moments<Parcel> + Sync, G: Gate, S: Starter>(
     rt: &R,
     alloc: Global,
     net: &Net,
@@ -94,7 +97,7 @@ pub fn run_live<R: Threads + Wait + Sync, G: Gate, S: Starter>(
     gate: &G,
     starter: &S,
 ) -> Result<Live, LiveError>
-    ensures live { IfOk result (λ live. IsLive (Bor R) net.now commands.now live) }
+    ensures live { IfOk result (λ live. IsLive (Bor R) R.was_full net.now commands.now live) }
     ensures refused { IfErr result (λ error. IsRefusal S.unstarted net.now starter.now error) }
 {
     let Ok(given) = net.parts(rt) else {

@@ -9,7 +9,8 @@ use crate::desk::Desk;
 use crate::starter::Starter;
 use ir_control::Net;
 use ir_core::Refused;
-use ir_worker::{ComesBack, Gate, NoMemory, Node, serve};
+use ir_links::Moments;
+use ir_worker::{ComesBack, Gate, NoMemory, Node, Parcel, serve};
 use std::alloc::Global;
 use std::snapshot::Snapshot;
 use std::sync::Wait;
@@ -48,7 +49,7 @@ fn serve_and_tell<R: Wait, G: Gate>(
 }
 
 /// Starts a thread for each node, carries out the commands, lets the nodes end, and waits until each has come back.
-pub(crate) fn run_nodes<R: Threads + Wait + Sync, G: Gate, S: Starter, B: Wait + Drop>(
+pub(crate) fn run_nodes<R: Threads + Moments<Parcel> + Sync, G: Gate, S: Starter, B: Wait + Drop>(
     rt: &R,
     alloc: Global,
     net: &Net,
@@ -58,7 +59,7 @@ pub(crate) fn run_nodes<R: Threads + Wait + Sync, G: Gate, S: Starter, B: Wait +
     gate: &G,
     starter: &S,
 ) -> Result<Run<B>, NotRun>
-    ensures run { IfOk result (λ run. IsRun nodes.items desk commands.now run) }
+    ensures run { IfOk result (λ run. IsRun R.was_full nodes.items desk commands.now run) }
     ensures stopped { IfErr result (λ why. IsStopped S.unstarted starter.now nodes.items why) }
 {
     let (stop, ended) = (AtomicBool::new(false), AtomicBool::new(false));
@@ -67,7 +68,7 @@ pub(crate) fn run_nodes<R: Threads + Wait + Sync, G: Gate, S: Starter, B: Wait +
         thread::scope_env(),
         rt,
         move |scope| -> Result<Run<B>, NotRun>
-            ensures run { IfOk result (λ run. IsRun nodes.items desk commands.entry.now run) }
+            ensures run { IfOk result (λ run. IsRun R.was_full nodes.items desk commands.entry.now run) }
             ensures stopped { IfErr result (λ why. IsStopped S.unstarted starter.entry.now nodes.items why) }
         {
             let mut desk = desk;

@@ -15,4 +15,4 @@ returns-clause-lines g c = lines_kept c.args.outs.now.items c.args.node _ _ c.in
 
 pub returns-in-Err-clause-sent : goal.returns-in-Err-clause-sent
 returns-in-Err-clause-sent g c =
-    not_sent_by c.args.outs.now.items c.args.node c.index_mut-out.result.now _ c.args.parcel c.requires.node c.index_mut-out.ensures.value c.in-Err.ensures.sent.1 c.in-Err.ensures.sent.2
+    not_sent_by g.R.Moments.was_full c.args.outs.now.items c.args.node c.index_mut-out.result.now _ c.args.parcel c.requires.node c.index_mut-out.ensures.value c.in-Err.ensures.sent.1 c.in-Err.ensures.moment

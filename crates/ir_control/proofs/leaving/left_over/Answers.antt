@@ -1,64 +1,67 @@
 use Rattle.std.specs.Prelude.{◌≡◌, ◌++◌, ℕ, List, Option, Some, length, map, sum_by}
 use Rattle.std.proofs.Common.{arith, refl, sym, ap, ◌∙◌, subst}
 use Rattle.ir_model.specs.Network.{node_count}
+use Rattle.ir_links.specs.Ends.{Remaining}
+use Rattle.ir_worker.specs.declared.parcel.Place.{Place}
+use Rattle.ir_worker.specs.Seen.{SeenParcel}
 use Rattle.ir_worker.specs.Wires.{Out}
 use Rattle.ir_control.specs.Pairs.{ArePaired}
 use Rattle.ir_control.specs.Parts.{node_number}
 use Rattle.ir_control.specs.Rowed.{node_settled, node_taken, node_sent}
-use Rattle.ir_control.specs.Slots.{slot_sent, times_in_slots, hit}
-use Rattle.ir_control.proofs.Leftover.{none_weigh, nodes_fit, all_slots, inboxes_paired, ways_paired, inboxes_placed, takers_placed, inboxes_limited, takers_limited, rows_hold}
+use Rattle.ir_control.specs.Slots.{slot_sent, times_in_slots, hit, left_in}
+use Rattle.ir_control.proofs.Leftover.{none_weigh, nodes_fit, all_slots, inboxes_paired, ways_paired, inboxes_placed, takers_placed, inboxes_limited, takers_limited, rows_count}
 use Rattle.ir_control.proofs.Rowing.{slots_weigh}
 use Rattle.ir_control.proofs.leaving.left_over.Goals as goal
 
 pub place_all-requires-clause-fits : goal.place_all-requires-clause-fits
-place_all-requires-clause-fits g c = λ i.
+place_all-requires-clause-fits c = λ i.
     (let none = none_weigh c.args.rows.slots.items c.requires.rows.slots_empty (hit node_number i) in
     let most = nodes_fit c.args.net.now c.args.nodes.items c.requires.nodes (length c.args.rows.slots.items) i c.requires.rows.slots_count in
     omega (arith, none, most))
 
 pub take_apart-requires-clause-slots : goal.take_apart-requires-clause-slots
-take_apart-requires-clause-slots g c =
+take_apart-requires-clause-slots c =
     all_slots c.args.net.now c.args.nodes.items c.place_all.new.slots.items c.requires.all (c.place_all.ensures.length ∙ c.requires.rows.slots_count) c.place_all.ensures.at c.place_all.ensures.all
     (λ w. (let none = none_weigh c.args.rows.slots.items c.requires.rows.slots_empty w in let put = c.place_all.ensures.weighs w in omega (arith, none, put)))
 
 pub gather-requires-clause-entries : goal.gather-requires-clause-entries
-gather-requires-clause-entries g c =
+gather-requires-clause-entries c =
     let outs_are : c.append_slots.new.into.items ≡ map (λ (s : Out). Some s) c.args.injected.items = c.append_slots.ensures.items ∙ ap (λ (xs : List (Option Out)). xs ++ map (λ (s : Out). Some s) c.args.injected.items) c.requires.rows.outs.0 in
     subst (λ (es : List ℕ). ArePaired es c.append_slots.new.into.items c.take_apart.new.inboxes.items) (sym c.as_slice.ensures.value)
     (subst (λ (slots : List (Option Out)). ArePaired c.args.net.now.entries.items slots c.take_apart.new.inboxes.items) (sym outs_are)
     (inboxes_paired c.args.net.now c.args.injected.items c.take_apart.new.inboxes.items c.take_apart.new.takers.items c.take_apart.new.senders.items c.requires.injected c.take_apart.ensures.rows))
 
 pub gather-requires-clause-ways : goal.gather-requires-clause-ways
-gather-requires-clause-ways g c =
+gather-requires-clause-ways c =
     subst (λ (ps : List ℕ). ArePaired ps c.take_apart.new.senders.items c.take_apart.new.takers.items) (sym c.as_slice-2.ensures.value)
     (ways_paired c.args.net.now c.take_apart.new.inboxes.items c.take_apart.new.takers.items c.take_apart.new.senders.items c.take_apart.ensures.rows)
 
 pub gather-requires-clause-places_in : goal.gather-requires-clause-places_in
-gather-requires-clause-places_in g c =
+gather-requires-clause-places_in c =
     inboxes_placed c.args.net.now (node_count c.args.net.now.topology) c.take_apart.new.inboxes.items c.take_apart.new.takers.items c.take_apart.new.senders.items c.take_apart.ensures.rows
 
 pub gather-requires-clause-places : goal.gather-requires-clause-places
-gather-requires-clause-places g c =
+gather-requires-clause-places c =
     takers_placed c.args.net.now (node_count c.args.net.now.topology) c.take_apart.new.inboxes.items c.take_apart.new.takers.items c.take_apart.new.senders.items c.take_apart.ensures.rows
 
 pub gather-requires-clause-limits_in : goal.gather-requires-clause-limits_in
-gather-requires-clause-limits_in g c =
+gather-requires-clause-limits_in c =
     inboxes_limited c.args.net.now (node_count c.args.net.now.topology) c.take_apart.new.inboxes.items c.take_apart.new.takers.items c.take_apart.new.senders.items c.take_apart.ensures.rows
 
 pub gather-requires-clause-limits : goal.gather-requires-clause-limits
-gather-requires-clause-limits g c =
+gather-requires-clause-limits c =
     takers_limited c.args.net.now (node_count c.args.net.now.topology) c.take_apart.new.inboxes.items c.take_apart.new.takers.items c.take_apart.new.senders.items c.take_apart.ensures.rows
 
 pub gather-requires-clause-room : goal.gather-requires-clause-room
-gather-requires-clause-room g c =
-    let hold = rows_hold c.args.net.now (node_count c.args.net.now.topology) c.take_apart.new.inboxes.items c.take_apart.new.takers.items c.take_apart.new.senders.items c.take_apart.ensures.rows refl in
+gather-requires-clause-room c =
+    let hold = rows_count c.args.net.now (node_count c.args.net.now.topology) c.take_apart.new.inboxes.items c.take_apart.new.takers.items c.take_apart.new.senders.items c.take_apart.ensures.rows refl in
     let room = c.requires.room in
     let empty = ap length c.requires.empty in
-    let ok = c.args.left.now.ok in
+    let ok = c.args.channels.now.ok in
     omega (arith, hold, room, empty, ok)
 
 pub returns-clause-gathered : goal.returns-clause-gathered
-returns-clause-gathered g c = record {
+returns-clause-gathered c = record {
   settlings = λ w. (let a = c.take_apart.ensures.weighed.settlings w in let b = c.place_all.ensures.weighs (node_settled w) in let z = none_weigh c.args.rows.slots.items c.requires.rows.slots_empty (node_settled w) in omega (arith, a, b, z));
   leavings = λ w.
       (let t = c.take_apart.ensures.weighed.takings w in let t1 = c.place_all.ensures.weighs (node_taken w) in let tz = none_weigh c.args.rows.slots.items c.requires.rows.slots_empty (node_taken w) in
@@ -66,6 +69,6 @@ returns-clause-gathered g c = record {
       let outs_are : c.append_slots.new.into.items ≡ map (λ (s : Out). Some s) c.args.injected.items = c.append_slots.ensures.items ∙ ap (λ (xs : List (Option Out)). xs ++ map (λ (s : Out). Some s) c.args.injected.items) c.requires.rows.outs.0 in
       let o = ap (times_in_slots w) outs_are ∙ slots_weigh (slot_sent w) c.args.injected.items in
       let account = c.gather.ensures.account w in
-      let empty = ap (sum_by w) c.requires.empty in
+      let empty = ap (λ (rs : List (Remaining Place SeenParcel)). sum_by w (left_in rs)) c.requires.empty in
       omega (arith, t, t1, tz, s, s1, sz, o, account, empty));
 }

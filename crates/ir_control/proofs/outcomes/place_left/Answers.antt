@@ -1,45 +1,41 @@
-use Rattle.std.specs.Prelude.{◌≡◌, ℕ, All, sum_by, length}
+use Rattle.std.specs.Prelude.{◌≡◌, ◌++◌, All, sum_by, length}
 use Rattle.std.proofs.Common.{arith, sym, ap, ◌∙◌, subst}
+use Rattle.std.proofs.lemmas.List.Elements.{All-append}
 use Rattle.ir_core.specs.declared.packet.Fate.TheVariants.{Left}
-use Rattle.ir_epochs.specs.declared.registry.Stamp.{Stamp}
-use Rattle.ir_worker.specs.declared.parcel.Outcome.{Outcome}
-use Rattle.ir_worker.specs.Seen.{SeenParcel, IsOfNet, stamps_of}
-use Rattle.ir_control.specs.Slots.{slot_weight, hit, once}
-use Rattle.ir_control.specs.Told.{Told, told, told_left, outcome_number, IsOutcomeIn}
+use Rattle.ir_worker.specs.Seen.{SeenParcel}
+use Rattle.ir_control.specs.Slots.{slot_weight, hit, once, left_in}
+use Rattle.ir_control.specs.Told.{Told, told, told_left, outcome_number}
 use Rattle.ir_control.specs.Whole.{IsParcelOf}
-use Rattle.ir_control.proofs.OfNet.{all_front, all_last}
-use Rattle.ir_control.proofs.Telling.{rest_put, fits_now, all_back}
+use Rattle.ir_control.proofs.Meetings.{left_push}
+use Rattle.ir_control.proofs.Telling.{part_put, part_fits, all_first, all_rest}
 use Rattle.ir_control.proofs.outcomes.place_left.Goals as goal
 
-is_told : (x : SeenParcel) (o : Outcome) → o.packet ≡ x.journey → o.stamp ≡ x.first → o.later.items ≡ x.later → told o ≡ told_left x
-is_told x o a b d = (cc)
+abbrev IsDone : SeenParcel → Type 0
+IsDone x = x.journey.fate ≡ Left
 
-left_in : (opening : Stamp) (x : SeenParcel) (o : Outcome) → told o ≡ told_left x → IsParcelOf opening x → IsOutcomeIn opening o
-left_in opening x o e is = ∣ subst (λ (t : Told). All (λ s. IsOfNet opening s) (stamps_of t.first t.later)) (sym e) is ∣₁
+pub place_rest-requires-clause-fits : goal.place_rest-requires-clause-fits
+place_rest-requires-clause-fits g c = λ i.
+    (let popped : left_in c.loop-channel.channels.items ≡ left_in c.pop.new.self.items ++ c.in-Some.channel.left = ap left_in c.in-Some.ensures.items ∙ left_push c.pop.new.self.items c.in-Some.channel in
+    let now = part_fits (hit (λ (x : SeenParcel). x.journey.id) i) (sum_by (slot_weight (hit outcome_number i)) c.loop-channel.slots.items) (sum_by (slot_weight (hit outcome_number i)) c.args.slots.now.items)
+    (sum_by (hit (λ (x : SeenParcel). x.journey.id) i) (left_in c.args.channels.items)) (once (length c.args.slots.now.items) i) (left_in c.loop-channel.channels.items) (left_in c.pop.new.self.items) c.in-Some.channel.left popped
+    (c.loop-channel.invariant.weighs (λ t. hit (λ (s : Told). s.journey.id) i t)) (c.requires.fits i) in
+    let len = ap (λ n. once n i) c.loop-channel.invariant.len in
+    omega (arith, now, len))
 
-pub place-requires-clause-fits : goal.place-requires-clause-fits
-place-requires-clause-fits c = λ i.
-    (let number : (t : Told) → ℕ = λ t. hit (λ (s : Told). s.journey.id) i t in
-    let now = fits_now (hit (λ (x : SeenParcel). x.journey.id) i) (sum_by (slot_weight (hit outcome_number i)) c.loop-parcel.slots.items) (sum_by (slot_weight (hit outcome_number i)) c.args.slots.now.items)
-    (sum_by (hit (λ (x : SeenParcel). x.journey.id) i) c.args.left.items) (once (length c.args.slots.now.items) i) c.loop-parcel.left.items c.pop.new.self.items c.in-Some.parcel c.in-Some.ensures.items (c.loop-parcel.invariant.weighs (λ t. hit (λ (s : Told). s.journey.id) i t)) (c.requires.fits i) in
-    let len = ap (λ n. once n i) c.loop-parcel.invariant.len in
-    let same : hit outcome_number i c.into_left.result ≡ hit (λ (x : SeenParcel). x.journey.id) i c.in-Some.parcel = ap (λ j. hit (λ (s : Told). s.journey.id) i j) (is_told c.in-Some.parcel c.into_left.result c.into_left.ensures.packet c.into_left.ensures.stamp c.into_left.ensures.later) in
-    omega (arith, now, len, same))
+pub place_rest-requires-clause-belongs : goal.place_rest-requires-clause-belongs
+place_rest-requires-clause-belongs g c =
+    let popped : left_in c.loop-channel.channels.items ≡ left_in c.pop.new.self.items ++ c.in-Some.channel.left = ap left_in c.in-Some.ensures.items ∙ left_push c.pop.new.self.items c.in-Some.channel in
+    all_rest (λ (x : SeenParcel). IsParcelOf c.args.opening.now x) (left_in c.pop.new.self.items) c.in-Some.channel.left (subst (All (λ (x : SeenParcel). IsParcelOf c.args.opening.now x)) popped c.loop-channel.invariant.rest)
 
-pub place-requires-clause-belongs : goal.place-requires-clause-belongs
-place-requires-clause-belongs c =
-    left_in c.args.opening.now c.in-Some.parcel c.into_left.result (is_told c.in-Some.parcel c.into_left.result c.into_left.ensures.packet c.into_left.ensures.stamp c.into_left.ensures.later)
-    (all_last (λ (x : SeenParcel). IsParcelOf c.args.opening.now x) c.pop.new.self.items c.loop-parcel.left.items c.in-Some.parcel c.in-Some.ensures.items c.loop-parcel.invariant.rest)
-
-pub loop-parcel-preserved : goal.loop-parcel-preserved
-loop-parcel-preserved c = record {
-  len = c.place.ensures.length ∙ c.loop-parcel.invariant.len;
-  at = c.place.ensures.at;
-  kind = c.place.ensures.all;
-  rest = all_front (λ (x : SeenParcel). IsParcelOf c.args.opening.now x) c.pop.new.self.items c.loop-parcel.left.items c.in-Some.parcel c.in-Some.ensures.items c.loop-parcel.invariant.rest;
-  weighs = λ w. (let put = c.place.ensures.weighs (λ o. w (told o)) in
-      let same = ap w (is_told c.in-Some.parcel c.into_left.result c.into_left.ensures.packet c.into_left.ensures.stamp c.into_left.ensures.later) in
-      rest_put (λ (x : SeenParcel). w (told_left x)) (sum_by (slot_weight (λ o. w (told o))) c.loop-parcel.slots.items) (sum_by (slot_weight (λ o. w (told o))) c.place.new.slots.items) (sum_by (slot_weight (λ o. w (told o))) c.args.slots.now.items)
-      (sum_by (λ x. w (told_left x)) c.args.left.items) c.loop-parcel.left.items c.pop.new.self.items c.in-Some.parcel c.in-Some.ensures.items (c.loop-parcel.invariant.weighs w) (omega (arith, put, same)));
-  fates = λ all. c.loop-parcel.invariant.fates (all_back (λ (x : SeenParcel). x.journey.fate ≡ Left) c.loop-parcel.left.items c.pop.new.self.items c.in-Some.parcel c.in-Some.ensures.items all c.into_left.ensures.left);
-}
+pub loop-channel-preserved : goal.loop-channel-preserved
+loop-channel-preserved g c =
+    let popped : left_in c.loop-channel.channels.items ≡ left_in c.pop.new.self.items ++ c.in-Some.channel.left = ap left_in c.in-Some.ensures.items ∙ left_push c.pop.new.self.items c.in-Some.channel in
+    record {
+      len = c.place_rest.ensures.length ∙ c.loop-channel.invariant.len;
+      at = c.place_rest.ensures.at;
+      kind = c.place_rest.ensures.all;
+      rest = all_first (λ (x : SeenParcel). IsParcelOf c.args.opening.now x) (left_in c.pop.new.self.items) c.in-Some.channel.left (subst (All (λ (x : SeenParcel). IsParcelOf c.args.opening.now x)) popped c.loop-channel.invariant.rest);
+      weighs = λ w. part_put (λ (x : SeenParcel). w (told_left x)) (sum_by (slot_weight (λ o. w (told o))) c.loop-channel.slots.items) (sum_by (slot_weight (λ o. w (told o))) c.place_rest.new.slots.items) (sum_by (slot_weight (λ o. w (told o))) c.args.slots.now.items)
+          (sum_by (λ x. w (told_left x)) (left_in c.args.channels.items)) (left_in c.loop-channel.channels.items) (left_in c.pop.new.self.items) c.in-Some.channel.left popped (c.loop-channel.invariant.weighs w) (c.place_rest.ensures.weighs w);
+      fates = λ all. c.loop-channel.invariant.fates (subst (All IsDone) (sym popped) (All-append IsDone (left_in c.pop.new.self.items) c.in-Some.channel.left all c.place_rest.ensures.fates));
+    }

@@ -1,6 +1,6 @@
 use Rattle.std.specs.Prelude.{◌≡◌, ◌+◌, ℕ, All, length, sum_by}
 use Rattle.ir_core.specs.declared.packet.Fate.TheVariants.{Left}
-use Rattle.ir_control.specs.Slots.{slot_weight, AllAt, AllIn}
+use Rattle.ir_control.specs.Slots.{slot_weight, AllAt, AllIn, left_in}
 use Rattle.ir_control.specs.Told.{Told, told, told_left, outcome_number, IsOutcomeIn}
 use Rattle.ir_control.specs.Whole.{IsParcelOf}
 use Rattle.ir_control.proofs.outcomes.place_left.Given as goal
@@ -13,14 +13,14 @@ pub record IsPlacing (Len At Kind Rest Weighs Fates : Type 0) : Type 0 where
   pub weighs : Weighs
   pub fates : Fates
 
-abbrev pub invariant-loop-parcel : goal.invariant-loop-parcel
-invariant-loop-parcel l = IsPlacing
+abbrev pub invariant-loop-channel : goal.invariant-loop-channel
+invariant-loop-channel g l = IsPlacing
     (length l.slots.items ≡ length l.fn.slots.items)
     (AllAt outcome_number l.slots.items)
     (AllIn (λ o. IsOutcomeIn l.opening o) l.slots.items)
-    (All (λ x. IsParcelOf l.opening x) l.left.items)
-    ((w : Told → ℕ) → sum_by (slot_weight (λ o. w (told o))) l.slots.items + sum_by (λ x. w (told_left x)) l.left.items ≡ sum_by (slot_weight (λ o. w (told o))) l.fn.slots.items + sum_by (λ x. w (told_left x)) l.fn.left.items)
-    (All (λ x. x.journey.fate ≡ Left) l.left.items → All (λ x. x.journey.fate ≡ Left) l.fn.left.items)
+    (All (λ x. IsParcelOf l.opening x) (left_in l.channels.items))
+    ((w : Told → ℕ) → sum_by (slot_weight (λ o. w (told o))) l.slots.items + sum_by (λ x. w (told_left x)) (left_in l.channels.items) ≡ sum_by (slot_weight (λ o. w (told o))) l.fn.slots.items + sum_by (λ x. w (told_left x)) (left_in l.fn.channels.items))
+    (All (λ x. x.journey.fate ≡ Left) (left_in l.channels.items) → All (λ x. x.journey.fate ≡ Left) (left_in l.fn.channels.items))
 
-abbrev pub decreases-loop-parcel : goal.decreases-loop-parcel
-decreases-loop-parcel l = goal.left-loop-parcel l
+abbrev pub decreases-loop-channel : goal.decreases-loop-channel
+decreases-loop-channel g l = goal.left-loop-channel g l

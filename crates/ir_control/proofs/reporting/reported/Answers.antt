@@ -4,7 +4,7 @@ use Rattle.ir_worker.specs.declared.parcel.Outcome.{Outcome}
 use Rattle.ir_worker.specs.Account.{head_of, one}
 use Rattle.ir_worker.specs.Wires.{Out}
 use Rattle.ir_control.specs.Rowed.{node_settled}
-use Rattle.ir_control.specs.Slots.{slot_weight, hit, once}
+use Rattle.ir_control.specs.Slots.{slot_weight, hit, once, left_in}
 use Rattle.ir_control.specs.Told.{Told, told, told_left, outcome_number, IsOutcomeIn}
 use Rattle.ir_control.proofs.Conserved.{conserved, once_each, heads_are, numbers_are, all_told, all_sound, told_count, full_here, outcome_weight}
 use Rattle.ir_control.proofs.Few.{few_told}
@@ -15,14 +15,14 @@ use Rattle.ir_control.proofs.reporting.reported.Goals as goal
 pub place_rows-requires-clause-fits : goal.place_rows-requires-clause-fits
 place_rows-requires-clause-fits g c = λ i.
     (let none = none_weigh c.args.room.slots.items c.requires.room.slots_empty (hit outcome_number i) in
-    let each = once_each c.args.nodes.items c.args.injector c.into_outs.result.items (ap (λ v. v.items) c.into_outs.ensures) _ c.left_over-settled.new.left.items c.left_over-settled.ensures.gathered i in
+    let each = once_each c.args.nodes.items c.args.injector c.into_outs.result.items (ap (λ v. v.items) c.into_outs.ensures) _ (left_in c.left_over-settled.new.channels.items) c.left_over-settled.ensures.gathered i in
     let m = ap (λ n. once n i) c.requires.room.slots_count in
     omega (arith, none, each, m))
 
 pub place_left-requires-clause-fits : goal.place_left-requires-clause-fits
 place_left-requires-clause-fits g c = λ i.
     (let none = none_weigh c.args.room.slots.items c.requires.room.slots_empty (hit outcome_number i) in
-    let each = once_each c.args.nodes.items c.args.injector c.into_outs.result.items (ap (λ v. v.items) c.into_outs.ensures) _ c.left_over-settled.new.left.items c.left_over-settled.ensures.gathered i in
+    let each = once_each c.args.nodes.items c.args.injector c.into_outs.result.items (ap (λ v. v.items) c.into_outs.ensures) _ (left_in c.left_over-settled.new.channels.items) c.left_over-settled.ensures.gathered i in
     let m = ap (λ n. once n i) (c.place_rows.ensures.length ∙ c.requires.room.slots_count) in
     let put = c.place_rows.ensures.weighs (hit outcome_number i) in
     omega (arith, none, each, m, put))
@@ -30,7 +30,7 @@ place_left-requires-clause-fits g c = λ i.
 pub told_in_order-requires-clause-full : goal.told_in_order-requires-clause-full
 told_in_order-requires-clause-full g c = λ k lt.
     (let none = none_weigh c.args.room.slots.items c.requires.room.slots_empty (hit outcome_number k) in
-    let each = once_each c.args.nodes.items c.args.injector c.into_outs.result.items (ap (λ v. v.items) c.into_outs.ensures) _ c.left_over-settled.new.left.items c.left_over-settled.ensures.gathered k in
+    let each = once_each c.args.nodes.items c.args.injector c.into_outs.result.items (ap (λ v. v.items) c.into_outs.ensures) _ (left_in c.left_over-settled.new.channels.items) c.left_over-settled.ensures.gathered k in
     let put = c.place_rows.ensures.weighs (hit outcome_number k) in
     let more = c.place_left.ensures.weighs (hit (λ (t : Told). t.journey.id) k) in
     let len = c.place_left.ensures.length ∙ c.place_rows.ensures.length ∙ c.requires.room.slots_count in
@@ -39,7 +39,7 @@ told_in_order-requires-clause-full g c = λ k lt.
 pub returns : goal.returns
 returns g c =
     let t = c.told_in_order.ensures in
-    let told_are : (w : Told → ℕ) → sum_by (λ o. w (told o)) t.0 ≡ sum_by (node_settled (λ o. w (told o))) c.args.nodes.items + sum_by (λ x. w (told_left x)) c.left_over-settled.new.left.items = λ w.
+    let told_are : (w : Told → ℕ) → sum_by (λ o. w (told o)) t.0 ≡ sum_by (node_settled (λ o. w (told o))) c.args.nodes.items + sum_by (λ x. w (told_left x)) (left_in c.left_over-settled.new.channels.items) = λ w.
     (let none = none_weigh c.args.room.slots.items c.requires.room.slots_empty (λ (o : Outcome). w (told o)) in
     let all = c.left_over-settled.ensures.gathered.settlings (λ (o : Outcome). w (told o)) in
     let put = c.place_rows.ensures.weighs (λ (o : Outcome). w (told o)) in
@@ -54,7 +54,7 @@ returns g c =
       later = t.4;
       heads = heads_are c.args.injector.accepted.items c.args.injector.numbered t.0
           (λ p. (let none = none_weigh c.args.room.slots.items c.requires.room.slots_empty (outcome_weight p) in
-          let all = conserved c.args.nodes.items c.args.injector c.into_outs.result.items (ap (λ v. v.items) c.into_outs.ensures) _ c.left_over-settled.new.left.items c.left_over-settled.ensures.gathered p in
+          let all = conserved c.args.nodes.items c.args.injector c.into_outs.result.items (ap (λ v. v.items) c.into_outs.ensures) _ (left_in c.left_over-settled.new.channels.items) c.left_over-settled.ensures.gathered p in
           let put = c.place_rows.ensures.weighs (outcome_weight p) in
           let more = c.place_left.ensures.weighs (λ (t : Told). one p (head_of t.journey)) in
           let sum = ap (sum_by (slot_weight (outcome_weight p))) t.1 ∙ slots_weigh (slot_weight (outcome_weight p)) t.0 in
@@ -62,11 +62,11 @@ returns g c =
           len (numbers_are c.place_left.new.slots.items t.0 t.1 c.place_left.ensures.at);
       sound = all_sound c.place_left.new.slots.items t.0 t.1;
       of_net = all_told c.place_left.new.slots.items t.0 t.1 (λ (o : Outcome). IsOutcomeIn c.args.net.now.opening o) c.place_left.ensures.all;
-      left = c.left_over-settled.new.left.items;
+      left = left_in c.left_over-settled.new.channels.items;
       left_is = λ w. (let is = c.left_over-settled.ensures.gathered.leavings w in
           let same = ap (sum_by (λ (s : Out). sum_by w s.sent)) (ap (λ v. v.items) c.into_outs.ensures) in
           omega (arith, is, same));
       fates = c.place_left.ensures.fates;
-      few = few_told c.args.net.now c.args.nodes.items c.requires.nodes.each c.left_over-settled.new.left.items c.left_over-settled.ensures.few t.0 told_are;
+      few = few_told c.args.net.now c.args.nodes.items c.requires.nodes.each (left_in c.left_over-settled.new.channels.items) c.left_over-settled.ensures.few t.0 told_are;
       told_are = told_are;
     }

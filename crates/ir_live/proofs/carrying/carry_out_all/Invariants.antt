@@ -4,4 +4,4 @@ use Rattle.ir_live.specs.Carried.{AreCarriedOut}
 use Rattle.ir_live.proofs.carrying.carry_out_all.Given as goal
 
 abbrev pub invariant-loop-place : goal.invariant-loop-place
-invariant-loop-place g l = (answers : List Answer) × AreCarriedOut (take l.place l.commands) l.fn.desk answers l.desk × (l.refusals.items ≡ refusals_from 0 answers)
+invariant-loop-place g l = (answers : List Answer) × AreCarriedOut g.R.Moments.was_full (take l.place l.commands) l.fn.desk answers l.desk × (l.refusals.items ≡ refusals_from 0 answers)

@@ -3,15 +3,15 @@ use Rattle.ir_live.proofs.running.run_live.Goals as goal
 
 pub reported-requires-clause-nodes : goal.reported-requires-clause-nodes
 reported-requires-clause-nodes g c =
-    nodes_back c.args.net.now c.in-Some.parts.nodes.items _ c.args.commands.now c.in-Ok-run_nodes.run' (given _ c.in-Ok.given c.in-Some.parts c.in-Some.is c.in-Ok.ensures) c.in-Ok-run_nodes.ensures.run
+    nodes_back g.R.Moments.was_full c.args.net.now c.in-Some.parts.nodes.items _ c.args.commands.now c.in-Ok-run_nodes.run' (given _ c.in-Ok.given c.in-Some.parts c.in-Some.is c.in-Ok.ensures) c.in-Ok-run_nodes.ensures.run
 
 pub reported-requires-clause-injector : goal.reported-requires-clause-injector
 reported-requires-clause-injector g c =
-    injector_back c.args.net.now c.in-Some.parts.nodes.items _ c.args.commands.now c.in-Ok-run_nodes.run' (given _ c.in-Ok.given c.in-Some.parts c.in-Some.is c.in-Ok.ensures) c.in-Ok-run_nodes.ensures.run
+    injector_back g.R.Moments.was_full c.args.net.now c.in-Some.parts.nodes.items _ c.args.commands.now c.in-Ok-run_nodes.run' (given _ c.in-Ok.given c.in-Some.parts c.in-Some.is c.in-Ok.ensures) c.in-Ok-run_nodes.ensures.run
 
 pub returns-in-Ok-run_nodes-clause-live : goal.returns-in-Ok-run_nodes-clause-live
 returns-in-Ok-run_nodes-clause-live g c =
-    lived c.args.net.now c.in-Some.parts.nodes.items _ c.args.commands.now c.in-Ok-run_nodes.run' (given _ c.in-Ok.given c.in-Some.parts c.in-Some.is c.in-Ok.ensures) c.in-Ok-run_nodes.ensures.run
+    lived g.R.Moments.was_full c.args.net.now c.in-Some.parts.nodes.items _ c.args.commands.now c.in-Ok-run_nodes.run' (given _ c.in-Ok.given c.in-Some.parts c.in-Some.is c.in-Ok.ensures) c.in-Ok-run_nodes.ensures.run
     c.reported.result c.reported.ensures.report c.reported.ensures.refusals
 
 pub returns-in-Err-clause-refused : goal.returns-in-Err-clause-refused

@@ -1,4 +1,4 @@
-use Rattle.std.specs.Prelude.{◌≡◌, ◌∷◌, [], ◌++◌, List, ℕ, length, true}
+use Rattle.std.specs.Prelude.{◌≡◌, ◌∷◌, [], ◌++◌, List, ℕ, length}
 use Rattle.std.proofs.Common.{subst, sym, ap, ◌∙◌, arith}
 use Rattle.ir_epochs.specs.declared.registry.Stamp.{Stamp}
 use Rattle.std.proofs.lemmas.List.{length-map}
@@ -49,7 +49,7 @@ returns-clause-answer g c =
         number = (let n = c.len-count.ensures in omega (arith, n));
         accepted = c.push_reserved.ensures.items ∙ ap (λ (xs : List Accepted). xs ++ a ∷ []) c.reserve.ensures.items
             ∙ ap (λ (e : ℕ). c.args.self.now.accepted.items ++ entry c.len-count.result e c.args.source c.args.dest ∷ []) c.epoch-epoch.ensures.value;
-        sent = subst (λ (x : SeenParcel). SentTo c.args.self.now.outs.items c.send_to.new.outs.items c.args.source x true)
+        sent = subst (λ (x : SeenParcel). SentTo c.args.self.now.outs.items c.send_to.new.outs.items c.args.source x)
             (c.in-Ok.ensures ∙ ap (λ (s : Stamp). parcel_of c.len-count.result s c.args.source c.args.dest) c.again.ensures) c.if-not-send_to.ensures.sent;
       },
     )

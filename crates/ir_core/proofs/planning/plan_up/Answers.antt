@@ -2,8 +2,8 @@ use Rattle.std.proofs.Common.{◌≡◌, ◌∙◌, ℕ, List, Bool, ap, subst, 
 use Rattle.std.specs.Prelude.{IfOk}
 use Rattle.ir_model.specs.Network.{Network, restrict}
 use Rattle.ir_core.specs.Meaning.{IsMade}
-use Rattle.ir_core.specs.declared.world.BuildError.TheVariants.{Disconnected}
-use Rattle.ir_core.proofs.world.plan_up.Goals as goal
+use Rattle.ir_core.specs.declared.planning.BuildError.TheVariants.{Disconnected}
+use Rattle.ir_core.proofs.planning.plan_up.Goals as goal
 
 pub returns-clause-made : goal.returns-clause-made
 returns-clause-made c =
