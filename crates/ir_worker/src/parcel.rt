@@ -43,9 +43,9 @@ pub struct Parcel {
 struct Body {
     packet: Record,
     first: Stamp,
-    later: Vec<Stamp>,
     address: u16,
     next: u16,
+    later: Vec<Stamp>,
 }
 
 impl Model for Parcel {
