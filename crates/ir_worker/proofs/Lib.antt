@@ -1,4 +1,5 @@
 pub mod Acts
+pub mod Bodies
 pub mod Counts
 pub mod Dues
 pub mod Nodes

@@ -35,11 +35,17 @@ pub struct Place {
 /// label in the plan of the present stamp. Without a restamp there is one segment, from the source.
 #[derive(Drop)]
 pub struct Parcel {
+    body: Box<Body>,
+}
+
+// What a parcel owns, in one box: so a channel's slot is one address, and a parcel is moved by it.
+#[derive(Drop)]
+struct Body {
     packet: Record,
     first: Stamp,
-    later: Vec<Stamp>,
     address: u16,
     next: u16,
+    later: Vec<Stamp>,
 }
 
 impl Model for Parcel {
@@ -49,9 +55,9 @@ impl Model for Parcel {
 
     ghost Value = { SeenParcel };
 
-    ghost view = { λ p. record { journey = p.packet; first = p.first; later = p.later.items; next = p.next } };
+    ghost view = { λ p. record { journey = p.body.value.packet; first = p.body.value.first; later = p.body.value.later.items; next = p.body.value.next } };
 
-    ghost invariant = { λ p. IsKept p.first p.later.items p.packet p.next p.address × (MAX_RESTAMPS ≤ vec_capacity p.later) × (length p.later.items ≡ length p.packet.restamps) };
+    ghost invariant = { λ p. IsKept p.body.value.first p.body.value.later.items p.body.value.packet p.body.value.next p.body.value.address × (MAX_RESTAMPS ≤ vec_capacity p.body.value.later) × (length p.body.value.later.items ≡ length p.body.value.packet.restamps) };
 }
 
 impl Bound for Parcel {
@@ -64,7 +70,7 @@ impl Bound for Parcel {
     ghost goes_to = { GoesTo };
 
     fn id(&self) -> u32 {
-        self.packet.id
+        self.body.packet.id
     }
 }
 
@@ -103,53 +109,57 @@ impl Parcel {
         let address = plan.label_of(dest);
         let packet = Record::start(alloc, id, stamp.epoch(), source, dest)?;
         let later = Vec::with_capacity(alloc, MAX_RESTAMPS)?;
-        Ok(Parcel {
-            packet,
-            first: stamp,
-            later,
-            address,
-            next: source,
-        })
+        let body = Box::new(
+            alloc,
+            Body {
+                packet,
+                first: stamp,
+                later,
+                address,
+                next: source,
+            },
+        )?;
+        Ok(Parcel { body })
     }
 
     /// The epoch that it was stamped with first.
     pub fn epoch(&self) -> u32
         ensures { result ≡ self.now.journey.epoch }
     {
-        self.packet.epoch
+        self.body.packet.epoch
     }
 
     /// The destination's label in the plan of its present stamp.
     pub fn address(&self) -> u16
         ensures { result ≡ label_in (knows (stamp_now self.now)) self.now.journey.dest }
     {
-        self.address
+        self.body.address
     }
 
     pub fn source(&self) -> u16
         ensures { result ≡ self.now.journey.source }
     {
-        self.packet.source
+        self.body.packet.source
     }
 
     pub fn dest(&self) -> u16
         ensures { result ≡ self.now.journey.dest }
     {
-        self.packet.dest
+        self.body.packet.dest
     }
 
     /// The nodes that it came by, its source first.
     pub fn hops(&self) -> &[u16]
         ensures { result.now ≡ self.now.journey.hops }
     {
-        self.packet.hops.as_slice()
+        self.body.packet.hops.as_slice()
     }
 
     /// The node that it goes to.
     pub fn next(&self) -> u16
         ensures { result ≡ self.now.next }
     {
-        self.next
+        self.body.next
     }
 
     /// The stamp of its present segment.
@@ -159,8 +169,8 @@ impl Parcel {
         ensures under_way { IsUnderWay (knows (stamp_now self.now)) (present self.now.journey) self.now.next }
         ensures last { last_of (present self.now.journey).hops ≡ last_of self.now.journey.hops }
     {
-        match self.later.as_slice().last() {
-            None => &self.first,
+        match self.body.later.as_slice().last() {
+            None => &self.body.first,
             Some(stamp) => stamp,
         }
     }
@@ -169,7 +179,7 @@ impl Parcel {
     pub(crate) fn restamped(&self) -> usize
         ensures { result ≡ length self.now.journey.restamps }
     {
-        self.packet.restamp_count()
+        self.body.packet.restamp_count()
     }
 
     // What comes of it at a node that took it by this way, where each channel has room.
@@ -179,11 +189,12 @@ impl Parcel {
         ensures { result ≡ verdict_on self.now board.now false way at }
     {
         let _nodes = plan.nodes();
-        judge(plan, board, way, at, self.packet.stamp(), self.address)
+        let body = &self.body;
+        judge(plan, board, way, at, body.packet.stamp(), body.address)
     }
 
     // A new segment of it begins at a node, of this stamp.
-    pub(crate) fn restamp(self, stamp: Stamp, plan: &Plan, way: Way, at: u16) -> Parcel
+    pub(crate) fn restamp(mut self, stamp: Stamp, plan: &Plan, way: Way, at: u16) -> Parcel
         requires plan { plan.now ≡ knows stamp }
         requires at_in { at < node_count (knows stamp).network }
         requires nodes { node_count (knows stamp).network ≡ node_count (knows (stamp_now self)).network }
@@ -194,28 +205,17 @@ impl Parcel {
         ensures { result ≡ record { journey = restamped at way stamp.epoch self.journey; first = self.first; later = self.later ++ stamp ∷ []; next = at } }
     {
         let _nodes = plan.nodes();
-        let Parcel {
-            mut packet,
-            first,
-            mut later,
-            address: _,
-            next: _,
-        } = self;
-        packet.restamp(at, way, stamp.epoch());
-        let address = plan.label_of(packet.destination());
-        later.push_reserved(stamp);
-        Parcel {
-            packet,
-            first,
-            later,
-            address,
-            next: at,
-        }
+        let body = &mut *self.body;
+        body.packet.restamp(at, way, stamp.epoch());
+        body.address = plan.label_of(body.packet.destination());
+        body.later.push_reserved(stamp);
+        body.next = at;
+        self
     }
 
     // What a node makes of it that took it by this way, by this board: it is to go on by a hop, or it is settled.
     pub(crate) fn act(
-        self,
+        mut self,
         plan: &Plan,
         board: &Board,
         way: Way,
@@ -231,14 +231,8 @@ impl Parcel {
     {
         let _nodes = plan.nodes();
         let verdict = self.judge(plan, board, way, at);
-        let Parcel {
-            mut packet,
-            first,
-            later,
-            address,
-            next: _,
-        } = self;
-        packet.act(
+        let body = &mut *self.body;
+        body.packet.act(
             at,
             way,
             Ruling {
@@ -247,18 +241,16 @@ impl Parcel {
             },
         );
         if let Verdict::GoesOn(hop) = verdict {
-            let next = hop.node;
-            return Ok((
-                Parcel {
-                    packet,
-                    first,
-                    later,
-                    address,
-                    next,
-                },
-                hop,
-            ));
+            body.next = hop.node;
+            return Ok((self, hop));
         }
+        let Body {
+            packet,
+            first,
+            later,
+            address: _,
+            next: _,
+        } = Box::into_inner(self.body);
         Err(Outcome {
             packet,
             stamp: first,
@@ -275,13 +267,13 @@ impl Parcel {
         ensures later { result.later.items ≡ self.later }
         ensures version { result.version ≡ version }
     {
-        let Parcel {
+        let Body {
             mut packet,
             first,
             later,
             address: _,
             next,
-        } = self;
+        } = Box::into_inner(self.body);
         packet.act(
             next,
             Way::Inbox,
@@ -305,13 +297,13 @@ impl Parcel {
         ensures stamp { result.stamp ≡ self.first }
         ensures later { result.later.items ≡ self.later }
     {
-        let Parcel {
+        let Body {
             packet,
             first,
             later,
             address: _,
             next: _,
-        } = self;
+        } = Box::into_inner(self.body);
         Outcome {
             packet,
             stamp: first,

@@ -1,9 +1,14 @@
-use Rattle.std.proofs.Common.{◌∙◌, ap}
+use Rattle.std.proofs.Common.{subst, sym, ◌<◌, ◌∙◌, ap, ℕ}
 use Rattle.ir_core.specs.Sound.{last_of}
+use Rattle.ir_model.specs.Network.{node_count}
 use Rattle.ir_epochs.specs.Stamps.{knows}
 use Rattle.ir_worker.specs.Seen.{SeenParcel, present_stamp}
-use Rattle.ir_worker.proofs.Dues.{due_at, now_of_net, same_nodes, restamped_of_net, restamped_last}
+use Rattle.ir_worker.proofs.Dues.{due_at, over_nodes, now_of_net, same_nodes, restamped_of_net, restamped_last}
 use Rattle.ir_worker.proofs.passing.ready.Goals as goal
+
+pub restamp-requires-in-Some-clause-at_in : goal.restamp-requires-in-Some-clause-at_in
+restamp-requires-in-Some-clause-at_in c =
+    subst (λ (n : ℕ). c.args.at < n) (sym (over_nodes (knows c.args.opening.now).network (knows c.args.current).network c.requires.current.1)) c.requires.node_in
 
 pub restamp-requires-in-Some-clause-nodes : goal.restamp-requires-in-Some-clause-nodes
 restamp-requires-in-Some-clause-nodes c =

@@ -4,18 +4,22 @@ use Rattle.ir_core.specs.Sound.{LeadsOn}
 use Rattle.ir_epochs.specs.Stamps.{knows}
 use Rattle.ir_worker.specs.Seen.{SeenParcel, stamp_now}
 use Rattle.ir_worker.proofs.Acts.{refused_sound}
-use Rattle.ir_worker.proofs.Routes.{room}
+use Rattle.ir_worker.proofs.Bodies.{body_again, body_room}
 use Rattle.ir_worker.proofs.parcel.Parcel.refused.Goals as goal
 
 pub act-requires-clause-hops : goal.act-requires-clause-hops
-act-requires-clause-hops c = room c.self.inside.first c.self.inside.later.items c.self.inside.packet _ _ c.self.invariant.0
+act-requires-clause-hops c =
+    let i = c.into_inner-packet.result in
+    body_room c.args.self i (body_again c.args.self c.self.inside.body.value i c.into_inner-packet.ensures (c.self.view_is, c.self.invariant))
 
 pub invariant_of-result : goal.invariant_of-result
 invariant_of-result c =
-    let k = c.self.invariant.0 in
+    let i = c.into_inner-packet.result in
+    let is = body_again c.args.self c.self.inside.body.value i c.into_inner-packet.ensures (c.self.view_is, c.self.invariant) in
+    let k = is.1.0 in
     record {
       epoch = ap (λ (r : Journey). r.epoch) c.act.ensures ∙ k.first_epoch;
-      sound = refused_sound c.self.inside.first c.self.inside.later.items c.self.inside.packet _ _ k c.args.hop
-          (subst (λ (p : SeenParcel). LeadsOn (knows (stamp_now p)) (present p.journey) c.args.hop.link c.args.hop.node) (sym c.self.view_is) c.requires.leads)
+      sound = refused_sound i.first i.later.items i.packet _ _ k c.args.hop
+          (subst (λ (p : SeenParcel). LeadsOn (knows (stamp_now p)) (present p.journey) c.args.hop.link c.args.hop.node) (sym is.0) c.requires.leads)
           c.act.new.self c.act.ensures;
     }
