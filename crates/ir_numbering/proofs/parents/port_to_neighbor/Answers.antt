@@ -4,7 +4,7 @@ use Rattle.ir_model.specs.declared.Hop.{Hop}
 use Rattle.ir_model.proofs.Walks.{degree_bound}
 use Rattle.std.proofs.lemmas.Bool.{cases_eq}
 use Rattle.ir_numbering.proofs.Neighbors.{node_in}
-use Rattle.ir_numbering.proofs.parents.port_to.Goals as goal
+use Rattle.ir_numbering.proofs.parents.port_to_neighbor.Goals as goal
 
 pub overflow_cast-result : goal.overflow_cast-result
 overflow_cast-result c =
