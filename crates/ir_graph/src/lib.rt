@@ -133,10 +133,14 @@ impl Graph {
     }
 
     /// The place of a node in the order of nodes.
-    pub fn index_of(&self, name: &str) -> Option<usize>
-        ensures { result ≡ position (bytes_eq name.now) (names self.now) }
+    pub fn index_of(&self, name: &str) -> Option<u16>
+        ensures place { result ≡ position (bytes_eq name.now) (names self.now) }
+        ensures within { IfSome result (λ place. place < length self.now) }
     {
-        rows::row_index(&self.rows, name)
+        match rows::row_index(&self.rows, name) {
+            Some(place) => Some(place as u16),
+            None => None,
+        }
     }
 
     /// How many neighbours the node at a place has, itself among them where it has a self-loop; 0 past the end.
