@@ -15,7 +15,7 @@ fn is_written(graph: &Graph, count: usize, name: &str) -> bool
     ensures { result ≡ among (take count (names graph.now)) name.now }
 {
     match graph.index_of(name) {
-        Some(place) => place < count,
+        Some(place) => (place as usize) < count,
         None => false,
     }
 }

@@ -10,7 +10,7 @@ use Rattle.std.proofs.lemmas.List.{length-map}
 use Rattle.std.proofs.lemmas.Bool.{le-ltb, lt-ltb, ltb-true, ltb-false}
 use Rattle.ir_model.specs.Graph.{Name, Neighbors, Adjacency, names, among, has_node, neighbors, weight_of, IsGraph}
 use Rattle.ir_model.proofs.Names.{same_names, bytes_eq-same}
-use Rattle.ir_model.specs.Places.{place_of, neighbors_at, link_at}
+use Rattle.ir_model.specs.Places.{place_of, neighbors_at, neighbor_at}
 use Rattle.ir_graph.proofs.Joined.{one_place, has_node-weight_of}
 
 -- ---- the place of a name
@@ -135,7 +135,7 @@ pub record LinkFacts (g : Adjacency) (i j w : ℕ) : Type 0 where
   pub weight : weight_of g from to ≡ Some w
 
 module _ (g : Adjacency) (graph : IsGraph g) where
-  pub link_facts : (i p j w : ℕ) → link_at g i p ≡ Some (j, w) → LinkFacts g i j w
+  pub link_facts : (i p j w : ℕ) → neighbor_at g i p ≡ Some (j, w) → LinkFacts g i j w
   link_facts i p j w at = by (slice_get (neighbors_at g i) p) refl at
     where
       row : (o : Option (Name × Neighbors)) → slice_get g i ≡ o → (e : Name × ℕ) → slice_get (option_map_or (λ (r : Name × Neighbors). r.1) o []) p ≡ Some e → (x : Name) × (slice_get (names g) i ≡ Some x)
@@ -157,7 +157,7 @@ module _ (g : Adjacency) (graph : IsGraph g) where
           }
 
   -- and a link by name one by place
-  pub link_there : (i j w : ℕ) (x y : Name) → slice_get (names g) i ≡ Some x → slice_get (names g) j ≡ Some y → weight_of g x y ≡ Some w → (p : ℕ) × (link_at g i p ≡ Some (j, w))
+  pub link_there : (i j w : ℕ) (x y : Name) → slice_get (names g) i ≡ Some x → slice_get (names g) j ≡ Some y → weight_of g x y ≡ Some w → (p : ℕ) × (neighbor_at g i p ≡ Some (j, w))
   link_there i j w x y at_i at_j e =
       let found = place_from_lookup (bytes_eq y) (neighbors g x) w e in
       let named : y ≡ found.1 = same_names y found.1 found.3 in
@@ -165,7 +165,7 @@ module _ (g : Adjacency) (graph : IsGraph g) where
       (found.0, ap (option_map {U = ℕ × ℕ} (λ (e : Name × ℕ). (place_of g e.0, e.1))) row ∙ ap (λ (n : ℕ). Some (n, w)) (ap (place_of g) (sym named) ∙ place_of_at g graph.nodes_differ j y at_j))
 
   -- the neighbour has a link back, of the same weight
-  pub link_back : (i p j w : ℕ) → link_at g i p ≡ Some (j, w) → (q : ℕ) × (link_at g j q ≡ Some (i, w))
+  pub link_back : (i p j w : ℕ) → neighbor_at g i p ≡ Some (j, w) → (q : ℕ) × (neighbor_at g j q ≡ Some (i, w))
   link_back i p j w at =
       let facts = link_facts i p j w at in
       link_there j i w facts.to facts.from facts.to_at facts.from_at (graph.both_ways facts.to facts.from ∙ facts.weight)

@@ -8,7 +8,7 @@ use Rattle.std.proofs.lemmas.Option.{same_Some, none-some, slice_get_within}
 use Rattle.std.proofs.lemmas.Map.Keys.{IsDistinct-cons}
 use Rattle.std.proofs.lemmas.Map.Steps.{length-le_from_distinct_below, le-length_from_below}
 use Rattle.ir_model.specs.Graph.{Name, Neighbors, Adjacency, names, has_node, has_edge, weight_of, IsGraph}
-use Rattle.ir_model.specs.Places.{place_of, neighbors_at, link_at}
+use Rattle.ir_model.specs.Places.{place_of, neighbors_at, neighbor_at}
 use Rattle.ir_graph.specs.Paths.{IsPath, IsConnected}
 use Rattle.ir_graph.specs.Reached.{HasPlace, HasWay, HasNeighbors, AreReached, AreClosed, GoesOn}
 use Rattle.ir_graph.proofs.Removing.{or-false}
@@ -93,7 +93,7 @@ path_back g graph x y (z ∷ rest) way =
 
 module _ (g : Adjacency) (graph : IsGraph g) where
   -- a neighbour of a node that was reached is reached
-  pub reached_put : (places after : List ℕ) (i p j w : ℕ) → AreReached g places → HasPlace places i → link_at g i p ≡ Some (j, w) → IsPut places j after → IsDistinct nat_eq after → AreReached g after
+  pub reached_put : (places after : List ℕ) (i p j w : ℕ) → AreReached g places → HasPlace places i → neighbor_at g i p ≡ Some (j, w) → IsPut places j after → IsDistinct nat_eq after → AreReached g after
   reached_put places after i p j w reached there link put differ = record {
     differ = differ;
     ways = λ k h. ⊎_elim (λ old. reached.ways k old) (λ new. subst (HasWay g) (sym new) more) (put_cases places after j k put h);
@@ -122,11 +122,11 @@ module _ (g : Adjacency) (graph : IsGraph g) where
         subst (HasWay g) (sym zero_is) (record { first = first.0; last = first.0; path = []; first_at = first.1; last_at = first.1; way = refl }));
   }
 
-  pub neighbors_more : (before after : List ℕ) (i p : ℕ) → GoesOn before after → HasNeighbors g before i p → ((j w : ℕ) → link_at g i p ≡ Some (j, w) → HasPlace after j) → HasNeighbors g after i (p + 1)
+  pub neighbors_more : (before after : List ℕ) (i p : ℕ) → GoesOn before after → HasNeighbors g before i p → ((j w : ℕ) → neighbor_at g i p ≡ Some (j, w) → HasPlace after j) → HasNeighbors g after i (p + 1)
   neighbors_more before after i p on so_far here q j w h link = by (cases_eq q p)
     where
       by : (q ≡ p) ⊎ (q ≡ p → ⊥) → HasPlace after j
-      by (inl e) = here j w (ap (link_at g i) (sym e) ∙ link)
+      by (inl e) = here j w (ap (neighbor_at g i) (sym e) ∙ link)
       by (inr ne) = kept_place before after on j (so_far q j w (omega arith) link)
 
   pub neighbors_kept : (before after : List ℕ) (i p : ℕ) → GoesOn before after → HasNeighbors g before i p → HasNeighbors g after i p
@@ -201,7 +201,7 @@ module _ (g : Adjacency) (graph : IsGraph g) where
       let joined : IsPath g to_x.last to_y.last (back.0 ++ to_y.path) = path_join g to_x.last to_x.first to_y.last back.0 to_y.path back.1 forth in
       (back.0 ++ to_y.path, subst (λ (n : Name). IsPath g n y (back.0 ++ to_y.path)) same_x (subst (λ (n : Name). IsPath g to_x.last n (back.0 ++ to_y.path)) same_y joined))
 
-  link_within : (i p j w : ℕ) → link_at g i p ≡ Some (j, w) → p < length (neighbors_at g i)
+  link_within : (i p j w : ℕ) → neighbor_at g i p ≡ Some (j, w) → p < length (neighbors_at g i)
   link_within i p j w e = by (slice_get (neighbors_at g i) p) refl e
     where
       by : (o : Option (Name × ℕ)) → slice_get (neighbors_at g i) p ≡ o → option_map {U = ℕ × ℕ} (λ (e : Name × ℕ). (place_of g e.0, e.1)) o ≡ Some (j, w) → p < length (neighbors_at g i)

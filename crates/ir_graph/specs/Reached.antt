@@ -2,7 +2,7 @@
 use Rattle.std.specs.Prelude.{◌≡◌, ◌<◌, ◌++◌, ℕ, nat_eq, true, length, List, Some, slice_get}
 use Rattle.std.specs.List.{list_any, IsDistinct}
 use Rattle.ir_model.specs.Graph.{Name, Adjacency, names}
-use Rattle.ir_model.specs.Places.{link_at, neighbors_at}
+use Rattle.ir_model.specs.Places.{neighbor_at, neighbors_at}
 use Rattle.ir_graph.specs.Paths.{IsPath}
 
 -- the place is among these
@@ -25,7 +25,7 @@ pub record AreReached (g : Adjacency) (places : List ℕ) : Type 0 where
 
 -- the neighbours before place p of the node at place i are among the places
 abbrev pub HasNeighbors : Adjacency → List ℕ → ℕ → ℕ → Type 0
-HasNeighbors g places i p = (q j w : ℕ) → q < p → link_at g i q ≡ Some (j, w) → HasPlace places j
+HasNeighbors g places i p = (q j w : ℕ) → q < p → neighbor_at g i q ≡ Some (j, w) → HasPlace places j
 
 -- with each of the places each neighbour of its node
 abbrev pub AreClosed : Adjacency → List ℕ → Type 0

@@ -2,7 +2,7 @@
 ghost use Rattle.std.specs.Prelude.{◌≡◌, ◌<◌, ◌+◌, ℕ, List, Some, true, false, IfSome, IfNone, MatchResult, length, take, option_map, slice_get};
 ghost use Rattle.ir_model.specs.Graph.{edges, names, among};
 ghost use Rattle.ir_graph.specs.View.{rows_view};
-ghost use Rattle.ir_model.specs.Places.{neighbors_at, link_at, later_neighbors, IsBothWays};
+ghost use Rattle.ir_model.specs.Places.{neighbors_at, neighbor_at, later_neighbors, IsBothWays};
 
 use crate::rows::{Rows, name_at, row_index};
 
@@ -32,7 +32,7 @@ fn entry_at(rows: &Rows, node: usize, place: usize) -> Option<(&str, u32)>
 /// The neighbour at a place of the node at a place, by its own place, and the weight of the link.
 pub fn neighbor_at(rows: &Rows, node: usize, place: usize) -> Option<(usize, u32)>
     requires { IsBothWays (rows_view rows.now) }
-    ensures at { result ≡ link_at (rows_view rows.now) node place }
+    ensures at { result ≡ neighbor_at (rows_view rows.now) node place }
     ensures within { IfSome result (λ link. link.0 < length (rows_view rows.now)) }
 {
     let (name, weight) = entry_at(rows, node, place)?;

@@ -66,7 +66,7 @@ fn is_valid_name(name: &str) -> bool
 impl Graph {
     ghost use Rattle.ir_graph.specs.Faults.{node_fault, edge_fault, Refuses};
     ghost use Rattle.ir_graph.specs.Paths.{IsConnected, RefusesEmpty};
-    ghost use Rattle.ir_model.specs.Places.{link_at, neighbors_at};
+    ghost use Rattle.ir_model.specs.Places.{neighbor_at, neighbors_at};
     ghost use Rattle.ir_model.specs.Graph.{IsGraph};
     ghost use Rattle.std.specs.Prelude.{ℕ, List, position};
 
@@ -133,10 +133,14 @@ impl Graph {
     }
 
     /// The place of a node in the order of nodes.
-    pub fn index_of(&self, name: &str) -> Option<usize>
-        ensures { result ≡ position (bytes_eq name.now) (names self.now) }
+    pub fn index_of(&self, name: &str) -> Option<u16>
+        ensures place { result ≡ position (bytes_eq name.now) (names self.now) }
+        ensures within { IfSome result (λ place. place < length self.now) }
     {
-        rows::row_index(&self.rows, name)
+        match rows::row_index(&self.rows, name) {
+            Some(place) => Some(place as u16),
+            None => None,
+        }
     }
 
     /// How many neighbours the node at a place has, itself among them where it has a self-loop; 0 past the end.
@@ -148,7 +152,7 @@ impl Graph {
 
     /// The neighbour at a place of the node at a place: its own place, and the weight of the edge to it.
     pub fn neighbor_at(&self, node: usize, place: usize) -> Option<(usize, u32)>
-        ensures at { result ≡ link_at self.now node place }
+        ensures at { result ≡ neighbor_at self.now node place }
         ensures within { IfSome result (λ link. link.0 < length self.now) }
     {
         by_place::neighbor_at(&self.rows, node, place)

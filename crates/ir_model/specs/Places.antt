@@ -13,8 +13,8 @@ abbrev pub neighbors_at : Adjacency → ℕ → Neighbors
 neighbors_at g i = option_map_or (λ r. r.1) (slice_get g i) []
 
 -- The neighbour at place p of the node at place i: its own place, and the weight of the link to it.
-abbrev pub link_at : Adjacency → ℕ → ℕ → Option (ℕ × ℕ)
-link_at g i p = option_map {U = ℕ × ℕ} (λ e. (place_of g e.0, e.1)) (slice_get (neighbors_at g i) p)
+abbrev pub neighbor_at : Adjacency → ℕ → ℕ → Option (ℕ × ℕ)
+neighbor_at g i p = option_map {U = ℕ × ℕ} (λ e. (place_of g e.0, e.1)) (slice_get (neighbors_at g i) p)
 
 -- the neighbours of the node at a place that do not stand before it as nodes
 abbrev pub later_neighbors : Adjacency → ℕ → Neighbors

@@ -73,11 +73,11 @@ fn parent_port(
     if label == 0 {
         return None;
     }
-    port_to(topology, u, order[parents[label]])
+    port_to_neighbor(topology, u, order[parents[label]])
 }
 
 /// The port of a node that leads to a neighbour.
-pub fn port_to(topology: &Topology, u: usize, v: u16) -> Option<u16>
+pub fn port_to_neighbor(topology: &Topology, u: usize, v: u16) -> Option<u16>
     requires { Linked topology.now u v }
     ensures { IsSomeAnd result (λ p. IsPortTo topology.now u p v) }
 {

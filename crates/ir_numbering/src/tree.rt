@@ -5,7 +5,7 @@ ghost use Rattle.ir_model.specs.Scheme.{AreLabels};
 ghost use Rattle.ir_numbering.specs.Numbers.{IsParentPort, AreParentPorts};
 ghost use Rattle.ir_numbering.specs.Cells.{IsTreeCell, AreTreeCells, AreTreeRows};
 
-use crate::parents::port_to;
+use crate::parents::port_to_neighbor;
 use ir_tables::Topology;
 use std::alloc::{AllocError, Global};
 
@@ -79,7 +79,7 @@ fn next_port(
     }
     let parent = parents[place];
     if parent == own {
-        return port_to(topology, order[own] as usize, order[place]);
+        return port_to_neighbor(topology, order[own] as usize, order[place]);
     }
     before[parent]
 }

@@ -16,7 +16,7 @@ use Rattle.ir_core.specs.declared.event.Step.{Step}
 use Rattle.ir_core.specs.declared.event.Step.TheVariants as step
 use Rattle.ir_script.specs.declared.fault.ScriptFault.{ScriptFault}
 use Rattle.ir_script.specs.declared.fault.ScriptFault.TheVariants.{BadByte, BadCommand}
-use Rattle.ir_script.specs.Command.{number_of, node_at, node_of, link_at, link_between, link_of_ends, link_of, of_one, of_two, event_of_one, event_of_two, event_of_three, as_step, step_of, line_step}
+use Rattle.ir_script.specs.Command.{number_of, node_at, node_of, link_of_port, link_between, link_of_ends, link_of, of_one, of_two, event_of_one, event_of_two, event_of_three, as_step, step_of, line_step}
 use Rattle.ir_script.specs.Script.{Listing, with_line, listing_from, listing_of}
 use Rattle.ir_script.specs.Within.{is_node, is_link, is_event_within, is_within}
 
@@ -41,7 +41,7 @@ module _ (nodes : List Name) (net : Network) (is_net : IsNetwork net) (count : l
   between_within : (u v l : ℕ) → link_between net u v ≡ Ok l → is_link net l ≡ true
   between_within u v l e = by (find (λ hop. hop.node == v) (ports_of net u)) refl e
     where
-      by : (o : Option Hop) → find (λ hop. hop.node == v) (ports_of net u) ≡ o → link_at o ≡ Ok l → is_link net l ≡ true
+      by : (o : Option Hop) → find (λ hop. hop.node == v) (ports_of net u) ≡ o → link_of_port o ≡ Ok l → is_link net l ≡ true
       by None h k = absurd (cc k)
       by (Some hop) h k =
           let same : hop.link ≡ l = cc k in

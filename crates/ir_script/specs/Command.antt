@@ -38,13 +38,13 @@ abbrev pub node_of : List Name → Name → Result ℕ ScriptFault
 node_of nodes word = node_at (position (bytes_eq word) nodes)
 
 -- the link of a port, where it was found
-abbrev pub link_at : Option Hop → Result ℕ ScriptFault
-link_at None = Err UnknownLink
-link_at (Some hop) = Ok hop.link
+abbrev pub link_of_port : Option Hop → Result ℕ ScriptFault
+link_of_port None = Err UnknownLink
+link_of_port (Some hop) = Ok hop.link
 
 -- the link by which a port of u leads to v
 abbrev pub link_between : Network → ℕ → ℕ → Result ℕ ScriptFault
-link_between net u v = link_at (find (λ hop. hop.node == v) (ports_of net u))
+link_between net u v = link_of_port (find (λ hop. hop.node == v) (ports_of net u))
 
 -- the link between two ends, where both are nodes
 abbrev pub link_of_ends : Network → Result ℕ ScriptFault → Result ℕ ScriptFault → Result ℕ ScriptFault

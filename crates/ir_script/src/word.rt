@@ -12,7 +12,6 @@ use crate::fault::ScriptFault;
 use crate::{MAX_DIGITS, MAX_NUMBER};
 use ir_adjlist::digits::{all_digits, capped_value};
 use ir_graph::Graph;
-use ir_model::Hop;
 use ir_tables::Topology;
 
 /// The number that a word spells.
@@ -38,17 +37,7 @@ pub fn node_of(graph: &Graph, word: &[u8]) -> Result<u16, ScriptFault>
     let Ok(name) = str::from_utf8(word) else {
         return Err(ScriptFault::UnknownNode);
     };
-    match graph.index_of(name) {
-        Some(place) => Ok(place as u16),
-        None => Err(ScriptFault::UnknownNode),
-    }
-}
-
-/// The first port to a node.
-fn port_to(ports: &[Hop], v: u16) -> Option<Hop>
-    ensures { result ≡ find (λ hop. hop.node == v) ports.now }
-{
-    ports.iter().copied().find(|hop| hop.node == v)
+    graph.index_of(name).ok_or(ScriptFault::UnknownNode)
 }
 
 /// The link by which a port of a node leads to another.
@@ -56,7 +45,7 @@ pub fn link_between(topology: &Topology, u: u16, v: u16) -> Result<u16, ScriptFa
     requires { u < node_count topology.now }
     ensures { result ≡ link_between topology.now u v }
 {
-    match port_to(topology.ports(usize::from(u)), v) {
+    match topology.hop_to(u, v) {
         Some(hop) => Ok(hop.link),
         None => Err(ScriptFault::UnknownLink),
     }

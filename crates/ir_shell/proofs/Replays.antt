@@ -17,12 +17,12 @@ use Rattle.ir_model.specs.Graph.{Adjacency}
 use Rattle.ir_model.specs.Text.{lines}
 use Rattle.ir_script.specs.Script.{Listing}
 use Rattle.ir_trace.specs.Checked.{IsInstall, AreInstalls}
-use Rattle.ir_shell.specs.declared.words.Words.{Words}
-use Rattle.ir_shell.specs.declared.reply.Reply.{Reply}
-use Rattle.ir_shell.specs.Answer.{Answer, Ran, Found, Refused, NoThread}
-use Rattle.ir_shell.specs.Replies.{answer_of}
-use Rattle.ir_shell.specs.Cut.{topology_part, script_part, EndsWith}
-use Rattle.ir_shell.specs.Openings.{AnswersTopology}
+use Rattle.ir_words.specs.declared.words.Words.{Words}
+use Rattle.ir_words.specs.declared.reply.Reply.{Reply}
+use Rattle.ir_words.specs.Answer.{Answer, Ran, Found, Refused, NoThread}
+use Rattle.ir_words.specs.Replies.{answer_of}
+use Rattle.ir_words.specs.Cut.{topology_part, script_part, EndsWith}
+use Rattle.ir_words.specs.Openings.{AnswersTopology}
 use Rattle.ir_shell.specs.Checks.{AreReplayed, AnswersTrace, AnswersCheck, AnswersChecked}
 use Rattle.ir_shell.specs.Asked.{CheckAnswers}
 

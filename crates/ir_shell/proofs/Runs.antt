@@ -2,11 +2,11 @@
 use Rattle.std.proofs.Common.{ℕ, Bool, List, inr, sym, subst}
 use Rattle.ir_streams.specs.declared.reading.NoInput.{NoInput}
 use Rattle.ir_streams.specs.declared.reading.NoInput.TheVariants.{Unreadable, TooLarge, NoMemory}
-use Rattle.ir_shell.specs.declared.ending.Ending.{Ending}
-use Rattle.ir_shell.specs.declared.read.Source.{Source}
-use Rattle.ir_shell.specs.Answer.{Answer}
-use Rattle.ir_shell.specs.Ending.{EndsAs}
-use Rattle.ir_shell.specs.Replied.{UnreadAs}
+use Rattle.ir_words.specs.declared.ending.Ending.{Ending}
+use Rattle.ir_words.specs.declared.read.Source.{Source}
+use Rattle.ir_words.specs.Answer.{Answer}
+use Rattle.ir_words.specs.Ending.{EndsAs}
+use Rattle.ir_words.specs.Replied.{UnreadAs}
 
 -- a source that was not read
 pub given_up : (answers : List (List ℕ) → Answer → Type 0) (ending : Ending) (read : List (List ℕ) → Type 0) (stops : Source → NoInput → Type 0) (out : Bool → List ℕ → Type 0) (unused : Type 0) (told : List ℕ → Type 0)

@@ -6,11 +6,8 @@ use Rattle.std.specs.List.{zip}
 use Rattle.ir_core.specs.declared.event.Reply.{Reply}
 use Rattle.ir_core.specs.declared.event.Refused.{Refused}
 use Rattle.ir_shell.specs.Lives.{refusal_line}
-use Rattle.ir_shell.specs.Plays.{reply_line, refused_text}
-
--- the pieces of a line that says what is wrong where
-pub line_pieces : (old a b c d : List ℕ) → (((old ++ a) ++ b) ++ c) ++ d ≡ old ++ (((a ++ b) ++ c) ++ d)
-line_pieces old a b c d = simp append_assoc
+use Rattle.ir_words.specs.Lines.{reply_line}
+use Rattle.ir_shell.specs.Plays.{refused_text}
 
 -- one more reply
 pub replies_more : (lines : List ℕ) (replies : List (Result Reply Refused)) (i : ℕ) (d : ℕ × Result Reply Refused) → i < length lines → i < length replies

@@ -1,31 +1,19 @@
 -- What the words ask for: which inputs are read, and the answers to their texts.
-use Rattle.std.specs.Prelude.{◌≡◌, ℕ, Bool, false, if◌then◌else◌, List, [], ◌∷◌, bytes_eq, codes, string_bytes, map}
-use Rattle.ir_model.specs.Graph.{Name}
+use Rattle.std.specs.Prelude.{◌≡◌, ℕ, if◌then◌else◌, List, [], ◌∷◌}
 use Rattle.ir_model.specs.Text.{lines}
-use Rattle.ir_shell.specs.declared.words.Words.{Words}
-use Rattle.ir_shell.specs.declared.words.WordsError.{WordsError}
-use Rattle.ir_shell.specs.declared.words.WordsError.TheVariants as refused
-use Rattle.ir_shell.specs.declared.read.Source.{Source}
-use Rattle.ir_shell.specs.declared.read.Source.TheVariants.{Input, Topology, Script, Trace}
+use Rattle.ir_words.specs.declared.words.Words.{Words}
+use Rattle.ir_words.specs.declared.read.Source.{Source}
+use Rattle.ir_words.specs.declared.read.Source.TheVariants.{Input, Topology, Script, Trace}
 use Rattle.ir_shell.specs.declared.run.Task.{Task}
 use Rattle.ir_shell.specs.declared.run.Task.TheVariants.{Look, Sim, Check}
-use Rattle.ir_shell.specs.Answer.{Answer}
-use Rattle.ir_shell.specs.Cut.{topology_part, script_part, EndsWith}
-use Rattle.ir_shell.specs.Openings.{AnswersTopology}
+use Rattle.ir_words.specs.Answer.{Answer}
+use Rattle.ir_words.specs.Words.{is_one_input}
+use Rattle.ir_words.specs.Cut.{topology_part, script_part, EndsWith}
+use Rattle.ir_words.specs.Openings.{AnswersTopology}
 use Rattle.ir_shell.specs.Looks.{LookAnswers}
 use Rattle.ir_shell.specs.Plays.{AnswersScript}
 use Rattle.ir_shell.specs.Lives.{AnswersLiveScript}
 use Rattle.ir_shell.specs.Checks.{AnswersChecked}
-
--- the files are the one word `-`
-abbrev pub is_dash : List Name → Bool
-is_dash [] = false
-is_dash (file ∷ []) = bytes_eq file (codes "-")
-is_dash (file ∷ other ∷ files) = false
-
--- `-` stands for one input of all texts
-abbrev pub is_one_input : Words → Bool
-is_one_input words = is_dash (map string_bytes words.files.items)
 
 -- the inputs of `plan`, `walk`, `stats` and `draw`, of `sim` and `live`, and of `check`, in the order of reading
 abbrev pub look_sources : Words → List Source
@@ -73,9 +61,3 @@ abbrev pub Answers : Task → Words → List (List ℕ) → Answer → Type 0
 Answers (Look look) words texts answer = LookAnswers look words texts answer
 Answers Sim words texts answer = SimAnswers words texts answer
 Answers Check words texts answer = CheckAnswers words texts answer
-
--- the numbers of the refusals of words
-abbrev pub words_code : WordsError → ℕ
-words_code (refused.Usage text) = 1
-words_code (refused.Help text) = 2
-words_code refused.NoMemory = 3

@@ -15,10 +15,10 @@ use Rattle.ir_trace.specs.Row.{Row}
 use Rattle.ir_trace.specs.Reading.{IsTrace, Tells}
 use Rattle.ir_trace.specs.Checked.{Finds}
 use Rattle.ir_trace.specs.Sound.{IsSoundTrace}
-use Rattle.ir_shell.specs.declared.words.Words.{Words}
-use Rattle.ir_shell.specs.Answer.{Answer, Ran, Found, Refused, NoThread}
-use Rattle.ir_shell.specs.Lines.{script_line, opening_line, finding_line, ok_line}
-use Rattle.ir_shell.specs.Openings.{root_name, AnswersRoot}
+use Rattle.ir_words.specs.declared.words.Words.{Words}
+use Rattle.ir_words.specs.Answer.{Answer, Ran, Found, Refused, NoThread}
+use Rattle.ir_words.specs.Lines.{script_line, opening_line, finding_line, ok_line}
+use Rattle.ir_words.specs.Openings.{root_name, AnswersRoot}
 
 -- no finding: the text is that of a trace of so many rows, and they are sound by the plans of these installs
 abbrev pub IsClean : Adjacency → List Install → List ℕ → ℕ → Type 0

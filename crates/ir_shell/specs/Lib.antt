@@ -1,16 +1,6 @@
-pub mod Cut
-pub mod Words
-pub mod Lines
-pub mod Answer
-pub mod Replies
-pub mod Openings
 pub mod Plans
 pub mod Looks
 pub mod Plays
 pub mod Lives
 pub mod Checks
 pub mod Asked
-pub mod Replied
-pub mod Ending
-pub mod Reading
-pub mod Told

@@ -7,11 +7,11 @@ use Rattle.ir_look.specs.PlanText.{plan_text}
 use Rattle.ir_look.specs.WalkText.{IsWalkOf}
 use Rattle.ir_look.specs.StatsText.{IsStatsOf}
 use Rattle.ir_look.specs.Drawing.{IsDrawingOf}
-use Rattle.ir_shell.specs.declared.words.Words.{Words}
+use Rattle.ir_words.specs.declared.words.Words.{Words}
 use Rattle.ir_shell.specs.declared.look.Look.{Look}
 use Rattle.ir_shell.specs.declared.look.Look.TheVariants.{Plan, Walk, Stats, Draw}
-use Rattle.ir_shell.specs.Answer.{Answer}
-use Rattle.ir_shell.specs.Openings.{root_name, AnswersTopology, AnswersRoot}
+use Rattle.ir_words.specs.Answer.{Answer}
+use Rattle.ir_words.specs.Openings.{root_name, AnswersTopology, AnswersRoot}
 use Rattle.ir_shell.specs.Plans.{AnswersText}
 
 -- the names of the ends of a walk, if the words have them

@@ -10,8 +10,8 @@ use Rattle.ir_plan.specs.declared.error.PlanError.{PlanError}
 use Rattle.ir_plan.specs.declared.error.PlanError.TheVariants as plans
 use Rattle.ir_core.specs.declared.event.OpenError.{OpenError}
 use Rattle.ir_core.specs.declared.event.OpenError.TheVariants.{NoNode, Empty, Disconnected, TooLarge, NoMemory}
-use Rattle.ir_shell.specs.Answer.{Answer, Ran, Found, Refused, NoThread}
-use Rattle.ir_shell.specs.Lines.{opening_line}
+use Rattle.ir_words.specs.Answer.{Answer, Ran, Found, Refused, NoThread}
+use Rattle.ir_words.specs.Lines.{opening_line}
 
 -- the refusals of a plan, in order
 abbrev pub RefusesPlan : Network → ℕ → OpenError → Type 0

@@ -18,10 +18,10 @@ use Rattle.ir_script.specs.declared.script.Script.{Script}
 use Rattle.ir_core.specs.declared.event.Step.{Step}
 use Rattle.ir_script.specs.Script.{Listing, listing_of}
 use Rattle.ir_trace.specs.Written.{records_text, segments_text}
-use Rattle.ir_shell.specs.declared.words.Words.{Words}
-use Rattle.ir_shell.specs.Answer.{Answer, Ran, Found, Refused, NoThread}
-use Rattle.ir_shell.specs.Lines.{script_line, opening_line, refused_line}
-use Rattle.ir_shell.specs.Openings.{root_name, AnswersRoot}
+use Rattle.ir_words.specs.declared.words.Words.{Words}
+use Rattle.ir_words.specs.Answer.{Answer, Ran, Found, Refused, NoThread}
+use Rattle.ir_words.specs.Lines.{script_line, opening_line, reply_line}
+use Rattle.ir_words.specs.Openings.{root_name, AnswersRoot}
 
 -- the steps of a script, and beside each the number of its line
 abbrev pub listing_in : Script → Listing Step
@@ -32,11 +32,6 @@ abbrev pub wants_memory : Result Reply Refusal → Bool
 wants_memory (Ok reply) = false
 wants_memory (Err refusals.NoMemory) = true
 wants_memory (Err refusal) = false
-
--- the line of a step that was refused
-abbrev pub reply_line : ℕ × Result Reply Refusal → List ℕ
-reply_line (line, Ok reply) = []
-reply_line (line, Err refusal) = refused_line line refusal
 
 -- a line for each step that was refused, in order, from the numbers of the steps' lines and the replies beside them
 abbrev pub refused_text : List ℕ → List (Result Reply Refusal) → List ℕ

@@ -4,21 +4,21 @@ ghost use Rattle.ir_model.specs.Graph.{names};
 ghost use Rattle.ir_model.specs.OfGraph.{network_of_graph};
 ghost use Rattle.ir_model.specs.Text.{lines};
 ghost use Rattle.ir_trace.specs.Checked.{AreInstalls};
-ghost use Rattle.ir_shell.specs.Openings.{root_name, AnswersTopology, AnswersRoot};
+ghost use Rattle.ir_words.specs.Openings.{root_name, AnswersTopology, AnswersRoot};
 ghost use Rattle.ir_shell.specs.Plays.{listing_in};
 ghost use Rattle.ir_shell.specs.Checks.{IsClean, IsFound, AnswersTrace, AnswersCheck, AnswersChecked};
-ghost use Rattle.ir_shell.specs.Replies.{answer_of};
+ghost use Rattle.ir_words.specs.Replies.{answer_of};
 
-use crate::lines::{finding_line, ok_line, opening_line, script_line, topology_line};
-use crate::open::{no_root, read_topology, root_of};
-use crate::reply::Reply;
-use crate::words::Words;
 use ir_core::{Install, OpenError, Opening, installs};
 use ir_graph::Graph;
 use ir_model::Fault;
 use ir_script::{Script, ScriptFault, parse_script};
 use ir_tables::Topology;
 use ir_trace::{Finding, FindingKind, check_trace, read_trace};
+use ir_words::lines::{finding_line, ok_line, opening_line, script_line, topology_line};
+use ir_words::open::{no_root, read_topology, root_of};
+use ir_words::reply::Reply;
+use ir_words::words::Words;
 use std::alloc::{AllocError, Global};
 
 /// How many rows a trace has, or its first finding.

@@ -6,21 +6,21 @@ ghost use Rattle.ir_look.specs.WalkText.{IsWalkOf};
 ghost use Rattle.ir_look.specs.StatsText.{IsStatsOf};
 ghost use Rattle.ir_look.specs.Drawing.{IsDrawingOf};
 ghost use Rattle.ir_shell.specs.Looks.{from_name, to_name, AnswersEnds, AnswersLook, LookAnswers};
-ghost use Rattle.ir_shell.specs.Openings.{root_name, AnswersRoot};
+ghost use Rattle.ir_words.specs.Openings.{root_name, AnswersRoot};
 ghost use Rattle.ir_shell.specs.Plans.{AnswersText};
-ghost use Rattle.ir_shell.specs.Reading.{texts_of};
-ghost use Rattle.ir_shell.specs.Replies.{answer_of};
+ghost use Rattle.ir_words.specs.Reading.{texts_of};
+ghost use Rattle.ir_words.specs.Replies.{answer_of};
 
-use crate::lines::{opening_line, topology_line};
-use crate::open::{no_root, read_topology, root_of};
 use crate::plan::build_plan;
-use crate::reply::Reply;
-use crate::words::Words;
 use ir_core::OpenError;
 use ir_graph::Graph;
 use ir_look::plan_text::plan_text;
 use ir_look::{draw_text, stats_text, walk_text};
 use ir_model::{Fault, Kind};
+use ir_words::lines::{opening_line, topology_line};
+use ir_words::open::{no_root, read_topology, root_of};
+use ir_words::reply::Reply;
+use ir_words::words::Words;
 use std::alloc::{AllocError, Global};
 
 /// What of a plan is shown.

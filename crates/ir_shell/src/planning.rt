@@ -1,15 +1,15 @@
 //! The texts that show a topology's plan, from bytes to bytes.
 ghost use Rattle.std.specs.Prelude.{◌≡◌, length};
 ghost use Rattle.ir_shell.specs.Asked.{look_sources};
-ghost use Rattle.ir_shell.specs.Ending.{Ends};
+ghost use Rattle.ir_words.specs.Ending.{Ends};
 ghost use Rattle.ir_shell.specs.Looks.{LookAnswers};
-ghost use Rattle.ir_shell.specs.Reading.{AreRead, IsUnread};
-ghost use Rattle.ir_shell.specs.Told.{Sends, Tells};
+ghost use Rattle.ir_words.specs.Reading.{AreRead, IsUnread};
+ghost use Rattle.ir_words.specs.Told.{Sends, Tells};
 
 use crate::look::Look;
 use crate::run::{Task, run};
-use crate::words::Words;
 use ir_streams::{Reader, Writer};
+use ir_words::words::Words;
 use std::alloc::Global;
 
 /// Reads a topology, and writes the plan that the words ask for: a line for each node with its label and its row.

@@ -5,20 +5,20 @@ ghost use Rattle.ir_model.specs.Graph.{names};
 ghost use Rattle.ir_model.specs.OfGraph.{network_of_graph};
 ghost use Rattle.ir_model.specs.Text.{lines};
 ghost use Rattle.ir_trace.specs.Written.{HaveSegments};
-ghost use Rattle.ir_shell.specs.Openings.{root_name, AnswersTopology, AnswersRoot};
+ghost use Rattle.ir_words.specs.Openings.{root_name, AnswersTopology, AnswersRoot};
 ghost use Rattle.ir_shell.specs.Plays.{listing_in, wants_memory, refused_text, run_text, AnswersRun, AnswersScript};
-ghost use Rattle.ir_shell.specs.Replies.{answer_of};
+ghost use Rattle.ir_words.specs.Replies.{answer_of};
 
-use crate::lines::{opening_line, push_reply_line, script_line, topology_line};
-use crate::open::{no_root, read_topology, root_of};
-use crate::reply::Reply;
-use crate::words::Words;
 use ir_core::{OpenError, Opening, Played, Record, Refused, Reply as Answered, play};
 use ir_graph::Graph;
 use ir_model::Fault;
 use ir_script::{Script, ScriptFault, parse_script};
 use ir_tables::Topology;
 use ir_trace::{trace_text, trace_text_2};
+use ir_words::lines::{opening_line, push_reply_line, script_line, topology_line};
+use ir_words::open::{no_root, read_topology, root_of};
+use ir_words::reply::Reply;
+use ir_words::words::Words;
 use std::alloc::{AllocError, Global};
 
 /// Whether some step wanted memory.

@@ -1,20 +1,20 @@
 //! Runs of the program, from bytes to bytes.
 ghost use Rattle.std.specs.Prelude.{◌≡◌, IfOk, length};
 ghost use Rattle.ir_shell.specs.Asked.{sources_of, Answers};
-ghost use Rattle.ir_shell.specs.Ending.{EndsAs, Ends};
-ghost use Rattle.ir_shell.specs.Reading.{texts_of, AreRead, IsUnread};
-ghost use Rattle.ir_shell.specs.Replies.{answer_of};
-ghost use Rattle.ir_shell.specs.Told.{Sends, Tells};
+ghost use Rattle.ir_words.specs.Ending.{EndsAs, Ends};
+ghost use Rattle.ir_words.specs.Reading.{texts_of, AreRead, IsUnread};
+ghost use Rattle.ir_words.specs.Replies.{answer_of};
+ghost use Rattle.ir_words.specs.Told.{Sends, Tells};
 
 use crate::check::answer_check_texts;
-use crate::ending::{Ending, status_of};
 use crate::look::{Look, answer_look};
-use crate::read::{Source, read_inputs};
-use crate::reply::{Reply, tell_unread, write_reply};
 use crate::sim::answer_sim_texts;
-use crate::words::Words;
-use crate::write::tell;
 use ir_streams::{Reader, Writer};
+use ir_words::ending::{Ending, status_of};
+use ir_words::read::{Source, read_inputs};
+use ir_words::reply::{Reply, tell_unread, write_reply};
+use ir_words::words::Words;
+use ir_words::write::tell;
 use std::alloc::{AllocError, Global};
 
 /// What a run is to do.

@@ -1,17 +1,17 @@
 //! A simulation, from bytes to bytes.
 ghost use Rattle.std.specs.Prelude.{◌≡◌, IfOk, length};
 ghost use Rattle.ir_shell.specs.Asked.{SimAnswers, sim_sources};
-ghost use Rattle.ir_shell.specs.Ending.{Ends};
-ghost use Rattle.ir_shell.specs.Reading.{texts_of, AreRead, IsUnread};
-ghost use Rattle.ir_shell.specs.Replies.{answer_of};
-ghost use Rattle.ir_shell.specs.Told.{Sends, Tells};
+ghost use Rattle.ir_words.specs.Ending.{Ends};
+ghost use Rattle.ir_words.specs.Reading.{texts_of, AreRead, IsUnread};
+ghost use Rattle.ir_words.specs.Replies.{answer_of};
+ghost use Rattle.ir_words.specs.Told.{Sends, Tells};
 
-use crate::cut::cut;
 use crate::play::answer_sim;
-use crate::reply::Reply;
 use crate::run::{Task, run};
-use crate::words::Words;
 use ir_streams::{Reader, Writer};
+use ir_words::cut::cut;
+use ir_words::reply::Reply;
+use ir_words::words::Words;
 use std::alloc::{AllocError, Global};
 
 /// The answer to the texts of the inputs.

@@ -7,7 +7,7 @@ use Rattle.ir_model.specs.declared.TheConstants.{MAX_NODES, MAX_EDGES, MAX_WEIGH
 use Rattle.ir_model.specs.declared.Link.{Link}
 use Rattle.ir_model.specs.declared.Hop.{Hop}
 use Rattle.ir_model.specs.Network.{Network, node_count, port_at, Joins, IsPort, IsNetwork, port_back}
-use Rattle.ir_tables.specs.Numbered.{Numbers, links_at, links_from, joins_nodes, link_between, port_to, ports_at, ports_from, network_of_rows}
+use Rattle.ir_tables.specs.Numbered.{Numbers, links_at, links_from, joins_nodes, link_between, entry_port, ports_at, ports_from, network_of_rows}
 
 -- what a mapped filter gives comes from an element that passes
 kept_from : {A B : Type 0} (f : A → B) (t : A → Bool) (xs : List A) (p : ℕ) (y : B) → slice_get (map f (filter t xs)) p ≡ Some y
@@ -148,17 +148,17 @@ module _ (rows : List Numbers) where
   net = network_of_rows rows
 
   -- where a port comes from
-  port_from : (u p : ℕ) (hop : Hop) → port_at net u p ≡ Some hop → (i : ℕ) × (e : ℕ × ℕ) × (row_get rows u i ≡ Some e) × (e.0 ≢ u) × (port_to links u e ≡ hop)
+  port_from : (u p : ℕ) (hop : Hop) → port_at net u p ≡ Some hop → (i : ℕ) × (e : ℕ × ℕ) × (row_get rows u i ≡ Some e) × (e.0 ≢ u) × (entry_port links u e ≡ hop)
   port_from u p hop at =
       let P : List Hop → Type 0 = λ xs. slice_get xs p ≡ Some hop in
-      let from = kept_from (port_to links u) (λ e. not (e.0 == u)) (slice_index_or rows u []) p hop (subst P (ports_row links 0 u u rows (omega arith)) at) in
+      let from = kept_from (entry_port links u) (λ e. not (e.0 == u)) (slice_index_or rows u []) p hop (subst P (ports_row links 0 u u rows (omega arith)) at) in
       (from.0, from.1, from.2, eqb-false from.1.0 u (not-true (from.1.0 == u) from.3), from.4)
 
   -- the port to a neighbour
-  port_for : (u i : ℕ) (e : ℕ × ℕ) → row_get rows u i ≡ Some e → e.0 ≢ u → (p : ℕ) × (port_at net u p ≡ Some (port_to links u e))
+  port_for : (u i : ℕ) (e : ℕ × ℕ) → row_get rows u i ≡ Some e → e.0 ≢ u → (p : ℕ) × (port_at net u p ≡ Some (entry_port links u e))
   port_for u i e at other =
-      let kept = kept_to (port_to links u) (λ x. not (x.0 == u)) (slice_index_or rows u []) i e at (ap not (ne_eqb e.0 u other)) in
-      let P : List Hop → Type 0 = λ xs. slice_get xs kept.0 ≡ Some (port_to links u e) in
+      let kept = kept_to (entry_port links u) (λ x. not (x.0 == u)) (slice_index_or rows u []) i e at (ap not (ne_eqb e.0 u other)) in
+      let P : List Hop → Type 0 = λ xs. slice_get xs kept.0 ≡ Some (entry_port links u e) in
       (kept.0, subst P (sym (ports_row links 0 u u rows (omega arith))) kept.1)
 
   -- a link comes from the row of its lower node
@@ -258,7 +258,7 @@ module _ (rows : List Numbers) where
           let P : List Hop → Type 0 = λ xs. slice_get xs p ≡ Some hop in
           let Q : List Hop → Type 0 = λ xs. slice_get xs q ≡ Some other in
           let row = ports_row links 0 u u rows (omega arith) in
-          kept_single (port_to links u) (λ x. not (x.0 == u)) (slice_index_or rows u []) (λ e. refl) (λ i j x y a b c. ok.single u i j x y a b c) p q hop other (subst P row at) (subst Q row at') e;
+          kept_single (entry_port links u) (λ x. not (x.0 == u)) (slice_index_or rows u []) (λ e. refl) (λ i j x y a b c. ok.single u i j x y a b c) p q hop other (subst P row at) (subst Q row at') e;
       paired = λ u p hop at.
           let from = port_from u p hop at in
           let P : Hop → Type 0 = λ h. (q : ℕ) × (port_at net h.node q ≡ Some (port_back u h)) in

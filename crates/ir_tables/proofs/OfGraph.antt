@@ -15,10 +15,10 @@ use Rattle.ir_model.specs.Graph.{Name, Neighbors, Adjacency, names, among, has_n
 use Rattle.ir_model.specs.Made.{Pair, joins}
 use Rattle.ir_model.specs.Network.{Network, IsNetwork}
 use Rattle.ir_model.proofs.Names.{same_names, bytes_eq-swap}
-use Rattle.ir_model.specs.Places.{place_of, neighbors_at, link_at}
+use Rattle.ir_model.specs.Places.{place_of, neighbors_at, neighbor_at}
 use Rattle.ir_graph.proofs.Places.{place_of_at, at_place_of, neighbor_is_node, link_facts, link_back, neighbors_at-named}
 use Rattle.ir_graph.proofs.Joined.{one_place}
-use Rattle.ir_tables.specs.Numbered.{Numbers, links_at, links_from, joins_nodes, link_between, port_to, ports_at, ports_from, network_of_rows}
+use Rattle.ir_tables.specs.Numbered.{Numbers, links_at, links_from, joins_nodes, link_between, entry_port, ports_at, ports_from, network_of_rows}
 use Rattle.ir_model.specs.OfGraph.{link_edges, link_of, link_number, port_of, node_ports, network_of_graph}
 use Rattle.ir_tables.specs.ByPlace.{row_numbers, rows_of}
 use Rattle.ir_tables.proofs.Numbered.{row_get, IsNumbered, rows_network, ports_row, length-ports_from}
@@ -154,7 +154,7 @@ module _ (g : Adjacency) (graph : IsGraph g) where
       let here : bytes_eq x e.0 ≡ (place_of g e.0 == u) = bytes_eq-swap x e.0 ∙ same_place u x e.0 at in
       let there : slice_get (names g) (place_of g e.0) ≡ Some e.0 = at_place_of g e.0 (nodes 0 e refl) in
       let number : link_number g x e.0 ≡ link_between graph_links u (place_of g e.0) = number_is u (place_of g e.0) x e.0 at there (link_edges g) in
-      let port : port_of g x e ≡ port_to graph_links u (place_of g e.0, e.1) = cc number in
+      let port : port_of g x e ≡ entry_port graph_links u (place_of g e.0, e.1) = cc number in
       ⊎_elim (λ (loop : bytes_eq x e.0 ≡ true). let loop' : (place_of g e.0 == u) ≡ true = sym here ∙ loop in rw (loop, loop') later)
       (λ (other : bytes_eq x e.0 ≡ false). let other' : (place_of g e.0 == u) ≡ false = sym here ∙ other in rw (other, other') (cc (port, later)))
       (cases_Bool (bytes_eq x e.0))
@@ -184,7 +184,7 @@ module _ (g : Adjacency) (graph : IsGraph g) where
 
   -- ---- the numbers make a network
 
-  get_link : (u i : ℕ) → row_get (rows_of g) u i ≡ link_at g u i
+  get_link : (u i : ℕ) → row_get (rows_of g) u i ≡ neighbor_at g u i
   get_link u i = ap (λ (xs : Numbers). slice_get xs i) (row_at g g u) ∙ slice_get-map {B = ℕ × ℕ} (λ (e : Name × ℕ). (place_of g e.0, e.1)) (neighbors_at g u) i
 
   -- an entry of a row, by name
@@ -257,7 +257,7 @@ module _ (g : Adjacency) (graph : IsGraph g) where
 -- ---- steps of the loops
 
 -- the next neighbour of a row, by number
-pub next_entry : (g : Adjacency) (u i : ℕ) (e : ℕ × ℕ) → link_at g u i ≡ Some e → slice_get (row_numbers g (neighbors_at g u)) i ≡ Some e
+pub next_entry : (g : Adjacency) (u i : ℕ) (e : ℕ × ℕ) → neighbor_at g u i ≡ Some e → slice_get (row_numbers g (neighbors_at g u)) i ≡ Some e
 next_entry g u i e at = slice_get-map {B = ℕ × ℕ} (λ (e : Name × ℕ). (place_of g e.0, e.1)) (neighbors_at g u) i ∙ at
 
 kept_more : {B : Type 0} (f : ℕ × ℕ → B) (t : ℕ × ℕ → Bool) (row : Numbers) (i : ℕ) (e : ℕ × ℕ) → slice_get row i ≡ Some e
@@ -275,11 +275,11 @@ pub links_same : (u : ℕ) (row : Numbers) (i : ℕ) (e : ℕ × ℕ) → slice_
 links_same u row i e at ge = let skip : ltb u e.0 ≡ false = le-ltb u e.0 ge in (rw skip at (kept_more {B = Link} (λ e. record { low = u; high = e.0; weight = e.1 }) (λ e. ltb u e.0) row i e at)) ∙ append-nil (links_at u (take i row))
 
 pub ports_more : (links : List Link) (u : ℕ) (row : Numbers) (i : ℕ) (e : ℕ × ℕ) → slice_get row i ≡ Some e → e.0 ≢ u
-    → ports_at links u (take (i + 1) row) ≡ ports_at links u (take i row) ++ port_to links u e ∷ []
-ports_more links u row i e at other = let keep : (e.0 == u) ≡ false = ne_eqb e.0 u other in rw keep at (kept_more (port_to links u) (λ e. not (e.0 == u)) row i e at)
+    → ports_at links u (take (i + 1) row) ≡ ports_at links u (take i row) ++ entry_port links u e ∷ []
+ports_more links u row i e at other = let keep : (e.0 == u) ≡ false = ne_eqb e.0 u other in rw keep at (kept_more (entry_port links u) (λ e. not (e.0 == u)) row i e at)
 
 pub ports_same : (links : List Link) (u : ℕ) (row : Numbers) (i : ℕ) (e : ℕ × ℕ) → slice_get row i ≡ Some e → e.0 ≡ u → ports_at links u (take (i + 1) row) ≡ ports_at links u (take i row)
-ports_same links u row i e at same = let skip : (e.0 == u) ≡ true = eq-eqb e.0 u same in (rw skip at (kept_more (port_to links u) (λ e. not (e.0 == u)) row i e at)) ∙ append-nil (ports_at links u (take i row))
+ports_same links u row i e at same = let skip : (e.0 == u) ≡ true = eq-eqb e.0 u same in (rw skip at (kept_more (entry_port links u) (λ e. not (e.0 == u)) row i e at)) ∙ append-nil (ports_at links u (take i row))
 
 -- the row of a node
 pub row_of_node : (g : Adjacency) (u : ℕ) → get_or (rows_of g) u [] ≡ row_numbers g (neighbors_at g u)

@@ -36,12 +36,12 @@ pub record AreBegins (rows : List Numbers) (count : ℕ) (begins : List ℕ) : T
   pub at : (i : ℕ) → i < count → get_or begins i 0 ≡ length (links_from 0 (take i rows))
 
 -- the port of u to a neighbour
-abbrev pub port_to : List Link → ℕ → ℕ × ℕ → Hop
-port_to links u e = record { node = e.0; link = link_between links u e.0; weight = e.1 }
+abbrev pub entry_port : List Link → ℕ → ℕ × ℕ → Hop
+entry_port links u e = record { node = e.0; link = link_between links u e.0; weight = e.1 }
 
 -- the ports of u
 abbrev pub ports_at : List Link → ℕ → Numbers → List Hop
-ports_at links u es = map (port_to links u) (filter (λ e. not (e.0 == u)) es)
+ports_at links u es = map (entry_port links u) (filter (λ e. not (e.0 == u)) es)
 
 -- the ports of these nodes, the first of which is u
 abbrev pub ports_from : List Link → ℕ → List Numbers → List (List Hop)

@@ -1,7 +1,8 @@
-ghost use Rattle.std.specs.Prelude.{◌≡◌, ℕ, ◌<◌, ◌≤◌, Some, length, filter, slice_get, slice_index_or, IfOk, IfSome, IsSomeAnd};
+ghost use Rattle.std.specs.Prelude.{◌≡◌, ℕ, ◌<◌, ◌≤◌, ◌==◌, Some, length, filter, find, slice_get, slice_index_or, IfOk, IfSome, IsSomeAnd};
 ghost use Rattle.ir_model.specs.Network.{Network, IsNetwork, node_count, ports_of, port_at, is_up, restrict};
 ghost use Rattle.ir_model.specs.declared.Hop.{Hop};
 ghost use Rattle.ir_model.specs.OfGraph.{network_of_graph};
+ghost use Rattle.ir_model.specs.declared.TheConstants.{MAX_WEIGHT};
 
 use crate::adjacency::{links_of, ports_of};
 use ir_graph::Graph;
@@ -96,6 +97,16 @@ impl Topology {
         self.ports[u].as_slice()
     }
 
+    /// The first port of a node that leads to another one. Condition: `u` is below `nodes()`.
+    pub fn hop_to(&self, u: u16, v: u16) -> Option<Hop>
+        requires { u < node_count self.now }
+        ensures first { result ≡ find (λ hop. hop.node == v) (ports_of self.now u) }
+        ensures weight { IfSome result (λ hop. hop.weight ≤ MAX_WEIGHT) }
+    {
+        let _nodes = self.nodes();
+        first_to(self.ports(u as usize), v)
+    }
+
     /// The topology over the links that are marked as up. Nodes and links keep their numbers, and `links()` and `ends`
     /// stay; ports are numbered anew over the links that remain. Condition: one mark for each link. It is refused for
     /// memory alone.
@@ -122,6 +133,13 @@ impl Topology {
         }
         Ok(Topology { links, ports })
     }
+}
+
+/// The first port that leads to a node.
+fn first_to(ports: &[Hop], v: u16) -> Option<Hop>
+    ensures { result ≡ find (λ hop. hop.node == v) ports.now }
+{
+    ports.iter().copied().find(|hop| hop.node == v)
 }
 
 /// The ports whose links are up, in order.

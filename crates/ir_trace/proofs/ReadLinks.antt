@@ -108,7 +108,7 @@ module _ (g : Adjacency) (graph : IsGraph g) where
   -- the ends of a link are linked by name
   entry_linked : (u i v : ℕ) (e : ℕ × ℕ) → v ≡ 0 + u → row_get (rows_of g) u i ≡ Some e → has_edge g (name_at (names g) v) (name_at (names g) e.0) ≡ true
   entry_linked u i v e eq at =
-      let entry : places.link_at g u i ≡ Some e =
+      let entry : places.neighbor_at g u i ≡ Some e =
       sym (slice_get-map {B = ℕ × ℕ} (λ (e : Name × ℕ). (places.place_of g e.0, e.1)) (places.neighbors_at g u) i) ∙ sym (ap (λ (xs : Numbers). slice_get xs i) (row_at g g u)) ∙ at in
       let facts = link_facts g graph u i e.0 e.1 entry in
       let from : name_at (names g) u ≡ facts.from = get_or_from_slice_get (names g) u facts.from [] facts.from_at in

@@ -5,7 +5,7 @@ use Rattle.std.specs.Str.Parse.{AllDigits, IsNumeral, digits_value, ParsesUnsign
 use Rattle.std.specs.Result.{OkIff, result_ok}
 use Rattle.std.proofs.lemmas.Str.Parse.{IsNumeralModel, numerals_by_value, tells_digits, parse_plain}
 use Rattle.std.proofs.lemmas.Fmt.{decimal_is_IsNumeral, decimal_digit, first_decimal, decimal-digits_value}
-use Rattle.ir_trace.specs.Spelled.{IsNoNumber, is_padded}
+use Rattle.ir_trace.specs.Spelled.{IsNoNumber, has_needless_front}
 
 own : IsNumeralModel (AllDigits 10) (digits_value 10)
 own = numerals_by_value (AllDigits 10) tells_digits
@@ -18,14 +18,14 @@ no_number_zero : (word : List ℕ) → get_or word 0 0 ≡ 48 → 1 < length wor
 no_number_zero word h long zero small e = omega (arith, ap length (sym (decimal_digit 0 (omega arith))), ap length e)
 no_number_zero word h long (suc n) small e = omega (arith, first_decimal (suc n) (omega arith) (omega arith), ap (λ w. get_or w 0 0) e)
 
-pub no_number_padded : (word : List ℕ) → is_padded word ≡ true → IsNoNumber word
-no_number_padded word h =
+pub no_number_needless : (word : List ℕ) → has_needless_front word ≡ true → IsNoNumber word
+no_number_needless word h =
     ⊎_elim (λ (plus : (get_or word 0 0 == 43) ≡ true). no_number_plus word (eqb-true (get_or word 0 0) 43 plus))
     (λ (zero_first : (get_or word 0 0 == 48 && nat_lt 1 (length word)) ≡ true).
     let both = and_parts (get_or word 0 0 == 48) (nat_lt 1 (length word)) zero_first in no_number_zero word (eqb-true (get_or word 0 0) 48 both.0) (ltb-true 1 (length word) both.1))
     (or_cases (get_or word 0 0 == 43) (get_or word 0 0 == 48 && nat_lt 1 (length word)) h)
 
-pub read_number : {E : Type 0} (word : List ℕ) (r : Result ℕ E) → ParsesUnsigned 32 10 word r → is_padded word ≡ false → MatchOption (result_ok r) (IsNoNumber word) (λ n. decimal n ≡ word)
+pub read_number : {E : Type 0} (word : List ℕ) (r : Result ℕ E) → ParsesUnsigned 32 10 word r → has_needless_front word ≡ false → MatchOption (result_ok r) (IsNoNumber word) (λ n. decimal n ≡ word)
 read_number {E} word r h bare = by r (parse_plain own 32 word r h plain)
   where
     tests : ((get_or word 0 0 == 43) ≡ false) × ((get_or word 0 0 == 48 && nat_lt 1 (length word)) ≡ false)

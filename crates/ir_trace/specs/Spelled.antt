@@ -91,8 +91,8 @@ abbrev pub IsNoNumber : Name → Type 0
 IsNoNumber word = (n : ℕ) → n ≤ MAX_NUMBER → decimal n ≡ word → ⊥
 
 -- a plus stands first, or a zero with another byte behind it
-abbrev pub is_padded : Name → Bool
-is_padded word = slice_index word 0 == 43 || slice_index word 0 == 48 && nat_lt 1 (length word)
+abbrev pub has_needless_front : Name → Bool
+has_needless_front word = slice_index word 0 == 43 || slice_index word 0 == 48 && nat_lt 1 (length word)
 
 -- no fate and hops have these words
 abbrev pub IsNoFate : List Name → Type 0

@@ -1,10 +1,10 @@
 //! Numbers in decimal.
 ghost use Rattle.std.specs.Prelude.{◌≡◌, MatchOption, decimal};
-ghost use Rattle.ir_trace.specs.Spelled.{IsNoNumber, is_padded};
+ghost use Rattle.ir_trace.specs.Spelled.{IsNoNumber, has_needless_front};
 
 /// Whether a plus stands first, or a zero with another byte behind it.
-fn is_padded(bytes: &[u8]) -> bool
-    ensures { result ≡ is_padded bytes.now }
+fn has_needless_front(bytes: &[u8]) -> bool
+    ensures { result ≡ has_needless_front bytes.now }
 {
     if bytes.is_empty() {
         return false;
@@ -16,7 +16,7 @@ fn is_padded(bytes: &[u8]) -> bool
 pub fn number(word: &str) -> Option<u32>
     ensures { MatchOption result (IsNoNumber word.now) (λ n. decimal n ≡ word.now) }
 {
-    if is_padded(word.as_bytes()) {
+    if has_needless_front(word.as_bytes()) {
         return None;
     }
     word.parse().ok()

@@ -1,7 +1,6 @@
 //! The nodes and links that the names of a row stand for.
 ghost use Rattle.std.specs.Prelude.{◌≡◌, MatchOption, IfOk, map};
-ghost use Rattle.ir_model.specs.Graph.{names};
-ghost use Rattle.ir_trace.specs.Reading.{node_named, AreLinkedAs, FateIsReadAs, PartsAreReadAs, IsReadAs};
+ghost use Rattle.ir_trace.specs.Reading.{AreLinkedAs, FateIsReadAs, PartsAreReadAs, IsReadAs};
 ghost use Rattle.ir_trace.specs.Spelled.{texts, fate_held, part_held, text_held, AreNotLinked, IsNoFateOf, AreNoHops, AreHops, AreNoPartsOf, IsNoRowOf};
 
 use crate::row::{RowFate, Segment, TraceRow};
@@ -9,23 +8,12 @@ use crate::words::{FateSpelling, SegmentSpelling, Spelling};
 use ir_graph::Graph;
 use std::alloc::{AllocError, Global};
 
-/// The number of the node with a name.
-fn place_of(graph: &Graph, name: &str) -> Option<u16>
-    ensures { result ≡ node_named (names graph.now) name.now }
-{
-    let _nodes = graph.number_of_nodes();
-    match graph.index_of(name) {
-        Some(place) => Some(place as u16),
-        None => None,
-    }
-}
-
 /// The numbers of two nodes that are linked.
 fn ends_of(graph: &Graph, x: &str, y: &str) -> Option<(u16, u16)>
     ensures { MatchOption result (AreNotLinked graph.now x.now y.now) (λ ends. AreLinkedAs graph.now x.now y.now ends.0 ends.1) }
 {
-    let u = place_of(graph, x)?;
-    let v = place_of(graph, y)?;
+    let u = graph.index_of(x)?;
+    let v = graph.index_of(y)?;
     if u == v || !graph.has_edge(x, y) {
         return None;
     }
@@ -61,7 +49,7 @@ fn hops_of(alloc: Global, graph: &Graph, words: &[&str]) -> Result<Option<Vec<u1
 {
     let mut hops = Vec::with_capacity(alloc, words.len())?;
     for word in words {
-        match place_of(graph, word) {
+        match graph.index_of(word) {
             Some(place) => hops.push(place)?,
             None => return Ok(None),
         }
@@ -100,10 +88,10 @@ pub fn resolve(
     ensures { IfOk result (λ found. MatchOption found (IsNoRowOf graph.now (text_held spelling.now)) (λ row. IsReadAs graph.now (text_held spelling.now) row)) }
 {
     let head = spelling.head;
-    let Some(source) = place_of(graph, head.source) else {
+    let Some(source) = graph.index_of(head.source) else {
         return Ok(None);
     };
-    let Some(dest) = place_of(graph, head.dest) else {
+    let Some(dest) = graph.index_of(head.dest) else {
         return Ok(None);
     };
     let Some(fate) = fate_of(graph, head.fate) else {

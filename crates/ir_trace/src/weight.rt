@@ -13,14 +13,10 @@ fn link_weight(topology: &Topology, u: u16, v: u16) -> u32
     ensures weight { result ≡ link_weight topology.now u v }
     ensures bounded { result ≤ MAX_WEIGHT }
 {
-    let _nodes = topology.nodes();
-    let ports = topology.ports(u as usize);
-    for hop in ports {
-        if hop.node == v {
-            return hop.weight;
-        }
+    match topology.hop_to(u, v) {
+        Some(hop) => hop.weight,
+        None => 0,
     }
-    0
 }
 
 /// The sum of the weights of the links between neighbours in a list of nodes.

@@ -2,7 +2,7 @@ use Rattle.std.proofs.Common.{◌≡◌, ◌∙◌, ℕ, sym, ap, subst, Some, n
 use Rattle.std.specs.List.{IsDistinct}
 use Rattle.std.proofs.lemmas.Option.{none-some, same_Some}
 use Rattle.ir_graph.specs.View.{rows_view}
-use Rattle.ir_model.specs.Places.{link_at}
+use Rattle.ir_model.specs.Places.{neighbor_at}
 use Rattle.ir_graph.specs.Reached.{HasPlace, AreReached, GoesOn}
 use Rattle.ir_graph.proofs.Reaching.{IsPut, goes_on_put, has_put, kept_place, reached_put, neighbors_more, goes_on_none}
 use Rattle.ir_graph.proofs.reach.reach_neighbors.Goals as goal
@@ -19,7 +19,7 @@ loop-place-preserved c =
           let put : IsPut before w.in-Some.neighbor after = keys ∙ w.in_ok-insert.ensures.keys in
           let on = goes_on_put before before after w.in-Some.neighbor (goes_on_none before) put in
           let there : HasPlace before c.args.node = kept_place c.args.reached.now.keys before c.loop-place.invariant.kept c.args.node c.requires.there in
-          let link : link_at g c.args.node c.loop-place.place ≡ Some (w.in-Some.neighbor, w.in-Some.field-0-1) = sym w.in-Some.ensures.at in
+          let link : neighbor_at g c.args.node c.loop-place.place ≡ Some (w.in-Some.neighbor, w.in-Some.field-0-1) = sym w.in-Some.ensures.at in
           record {
             after = reached_put g c.requires.graph before after c.args.node c.loop-place.place w.in-Some.neighbor w.in-Some.field-0-1 c.loop-place.invariant.after there link put (subst (IsDistinct nat_eq) (sym keys) w.in_ok-insert.ensures.unique);
             kept = goes_on_put c.args.reached.now.keys before after w.in-Some.neighbor c.loop-place.invariant.kept put;

@@ -19,8 +19,8 @@ returns-then-place-eq0 c =
     subst (λ (k : ℕ). IsTreeCell c.args.topology.now c.args.order.now c.args.parents.now c.args.own k c.args.up) (sym c.if-place-eq0.true)
     (root_cell c.args.topology.now c.nodes-nodes.ensures.network c.args.order.now c.args.parents.now c.requires.order c.args.own c.requires.own c.args.up c.requires.up (λ e. ne (z ∙ e)))
 
-pub port_to-requires : goal.port_to-requires
-port_to-requires c =
+pub port_to_neighbor-requires : goal.port_to_neighbor-requires
+port_to_neighbor-requires c =
     let z = c.if-place-eq0.false in
     subst (λ (k : ℕ). Linked c.args.topology.now (slice_index c.args.order.now k) (slice_index c.args.order.now (length c.args.before.now))) c.if-parent-own.true
     (parent_linked c.args.topology.now c.nodes-nodes.ensures.network (slice_index c.args.order.now 0) c.args.order.now c.args.parents.now c.requires.order (length c.args.before.now) (omega arith) c.requires.before)
@@ -29,7 +29,7 @@ pub returns-then-parent-own : goal.returns-then-parent-own
 returns-then-parent-own c =
     let z = c.if-place-eq0.false in
     son_cell c.args.topology.now c.nodes-nodes.ensures.network c.args.order.now c.args.parents.now c.requires.order c.args.own c.requires.own
-    (length c.args.before.now) (omega arith) c.requires.before c.if-parent-own.true c.port_to.result c.port_to.ensures
+    (length c.args.before.now) (omega arith) c.requires.before c.if-parent-own.true c.port_to_neighbor.result c.port_to_neighbor.ensures
 
 pub returns : goal.returns
 returns c =

@@ -1,7 +1,7 @@
 use Rattle.std.proofs.Common.{◌≡◌, ◌∙◌, ℕ, List, ap}
 use Rattle.ir_model.specs.Text.{lines}
-use Rattle.ir_shell.specs.Cut.{topology_part, script_part}
-use Rattle.ir_shell.proofs.Ends.{end_of_end}
+use Rattle.ir_words.specs.Cut.{topology_part, script_part}
+use Rattle.ir_words.proofs.Ends.{end_of_end}
 use Rattle.ir_shell.proofs.Replays.{of_one_input}
 use Rattle.ir_shell.proofs.check.answer_input.Goals as goal
 

@@ -1,8 +1,8 @@
 use Rattle.std.proofs.Common.{◌≡◌, ℕ, List, refl, subst}
 use Rattle.ir_shell.specs.Asked.{LiveAnswers, sim_sources}
-use Rattle.ir_shell.specs.declared.read.Source.{Source}
-use Rattle.ir_shell.specs.Reading.{AreRead, IsUnread}
-use Rattle.ir_shell.specs.Told.{Sends, Tells}
+use Rattle.ir_words.specs.declared.read.Source.{Source}
+use Rattle.ir_words.specs.Reading.{AreRead, IsUnread}
+use Rattle.ir_words.specs.Told.{Sends, Tells}
 use Rattle.ir_shell.proofs.Runs.{given_up}
 use Rattle.ir_shell.proofs.living.read_and_write_live.Goals as goal
 

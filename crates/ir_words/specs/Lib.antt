@@ -1,0 +1,10 @@
+pub mod Words
+pub mod Cut
+pub mod Lines
+pub mod Answer
+pub mod Replies
+pub mod Openings
+pub mod Replied
+pub mod Ending
+pub mod Reading
+pub mod Told
