@@ -7,6 +7,8 @@ mod by_hand;
 #[cfg(test)]
 mod epochs;
 #[cfg(test)]
+mod gates;
+#[cfg(test)]
 mod links;
 #[cfg(test)]
 mod live;

@@ -81,7 +81,8 @@ impl Gate for Meeting {
     }
 }
 
-fn run<R: Threads + Wait + Sync, G: Gate>(
+/// What a live run with a thread for each node answers.
+pub(crate) fn run<R: Threads + Wait + Sync, G: Gate>(
     rt: &R,
     alloc: Global,
     net: &Net,
@@ -100,8 +101,8 @@ fn error<R: Threads + Wait + Sync, S: Starter>(
     run_live(rt, alloc, net, &[Command::Drain], &Open, starter).err()
 }
 
-// Whether the record of this number is of this epoch and has these hops and this fate.
-fn tells(live: &Live, id: usize, epoch: u32, hops: &[u16], fate: Fate) -> bool {
+/// Whether the record of this number is of this epoch and has these hops and this fate.
+pub(crate) fn tells(live: &Live, id: usize, epoch: u32, hops: &[u16], fate: Fate) -> bool {
     let Some(record) = live.report.records.get(id) else {
         return false;
     };

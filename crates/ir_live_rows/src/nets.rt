@@ -113,7 +113,8 @@ fn ring(alloc: Global, nodes: u16) -> Option<Topology> {
     Topology::of(alloc, &graph).ok()
 }
 
-fn over_ring(alloc: Global, nodes: u16) -> Result<Net, Option<NetError>> {
+/// A net of the shortest ways over such a ring, of the greatest capacity.
+pub(crate) fn over_ring(alloc: Global, nodes: u16) -> Result<Net, Option<NetError>> {
     let Some(topology) = ring(alloc, nodes) else {
         return Err(None);
     };
