@@ -1,5 +1,5 @@
 -- The records of a live run can be written: their ends are those of packets that were accepted, so they are nodes.
-use Rattle.std.proofs.Common.{◌≡◌, ℕ, zero, suc, ◌+◌, ◌<◌, ◌≤◌, ◌==◌, Bool, true, false, not, ◌&&◌, cond, nat_lt, nat_le, List, [], ◌∷◌, ◌++◌, length, map, slice_get, Option, Some, None, Ok, Err, refl, sym, ap, ◌∙◌, subst, arith}
+use Rattle.std.proofs.Common.{◌≡◌, ℕ, zero, suc, ◌+◌, ◌<◌, ◌≤◌, ◌==◌, Bool, true, false, not, ◌&&◌, cond, nat_lt, nat_le, List, [], ◌∷◌, ◌++◌, length, map, slice_get, Some, None, Ok, Err, refl, sym, ap, ◌∙◌, subst, arith}
 use Rattle.std.specs.Prelude.{All}
 use Rattle.std.specs.List.{AllByRecursion}
 use Rattle.std.proofs.lemmas.Bool.{ltb-true, leb-true, and_parts}
@@ -12,9 +12,8 @@ use Rattle.ir_epochs.specs.declared.registry.Stamp.{Stamp}
 use Rattle.ir_epochs.specs.Stamps.{knows}
 use Rattle.ir_worker.specs.Account.{Head, head_of}
 use Rattle.ir_worker.specs.declared.parcel.Outcome.{Outcome}
-use Rattle.ir_worker.specs.Seen.{IsOfNet, stamps_of}
+use Rattle.ir_worker.specs.Seen.{SeenParcel, stamps_of}
 use Rattle.ir_control.specs.declared.injector.Accepted.{Accepted}
-use Rattle.ir_control.specs.declared.injector.InjectError.{InjectError}
 use Rattle.ir_control.specs.declared.injector.InjectError.TheVariants.{NoNode, TooManyPackets}
 use Rattle.ir_control.specs.declared.error.NetError.TheVariants.{Empty, TooLarge}
 use Rattle.ir_control.specs.declared.error.NetError.TheVariants as nets
@@ -24,6 +23,7 @@ use Rattle.ir_control.specs.Heads.{head_at}
 use Rattle.ir_control.specs.Refusals.{inject_refused}
 use Rattle.ir_control.specs.Reports.{IsSoundOutcome}
 use Rattle.ir_control.specs.Told.{IsOutcomeIn}
+use Rattle.ir_links.specs.Ends.{Word}
 use Rattle.ir_live.specs.declared.command.Command.{Command}
 use Rattle.ir_live.specs.declared.command.Command.TheVariants.{Inject, Install, Retire, Down, Up, Drain}
 use Rattle.ir_live.specs.declared.desk.Desk.{Desk}
@@ -46,9 +46,9 @@ in_range n most count source dest e = by (nat_lt source n) (nat_lt dest n) refl 
     by true false a b h = absurd (cc h)
     by false u a b h = absurd (cc h)
 
-module _ {B : Type 0} (before next : Desk B) (n : ℕ) where
+module _ (was_full : Word SeenParcel) {B : Type 0} (before next : Desk B) (n : ℕ) where
   -- the injector stays that of its net
-  kept : (c : Command) (answer : Answer) → IsCarriedOut c before answer next → next.injector.opening ≡ before.injector.opening
+  kept : (c : Command) (answer : Answer) → IsCarriedOut was_full c before answer next → next.injector.opening ≡ before.injector.opening
   kept (Inject source dest) answer k = k.1.opening
   kept (Install kind root) (Ok None) k = absurd k
   kept (Install kind root) (Ok (Some s)) k = k.learnt.opening
@@ -65,7 +65,7 @@ module _ {B : Type 0} (before next : Desk B) (n : ℕ) where
   kept Drain answer k = ap (λ i. i.opening) k.1
 
   -- the packet that a command put in
-  one_entered : node_count (knows before.injector.opening).network ≡ n → (c : Command) (answer : Answer) (id epoch : ℕ) (later : List Accepted) → IsCarriedOut c before answer next → AllByRecursion (IsEntered n) later
+  one_entered : node_count (knows before.injector.opening).network ≡ n → (c : Command) (answer : Answer) (id epoch : ℕ) (later : List Accepted) → IsCarriedOut was_full c before answer next → AllByRecursion (IsEntered n) later
       → AllByRecursion (IsEntered n) (accepted_by id epoch c answer ++ later)
   one_entered e (Inject source dest) (Ok None) id epoch later k all =
       (subst (λ (m : ℕ). (source < m) × (dest < m)) e (in_range (node_count (knows before.injector.opening).network) before.injector.max_packets (length before.injector.accepted.items) source dest k.0.0), all)
@@ -78,16 +78,16 @@ module _ {B : Type 0} (before next : Desk B) (n : ℕ) where
   one_entered e Drain answer id epoch later k all = all
 
 -- the packets that commands put in
-entered : {B : Type 0} (n : ℕ) (commands : List Command) (before : Desk B) (answers : List Answer) (after : Desk B) (id epoch : ℕ) → node_count (knows before.injector.opening).network ≡ n → AreCarriedOut commands before answers after
+entered : (was_full : Word SeenParcel) {B : Type 0} (n : ℕ) (commands : List Command) (before : Desk B) (answers : List Answer) (after : Desk B) (id epoch : ℕ) → node_count (knows before.injector.opening).network ≡ n → AreCarriedOut was_full commands before answers after
     → AllByRecursion (IsEntered n) (accepted_from id epoch commands answers)
-entered n [] before [] after id epoch e k = tt
-entered n [] before (answer ∷ answers) after id epoch e k = absurd k
-entered n (c ∷ commands) before [] after id epoch e k = absurd k
-entered n (c ∷ commands) before (answer ∷ answers) after id epoch e k =
+entered was_full n [] before [] after id epoch e k = tt
+entered was_full n [] before (answer ∷ answers) after id epoch e k = absurd k
+entered was_full n (c ∷ commands) before [] after id epoch e k = absurd k
+entered was_full n (c ∷ commands) before (answer ∷ answers) after id epoch e k =
     let next = k.0 in
-    let same = ap (λ (s : Stamp). node_count (knows s).network) (kept before next n c answer k.1) ∙ e in
-    let later = entered n commands next answers after (id + length (accepted_by id epoch c answer)) (epoch_after epoch answer) same k.2 in
-    one_entered before next n e c answer id epoch (accepted_from (id + length (accepted_by id epoch c answer)) (epoch_after epoch answer) commands answers) k.1 later
+    let same = ap (λ (s : Stamp). node_count (knows s).network) (kept was_full before next n c answer k.1) ∙ e in
+    let later = entered was_full n commands next answers after (id + length (accepted_by id epoch c answer)) (epoch_after epoch answer) same k.2 in
+    one_entered was_full before next n e c answer id epoch (accepted_from (id + length (accepted_by id epoch c answer)) (epoch_after epoch answer) commands answers) k.1 later
 
 -- so are the ends of the records
 ends_in : (n : ℕ) (outcomes : List Outcome) (accepted : List Accepted) → map (λ o. head_of o.packet) outcomes ≡ map head_at accepted → AllByRecursion (IsEntered n) accepted
@@ -111,14 +111,14 @@ all_at : {X : Type 0} (P : X → Type 0) (xs : List X) (i : ℕ) (x : X) → All
 all_at P xs i x all at = subst P (get_or_from_slice_get xs i x x at) (all i x (slice_get_within xs i x at))
 
 -- each record of a live run can be written over the network of its net's opening
-pub live_records : {B : Type 0} (net : Net) (commands : List Command) (live : Live) → IsLive B net commands live → (over : Network) → IsNetwork over → node_count over ≤ MAX_NODES → (knows net.opening).network ≡ over
+pub live_records : (was_full : Word SeenParcel) {B : Type 0} (net : Net) (commands : List Command) (live : Live) → IsLive B was_full net commands live → (over : Network) → IsNetwork over → node_count over ≤ MAX_NODES → (knows net.opening).network ≡ over
     → HaveSegments over live.report.records.items
-live_records net commands live is over ok few opening i r at =
+live_records was_full net commands live is over ok few opening i r at =
     let found = of_outcome is.report.outcomes i r (ap (λ (rs : List Journey). slice_get rs i) (sym is.report.records) ∙ at) in
     let o = found.0 in
     let there = found.1 in
     let nodes : node_count (knows is.opened.injector.opening).network ≡ node_count over = ap (λ (s : Stamp). node_count (knows s).network) is.handed_out.injector_of.opening ∙ ap (λ (g : Network). length g.ports) opening in
-    let all = entered (node_count over) commands is.opened is.answers is.closed 0 1 nodes is.carried_out in
+    let all = entered was_full (node_count over) commands is.opened is.answers is.closed 0 1 nodes is.carried_out in
     let every = subst (AllByRecursion (IsEntered (node_count over))) (sym is.accepted) all in
     let ends = ends_in (node_count over) is.report.outcomes is.closed.injector.accepted.items is.report.heads every i o there in
     let sound = all_at IsSoundOutcome is.report.outcomes i o is.report.sound there in

@@ -1,6 +1,8 @@
 -- What the words ask for: which inputs are read, and the answers to their texts.
 use Rattle.std.specs.Prelude.{◌≡◌, ℕ, if◌then◌else◌, List, [], ◌∷◌}
 use Rattle.ir_model.specs.Text.{lines}
+use Rattle.ir_links.specs.Ends.{Word}
+use Rattle.ir_worker.specs.Seen.{SeenParcel}
 use Rattle.ir_words.specs.declared.words.Words.{Words}
 use Rattle.ir_words.specs.declared.read.Source.{Source}
 use Rattle.ir_words.specs.declared.read.Source.TheVariants.{Input, Topology, Script, Trace}
@@ -34,12 +36,12 @@ SimAnswers words (topology ∷ script ∷ []) answer = AnswersTopology words.for
 SimAnswers words (text ∷ other ∷ third ∷ texts) answer = ⊥
 
 -- the answers of `live` to the same
-abbrev pub LiveAnswers : Type 0 → Words → List (List ℕ) → Answer → Type 0
-LiveAnswers B words [] answer = ⊥
-LiveAnswers B words (input ∷ []) answer =
-    AnswersTopology words.format (topology_part (lines input)) (AnswersLiveScript B words (script_part (lines input))) answer
-LiveAnswers B words (topology ∷ script ∷ []) answer = AnswersTopology words.format (lines topology) (AnswersLiveScript B words (lines script)) answer
-LiveAnswers B words (text ∷ other ∷ third ∷ texts) answer = ⊥
+abbrev pub LiveAnswers : Type 0 → Word SeenParcel → Words → List (List ℕ) → Answer → Type 0
+LiveAnswers B was_full words [] answer = ⊥
+LiveAnswers B was_full words (input ∷ []) answer =
+    AnswersTopology words.format (topology_part (lines input)) (AnswersLiveScript B was_full words (script_part (lines input))) answer
+LiveAnswers B was_full words (topology ∷ script ∷ []) answer = AnswersTopology words.format (lines topology) (AnswersLiveScript B was_full words (lines script)) answer
+LiveAnswers B was_full words (text ∷ other ∷ third ∷ texts) answer = ⊥
 
 -- the answers of `check` to one text that is cut into topology, script and trace, or to the three texts
 abbrev pub CheckAnswers : Words → List (List ℕ) → Answer → Type 0

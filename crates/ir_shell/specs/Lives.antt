@@ -10,6 +10,8 @@ use Rattle.ir_control.specs.declared.error.NetError.TheVariants as nets
 use Rattle.ir_control.specs.declared.net.Net.{Net}
 use Rattle.ir_control.specs.Nets.{IsNetFor}
 use Rattle.ir_control.specs.Opened.{net_refused, IsNetRefusal}
+use Rattle.ir_links.specs.Ends.{Word}
+use Rattle.ir_worker.specs.Seen.{SeenParcel}
 use Rattle.ir_live.specs.declared.command.Command.{Command}
 use Rattle.ir_live.specs.declared.live.Live.{Live}
 use Rattle.ir_live.specs.Lives.{IsLive}
@@ -44,29 +46,29 @@ pub record IsOpenedNet (g : Adjacency) (words : Words) (root : ℕ) (net : Net) 
   pub opened : IsNetFor (network_of_graph g) words.kind root words.capacity words.packets words.restamps net
 
 -- The commands of a script are carried out over such a net while its nodes turn on threads of their own, and none of them
--- wants memory. The text is the trace of the records that are reported, and the refused lines are those of the commands
+-- wants memory. The word tells of refused pushes. The text is the trace of the records that are reported, and the refused lines are those of the commands
 -- that were refused.
-pub record IsLiveRun (B : Type 0) (g : Adjacency) (words : Words) (root : ℕ) (script : Listing Command) (text refused : List ℕ) : Type 0 where
+pub record IsLiveRun (B : Type 0) (was_full : Word SeenParcel) (g : Adjacency) (words : Words) (root : ℕ) (script : Listing Command) (text refused : List ℕ) : Type 0 where
   pub net : Net
   pub live : Live
   pub opened : IsOpenedNet g words root net
-  pub ran : IsLive B net script.steps live
+  pub ran : IsLive B was_full net script.steps live
   pub in_memory : list_any is_for_memory live.refusals.items ≡ false
   pub trace : text ≡ run_text words.restamps (names g) (network_of_graph g) live.report.records.items
   pub told : refused ≡ refusals_text script.lines live.refusals.items
 
 -- the answer to a graph, a script and the number of a root: the script's live run, or the refusal of the opening; or a
 -- thread of a net that was opened was not started
-abbrev pub AnswersLive : Type 0 → Adjacency → Words → Listing Command → ℕ → Answer → Type 0
-AnswersLive B g words script root (Ran text refused) = IsLiveRun B g words root script text refused
-AnswersLive B g words script root (Found text) = ⊥
-AnswersLive B g words script root (Refused line) =
+abbrev pub AnswersLive : Type 0 → Word SeenParcel → Adjacency → Words → Listing Command → ℕ → Answer → Type 0
+AnswersLive B was_full g words script root (Ran text refused) = IsLiveRun B was_full g words root script text refused
+AnswersLive B was_full g words script root (Found text) = ⊥
+AnswersLive B was_full g words script root (Refused line) =
     (e : NetError) × (e ≢ nets.NoMemory) × IsNetRefusal (network_of_graph g) root words.capacity words.packets words.restamps e × (line ≡ net_line e)
-AnswersLive B g words script root NoThread = (net : Net) × IsOpenedNet g words root net
+AnswersLive B was_full g words script root NoThread = (net : Net) × IsOpenedNet g words root net
 
 -- the answer to a graph and the lines of a script: the script's first fault comes before the refusal of the opening
-abbrev pub AnswersLiveScript : Type 0 → Words → List (List ℕ) → Adjacency → Answer → Type 0
-AnswersLiveScript B words script g answer =
+abbrev pub AnswersLiveScript : Type 0 → Word SeenParcel → Words → List (List ℕ) → Adjacency → Answer → Type 0
+AnswersLiveScript B was_full words script g answer =
     MatchResult (live_listing_of (names g) (network_of_graph g) script)
-    (λ listing. AnswersRoot g (root_name words) (AnswersLive B g words listing) answer)
+    (λ listing. AnswersRoot g (root_name words) (AnswersLive B was_full g words listing) answer)
     (λ f. answer ≡ Refused (script_line f))

@@ -16,6 +16,7 @@ use crate::play::run_text;
 use ir_control::{Net, NetError};
 use ir_core::Refused;
 use ir_graph::Graph;
+use ir_links::Moments;
 use ir_live::{Every, Live, LiveError, run_live};
 use ir_model::Fault;
 use ir_script::{LiveScript, ScriptFault, parse_live};
@@ -24,9 +25,8 @@ use ir_words::lines::{net_line, opening_line, push_reply_line, script_line, topo
 use ir_words::open::{no_root, read_topology, root_of};
 use ir_words::reply::Reply;
 use ir_words::words::Words;
-use ir_worker::Gate;
+use ir_worker::{Gate, Parcel};
 use std::alloc::{AllocError, Global};
-use std::sync::Wait;
 use std::thread::Threads;
 
 /// A gate that lets every node make every turn.
@@ -102,7 +102,7 @@ fn live_texts(
 
 /// The answer to a script and a net that was opened for it. Its parts were not handed out before; that they are not handed
 /// out is told as want of memory.
-fn answer_net<T: Threads + Wait + Sync>(
+fn answer_net<T: Threads + Moments<Parcel> + Sync>(
     rt: &T,
     alloc: Global,
     words: &Words,
@@ -114,7 +114,7 @@ fn answer_net<T: Threads + Wait + Sync>(
 ) -> Result<Reply, AllocError>
     requires over { topology.now ≡ network_of_graph graph.now }
     requires opened { IsOpenedNet graph.now words.now root net.now }
-    ensures { IfOk result (λ reply. AnswersLive (Bor T) graph.now words.now (commands_in script.now) root (answer_of reply)) }
+    ensures { IfOk result (λ reply. AnswersLive (Bor T) T.was_full graph.now words.now (commands_in script.now) root (answer_of reply)) }
 {
     let _nodes = topology.nodes();
     match run_live(rt, alloc, net, script.commands(), &Open, &Every) {
@@ -135,7 +135,7 @@ fn answer_net<T: Threads + Wait + Sync>(
 }
 
 /// The answer to a script and the number of a root.
-fn answer_live_root<T: Threads + Wait + Sync>(
+fn answer_live_root<T: Threads + Moments<Parcel> + Sync>(
     rt: &T,
     alloc: Global,
     words: &Words,
@@ -145,7 +145,7 @@ fn answer_live_root<T: Threads + Wait + Sync>(
     root: u16,
 ) -> Result<Reply, AllocError>
     requires { topology.now ≡ network_of_graph graph.now }
-    ensures { IfOk result (λ reply. AnswersLive (Bor T) graph.now words.now (commands_in script.now) root (answer_of reply)) }
+    ensures { IfOk result (λ reply. AnswersLive (Bor T) T.was_full graph.now words.now (commands_in script.now) root (answer_of reply)) }
 {
     let over = topology.try_clone(alloc)?;
     match Net::new(
@@ -164,7 +164,7 @@ fn answer_live_root<T: Threads + Wait + Sync>(
 }
 
 /// The answer to a script.
-fn answer_commands<T: Threads + Wait + Sync>(
+fn answer_commands<T: Threads + Moments<Parcel> + Sync>(
     rt: &T,
     alloc: Global,
     words: &Words,
@@ -173,7 +173,7 @@ fn answer_commands<T: Threads + Wait + Sync>(
     script: &LiveScript,
 ) -> Result<Reply, AllocError>
     requires { topology.now ≡ network_of_graph graph.now }
-    ensures { IfOk result (λ reply. AnswersRoot graph.now (root_name words.now) (AnswersLive (Bor T) graph.now words.now (commands_in script.now)) (answer_of reply)) }
+    ensures { IfOk result (λ reply. AnswersRoot graph.now (root_name words.now) (AnswersLive (Bor T) T.was_full graph.now words.now (commands_in script.now)) (answer_of reply)) }
 {
     match root_of(graph, &words.root) {
         Some(place) => answer_live_root(rt, alloc, words, graph, topology, script, place),
@@ -182,14 +182,14 @@ fn answer_commands<T: Threads + Wait + Sync>(
 }
 
 /// The answer to a graph and the text of a script.
-fn answer_live_script<T: Threads + Wait + Sync>(
+fn answer_live_script<T: Threads + Moments<Parcel> + Sync>(
     rt: &T,
     alloc: Global,
     words: &Words,
     graph: &Graph,
     text: &[u8],
 ) -> Result<Reply, AllocError>
-    ensures { IfOk result (λ reply. AnswersLiveScript (Bor T) words.now (lines text.now) graph.now (answer_of reply)) }
+    ensures { IfOk result (λ reply. AnswersLiveScript (Bor T) T.was_full words.now (lines text.now) graph.now (answer_of reply)) }
 {
     let topology = Topology::of(alloc, graph)?;
     match parse_live(alloc, text, graph, &topology) {
@@ -202,14 +202,14 @@ fn answer_live_script<T: Threads + Wait + Sync>(
 }
 
 /// The answer to the texts of a topology and of a script.
-pub fn answer_live<T: Threads + Wait + Sync>(
+pub fn answer_live<T: Threads + Moments<Parcel> + Sync>(
     rt: &T,
     alloc: Global,
     words: &Words,
     topology: &[u8],
     script: &[u8],
 ) -> Result<Reply, AllocError>
-    ensures { IfOk result (λ reply. AnswersTopology words.now.format (lines topology.now) (AnswersLiveScript (Bor T) words.now (lines script.now)) (answer_of reply)) }
+    ensures { IfOk result (λ reply. AnswersTopology words.now.format (lines topology.now) (AnswersLiveScript (Bor T) T.was_full words.now (lines script.now)) (answer_of reply)) }
 {
     match read_topology(alloc, words.format, topology) {
         Ok(graph) => answer_live_script(rt, alloc, words, &graph, script),

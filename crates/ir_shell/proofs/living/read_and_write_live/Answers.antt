@@ -12,7 +12,7 @@ returns-in-Err g c =
     let old = c.args.inputs.now in
     let new = c.read_inputs.new.inputs in
     let output = c.args.output.now in
-    given_up (LiveAnswers _ words) c.tell_unread.result (λ (texts : List (List ℕ)). AreRead g.R.Reader.remaining g.R.Reader.gave old texts new)
+    given_up (LiveAnswers _ g.T.Moments.was_full words) c.tell_unread.result (λ (texts : List (List ℕ)). AreRead g.R.Reader.remaining g.R.Reader.gave old texts new)
     (IsUnread g.R.Reader.remaining g.R.Reader.gave (sim_sources words) old new)
     (Sends g.W.Writer.contents g.W.Writer.wrote g.W.Writer.settled output output) (output ≡ output)
     (Tells g.F.Writer.contents g.F.Writer.wrote g.F.Writer.settled c.args.faults.now c.tell_unread.new.faults)
