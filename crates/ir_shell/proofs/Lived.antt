@@ -1,5 +1,5 @@
 -- The records of a live run can be written: their ends are those of packets that were accepted, so they are nodes.
-use Rattle.std.proofs.Common.{◌≡◌, ℕ, zero, suc, ◌+◌, ◌<◌, ◌≤◌, ◌==◌, Bool, true, false, not, ◌&&◌, cond, nat_lt, nat_le, List, [], ◌∷◌, ◌++◌, length, map, slice_get, Option, Some, None, Ok, Err, refl, sym, ap, ◌∙◌, subst, arith}
+use Rattle.std.proofs.Common.{◌≡◌, ℕ, zero, suc, ◌+◌, ◌<◌, ◌≤◌, ◌==◌, Bool, true, false, not, ◌&&◌, cond, nat_lt, nat_le, List, [], ◌∷◌, ◌++◌, length, map, slice_get, Some, None, Ok, Err, refl, sym, ap, ◌∙◌, subst, arith}
 use Rattle.std.specs.Prelude.{All}
 use Rattle.std.specs.List.{AllByRecursion}
 use Rattle.std.proofs.lemmas.Bool.{ltb-true, leb-true, and_parts}
@@ -12,9 +12,8 @@ use Rattle.ir_epochs.specs.declared.registry.Stamp.{Stamp}
 use Rattle.ir_epochs.specs.Stamps.{knows}
 use Rattle.ir_worker.specs.Account.{Head, head_of}
 use Rattle.ir_worker.specs.declared.parcel.Outcome.{Outcome}
-use Rattle.ir_worker.specs.Seen.{IsOfNet, stamps_of}
+use Rattle.ir_worker.specs.Seen.{stamps_of}
 use Rattle.ir_control.specs.declared.injector.Accepted.{Accepted}
-use Rattle.ir_control.specs.declared.injector.InjectError.{InjectError}
 use Rattle.ir_control.specs.declared.injector.InjectError.TheVariants.{NoNode, TooManyPackets}
 use Rattle.ir_control.specs.declared.error.NetError.TheVariants.{Empty, TooLarge}
 use Rattle.ir_control.specs.declared.error.NetError.TheVariants as nets

@@ -12,8 +12,7 @@ use Rattle.std.proofs.lemmas.Option.{same_Some, none-some, slice_get_within}
 use Rattle.ir_model.specs.declared.Hop.{Hop}
 use Rattle.ir_model.specs.declared.Link.{Link}
 use Rattle.ir_model.specs.Network.{Network, IsNetwork, IsPort, node_count, port_at, ports_of, restrict}
-use Rattle.ir_model.specs.Scheme.{Scheme, IsScheme, next_hop, table_port}
-use Rattle.ir_model.specs.Table.{IsPrescribedWalk}
+use Rattle.ir_model.specs.Scheme.{Scheme, table_port}
 use Rattle.ir_model.specs.Walk.{Linked, LeadsTo, IsWalk}
 use Rattle.ir_model.proofs.Restrict.{node_count-restrict, port_at-restrict}
 use Rattle.ir_model.proofs.Tables.{prescribed_unique}
@@ -30,8 +29,7 @@ use Rattle.ir_core.proofs.Walks.{IsWalkFrom, walk_of, port_of}
 use Rattle.ir_core.proofs.Walks as table
 use Rattle.ir_epochs.specs.declared.registry.Stamp.{Stamp}
 use Rattle.ir_epochs.specs.Stamps.{knows}
-use Rattle.ir_worker.specs.Seen.{EachBy, IsSoundBy, IsSoundJourney, IsOfNet, stamps_of}
-use Rattle.ir_trace.specs.declared.TheConstants.{MAX_SEGMENTS}
+use Rattle.ir_worker.specs.Seen.{EachBy, IsSoundBy, IsSoundJourney, IsOfNet}
 use Rattle.ir_trace.specs.Written.{FateIsIn, HasSegments}
 
 -- ---- what is known to be there is found

@@ -1,5 +1,5 @@
 -- What a graph, a root and a script come to as a run.
-use Rattle.std.specs.Prelude.{◌≡◌, ◌≢◌, ℕ, ◌==◌, if◌then◌else◌, Bool, true, false, List, [], None, Result, Ok, Err, MatchResult, flat_map}
+use Rattle.std.specs.Prelude.{◌≡◌, ◌≢◌, ℕ, ◌==◌, if◌then◌else◌, Bool, true, false, List, None, Result, Ok, Err, MatchResult, flat_map}
 use Rattle.std.specs.List.{list_any, zip}
 use Rattle.ir_model.specs.Graph.{Name, Adjacency, names}
 use Rattle.ir_model.specs.Network.{Network}

@@ -1,4 +1,4 @@
-use Rattle.std.proofs.Common.{◌≡◌, ◌∙◌, ◌≤◌, List, string_bytes, sym, ap, subst}
+use Rattle.std.proofs.Common.{◌≡◌, ◌∙◌, ◌≤◌, sym, ap, subst}
 use Rattle.ir_model.specs.Graph.{names}
 use Rattle.ir_model.specs.Network.{Network, node_count}
 use Rattle.ir_core.specs.declared.TheConstants.{MAX_NODES}
