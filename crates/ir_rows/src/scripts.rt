@@ -8,7 +8,7 @@ use std::alloc::Global;
 use std::test::Fail;
 
 /// What a text says over the path from a to b to c.
-fn parsed(alloc: Global, text: &str) -> Result<Result<Script, ScriptError>, Fail> {
+fn parsed(alloc: Global, text: &str) -> Result<Result<Script<Step>, ScriptError>, Fail> {
     let mut graph = Graph::new(alloc);
     let Ok(_) = graph.add_edge("a", "b", 1) else {
         return Err("the edge is refused".into());

@@ -7,15 +7,13 @@
 
 mod command;
 mod fault;
-mod live;
 mod script;
 mod word;
 
 pub use fault::{ScriptError, ScriptFault};
 pub use ir_core::Step;
 pub use ir_live::Command;
-pub use live::{LiveScript, parse_live};
-pub use script::{Script, parse_script};
+pub use script::{Script, parse_live, parse_script};
 
 /// The most digits of a number.
 pub const MAX_DIGITS: usize = 5;

@@ -1,39 +1,43 @@
 //! Scripts, line by line.
-ghost use Rattle.std.specs.Prelude.{◌≡◌, ◌<◌, length, vec_len, ◌++◌, option_to_list, Some, Ok, true, OnOk, IfOk, IfErr, slice_get};
+ghost use Rattle.std.specs.Prelude.{◌≡◌, ℕ, ◌<◌, ◌++◌, List, Option, Result, Some, Ok, true, length, vec_len, option_to_list, OnOk, IfOk, IfErr, slice_get};
 ghost use Rattle.std.specs.List.{list_all};
-ghost use Rattle.ir_model.specs.Graph.{names};
+ghost use Rattle.ir_model.specs.Graph.{Name, names};
+ghost use Rattle.ir_model.specs.Network.{Network};
 ghost use Rattle.ir_model.specs.OfGraph.{network_of_graph};
 ghost use Rattle.ir_model.specs.Text.{lines};
-ghost use Rattle.ir_script.specs.Script.{listing_of, ScriptTold, told_script, line_of};
+ghost use Rattle.ir_script.specs.declared.fault.ScriptFault.{ScriptFault};
+ghost use Rattle.ir_script.specs.Command.{line_step, line_command};
+ghost use Rattle.ir_script.specs.Script.{listing_from, listing_of, live_listing_of, ScriptTold, told_script, line_of};
 ghost use Rattle.ir_script.specs.Within.{is_within};
 
-use crate::command::line_step;
+use crate::command::{line_command, line_step};
 use crate::fault::{ScriptError, ScriptFault};
 use ir_adjlist::scan;
 use ir_core::Step;
 use ir_graph::Graph;
+use ir_live::Command;
 use ir_tables::Topology;
 use std::alloc::{AllocError, Global};
 
-/// The steps of a script, and beside each the number of its line.
+/// The steps of a simulation's script, or the commands of a live run's, and beside each the number of its line.
 #[derive(Drop)]
-pub struct Script {
-    steps: Vec<Step>,
+pub struct Script<T> {
+    steps: Vec<T>,
     lines: Vec<usize>,
     ghost numbered: { vec_len steps ≡ vec_len lines },
 }
 
-impl Script {
-    /// The steps, in order. A caller also learns that there are as many lines.
-    pub fn steps(&self) -> &[Step]
+impl<T> Script<T> {
+    /// The steps or commands, in order. A caller also learns that there are as many lines.
+    pub fn steps(&self) -> &[T]
         ensures steps { result.now ≡ self.now.steps.items }
         ensures numbered { length self.now.steps.items ≡ length self.now.lines.items }
     {
         self.steps.as_slice()
     }
 
-    /// The number of a step's line, counted from 1 over all lines of the script. Condition: `i` is below the number of
-    /// steps.
+    /// The number of the line of one of them, counted from 1 over all lines of the script. Condition: `i` is below the
+    /// number of steps.
     pub fn line(&self, i: usize) -> usize
         requires { i < length self.now.steps.items }
         ensures { slice_get self.now.lines.items i ≡ Some result }
@@ -41,12 +45,42 @@ impl Script {
         self.lines[i]
     }
 
-    /// The numbers of the steps' lines, in order: as many as there are steps.
+    /// The numbers of their lines, in order: as many as there are steps.
     pub fn lines(&self) -> &[usize]
         ensures lines { result.now ≡ self.now.lines.items }
         ensures numbered { length self.now.lines.items ≡ length self.now.steps.items }
     {
         self.lines.as_slice()
+    }
+}
+
+/// What a line of a script names: a step of a simulation, or a command of a live run.
+trait Named: Copy {
+    // What a line says of these nodes and links.
+    ghost says: { List Name → Network → List ℕ → Result (Option Self) ScriptFault };
+
+    fn named(graph: &Graph, topology: &Topology, line: &[u8]) -> Result<Option<Self>, ScriptFault>
+        requires { topology.now ≡ network_of_graph graph.now }
+        ensures { result ≡ says (names graph.now) topology.now line.now };
+}
+
+impl Named for Step {
+    ghost says = { line_step };
+
+    fn named(graph: &Graph, topology: &Topology, line: &[u8]) -> Result<Option<Step>, ScriptFault> {
+        line_step(graph, topology, line)
+    }
+}
+
+impl Named for Command {
+    ghost says = { line_command };
+
+    fn named(
+        graph: &Graph,
+        topology: &Topology,
+        line: &[u8],
+    ) -> Result<Option<Command>, ScriptFault> {
+        line_command(graph, topology, line)
     }
 }
 
@@ -78,6 +112,36 @@ pub fn keep<T: Copy>(
     Ok(())
 }
 
+/// What the lines of a script name, each with the number of its line, or the first faulty line.
+fn parse<T: Named>(
+    alloc: Global,
+    text: &[u8],
+    graph: &Graph,
+    topology: &Topology,
+) -> Result<Script<T>, ScriptError>
+    requires { topology.now ≡ network_of_graph graph.now }
+    ensures parsed { IfOk result (λ s. listing_from T.says (names graph.now) topology.now 1 (lines text.now) ≡ Ok (record { steps = s.steps.items; lines = s.lines.items })) }
+    ensures fault { IfErr result (λ e. ScriptTold e (listing_from T.says (names graph.now) topology.now 1 (lines text.now))) }
+{
+    let mut steps = Vec::new(alloc);
+    let mut numbers = Vec::new(alloc);
+    let mut rest = text;
+    let mut line = 0;
+    while !rest.is_empty() {
+        let (current, after) = scan::next_line(rest);
+        line += 1;
+        match T::named(graph, topology, current) {
+            Err(kind) => return Err(error_at(line, kind)),
+            Ok(step) => keep(&mut steps, &mut numbers, step, line)?,
+        }
+        rest = after;
+    }
+    Ok(Script {
+        steps,
+        lines: numbers,
+    })
+}
+
 /// The steps that a script names, each with the number of its line, or the script's first faulty line. A line is one of
 ///
 /// - `inject A B`: a packet from A to B;
@@ -98,28 +162,30 @@ pub fn parse_script(
     text: &[u8],
     graph: &Graph,
     topology: &Topology,
-) -> Result<Script, ScriptError>
+) -> Result<Script<Step>, ScriptError>
     requires { topology.now ≡ network_of_graph graph.now }
     ensures parsed { IfOk result (λ s. listing_of (names graph.now) topology.now (lines text.now) ≡ Ok (record { steps = s.steps.items; lines = s.lines.items })) }
     ensures within { IfOk result (λ s. list_all (is_within topology.now) s.steps.items ≡ true) }
     ensures fault { IfErr result (λ e. ScriptTold e (listing_of (names graph.now) topology.now (lines text.now))) }
 {
     let _nodes = topology.nodes();
-    let mut steps = Vec::new(alloc);
-    let mut numbers = Vec::new(alloc);
-    let mut rest = text;
-    let mut line = 0;
-    while !rest.is_empty() {
-        let (current, after) = scan::next_line(rest);
-        line += 1;
-        match line_step(graph, topology, current) {
-            Err(kind) => return Err(error_at(line, kind)),
-            Ok(step) => keep(&mut steps, &mut numbers, step, line)?,
-        }
-        rest = after;
-    }
-    Ok(Script {
-        steps,
-        lines: numbers,
-    })
+    parse(alloc, text, graph, topology)
+}
+
+/// The commands that a script of a live run names, each with the number of its line, or the script's first faulty line.
+/// It is a script of which each line is one of `inject`, `down`, `up`, `install`, `retire` and `drain`, and names what it
+/// names to `parse_script`; a line that begins with `learn`, `take`, `read` or `act` is a `BadCommand`, whatever follows.
+/// Faults, their order and the count of lines are those of `parse_script`. A script with a fault gives no command.
+/// Condition: the topology is that of the graph.
+pub fn parse_live(
+    alloc: Global,
+    text: &[u8],
+    graph: &Graph,
+    topology: &Topology,
+) -> Result<Script<Command>, ScriptError>
+    requires { topology.now ≡ network_of_graph graph.now }
+    ensures parsed { IfOk result (λ s. live_listing_of (names graph.now) topology.now (lines text.now) ≡ Ok (record { steps = s.steps.items; lines = s.lines.items })) }
+    ensures fault { IfErr result (λ e. ScriptTold e (live_listing_of (names graph.now) topology.now (lines text.now))) }
+{
+    parse(alloc, text, graph, topology)
 }

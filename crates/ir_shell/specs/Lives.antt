@@ -15,17 +15,12 @@ use Rattle.ir_worker.specs.Seen.{SeenParcel}
 use Rattle.ir_live.specs.declared.command.Command.{Command}
 use Rattle.ir_live.specs.declared.live.Live.{Live}
 use Rattle.ir_live.specs.Lives.{IsLive}
-use Rattle.ir_script.specs.declared.live.LiveScript.{LiveScript}
 use Rattle.ir_script.specs.Script.{Listing, live_listing_of}
 use Rattle.ir_words.specs.declared.words.Words.{Words}
 use Rattle.ir_words.specs.Answer.{Answer, Ran, Found, Refused, NoThread}
 use Rattle.ir_words.specs.Lines.{script_line, net_line, refused_line}
 use Rattle.ir_words.specs.Openings.{root_name, AnswersRoot}
 use Rattle.ir_shell.specs.Plays.{run_text}
-
--- the commands of a script, and beside each the number of its line
-abbrev pub commands_in : LiveScript → Listing Command
-commands_in script = record { steps = script.commands.items; lines = script.lines.items }
 
 -- want of memory for a command, which stands at a place among the commands
 abbrev pub is_for_memory : ℕ × Refusal → Bool

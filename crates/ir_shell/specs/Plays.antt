@@ -1,5 +1,5 @@
 -- What a graph, a root and a script come to as a run.
-use Rattle.std.specs.Prelude.{◌≡◌, ◌≢◌, ℕ, ◌==◌, if◌then◌else◌, Bool, true, false, List, [], None, Result, Ok, Err, MatchResult, flat_map}
+use Rattle.std.specs.Prelude.{◌≡◌, ◌≢◌, ℕ, ◌==◌, if◌then◌else◌, Bool, true, false, List, None, Result, Ok, Err, MatchResult, flat_map}
 use Rattle.std.specs.List.{list_any, zip}
 use Rattle.ir_model.specs.Graph.{Name, Adjacency, names}
 use Rattle.ir_model.specs.Network.{Network}
@@ -23,8 +23,8 @@ use Rattle.ir_words.specs.Answer.{Answer, Ran, Found, Refused, NoThread}
 use Rattle.ir_words.specs.Lines.{script_line, opening_line, reply_line}
 use Rattle.ir_words.specs.Openings.{root_name, AnswersRoot}
 
--- the steps of a script, and beside each the number of its line
-abbrev pub listing_in : Script → Listing Step
+-- the steps or commands of a script, and beside each the number of its line
+abbrev pub listing_in : {A : Type 0} → Script A → Listing A
 listing_in script = record { steps = script.steps.items; lines = script.lines.items }
 
 -- want of memory for a step

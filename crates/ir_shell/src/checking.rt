@@ -9,7 +9,7 @@ ghost use Rattle.ir_shell.specs.Plays.{listing_in};
 ghost use Rattle.ir_shell.specs.Checks.{IsClean, IsFound, AnswersTrace, AnswersCheck, AnswersChecked};
 ghost use Rattle.ir_words.specs.Replies.{answer_of};
 
-use ir_core::{Install, OpenError, Opening, installs};
+use ir_core::{Install, OpenError, Opening, Step, installs};
 use ir_graph::Graph;
 use ir_model::Fault;
 use ir_script::{Script, ScriptFault, parse_script};
@@ -70,7 +70,7 @@ fn answer_check_root(
     words: &Words,
     graph: &Graph,
     topology: &Topology,
-    script: &Script,
+    script: &Script<Step>,
     trace: &[u8],
     root: u16,
 ) -> Result<Reply, AllocError>
@@ -98,7 +98,7 @@ fn answer_check_steps(
     words: &Words,
     graph: &Graph,
     topology: &Topology,
-    script: &Script,
+    script: &Script<Step>,
     trace: &[u8],
 ) -> Result<Reply, AllocError>
     requires { topology.now ≡ network_of_graph graph.now }

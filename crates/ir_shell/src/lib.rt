@@ -13,9 +13,7 @@ mod run;
 mod sim;
 
 pub use check::run_check;
-pub use ir_script::{
-    Command, LiveScript, Script, ScriptError, ScriptFault, parse_live, parse_script,
-};
+pub use ir_script::{Command, Script, ScriptError, ScriptFault, parse_live, parse_script};
 pub use ir_words::read::Source;
 pub use ir_words::words::{Format, Sub, Words, WordsError, read_words};
 pub use living::run_live_text;

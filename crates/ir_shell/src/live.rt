@@ -7,9 +7,9 @@ ghost use Rattle.ir_model.specs.Graph.{names};
 ghost use Rattle.ir_model.specs.OfGraph.{network_of_graph};
 ghost use Rattle.ir_model.specs.Text.{lines};
 ghost use Rattle.ir_trace.specs.Written.{HaveSegments};
-ghost use Rattle.ir_shell.specs.Lives.{commands_in, is_for_memory, refusals_text, IsOpenedNet, AnswersLive, AnswersLiveScript};
+ghost use Rattle.ir_shell.specs.Lives.{is_for_memory, refusals_text, IsOpenedNet, AnswersLive, AnswersLiveScript};
 ghost use Rattle.ir_words.specs.Openings.{root_name, AnswersTopology, AnswersRoot};
-ghost use Rattle.ir_shell.specs.Plays.{run_text};
+ghost use Rattle.ir_shell.specs.Plays.{listing_in, run_text};
 ghost use Rattle.ir_words.specs.Replies.{answer_of};
 
 use crate::play::run_text;
@@ -19,7 +19,7 @@ use ir_graph::Graph;
 use ir_links::Moments;
 use ir_live::{Every, Live, LiveError, run_live};
 use ir_model::Fault;
-use ir_script::{LiveScript, ScriptFault, parse_live};
+use ir_script::{Command, Script, ScriptFault, parse_live};
 use ir_tables::Topology;
 use ir_words::lines::{net_line, opening_line, push_reply_line, script_line, topology_line};
 use ir_words::open::{no_root, read_topology, root_of};
@@ -108,16 +108,16 @@ fn answer_net<T: Threads + Moments<Parcel> + Sync>(
     words: &Words,
     graph: &Graph,
     topology: &Topology,
-    script: &LiveScript,
+    script: &Script<Command>,
     root: u16,
     net: &Net,
 ) -> Result<Reply, AllocError>
     requires over { topology.now ≡ network_of_graph graph.now }
     requires opened { IsOpenedNet graph.now words.now root net.now }
-    ensures { IfOk result (λ reply. AnswersLive (Bor T) T.was_full graph.now words.now (commands_in script.now) root (answer_of reply)) }
+    ensures { IfOk result (λ reply. AnswersLive (Bor T) T.was_full graph.now words.now (listing_in script.now) root (answer_of reply)) }
 {
     let _nodes = topology.nodes();
-    match run_live(rt, alloc, net, script.commands(), &Open, &Every) {
+    match run_live(rt, alloc, net, script.steps(), &Open, &Every) {
         Ok(live) => {
             let (trace, refused) = live_texts(
                 alloc,
@@ -141,11 +141,11 @@ fn answer_live_root<T: Threads + Moments<Parcel> + Sync>(
     words: &Words,
     graph: &Graph,
     topology: &Topology,
-    script: &LiveScript,
+    script: &Script<Command>,
     root: u16,
 ) -> Result<Reply, AllocError>
     requires { topology.now ≡ network_of_graph graph.now }
-    ensures { IfOk result (λ reply. AnswersLive (Bor T) T.was_full graph.now words.now (commands_in script.now) root (answer_of reply)) }
+    ensures { IfOk result (λ reply. AnswersLive (Bor T) T.was_full graph.now words.now (listing_in script.now) root (answer_of reply)) }
 {
     let over = topology.try_clone(alloc)?;
     match Net::new(
@@ -170,10 +170,10 @@ fn answer_commands<T: Threads + Moments<Parcel> + Sync>(
     words: &Words,
     graph: &Graph,
     topology: &Topology,
-    script: &LiveScript,
+    script: &Script<Command>,
 ) -> Result<Reply, AllocError>
     requires { topology.now ≡ network_of_graph graph.now }
-    ensures { IfOk result (λ reply. AnswersRoot graph.now (root_name words.now) (AnswersLive (Bor T) T.was_full graph.now words.now (commands_in script.now)) (answer_of reply)) }
+    ensures { IfOk result (λ reply. AnswersRoot graph.now (root_name words.now) (AnswersLive (Bor T) T.was_full graph.now words.now (listing_in script.now)) (answer_of reply)) }
 {
     match root_of(graph, &words.root) {
         Some(place) => answer_live_root(rt, alloc, words, graph, topology, script, place),

@@ -9,7 +9,7 @@ ghost use Rattle.ir_words.specs.Openings.{root_name, AnswersTopology, AnswersRoo
 ghost use Rattle.ir_shell.specs.Plays.{listing_in, wants_memory, refused_text, run_text, AnswersRun, AnswersScript};
 ghost use Rattle.ir_words.specs.Replies.{answer_of};
 
-use ir_core::{OpenError, Opening, Played, Record, Refused, Reply as Answered, play};
+use ir_core::{OpenError, Opening, Played, Record, Refused, Reply as Answered, Step, play};
 use ir_graph::Graph;
 use ir_model::Fault;
 use ir_script::{Script, ScriptFault, parse_script};
@@ -96,7 +96,7 @@ fn answer_root(
     words: &Words,
     graph: &Graph,
     topology: &Topology,
-    script: &Script,
+    script: &Script<Step>,
     root: u16,
 ) -> Result<Reply, AllocError>
     requires { topology.now ≡ network_of_graph graph.now }
@@ -133,7 +133,7 @@ fn answer_steps(
     words: &Words,
     graph: &Graph,
     topology: &Topology,
-    script: &Script,
+    script: &Script<Step>,
 ) -> Result<Reply, AllocError>
     requires { topology.now ≡ network_of_graph graph.now }
     ensures { IfOk result (λ reply. AnswersRoot graph.now (root_name words.now) (AnswersRun graph.now words.now (listing_in script.now)) (answer_of reply)) }

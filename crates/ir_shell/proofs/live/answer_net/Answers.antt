@@ -14,7 +14,7 @@ live_texts-requires-clause-records g c =
     let over : (knows c.args.net.now.opening).network ≡ c.args.topology.now = c.requires.opened.opened.plan_network ∙ sym c.requires.over in
     let w = c.args.words.now in
     let few : node_count c.args.topology.now ≤ MAX_NODES = subst (λ (n : Network). node_count n ≤ MAX_NODES) (sym c.requires.over) (few_nodes _ c.args.root w.capacity w.packets w.restamps c.requires.opened.accepted) in
-    live_records g.T.Moments.was_full c.args.net.now c.commands.result.now c.in-Ok.live c.in-Ok.ensures.live c.args.topology.now c.nodes-nodes.ensures.network few over
+    live_records g.T.Moments.was_full c.args.net.now c.steps.result.now c.in-Ok.live c.in-Ok.ensures.live c.args.topology.now c.nodes-nodes.ensures.network few over
 
 pub returns-in_ok-trace-in-Ok : goal.returns-in_ok-trace-in-Ok
 returns-in_ok-trace-in-Ok g c =
@@ -24,7 +24,7 @@ returns-in_ok-trace-in-Ok g c =
       net = c.args.net.now;
       live = c.in-Ok.live;
       opened = c.requires.opened;
-      ran = subst (λ commands. IsLive _ g.T.Moments.was_full c.args.net.now commands c.in-Ok.live) c.commands.ensures.commands c.in-Ok.ensures.live;
+      ran = subst (λ commands. IsLive _ g.T.Moments.was_full c.args.net.now commands c.in-Ok.live) c.steps.ensures.steps c.in-Ok.ensures.live;
       in_memory = c.in_ok-trace-in-Ok.ensures.in_memory;
       trace = c.in_ok-trace-in-Ok.ensures.trace ∙ ap (λ (n : Network). run_text w.restamps (names c.args.graph.now) n records) c.requires.over;
       told = c.in_ok-trace-in-Ok.ensures.told ∙ ap (λ lines. refusals_text lines c.in-Ok.live.refusals.items) c.lines.ensures.lines;
