@@ -1,0 +1,25 @@
+use Rattle.std.proofs.Common.{◌≡◌, ◌∙◌, Option, Some, None, IfSome, List, [], ◌∷◌, Bool, true, length, sym, ap, subst}
+use Rattle.ir_model.specs.Network.{Network, restrict}
+use Rattle.ir_model.specs.Scheme.{Scheme}
+use Rattle.ir_epochs.specs.declared.registry.Stamp.{Stamp}
+use Rattle.ir_epochs.specs.Over.{IsOver}
+use Rattle.ir_epochs.specs.Stamps.{knows, IsOf}
+use Rattle.ir_live_tests.proofs.epochs.later.Goals as goal
+
+-- what follows for each value follows for one that is there
+if_there : {T : Type 0} (P Q : T → Type 0) → ((x : T) → P x → Q x) → (o : Option T) → IfSome o P → IfSome o Q
+if_there P Q each None h = tt
+if_there P Q each (Some x) h = each x h
+
+pub returns-clause-over : goal.returns-clause-over
+returns-clause-over c =
+    let opening : Network = (knows c.args.opening.now).network in
+    let plan : Scheme = c.in-Ok-build.plan in
+    let whole : c.topology-whole.result.now ≡ opening = c.topology-whole.ensures ∙ ap (λ (p : Scheme). p.network) c.plan.ensures in
+    let all : List Bool = true ∷ true ∷ [] in
+    let made : plan.network ≡ restrict all opening = c.in-Ok-build.ensures.network ∙ c.in-Ok.ensures ∙ ap (restrict all) whole in
+    let marks : length all ≡ length opening.links = sym c.if-links-ne2.false ∙ c.links.ensures.count ∙ ap (λ (net : Network). length net.links) whole in
+    let over : IsOver opening plan.network = ∣ (all, marks, made) ∣₁ in
+    if_there (λ (s : Stamp). IsOf c.args.registry.now s × (s.epoch ≡ c.args.epoch) × (knows s ≡ plan)) (λ (s : Stamp). IsOver opening (knows s).network)
+    (λ s told. let P : Scheme → Type 0 = λ p. IsOver opening p.network in subst P (sym told.2) over)
+    c.registered.result c.registered.ensures
