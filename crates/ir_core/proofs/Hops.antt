@@ -21,11 +21,13 @@ leads_append : (net : Network) (u m d : ℕ) (xs ys : List ℕ) → LeadsTo net 
 leads_append net u m d [] ys k l = subst (λ (x : ℕ). LeadsTo net x d ys) (sym k.0) l
 leads_append net u m d (v ∷ xs) ys k l = (k.0, leads_append net v m d xs ys k.1 l)
 
-walk_append : (net : Network) (u m d : ℕ) (xs ys : List ℕ) → IsWalk net u m xs → LeadsTo net m d ys → IsWalk net u d (xs ++ ys)
+-- a walk goes on
+pub walk_append : (net : Network) (u m d : ℕ) (xs ys : List ℕ) → IsWalk net u m xs → LeadsTo net m d ys → IsWalk net u d (xs ++ ys)
 walk_append net u m d [] ys k l = absurd k
 walk_append net u m d (x ∷ xs) ys k l = (k.0, leads_append net u m d xs ys k.1 l)
 
-walk_tail : (net : Network) (u d : ℕ) (hops : List ℕ) → IsWalk net u d hops → LeadsTo net u d (drop 1 hops)
+-- what follows the first node of a walk
+pub walk_tail : (net : Network) (u d : ℕ) (hops : List ℕ) → IsWalk net u d hops → LeadsTo net u d (drop 1 hops)
 walk_tail net u d [] k = absurd k
 walk_tail net u d (x ∷ hops) k = k.1
 

@@ -43,6 +43,18 @@ no_new_link r Arrives = tt
 no_new_link r (LeavesByDown l) = tt
 no_new_link r (NoRoom h) = tt
 
+-- the most hops of so many segments, but one
+abbrev pub most : List Restamp → ℕ → ℕ
+most [] m = m
+most (s ∷ older) m = m + most older m
+
+pub most_few : (latest : List Restamp) (m : ℕ) → length latest ≤ 3 → most latest m ≤ 4 * m
+most_few [] m le = omega arith
+most_few (a ∷ []) m le = omega arith
+most_few (a ∷ b ∷ []) m le = omega arith
+most_few (a ∷ b ∷ c ∷ []) m le = omega arith
+most_few (a ∷ b ∷ c ∷ d ∷ rest) m le = absurd (omega arith)
+
 module _ (o : Setting) (plans : List Scheme) (is_plan : (k : ℕ) → IsPlanFor o (slice_index_or plans k o.first)) where
   pub stretch_away : (g : Journey) → IsStretch o plans g → (x : ℕ) (h : Hop) → next_hop (plan_of o plans g.epoch) x g.dest ≡ Some h → x ≢ g.dest
   stretch_away g k x h e =
@@ -179,11 +191,6 @@ module _ (o : Setting) (plans : List Scheme) (is_plan : (k : ℕ) → IsPlanFor 
         ap (λ (y : Journey). (present (acted u Inbox v y)).hops) same ∙ ap (λ (y : Journey). y.hops) (present_stamped u e (front_of way r.hops) r),
       )
 
-  -- the most hops of so many segments, but one
-  abbrev most : List Restamp → ℕ → ℕ
-  most [] m = m
-  most (s ∷ older) m = m + most older m
-
   few_hops : (latest : List Restamp) (r : Journey) (m : ℕ) → nodes_of o ≡ m + 1 → ArePlaces (length r.hops) latest → AllByRecursion (IsStretch o plans) (segments_in latest r) → length r.hops ≤ most latest m + 1
   few_hops [] r m n places each = let s = stretch_short (present_in [] r) each.0 in omega arith
   few_hops (s ∷ older) r m n places each =
@@ -193,13 +200,6 @@ module _ (o : Setting) (plans : List Scheme) (is_plan : (k : ℕ) → IsPlanFor 
       let there = length-take-le (s.from + 1) r.hops (omega arith) in
       let below = few_hops older (until s r) m n (rw there (places_more older s.from (s.from + 1) (omega arith) places.1)) each.1 in
       omega arith
-
-  most_few : (latest : List Restamp) (m : ℕ) → length latest ≤ 3 → most latest m ≤ 4 * m
-  most_few [] m le = omega arith
-  most_few (a ∷ []) m le = omega arith
-  most_few (a ∷ b ∷ []) m le = omega arith
-  most_few (a ∷ b ∷ c ∷ []) m le = omega arith
-  most_few (a ∷ b ∷ c ∷ d ∷ rest) m le = absurd (omega arith)
 
   -- all hops of a packet have room
   pub hops_fit : (r : Journey) → 0 < nodes_of o → nodes_of o ≤ MAX_NODES → o.restamps ≤ 3 → IsRouted o plans r → length r.hops ≤ MAX_HOPS

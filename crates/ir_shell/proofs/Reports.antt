@@ -25,6 +25,8 @@ use Rattle.ir_core.specs.Journey.{Journey, segments, segments_in, present_in, un
 use Rattle.ir_core.specs.Sound.{IsSound, FateFits, LeadsOn, ArePlaces, last_of}
 use Rattle.ir_core.specs.State.{StepsTo}
 use Rattle.ir_core.proofs.Segments.{places_more, last_drop, last_take}
+use Rattle.ir_core.proofs.Hops.{walk_append, walk_tail}
+use Rattle.ir_core.proofs.Routed.{most, most_few}
 use Rattle.ir_core.proofs.Walks.{IsWalkFrom, walk_of, port_of}
 use Rattle.ir_core.proofs.Walks as table
 use Rattle.ir_epochs.specs.declared.registry.Stamp.{Stamp}
@@ -86,19 +88,7 @@ by_recursion : {X : Type 0} (P : X → Type 0) (xs : List X) → All P xs → Al
 by_recursion P [] all = tt
 by_recursion P (x ∷ xs) all = (all 0 x (omega arith), by_recursion P xs (λ k d lt. all (suc k) d (omega arith)))
 
--- ---- walks, one after another
-
-leads_append : (net : Network) (u m d : ℕ) (xs ys : List ℕ) → LeadsTo net u m xs → LeadsTo net m d ys → LeadsTo net u d (xs ++ ys)
-leads_append net u m d [] ys k l = subst (λ (x : ℕ). LeadsTo net x d ys) (sym k.0) l
-leads_append net u m d (v ∷ xs) ys k l = (k.0, leads_append net v m d xs ys k.1 l)
-
-walk_append : (net : Network) (u m d : ℕ) (xs ys : List ℕ) → IsWalk net u m xs → LeadsTo net m d ys → IsWalk net u d (xs ++ ys)
-walk_append net u m d [] ys k l = absurd k
-walk_append net u m d (x ∷ xs) ys k l = (k.0, leads_append net u m d xs ys k.1 l)
-
-walk_tail : (net : Network) (u d : ℕ) (hops : List ℕ) → IsWalk net u d hops → LeadsTo net u d (drop 1 hops)
-walk_tail net u d [] k = absurd k
-walk_tail net u d (x ∷ hops) k = k.1
+-- ---- where a walk ends
 
 leads_end : (net : Network) (u d : ℕ) (rest : List ℕ) → LeadsTo net u d rest → d < node_count net
 leads_end net u d [] k = k.1
@@ -166,17 +156,6 @@ module _ (net : Network) (ok : IsNetwork net) where
     fate_in g walk Left fits = tt
 
   -- ---- all segments of a record
-  abbrev most : List Restamp → ℕ → ℕ
-  most [] m = m
-  most (s ∷ older) m = m + most older m
-
-  most_few : (latest : List Restamp) (m : ℕ) → length latest ≤ 3 → most latest m ≤ 4 * m
-  most_few [] m le = omega arith
-  most_few (a ∷ []) m le = omega arith
-  most_few (a ∷ b ∷ []) m le = omega arith
-  most_few (a ∷ b ∷ c ∷ []) m le = omega arith
-  most_few (a ∷ b ∷ c ∷ d ∷ rest) m le = absurd (omega arith)
-
   walk_in : (latest : List Restamp) (r : Journey) (m : ℕ) → node_count net ≡ m + 1 → r.source < node_count net → r.dest < node_count net → ArePlaces (length r.hops) latest → AllByRecursion (IsLeg net) (segments_in latest r)
       → IsWalk net r.source (last_of r.hops) r.hops × (length r.hops ≤ most latest m + 1)
   walk_in [] r m n source_in dest_in places each = let k = each.0 source_in dest_in in (k.0, omega (arith, k.1))
