@@ -1,10 +1,9 @@
 //! Packets that are restamped on their way.
 
 use crate::networks::{Edge, HEAVY, PATH, topology_of};
-use crate::runs::{self, event};
+use crate::runs::{self, event, opening};
 use ir_core::{
-    Event, Fate, Install, Kind, OpenError, Opening, Played, Restamp, Step, Way, World, installs,
-    play,
+    Event, Fate, Install, Kind, OpenError, Played, Restamp, Step, Way, World, installs, play,
 };
 use ir_graph::Graph;
 use ir_tables::Topology;
@@ -160,36 +159,16 @@ fn restamped_at_the_end_or_the_source(rt: HostRuntime) -> Result<(), Fail> {
 
 #[test]
 fn too_many_restamps(rt: HostRuntime) -> Result<(), Fail> {
-    let four = World::new(
-        rt.alloc(),
-        topology_of(rt.alloc(), &PATH)?,
-        Kind::Tree,
-        1,
-        16,
-        4096,
-        4,
-    );
-    assert!(rt; matches!(four, Err(OpenError::TooLarge)));
-    let no_root = World::new(
-        rt.alloc(),
-        topology_of(rt.alloc(), &PATH)?,
-        Kind::Tree,
-        3,
-        16,
-        4096,
-        4,
-    );
-    assert!(rt; matches!(no_root, Err(OpenError::NoNode)));
-    let three = World::new(
-        rt.alloc(),
-        topology_of(rt.alloc(), &PATH)?,
-        Kind::Tree,
-        1,
-        16,
-        4096,
-        3,
-    );
-    assert!(rt; three.is_ok());
+    let openings = [
+        (1, 4, Some(OpenError::TooLarge)),
+        (3, 4, Some(OpenError::NoNode)),
+        (1, 3, None),
+    ];
+    for (root, restamps, why) in openings {
+        let path = topology_of(rt.alloc(), &PATH)?;
+        let opened = World::new(rt.alloc(), path, Kind::Tree, root, 16, 4096, restamps);
+        assert!(rt; opened.err() == why, "{root} {restamps}");
+    }
     Ok(())
 }
 
@@ -200,14 +179,7 @@ fn built(i: &Install, kind: Kind, root: u16, up: &[bool]) -> bool {
 
 #[test]
 fn installs_of_a_list(rt: HostRuntime) -> Result<(), Fail> {
-    let opening = Opening {
-        topology: topology_of(rt.alloc(), &PATH)?,
-        kind: Kind::Tree,
-        root: 1,
-        capacity: 16,
-        max_packets: 4096,
-        restamps: 0,
-    };
+    let path = opening(rt.alloc(), &PATH, Kind::Tree, 1, 16, 0)?;
     let steps = [
         event(Event::Install(Kind::Shortest, 0)),
         event(Event::Down(0)),
@@ -218,7 +190,7 @@ fn installs_of_a_list(rt: HostRuntime) -> Result<(), Fail> {
         Step::Drain,
         event(Event::Install(Kind::Tree, 2)),
     ];
-    let Ok(list) = installs(rt.alloc(), &opening, &steps) else {
+    let Ok(list) = installs(rt.alloc(), &path, &steps) else {
         return Err("not opened".into());
     };
     assert!(rt; list.len() == 3);
@@ -234,14 +206,7 @@ fn installs_of_a_list(rt: HostRuntime) -> Result<(), Fail> {
         list.get(2)
             .is_some_and(|i| built(i, Kind::Tree, 2, &[true, true]))
     );
-    let wide = Opening {
-        topology: topology_of(rt.alloc(), &HEAVY)?,
-        kind: Kind::Tree,
-        root: 0,
-        capacity: 16,
-        max_packets: 4096,
-        restamps: 0,
-    };
+    let wide = opening(rt.alloc(), &HEAVY, Kind::Tree, 0, 16, 0)?;
     let down = [
         event(Event::Down(0)),
         event(Event::Install(Kind::Tree, 0)),
@@ -253,18 +218,8 @@ fn installs_of_a_list(rt: HostRuntime) -> Result<(), Fail> {
     assert!(rt; two.len() == 2);
     let marks = [false, true, true, true, true, true, true];
     assert!(rt; two.get(1).is_some_and(|i| built(i, Kind::Tree, 0, &marks)));
-    let Err(OpenError::TooLarge) = installs(
-        rt.alloc(),
-        &Opening {
-            topology: topology_of(rt.alloc(), &PATH)?,
-            kind: Kind::Tree,
-            root: 0,
-            capacity: 0,
-            max_packets: 1,
-            restamps: 0,
-        },
-        &[],
-    ) else {
+    let none = opening(rt.alloc(), &PATH, Kind::Tree, 0, 0, 0)?;
+    let Err(OpenError::TooLarge) = installs(rt.alloc(), &none, &[]) else {
         return Err("opened".into());
     };
     Ok(())

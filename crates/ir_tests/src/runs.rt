@@ -9,6 +9,25 @@ use ir_tables::Topology;
 use std::alloc::Global;
 use std::test::Fail;
 
+/// An opening over a network of these edges.
+pub(crate) fn opening(
+    alloc: Global,
+    edges: &[Edge],
+    kind: Kind,
+    root: u16,
+    capacity: usize,
+    restamps: u8,
+) -> Result<Opening, Fail> {
+    Ok(Opening {
+        topology: topology_of(alloc, edges)?,
+        kind,
+        root,
+        capacity,
+        max_packets: 4096,
+        restamps,
+    })
+}
+
 /// A run of these steps over a network of these edges.
 pub(crate) fn played(
     alloc: Global,
@@ -19,14 +38,7 @@ pub(crate) fn played(
     restamps: u8,
     steps: &[Step],
 ) -> Result<Played, Fail> {
-    let opening = Opening {
-        topology: topology_of(alloc, edges)?,
-        kind,
-        root,
-        capacity,
-        max_packets: 4096,
-        restamps,
-    };
+    let opening = opening(alloc, edges, kind, root, capacity, restamps)?;
     let Ok(played) = play(alloc, opening, steps) else {
         return Err("not opened".into());
     };
