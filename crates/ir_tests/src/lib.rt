@@ -10,6 +10,8 @@ mod graphs;
 #[cfg(test)]
 mod hostile;
 #[cfg(test)]
+mod networks;
+#[cfg(test)]
 mod numbers;
 #[cfg(test)]
 mod plans;

@@ -3,42 +3,12 @@
 ghost use Rattle.std.specs.Prelude.{◌<◌};
 ghost use Rattle.ir_model.specs.Network.{node_count};
 
+use crate::networks::{Edge, HEAVY, PATH, RING, topology_of};
 use ir_graph::Graph;
 use ir_plan::{Kind, Plan, PlanError};
 use ir_tables::Topology;
 use std::alloc::Global;
 use std::test::Fail;
-
-type Edge = (&'static str, &'static str, u32);
-
-/// a to b to c.
-const PATH: [Edge; 2] = [("a", "b", 1), ("b", "c", 1)];
-
-/// A ring of a, b, c and d, which is named third.
-const RING: [Edge; 4] = [("a", "b", 1), ("a", "d", 1), ("b", "c", 1), ("c", "d", 1)];
-
-/// Six nodes u, p, q, r, t, s, of which the tree from u goes by a heavy link.
-const HEAVY: [Edge; 7] = [
-    ("u", "p", 1),
-    ("u", "q", 1),
-    ("p", "q", 9),
-    ("q", "r", 1),
-    ("q", "t", 9),
-    ("p", "t", 1),
-    ("q", "s", 1),
-];
-
-/// The topology of these edges.
-fn topology_of(alloc: Global, edges: &[Edge]) -> Result<Topology, Fail> {
-    let mut graph = Graph::new(alloc);
-    for edge in edges {
-        let (u, v, weight) = *edge;
-        let Ok(_) = graph.add_edge(u, v, weight) else {
-            return Err("the edge is refused".into());
-        };
-    }
-    Ok(Topology::of(alloc, &graph)?)
-}
 
 /// The plan over these edges.
 fn plan_of(alloc: Global, edges: &[Edge], kind: Kind, root: u16) -> Result<Plan, Fail> {

@@ -1,67 +1,24 @@
 //! Packets that are restamped on their way.
 
+use crate::networks::{Edge, HEAVY, PATH, topology_of};
+use crate::runs::{self, event, opening};
 use ir_core::{
-    Event, Fate, Install, Kind, OpenError, Opening, Played, Restamp, Step, Way, World, installs,
-    play,
+    Event, Fate, Install, Kind, OpenError, Played, Restamp, Step, Way, World, installs, play,
 };
 use ir_graph::Graph;
 use ir_tables::Topology;
 use std::alloc::Global;
 use std::test::Fail;
 
-fn topology(alloc: Global, edges: &[(&str, &str, u32)]) -> Result<Topology, Fail> {
-    let mut graph = Graph::new(alloc);
-    for (u, v, weight) in edges {
-        let Ok(_) = graph.add_edge(u, v, *weight) else {
-            return Err("refused".into());
-        };
-    }
-    let Ok(topology) = Topology::of(alloc, &graph) else {
-        return Err("no memory".into());
-    };
-    Ok(topology)
-}
-
-/// The path a, b, c: links a-b and b-c.
-fn path(alloc: Global) -> Result<Topology, Fail> {
-    topology(alloc, &[("a", "b", 1), ("b", "c", 1)])
-}
-
-/// Nodes u p q r t s; links u-p, u-q, p-q, p-t, q-r, q-t, q-s.
-fn cross(alloc: Global) -> Result<Topology, Fail> {
-    topology(
-        alloc,
-        &[
-            ("u", "p", 1),
-            ("u", "q", 1),
-            ("p", "q", 9),
-            ("q", "r", 1),
-            ("q", "t", 9),
-            ("p", "t", 1),
-            ("q", "s", 1),
-        ],
-    )
-}
-
+/// A run over trees, whose channels hold 16 packets.
 fn played(
     alloc: Global,
-    topology: Topology,
+    edges: &[Edge],
     root: u16,
     restamps: u8,
     steps: &[Step],
 ) -> Result<Played, Fail> {
-    let opening = Opening {
-        topology,
-        kind: Kind::Tree,
-        root,
-        capacity: 16,
-        max_packets: 4096,
-        restamps,
-    };
-    let Ok(played) = play(alloc, opening, steps) else {
-        return Err("not opened".into());
-    };
-    Ok(played)
+    runs::played(alloc, edges, Kind::Tree, root, 16, restamps, steps)
 }
 
 /// What became of packet 0, first stamped with epoch 1.
@@ -75,10 +32,6 @@ fn ended(p: &Played, hops: &[u16], restamps: &[Restamp], fate: Fate) -> bool {
         && record.fate == fate
 }
 
-fn event(event: Event) -> Step {
-    Step::Event(event)
-}
-
 #[test]
 fn restamped_in_a_channel(rt: HostRuntime) -> Result<(), Fail> {
     let steps = [
@@ -89,7 +42,7 @@ fn restamped_in_a_channel(rt: HostRuntime) -> Result<(), Fail> {
         event(Event::Retire(2)),
         Step::Drain,
     ];
-    let p = played(rt.alloc(), cross(rt.alloc())?, 0, 1, &steps)?;
+    let p = played(rt.alloc(), &HEAVY, 0, 1, &steps)?;
     assert!(rt;
         ended(
             &p,
@@ -98,7 +51,7 @@ fn restamped_in_a_channel(rt: HostRuntime) -> Result<(), Fail> {
             Fate::Delivered
         )
     );
-    let none = played(rt.alloc(), cross(rt.alloc())?, 0, 0, &steps)?;
+    let none = played(rt.alloc(), &HEAVY, 0, 0, &steps)?;
     assert!(rt; ended(&none, &[0], &[], Fate::Retired));
     Ok(())
 }
@@ -115,7 +68,7 @@ fn turned_back_by_a_restamp(rt: HostRuntime) -> Result<(), Fail> {
         event(Event::Retire(2)),
         Step::Drain,
     ];
-    let p = played(rt.alloc(), cross(rt.alloc())?, 0, 1, &steps)?;
+    let p = played(rt.alloc(), &HEAVY, 0, 1, &steps)?;
     assert!(rt;
         ended(
             &p,
@@ -144,7 +97,7 @@ fn restamped_twice_or_dropped(rt: HostRuntime) -> Result<(), Fail> {
         event(Event::Retire(3)),
         Step::Drain,
     ];
-    let once = played(rt.alloc(), cross(rt.alloc())?, 0, 1, &steps)?;
+    let once = played(rt.alloc(), &HEAVY, 0, 1, &steps)?;
     assert!(rt;
         ended(
             &once,
@@ -153,7 +106,7 @@ fn restamped_twice_or_dropped(rt: HostRuntime) -> Result<(), Fail> {
             Fate::Retired
         )
     );
-    let twice = played(rt.alloc(), cross(rt.alloc())?, 0, 2, &steps)?;
+    let twice = played(rt.alloc(), &HEAVY, 0, 2, &steps)?;
     assert!(rt;
         ended(
             &twice,
@@ -175,7 +128,7 @@ fn restamped_at_the_end_or_the_source(rt: HostRuntime) -> Result<(), Fail> {
         event(Event::Retire(2)),
         Step::Drain,
     ];
-    let p = played(rt.alloc(), path(rt.alloc())?, 1, 1, &steps)?;
+    let p = played(rt.alloc(), &PATH, 1, 1, &steps)?;
     assert!(rt;
         ended(
             &p,
@@ -184,7 +137,7 @@ fn restamped_at_the_end_or_the_source(rt: HostRuntime) -> Result<(), Fail> {
             Fate::Delivered
         )
     );
-    let none = played(rt.alloc(), path(rt.alloc())?, 1, 0, &steps)?;
+    let none = played(rt.alloc(), &PATH, 1, 0, &steps)?;
     assert!(rt; ended(&none, &[1], &[], Fate::Retired));
     let before = [
         event(Event::Install(Kind::Tree, 1)),
@@ -192,7 +145,7 @@ fn restamped_at_the_end_or_the_source(rt: HostRuntime) -> Result<(), Fail> {
         event(Event::Inject(1, 2)),
         Step::Drain,
     ];
-    let source = played(rt.alloc(), path(rt.alloc())?, 1, 1, &before)?;
+    let source = played(rt.alloc(), &PATH, 1, 1, &before)?;
     assert!(rt;
         ended(
             &source,
@@ -206,12 +159,16 @@ fn restamped_at_the_end_or_the_source(rt: HostRuntime) -> Result<(), Fail> {
 
 #[test]
 fn too_many_restamps(rt: HostRuntime) -> Result<(), Fail> {
-    let four = World::new(rt.alloc(), path(rt.alloc())?, Kind::Tree, 1, 16, 4096, 4);
-    assert!(rt; matches!(four, Err(OpenError::TooLarge)));
-    let no_root = World::new(rt.alloc(), path(rt.alloc())?, Kind::Tree, 3, 16, 4096, 4);
-    assert!(rt; matches!(no_root, Err(OpenError::NoNode)));
-    let three = World::new(rt.alloc(), path(rt.alloc())?, Kind::Tree, 1, 16, 4096, 3);
-    assert!(rt; three.is_ok());
+    let openings = [
+        (1, 4, Some(OpenError::TooLarge)),
+        (3, 4, Some(OpenError::NoNode)),
+        (1, 3, None),
+    ];
+    for (root, restamps, why) in openings {
+        let path = topology_of(rt.alloc(), &PATH)?;
+        let opened = World::new(rt.alloc(), path, Kind::Tree, root, 16, 4096, restamps);
+        assert!(rt; opened.err() == why, "{root} {restamps}");
+    }
     Ok(())
 }
 
@@ -222,14 +179,7 @@ fn built(i: &Install, kind: Kind, root: u16, up: &[bool]) -> bool {
 
 #[test]
 fn installs_of_a_list(rt: HostRuntime) -> Result<(), Fail> {
-    let opening = Opening {
-        topology: path(rt.alloc())?,
-        kind: Kind::Tree,
-        root: 1,
-        capacity: 16,
-        max_packets: 4096,
-        restamps: 0,
-    };
+    let path = opening(rt.alloc(), &PATH, Kind::Tree, 1, 16, 0)?;
     let steps = [
         event(Event::Install(Kind::Shortest, 0)),
         event(Event::Down(0)),
@@ -240,7 +190,7 @@ fn installs_of_a_list(rt: HostRuntime) -> Result<(), Fail> {
         Step::Drain,
         event(Event::Install(Kind::Tree, 2)),
     ];
-    let Ok(list) = installs(rt.alloc(), &opening, &steps) else {
+    let Ok(list) = installs(rt.alloc(), &path, &steps) else {
         return Err("not opened".into());
     };
     assert!(rt; list.len() == 3);
@@ -256,14 +206,7 @@ fn installs_of_a_list(rt: HostRuntime) -> Result<(), Fail> {
         list.get(2)
             .is_some_and(|i| built(i, Kind::Tree, 2, &[true, true]))
     );
-    let wide = Opening {
-        topology: cross(rt.alloc())?,
-        kind: Kind::Tree,
-        root: 0,
-        capacity: 16,
-        max_packets: 4096,
-        restamps: 0,
-    };
+    let wide = opening(rt.alloc(), &HEAVY, Kind::Tree, 0, 16, 0)?;
     let down = [
         event(Event::Down(0)),
         event(Event::Install(Kind::Tree, 0)),
@@ -275,18 +218,8 @@ fn installs_of_a_list(rt: HostRuntime) -> Result<(), Fail> {
     assert!(rt; two.len() == 2);
     let marks = [false, true, true, true, true, true, true];
     assert!(rt; two.get(1).is_some_and(|i| built(i, Kind::Tree, 0, &marks)));
-    let Err(OpenError::TooLarge) = installs(
-        rt.alloc(),
-        &Opening {
-            topology: path(rt.alloc())?,
-            kind: Kind::Tree,
-            root: 0,
-            capacity: 0,
-            max_packets: 1,
-            restamps: 0,
-        },
-        &[],
-    ) else {
+    let none = opening(rt.alloc(), &PATH, Kind::Tree, 0, 0, 0)?;
+    let Err(OpenError::TooLarge) = installs(rt.alloc(), &none, &[]) else {
         return Err("opened".into());
     };
     Ok(())

@@ -1,5 +1,6 @@
 //! Runs of steps, played by hand.
 
+use crate::networks::{Edge, HEAVY, PATH, topology_of};
 use ir_core::{
     Event, Fate, Kind, OpenError, Opening, Played, Refused, Reply, Step, Way, World, play,
 };
@@ -8,57 +9,36 @@ use ir_tables::Topology;
 use std::alloc::Global;
 use std::test::Fail;
 
-/// The topology of these edges, nodes in order of appearance.
-fn topology(alloc: Global, edges: &[(&str, &str, u32)]) -> Result<Topology, Fail> {
-    let mut graph = Graph::new(alloc);
-    for (u, v, weight) in edges {
-        let Ok(_) = graph.add_edge(u, v, *weight) else {
-            return Err("refused".into());
-        };
-    }
-    let Ok(topology) = Topology::of(alloc, &graph) else {
-        return Err("no memory".into());
-    };
-    Ok(topology)
-}
-
-/// The path a, b, c: links a-b and b-c.
-fn path(alloc: Global) -> Result<Topology, Fail> {
-    topology(alloc, &[("a", "b", 1), ("b", "c", 1)])
-}
-
-/// Nodes u p q r t s; links u-p, u-q, p-q, p-t, q-r, q-t, q-s.
-fn cross(alloc: Global) -> Result<Topology, Fail> {
-    topology(
-        alloc,
-        &[
-            ("u", "p", 1),
-            ("u", "q", 1),
-            ("p", "q", 9),
-            ("q", "r", 1),
-            ("q", "t", 9),
-            ("p", "t", 1),
-            ("q", "s", 1),
-        ],
-    )
-}
-
-fn played(
+/// An opening over a network of these edges.
+pub(crate) fn opening(
     alloc: Global,
-    topology: Topology,
+    edges: &[Edge],
     kind: Kind,
     root: u16,
     capacity: usize,
-    steps: &[Step],
-) -> Result<Played, Fail> {
-    let opening = Opening {
-        topology,
+    restamps: u8,
+) -> Result<Opening, Fail> {
+    Ok(Opening {
+        topology: topology_of(alloc, edges)?,
         kind,
         root,
         capacity,
         max_packets: 4096,
-        restamps: 0,
-    };
+        restamps,
+    })
+}
+
+/// A run of these steps over a network of these edges.
+pub(crate) fn played(
+    alloc: Global,
+    edges: &[Edge],
+    kind: Kind,
+    root: u16,
+    capacity: usize,
+    restamps: u8,
+    steps: &[Step],
+) -> Result<Played, Fail> {
+    let opening = opening(alloc, edges, kind, root, capacity, restamps)?;
     let Ok(played) = play(alloc, opening, steps) else {
         return Err("not opened".into());
     };
@@ -78,7 +58,8 @@ fn reply(p: &Played, step: usize) -> Option<Result<Reply, Refused>> {
     p.replies.get(step).copied()
 }
 
-fn event(event: Event) -> Step {
+/// An event as a step.
+pub(crate) fn event(event: Event) -> Step {
     Step::Event(event)
 }
 
@@ -91,8 +72,18 @@ fn a_single_node(rt: HostRuntime) -> Result<(), Fail> {
     let Ok(lone) = Topology::of(rt.alloc(), &graph) else {
         return Err("no memory".into());
     };
+    let opening = Opening {
+        topology: lone,
+        kind: Kind::Shortest,
+        root: 0,
+        capacity: 16,
+        max_packets: 4096,
+        restamps: 0,
+    };
     let steps = [event(Event::Inject(0, 0)), Step::Drain];
-    let p = played(rt.alloc(), lone, Kind::Shortest, 0, 16, &steps)?;
+    let Ok(p) = play(rt.alloc(), opening, &steps) else {
+        return Err("not opened".into());
+    };
     assert!(rt; ended(&p, 0, 1, &[0], Fate::Delivered));
     Ok(())
 }
@@ -100,16 +91,9 @@ fn a_single_node(rt: HostRuntime) -> Result<(), Fail> {
 #[test]
 fn tree_and_shortest(rt: HostRuntime) -> Result<(), Fail> {
     let steps = [event(Event::Inject(0, 4)), Step::Drain];
-    let tree = played(rt.alloc(), cross(rt.alloc())?, Kind::Tree, 0, 16, &steps)?;
+    let tree = played(rt.alloc(), &HEAVY, Kind::Tree, 0, 16, 0, &steps)?;
     assert!(rt; ended(&tree, 0, 1, &[0, 1, 2, 4], Fate::Delivered));
-    let shortest = played(
-        rt.alloc(),
-        cross(rt.alloc())?,
-        Kind::Shortest,
-        0,
-        16,
-        &steps,
-    )?;
+    let shortest = played(rt.alloc(), &HEAVY, Kind::Shortest, 0, 16, 0, &steps)?;
     assert!(rt; ended(&shortest, 0, 1, &[0, 1, 4], Fate::Delivered));
     Ok(())
 }
@@ -125,7 +109,7 @@ fn a_packet_keeps_its_epoch(rt: HostRuntime) -> Result<(), Fail> {
         event(Event::Inject(0, 4)),
         Step::Drain,
     ];
-    let p = played(rt.alloc(), cross(rt.alloc())?, Kind::Tree, 0, 16, &steps)?;
+    let p = played(rt.alloc(), &HEAVY, Kind::Tree, 0, 16, 0, &steps)?;
     assert!(rt; ended(&p, 0, 1, &[0, 1, 2, 4], Fate::Delivered));
     assert!(rt; ended(&p, 1, 2, &[0, 1, 4], Fate::Delivered));
     Ok(())
@@ -143,14 +127,15 @@ fn retired_in_hand(rt: HostRuntime) -> Result<(), Fail> {
         event(Event::Retire(2)),
         Step::Drain,
     ];
-    let p = played(rt.alloc(), cross(rt.alloc())?, Kind::Tree, 0, 16, &steps)?;
+    let p = played(rt.alloc(), &HEAVY, Kind::Tree, 0, 16, 0, &steps)?;
     assert!(rt; ended(&p, 0, 1, &[0, 1], Fate::Retired));
     let early = played(
         rt.alloc(),
-        cross(rt.alloc())?,
+        &HEAVY,
         Kind::Tree,
         0,
         16,
+        0,
         &[steps[0], steps[1], steps[2], steps[5], steps[6], steps[7]],
     )?;
     assert!(rt; ended(&early, 0, 1, &[0], Fate::Retired));
@@ -168,7 +153,7 @@ fn the_link_ahead_is_down(rt: HostRuntime) -> Result<(), Fail> {
         event(Event::Read(1, 1)),
         event(Event::Act(1)),
     ];
-    let p = played(rt.alloc(), cross(rt.alloc())?, Kind::Tree, 0, 16, &steps)?;
+    let p = played(rt.alloc(), &HEAVY, Kind::Tree, 0, 16, 0, &steps)?;
     assert!(rt; ended(&p, 0, 1, &[0, 1], Fate::Down(2)));
     Ok(())
 }
@@ -184,7 +169,7 @@ fn the_link_behind_is_down(rt: HostRuntime) -> Result<(), Fail> {
         event(Event::Read(1, 1)),
         event(Event::Act(1)),
     ];
-    let p = played(rt.alloc(), cross(rt.alloc())?, Kind::Tree, 0, 16, &steps)?;
+    let p = played(rt.alloc(), &HEAVY, Kind::Tree, 0, 16, 0, &steps)?;
     assert!(rt; ended(&p, 0, 1, &[0], Fate::Down(0)));
     Ok(())
 }
@@ -203,7 +188,7 @@ fn the_link_behind_is_up_again(rt: HostRuntime) -> Result<(), Fail> {
         event(Event::Act(1)),
         Step::Drain,
     ];
-    let p = played(rt.alloc(), cross(rt.alloc())?, Kind::Tree, 0, 16, &steps)?;
+    let p = played(rt.alloc(), &HEAVY, Kind::Tree, 0, 16, 0, &steps)?;
     assert!(rt; ended(&p, 0, 1, &[0, 1, 2, 4], Fate::Delivered));
     Ok(())
 }
@@ -218,7 +203,7 @@ fn installs_over_the_links_that_are_up(rt: HostRuntime) -> Result<(), Fail> {
         event(Event::Inject(1, 2)),
         Step::Drain,
     ];
-    let p = played(rt.alloc(), path(rt.alloc())?, Kind::Tree, 1, 16, &steps)?;
+    let p = played(rt.alloc(), &PATH, Kind::Tree, 1, 16, 0, &steps)?;
     assert!(rt; matches!(reply(&p, 1), Some(Err(Refused::Disconnected))));
     assert!(rt; matches!(reply(&p, 2), Some(Err(Refused::NoEpoch))));
     assert!(rt; matches!(reply(&p, 3), Some(Err(Refused::Same))));
@@ -237,7 +222,7 @@ fn a_retired_stamp(rt: HostRuntime) -> Result<(), Fail> {
         event(Event::Inject(1, 2)),
         Step::Drain,
     ];
-    let p = played(rt.alloc(), path(rt.alloc())?, Kind::Tree, 1, 16, &steps)?;
+    let p = played(rt.alloc(), &PATH, Kind::Tree, 1, 16, 0, &steps)?;
     assert!(rt; matches!(reply(&p, 4), Some(Err(Refused::Same))));
     assert!(rt; ended(&p, 0, 1, &[1], Fate::Retired));
     Ok(())
@@ -252,7 +237,7 @@ fn a_full_inbox(rt: HostRuntime) -> Result<(), Fail> {
         event(Event::Inject(0, 1)),
         Step::Drain,
     ];
-    let p = played(rt.alloc(), path(rt.alloc())?, Kind::Tree, 1, 1, &steps)?;
+    let p = played(rt.alloc(), &PATH, Kind::Tree, 1, 1, 0, &steps)?;
     assert!(rt; matches!(reply(&p, 1), Some(Err(Refused::InboxFull))));
     assert!(rt; ended(&p, 0, 1, &[0, 1, 2], Fate::Delivered));
     assert!(rt; ended(&p, 1, 1, &[0, 1], Fate::Delivered));
@@ -270,7 +255,7 @@ fn a_full_channel(rt: HostRuntime) -> Result<(), Fail> {
         event(Event::Act(0)),
         Step::Drain,
     ];
-    let p = played(rt.alloc(), path(rt.alloc())?, Kind::Tree, 1, 1, &steps)?;
+    let p = played(rt.alloc(), &PATH, Kind::Tree, 1, 1, 0, &steps)?;
     assert!(rt; ended(&p, 0, 1, &[0, 1, 2], Fate::Delivered));
     assert!(rt; ended(&p, 1, 1, &[0], Fate::Full { link: 0, to: 1 }));
     Ok(())
@@ -295,7 +280,7 @@ fn refusals_in_order(rt: HostRuntime) -> Result<(), Fail> {
         event(Event::Down(2)),
         event(Event::Act(3)),
     ];
-    let p = played(rt.alloc(), path(rt.alloc())?, Kind::Tree, 1, 16, &steps)?;
+    let p = played(rt.alloc(), &PATH, Kind::Tree, 1, 16, 0, &steps)?;
     assert!(rt; matches!(reply(&p, 0), Some(Err(Refused::HandEmpty))));
     assert!(rt; matches!(reply(&p, 1), Some(Err(Refused::Empty))));
     assert!(rt; matches!(reply(&p, 2), Some(Err(Refused::BadView))));
@@ -317,7 +302,7 @@ fn refusals_in_order(rt: HostRuntime) -> Result<(), Fail> {
 #[test]
 fn openings_refused(rt: HostRuntime) -> Result<(), Fail> {
     let alloc = rt.alloc();
-    let empty = topology(alloc, &[])?;
+    let empty = topology_of(alloc, &[])?;
     assert!(rt;
         matches!(
             World::new(alloc, empty, Kind::Tree, 0, 16, 4096, 0),
@@ -326,23 +311,23 @@ fn openings_refused(rt: HostRuntime) -> Result<(), Fail> {
     );
     assert!(rt;
         matches!(
-            World::new(alloc, path(alloc)?, Kind::Tree, 3, 0, 4096, 0),
+            World::new(alloc, topology_of(alloc, &PATH)?, Kind::Tree, 3, 0, 4096, 0),
             Err(OpenError::NoNode)
         )
     );
     assert!(rt;
         matches!(
-            World::new(alloc, path(alloc)?, Kind::Tree, 0, 0, 4096, 0),
+            World::new(alloc, topology_of(alloc, &PATH)?, Kind::Tree, 0, 0, 4096, 0),
             Err(OpenError::TooLarge)
         )
     );
     assert!(rt;
         matches!(
-            World::new(alloc, path(alloc)?, Kind::Tree, 0, 1, 4097, 0),
+            World::new(alloc, topology_of(alloc, &PATH)?, Kind::Tree, 0, 1, 4097, 0),
             Err(OpenError::TooLarge)
         )
     );
-    let apart = topology(alloc, &[("a", "a", 1), ("b", "b", 1)])?;
+    let apart = topology_of(alloc, &[("a", "a", 1), ("b", "b", 1)])?;
     assert!(rt;
         matches!(
             World::new(alloc, apart, Kind::Tree, 0, 16, 4096, 0),
@@ -356,7 +341,15 @@ fn openings_refused(rt: HostRuntime) -> Result<(), Fail> {
 
 #[test]
 fn epochs_are_64(rt: HostRuntime) -> Result<(), Fail> {
-    let Ok(mut world) = World::new(rt.alloc(), path(rt.alloc())?, Kind::Tree, 1, 16, 4096, 0) else {
+    let Ok(mut world) = World::new(
+        rt.alloc(),
+        topology_of(rt.alloc(), &PATH)?,
+        Kind::Tree,
+        1,
+        16,
+        4096,
+        0,
+    ) else {
         return Err("not opened".into());
     };
     for _ in 0..63 {
@@ -375,7 +368,15 @@ fn epochs_are_64(rt: HostRuntime) -> Result<(), Fail> {
 
 #[test]
 fn changes_are_65535(rt: HostRuntime) -> Result<(), Fail> {
-    let Ok(mut world) = World::new(rt.alloc(), path(rt.alloc())?, Kind::Tree, 1, 16, 4096, 0) else {
+    let Ok(mut world) = World::new(
+        rt.alloc(),
+        topology_of(rt.alloc(), &PATH)?,
+        Kind::Tree,
+        1,
+        16,
+        4096,
+        0,
+    ) else {
         return Err("not opened".into());
     };
     for k in 0..65535 {

@@ -4,43 +4,11 @@ ghost use Rattle.std.specs.Prelude.{◌≡◌, IfOk};
 ghost use Rattle.ir_model.specs.Network.{node_count};
 ghost use Rattle.ir_model.specs.Table.{table_size, IsShortest};
 
+use crate::networks::{HEAVY, PATH, graph_of, topology_of};
 use ir_graph::Graph;
 use ir_tables::{Hop, Table, TableError, Topology, is_port_list, weights_by_rounds};
 use std::alloc::Global;
 use std::test::Fail;
-
-/// The graph of edges that are added in order.
-fn graph_of(alloc: Global, edges: &[(&str, &str, u32)]) -> Result<Graph, Fail> {
-    let mut graph = Graph::new(alloc);
-    for (u, v, weight) in edges {
-        let Ok(_before) = graph.add_edge(u, v, *weight) else {
-            return Err("an edge was refused".into());
-        };
-    }
-    Ok(graph)
-}
-
-fn topology_of(alloc: Global, edges: &[(&str, &str, u32)]) -> Result<Topology, Fail> {
-    let graph = graph_of(alloc, edges)?;
-    let Ok(topology) = Topology::of(alloc, &graph) else {
-        return Err("no memory".into());
-    };
-    Ok(topology)
-}
-
-/// Nodes u, p, q, r, t, s are 0 to 5; links u-p, u-q, p-q, p-t, q-r, q-t, q-s are 0 to 6.
-fn example(alloc: Global) -> Result<Topology, Fail> {
-    let edges = [
-        ("u", "p", 1),
-        ("u", "q", 1),
-        ("p", "q", 9),
-        ("q", "r", 1),
-        ("q", "t", 9),
-        ("p", "t", 1),
-        ("q", "s", 1),
-    ];
-    topology_of(alloc, &edges)
-}
 
 fn shortest(alloc: Global, topology: &Topology) -> Result<Table, Fail>
     ensures { IfOk result (λ table. IsShortest topology.now table) }
@@ -77,7 +45,7 @@ fn port(topology: &Topology, u: u16, p: u16) -> Option<Hop> {
 
 /// The example without the links that are not marked.
 fn only(alloc: Global, up: &[bool]) -> Result<Topology, Fail> {
-    let topology = example(alloc)?;
+    let topology = topology_of(alloc, &HEAVY)?;
     if up.len() != topology.links() {
         return Err("not a mark for each link".into());
     }
@@ -89,7 +57,7 @@ fn only(alloc: Global, up: &[bool]) -> Result<Topology, Fail> {
 
 #[test]
 fn shortest_ways(rt: HostRuntime) -> Result<(), Fail> {
-    let topology = example(rt.alloc())?;
+    let topology = topology_of(rt.alloc(), &HEAVY)?;
     let table = shortest(rt.alloc(), &topology)?;
     assert_eq!(rt; way(&topology, &table, 0, 4), Some((Some(0), 2)));
     assert_eq!(rt; way(&topology, &table, 1, 2), Some((Some(0), 2)));
@@ -99,7 +67,7 @@ fn shortest_ways(rt: HostRuntime) -> Result<(), Fail> {
 
 #[test]
 fn links_in_edge_order(rt: HostRuntime) -> Result<(), Fail> {
-    let topology = example(rt.alloc())?;
+    let topology = topology_of(rt.alloc(), &HEAVY)?;
     assert_eq!(rt; topology.nodes(), 6);
     assert_eq!(rt; topology.links(), 7);
     assert_eq!(rt; ends(&topology, 0), Some((0, 1)));
@@ -111,7 +79,7 @@ fn links_in_edge_order(rt: HostRuntime) -> Result<(), Fail> {
 
 #[test]
 fn ports_in_adjacency_order(rt: HostRuntime) -> Result<(), Fail> {
-    let topology = example(rt.alloc())?;
+    let topology = topology_of(rt.alloc(), &HEAVY)?;
     let to_t = Hop {
         node: 4,
         link: 3,
@@ -160,7 +128,7 @@ fn a_node_cut_off(rt: HostRuntime) -> Result<(), Fail> {
 
 #[test]
 fn cloned(rt: HostRuntime) -> Result<(), Fail> {
-    let topology = example(rt.alloc())?;
+    let topology = topology_of(rt.alloc(), &HEAVY)?;
     let Ok(copy) = topology.try_clone(rt.alloc()) else {
         return Err("no memory".into());
     };
@@ -211,7 +179,7 @@ fn agrees(alloc: Global, topology: &Topology, table: &Table, d: u16) -> Result<b
 
 #[test]
 fn as_by_plain_relaxation(rt: HostRuntime) -> Result<(), Fail> {
-    let topology = example(rt.alloc())?;
+    let topology = topology_of(rt.alloc(), &HEAVY)?;
     let table = shortest(rt.alloc(), &topology)?;
     for d in 0..6 {
         assert!(rt; agrees(rt.alloc(), &topology, &table, d)?);
@@ -219,14 +187,9 @@ fn as_by_plain_relaxation(rt: HostRuntime) -> Result<(), Fail> {
     Ok(())
 }
 
-/// a to b to c, each link of weight 1.
-fn path(alloc: Global) -> Result<Topology, Fail> {
-    topology_of(alloc, &[("a", "b", 1), ("b", "c", 1)])
-}
-
 #[test]
 fn listed_ports(rt: HostRuntime) -> Result<(), Fail> {
-    let topology = path(rt.alloc())?;
+    let topology = topology_of(rt.alloc(), &PATH)?;
     let list = [
         None,
         Some(0),
@@ -251,7 +214,7 @@ fn listed_ports(rt: HostRuntime) -> Result<(), Fail> {
 
 #[test]
 fn ports_that_lead_back(rt: HostRuntime) -> Result<(), Fail> {
-    let topology = path(rt.alloc())?;
+    let topology = topology_of(rt.alloc(), &PATH)?;
     let list = [
         None,
         Some(0),
