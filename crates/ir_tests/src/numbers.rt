@@ -1,64 +1,57 @@
 //! Depth-first numbers and tree tables.
 
-use ir_graph::{Graph, GraphError};
+use crate::networks::{Edge, HEAVY, RING, topology_of};
 use ir_numbering::{NumberError, Numbering, tree_table};
-use ir_tables::Topology;
 use std::alloc::Global;
 use std::test::Fail;
 
-// a b d c are 0 to 3
-fn square(alloc: Global) -> Result<Graph, GraphError> {
-    let mut graph = Graph::new(alloc);
-    graph.add_edge("a", "b", 1)?;
-    graph.add_edge("a", "d", 1)?;
-    graph.add_edge("b", "c", 1)?;
-    graph.add_edge("c", "d", 1)?;
-    Ok(graph)
-}
+/// What a numbering has at one place: the label of the node with this number, the node with this label, the port to the
+/// node's parent, and the size of its subtree.
+type Place = (u16, u16, Option<u16>, usize);
 
-// u p q r t s are 0 to 5
-fn weighted(alloc: Global) -> Result<Graph, GraphError> {
-    let mut graph = Graph::new(alloc);
-    graph.add_edge("u", "p", 1)?;
-    graph.add_edge("u", "q", 1)?;
-    graph.add_edge("p", "q", 9)?;
-    graph.add_edge("q", "r", 1)?;
-    graph.add_edge("q", "t", 9)?;
-    graph.add_edge("p", "t", 1)?;
-    graph.add_edge("q", "s", 1)?;
-    Ok(graph)
+/// The places of the numbering of a network from its first node on.
+fn places(alloc: Global, edges: &[Edge]) -> Result<Vec<Place>, Fail> {
+    let topology = topology_of(alloc, edges)?;
+    let Ok(numbers) = Numbering::depth_first(alloc, &topology, 0) else {
+        return Err("no numbers".into());
+    };
+    let mut places = Vec::new(alloc);
+    for k in 0..topology.nodes() {
+        let k = k as u16;
+        places.push((
+            numbers.label_of(k),
+            numbers.node_of(k),
+            numbers.parent(k),
+            numbers.subtree(k),
+        ))?;
+    }
+    Ok(places)
 }
 
 #[test]
-fn numbers_a_square_depth_first(rt: HostRuntime) -> Result<(), Fail> {
-    let Ok(graph) = square(rt.alloc()) else {
-        return Err("no graph".into());
-    };
-    let Ok(topology) = Topology::of(rt.alloc(), &graph) else {
-        return Err("no topology".into());
-    };
-    let Ok(numbering) = Numbering::depth_first(rt.alloc(), &topology, 0) else {
-        return Err("no numbers".into());
-    };
-    if topology.nodes() == 4 {
-        assert_eq!(rt; numbering.label_of(2), 3);
-        assert_eq!(rt; numbering.label_of(3), 2);
-        assert_eq!(rt; numbering.node_of(2), 3);
-        assert_eq!(rt; numbering.parent(2), Some(1));
-        assert_eq!(rt; numbering.parent(0), None);
-        assert_eq!(rt; numbering.subtree(1), 3);
-    }
+fn numbers_depth_first(rt: HostRuntime) -> Result<(), Fail> {
+    let ring = [
+        (0, 0, None, 4),
+        (1, 1, Some(0), 3),
+        (3, 3, Some(1), 1),
+        (2, 2, Some(0), 2),
+    ];
+    assert!(rt; places(rt.alloc(), &RING)?.as_slice() == ring.as_slice());
+    let heavy = [
+        (0, 0, None, 6),
+        (1, 1, Some(0), 5),
+        (2, 2, Some(1), 4),
+        (3, 3, Some(0), 1),
+        (4, 4, Some(0), 1),
+        (5, 5, Some(0), 1),
+    ];
+    assert!(rt; places(rt.alloc(), &HEAVY)?.as_slice() == heavy.as_slice());
     Ok(())
 }
 
 #[test]
-fn routes_a_square_along_its_tree(rt: HostRuntime) -> Result<(), Fail> {
-    let Ok(graph) = square(rt.alloc()) else {
-        return Err("no graph".into());
-    };
-    let Ok(topology) = Topology::of(rt.alloc(), &graph) else {
-        return Err("no topology".into());
-    };
+fn routes_a_ring_along_its_tree(rt: HostRuntime) -> Result<(), Fail> {
+    let topology = topology_of(rt.alloc(), &RING)?;
     let Ok(numbering) = Numbering::depth_first(rt.alloc(), &topology, 0) else {
         return Err("no numbers".into());
     };
@@ -74,12 +67,7 @@ fn routes_a_square_along_its_tree(rt: HostRuntime) -> Result<(), Fail> {
 
 #[test]
 fn refuses_a_root_that_is_no_node(rt: HostRuntime) -> Result<(), Fail> {
-    let Ok(graph) = square(rt.alloc()) else {
-        return Err("no graph".into());
-    };
-    let Ok(topology) = Topology::of(rt.alloc(), &graph) else {
-        return Err("no topology".into());
-    };
+    let topology = topology_of(rt.alloc(), &RING)?;
     assert_eq!(rt;
         Numbering::depth_first(rt.alloc(), &topology, 4).err(),
         Some(NumberError::NoNode)
@@ -89,37 +77,10 @@ fn refuses_a_root_that_is_no_node(rt: HostRuntime) -> Result<(), Fail> {
 
 #[test]
 fn refuses_two_lone_nodes(rt: HostRuntime) -> Result<(), Fail> {
-    let mut graph = Graph::new(rt.alloc());
-    let Ok(_first) = graph.add_node("a") else {
-        return Err("no node".into());
-    };
-    let Ok(_second) = graph.add_node("b") else {
-        return Err("no node".into());
-    };
-    let Ok(topology) = Topology::of(rt.alloc(), &graph) else {
-        return Err("no topology".into());
-    };
+    let topology = topology_of(rt.alloc(), &[("a", "a", 1), ("b", "b", 1)])?;
     assert_eq!(rt;
         Numbering::depth_first(rt.alloc(), &topology, 0).err(),
         Some(NumberError::Disconnected)
     );
-    Ok(())
-}
-
-#[test]
-fn numbers_the_weighted_example(rt: HostRuntime) -> Result<(), Fail> {
-    let Ok(graph) = weighted(rt.alloc()) else {
-        return Err("no graph".into());
-    };
-    let Ok(topology) = Topology::of(rt.alloc(), &graph) else {
-        return Err("no topology".into());
-    };
-    let Ok(numbering) = Numbering::depth_first(rt.alloc(), &topology, 0) else {
-        return Err("no numbers".into());
-    };
-    if topology.nodes() == 6 {
-        assert_eq!(rt; numbering.subtree(2), 4);
-        assert_eq!(rt; numbering.parent(2), Some(1));
-    }
     Ok(())
 }

@@ -1,25 +1,9 @@
 //! Packets that are restamped on their way.
 
-use crate::networks::{Edge, HEAVY, PATH, topology_of};
-use crate::runs::{self, event, opening};
-use ir_core::{
-    Event, Fate, Install, Kind, OpenError, Played, Restamp, Step, Way, World, installs, play,
-};
-use ir_graph::Graph;
-use ir_tables::Topology;
-use std::alloc::Global;
+use crate::networks::{HEAVY, PATH};
+use crate::runs::{along_tree, event, once_sent, opening};
+use ir_core::{Event, Fate, Install, Kind, OpenError, Played, Restamp, Step, Way, installs};
 use std::test::Fail;
-
-/// A run over trees, whose channels hold 16 packets.
-fn played(
-    alloc: Global,
-    edges: &[Edge],
-    root: u16,
-    restamps: u8,
-    steps: &[Step],
-) -> Result<Played, Fail> {
-    runs::played(alloc, edges, Kind::Tree, root, 16, restamps, steps)
-}
 
 /// What became of packet 0, first stamped with epoch 1.
 fn ended(p: &Played, hops: &[u16], restamps: &[Restamp], fate: Fate) -> bool {
@@ -34,15 +18,15 @@ fn ended(p: &Played, hops: &[u16], restamps: &[Restamp], fate: Fate) -> bool {
 
 #[test]
 fn restamped_in_a_channel(rt: HostRuntime) -> Result<(), Fail> {
-    let steps = [
-        event(Event::Inject(0, 4)),
-        event(Event::Take(0, Way::Inbox)),
-        event(Event::Act(0)),
-        event(Event::Install(Kind::Shortest, 0)),
-        event(Event::Retire(2)),
-        Step::Drain,
-    ];
-    let p = played(rt.alloc(), &HEAVY, 0, 1, &steps)?;
+    let steps = once_sent(
+        rt.alloc(),
+        &[
+            event(Event::Install(Kind::Shortest, 0)),
+            event(Event::Retire(2)),
+            Step::Drain,
+        ],
+    )?;
+    let p = along_tree(rt.alloc(), &HEAVY, 0, 1, steps.as_slice())?;
     assert!(rt;
         ended(
             &p,
@@ -51,24 +35,24 @@ fn restamped_in_a_channel(rt: HostRuntime) -> Result<(), Fail> {
             Fate::Delivered
         )
     );
-    let none = played(rt.alloc(), &HEAVY, 0, 0, &steps)?;
+    let none = along_tree(rt.alloc(), &HEAVY, 0, 0, steps.as_slice())?;
     assert!(rt; ended(&none, &[0], &[], Fate::Retired));
     Ok(())
 }
 
 #[test]
 fn turned_back_by_a_restamp(rt: HostRuntime) -> Result<(), Fail> {
-    let steps = [
-        event(Event::Inject(0, 4)),
-        event(Event::Take(0, Way::Inbox)),
-        event(Event::Act(0)),
-        event(Event::Take(1, Way::Link(0))),
-        event(Event::Act(1)),
-        event(Event::Install(Kind::Shortest, 0)),
-        event(Event::Retire(2)),
-        Step::Drain,
-    ];
-    let p = played(rt.alloc(), &HEAVY, 0, 1, &steps)?;
+    let steps = once_sent(
+        rt.alloc(),
+        &[
+            event(Event::Take(1, Way::Link(0))),
+            event(Event::Act(1)),
+            event(Event::Install(Kind::Shortest, 0)),
+            event(Event::Retire(2)),
+            Step::Drain,
+        ],
+    )?;
+    let p = along_tree(rt.alloc(), &HEAVY, 0, 1, steps.as_slice())?;
     assert!(rt;
         ended(
             &p,
@@ -82,22 +66,22 @@ fn turned_back_by_a_restamp(rt: HostRuntime) -> Result<(), Fail> {
 
 #[test]
 fn restamped_twice_or_dropped(rt: HostRuntime) -> Result<(), Fail> {
-    let steps = [
-        event(Event::Inject(0, 4)),
-        event(Event::Take(0, Way::Inbox)),
-        event(Event::Act(0)),
-        event(Event::Take(1, Way::Link(0))),
-        event(Event::Act(1)),
-        event(Event::Install(Kind::Shortest, 0)),
-        event(Event::Retire(2)),
-        event(Event::Take(2, Way::Link(2))),
-        event(Event::Read(2, 2)),
-        event(Event::Act(2)),
-        event(Event::Install(Kind::Tree, 0)),
-        event(Event::Retire(3)),
-        Step::Drain,
-    ];
-    let once = played(rt.alloc(), &HEAVY, 0, 1, &steps)?;
+    let steps = once_sent(
+        rt.alloc(),
+        &[
+            event(Event::Take(1, Way::Link(0))),
+            event(Event::Act(1)),
+            event(Event::Install(Kind::Shortest, 0)),
+            event(Event::Retire(2)),
+            event(Event::Take(2, Way::Link(2))),
+            event(Event::Read(2, 2)),
+            event(Event::Act(2)),
+            event(Event::Install(Kind::Tree, 0)),
+            event(Event::Retire(3)),
+            Step::Drain,
+        ],
+    )?;
+    let once = along_tree(rt.alloc(), &HEAVY, 0, 1, steps.as_slice())?;
     assert!(rt;
         ended(
             &once,
@@ -106,7 +90,7 @@ fn restamped_twice_or_dropped(rt: HostRuntime) -> Result<(), Fail> {
             Fate::Retired
         )
     );
-    let twice = played(rt.alloc(), &HEAVY, 0, 2, &steps)?;
+    let twice = along_tree(rt.alloc(), &HEAVY, 0, 2, steps.as_slice())?;
     assert!(rt;
         ended(
             &twice,
@@ -128,7 +112,7 @@ fn restamped_at_the_end_or_the_source(rt: HostRuntime) -> Result<(), Fail> {
         event(Event::Retire(2)),
         Step::Drain,
     ];
-    let p = played(rt.alloc(), &PATH, 1, 1, &steps)?;
+    let p = along_tree(rt.alloc(), &PATH, 1, 1, &steps)?;
     assert!(rt;
         ended(
             &p,
@@ -137,7 +121,7 @@ fn restamped_at_the_end_or_the_source(rt: HostRuntime) -> Result<(), Fail> {
             Fate::Delivered
         )
     );
-    let none = played(rt.alloc(), &PATH, 1, 0, &steps)?;
+    let none = along_tree(rt.alloc(), &PATH, 1, 0, &steps)?;
     assert!(rt; ended(&none, &[1], &[], Fate::Retired));
     let before = [
         event(Event::Install(Kind::Tree, 1)),
@@ -145,7 +129,7 @@ fn restamped_at_the_end_or_the_source(rt: HostRuntime) -> Result<(), Fail> {
         event(Event::Inject(1, 2)),
         Step::Drain,
     ];
-    let source = played(rt.alloc(), &PATH, 1, 1, &before)?;
+    let source = along_tree(rt.alloc(), &PATH, 1, 1, &before)?;
     assert!(rt;
         ended(
             &source,
@@ -154,21 +138,6 @@ fn restamped_at_the_end_or_the_source(rt: HostRuntime) -> Result<(), Fail> {
             Fate::Delivered
         )
     );
-    Ok(())
-}
-
-#[test]
-fn too_many_restamps(rt: HostRuntime) -> Result<(), Fail> {
-    let openings = [
-        (1, 4, Some(OpenError::TooLarge)),
-        (3, 4, Some(OpenError::NoNode)),
-        (1, 3, None),
-    ];
-    for (root, restamps, why) in openings {
-        let path = topology_of(rt.alloc(), &PATH)?;
-        let opened = World::new(rt.alloc(), path, Kind::Tree, root, 16, 4096, restamps);
-        assert!(rt; opened.err() == why, "{root} {restamps}");
-    }
     Ok(())
 }
 
@@ -222,35 +191,5 @@ fn installs_of_a_list(rt: HostRuntime) -> Result<(), Fail> {
     let Err(OpenError::TooLarge) = installs(rt.alloc(), &none, &[]) else {
         return Err("opened".into());
     };
-    Ok(())
-}
-
-/// A ring of so many nodes, or all pairs of them.
-fn numbered(alloc: Global, nodes: u16, complete: bool) -> Result<Topology, Fail> {
-    let mut graph = Graph::new(alloc);
-    for u in 0..nodes {
-        for v in 0..u {
-            if complete || v + 1 == u || (v == 0 && u + 1 == nodes) {
-                let from = format!(in alloc; "n{v}")?;
-                let to = format!(in alloc; "n{u}")?;
-                let Ok(_) = graph.add_edge(from.as_str(), to.as_str(), 1) else {
-                    return Err("the edge is refused".into());
-                };
-            }
-        }
-    }
-    Ok(Topology::of(alloc, &graph)?)
-}
-
-fn opens(alloc: Global, topology: Topology) -> Option<OpenError> {
-    World::new(alloc, topology, Kind::Shortest, 0, 16, 4096, 3).err()
-}
-
-#[test]
-fn the_largest_networks(rt: HostRuntime) -> Result<(), Fail> {
-    assert!(rt; opens(rt.alloc(), numbered(rt.alloc(), 256, false)?).is_none());
-    assert!(rt; opens(rt.alloc(), numbered(rt.alloc(), 257, false)?) == Some(OpenError::TooLarge));
-    assert!(rt; opens(rt.alloc(), numbered(rt.alloc(), 45, true)?).is_none());
-    assert!(rt; opens(rt.alloc(), numbered(rt.alloc(), 46, true)?) == Some(OpenError::TooLarge));
     Ok(())
 }

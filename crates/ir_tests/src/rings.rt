@@ -1,4 +1,4 @@
-//! Runs over rings at the limits of a network.
+//! Runs over rings, and over networks at the limits.
 
 use ir_core::{
     Board, Event, Fate, Kind, OpenError, Opening, Played, Refused, Reply, Step, World, play,
@@ -8,26 +8,12 @@ use ir_tables::Topology;
 use std::alloc::Global;
 use std::test::Fail;
 
-/// A ring of so many nodes, n0 to the last.
-fn ring(alloc: Global, nodes: u16) -> Result<Topology, Fail> {
+/// So many nodes n0, n1 and so on, each linked to so many next ones, round and round.
+fn linked(alloc: Global, nodes: u16, reach: u16) -> Result<Topology, Fail> {
     let mut graph = Graph::new(alloc);
     for u in 0..nodes {
-        let v = if u < nodes - 1 { u + 1 } else { 0 };
-        let from = format!(in alloc; "n{u}")?;
-        let to = format!(in alloc; "n{v}")?;
-        let Ok(_) = graph.add_edge(from.as_str(), to.as_str(), 1) else {
-            return Err("the edge is refused".into());
-        };
-    }
-    Ok(Topology::of(alloc, &graph)?)
-}
-
-/// The nodes n0 to n255, each linked to the next four: 1,024 links.
-fn chords(alloc: Global) -> Result<Topology, Fail> {
-    let mut graph = Graph::new(alloc);
-    for u in 0..256u16 {
-        for step in 1..5u16 {
-            let v = (u + step) % 256;
+        for step in 1..reach + 1 {
+            let v = (u as usize + step as usize) % nodes as usize;
             let from = format!(in alloc; "n{u}")?;
             let to = format!(in alloc; "n{v}")?;
             let Ok(_) = graph.add_edge(from.as_str(), to.as_str(), 1) else {
@@ -36,6 +22,11 @@ fn chords(alloc: Global) -> Result<Topology, Fail> {
         }
     }
     Ok(Topology::of(alloc, &graph)?)
+}
+
+/// A ring of so many nodes.
+fn ring(alloc: Global, nodes: u16) -> Result<Topology, Fail> {
+    linked(alloc, nodes, 1)
 }
 
 fn opening(topology: Topology) -> Opening {
@@ -122,7 +113,7 @@ fn a_ring_of_256_is_drained(rt: HostRuntime) -> Result<(), Fail> {
 
 #[test]
 fn changes_of_the_last_of_1024_links(rt: HostRuntime) -> Result<(), Fail> {
-    let topology = chords(rt.alloc())?;
+    let topology = linked(rt.alloc(), 256, 4)?;
     let Ok(mut world) = World::new(rt.alloc(), topology, Kind::Tree, 0, 16, 4096, 0) else {
         return Err("not opened".into());
     };
@@ -137,16 +128,26 @@ fn changes_of_the_last_of_1024_links(rt: HostRuntime) -> Result<(), Fail> {
         };
     }
     assert!(rt; matches!(world.apply(Event::Up(1023)), Err(Refused::TooManyChanges)));
+    assert!(rt; matches!(world.apply(Event::Down(1023)), Err(Refused::Same)));
     assert!(rt; matches!(world.apply(Event::Down(1024)), Err(Refused::NoLink)));
     let newest: Option<Board> = world.board_versions().get(65535).copied();
     assert!(rt; newest.is_some_and(|board| !board.is_up(1023) && board.is_up(1022)));
     Ok(())
 }
 
+fn opens(alloc: Global, topology: Topology) -> Option<OpenError> {
+    World::new(alloc, topology, Kind::Shortest, 0, 16, 4096, 3).err()
+}
+
 #[test]
-fn a_ring_of_257_is_too_large(rt: HostRuntime) -> Result<(), Fail> {
-    let topology = ring(rt.alloc(), 257)?;
-    let refused = play(rt.alloc(), opening(topology), &[]);
+fn the_largest_networks(rt: HostRuntime) -> Result<(), Fail> {
+    let alloc = rt.alloc();
+    assert!(rt; opens(alloc, ring(alloc, 256)?).is_none());
+    assert!(rt; opens(alloc, ring(alloc, 257)?) == Some(OpenError::TooLarge));
+    assert!(rt; opens(alloc, linked(alloc, 45, 22)?).is_none());
+    assert!(rt; opens(alloc, linked(alloc, 46, 23)?) == Some(OpenError::TooLarge));
+    let topology = ring(alloc, 257)?;
+    let refused = play(alloc, opening(topology), &[]);
     assert!(rt; matches!(refused, Err(OpenError::TooLarge)));
     Ok(())
 }

@@ -45,6 +45,31 @@ pub(crate) fn played(
     Ok(played)
 }
 
+/// A run of these steps along the tree of such a network, whose channels hold 16 packets.
+pub(crate) fn along_tree(
+    alloc: Global,
+    edges: &[Edge],
+    root: u16,
+    restamps: u8,
+    steps: &[Step],
+) -> Result<Played, Fail> {
+    played(alloc, edges, Kind::Tree, root, 16, restamps, steps)
+}
+
+/// A packet from node 0 to node 4 is sent into its first channel.
+const SENT: [Step; 3] = [
+    Step::Event(Event::Inject(0, 4)),
+    Step::Event(Event::Take(0, Way::Inbox)),
+    Step::Event(Event::Act(0)),
+];
+
+/// These steps behind that packet's first ones.
+pub(crate) fn once_sent(alloc: Global, steps: &[Step]) -> Result<Vec<Step>, Fail> {
+    let mut all = Vec::from_slice(alloc, &SENT)?;
+    all.extend_from_slice(steps)?;
+    Ok(all)
+}
+
 /// What became of a packet: its epoch, hops and fate are these.
 fn ended(p: &Played, id: u32, epoch: u32, hops: &[u16], fate: Fate) -> bool {
     let Some(record) = p.world.packet(id) else {
@@ -91,7 +116,7 @@ fn a_single_node(rt: HostRuntime) -> Result<(), Fail> {
 #[test]
 fn tree_and_shortest(rt: HostRuntime) -> Result<(), Fail> {
     let steps = [event(Event::Inject(0, 4)), Step::Drain];
-    let tree = played(rt.alloc(), &HEAVY, Kind::Tree, 0, 16, 0, &steps)?;
+    let tree = along_tree(rt.alloc(), &HEAVY, 0, 0, &steps)?;
     assert!(rt; ended(&tree, 0, 1, &[0, 1, 2, 4], Fate::Delivered));
     let shortest = played(rt.alloc(), &HEAVY, Kind::Shortest, 0, 16, 0, &steps)?;
     assert!(rt; ended(&shortest, 0, 1, &[0, 1, 4], Fate::Delivered));
@@ -100,16 +125,16 @@ fn tree_and_shortest(rt: HostRuntime) -> Result<(), Fail> {
 
 #[test]
 fn a_packet_keeps_its_epoch(rt: HostRuntime) -> Result<(), Fail> {
-    let steps = [
-        event(Event::Inject(0, 4)),
-        event(Event::Take(0, Way::Inbox)),
-        event(Event::Act(0)),
-        event(Event::Install(Kind::Shortest, 0)),
-        event(Event::Learn(2)),
-        event(Event::Inject(0, 4)),
-        Step::Drain,
-    ];
-    let p = played(rt.alloc(), &HEAVY, Kind::Tree, 0, 16, 0, &steps)?;
+    let steps = once_sent(
+        rt.alloc(),
+        &[
+            event(Event::Install(Kind::Shortest, 0)),
+            event(Event::Learn(2)),
+            event(Event::Inject(0, 4)),
+            Step::Drain,
+        ],
+    )?;
+    let p = along_tree(rt.alloc(), &HEAVY, 0, 0, steps.as_slice())?;
     assert!(rt; ended(&p, 0, 1, &[0, 1, 2, 4], Fate::Delivered));
     assert!(rt; ended(&p, 1, 2, &[0, 1, 4], Fate::Delivered));
     Ok(())
@@ -117,78 +142,76 @@ fn a_packet_keeps_its_epoch(rt: HostRuntime) -> Result<(), Fail> {
 
 #[test]
 fn retired_in_hand(rt: HostRuntime) -> Result<(), Fail> {
-    let steps = [
-        event(Event::Inject(0, 4)),
-        event(Event::Take(0, Way::Inbox)),
-        event(Event::Act(0)),
-        event(Event::Take(1, Way::Link(0))),
-        event(Event::Act(1)),
+    let steps = once_sent(
+        rt.alloc(),
+        &[
+            event(Event::Take(1, Way::Link(0))),
+            event(Event::Act(1)),
+            event(Event::Install(Kind::Shortest, 0)),
+            event(Event::Retire(2)),
+            Step::Drain,
+        ],
+    )?;
+    let p = along_tree(rt.alloc(), &HEAVY, 0, 0, steps.as_slice())?;
+    assert!(rt; ended(&p, 0, 1, &[0, 1], Fate::Retired));
+    let behind = [
         event(Event::Install(Kind::Shortest, 0)),
         event(Event::Retire(2)),
         Step::Drain,
     ];
-    let p = played(rt.alloc(), &HEAVY, Kind::Tree, 0, 16, 0, &steps)?;
-    assert!(rt; ended(&p, 0, 1, &[0, 1], Fate::Retired));
-    let early = played(
-        rt.alloc(),
-        &HEAVY,
-        Kind::Tree,
-        0,
-        16,
-        0,
-        &[steps[0], steps[1], steps[2], steps[5], steps[6], steps[7]],
-    )?;
+    let steps = once_sent(rt.alloc(), &behind)?;
+    let early = along_tree(rt.alloc(), &HEAVY, 0, 0, steps.as_slice())?;
     assert!(rt; ended(&early, 0, 1, &[0], Fate::Retired));
     Ok(())
 }
 
 #[test]
 fn the_link_ahead_is_down(rt: HostRuntime) -> Result<(), Fail> {
-    let steps = [
-        event(Event::Inject(0, 4)),
-        event(Event::Take(0, Way::Inbox)),
-        event(Event::Act(0)),
-        event(Event::Take(1, Way::Link(0))),
-        event(Event::Down(2)),
-        event(Event::Read(1, 1)),
-        event(Event::Act(1)),
-    ];
-    let p = played(rt.alloc(), &HEAVY, Kind::Tree, 0, 16, 0, &steps)?;
+    let steps = once_sent(
+        rt.alloc(),
+        &[
+            event(Event::Take(1, Way::Link(0))),
+            event(Event::Down(2)),
+            event(Event::Read(1, 1)),
+            event(Event::Act(1)),
+        ],
+    )?;
+    let p = along_tree(rt.alloc(), &HEAVY, 0, 0, steps.as_slice())?;
     assert!(rt; ended(&p, 0, 1, &[0, 1], Fate::Down(2)));
     Ok(())
 }
 
 #[test]
 fn the_link_behind_is_down(rt: HostRuntime) -> Result<(), Fail> {
-    let steps = [
-        event(Event::Inject(0, 4)),
-        event(Event::Take(0, Way::Inbox)),
-        event(Event::Act(0)),
-        event(Event::Down(0)),
-        event(Event::Take(1, Way::Link(0))),
-        event(Event::Read(1, 1)),
-        event(Event::Act(1)),
-    ];
-    let p = played(rt.alloc(), &HEAVY, Kind::Tree, 0, 16, 0, &steps)?;
+    let steps = once_sent(
+        rt.alloc(),
+        &[
+            event(Event::Down(0)),
+            event(Event::Take(1, Way::Link(0))),
+            event(Event::Read(1, 1)),
+            event(Event::Act(1)),
+        ],
+    )?;
+    let p = along_tree(rt.alloc(), &HEAVY, 0, 0, steps.as_slice())?;
     assert!(rt; ended(&p, 0, 1, &[0], Fate::Down(0)));
     Ok(())
 }
 
 #[test]
 fn the_link_behind_is_up_again(rt: HostRuntime) -> Result<(), Fail> {
-    let steps = [
-        event(Event::Inject(0, 4)),
-        event(Event::Take(0, Way::Inbox)),
-        event(Event::Act(0)),
-        event(Event::Down(0)),
-        event(Event::Take(1, Way::Link(0))),
-        event(Event::Read(1, 1)),
-        event(Event::Up(0)),
-        event(Event::Read(1, 2)),
-        event(Event::Act(1)),
-        Step::Drain,
-    ];
-    let p = played(rt.alloc(), &HEAVY, Kind::Tree, 0, 16, 0, &steps)?;
+    let steps = once_sent(
+        rt.alloc(),
+        &[
+            event(Event::Down(0)),
+            event(Event::Take(1, Way::Link(0))),
+            event(Event::Read(1, 1)),
+            event(Event::Up(0)),
+            event(Event::Read(1, 2)),
+            event(Event::Act(1)),
+            Step::Drain,
+        ],
+    )?;
+    let p = along_tree(rt.alloc(), &HEAVY, 0, 0, steps.as_slice())?;
     assert!(rt; ended(&p, 0, 1, &[0, 1, 2, 4], Fate::Delivered));
     Ok(())
 }
@@ -203,7 +226,7 @@ fn installs_over_the_links_that_are_up(rt: HostRuntime) -> Result<(), Fail> {
         event(Event::Inject(1, 2)),
         Step::Drain,
     ];
-    let p = played(rt.alloc(), &PATH, Kind::Tree, 1, 16, 0, &steps)?;
+    let p = along_tree(rt.alloc(), &PATH, 1, 0, &steps)?;
     assert!(rt; matches!(reply(&p, 1), Some(Err(Refused::Disconnected))));
     assert!(rt; matches!(reply(&p, 2), Some(Err(Refused::NoEpoch))));
     assert!(rt; matches!(reply(&p, 3), Some(Err(Refused::Same))));
@@ -222,7 +245,7 @@ fn a_retired_stamp(rt: HostRuntime) -> Result<(), Fail> {
         event(Event::Inject(1, 2)),
         Step::Drain,
     ];
-    let p = played(rt.alloc(), &PATH, Kind::Tree, 1, 16, 0, &steps)?;
+    let p = along_tree(rt.alloc(), &PATH, 1, 0, &steps)?;
     assert!(rt; matches!(reply(&p, 4), Some(Err(Refused::Same))));
     assert!(rt; ended(&p, 0, 1, &[1], Fate::Retired));
     Ok(())
@@ -280,7 +303,7 @@ fn refusals_in_order(rt: HostRuntime) -> Result<(), Fail> {
         event(Event::Down(2)),
         event(Event::Act(3)),
     ];
-    let p = played(rt.alloc(), &PATH, Kind::Tree, 1, 16, 0, &steps)?;
+    let p = along_tree(rt.alloc(), &PATH, 1, 0, &steps)?;
     assert!(rt; matches!(reply(&p, 0), Some(Err(Refused::HandEmpty))));
     assert!(rt; matches!(reply(&p, 1), Some(Err(Refused::Empty))));
     assert!(rt; matches!(reply(&p, 2), Some(Err(Refused::BadView))));
@@ -299,41 +322,45 @@ fn refusals_in_order(rt: HostRuntime) -> Result<(), Fail> {
     Ok(())
 }
 
+/// Why a world over such a network, along its tree, is refused.
+fn refused(
+    alloc: Global,
+    edges: &[Edge],
+    root: u16,
+    capacity: usize,
+    packets: usize,
+    restamps: u8,
+) -> Result<Option<OpenError>, Fail> {
+    let topology = topology_of(alloc, edges)?;
+    Ok(World::new(
+        alloc,
+        topology,
+        Kind::Tree,
+        root,
+        capacity,
+        packets,
+        restamps,
+    )
+    .err())
+}
+
 #[test]
 fn openings_refused(rt: HostRuntime) -> Result<(), Fail> {
     let alloc = rt.alloc();
-    let empty = topology_of(alloc, &[])?;
-    assert!(rt;
-        matches!(
-            World::new(alloc, empty, Kind::Tree, 0, 16, 4096, 0),
-            Err(OpenError::Empty)
-        )
-    );
-    assert!(rt;
-        matches!(
-            World::new(alloc, topology_of(alloc, &PATH)?, Kind::Tree, 3, 0, 4096, 0),
-            Err(OpenError::NoNode)
-        )
-    );
-    assert!(rt;
-        matches!(
-            World::new(alloc, topology_of(alloc, &PATH)?, Kind::Tree, 0, 0, 4096, 0),
-            Err(OpenError::TooLarge)
-        )
-    );
-    assert!(rt;
-        matches!(
-            World::new(alloc, topology_of(alloc, &PATH)?, Kind::Tree, 0, 1, 4097, 0),
-            Err(OpenError::TooLarge)
-        )
-    );
-    let apart = topology_of(alloc, &[("a", "a", 1), ("b", "b", 1)])?;
-    assert!(rt;
-        matches!(
-            World::new(alloc, apart, Kind::Tree, 0, 16, 4096, 0),
-            Err(OpenError::Disconnected)
-        )
-    );
+    let apart = [("a", "a", 1), ("b", "b", 1)];
+    assert!(rt; refused(alloc, &[], 0, 16, 4096, 0)? == Some(OpenError::Empty));
+    assert!(rt; refused(alloc, &apart, 0, 16, 4096, 0)? == Some(OpenError::Disconnected));
+    let numbers = [
+        (3, 0, 4096, 0, Some(OpenError::NoNode)),
+        (3, 16, 4096, 4, Some(OpenError::NoNode)),
+        (0, 0, 4096, 0, Some(OpenError::TooLarge)),
+        (0, 1, 4097, 0, Some(OpenError::TooLarge)),
+        (1, 16, 4096, 4, Some(OpenError::TooLarge)),
+        (1, 16, 4096, 3, None),
+    ];
+    for (root, capacity, packets, restamps, why) in numbers {
+        assert!(rt; refused(alloc, &PATH, root, capacity, packets, restamps)? == why);
+    }
     assert!(rt; OpenError::NoMemory.code() == 5);
     assert!(rt; Refused::Used.code() == 16);
     Ok(())
@@ -341,15 +368,8 @@ fn openings_refused(rt: HostRuntime) -> Result<(), Fail> {
 
 #[test]
 fn epochs_are_64(rt: HostRuntime) -> Result<(), Fail> {
-    let Ok(mut world) = World::new(
-        rt.alloc(),
-        topology_of(rt.alloc(), &PATH)?,
-        Kind::Tree,
-        1,
-        16,
-        4096,
-        0,
-    ) else {
+    let topology = topology_of(rt.alloc(), &PATH)?;
+    let Ok(mut world) = World::new(rt.alloc(), topology, Kind::Tree, 1, 16, 4096, 0) else {
         return Err("not opened".into());
     };
     for _ in 0..63 {
@@ -363,33 +383,5 @@ fn epochs_are_64(rt: HostRuntime) -> Result<(), Fail> {
             Err(Refused::EpochsFull)
         )
     );
-    Ok(())
-}
-
-#[test]
-fn changes_are_65535(rt: HostRuntime) -> Result<(), Fail> {
-    let Ok(mut world) = World::new(
-        rt.alloc(),
-        topology_of(rt.alloc(), &PATH)?,
-        Kind::Tree,
-        1,
-        16,
-        4096,
-        0,
-    ) else {
-        return Err("not opened".into());
-    };
-    for k in 0..65535 {
-        let event = if k % 2 == 0 {
-            Event::Down(0)
-        } else {
-            Event::Up(0)
-        };
-        let Ok(_) = world.apply(event) else {
-            return Err("refused".into());
-        };
-    }
-    assert!(rt; matches!(world.apply(Event::Up(0)), Err(Refused::TooManyChanges)));
-    assert!(rt; matches!(world.apply(Event::Down(0)), Err(Refused::Same)));
     Ok(())
 }

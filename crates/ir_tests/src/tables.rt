@@ -187,21 +187,23 @@ fn as_by_plain_relaxation(rt: HostRuntime) -> Result<(), Fail> {
     Ok(())
 }
 
+/// The ports of the path of three nodes: at each node those to all destinations.
+const PORTS: [Option<u16>; 9] = [
+    None,
+    Some(0),
+    Some(0),
+    Some(0),
+    None,
+    Some(1),
+    Some(0),
+    Some(0),
+    None,
+];
+
 #[test]
 fn listed_ports(rt: HostRuntime) -> Result<(), Fail> {
     let topology = topology_of(rt.alloc(), &PATH)?;
-    let list = [
-        None,
-        Some(0),
-        Some(0),
-        Some(0),
-        None,
-        Some(1),
-        Some(0),
-        Some(0),
-        None,
-    ];
-    let ports = Vec::from_slice(rt.alloc(), &list)?;
+    let ports = Vec::from_slice(rt.alloc(), &PORTS)?;
     if !is_port_list(&topology, ports.as_slice()) {
         return Err("no list of ports".into());
     }
@@ -215,17 +217,8 @@ fn listed_ports(rt: HostRuntime) -> Result<(), Fail> {
 #[test]
 fn ports_that_lead_back(rt: HostRuntime) -> Result<(), Fail> {
     let topology = topology_of(rt.alloc(), &PATH)?;
-    let list = [
-        None,
-        Some(0),
-        Some(0),
-        Some(0),
-        None,
-        Some(0),
-        Some(0),
-        Some(0),
-        None,
-    ];
+    let mut list = PORTS;
+    list[5] = Some(0);
     assert!(rt; !is_port_list(&topology, &list));
     Ok(())
 }

@@ -19,7 +19,7 @@ use ir_epochs::{Registry, Stamp};
 use ir_links::{Moments, Sender};
 
 // The port of a hop.
-fn port_to(ports: &[Hop], hop: Hop) -> usize
+fn port_of_hop(ports: &[Hop], hop: Hop) -> usize
     requires { ∥ ((j : ℕ) × (slice_get ports.now j ≡ Some hop)) ∥₁ }
     ensures { slice_get ports.now result ≡ Some hop }
 {
@@ -105,7 +105,7 @@ pub fn pass_on<R: Moments<Parcel>>(
         Ok(onward) => onward,
         Err(outcome) => return Err(outcome),
     };
-    let port = port_to(ports, hop);
+    let port = port_of_hop(ports, hop);
     let out = &mut outs[port];
     match out.send(rt, parcel) {
         Ok(()) => Ok(hop.node),

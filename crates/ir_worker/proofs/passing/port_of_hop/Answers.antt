@@ -1,7 +1,7 @@
 use Rattle.std.proofs.Common.{arith}
 use Rattle.std.proofs.lemmas.Option.{slice_get_within}
 use Rattle.std.proofs.Math.Logic.{∥∥₁_elim}
-use Rattle.ir_worker.proofs.passing.port_to.Goals as goal
+use Rattle.ir_worker.proofs.passing.port_of_hop.Goals as goal
 
 pub unreachable-requires : goal.unreachable-requires
 unreachable-requires c =
