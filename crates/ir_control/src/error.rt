@@ -8,37 +8,29 @@ use thiserror::Error;
 #[derive(Clone, Copy, PartialEq, Eq, Debug, Error)]
 pub enum NetError {
     #[error("the root is no node")]
-    NoNode,
+    NoNode = 1,
     #[error("the topology has no node")]
-    Empty,
+    Empty = 2,
     #[error("some node has no walk to some node")]
-    Disconnected,
+    Disconnected = 3,
     /// Too many nodes or links, or a capacity, a number of packets or a number of restamps out of its range.
     #[error("a number is out of its range")]
-    TooLarge,
+    TooLarge = 4,
     /// A growth was refused.
     #[error("out of memory")]
-    NoMemory,
+    NoMemory = 5,
     #[error("no place is left for a reader of the board")]
-    TooManyReaders,
+    TooManyReaders = 6,
     /// A fresh cell of the registry refused its plan.
     #[error("a fresh cell refused its plan")]
-    Used,
+    Used = 7,
 }
 
 impl NetError {
-    /// Its number: 1 NoNode, 2 Empty, 3 Disconnected, 4 TooLarge, 5 NoMemory, 6 TooManyReaders, 7 Used.
+    /// Its number, from 1 for `NoNode` to 7 for `Used`.
     pub fn code(self) -> u8
         ensures { result ≡ code_of self }
     {
-        match self {
-            NetError::NoNode => 1,
-            NetError::Empty => 2,
-            NetError::Disconnected => 3,
-            NetError::TooLarge => 4,
-            NetError::NoMemory => 5,
-            NetError::TooManyReaders => 6,
-            NetError::Used => 7,
-        }
+        self as u8
     }
 }

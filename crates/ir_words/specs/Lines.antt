@@ -1,20 +1,19 @@
 -- The lines that tell of a refusal, and of an input that was not read.
-use Rattle.std.specs.Prelude.{ℕ, List, [], ◌∷◌, ◌++◌, Result, Ok, Err, codes, decimal}
+use Rattle.std.specs.Prelude.{ℕ, ◌-◌, List, [], ◌∷◌, ◌++◌, Result, Ok, Err, codes, decimal, slice_index_or}
 use Rattle.ir_model.specs.declared.Fault.{Fault}
-use Rattle.ir_model.specs.declared.Fault.TheVariants as texts
+use Rattle.ir_adjlist.specs.Told as texts
+use Rattle.ir_core.specs.Codes.{open_code, refusal_code}
 use Rattle.ir_core.specs.declared.event.OpenError.{OpenError}
-use Rattle.ir_core.specs.declared.event.OpenError.TheVariants as openings
 use Rattle.ir_core.specs.declared.event.Reply.{Reply}
 use Rattle.ir_core.specs.declared.event.Refused.{Refused}
-use Rattle.ir_core.specs.declared.event.Refused.TheVariants as steps
+use Rattle.ir_control.specs.Opened as nets
 use Rattle.ir_control.specs.declared.error.NetError.{NetError}
-use Rattle.ir_control.specs.declared.error.NetError.TheVariants as nets
+use Rattle.ir_trace.specs.Codes as findings
 use Rattle.ir_trace.specs.declared.finding.Finding.{Finding}
 use Rattle.ir_trace.specs.declared.finding.FindingKind.{FindingKind}
-use Rattle.ir_trace.specs.declared.finding.FindingKind.TheVariants as findings
 use Rattle.ir_trace.specs.Rows.{spaced}
+use Rattle.ir_script.specs.Script as scripts
 use Rattle.ir_script.specs.declared.fault.ScriptFault.{ScriptFault}
-use Rattle.ir_script.specs.declared.fault.ScriptFault.TheVariants as scripts
 use Rattle.ir_words.specs.declared.read.Source.{Source}
 use Rattle.ir_words.specs.declared.read.Source.TheVariants.{Input, Topology, Script, Trace}
 
@@ -22,67 +21,59 @@ use Rattle.ir_words.specs.declared.read.Source.TheVariants.{Input, Topology, Scr
 abbrev pub numbered_line : List ℕ → ℕ → List ℕ → List ℕ
 numbered_line what line name = what ++ spaced (decimal line) ++ spaced name ++ 10 ∷ []
 
+-- the word with this number, counted from 1
+abbrev pub word_of : List (List ℕ) → ℕ → List ℕ
+word_of words number = slice_index_or words (number - 1) []
+
+-- the words of the faults of a topology, in the order of their numbers
+abbrev pub fault_words : List (List ℕ)
+fault_words =
+    codes "BadByte" ∷ codes "BadName" ∷ codes "BadRow" ∷ codes "BadWeight" ∷ codes "TooManyNodes"
+    ∷ codes "TooManyEdges" ∷ codes "NoMemory" ∷ []
+
 abbrev pub fault_name : Fault → List ℕ
-fault_name texts.BadByte = codes "BadByte"
-fault_name texts.BadName = codes "BadName"
-fault_name texts.BadRow = codes "BadRow"
-fault_name texts.BadWeight = codes "BadWeight"
-fault_name texts.TooManyNodes = codes "TooManyNodes"
-fault_name texts.TooManyEdges = codes "TooManyEdges"
-fault_name texts.NoMemory = codes "NoMemory"
+fault_name kind = word_of fault_words (texts.code_of kind)
+
+-- those of the faults of a script
+abbrev pub script_fault_words : List (List ℕ)
+script_fault_words =
+    codes "BadByte" ∷ codes "BadCommand" ∷ codes "BadNumber" ∷ codes "UnknownNode" ∷ codes "UnknownLink"
+    ∷ codes "NoMemory" ∷ []
 
 abbrev pub script_fault_name : ScriptFault → List ℕ
-script_fault_name scripts.BadByte = codes "BadByte"
-script_fault_name scripts.BadCommand = codes "BadCommand"
-script_fault_name scripts.BadNumber = codes "BadNumber"
-script_fault_name scripts.UnknownNode = codes "UnknownNode"
-script_fault_name scripts.UnknownLink = codes "UnknownLink"
-script_fault_name scripts.NoMemory = codes "NoMemory"
+script_fault_name kind = word_of script_fault_words (scripts.fault_code kind)
+
+-- those of the refusals of an opening: the first five are of a simulation and of a net, the last two of a net alone
+abbrev pub opening_words : List (List ℕ)
+opening_words =
+    codes "NoNode" ∷ codes "Empty" ∷ codes "Disconnected" ∷ codes "TooLarge" ∷ codes "NoMemory"
+    ∷ codes "TooManyReaders" ∷ codes "Used" ∷ []
 
 abbrev pub open_error_name : OpenError → List ℕ
-open_error_name openings.NoNode = codes "NoNode"
-open_error_name openings.Empty = codes "Empty"
-open_error_name openings.Disconnected = codes "Disconnected"
-open_error_name openings.TooLarge = codes "TooLarge"
-open_error_name openings.NoMemory = codes "NoMemory"
+open_error_name error = word_of opening_words (open_code error)
 
 abbrev pub net_error_name : NetError → List ℕ
-net_error_name nets.NoNode = codes "NoNode"
-net_error_name nets.Empty = codes "Empty"
-net_error_name nets.Disconnected = codes "Disconnected"
-net_error_name nets.TooLarge = codes "TooLarge"
-net_error_name nets.NoMemory = codes "NoMemory"
-net_error_name nets.TooManyReaders = codes "TooManyReaders"
-net_error_name nets.Used = codes "Used"
+net_error_name error = word_of opening_words (nets.code_of error)
+
+-- those of the refusals of a step
+abbrev pub refusal_words : List (List ℕ)
+refusal_words =
+    codes "NoNode" ∷ codes "NoLink" ∷ codes "NoChannel" ∷ codes "NoEpoch" ∷ codes "HandFull"
+    ∷ codes "HandEmpty" ∷ codes "Empty" ∷ codes "BadView" ∷ codes "Same" ∷ codes "EpochsFull"
+    ∷ codes "Disconnected" ∷ codes "TooManyPackets" ∷ codes "NoMemory" ∷ codes "InboxFull" ∷ codes "TooManyChanges"
+    ∷ codes "Used" ∷ []
 
 abbrev pub refusal_name : Refused → List ℕ
-refusal_name steps.NoNode = codes "NoNode"
-refusal_name steps.NoLink = codes "NoLink"
-refusal_name steps.NoChannel = codes "NoChannel"
-refusal_name steps.NoEpoch = codes "NoEpoch"
-refusal_name steps.HandFull = codes "HandFull"
-refusal_name steps.HandEmpty = codes "HandEmpty"
-refusal_name steps.Empty = codes "Empty"
-refusal_name steps.BadView = codes "BadView"
-refusal_name steps.Same = codes "Same"
-refusal_name steps.EpochsFull = codes "EpochsFull"
-refusal_name steps.Disconnected = codes "Disconnected"
-refusal_name steps.TooManyPackets = codes "TooManyPackets"
-refusal_name steps.NoMemory = codes "NoMemory"
-refusal_name steps.InboxFull = codes "InboxFull"
-refusal_name steps.TooManyChanges = codes "TooManyChanges"
-refusal_name steps.Used = codes "Used"
+refusal_name refusal = word_of refusal_words (refusal_code refusal)
+
+-- those of the findings
+abbrev pub finding_words : List (List ℕ)
+finding_words =
+    codes "NotTrace" ∷ codes "BadRow" ∷ codes "UnknownNode" ∷ codes "UnknownEpoch" ∷ codes "NotAPrefix"
+    ∷ codes "NotAtDestination" ∷ codes "BadWeight" ∷ codes "Repeated" ∷ codes "NoMemory" ∷ []
 
 abbrev pub finding_name : FindingKind → List ℕ
-finding_name findings.NotTrace = codes "NotTrace"
-finding_name findings.BadRow = codes "BadRow"
-finding_name findings.UnknownNode = codes "UnknownNode"
-finding_name findings.UnknownEpoch = codes "UnknownEpoch"
-finding_name findings.NotAPrefix = codes "NotAPrefix"
-finding_name findings.NotAtDestination = codes "NotAtDestination"
-finding_name findings.BadWeight = codes "BadWeight"
-finding_name findings.Repeated = codes "Repeated"
-finding_name findings.NoMemory = codes "NoMemory"
+finding_name kind = word_of finding_words (findings.code_of kind)
 
 -- `finding LINE KIND`
 abbrev pub finding_line : Finding → List ℕ

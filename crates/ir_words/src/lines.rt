@@ -1,42 +1,80 @@
 //! The lines that tell of a refusal, and of an input that was not read.
-ghost use Rattle.std.specs.Prelude.{◌≡◌, ◌++◌, IfOk, OnOk, string_bytes};
-ghost use Rattle.ir_words.specs.Lines.{finding_name, finding_line, ok_line, fault_name, script_fault_name, open_error_name, refusal_name, topology_line, script_line, opening_line, unreadable_line, too_large_line, net_error_name, net_line, numbered_line, reply_line};
+ghost use Rattle.std.specs.Prelude.{◌≡◌, ◌∷◌, ◌++◌, [], IfOk, OnOk, codes, string_bytes};
+ghost use Rattle.ir_words.specs.Lines.{finding_line, ok_line, topology_line, script_line, opening_line, unreadable_line, too_large_line, net_line, numbered_line, reply_line};
 
 use crate::read::Source;
 use ir_control::NetError;
 use ir_core::{OpenError, Refused, Reply};
 use ir_model::Fault;
 use ir_script::ScriptFault;
+use ir_trace::Finding;
 use ir_trace::text::{push_next_number, push_word};
-use ir_trace::{Finding, FindingKind};
 use std::alloc::{AllocError, Global};
 
-fn fault_name(kind: Fault) -> &'static str
-    ensures { result.now ≡ fault_name kind }
-{
-    match kind {
-        Fault::BadByte => "BadByte",
-        Fault::BadName => "BadName",
-        Fault::BadRow => "BadRow",
-        Fault::BadWeight => "BadWeight",
-        Fault::TooManyNodes => "TooManyNodes",
-        Fault::TooManyEdges => "TooManyEdges",
-        Fault::NoMemory => "NoMemory",
-    }
-}
+/// The words of the faults of a topology, in the order of their numbers, which are counted from 1.
+static FAULTS: [&str; 7] = [
+    "BadByte",
+    "BadName",
+    "BadRow",
+    "BadWeight",
+    "TooManyNodes",
+    "TooManyEdges",
+    "NoMemory",
+];
 
-fn script_fault_name(kind: ScriptFault) -> &'static str
-    ensures { result.now ≡ script_fault_name kind }
-{
-    match kind {
-        ScriptFault::BadByte => "BadByte",
-        ScriptFault::BadCommand => "BadCommand",
-        ScriptFault::BadNumber => "BadNumber",
-        ScriptFault::UnknownNode => "UnknownNode",
-        ScriptFault::UnknownLink => "UnknownLink",
-        ScriptFault::NoMemory => "NoMemory",
-    }
-}
+/// Those of the faults of a script.
+static SCRIPT_FAULTS: [&str; 6] = [
+    "BadByte",
+    "BadCommand",
+    "BadNumber",
+    "UnknownNode",
+    "UnknownLink",
+    "NoMemory",
+];
+
+/// Those of the refusals of an opening: the first five are of a simulation and of a net, the last two of a net alone.
+static OPENINGS: [&str; 7] = [
+    "NoNode",
+    "Empty",
+    "Disconnected",
+    "TooLarge",
+    "NoMemory",
+    "TooManyReaders",
+    "Used",
+];
+
+/// Those of the refusals of a step.
+static REFUSALS: [&str; 16] = [
+    "NoNode",
+    "NoLink",
+    "NoChannel",
+    "NoEpoch",
+    "HandFull",
+    "HandEmpty",
+    "Empty",
+    "BadView",
+    "Same",
+    "EpochsFull",
+    "Disconnected",
+    "TooManyPackets",
+    "NoMemory",
+    "InboxFull",
+    "TooManyChanges",
+    "Used",
+];
+
+/// Those of the findings.
+static FINDINGS: [&str; 9] = [
+    "NotTrace",
+    "BadRow",
+    "UnknownNode",
+    "UnknownEpoch",
+    "NotAPrefix",
+    "NotAtDestination",
+    "BadWeight",
+    "Repeated",
+    "NoMemory",
+];
 
 /// Writes a line that says what is wrong where: a word, the number of a line, and a name.
 fn push_line(text: &mut String, what: &str, line: usize, name: &str) -> Result<(), AllocError>
@@ -73,71 +111,6 @@ pub fn too_large_line(source: Source) -> &'static str
     }
 }
 
-fn open_error_name(error: OpenError) -> &'static str
-    ensures { result.now ≡ open_error_name error }
-{
-    match error {
-        OpenError::NoNode => "NoNode",
-        OpenError::Empty => "Empty",
-        OpenError::Disconnected => "Disconnected",
-        OpenError::TooLarge => "TooLarge",
-        OpenError::NoMemory => "NoMemory",
-    }
-}
-
-fn net_error_name(error: NetError) -> &'static str
-    ensures { result.now ≡ net_error_name error }
-{
-    match error {
-        NetError::NoNode => "NoNode",
-        NetError::Empty => "Empty",
-        NetError::Disconnected => "Disconnected",
-        NetError::TooLarge => "TooLarge",
-        NetError::NoMemory => "NoMemory",
-        NetError::TooManyReaders => "TooManyReaders",
-        NetError::Used => "Used",
-    }
-}
-
-fn refusal_name(refusal: Refused) -> &'static str
-    ensures { result.now ≡ refusal_name refusal }
-{
-    match refusal {
-        Refused::NoNode => "NoNode",
-        Refused::NoLink => "NoLink",
-        Refused::NoChannel => "NoChannel",
-        Refused::NoEpoch => "NoEpoch",
-        Refused::HandFull => "HandFull",
-        Refused::HandEmpty => "HandEmpty",
-        Refused::Empty => "Empty",
-        Refused::BadView => "BadView",
-        Refused::Same => "Same",
-        Refused::EpochsFull => "EpochsFull",
-        Refused::Disconnected => "Disconnected",
-        Refused::TooManyPackets => "TooManyPackets",
-        Refused::NoMemory => "NoMemory",
-        Refused::InboxFull => "InboxFull",
-        Refused::TooManyChanges => "TooManyChanges",
-        Refused::Used => "Used",
-    }
-}
-
-fn finding_name(kind: FindingKind) -> &'static str
-    ensures { result.now ≡ finding_name kind }
-{
-    match kind {
-        FindingKind::NotTrace => "NotTrace",
-        FindingKind::BadRow => "BadRow",
-        FindingKind::UnknownNode => "UnknownNode",
-        FindingKind::UnknownEpoch => "UnknownEpoch",
-        FindingKind::NotAPrefix => "NotAPrefix",
-        FindingKind::NotAtDestination => "NotAtDestination",
-        FindingKind::BadWeight => "BadWeight",
-        FindingKind::Repeated => "Repeated",
-        FindingKind::NoMemory => "NoMemory",
-    }
-}
-
 /// The line of a finding.
 pub fn finding_line(alloc: Global, finding: Finding) -> Result<String, AllocError>
     ensures { IfOk result (λ text. string_bytes text ≡ finding_line finding) }
@@ -147,7 +120,7 @@ pub fn finding_line(alloc: Global, finding: Finding) -> Result<String, AllocErro
         &mut text,
         "finding",
         finding.line,
-        finding_name(finding.kind),
+        FINDINGS[finding.kind as usize - 1],
     )?;
     Ok(text)
 }
@@ -167,7 +140,7 @@ pub fn topology_line(alloc: Global, line: usize, kind: Fault) -> Result<String, 
     ensures { IfOk result (λ text. string_bytes text ≡ topology_line (line, kind)) }
 {
     let mut text = String::new(alloc);
-    push_line(&mut text, "topology", line, fault_name(kind))?;
+    push_line(&mut text, "topology", line, FAULTS[kind as usize - 1])?;
     Ok(text)
 }
 
@@ -176,24 +149,29 @@ pub fn script_line(alloc: Global, line: usize, kind: ScriptFault) -> Result<Stri
     ensures { IfOk result (λ text. string_bytes text ≡ script_line (line, kind)) }
 {
     let mut text = String::new(alloc);
-    push_line(&mut text, "script", line, script_fault_name(kind))?;
+    push_line(&mut text, "script", line, SCRIPT_FAULTS[kind as usize - 1])?;
     Ok(text)
+}
+
+/// The line of a refused opening, by its word.
+fn named_opening(alloc: Global, name: &str) -> Result<String, AllocError>
+    ensures { IfOk result (λ text. string_bytes text ≡ codes "opening " ++ name.now ++ 10 ∷ []) }
+{
+    format!(in alloc; "opening {name}\n")
 }
 
 /// The line of a refused opening.
 pub fn opening_line(alloc: Global, error: OpenError) -> Result<String, AllocError>
     ensures { IfOk result (λ text. string_bytes text ≡ opening_line error) }
 {
-    let name = open_error_name(error);
-    format!(in alloc; "opening {name}\n")
+    named_opening(alloc, OPENINGS[error.code() as usize - 1])
 }
 
 /// The line of a refused opening of a net.
 pub fn net_line(alloc: Global, error: NetError) -> Result<String, AllocError>
     ensures { IfOk result (λ text. string_bytes text ≡ net_line error) }
 {
-    let name = net_error_name(error);
-    format!(in alloc; "opening {name}\n")
+    named_opening(alloc, OPENINGS[error.code() as usize - 1])
 }
 
 /// Writes the line of a step that was refused, and nothing for another.
@@ -206,6 +184,6 @@ pub fn push_reply_line(
 {
     match reply {
         Ok(_) => Ok(()),
-        Err(refusal) => push_line(text, "refused", line, refusal_name(refusal)),
+        Err(refusal) => push_line(text, "refused", line, REFUSALS[refusal.code() as usize - 1]),
     }
 }

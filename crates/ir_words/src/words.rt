@@ -220,16 +220,28 @@ fn with_options<'a>(alloc: Global, name: &'a str) -> Result<Command<'a>, AllocEr
         .arg(packets)
 }
 
+/// The argument for the file of the topology.
+fn topology_arg<'a>(alloc: Global, help: &'a str) -> Arg<'a> {
+    Arg::new(alloc, "topology")
+        .value_name("TOPOLOGY")
+        .required(true)
+        .help(help)
+}
+
+/// The argument for the file of the script.
+fn script_arg<'a>(alloc: Global) -> Arg<'a> {
+    Arg::new(alloc, "script")
+        .value_name("SCRIPT")
+        .help("The file of the script")
+}
+
 /// The command of a subcommand that takes a topology alone.
 fn topology_command<'a>(
     alloc: Global,
     name: &'a str,
     about: &'a str,
 ) -> Result<Command<'a>, AllocError> {
-    let topology = Arg::new(alloc, "topology")
-        .value_name("TOPOLOGY")
-        .required(true)
-        .help("The file of the topology, or - for standard input");
+    let topology = topology_arg(alloc, "The file of the topology, or - for standard input");
     with_options(alloc, name)?.about(about).arg(topology)
 }
 
@@ -275,15 +287,10 @@ fn script_command<'a>(
     usage: &'a str,
     lines: &'a str,
 ) -> Result<Command<'a>, AllocError> {
-    let topology = Arg::new(alloc, "topology")
-        .value_name("TOPOLOGY")
-        .required(true)
-        .help(
-            "The file of the topology, or - for standard input with both texts, cut at the line %%",
-        );
-    let script = Arg::new(alloc, "script")
-        .value_name("SCRIPT")
-        .help("The file of the script");
+    let topology = topology_arg(
+        alloc,
+        "The file of the topology, or - for standard input with both texts, cut at the line %%",
+    );
     let restamps = Arg::new(alloc, "restamps")
         .long("restamps")
         .value_name("R")
@@ -296,20 +303,15 @@ fn script_command<'a>(
         .override_usage(usage)
         .after_help(lines)
         .arg(topology)?
-        .arg(script)
+        .arg(script_arg(alloc))
 }
 
 /// The command of `check`.
 fn check_command<'a>(alloc: Global) -> Result<Command<'a>, AllocError> {
-    let topology = Arg::new(alloc, "topology")
-        .value_name("TOPOLOGY")
-        .required(true)
-        .help(
-            "The file of the topology, or - for standard input with all three texts, cut at the first two lines %%",
-        );
-    let script = Arg::new(alloc, "script")
-        .value_name("SCRIPT")
-        .help("The file of the script");
+    let topology = topology_arg(
+        alloc,
+        "The file of the topology, or - for standard input with all three texts, cut at the first two lines %%",
+    );
     let trace = Arg::new(alloc, "trace")
         .value_name("TRACE")
         .help("The file of the trace");
@@ -317,7 +319,7 @@ fn check_command<'a>(alloc: Global) -> Result<Command<'a>, AllocError> {
         .about("Checks the rows of a trace against the walks that the script's plans prescribe")
         .override_usage(CHECK_USAGE)
         .arg(topology)?
-        .arg(script)?
+        .arg(script_arg(alloc))?
         .arg(trace)
 }
 
@@ -386,14 +388,10 @@ fn words_of(alloc: Global, sub: Sub, found: &ArgMatches<'_>) -> Result<Words, Al
     let from = word_of(alloc, found, "from")?;
     let to = word_of(alloc, found, "to")?;
     let mut files = Vec::new(alloc);
-    if let Some(name) = found.get_str("topology") {
-        files.push(String::from_str(alloc, name)?)?;
-    }
-    if let Some(name) = found.get_str("script") {
-        files.push(String::from_str(alloc, name)?)?;
-    }
-    if let Some(name) = found.get_str("trace") {
-        files.push(String::from_str(alloc, name)?)?;
+    for name in ["topology", "script", "trace"] {
+        if let Some(file) = word_of(alloc, found, name)? {
+            files.push(file)?;
+        }
     }
     Ok(Words {
         sub,
