@@ -1,5 +1,5 @@
 -- The rows of a plan and their text.
-use Rattle.std.proofs.Common.{◌≡◌, ◌≢◌, ℕ, zero, suc, ◌+◌, ◌<◌, List, [], ◌∷◌, ◌++◌, length, take, get_or, Option, Some, None, option_map, slice_index, ⊎_elim, refl, sym, ap, subst, ◌∙◌, arith, append_assoc, flat_map, decimal}
+use Rattle.std.proofs.Common.{◌≡◌, ◌≢◌, ℕ, zero, suc, ◌+◌, ◌<◌, List, [], ◌∷◌, ◌++◌, length, take, get_or, Option, Some, None, option_map, slice_index, ⊎_elim, refl, sym, ap, subst, ◌∙◌, arith, append_assoc, flat_map}
 use Rattle.std.proofs.lemmas.List.{append-nil, length-map, get_or-map, take_more}
 use Rattle.std.proofs.lemmas.Grind.{flat_map-append}
 use Rattle.std.proofs.lemmas.Option.{slice_get_within}
@@ -15,7 +15,6 @@ use Rattle.ir_model.proofs.Rows.{no_start}
 use Rattle.std.proofs.lemmas.List.Elements.{Contains-get_or}
 use Rattle.ir_trace.specs.Rows.{spaced}
 use Rattle.ir_trace.proofs.WrittenRows.{join_spaced}
-use Rattle.ir_look.specs.Words.{line_text}
 
 -- the hop that an option holds, from its node
 hop_from : (found : Option Hop) (y : ℕ) → option_map (λ hop. hop.node) found ≡ Some y → (hop : Hop) × (found ≡ Some hop)
@@ -70,11 +69,8 @@ leads s is u k u_in k_in =
 
 -- ---- text
 
--- the line of a node: its name, its label, and the words behind them
-pub node_pieces : (old t1 t2 t3 a name : List ℕ) (n label : ℕ) (words : List (List ℕ)) → t1 ≡ old ++ a → a ≡ name → t2 ≡ t1 ++ spaced (decimal n) → n ≡ label
-    → t3 ≡ t2 ++ flat_map spaced words → t3 ++ 10 ∷ [] ≡ old ++ line_text (name ∷ decimal label ∷ words)
-node_pieces old t1 t2 t3 a name n label words e1 same_name e2 same_label e3 =
-    rw (e3, e2, e1, same_name, same_label, join_spaced name (decimal label ∷ words)) (simp append_assoc)
+-- words one after another, and as a line
+pub ruleset words_of_a_line = (append_assoc, join_spaced)
 
 -- one more start of a row
 pub starts_more : (words : Start → List (List ℕ)) (row : List Start) (i : ℕ) → i < length row
