@@ -1,13 +1,13 @@
 -- What a drawing shows, piece by piece.
 use Rattle.std.proofs.Common.{◌≡◌, ℕ, zero, suc, ◌+◌, ◌-◌, ◌<◌, ◌≤◌, Bool, true, false, ◌==◌, List, [], ◌∷◌, ◌++◌, length, map, filter, take, drop, get_or, flat_map, refl, sym, ap, ◌∙◌, arith, append_assoc}
 use Rattle.std.specs.Prelude.{if◌then◌else◌}
-use Rattle.std.proofs.lemmas.List.{append-nil, drop_more, map-append, length-append}
+use Rattle.std.specs.List.{join_with_byte}
+use Rattle.std.proofs.lemmas.List.{append-nil, drop_more, length-append}
 use Rattle.std.proofs.lemmas.List.Elements.{filter_more}
 use Rattle.std.proofs.lemmas.Grind.{flat_map-append}
 use Rattle.std.proofs.lemmas.Bool.{ne_eqb}
 use Rattle.ir_model.specs.declared.Hop.{Hop}
 use Rattle.ir_model.specs.Interval.{PortInterval}
-use Rattle.ir_trace.specs.Rows.{spaced, joined}
 use Rattle.ir_look.specs.WalkText.{no_interval}
 use Rattle.ir_look.specs.Before.{separated}
 use Rattle.ir_look.specs.Drawing.{interval_text, are_ends, passes, passes_from}
@@ -16,22 +16,21 @@ use Rattle.ir_look.specs.Drawing.{interval_text, are_ends, passes, passes_from}
 
 -- the intervals of a list that pass a test, with one space between
 abbrev pub shown_intervals : (PortInterval → Bool) → List PortInterval → List ℕ
-shown_intervals test ms = joined (map interval_text (filter test ms))
+shown_intervals test ms = join_with_byte 32 (map interval_text (filter test ms))
 
 not_none : (k : ℕ) → (suc k == 0) ≡ false
 not_none k = ne_eqb (suc k) 0 (λ e. omega (arith, e))
 
 -- one more interval
-joined_more : (fs : List PortInterval) (m : PortInterval) → joined (map interval_text fs) ++ separated (length fs == 0) (interval_text m) ≡ joined (map interval_text (fs ++ m ∷ []))
-joined_more [] m = sym (append-nil (interval_text m))
-joined_more (f ∷ fs) m =
-    let words : List (List ℕ) = map interval_text fs in
-    let last : flat_map spaced (interval_text m ∷ []) ≡ spaced (interval_text m) = append-nil (spaced (interval_text m)) in
-    ap (λ (b : Bool). joined (map interval_text (f ∷ fs)) ++ separated b (interval_text m)) (not_none (length fs))
-    ∙ append_assoc (interval_text f) (flat_map spaced words) (spaced (interval_text m))
-    ∙ ap (λ (t : List ℕ). interval_text f ++ t)
-    (ap (λ (t : List ℕ). flat_map spaced words ++ t) (sym last) ∙ sym (flat_map-append spaced words (interval_text m ∷ []))
-    ∙ ap (flat_map spaced) (sym (map-append interval_text fs (m ∷ []))))
+joined_more : (fs : List PortInterval) (m : PortInterval) → join_with_byte 32 (map interval_text fs) ++ separated (length fs == 0) (interval_text m) ≡ join_with_byte 32 (map interval_text (fs ++ m ∷ []))
+joined_more [] m = refl
+joined_more (f ∷ []) m = refl
+joined_more (f ∷ g ∷ fs) m =
+    let shown : List ℕ = join_with_byte 32 (map interval_text (g ∷ fs)) in
+    let behind : Bool → List ℕ = λ b. separated b (interval_text m) in
+    append_assoc (interval_text f) (32 ∷ shown) (behind (length (f ∷ g ∷ fs) == 0))
+    ∙ ap (λ (t : List ℕ). interval_text f ++ 32 ∷ t)
+    (ap (λ (b : Bool). shown ++ behind b) (not_none (length (g ∷ fs)) ∙ sym (not_none (length fs))) ∙ joined_more (g ∷ fs) m)
 
 module _ (test : PortInterval → Bool) (ms : List PortInterval) (i : ℕ) (i_in : i < length ms) where
   -- one that passes is shown, behind a space if another was
@@ -43,7 +42,7 @@ module _ (test : PortInterval → Bool) (ms : List PortInterval) (i : ℕ) (i_in
       let more : filter test (take (i + 1) ms) ≡ fs ++ m ∷ [] = filter_more test ms i no_interval i_in ∙ rw passes_test refl in
       append_assoc old (shown_intervals test (take i ms)) (separated first (interval_text m))
       ∙ ap (λ (t : List ℕ). old ++ t)
-      (ap (λ (b : Bool). joined (map interval_text fs) ++ separated b (interval_text m)) e ∙ joined_more fs m ∙ ap (λ (xs : List PortInterval). joined (map interval_text xs)) (sym more))
+      (ap (λ (b : Bool). join_with_byte 32 (map interval_text fs) ++ separated b (interval_text m)) e ∙ joined_more fs m ∙ ap (λ (xs : List PortInterval). join_with_byte 32 (map interval_text xs)) (sym more))
 
   pub no_longer_first : test (get_or ms i no_interval) ≡ true → false ≡ (length (filter test (take (i + 1) ms)) == 0)
   no_longer_first passes_test =

@@ -14,6 +14,7 @@ use Rattle.ir_model.proofs.Walks.{port_facts}
 use Rattle.ir_model.proofs.Rows.{no_start}
 use Rattle.std.proofs.lemmas.List.Elements.{Contains-get_or}
 use Rattle.ir_trace.specs.Rows.{spaced}
+use Rattle.ir_trace.proofs.WrittenRows.{join_spaced}
 
 -- the hop that an option holds, from its node
 hop_from : (found : Option Hop) (y : ℕ) → option_map (λ hop. hop.node) found ≡ Some y → (hop : Hop) × (found ≡ Some hop)
@@ -67,6 +68,9 @@ leads s is u k u_in k_in =
     record { hop = by.0; at = by.1; port = slice_get_within (ports_of s.network u) _ by.0 by.1; to = (port_facts s.network is.network u _ by.0 by.1).to }
 
 -- ---- text
+
+-- words one after another, and as a line
+pub ruleset words_of_a_line = (append_assoc, join_spaced)
 
 -- one more start of a row
 pub starts_more : (words : Start → List (List ℕ)) (row : List Start) (i : ℕ) → i < length row

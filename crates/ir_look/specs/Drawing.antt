@@ -1,6 +1,6 @@
 -- The drawing of a plan, for Graphviz.
 use Rattle.std.specs.Prelude.{◌≡◌, ℕ, Bool, false, ◌==◌, ◌&&◌, ◌||◌, nat_lt, if◌then◌else◌, Option, None, Some, List, [], ◌∷◌, ◌++◌, map, filter, flat_map, decimal, codes}
-use Rattle.std.specs.List.{range_with_len}
+use Rattle.std.specs.List.{range_with_len, join_with_byte}
 use Rattle.std.specs.Option.{option_map_or}
 use Rattle.ir_model.specs.declared.Hop.{Hop}
 use Rattle.ir_model.specs.Graph.{Name}
@@ -9,7 +9,7 @@ use Rattle.ir_model.specs.Network.{Network, node_count, ports_of, port_at}
 use Rattle.ir_model.specs.Row.{intervals_of}
 use Rattle.ir_model.specs.Table.{IsPrescribedWalk}
 use Rattle.ir_model.specs.Scheme.{Scheme, label_in, row_in, table_port}
-use Rattle.ir_trace.specs.Rows.{spaced, joined}
+use Rattle.ir_trace.specs.Rows.{spaced}
 use Rattle.ir_trace.specs.Written.{name_at}
 use Rattle.ir_look.specs.Quoted.{escaped, quoted}
 
@@ -31,7 +31,7 @@ goes_by net u link m = option_map_or (λ hop. hop.link == link) (port_at net u m
 
 -- the intervals of u's row whose port is by a link, with one space between
 abbrev pub intervals_text : Scheme → ℕ → ℕ → List ℕ
-intervals_text s u link = joined (map interval_text (filter (goes_by s.network u link) (intervals_of (row_in s u))))
+intervals_text s u link = join_with_byte 32 (map interval_text (filter (goes_by s.network u link) (intervals_of (row_in s u))))
 
 -- whether x and y are u and v, in one order or the other
 abbrev pub are_ends : ℕ → ℕ → ℕ → ℕ → Bool

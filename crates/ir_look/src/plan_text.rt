@@ -60,6 +60,7 @@ fn push_starts(text: &mut String, graph: &Graph, plan: &Plan, u: u16) -> Result<
 }
 
 /// Writes the line of a node.
+#[tactic(auto, using(crate::proofs::PlanLines::words_of_a_line))]
 fn push_node(text: &mut String, graph: &Graph, plan: &Plan, u: u16) -> Result<(), AllocError>
     requires nodes { node_count plan.now.network ≡ length graph.now }
     requires scheme { IsScheme plan.now }

@@ -138,6 +138,7 @@ fn push_onward(
 }
 
 /// Writes the line of a node on the way to another.
+#[tactic(auto, using(crate::proofs::PlanLines::words_of_a_line))]
 fn push_stop(
     text: &mut String,
     graph: &Graph,

@@ -47,7 +47,7 @@ pub record IsNumbered (rows : List Numbers) : Type 0 where
 -- ---- links
 
 -- the link from u to a neighbour
-abbrev link_to : ℕ → ℕ × ℕ → Link
+abbrev pub link_to : ℕ → ℕ × ℕ → Link
 link_to u e = record { low = u; high = e.0; weight = e.1 }
 
 get_append : {A : Type 0} (xs ys : List A) (k : ℕ) (x : A) → slice_get (xs ++ ys) k ≡ Some x → (slice_get xs k ≡ Some x) ⊎ ((j : ℕ) × (slice_get ys j ≡ Some x))
@@ -65,7 +65,7 @@ get_right [] ys k x at = (k, at)
 get_right (y ∷ xs) ys k x at = let r = get_right xs ys k x at in (suc r.0, r.1)
 
 -- what holds of the link to each later neighbour holds of each link
-each_link : (P : Link → Type 0) (k : ℕ) (rows : List Numbers)
+pub each_link : (P : Link → Type 0) (k : ℕ) (rows : List Numbers)
     → ((u j i : ℕ) (e : ℕ × ℕ) → u ≡ k + j → row_get rows j i ≡ Some e → u < e.0 → P (link_to u e))
     → (l : ℕ) (link : Link) → slice_get (links_from k rows) l ≡ Some link → P link
 each_link P k [] each l link at = absurd (cc at)

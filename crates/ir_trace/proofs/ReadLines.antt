@@ -1,17 +1,16 @@
 -- Lines and the words in them.
-use Rattle.std.proofs.Common.{◌≡◌, ◌<◌, ◌≤◌, ℕ, Bool, true, false, ◌&&◌, ◌==◌, List, [], ◌∷◌, ◌++◌, length, flat_map, nat_le, nat_lt, refl, sym, ap, ◌∙◌, arith}
+use Rattle.std.proofs.Common.{◌≡◌, ◌<◌, ◌≤◌, ℕ, Bool, true, false, ◌&&◌, ◌==◌, List, [], ◌∷◌, length, nat_le, nat_lt, refl, sym, ap, ◌∙◌, arith}
 use Rattle.std.specs.List.{list_all, slice_split, join_with_byte, All}
 use Rattle.std.specs.Borrow.{Bor}
 use Rattle.std.specs.Str.{IsUtf8, IsAscii}
 use Rattle.std.proofs.lemmas.Bool.{and_parts, and_from, leb-true, lt-ltb, ltb-true, ne_eqb, both_ways}
-use Rattle.std.proofs.lemmas.List.{append-nil}
 use Rattle.std.proofs.lemmas.List.Elements.{All-cons, All-nil}
 use Rattle.std.proofs.lemmas.List.Folds.{list_all-append, list_all-map}
 use Rattle.std.proofs.lemmas.List.Splits.{slice_split_none, slice_split_at, join_with_byte-slice_split, length-slice_split}
 use Rattle.std.proofs.lemmas.Str.{IsUtf8-from_ascii}
 use Rattle.std.proofs.lemmas.Str.Ascii.{IsAscii-cons, IsAscii-nil}
 use Rattle.ir_model.specs.Graph.{Name}
-use Rattle.ir_trace.specs.Rows.{spaced, joined, is_word}
+use Rattle.ir_trace.specs.Rows.{is_word}
 use Rattle.ir_trace.specs.Spelled.{texts, HasWords, HasNoWords}
 use Rattle.ir_trace.proofs.ReadSpellings.{first_word, words_behind}
 
@@ -30,15 +29,12 @@ module _ (p : ℕ → Bool) (inside : (b : ℕ) → is_word_byte b ≡ true → 
       and_from (p b) (list_all p bs) (inside b both.0) (word_all bs both.1)
 
   module _ (between : p 32 ≡ true) where
-    behind_all : (ws : List Name) → list_all is_word ws ≡ true → list_all p (flat_map spaced ws) ≡ true
-    behind_all [] h = refl
-    behind_all (w ∷ ws) h =
-        and_from (p 32) _ between
-        (list_all-append p w (flat_map spaced ws) ∙ and_from (list_all p w) _ (word_all w (word_bytes w (first_word w ws h))) (behind_all ws (words_behind w ws h)))
-
-    pub joined_all : (ws : List Name) → list_all is_word ws ≡ true → list_all p (joined ws) ≡ true
+    pub joined_all : (ws : List Name) → list_all is_word ws ≡ true → list_all p (join_with_byte 32 ws) ≡ true
     joined_all [] h = refl
-    joined_all (w ∷ ws) h = list_all-append p w (flat_map spaced ws) ∙ and_from (list_all p w) _ (word_all w (word_bytes w (first_word w ws h))) (behind_all ws (words_behind w ws h))
+    joined_all (w ∷ []) h = word_all w (word_bytes w (first_word w [] h))
+    joined_all (w ∷ v ∷ vs) h =
+        list_all-append p w (32 ∷ join_with_byte 32 (v ∷ vs))
+        ∙ and_from (list_all p w) _ (word_all w (word_bytes w (first_word w (v ∷ vs) h))) (and_from (p 32) _ between (joined_all (v ∷ vs) (words_behind w (v ∷ vs) h)))
 
 -- ---- spaces
 
@@ -52,26 +48,12 @@ no_space (b ∷ bs) h =
     let above : 33 ≤ b = leb-true 33 b (and_parts (nat_le 33 b) (nat_le b 126) both.0).0 in
     All-cons (λ b. is_space b ≡ false) b bs (ne_eqb b 32 (λ e. omega (arith, e))) (no_space bs both.1)
 
-pub split-joined : (ws : List Name) → 0 < length ws → list_all is_word ws ≡ true → slice_split is_space (joined ws) ≡ ws
+pub split-joined : (ws : List Name) → 0 < length ws → list_all is_word ws ≡ true → slice_split is_space (join_with_byte 32 ws) ≡ ws
 split-joined [] some h = absurd (omega arith)
-split-joined (w ∷ ws) some h = from w ws (word_bytes w (first_word w ws h)) (words_behind w ws h)
-  where
-    from : (w : Name) (ws : List Name) → list_all is_word_byte w ≡ true → list_all is_word ws ≡ true → slice_split is_space (w ++ flat_map spaced ws) ≡ w ∷ ws
-    from w [] h k = ap (slice_split is_space) (append-nil w) ∙ slice_split_none is_space w (no_space w h)
-    from w (v ∷ vs) h k =
-        slice_split_at is_space w 32 (v ++ flat_map spaced vs) (no_space w h) refl
-        ∙ ap (λ t. w ∷ t) (from v vs (word_bytes v (first_word v vs k)) (words_behind v vs k))
-
-joined-with_byte : (ws : List Name) → joined ws ≡ join_with_byte 32 ws
-joined-with_byte [] = refl
-joined-with_byte (w ∷ ws) = from w ws
-  where
-    from : (w : Name) (ws : List Name) → w ++ flat_map spaced ws ≡ join_with_byte 32 (w ∷ ws)
-    from w [] = append-nil w
-    from w (v ∷ vs) = ap (λ t. w ++ 32 ∷ t) (from v vs)
-
-pub joined-split : (line : List ℕ) → joined (slice_split is_space line) ≡ line
-joined-split line = joined-with_byte (slice_split is_space line) ∙ join_with_byte-slice_split 32 line
+split-joined (w ∷ []) some h = slice_split_none is_space w (no_space w (word_bytes w (first_word w [] h)))
+split-joined (w ∷ v ∷ vs) some h =
+    slice_split_at is_space w 32 (join_with_byte 32 (v ∷ vs)) (no_space w (word_bytes w (first_word w (v ∷ vs) h))) refl
+    ∙ ap (λ t. w ∷ t) (split-joined (v ∷ vs) (omega arith) (words_behind w (v ∷ vs) h))
 
 -- ---- bytes
 
@@ -81,8 +63,8 @@ ascii (b ∷ bs) h =
     let both = and_parts (nat_lt b 128) (list_all (λ b. nat_lt b 128) bs) h in
     IsAscii-cons b bs (ltb-true b 128 both.0) (ascii bs both.1)
 
-pub joined_utf8 : (ws : List Name) → list_all is_word ws ≡ true → IsUtf8 (joined ws)
-joined_utf8 ws h = IsUtf8-from_ascii (joined ws) (ascii (joined ws) (joined_all (λ b. nat_lt b 128) (λ b k. lt-ltb b 128 (omega (arith, leb-true b 126 (and_parts (nat_le 33 b) (nat_le b 126) k).1))) refl ws h))
+pub joined_utf8 : (ws : List Name) → list_all is_word ws ≡ true → IsUtf8 (join_with_byte 32 ws)
+joined_utf8 ws h = IsUtf8-from_ascii (join_with_byte 32 ws) (ascii (join_with_byte 32 ws) (joined_all (λ b. nat_lt b 128) (λ b k. lt-ltb b 128 (omega (arith, leb-true b 126 (and_parts (nat_le 33 b) (nat_le b 126) k).1))) refl ws h))
 
 -- ---- the words that the code finds
 
@@ -94,7 +76,7 @@ found_words line text words held all same cut held_is test = (yes, other)
     tested = test ∙ ap (list_all (λ word. is_word word.now)) held_is ∙ sym (list_all-map is_word (λ (w : Bor (List ℕ)). w.now) words)
 
     yes : all ≡ true → HasWords line (texts words)
-    yes e = record { some = omega (arith, ap length cut, length-slice_split is_space text); whole = sym (ap joined cut ∙ joined-split text ∙ same); each = sym tested ∙ e }
+    yes e = record { some = omega (arith, ap length cut, length-slice_split is_space text); whole = sym (ap (join_with_byte 32) cut ∙ join_with_byte-slice_split 32 text ∙ same); each = sym tested ∙ e }
 
     other : all ≡ false → HasNoWords line
     other e ws is =

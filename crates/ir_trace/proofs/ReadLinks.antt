@@ -1,64 +1,23 @@
 -- The names of a graph's nodes and links.
-use Rattle.std.proofs.Common.{◌≡◌, ◌<◌, ◌+◌, ℕ, zero, suc, Bool, true, false, not, cond, ◌&&◌, ◌==◌, List, [], ◌∷◌, ◌++◌, length, map, filter, Some, None, is_some, slice_get, slice_index_or, nat_lt, nat_le, bytes_eq, refl, sym, ap, subst, ◌∙◌, arith, ◌⊎◌, inl, inr, ⊎_elim}
-use Rattle.std.specs.Option.{option_map_or}
+use Rattle.std.proofs.Common.{◌≡◌, ◌<◌, ◌+◌, ℕ, zero, suc, true, not, cond, ◌&&◌, ◌==◌, List, [], ◌∷◌, length, Some, None, is_some, slice_get, nat_lt, nat_le, bytes_eq, refl, sym, ap, ◌∙◌, arith}
 use Rattle.std.specs.List.{list_all, position_or_len}
 use Rattle.std.proofs.lemmas.Bool.{and_parts, and_from, lt-ltb}
 use Rattle.std.proofs.lemmas.List.{length-map}
 use Rattle.std.proofs.lemmas.Option.{slice_get-map, slice_get_within, get_or_from_slice_get}
 use Rattle.ir_model.specs.declared.Link.{Link}
-use Rattle.ir_model.specs.Graph.{Name, Neighbors, Adjacency, names, is_row, is_name, is_name_byte, has_edge, IsGraph}
+use Rattle.ir_model.specs.Graph.{Name, Adjacency, names, is_row, is_name, is_name_byte, has_edge, IsGraph}
 use Rattle.ir_model.specs.Network.{Network, node_count, IsLink}
 use Rattle.ir_model.specs.OfGraph.{network_of_graph}
 use Rattle.ir_model.specs.Places as places
 use Rattle.ir_graph.proofs.Places.{name_there, place_of_at, link_facts}
-use Rattle.ir_tables.specs.Numbered.{Numbers, links_at, links_from}
-use Rattle.ir_tables.specs.ByPlace.{row_numbers, rows_of}
-use Rattle.ir_tables.proofs.Numbered.{row_get}
-use Rattle.ir_tables.proofs.OfGraph.{graph_rows, graph_network}
+use Rattle.ir_tables.specs.Numbered.{Numbers}
+use Rattle.ir_tables.specs.ByPlace.{rows_of}
+use Rattle.ir_tables.proofs.Numbered.{row_get, each_link}
+use Rattle.ir_tables.proofs.OfGraph.{graph_rows, graph_network, row_of_node}
 use Rattle.ir_trace.specs.Rows.{is_word, is_mark}
 use Rattle.ir_trace.specs.Reading.{node_named, AreLinkedAs}
 use Rattle.ir_trace.specs.Written.{name_at}
 use Rattle.ir_trace.proofs.ReadLines.{is_word_byte}
-
--- ---- links by number
-
-get_append : {A : Type 0} (xs ys : List A) (k : ℕ) (x : A) → slice_get (xs ++ ys) k ≡ Some x → ((i : ℕ) × (slice_get xs i ≡ Some x)) ⊎ ((j : ℕ) × (slice_get ys j ≡ Some x))
-get_append [] ys k x at = inr (k, at)
-get_append (y ∷ xs) ys zero x at = inl (0, at)
-get_append (y ∷ xs) ys (suc k) x at = ⊎_elim (λ found. inl (suc found.0, found.1)) inr (get_append xs ys k x at)
-
--- what a filter keeps was there
-kept_from : {A : Type 0} (t : A → Bool) (xs : List A) (k : ℕ) (x : A) → slice_get (filter t xs) k ≡ Some x → (i : ℕ) × (slice_get xs i ≡ Some x)
-kept_from t [] k x at = absurd (cc at)
-kept_from {A} t (y ∷ xs) k x at = by (t y) (λ j h. kept_from t xs j x h) k at
-  where
-    by : (b : Bool) → ((j : ℕ) → slice_get (filter t xs) j ≡ Some x → (i : ℕ) × (slice_get xs i ≡ Some x)) → (k : ℕ) → slice_get (cond b (y ∷ filter t xs) (filter t xs)) k ≡ Some x → (i : ℕ) × (slice_get (y ∷ xs) i ≡ Some x)
-    by true later zero h = (0, h)
-    by true later (suc k) h = let found = later k h in (suc found.0, found.1)
-    by false later k h = let found = later k h in (suc found.0, found.1)
-
--- what a map gives comes from there
-mapped_from : {A B : Type 0} (f : A → B) (xs : List A) (k : ℕ) (y : B) → slice_get (map f xs) k ≡ Some y → (x : A) × (slice_get xs k ≡ Some x) × (f x ≡ y)
-mapped_from f [] k y at = absurd (cc at)
-mapped_from f (x ∷ xs) zero y at = (x, refl, cc at)
-mapped_from f (x ∷ xs) (suc k) y at = mapped_from f xs k y at
-
--- what holds of each entry of a row holds of the ends of each link
-each_link : (P : ℕ → ℕ → Type 0) (u : ℕ) (rows : List Numbers) → ((j i v : ℕ) (e : ℕ × ℕ) → v ≡ u + j → row_get rows j i ≡ Some e → P v e.0) → (l : ℕ) (link : Link) → slice_get (links_from u rows) l ≡ Some link → P link.low link.high
-each_link P u [] each l link at = absurd (cc at)
-each_link P u (es ∷ rows) each l link at = ⊎_elim
-    (λ (here : (i : ℕ) × (slice_get (links_at u es) i ≡ Some link)).
-    let entry = mapped_from {B = Link} (λ (e : ℕ × ℕ). record { low = u; high = e.0; weight = e.1 }) (filter (λ e. nat_lt u e.0) es) here.0 link here.1 in
-    let there = kept_from (λ (e : ℕ × ℕ). nat_lt u e.0) es here.0 entry.0 entry.1 in
-    subst (λ (k : Link). P k.low k.high) entry.2 (each 0 there.0 u entry.0 (omega arith) there.1))
-    (λ (later : (j : ℕ) × (slice_get (links_from (u + 1) rows) j ≡ Some link)). each_link P (u + 1) rows (λ j i v e eq h. each (suc j) i v e (omega arith) h) later.0 link later.1)
-    (get_append (links_at u es) (links_from (u + 1) rows) l link at)
-
--- the row of a node, by number
-row_at : (g rs : Adjacency) (u : ℕ) → slice_index_or (map (λ r. row_numbers g r.1) rs) u [] ≡ row_numbers g (option_map_or (λ (r : Name × Neighbors). r.1) (slice_get rs u) [])
-row_at g [] u = refl
-row_at g (r ∷ rs) zero = refl
-row_at g (r ∷ rs) (suc u) = row_at g rs u
 
 -- ---- names
 
@@ -106,10 +65,10 @@ module _ (g : Adjacency) (graph : IsGraph g) where
   plain_at u h = name_plain (name_at (names g) u) (row_name g u (name_at (names g) u) graph.rows (name_is u h))
 
   -- the ends of a link are linked by name
-  entry_linked : (u i v : ℕ) (e : ℕ × ℕ) → v ≡ 0 + u → row_get (rows_of g) u i ≡ Some e → has_edge g (name_at (names g) v) (name_at (names g) e.0) ≡ true
-  entry_linked u i v e eq at =
+  entry_linked : (v u i : ℕ) (e : ℕ × ℕ) → v ≡ 0 + u → row_get (rows_of g) u i ≡ Some e → v < e.0 → has_edge g (name_at (names g) v) (name_at (names g) e.0) ≡ true
+  entry_linked v u i e eq at later =
       let entry : places.neighbor_at g u i ≡ Some e =
-      sym (slice_get-map {B = ℕ × ℕ} (λ (e : Name × ℕ). (places.place_of g e.0, e.1)) (places.neighbors_at g u) i) ∙ sym (ap (λ (xs : Numbers). slice_get xs i) (row_at g g u)) ∙ at in
+      sym (slice_get-map {B = ℕ × ℕ} (λ (e : Name × ℕ). (places.place_of g e.0, e.1)) (places.neighbors_at g u) i) ∙ sym (ap (λ (xs : Numbers). slice_get xs i) (row_of_node g u)) ∙ at in
       let facts = link_facts g graph u i e.0 e.1 entry in
       let from : name_at (names g) u ≡ facts.from = get_or_from_slice_get (names g) u facts.from [] facts.from_at in
       let to : name_at (names g) e.0 ≡ facts.to = get_or_from_slice_get (names g) e.0 facts.to [] facts.to_at in
@@ -118,7 +77,7 @@ module _ (g : Adjacency) (graph : IsGraph g) where
 
   link_edge : (l : ℕ) (link : Link) → slice_get (network_of_graph g).links l ≡ Some link → has_edge g (name_at (names g) link.low) (name_at (names g) link.high) ≡ true
   link_edge l link at =
-      each_link (λ u v. has_edge g (name_at (names g) u) (name_at (names g) v) ≡ true) 0 (rows_of g) entry_linked l link (ap (λ (net : Network). slice_get net.links l) (sym (graph_rows g graph)) ∙ at)
+      each_link (λ (k : Link). has_edge g (name_at (names g) k.low) (name_at (names g) k.high) ≡ true) 0 (rows_of g) entry_linked l link (ap (λ (net : Network). slice_get net.links l) (sym (graph_rows g graph)) ∙ at)
 
   -- the ends of a link, by name
   pub record LinkNames (link : Link) : Type 0 where

@@ -1,6 +1,6 @@
 -- The lines that are read so far.
 use Rattle.std.proofs.Common.{◌≡◌, ◌<◌, ◌≤◌, ◌+◌, ℕ, Bool, true, not, ◌==◌, List, [], ◌∷◌, ◌++◌, length, flat_map, refl, sym, ap, subst, ◌∙◌, arith, append_assoc}
-use Rattle.std.specs.List.{list_all}
+use Rattle.std.specs.List.{list_all, join_with_byte}
 use Rattle.std.proofs.lemmas.Bool.{and_parts, both_ways, leb-true, ne_eqb, not_from_false}
 use Rattle.std.proofs.lemmas.List.{append-nil, length-append}
 use Rattle.std.proofs.lemmas.List.Concat.{flat_map-append}
@@ -9,7 +9,7 @@ use Rattle.ir_trace.specs.declared.finding.FindingKind.{FindingKind}
 use Rattle.ir_trace.specs.declared.finding.FindingKind.TheVariants.{NotTrace, BadRow, UnknownNode, UnknownEpoch, NotAPrefix, NotAtDestination, BadWeight, Repeated, NoMemory}
 use Rattle.ir_trace.specs.declared.row.Version.{Version}
 use Rattle.ir_trace.specs.declared.row.Version.TheVariants.{One, Two}
-use Rattle.ir_trace.specs.Rows.{RowText, IsRowText, row_words, row_line, header, trace_text, joined}
+use Rattle.ir_trace.specs.Rows.{RowText, IsRowText, row_words, row_line, header, trace_text}
 use Rattle.ir_trace.specs.Row.{Row}
 use Rattle.ir_trace.specs.Reading.{IsReadAs, AreReadAs, IsTraceIn, IsFaultOf, IsFirstFault, Tells}
 use Rattle.ir_trace.specs.Line.{HasNoFeed, CutsLine, Says, IsLineOf, LineTold}
@@ -43,17 +43,17 @@ first_cut (x ∷ xs) (y ∷ ys) a b h k e =
 text_byte : (b : ℕ) → is_word_byte b ≡ true → is_text b ≡ true
 text_byte b h = not_from_false (b == 10) (ne_eqb b 10 (λ e. omega (arith, e, leb-true 33 b (and_parts _ _ h).0)))
 
-pub row_no_feed : (v : Version) (text : RowText) → IsRowText v text → HasNoFeed (joined (row_words v text))
+pub row_no_feed : (v : Version) (text : RowText) → IsRowText v text → HasNoFeed (join_with_byte 32 (row_words v text))
 row_no_feed v text is = joined_all is_text text_byte refl (row_words v text) (row_words_all v text is)
 
 -- a row's line at the front is the line at the front
 pub line_front : (v : Version) (rest line after : List ℕ) → CutsLine rest line after → (text : RowText) → IsRowText v text → (more : List ℕ) → rest ≡ row_line v text ++ more → Says v line text × (more ≡ after)
 line_front v rest line after cut text is more e =
-    let same = first_cut (joined (row_words v text)) line more after (row_no_feed v text is) cut.inside (sym (append_assoc (joined (row_words v text)) (10 ∷ []) more) ∙ sym e ∙ cut.whole) in
+    let same = first_cut (join_with_byte 32 (row_words v text)) line more after (row_no_feed v text is) cut.inside (sym (append_assoc (join_with_byte 32 (row_words v text)) (10 ∷ []) more) ∙ sym e ∙ cut.whole) in
     (record { text_is = is; words_are = sym same.0 }, same.1)
 
 pub line_is_front : (v : Version) (rest line after : List ℕ) → CutsLine rest line after → (text : RowText) → Says v line text → rest ≡ row_line v text ++ after
-line_is_front v rest line after cut text says = cut.whole ∙ ap (λ t. t ++ 10 ∷ after) says.words_are ∙ sym (append_assoc (joined (row_words v text)) (10 ∷ []) after)
+line_is_front v rest line after cut text says = cut.whole ∙ ap (λ t. t ++ 10 ∷ after) says.words_are ∙ sym (append_assoc (join_with_byte 32 (row_words v text)) (10 ∷ []) after)
 
 -- ---- the lines before this place are those of a trace, and so many
 
@@ -77,7 +77,7 @@ read_header v g text rest e = record {
     long One e = omega (arith, ap length e, length-append (header One) rest)
     long Two e = omega (arith, ap length e, length-append (header Two) rest)
 
-trace_text-push : (v : Version) (texts : List RowText) (text : RowText) → trace_text v (texts ++ text ∷ []) ≡ trace_text v texts ++ row_line v text
+pub trace_text-push : (v : Version) (texts : List RowText) (text : RowText) → trace_text v (texts ++ text ∷ []) ≡ trace_text v texts ++ row_line v text
 trace_text-push v texts text =
     ap (λ t. header v ++ t) (flat_map-append (row_line v) texts (text ∷ []) ∙ ap (λ t. flat_map (row_line v) texts ++ t) (append-nil (row_line v text)))
     ∙ sym (append_assoc (header v) (flat_map (row_line v) texts) (row_line v text))
@@ -110,7 +110,7 @@ module _ (v : Version) (g : Adjacency) (text : List ℕ) (rows : List Row) (line
 
     -- no line feed is left
     pub no_line : HasNoFeed rest → IsFirstFault g text (line + 1) BadRow
-    no_line none = first_fault BadRow (λ t is more e. no_feed_in (joined (row_words v t)) more (subst HasNoFeed (e ∙ append_assoc (joined (row_words v t)) (10 ∷ []) more) none))
+    no_line none = first_fault BadRow (λ t is more e. no_feed_in (join_with_byte 32 (row_words v t)) more (subst HasNoFeed (e ∙ append_assoc (join_with_byte 32 (row_words v t)) (10 ∷ []) more) none))
 
     pub line_told : (current after : List ℕ) → CutsLine rest current after → (told : ℕ) (kind : FindingKind) → LineTold v g current (line + 1) told kind → Tells g text told kind
     line_told current after cut told NotTrace h = absurd h.1

@@ -1,5 +1,6 @@
 -- A text is one trace at most, and a trace has no fault.
 use Rattle.std.proofs.Common.{◌≡◌, ◌<◌, ℕ, List, [], ◌∷◌, ◌++◌, length, flat_map, map, get_or, Some, refl, sym, ap, subst, ◌∙◌, arith, append_assoc}
+use Rattle.std.specs.List.{join_with_byte}
 use Rattle.std.proofs.lemmas.Fmt.{decimal_injective}
 use Rattle.std.proofs.lemmas.List.{append-nil, length-append}
 use Rattle.ir_model.specs.Graph.{Adjacency}
@@ -8,7 +9,7 @@ use Rattle.ir_trace.specs.declared.finding.FindingKind.{FindingKind}
 use Rattle.ir_trace.specs.declared.finding.FindingKind.TheVariants.{NotTrace, BadRow, UnknownNode, UnknownEpoch, NotAPrefix, NotAtDestination, BadWeight, Repeated, NoMemory}
 use Rattle.ir_trace.specs.declared.row.Version.{Version}
 use Rattle.ir_trace.specs.declared.row.Version.TheVariants.{One, Two}
-use Rattle.ir_trace.specs.Rows.{FateText, Delivered, Retired, Down, Full, Left, PartText, RowText, IsRowText, row_words, part_words, first_part, row_line, header, joined}
+use Rattle.ir_trace.specs.Rows.{FateText, Delivered, Retired, Down, Full, Left, PartText, RowText, IsRowText, row_words, part_words, first_part, row_line, header}
 use Rattle.ir_trace.specs.Row.{Part, Row}
 use Rattle.ir_trace.specs.Reading.{FateIsReadAs, PartsAreReadAs, IsReadAs, AreReadAs, IsTraceIn, IsTrace, IsFirstFault, Tells}
 use Rattle.ir_trace.specs.Spelled.{AreParts}
@@ -54,9 +55,9 @@ row_words-same Two a b is is' e =
 
 pub row_line-same : (v : Version) (a b : RowText) → IsRowText v a → IsRowText v b → (more others : List ℕ) → row_line v a ++ more ≡ row_line v b ++ others → (a ≡ b) × (more ≡ others)
 row_line-same v a b is is' more others e =
-    let line = joined (row_words v a) in
-    let same = first_cut line (joined (row_words v b)) more others (row_no_feed v a is) (row_no_feed v b is')
-    (sym (append_assoc line (10 ∷ []) more) ∙ e ∙ append_assoc (joined (row_words v b)) (10 ∷ []) others) in
+    let line = join_with_byte 32 (row_words v a) in
+    let same = first_cut line (join_with_byte 32 (row_words v b)) more others (row_no_feed v a is) (row_no_feed v b is')
+    (sym (append_assoc line (10 ∷ []) more) ∙ e ∙ append_assoc (join_with_byte 32 (row_words v b)) (10 ∷ []) others) in
     let says : Says v line a = record { text_is = is; words_are = refl } in
     let says' : Says v line b = record { text_is = is'; words_are = same.0 } in
     (row_words-same v a b is is' (words_same line (row_words v a) (row_words v b) (says_words v line a says) (says_words v line b says')), same.1)
@@ -72,7 +73,7 @@ are_texts v g (t ∷ texts) [] are = absurd are
 are_texts v g (t ∷ texts) (r ∷ rows) are = (are.0, are_texts v g texts rows are.2)
 
 row_line-some : (v : Version) (t : RowText) (more : List ℕ) → 0 < length (row_line v t ++ more)
-row_line-some v t more = omega (arith, length-append (row_line v t) more, length-append (joined (row_words v t)) (10 ∷ []))
+row_line-some v t more = omega (arith, length-append (row_line v t) more, length-append (join_with_byte 32 (row_words v t)) (10 ∷ []))
 
 -- the rows in front of a text that is rows are those that it begins with, and the rest is the other rows
 front_rows : (v : Version) (front all : List RowText) → AreTexts v front → AreTexts v all → (rest : List ℕ) → flat_map (row_line v) front ++ rest ≡ flat_map (row_line v) all

@@ -1,8 +1,8 @@
 -- The text of rows.
 use Rattle.std.proofs.Common.{◌≡◌, ℕ, ◌<◌, ◌≤◌, true, List, [], ◌∷◌, ◌++◌, length, flat_map, nat_lt, arith, ap, sym, subst, ◌∙◌, refl, append_assoc, ⊎_elim}
-use Rattle.std.specs.List.{list_all}
+use Rattle.std.specs.List.{list_all, join_with_byte}
 use Rattle.std.proofs.lemmas.Bool.{lt-ltb, cases_lt}
-use Rattle.std.proofs.lemmas.List.{get_or_past}
+use Rattle.std.proofs.lemmas.List.{append-nil, get_or_past}
 use Rattle.std.proofs.lemmas.Option.{slice_get_within}
 use Rattle.std.proofs.lemmas.Grind.{flat_map-append}
 use Rattle.ir_model.specs.Network.{Network, node_count, ports_of}
@@ -30,16 +30,22 @@ walk_within net u d (x ∷ rest) walk =
     let P : ℕ → Type 0 = λ y. list_all (λ z. nat_lt z (node_count net)) (y ∷ rest) ≡ true in
     subst P (sym walk.0) (leads_within net u d rest walk.1)
 
+-- words with one space between: the first, and each other behind a space
+pub join_spaced : (w : List ℕ) (ws : List (List ℕ)) → join_with_byte 32 (w ∷ ws) ≡ w ++ flat_map spaced ws
+join_spaced w [] = sym (append-nil w)
+join_spaced w (v ∷ vs) = ap (λ t. w ++ 32 ∷ t) (join_spaced v vs)
+
 pieces : (old a b c d e f g h : List ℕ) → (((((((old ++ a) ++ b) ++ c) ++ d) ++ e) ++ f) ++ g) ++ h ≡ old ++ ((a ++ (b ++ (c ++ (d ++ (e ++ (f ++ g)))))) ++ h)
 pieces old a b c d e f g h = simp append_assoc
 
 -- the words of a row, put one after another
 pub row_pieces : (old a b c d e : List ℕ) (fate hops : List (List ℕ)) (h : List ℕ)
     → (((((((old ++ a) ++ spaced b) ++ spaced c) ++ spaced d) ++ spaced e) ++ flat_map spaced fate) ++ flat_map spaced hops) ++ h
-    ≡ old ++ ((a ++ flat_map spaced (b ∷ c ∷ d ∷ e ∷ fate ++ hops)) ++ h)
+    ≡ old ++ (join_with_byte 32 (a ∷ b ∷ c ∷ d ∷ e ∷ fate ++ hops) ++ h)
 row_pieces old a b c d e fate hops h =
     pieces old a (spaced b) (spaced c) (spaced d) (spaced e) (flat_map spaced fate) (flat_map spaced hops) h
     ∙ ap (λ t. old ++ ((a ++ (spaced b ++ (spaced c ++ (spaced d ++ (spaced e ++ t))))) ++ h)) (sym (flat_map-append spaced fate hops))
+    ∙ ap (λ t. old ++ (t ++ h)) (sym (join_spaced a (b ∷ c ∷ d ∷ e ∷ fate ++ hops)))
 
 pieces_2 : (old a b c d e f g : List ℕ) → ((((((old ++ a) ++ b) ++ c) ++ d) ++ e) ++ f) ++ g ≡ old ++ ((a ++ (b ++ (c ++ (d ++ (e ++ f))))) ++ g)
 pieces_2 old a b c d e f g = simp append_assoc
@@ -47,7 +53,8 @@ pieces_2 old a b c d e f g = simp append_assoc
 -- the words of a row of the second version, put one after another
 pub segments_pieces : (old a b c d : List ℕ) (fate parts : List (List ℕ)) (h : List ℕ)
     → ((((((old ++ a) ++ spaced b) ++ spaced c) ++ spaced d) ++ flat_map spaced fate) ++ flat_map spaced parts) ++ h
-    ≡ old ++ ((a ++ flat_map spaced (b ∷ c ∷ d ∷ fate ++ parts)) ++ h)
+    ≡ old ++ (join_with_byte 32 (a ∷ b ∷ c ∷ d ∷ fate ++ parts) ++ h)
 segments_pieces old a b c d fate parts h =
     pieces_2 old a (spaced b) (spaced c) (spaced d) (flat_map spaced fate) (flat_map spaced parts) h
     ∙ ap (λ t. old ++ ((a ++ (spaced b ++ (spaced c ++ (spaced d ++ t)))) ++ h)) (sym (flat_map-append spaced fate parts))
+    ∙ ap (λ t. old ++ (t ++ h)) (sym (join_spaced a (b ∷ c ∷ d ∷ fate ++ parts)))

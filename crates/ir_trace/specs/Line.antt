@@ -1,11 +1,11 @@
 -- The lines of a trace one by one.
 use Rattle.std.specs.Prelude.{◌≡◌, ℕ, ◌==◌, true, not, List, ◌∷◌, ◌++◌}
-use Rattle.std.specs.List.{list_all}
+use Rattle.std.specs.List.{list_all, join_with_byte}
 use Rattle.ir_model.specs.Graph.{Adjacency}
 use Rattle.ir_trace.specs.declared.row.Version.{Version}
 use Rattle.ir_trace.specs.declared.finding.FindingKind.{FindingKind}
 use Rattle.ir_trace.specs.declared.finding.FindingKind.TheVariants.{BadRow, UnknownNode, NoMemory}
-use Rattle.ir_trace.specs.Rows.{RowText, IsRowText, row_words, joined}
+use Rattle.ir_trace.specs.Rows.{RowText, IsRowText, row_words}
 use Rattle.ir_trace.specs.Row.{Row}
 use Rattle.ir_trace.specs.Reading.{IsReadAs}
 use Rattle.ir_trace.specs.Spelled.{IsNoRowOf}
@@ -22,7 +22,7 @@ pub record CutsLine (text line after : List ℕ) : Type 0 where
 -- the line says what the row says
 pub record Says (v : Version) (line : List ℕ) (text : RowText) : Type 0 where
   pub text_is : IsRowText v text
-  pub words_are : line ≡ joined (row_words v text)
+  pub words_are : line ≡ join_with_byte 32 (row_words v text)
 
 -- the line is read as the row
 abbrev pub IsLineOf : Version → Adjacency → List ℕ → Row → Type 0

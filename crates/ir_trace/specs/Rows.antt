@@ -1,6 +1,6 @@
 -- The text of a trace: a line `trace 1` or `trace 2`, and then a row for each packet.
 use Rattle.std.specs.Prelude.{◌≡◌, ℕ, ◌≤◌, ◌==◌, Bool, true, not, ◌&&◌, List, [], ◌∷◌, ◌++◌, flat_map, length, slice_index, decimal, codes, nat_le, nat_lt}
-use Rattle.std.specs.List.{list_all}
+use Rattle.std.specs.List.{list_all, join_with_byte}
 use Rattle.ir_model.specs.Graph.{Name}
 use Rattle.ir_trace.specs.declared.TheConstants.{MAX_NUMBER, MAX_SEGMENTS}
 use Rattle.ir_trace.specs.declared.row.Version.{Version}
@@ -9,11 +9,6 @@ use Rattle.ir_trace.specs.declared.row.Version.TheVariants.{One, Two}
 -- a space and a word
 abbrev pub spaced : List ℕ → List ℕ
 spaced word = 32 ∷ word
-
--- words with one space between
-abbrev pub joined : List (List ℕ) → List ℕ
-joined [] = []
-joined (w ∷ ws) = w ++ flat_map spaced ws
 
 -- what became of a packet, with the names that a row gives
 pub data FateText : Type 0 where
@@ -65,9 +60,9 @@ row_words One r =
 row_words Two r =
     decimal r.id ∷ r.source ∷ r.dest ∷ decimal r.weight ∷ fate_words r.fate ++ flat_map part_words r.parts
 
--- the line of a row, with its line feed
+-- the line of a row: its words with one space between, and a line feed
 abbrev pub row_line : Version → RowText → List ℕ
-row_line v r = joined (row_words v r) ++ 10 ∷ []
+row_line v r = join_with_byte 32 (row_words v r) ++ 10 ∷ []
 
 abbrev pub header : Version → List ℕ
 header One = codes "trace 1\n"

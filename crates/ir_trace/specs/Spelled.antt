@@ -1,6 +1,6 @@
 -- The rows that the words of a line spell, and what the code holds of them.
 use Rattle.std.specs.Prelude.{◌≡◌, ℕ, ◌==◌, ◌<◌, ◌≤◌, Bool, true, not, take, drop, ◌||◌, ◌&&◌, List, ◌∷◌, ◌++◌, flat_map, length, map, slice_index, nat_lt, decimal, Some}
-use Rattle.std.specs.List.{list_all, prefix_len}
+use Rattle.std.specs.List.{list_all, prefix_len, join_with_byte}
 use Rattle.std.specs.Borrow.{Bor}
 use Rattle.ir_model.specs.Graph.{Name, Adjacency, names}
 use Rattle.ir_trace.specs.declared.TheConstants.{MAX_NUMBER}
@@ -12,7 +12,7 @@ use Rattle.ir_trace.specs.declared.row.Version.TheVariants.{Two}
 use Rattle.ir_trace.specs.declared.words.Head.{Head}
 use Rattle.ir_trace.specs.declared.words.SegmentSpelling.{SegmentSpelling}
 use Rattle.ir_trace.specs.declared.words.Spelling.{Spelling}
-use Rattle.ir_trace.specs.Rows.{FateText, Delivered, Retired, Down, Full, Left, PartText, RowText, IsRowText, joined, row_words, part_words, mark, is_mark, fate_words, is_word, is_part_text, fits_version}
+use Rattle.ir_trace.specs.Rows.{FateText, Delivered, Retired, Down, Full, Left, PartText, RowText, IsRowText, row_words, part_words, mark, is_mark, fate_words, is_word, is_part_text, fits_version}
 use Rattle.ir_trace.specs.Row.{Part, Row}
 use Rattle.ir_trace.specs.Reading.{node_named, AreLinkedAs, FateIsReadAs, PartsAreReadAs, IsReadAs}
 
@@ -40,7 +40,7 @@ text_held s = row_told s.head (map part_held s.segments.items)
 -- the line is these words, one or more, with one space between
 pub record HasWords (line : List ℕ) (words : List Name) : Type 0 where
   pub some : 0 < length words
-  pub whole : line ≡ joined words
+  pub whole : line ≡ join_with_byte 32 words
   pub each : list_all is_word words ≡ true
 
 -- the line is no words with one space between

@@ -1,6 +1,6 @@
 //! Where traces go out, and why a trace did not.
-ghost use Rattle.std.specs.Prelude.{◌≡◌, false, not};
-ghost use Rattle.ir_streams.specs.Writing.{Writes, Calls};
+ghost use Rattle.std.specs.Prelude.{◌≡◌, false};
+ghost use Rattle.ir_trace.specs.Outlet.{IsWritten};
 
 use ir_streams::{Writer, write_text};
 use std::alloc::AllocError;
@@ -81,15 +81,17 @@ impl<W: Writer> Outlet<W> {
         self.writer
     }
 
-    /// Writes all of a text, and answers whether the writer took it. Else a front of the text went out, and the outlet
-    /// has failed.
-    pub(crate) fn write_text(&mut self, text: &[u8]) -> bool
-        ensures calls { Calls W.wrote W.settled result self.old.writer text.now self.new.writer }
-        ensures bytes { Writes result (W.contents self.old.writer) (W.contents self.new.writer) text.now }
-        ensures failed { self.new.failed ≡ not result }
+    /// Writes all of a text. `Unwritable` where the writer failed: a front of the text went out then, and the outlet has
+    /// failed.
+    pub(crate) fn write_text(&mut self, text: &[u8]) -> Result<(), TraceError>
+        ensures { IsWritten W.contents W.wrote W.settled self.old text.now result self.new }
     {
         let sent = write_text(&mut self.writer, text);
         self.failed = !sent;
-        sent
+        if sent {
+            Ok(())
+        } else {
+            Err(TraceError::Unwritable)
+        }
     }
 }

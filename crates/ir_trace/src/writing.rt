@@ -1,12 +1,11 @@
 //! Traces as they are written.
-ghost use Rattle.std.specs.Prelude.{◌≡◌, ◌↔◌, ◌<◌, true, false, [], ◌∷◌, ◌++◌, IsTrue, IfOk, OnOk, length, nat_lt, string_bytes, flat_map, map};
+ghost use Rattle.std.specs.Prelude.{◌≡◌, ◌<◌, true, false, [], ◌∷◌, ◌++◌, IfOk, OnOk, length, nat_lt, string_bytes, flat_map, map};
 ghost use Rattle.std.specs.List.{list_all};
-ghost use Rattle.std.specs.Io.KnownBytes.{Appends};
 ghost use Rattle.ir_model.specs.Graph.{names};
 ghost use Rattle.ir_model.specs.Network.{node_count};
 ghost use Rattle.ir_model.specs.OfGraph.{network_of_graph};
 ghost use Rattle.ir_trace.specs.Rows.{spaced, fate_words, part_words, row_line};
-ghost use Rattle.ir_streams.specs.Writing.{AppendsFront, IsSent, HasFailed};
+ghost use Rattle.ir_trace.specs.Outlet.{IsWritten};
 ghost use Rattle.ir_trace.specs.Written.{name_at, link_at, other_end, fate_text, row_of, records_text, FateIsIn, IsWritable, AreWritable, named, segments_row, segments_text, HasSegments, HaveSegments};
 ghost use Rattle.ir_trace.specs.Stretches.{parts_from, AreAscending};
 
@@ -164,9 +163,9 @@ fn push_segments_row(
 }
 
 /// The trace of records over the topology of their graph: the line `trace 1`, and a row for each record in order, with
-/// its first epoch and all of its hops, restamped or not. Only want of memory is refused. Condition: the topology is that of the graph; the nodes and links of each record are
-/// among its nodes and links; the hops are 1 to `ir_model::MAX_NODES` nodes, each linked to the next; the node of a
-/// `Full` is an end of its link.
+/// its first epoch and all of its hops, restamped or not. Only want of memory is refused. Condition: the topology is that
+/// of the graph; the nodes and links of each record are among its nodes and links; the hops are 1 to
+/// `ir_model::MAX_NODES` nodes, each linked to the next; the node of a `Full` is an end of its link.
 pub fn trace_text(
     alloc: Global,
     graph: &Graph,
@@ -198,20 +197,11 @@ pub fn write_trace<W: Writer>(
 ) -> Result<(), TraceError>
     requires open { outlet.old.failed ≡ false }
     requires records { AreWritable (network_of_graph graph.now) records.now }
-    ensures sent { OnOk result (IsSent W.wrote W.settled outlet.old.writer (records_text (names graph.now) (network_of_graph graph.now) records.now) outlet.new.writer) }
-    ensures ok { OnOk result (Appends (W.contents outlet.old.writer) (W.contents outlet.new.writer) (records_text (names graph.now) (network_of_graph graph.now) records.now)) }
-    ensures broken { result ≡ Err TraceError.Unwritable → HasFailed W.wrote W.settled outlet.old.writer (records_text (names graph.now) (network_of_graph graph.now) records.now) outlet.new.writer }
-    ensures unwritable { result ≡ Err TraceError.Unwritable → AppendsFront (W.contents outlet.old.writer) (W.contents outlet.new.writer) (records_text (names graph.now) (network_of_graph graph.now) records.now) }
-    ensures no_memory { result ≡ Err TraceError.NoMemory → outlet.new ≡ outlet.old }
-    ensures failed { IsTrue outlet.new.failed ↔ (result ≡ Err TraceError.Unwritable) }
+    ensures { IsWritten W.contents W.wrote W.settled outlet.old (records_text (names graph.now) (network_of_graph graph.now) records.now) result outlet.new }
 {
     let topology = Topology::of(alloc, graph)?;
     let text = trace_text(alloc, graph, &topology, records)?;
-    if outlet.write_text(text.as_bytes()) {
-        Ok(())
-    } else {
-        Err(TraceError::Unwritable)
-    }
+    outlet.write_text(text.as_bytes())
 }
 
 /// The trace of records in the second version: the line `trace 2`, and a row of segments for each record in order. Only
@@ -245,18 +235,9 @@ pub fn write_trace_2<W: Writer>(
 ) -> Result<(), TraceError>
     requires open { outlet.old.failed ≡ false }
     requires records { HaveSegments (network_of_graph graph.now) records.now }
-    ensures sent { OnOk result (IsSent W.wrote W.settled outlet.old.writer (segments_text (names graph.now) (network_of_graph graph.now) records.now) outlet.new.writer) }
-    ensures ok { OnOk result (Appends (W.contents outlet.old.writer) (W.contents outlet.new.writer) (segments_text (names graph.now) (network_of_graph graph.now) records.now)) }
-    ensures broken { result ≡ Err TraceError.Unwritable → HasFailed W.wrote W.settled outlet.old.writer (segments_text (names graph.now) (network_of_graph graph.now) records.now) outlet.new.writer }
-    ensures unwritable { result ≡ Err TraceError.Unwritable → AppendsFront (W.contents outlet.old.writer) (W.contents outlet.new.writer) (segments_text (names graph.now) (network_of_graph graph.now) records.now) }
-    ensures no_memory { result ≡ Err TraceError.NoMemory → outlet.new ≡ outlet.old }
-    ensures failed { IsTrue outlet.new.failed ↔ (result ≡ Err TraceError.Unwritable) }
+    ensures { IsWritten W.contents W.wrote W.settled outlet.old (segments_text (names graph.now) (network_of_graph graph.now) records.now) result outlet.new }
 {
     let topology = Topology::of(alloc, graph)?;
     let text = trace_text_2(alloc, graph, &topology, records)?;
-    if outlet.write_text(text.as_bytes()) {
-        Ok(())
-    } else {
-        Err(TraceError::Unwritable)
-    }
+    outlet.write_text(text.as_bytes())
 }

@@ -1,10 +1,10 @@
 use Rattle.std.proofs.Common.{◌<◌, ◌≤◌, ◌==◌, ◌∙◌, ◌++◌, ℕ, List, length, map, ap, sym, arith, string_bytes, get_or}
+use Rattle.std.specs.List.{join_with_byte}
 use Rattle.std.proofs.lemmas.List.{take_all}
 use Rattle.ir_model.specs.Interval.{PortInterval}
 use Rattle.ir_model.specs.Row.{intervals_of}
 use Rattle.ir_model.specs.Scheme.{row_in}
 use Rattle.ir_model.proofs.Rows.{length-intervals_of}
-use Rattle.ir_trace.specs.Rows.{joined}
 use Rattle.ir_look.specs.WalkText.{no_interval}
 use Rattle.ir_look.specs.Before.{separated}
 use Rattle.ir_look.specs.Drawing.{goes_by, interval_text}
@@ -28,7 +28,7 @@ loop-i-preserved c =
           )
       | else-goes_by w ↦
           let same = shown_same test ms c.loop-i.i i_in (sym c.goes_by.ensures ∙ w.if-goes_by.false) in (
-            ap string_bytes w.text-is ∙ c.loop-i.invariant.0 ∙ ap (λ (fs : List PortInterval). old ++ joined (map interval_text fs)) (sym same),
+            ap string_bytes w.text-is ∙ c.loop-i.invariant.0 ∙ ap (λ (fs : List PortInterval). old ++ join_with_byte 32 (map interval_text fs)) (sym same),
             w.first-is ∙ c.loop-i.invariant.1 ∙ ap (λ (fs : List PortInterval). length fs == 0) (sym same),
           )
     ]
