@@ -5,6 +5,7 @@ use Rattle.std.specs.Map.{keys_of}
 use Rattle.std.proofs.lemmas.Bool.{and_parts, and_from}
 use Rattle.std.proofs.lemmas.List.{length-map, map-append}
 use Rattle.std.proofs.lemmas.List.Folds.{list_all-append, list_any-append}
+use Rattle.std.proofs.Math.Bool.{or-true}
 use Rattle.ir_model.specs.declared.TheConstants.{MAX_NODES, MAX_EDGES, MAX_NAME_BYTES}
 use Rattle.ir_model.specs.Graph.{Name, Neighbors, Adjacency, names, among, has_node, edges, edges_after, is_name, IsGraph}
 use Rattle.ir_model.specs.Made.{Pair, joins}
@@ -17,7 +18,7 @@ use Rattle.ir_adjlist.proofs.Names.{list_all-imp}
 use Rattle.ir_adjlist.proofs.Meaning.{CoveredIn, CoveredIn-push, names_in-push, pairs_in-push}
 use Rattle.ir_adjlist.proofs.Spelling.{Row, is_row_of_names, line_of, text_of, lines_of_rows, row_plain, row_words, name_len}
 use Rattle.ir_adjlist.proofs.Found.{or_else, found, has_node-graph_of, weight_of-graph_of}
-use Rattle.ir_adjlist.proofs.EdgesFound.{RowsAreOf, rows_of, is_some-among, or_true, edges_found}
+use Rattle.ir_adjlist.proofs.EdgesFound.{RowsAreOf, rows_of, is_some-among, edges_found}
 use Rattle.ir_adjlist.proofs.Fitting.{nodes_fit, edges_fit}
 use Rattle.ir_adjlist.proofs.Sound.{same_bool, among_holds, all_kept, node_names, node_is_name, row_neighbors, row_nodes}
 
@@ -146,7 +147,7 @@ names_cover written (r ∷ rs) x h = by (bytes_eq x r.0) h (names_cover (r.0 ∷
     by true h later = refl
     by false h later =
         list_any-append (bytes_eq x) (targets_behind written r.1) (row_names (rows_behind (r.0 ∷ written) rs))
-        ∙ ap (λ b. among (targets_behind written r.1) x || b) (later h) ∙ or_true (among (targets_behind written r.1) x)
+        ∙ ap (λ b. among (targets_behind written r.1) x || b) (later h) ∙ or-true (among (targets_behind written r.1) x)
 
 module _ (g : Adjacency) (kept : IsGraph g) where
   rows_named : (written : List Name) (rs : Adjacency) → RowsAreOf g rs → list_all is_name (names rs) ≡ true → list_all is_row_of_names (rows_behind written rs) ≡ true

@@ -3,6 +3,7 @@ use Rattle.std.proofs.Common.{◌≡◌, ℕ, ◌+◌, Bool, true, false, not, c
 use Rattle.std.specs.List.{list_all}
 use Rattle.std.proofs.lemmas.List.{append_assoc, append-nil}
 use Rattle.std.proofs.lemmas.Grind.{flat_map-append}
+use Rattle.std.proofs.lemmas.Bool.{or_right}
 use Rattle.ir_model.specs.declared.TheConstants.{MAX_NODES, MAX_EDGES, MAX_NAME_BYTES}
 use Rattle.ir_model.specs.Graph.{Name, Adjacency, among, edges, with_node, with_edge}
 use Rattle.ir_model.specs.Made.{Pair, graph_of}
@@ -22,11 +23,7 @@ use Rattle.ir_adjlist.proofs.Reading.{or_graph, or_graph-cond, or_graph-ok, leng
 
 Covered-more : (x : Name) (ns : List Name) (pairs : List Pair) → Covered ns pairs → Covered (x ∷ ns) pairs
 Covered-more x ns [] c = tt
-Covered-more x ns (p ∷ pairs) c = ((more (bytes_eq p.0 x) (among ns p.0) c.0.0, more (bytes_eq p.1 x) (among ns p.1) c.0.1), Covered-more x ns pairs c.1)
-  where
-    more : (a b : Bool) → b ≡ true → (a || b) ≡ true
-    more true b h = refl
-    more false b h = h
+Covered-more x ns (p ∷ pairs) c = ((or_right (bytes_eq p.0 x) (among ns p.0) c.0.0, or_right (bytes_eq p.1 x) (among ns p.1) c.0.1), Covered-more x ns pairs c.1)
 
 pub Covered-ends : (pairs : List Pair) → Covered (ends_of pairs) pairs
 Covered-ends [] = tt

@@ -3,6 +3,8 @@ use Rattle.std.proofs.Common.{◌≡◌, ℕ, suc, Bool, true, false, cond, ◌|
 use Rattle.std.specs.List.{AllByRecursion, IsDistinct}
 use Rattle.std.specs.Map.{lookup, keys_of}
 use Rattle.std.proofs.lemmas.Map.Keys.{IsDistinct-head, IsDistinct-tail}
+use Rattle.std.proofs.lemmas.Bool.{or_parts, or_from}
+use Rattle.std.proofs.Math.Bool.{or-true, or-false, and-true, and-false}
 use Rattle.ir_model.specs.Graph.{Name, Neighbors, Adjacency, names, among, has_node, neighbors, weight_of, edges, edges_after, IsGraph}
 use Rattle.ir_model.specs.Made.{joins}
 use Rattle.ir_model.proofs.Names.{same_names, bytes_eq-swap}
@@ -40,29 +42,6 @@ no_weight g x y h = by (lookup (bytes_eq x) g) h
     by (Some es) h = cc
     by None h = refl
 
-or_parts : (a b : Bool) → (a || b) ≡ false → (a ≡ false) × (b ≡ false)
-or_parts true b h = cc
-or_parts false b h = (refl, h)
-
-or_from : (a b : Bool) → a ≡ false → b ≡ false → (a || b) ≡ false
-or_from a b p q = ap (λ t. t || b) p ∙ q
-
-pub or_true : (a : Bool) → (a || true) ≡ true
-or_true true = refl
-or_true false = refl
-
-or_false : (a : Bool) → (a || false) ≡ a
-or_false true = refl
-or_false false = refl
-
-and_true : (a : Bool) → (a && true) ≡ a
-and_true true = refl
-and_true false = refl
-
-and_false : (a : Bool) → (a && false) ≡ false
-and_false true = refl
-and_false false = refl
-
 -- ---- where the ends of an edge from z stand
 
 joins_first : (x y z : Name) → bytes_eq x z ≡ true → (k : Name) (w : ℕ) → joins x y (z, k, w) ≡ bytes_eq y k
@@ -75,10 +54,10 @@ joins_first x y z ex k w = ap (λ b. b && bytes_eq y k || bytes_eq x k && bytes_
     by false false c ea eb ec = refl
 
 joins_second : (x y z : Name) → bytes_eq x z ≡ false → bytes_eq y z ≡ true → (k : Name) (w : ℕ) → joins x y (z, k, w) ≡ bytes_eq x k
-joins_second x y z ex ey k w = ap (λ b. b && bytes_eq y k || bytes_eq x k && bytes_eq y z) ex ∙ ap (λ b. bytes_eq x k && b) ey ∙ and_true (bytes_eq x k)
+joins_second x y z ex ey k w = ap (λ b. b && bytes_eq y k || bytes_eq x k && bytes_eq y z) ex ∙ ap (λ b. bytes_eq x k && b) ey ∙ and-true (bytes_eq x k)
 
 joins_neither : (x y z : Name) → bytes_eq x z ≡ false → bytes_eq y z ≡ false → (k : Name) (w : ℕ) → joins x y (z, k, w) ≡ false
-joins_neither x y z ex ey k w = ap (λ b. b && bytes_eq y k || bytes_eq x k && bytes_eq y z) ex ∙ ap (λ b. bytes_eq x k && b) ey ∙ and_false (bytes_eq x k)
+joins_neither x y z ex ey k w = ap (λ b. b && bytes_eq y k || bytes_eq x k && bytes_eq y z) ex ∙ ap (λ b. bytes_eq x k && b) ey ∙ and-false (bytes_eq x k)
 
 module _ (g : Adjacency) (both_ways : (x y : Name) → weight_of g x y ≡ weight_of g y x) (differ : (x : Name) → IsDistinct bytes_eq (keys_of (neighbors g x))) where
   edges_after_found : (walked : List Name) (rs : Adjacency) → RowsAreOf g rs → AllByRecursion (λ n. among walked n ≡ false) (names rs) → IsDistinct bytes_eq (names rs)
@@ -119,10 +98,10 @@ module _ (g : Adjacency) (both_ways : (x y : Name) → weight_of g x y ≡ weigh
           ∙ ap (cond (among walked y) None) (in_row x y ea)
           ∙ sym (ap (λ t. cond (t || among walked y) None (weight_of g x y)) (not_walked x ea))
       by false true ea eb =
-          ap (λ t. or_else (cond t None (weight_of g x y)) (found x y (row_edges_of walked r.0 r.1))) (or_true (among walked x))
+          ap (λ t. or_else (cond t None (weight_of g x y)) (found x y (row_edges_of walked r.0 r.1))) (or-true (among walked x))
           ∙ found_row walked r.0 x y x (joins_second x y r.0 ea eb) r.1 row_differ
           ∙ ap (cond (among walked x) None) (in_row y x eb ∙ both_ways y x)
-          ∙ sym (ap (λ t. cond t None (weight_of g x y)) (ap (λ t. among walked x || t) (not_walked y eb) ∙ or_false (among walked x)))
+          ∙ sym (ap (λ t. cond t None (weight_of g x y)) (ap (λ t. among walked x || t) (not_walked y eb) ∙ or-false (among walked x)))
       by false false ea eb =
           ap (or_else (cond (among walked x || among walked y) None (weight_of g x y))) (found_none walked r.0 x y (joins_neither x y r.0 ea eb) r.1)
           ∙ or_else-none (cond (among walked x || among walked y) None (weight_of g x y))

@@ -3,6 +3,7 @@ use Rattle.std.proofs.Common.{◌≡◌, ℕ, Bool, true, false, not, cond, ◌|
 use Rattle.std.specs.List.{list_any, AllByRecursion, IsDistinct}
 use Rattle.std.specs.Map.{lookup, keys_of}
 use Rattle.std.proofs.lemmas.List.Folds.{list_any-append}
+use Rattle.std.proofs.Math.Bool.{or-false}
 use Rattle.std.proofs.lemmas.Map.Keys.{IsDistinct-head, IsDistinct-tail}
 use Rattle.ir_model.specs.Graph.{Name, Neighbors, among, has_node, weight_of}
 use Rattle.ir_model.specs.Made.{Pair, distinct, far_end, joins, last_weight, neighbors_in, graph_of}
@@ -78,11 +79,7 @@ far_end-joins x y p = by (bytes_eq x p.0) (bytes_eq x p.1) refl refl
     by : (a b : Bool) → bytes_eq x p.0 ≡ a → bytes_eq x p.1 ≡ b → among (cond a (p.1 ∷ []) (cond b (p.0 ∷ []) [])) y ≡ (a && bytes_eq y p.1 || b && bytes_eq y p.0)
     by true true ea eb = both (bytes_eq y p.1) (bytes_eq y p.0) (ap (bytes_eq y) (sym (same_names x p.1 eb) ∙ same_names x p.0 ea))
     by true false ea eb = same (bytes_eq y p.1) (bytes_eq y p.0)
-    by false true ea eb = or_none (bytes_eq y p.0)
-      where
-        or_none : (a : Bool) → (a || false) ≡ a
-        or_none true = refl
-        or_none false = refl
+    by false true ea eb = or-false (bytes_eq y p.0)
     by false false ea eb = refl
 
 far_ends-joins : (x y : Name) (ps : List Pair) → among (flat_map (far_end x) ps) y ≡ list_any (joins x y) ps

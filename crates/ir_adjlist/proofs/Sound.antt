@@ -2,7 +2,7 @@
 use Rattle.std.proofs.Common.{◌≡◌, Bool, true, false, cond, ◌||◌, List, [], ◌∷◌, filter, Option, Some, None, is_some, unwrap_or, refl, sym, ap, ◌∙◌, bytes_eq}
 use Rattle.std.specs.List.{list_all}
 use Rattle.std.specs.Map.{lookup, keys_of}
-use Rattle.std.proofs.lemmas.Bool.{and_parts, and_from}
+use Rattle.std.proofs.lemmas.Bool.{and_parts, and_from, or_right}
 use Rattle.ir_model.specs.Graph.{Name, Neighbors, Adjacency, names, among, has_node, neighbors, weight_of, is_name, is_weight, is_row, IsGraph}
 use Rattle.ir_model.proofs.Names.{same_names, bytes_eq-same}
 use Rattle.ir_adjlist.proofs.EdgesFound.{is_some-among}
@@ -23,11 +23,7 @@ among_holds p (y ∷ xs) x h m = let a = and_parts (p y) (list_all p xs) h in by
 -- what holds of each name among them holds of them all
 pub all_from_among : (p : Name → Bool) (xs : List Name) → ((x : Name) → among xs x ≡ true → p x ≡ true) → list_all p xs ≡ true
 all_from_among p [] h = refl
-all_from_among p (y ∷ xs) h = and_from _ _ (h y (ap (λ b. b || among xs y) (bytes_eq-same y))) (all_from_among p xs (λ x m. h x (behind (bytes_eq x y) (among xs x) m)))
-  where
-    behind : (a b : Bool) → b ≡ true → (a || b) ≡ true
-    behind true b e = refl
-    behind false b e = e
+all_from_among p (y ∷ xs) h = and_from _ _ (h y (ap (λ b. b || among xs y) (bytes_eq-same y))) (all_from_among p xs (λ x m. h x (or_right (bytes_eq x y) (among xs x) m)))
 
 module _ {X : Type 0} where
   pub all_kept : (p q : X → Bool) (xs : List X) → list_all p xs ≡ true → list_all p (filter q xs) ≡ true

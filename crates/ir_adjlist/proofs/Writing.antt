@@ -1,18 +1,20 @@
 -- The writers, element by element.
-use Rattle.std.proofs.Common.{◌≡◌, length, ◌≤◌, ◌+◌, ℕ, zero, suc, Bool, true, false, not, cond, ◌||◌, List, [], ◌∷◌, ◌++◌, map, filter, flat_map, take, drop, Option, Some, None, option_map, slice_get, unwrap_or, refl, sym, ap, ◌∙◌, bytes_eq, add-one, append_assoc, append-nil}
+use Rattle.std.proofs.Common.{◌≡◌, length, ◌≤◌, ◌+◌, ℕ, zero, suc, Bool, true, false, not, ◌||◌, List, [], ◌∷◌, ◌++◌, map, flat_map, take, drop, Option, Some, None, option_map, slice_get, unwrap_or, refl, sym, ap, ◌∙◌, bytes_eq, add-one, append_assoc, append-nil}
 use Rattle.std.specs.List.{IsDistinct}
 use Rattle.std.proofs.Common.{arith, nat_lt, position, true≢false, take_all, ◌<◌}
 use Rattle.std.specs.List.{position_or_len}
 use Rattle.std.proofs.lemmas.Bool.{ltb-true, ltb-false, lt-ltb, le-ltb}
 use Rattle.ir_graph.proofs.Places.{among-take, place_found, place_missing}
+use Rattle.ir_graph.proofs.Edges.{edges_after-agree, walked_more}
 use Rattle.std.specs.Option.{option_to_list}
 use Rattle.std.specs.Map.{keys_of, lookup}
 use Rattle.std.specs.Cmp.Lexicographic.{nat_list_eq_equiv}
 use Rattle.std.proofs.lemmas.Map.Entries.{lookup_from_place}
 use Rattle.std.proofs.lemmas.Option.{slice_get-map, none-some, cond_some}
 use Rattle.std.proofs.lemmas.List.{drop_all}
-use Rattle.std.proofs.lemmas.List.Elements.{filter-append}
-use Rattle.std.proofs.lemmas.List.Folds.{list_any-append, flat_map-map}
+use Rattle.std.proofs.lemmas.List.Elements.{filter-append, filter_agree}
+use Rattle.std.proofs.lemmas.List.Folds.{flat_map-map}
+use Rattle.std.proofs.Math.Seq.{take-nil, drop-nil}
 use Rattle.std.proofs.lemmas.Grind.{flat_map-append}
 use Rattle.ir_model.specs.Graph.{Name, Neighbors, Adjacency, among, names, neighbors, weight_of, edges_after}
 use Rattle.ir_model.specs.Made.{Pair}
@@ -20,12 +22,8 @@ use Rattle.ir_adjlist.specs.Written.{row_text, adjlist_behind, targets_behind, e
 use Rattle.ir_adjlist.specs.Writing.{spaced, unwritten, node_row, unwritten_links, node_edges}
 
 module _ {X : Type 0} where
-  take_none : (n : ℕ) → take {A = X} n [] ≡ []
-  take_none zero = refl
-  take_none (suc n) = refl
-
   take_next : (xs : List X) (n : ℕ) → take (suc n) xs ≡ take n xs ++ option_to_list (slice_get xs n)
-  take_next [] n = sym (append-nil (take n []) ∙ take_none n)
+  take_next [] n = sym (append-nil (take n []) ∙ take-nil n)
   take_next (x ∷ xs) zero = refl
   take_next (x ∷ xs) (suc n) = ap (λ t. x ∷ t) (take_next xs n)
 
@@ -33,12 +31,8 @@ module _ {X : Type 0} where
   pub take_one : (xs : List X) (n : ℕ) → take (n + 1) xs ≡ take n xs ++ option_to_list (slice_get xs n)
   take_one xs n = ap (λ m. take m xs) (add-one n) ∙ take_next xs n
 
-  drop_none : (n : ℕ) → drop {A = X} n [] ≡ []
-  drop_none zero = refl
-  drop_none (suc n) = refl
-
   drop_next : (xs : List X) (n : ℕ) → drop n xs ≡ option_to_list (slice_get xs n) ++ drop (suc n) xs
-  drop_next [] n = drop_none n
+  drop_next [] n = drop-nil n
   drop_next (x ∷ xs) zero = refl
   drop_next (x ∷ xs) (suc n) = drop_next xs n
 
@@ -46,7 +40,7 @@ module _ {X : Type 0} where
   drop_one xs n = drop_next xs n ∙ ap (λ m. option_to_list (slice_get xs n) ++ drop m xs) (sym (add-one n))
 
 among-front : (xs : List Name) (x : Name) (n : ℕ) → among (take n xs) x ≡ true → among xs x ≡ true
-among-front [] x n h = ap (λ t. among t x) (sym (take_none n)) ∙ h
+among-front [] x n h = ap (λ t. among t x) (sym (take-nil n)) ∙ h
 among-front (y ∷ xs) x zero h = cc
 among-front (y ∷ xs) x (suc n) h = by (bytes_eq x y) (among-front xs x n) h
   where
@@ -79,9 +73,6 @@ no_place_among_first ks x n e = by (among (take n ks) x) refl
     by true t = absurd (true≢false (sym (among-front ks x n t) ∙ nowhere))
     by false t = t
 
-pub among-one : (xs : List Name) (x : Name) (n : ℕ) → among (take (n + 1) xs) x ≡ (among (take n xs) x || among (option_to_list (slice_get xs n)) x)
-among-one xs x n = ap (λ t. among t x) (take_one xs n) ∙ list_any-append (bytes_eq x) (take n xs) (option_to_list (slice_get xs n))
-
 -- ---- one element more behind a text
 
 pub spaced-one : (g : Adjacency) (count : ℕ) (ks : List Name) (n : ℕ) → spaced (unwritten g count (take (n + 1) ks)) ≡ spaced (unwritten g count (take n ks)) ++ spaced (unwritten g count (option_to_list (slice_get ks n)))
@@ -106,22 +97,11 @@ put_through before new after rest later whole a r w = ap (λ t. t ++ later) a �
 
 -- ---- a node more behind a text
 
-module _ {X : Type 0} where
-  filter-same : (p q : X → Bool) → ((x : X) → p x ≡ q x) → (xs : List X) → filter p xs ≡ filter q xs
-  filter-same p q h [] = refl
-  filter-same p q h (x ∷ xs) = ap (λ b. cond b (x ∷ filter p xs) (filter p xs)) (h x) ∙ ap (λ t. cond (q x) (x ∷ t) t) (filter-same p q h xs)
-
 adjlist_behind-same : (rs : Adjacency) (before after : List Name) → ((y : Name) → among before y ≡ among after y) → adjlist_behind before rs ≡ adjlist_behind after rs
 adjlist_behind-same [] before after h = refl
 adjlist_behind-same (r ∷ rs) before after h =
-    ap (λ ts. row_text r.0 ts ++ adjlist_behind (r.0 ∷ before) rs) (filter-same (λ y. not (among before y)) (λ y. not (among after y)) (λ y. ap not (h y)) (keys_of r.1))
+    ap (λ ts. row_text r.0 ts ++ adjlist_behind (r.0 ∷ before) rs) (filter_agree (λ y. not (among before y)) (λ y. not (among after y)) (λ y. ap not (h y)) (keys_of r.1))
     ∙ ap (λ t. row_text r.0 (targets_behind after r.1) ++ t) (adjlist_behind-same rs (r.0 ∷ before) (r.0 ∷ after) (λ y. ap (λ b. bytes_eq y r.0 || b) (h y)))
-
-edges_after-same : (rs : Adjacency) (before after : List Name) → ((y : Name) → among before y ≡ among after y) → edges_after before rs ≡ edges_after after rs
-edges_after-same [] before after h = refl
-edges_after-same (r ∷ rs) before after h =
-    ap (λ (es : Neighbors). map {B = Pair} (λ e. (r.0, e.0, e.1)) es ++ edges_after (r.0 ∷ before) rs) (filter-same (λ (e : Name × ℕ). not (among before e.0)) (λ e. not (among after e.0)) (λ e. ap not (h e.0)) r.1)
-    ∙ ap (λ t. map {B = Pair} (λ e. (r.0, e.0, e.1)) (filter (λ e. not (among after e.0)) r.1) ++ t) (edges_after-same rs (r.0 ∷ before) (r.0 ∷ after) (λ y. ap (λ b. bytes_eq y r.0 || b) (h y)))
 
 -- the text of the nodes from a place on
 abbrev pub rows_text : Adjacency → ℕ → List ℕ
@@ -141,18 +121,6 @@ module _ (g : Adjacency) (differ : IsDistinct bytes_eq (names g)) (i : ℕ) wher
   rest_at : (o : Option (Name × Neighbors)) → slice_get g i ≡ o → drop i g ≡ option_to_list o ++ drop (i + 1) g
   rest_at o e = drop_one g i ∙ ap (λ o. option_to_list o ++ drop (i + 1) g) e
 
-  -- the first nodes, with the node here
-  among_at : (r : Name × Neighbors) → slice_get g i ≡ Some r → (y : Name) → among (r.0 ∷ take i (names g)) y ≡ among (take (i + 1) (names g)) y
-  among_at r e y =
-      either (bytes_eq y r.0) (among (take i (names g)) y)
-      ∙ sym (among-one (names g) y i ∙ ap (λ o. among (take i (names g)) y || among (option_to_list o) y) (name_at (Some r) e))
-    where
-      either : (a b : Bool) → (a || b) ≡ (b || (a || false))
-      either true true = refl
-      either true false = refl
-      either false true = refl
-      either false false = refl
-
   none_at : slice_get g i ≡ None → take (i + 1) (names g) ≡ take i (names g)
   none_at e = take_one (names g) i ∙ ap (λ o. take i (names g) ++ option_to_list o) (name_at None e) ∙ append-nil (take i (names g))
 
@@ -166,7 +134,7 @@ module _ (g : Adjacency) (differ : IsDistinct bytes_eq (names g)) (i : ℕ) wher
       by (Some r) e =
           ap (adjlist_behind (take i (names g))) (rest_at (Some r) e)
           ∙ ap (λ es. row_text r.0 (targets_behind (take i (names g)) es) ++ adjlist_behind (r.0 ∷ take i (names g)) (drop (i + 1) g)) (sym (row_at r e))
-          ∙ ap (λ t. node_row g i r.0 ++ t) (adjlist_behind-same (drop (i + 1) g) (r.0 ∷ take i (names g)) (take (i + 1) (names g)) (among_at r e))
+          ∙ ap (λ t. node_row g i r.0 ++ t) (adjlist_behind-same (drop (i + 1) g) (r.0 ∷ take i (names g)) (take (i + 1) (names g)) (walked_more g i r e))
           ∙ ap (λ t. t ++ rows_text g (i + 1)) (sym (append-nil (node_row g i r.0)))
           ∙ ap (λ o. flat_map (node_row g i) (option_to_list o) ++ rows_text g (i + 1)) (sym (name_at (Some r) e))
 
@@ -182,7 +150,7 @@ module _ (g : Adjacency) (differ : IsDistinct bytes_eq (names g)) (i : ℕ) wher
           ∙ flat_map-append edge_text (map {B = Pair} (λ e. (r.0, e.0, e.1)) (unwritten_links g i r.1)) (edges_after (r.0 ∷ take i (names g)) (drop (i + 1) g))
           ∙ ap (λ t. t ++ flat_map edge_text (edges_after (r.0 ∷ take i (names g)) (drop (i + 1) g))) (flat_map-map {B = Pair} edge_text (λ (e : Name × ℕ). (r.0, e.0, e.1)) (unwritten_links g i r.1))
           ∙ ap (λ es. node_edges g i r.0 es ++ flat_map edge_text (edges_after (r.0 ∷ take i (names g)) (drop (i + 1) g))) (sym (row_at r e))
-          ∙ ap (λ t. node_edges g i r.0 (neighbors g r.0) ++ flat_map edge_text t) (edges_after-same (drop (i + 1) g) (r.0 ∷ take i (names g)) (take (i + 1) (names g)) (among_at r e))
+          ∙ ap (λ t. node_edges g i r.0 (neighbors g r.0) ++ flat_map edge_text t) (edges_after-agree (r.0 ∷ take i (names g)) (take (i + 1) (names g)) (drop (i + 1) g) (walked_more g i r e))
           ∙ ap (λ t. t ++ edges_text g (i + 1)) (sym (append-nil (node_edges g i r.0 (neighbors g r.0))))
           ∙ ap (λ o. flat_map (λ x. node_edges g i x (neighbors g x)) (option_to_list o) ++ edges_text g (i + 1)) (sym (name_at (Some r) e))
 

@@ -1,5 +1,5 @@
 -- A packet's record stays right when a node acts on it, with a restamp or without.
-use Rattle.std.proofs.Common.{◌≡◌, ◌≢◌, ℕ, ◌+◌, ◌-◌, ◌*◌, ◌<◌, ◌≤◌, List, [], ◌∷◌, ◌++◌, length, slice_get, slice_index_or, Option, Some, None, refl, sym, ap, ◌∙◌, subst, arith, true, false, Bool, cond}
+use Rattle.std.proofs.Common.{◌≡◌, ◌≢◌, ℕ, ◌+◌, ◌-◌, ◌*◌, ◌<◌, ◌≤◌, List, [], ◌∷◌, ◌++◌, length, slice_get, slice_index_or, Option, Some, None, refl, sym, ap, ◌∙◌, subst, arith, true, false, Bool}
 use Rattle.std.specs.Prelude.{reverse}
 use Rattle.std.specs.List.{AllByRecursion}
 use Rattle.std.proofs.lemmas.List.{length-append, length_push, length-drop, length-take-le, length-reverse}
@@ -22,7 +22,7 @@ use Rattle.ir_core.specs.State.{IsBeginning, IsPacket, IsRouted, IsStretch, IsNe
 use Rattle.ir_core.proofs.Walks.{IsBeginning-push, first-push, next_hop-away, walk_of, prefix}
 use Rattle.ir_core.proofs.Verdicts.{Means}
 use Rattle.ir_core.proofs.Placed.{place_after, acted_fits}
-use Rattle.ir_core.proofs.Segments.{gone, past_in, present_gone, segments_gone, segments_split, places_more, rising_same, of_present, reverse_push, stamped, begun, present_stamped, segments_stamped, stamp_stamped}
+use Rattle.ir_core.proofs.Segments.{gone, past_in, present_gone, segments_gone, segments_split, places_more, longer, rising_same, rising_begun, of_present, reverse_push, stamped, begun, present_stamped, segments_stamped, stamp_stamped}
 
 -- what a ruling says of the tables: by the present epoch, or by the one that the packet is restamped with
 abbrev pub RuledBy : Setting → List Scheme → (Hop → Bool) → Journey → ℕ → Way → Option ℕ → Verdict → Type 0
@@ -34,6 +34,25 @@ RuledBy o plans full r u way (Some e) v =
 abbrev pub front_of : Way → List ℕ → List ℕ
 front_of Inbox hops = []
 front_of (Link l) hops = hops
+
+-- what a new packet has as its hops
+pub new_hops : (r : Journey) (u : ℕ) → r.restamps ≡ [] → (present r).hops ≡ u ∷ [] → r.hops ≡ u ∷ []
+new_hops r u none e = ap (λ (l : List Restamp). (present_in (reverse l) r).hops) (sym none) ∙ e
+
+pub here_is : (t : Scheme) (u : ℕ) (way : Way) (r : Journey) → IsDue t (present r) u way → IsNew r (InHand u way) → hops_here way u r.hops ≡ front_of way r.hops ++ u ∷ []
+here_is t u Inbox r due new = new_hops r u new due.0
+here_is t u (Link l) r due new = refl
+
+pub places_front : (way : Way) (u : ℕ) (r : Journey) → IsNew r (InHand u way) → ArePlaces (length r.hops) (reverse r.restamps) → ArePlaces (length (front_of way r.hops)) (reverse r.restamps)
+places_front Inbox u r new k = subst (λ (l : List Restamp). ArePlaces 0 (reverse l)) (sym new) tt
+places_front (Link l) u r new k = k
+
+pub restamped_is : (u e : ℕ) (way : Way) (r : Journey) → hops_here way u r.hops ≡ front_of way r.hops ++ u ∷ [] →
+    restamped u way e r ≡ stamped u (front_of way r.hops) (record { epoch = e; from = length (front_of way r.hops) }) r
+restamped_is u e way r here =
+    let from : length (front_of way r.hops ++ u ∷ []) - 1 ≡ length (front_of way r.hops) = rw length_push (omega arith) in
+    ap (λ (hops : List ℕ). record r { hops = hops; restamps = r.restamps ++ record { epoch = e; from = length hops - 1 } ∷ [] }) here
+    ∙ ap (λ (n : ℕ). stamped u (front_of way r.hops) (record { epoch = e; from = n }) r) from
 
 no_new_link : (r : Journey) (v : Verdict) → IsNew r (place_after v)
 no_new_link r (GoesOn h) = tt
@@ -85,10 +104,6 @@ module _ (o : Setting) (plans : List Scheme) (is_plan : (k : ℕ) → IsPlanFor 
   pub present_stretch : (r : Journey) → IsRouted o plans r → IsStretch o plans (present r)
   present_stretch r k = of_present (IsStretch o plans) (reverse r.restamps) r k.each
 
-  longer : (b : Bool) (u : ℕ) (hops : List ℕ) → length hops ≤ length (cond b (hops ++ u ∷ []) hops)
-  longer true u hops = rw length_push (omega arith)
-  longer false u hops = omega arith
-
   -- one more hop or none, which the table allows
   pub routed_gone : (r : Journey) (b : Bool) (u : ℕ) (fate : Fate) → IsRouted o plans r → slice_get (gone b u fate (present r)).hops 0 ≡ Some (present r).source →
       IsBeginning (plan_of o plans (stamp_of r)) r.dest (gone b u fate (present r)).hops → IsRouted o plans (gone b u fate r)
@@ -116,14 +131,6 @@ module _ (o : Setting) (plans : List Scheme) (is_plan : (k : ℕ) → IsPlanFor 
         is_new = no_new_link (acted u way v r) v;
       }
 
-  -- what a new packet has as its hops
-  new_hops : (r : Journey) (u : ℕ) → r.restamps ≡ [] → (present r).hops ≡ u ∷ [] → r.hops ≡ u ∷ []
-  new_hops r u none e = ap (λ (l : List Restamp). (present_in (reverse l) r).hops) (sym none) ∙ e
-
-  pub here_is : (t : Scheme) (u : ℕ) (way : Way) (r : Journey) → IsDue t (present r) u way → IsNew r (InHand u way) → hops_here way u r.hops ≡ front_of way r.hops ++ u ∷ []
-  here_is t u Inbox r due new = new_hops r u new due.0
-  here_is t u (Link l) r due new = refl
-
   -- the segment that a restamp ends
   pub retired_here : (u : ℕ) (way : Way) (r : Journey) → IsRouted o plans r → IsDue (plan_of o plans (stamp_of r)) (present r) u way → IsNew r (InHand u way) →
       IsRouted o plans (record r { hops = front_of way r.hops ++ u ∷ []; fate = Retired })
@@ -135,14 +142,6 @@ module _ (o : Setting) (plans : List Scheme) (is_plan : (k : ℕ) → IsPlanFor 
       let st = present_stretch r k in
       let more = IsBeginning-push t r.dest (present r).hops u st.follows (stretch_away (present r) st (last_of (present r).hops) due.0 due.1) (due.0, due.1, due.3) in
       routed_gone r true u Retired k (first-push (present r).hops (present r).source u st.begins) more
-
-  places_front : (way : Way) (u : ℕ) (r : Journey) → IsNew r (InHand u way) → ArePlaces (length r.hops) (reverse r.restamps) → ArePlaces (length (front_of way r.hops)) (reverse r.restamps)
-  places_front Inbox u r new k = subst (λ (l : List Restamp). ArePlaces 0 (reverse l)) (sym new) tt
-  places_front (Link l) u r new k = k
-
-  rising_begun : (u e : ℕ) (r : Journey) (latest : List Restamp) (x : Journey) → (present_in latest x).epoch < e → AreRising (segments_in latest x) → AreRising (begun u e r ∷ segments_in latest x)
-  rising_begun u e r [] x lt k = (lt, k)
-  rising_begun u e r (s ∷ older) x lt k = (lt, k)
 
   -- a restamp
   pub stamped_routed : (u e : ℕ) (way : Way) (r : Journey) → u < nodes_of o → IsRouted o plans r → IsDue (plan_of o plans (stamp_of r)) (present r) u way → IsNew r (InHand u way) →
@@ -160,13 +159,6 @@ module _ (o : Setting) (plans : List Scheme) (is_plan : (k : ℕ) → IsPlanFor 
         rising = subst AreRising (sym all) (rising_begun u e r (reverse r.restamps) (record r { hops = front_of way r.hops ++ u ∷ []; fate = Retired }) above ended.rising);
         each = subst (AllByRecursion (IsStretch o plans)) (sym all) (here, ended.each);
       }
-
-  restamped_is : (u e : ℕ) (way : Way) (r : Journey) → hops_here way u r.hops ≡ front_of way r.hops ++ u ∷ [] →
-      restamped u way e r ≡ stamped u (front_of way r.hops) (record { epoch = e; from = length (front_of way r.hops) }) r
-  restamped_is u e way r here =
-      let from : length (front_of way r.hops ++ u ∷ []) - 1 ≡ length (front_of way r.hops) = rw length_push (omega arith) in
-      ap (λ (hops : List ℕ). record r { hops = hops; restamps = r.restamps ++ record { epoch = e; from = length hops - 1 } ∷ [] }) here
-      ∙ ap (λ (n : ℕ). stamped u (front_of way r.hops) (record { epoch = e; from = n }) r) from
 
   -- an Act
   pub ruled_packet : (full : Hop → Bool) (u : ℕ) (way : Way) (restamp : Option ℕ) (v : Verdict) (r : Journey) → u < nodes_of o → IsPacket o plans r (InHand u way) → RuledBy o plans full r u way restamp v →

@@ -53,6 +53,10 @@ pub places_more : (latest : List Restamp) (n m : ℕ) → n ≤ m → ArePlaces 
 places_more [] n m le k = tt
 places_more (s ∷ older) n m le k = (let lt = k.0 in omega arith, k.1)
 
+pub longer : (b : Bool) (u : ℕ) (hops : List ℕ) → length hops ≤ length (cond b (hops ++ u ∷ []) hops)
+longer true u hops = rw length_push (omega arith)
+longer false u hops = omega arith
+
 pub rising_same : (g h : Journey) (rest : List Journey) → g.epoch ≡ h.epoch → AreRising (g ∷ rest) → AreRising (h ∷ rest)
 rising_same g h [] e k = tt
 rising_same g h (x ∷ rest) e k = (let lt = k.0 in omega arith, k.1)
@@ -80,6 +84,10 @@ drop_front (x ∷ front) u = drop_front front u
 pub last_front : (front : List ℕ) (u : ℕ) → slice_index (front ++ u ∷ []) (length front) ≡ u
 last_front [] u = refl
 last_front (x ∷ front) u = last_front front u
+
+pub rising_begun : (u e : ℕ) (r : Journey) (latest : List Restamp) (x : Journey) → (present_in latest x).epoch < e → AreRising (segments_in latest x) → AreRising (begun u e r ∷ segments_in latest x)
+rising_begun u e r [] x lt k = (lt, k)
+rising_begun u e r (s ∷ older) x lt k = (lt, k)
 
 -- the segments after a restamp: a new one, and those so far, the present one of them ended
 pub present_stamped : (u e : ℕ) (front : List ℕ) (r : Journey) → present (stamped u front (record { epoch = e; from = length front }) r) ≡ begun u e r

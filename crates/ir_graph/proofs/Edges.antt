@@ -2,8 +2,10 @@
 use Rattle.std.proofs.Common.{◌≡◌, ◌<◌, ◌≤◌, ◌+◌, ◌-◌, ℕ, zero, suc, Bool, true, false, not, cond, ◌||◌, List, [], ◌∷◌, ◌++◌, map, filter, length, take, drop, Some, IfSome, option_map, slice_get, get_or, refl, sym, ap, ◌∙◌, bytes_eq, arith, add-one}
 use Rattle.std.specs.Option.{option_map_or}
 use Rattle.std.proofs.Math.Seq.{take-suc, drop-cons}
+use Rattle.std.proofs.Math.Bool.{or_comm, or-false}
 use Rattle.std.proofs.lemmas.List.Folds.{list_any-append}
 use Rattle.std.proofs.lemmas.List.Filters.{length-filter_more}
+use Rattle.std.proofs.lemmas.List.Elements.{filter_agree}
 use Rattle.std.proofs.lemmas.List.{length-map}
 use Rattle.std.proofs.lemmas.Option.{same_Some, none-some, slice_get_within, slice_get-map, get_or_from_slice_get}
 use Rattle.ir_model.specs.Graph.{Name, Neighbors, Adjacency, names, among, edges_after}
@@ -38,24 +40,12 @@ slice_get-behind (x ∷ xs) ys i (suc n) h = slice_get-behind xs ys i n (omega (
 
 -- ---- edges after some rows
 
-filter-agree : (p q : Name → Bool) (es : Neighbors) → ((z : Name) → p z ≡ q z) → filter (λ (e : Name × ℕ). p e.0) es ≡ filter (λ (e : Name × ℕ). q e.0) es
-filter-agree p q [] agree = refl
-filter-agree p q (e ∷ es) agree =
-    ap (λ b. cond b (e ∷ filter (λ (e : Name × ℕ). p e.0) es) (filter (λ (e : Name × ℕ). p e.0) es)) (agree e.0)
-    ∙ ap (λ fs. cond (q e.0) (e ∷ fs) fs) (filter-agree p q es agree)
-
 -- only which names were walked matters, and not in what order
-edges_after-agree : (a b : List Name) (g : Adjacency) → ((z : Name) → among a z ≡ among b z) → edges_after a g ≡ edges_after b g
+pub edges_after-agree : (a b : List Name) (g : Adjacency) → ((z : Name) → among a z ≡ among b z) → edges_after a g ≡ edges_after b g
 edges_after-agree a b [] agree = refl
 edges_after-agree a b (r ∷ rs) agree =
-    ap (λ es. map {B = Name × Name × ℕ} (λ (e : Name × ℕ). (r.0, e.0, e.1)) es ++ edges_after (r.0 ∷ a) rs) (filter-agree (λ z. not (among a z)) (λ z. not (among b z)) r.1 (λ z. ap not (agree z)))
+    ap (λ es. map {B = Name × Name × ℕ} (λ (e : Name × ℕ). (r.0, e.0, e.1)) es ++ edges_after (r.0 ∷ a) rs) (filter_agree (λ (e : Name × ℕ). not (among a e.0)) (λ (e : Name × ℕ). not (among b e.0)) (λ (e : Name × ℕ). ap not (agree e.0)) r.1)
     ∙ ap (λ t. at_row b r.0 r.1 ++ t) (edges_after-agree (r.0 ∷ a) (r.0 ∷ b) rs (λ z. ap (λ c. bytes_eq z r.0 || c) (agree z)))
-
-or-swap : (a b : Bool) → (a || b) ≡ (b || (a || false))
-or-swap true true = refl
-or-swap true false = refl
-or-swap false true = refl
-or-swap false false = refl
 
 module _ (g : Adjacency) (i : ℕ) (r : Name × Neighbors) (at : slice_get g i ≡ Some r) where
   within : i < length g
@@ -64,9 +54,11 @@ module _ (g : Adjacency) (i : ℕ) (r : Name × Neighbors) (at : slice_get g i �
   named : slice_get (names g) i ≡ Some r.0
   named = slice_get-map (λ (r : Name × Neighbors). r.0) g i ∙ ap (option_map (λ (r : Name × Neighbors). r.0)) at
 
-  walked_more : (z : Name) → among (r.0 ∷ take i (names g)) z ≡ among (take (i + 1) (names g)) z
+  -- the names up to a place are those before it and the one there, in either order
+  pub walked_more : (z : Name) → among (r.0 ∷ take i (names g)) z ≡ among (take (i + 1) (names g)) z
   walked_more z =
-      or-swap (bytes_eq z r.0) (among (take i (names g)) z)
+      or_comm (bytes_eq z r.0) (among (take i (names g)) z)
+      ∙ ap (λ b. among (take i (names g)) z || b) (sym (or-false (bytes_eq z r.0)))
       ∙ ap (λ n. among (take i (names g)) z || among (n ∷ []) z) (sym (get_or_from_slice_get (names g) i r.0 r.0 named))
       ∙ sym (list_any-append (bytes_eq z) (take i (names g)) (get_or (names g) i r.0 ∷ []))
       ∙ ap (λ ks. among ks z) (sym (ap (λ n. take n (names g)) (add-one i) ∙ take-suc (names g) i r.0 (slice_get_within (names g) i r.0 named)))

@@ -6,7 +6,7 @@ use Rattle.std.proofs.lemmas.List.{length-map, map-append}
 use Rattle.std.specs.Cmp.Lexicographic.{nat_list_eq_equiv}
 use Rattle.std.proofs.lemmas.Map.Keys.{IsDistinct-head, IsDistinct-tail, IsDistinct-push, IsDistinct-cons}
 use Rattle.std.proofs.lemmas.Option.{none-some}
-use Rattle.std.proofs.lemmas.Bool.{and_parts, and_from, le-ltb, lt-ltb}
+use Rattle.std.proofs.lemmas.Bool.{and_parts, and_from, or_right, le-ltb, lt-ltb}
 use Rattle.ir_model.specs.Graph.{Name, Neighbors, Adjacency, names, among, neighbors, weight_of, has_node, edges, edges_after, put, linked, with_node, with_edge, is_name, is_weight, is_row, IsGraph}
 use Rattle.ir_model.proofs.Names.{same_names, bytes_eq-same, bytes_eq-swap}
 use Rattle.ir_model.proofs.Graphs.{each_row, neighbors-with_node, has_node-with_node, both_ways-linked, lookup-each_row}
@@ -156,13 +156,9 @@ module _ (u v : Name) (w : ℕ) where
   walked_first : (walked : List Name) (g : Adjacency) → among walked u ≡ true → AllByRecursion (λ n. bytes_eq u n ≡ false) (names g) → edges_after walked (each_row (linked u v w) g) ≡ edges_after walked g
   walked_first walked [] h apart = refl
   walked_first walked (r ∷ rs) h apart =
-      ap (λ t. at_row walked r.0 (linked u v w r.0 r.1) ++ t) (walked_first (r.0 ∷ walked) rs (later (bytes_eq u r.0)) apart.1)
+      ap (λ t. at_row walked r.0 (linked u v w r.0 r.1) ++ t) (walked_first (r.0 ∷ walked) rs (or_right (bytes_eq u r.0) (among walked u) h) apart.1)
       ∙ ap (λ es. map (λ e. (r.0, e.0, e.1)) es ++ edges_after (r.0 ∷ walked) rs) (by (bytes_eq r.0 u) (bytes_eq r.0 v) refl)
     where
-      later : (b : Bool) → (b || among walked u) ≡ true
-      later true = refl
-      later false = h
-
       by : (p q : Bool) → bytes_eq r.0 u ≡ p → filter (λ e. not (among walked e.0)) (cond p (put r.1 v w) (cond q (put r.1 u w) r.1)) ≡ filter (λ e. not (among walked e.0)) r.1
       by true q s = absurd (true≢false (sym s ∙ bytes_eq-swap r.0 u ∙ apart.0))
       by false true s = filter-put-walked u v w walked r.1 u h
@@ -171,13 +167,9 @@ module _ (u v : Name) (w : ℕ) where
   walked_second : (walked : List Name) (g : Adjacency) → among walked v ≡ true → AllByRecursion (λ n. bytes_eq v n ≡ false) (names g) → edges_after walked (each_row (linked u v w) g) ≡ edges_after walked g
   walked_second walked [] h apart = refl
   walked_second walked (r ∷ rs) h apart =
-      ap (λ t. at_row walked r.0 (linked u v w r.0 r.1) ++ t) (walked_second (r.0 ∷ walked) rs (later (bytes_eq v r.0)) apart.1)
+      ap (λ t. at_row walked r.0 (linked u v w r.0 r.1) ++ t) (walked_second (r.0 ∷ walked) rs (or_right (bytes_eq v r.0) (among walked v) h) apart.1)
       ∙ ap (λ es. map (λ e. (r.0, e.0, e.1)) es ++ edges_after (r.0 ∷ walked) rs) (by (bytes_eq r.0 u) (bytes_eq r.0 v) refl)
     where
-      later : (b : Bool) → (b || among walked v) ≡ true
-      later true = refl
-      later false = h
-
       by : (p q : Bool) → bytes_eq r.0 v ≡ q → filter (λ e. not (among walked e.0)) (cond p (put r.1 v w) (cond q (put r.1 u w) r.1)) ≡ filter (λ e. not (among walked e.0)) r.1
       by true q s = filter-put-walked u v w walked r.1 v h
       by false true s = absurd (true≢false (sym s ∙ bytes_eq-swap r.0 v ∙ apart.0))
@@ -216,11 +208,7 @@ length-with_node_is g x = elim (has_node g x) as (λ b. length (cond b g (g ++ (
 
 pub length-with_same : (g : Adjacency) (u v : Name) → u ≡ v → length (with_node (with_node g u) v) ≡ length g + cond (has_node g u) 0 1
 length-with_same g u v e =
-    length-with_node_is (with_node g u) v ∙ ap (λ b. length (with_node g u) + cond b 0 1) (has_node-with_node g u v ∙ or_same (has_node g v) (bytes_eq v u) (ap (bytes_eq v) e ∙ bytes_eq-same v)) ∙ omega (arith, length-with_node_is g u)
-  where
-    or_same : (a b : Bool) → b ≡ true → (a || b) ≡ true
-    or_same true b h = refl
-    or_same false b h = h
+    length-with_node_is (with_node g u) v ∙ ap (λ b. length (with_node g u) + cond b 0 1) (has_node-with_node g u v ∙ or_right (has_node g v) (bytes_eq v u) (ap (bytes_eq v) e ∙ bytes_eq-same v)) ∙ omega (arith, length-with_node_is g u)
 
 pub length-with_two : (g : Adjacency) (u v : Name) → bytes_eq v u ≡ false → length (with_node (with_node g u) v) ≡ length g + cond (has_node g u) 0 1 + cond (has_node g v) 0 1
 length-with_two g u v e =
@@ -277,16 +265,12 @@ same_edges u v w walked (r ∷ rs) a b =
 pub length-edges-new : (g : Adjacency) (u v : Name) (w : ℕ) → IsDistinct bytes_eq (names g) → ((a b : Name) → weight_of g a b ≡ weight_of g b a) → weight_of g u v ≡ None → length (edges (with_edge g u v w)) ≡ length (edges g) + 1
 length-edges-new g u v w differ both absent =
     let h : Adjacency = with_node (with_node g u) v in
-    let has_v : has_node h v ≡ true = has_node-with_node (with_node g u) v v ∙ or_true (has_node (with_node g u) v) (bytes_eq v v) (bytes_eq-same v) in
-    let has_u : has_node h u ≡ true = has_node-with_node (with_node g u) v u ∙ ap (λ b. b || bytes_eq u v) (has_node-with_node g u u ∙ or_true (has_node g u) (bytes_eq u u) (bytes_eq-same u)) in
+    let has_v : has_node h v ≡ true = has_node-with_node (with_node g u) v v ∙ or_right (has_node (with_node g u) v) (bytes_eq v v) (bytes_eq-same v) in
+    let has_u : has_node h u ≡ true = has_node-with_node (with_node g u) v u ∙ ap (λ b. b || bytes_eq u v) (has_node-with_node g u u ∙ or_right (has_node g u) (bytes_eq u u) (bytes_eq-same u)) in
     let before : (a b : Name) → weight_of h a b ≡ weight_of h b a = both_ways-with_node (with_node g u) v (both_ways-with_node g u both) in
     let apart : weight_of h u v ≡ None = ap (lookup (bytes_eq v)) (neighbors-with_node (with_node g u) v u ∙ neighbors-with_node g u u) ∙ absent in
     one_edge_more u v w [] h refl refl has_u has_v (distinct-with_node (with_node g u) v (distinct-with_node g u differ)) apart (before v u ∙ apart)
     ∙ ap (λ k. k + 1) (ap length (edges-with_node (with_node g u) v ∙ edges-with_node g u))
-  where
-    or_true : (a b : Bool) → b ≡ true → (a || b) ≡ true
-    or_true true b h = refl
-    or_true false b h = h
 
 pub length-edges-old : (g : Adjacency) (u v : Name) (w : ℕ) → IsDistinct bytes_eq (names g) → ((a b : Name) → weight_of g a b ≡ weight_of g b a) → is_some (weight_of g u v) ≡ true → length (edges (with_edge g u v w)) ≡ length (edges g)
 length-edges-old g u v w differ both there =
@@ -298,8 +282,8 @@ module _ (g : Adjacency) (n : ℕ) (u v : Name) (w : ℕ) where
   pub kept-new_edge : IsDistinct bytes_eq (names g) → is_name u ≡ true → is_name v ≡ true → is_weight w ≡ true → weight_of g u v ≡ None → length (with_node (with_node g u) v) ≤ MAX_NODES → n < MAX_EDGES → IsKept g n → IsKept (with_edge g u v w) (n + 1)
   kept-new_edge differ hu hv hw absent room fits kept =
       let h : Adjacency = with_node (with_node g u) v in
-      let has_v : has_node h v ≡ true = has_node-with_node (with_node g u) v v ∙ or_true (has_node (with_node g u) v) (bytes_eq v v) (bytes_eq-same v) in
-      let has_u : has_node h u ≡ true = has_node-with_node (with_node g u) v u ∙ ap (λ b. b || bytes_eq u v) (has_node-with_node g u u ∙ or_true (has_node g u) (bytes_eq u u) (bytes_eq-same u)) in
+      let has_v : has_node h v ≡ true = has_node-with_node (with_node g u) v v ∙ or_right (has_node (with_node g u) v) (bytes_eq v v) (bytes_eq-same v) in
+      let has_u : has_node h u ≡ true = has_node-with_node (with_node g u) v u ∙ ap (λ b. b || bytes_eq u v) (has_node-with_node g u u ∙ or_right (has_node g u) (bytes_eq u u) (bytes_eq-same u)) in
       let before : (a b : Name) → weight_of h a b ≡ weight_of h b a = both_ways-with_node (with_node g u) v (both_ways-with_node g u kept.both_ways) in
       let apart : weight_of h u v ≡ None = ap (lookup (bytes_eq v)) (neighbors-with_node (with_node g u) v u ∙ neighbors-with_node g u u) ∙ absent in
       let counted : length (edges (each_row (linked u v w) h)) ≡ length (edges h) + 1 = one_edge_more u v w [] h refl refl has_u has_v (distinct-with_node (with_node g u) v (distinct-with_node g u differ)) apart (before v u ∙ apart) in
@@ -311,10 +295,6 @@ module _ (g : Adjacency) (n : ℕ) (u v : Name) (w : ℕ) where
         counted = ap (λ k. k + 1) (kept.counted ∙ ap length (sym (edges-with_node (with_node g u) v ∙ edges-with_node g u))) ∙ sym counted;
         edge_limit = omega arith;
       }
-    where
-      or_true : (a b : Bool) → b ≡ true → (a || b) ≡ true
-      or_true true b h = refl
-      or_true false b h = h
 
   -- a link that is there
   pub kept-old_edge : IsDistinct bytes_eq (names g) → is_weight w ≡ true → is_some (weight_of g u v) ≡ true → IsKept g n → IsKept (with_edge g u v w) n

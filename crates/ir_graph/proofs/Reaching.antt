@@ -11,7 +11,7 @@ use Rattle.ir_model.specs.Graph.{Name, Neighbors, Adjacency, names, has_node, ha
 use Rattle.ir_model.specs.Places.{place_of, neighbors_at, neighbor_at}
 use Rattle.ir_graph.specs.Paths.{IsPath, IsConnected}
 use Rattle.ir_graph.specs.Reached.{HasPlace, HasWay, HasNeighbors, AreReached, AreClosed, GoesOn}
-use Rattle.ir_graph.proofs.Removing.{or-false}
+use Rattle.std.proofs.Math.Bool.{or-false}
 use Rattle.ir_graph.proofs.Joined.{one_place, has_node-weight_of}
 use Rattle.ir_graph.proofs.Places.{link_facts, link_there, at_place_of, place_of_within, has_node_at, name_there}
 

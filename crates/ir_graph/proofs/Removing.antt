@@ -4,10 +4,11 @@ use Rattle.std.specs.Map.{lookup, keys_of}
 use Rattle.std.specs.List.{AllByRecursion, IsDistinct, list_all}
 use Rattle.std.proofs.lemmas.List.{length-map}
 use Rattle.std.proofs.lemmas.Map.Keys.{IsDistinct-head, IsDistinct-tail, IsDistinct-cons}
-use Rattle.std.proofs.lemmas.Bool.{and_parts, and_from}
+use Rattle.std.proofs.lemmas.Bool.{and_parts, and_from, or_right}
+use Rattle.std.proofs.Math.Bool.{or-false}
 use Rattle.ir_model.specs.Graph.{Name, Neighbors, Adjacency, names, among, neighbors, weight_of, edges, edges_after, without, unlinked, without_edge, is_name, is_weight, is_row}
 use Rattle.ir_model.proofs.Names.{same_names, bytes_eq-swap}
-use Rattle.ir_model.proofs.Graphs.{each_row, lookup-each_row, are, are-swap}
+use Rattle.ir_model.proofs.Graphs.{each_row, lookup-each_row, either, are, are-swap}
 use Rattle.ir_model.specs.declared.TheConstants.{MAX_NODES}
 use Rattle.ir_graph.proofs.Keeping.{at_row, length-at_row, differ-each_row}
 use Rattle.ir_graph.specs.Kept.{IsKept}
@@ -26,14 +27,6 @@ lookup-without (e ∷ es) y z = by (lookup-without es y z) (bytes_eq y e.0) (byt
     by later false true false ep eq er = ap (λ b. cond b (Some e.1) (lookup (bytes_eq z) (without es y))) eq
     by later false false true ep eq er = ap (λ b. cond b (Some e.1) (lookup (bytes_eq z) (without es y))) eq ∙ later ∙ ap (λ b. cond b None (lookup (bytes_eq z) es)) er
     by later false false false ep eq er = ap (λ b. cond b (Some e.1) (lookup (bytes_eq z) (without es y))) eq ∙ later ∙ ap (λ b. cond b None (lookup (bytes_eq z) es)) er
-
-either : (x y : Bool) → x ≡ y → x ≡ (x || y)
-either true y e = refl
-either false y e = e
-
-pub or-false : (x : Bool) → (x || false) ≡ x
-or-false true = refl
-or-false false = refl
 
 module _ (g : Adjacency) (u v : Name) where
   pub weight_of-unlinked : (a b : Name) → weight_of (each_row (unlinked u v) g) a b ≡ cond (are u v a b) None (weight_of g a b)
@@ -92,13 +85,9 @@ module _ (u v : Name) where
   walked_first : (walked : List Name) (g : Adjacency) → among walked u ≡ true → AllByRecursion (λ n. bytes_eq u n ≡ false) (names g) → edges_after walked (each_row (unlinked u v) g) ≡ edges_after walked g
   walked_first walked [] h apart = refl
   walked_first walked (r ∷ rs) h apart =
-      ap (λ t. at_row walked r.0 (unlinked u v r.0 r.1) ++ t) (walked_first (r.0 ∷ walked) rs (later (bytes_eq u r.0)) apart.1)
+      ap (λ t. at_row walked r.0 (unlinked u v r.0 r.1) ++ t) (walked_first (r.0 ∷ walked) rs (or_right (bytes_eq u r.0) (among walked u) h) apart.1)
       ∙ ap (λ es. map (λ e. (r.0, e.0, e.1)) es ++ edges_after (r.0 ∷ walked) rs) (by (bytes_eq r.0 u) (bytes_eq r.0 v) refl)
     where
-      later : (b : Bool) → (b || among walked u) ≡ true
-      later true = refl
-      later false = h
-
       by : (p q : Bool) → bytes_eq r.0 u ≡ p → filter (λ e. not (among walked e.0)) (cond p (without r.1 v) (cond q (without r.1 u) r.1)) ≡ filter (λ e. not (among walked e.0)) r.1
       by true q s = absurd (true≢false (sym s ∙ bytes_eq-swap r.0 u ∙ apart.0))
       by false true s = filter-without-walked walked r.1 u h
@@ -107,13 +96,9 @@ module _ (u v : Name) where
   walked_second : (walked : List Name) (g : Adjacency) → among walked v ≡ true → AllByRecursion (λ n. bytes_eq v n ≡ false) (names g) → edges_after walked (each_row (unlinked u v) g) ≡ edges_after walked g
   walked_second walked [] h apart = refl
   walked_second walked (r ∷ rs) h apart =
-      ap (λ t. at_row walked r.0 (unlinked u v r.0 r.1) ++ t) (walked_second (r.0 ∷ walked) rs (later (bytes_eq v r.0)) apart.1)
+      ap (λ t. at_row walked r.0 (unlinked u v r.0 r.1) ++ t) (walked_second (r.0 ∷ walked) rs (or_right (bytes_eq v r.0) (among walked v) h) apart.1)
       ∙ ap (λ es. map (λ e. (r.0, e.0, e.1)) es ++ edges_after (r.0 ∷ walked) rs) (by (bytes_eq r.0 u) (bytes_eq r.0 v) refl)
     where
-      later : (b : Bool) → (b || among walked v) ≡ true
-      later true = refl
-      later false = h
-
       by : (p q : Bool) → bytes_eq r.0 v ≡ q → filter (λ e. not (among walked e.0)) (cond p (without r.1 v) (cond q (without r.1 u) r.1)) ≡ filter (λ e. not (among walked e.0)) r.1
       by true q s = filter-without-walked walked r.1 v h
       by false true s = absurd (true≢false (sym s ∙ bytes_eq-swap r.0 v ∙ apart.0))

@@ -4,6 +4,7 @@ use Rattle.std.specs.List.{prefix_len}
 use Rattle.std.proofs.Common.{position, unwrap_or, nat_lt, Some, None}
 use Rattle.std.proofs.lemmas.Bool.{ltb-false}
 use Rattle.std.proofs.lemmas.List.{nil_from_length, length-drop}
+use Rattle.std.proofs.Math.Seq.{take-nil}
 use Rattle.ir_model.specs.Graph.{Name}
 use Rattle.ir_model.specs.Text.{lines, pieces, onto_first, is_blank, is_empty, words_of}
 
@@ -35,14 +36,6 @@ not-true-false false h = sym h
 pub not-false-true : (t : Bool) → not t ≡ true → t ≡ false
 not-false-true true h = sym h
 not-false-true false h = refl
-
-take-nil : (n : ℕ) → take {A = ℕ} n [] ≡ []
-take-nil zero = refl
-take-nil (suc n) = refl
-
-drop-nil : (n : ℕ) → drop {A = ℕ} n [] ≡ []
-drop-nil zero = refl
-drop-nil (suc n) = refl
 
 pub lines_at : (bs : List ℕ) (n : ℕ) → prefix_len (λ b. not (b == 10)) bs ≡ n → 0 < length bs → lines bs ≡ take n bs ∷ lines (drop (suc n) bs)
 lines_at [] n e h = absurd (omega arith)

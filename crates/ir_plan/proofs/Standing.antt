@@ -24,7 +24,7 @@ use Rattle.ir_model.proofs.Fewest.{canonical_is_fewest}
 use Rattle.ir_model.proofs.Pigeonhole.{length-le_from_places}
 use Rattle.ir_model.proofs.Rows.{rises}
 use Rattle.ir_model.proofs.Round.{start_is_label}
-use Rattle.ir_model.proofs.Walks.{port_facts}
+use Rattle.ir_tables.proofs.Ways.{next_in}
 use Rattle.ir_plan.specs.Shown.{row_port, shown_port, shown_table, scheme_with, AreRows, IsFull}
 use Rattle.ir_plan.proofs.RowPorts.{shown_fits, shown_some}
 
@@ -72,25 +72,13 @@ module _ (n : ℕ) (order labels : List ℕ) (table : ℕ → ℕ → Option ℕ
             ∙ ap (table u) (named.there d hd))
       ]
 
--- what follows on a prescribed walk is a node
-next_inside : (net : Network) → IsNetwork net → (t : ℕ → ℕ → Option ℕ) (x d y : ℕ) → next_node net t x d ≡ Some y → y < node_count net
-next_inside net ok t x d y e = of_port (t x d) e
-  where
-    of_hop : (p : ℕ) (h : Option Hop) → port_at net x p ≡ h → option_map (λ hop. hop.node) h ≡ Some y → y < node_count net
-    of_hop p None at f = absurd (cc f)
-    of_hop p (Some hop) at f = let same : hop.node ≡ y = cc f in subst (λ (v : ℕ). v < node_count net) same (port_facts net ok x p hop at).to
-
-    of_port : (o : Option ℕ) → option_and_then (λ p. option_map (λ hop. hop.node) (port_at net x p)) o ≡ Some y → y < node_count net
-    of_port None f = absurd (cc f)
-    of_port (Some p) f = of_hop p (port_at net x p) refl f
-
 -- tables that agree on the nodes prescribe the same walks
 same_way : (net : Network) → IsNetwork net → (t s : ℕ → ℕ → Option ℕ) (d : ℕ) → ((x : ℕ) → x < node_count net → s x d ≡ t x d)
     → (x : ℕ) → x < node_count net → (rest : List ℕ) → Continues net t d x rest → Continues net s d x rest
 same_way net ok t s d same x hx [] way = way
 same_way net ok t s d same x hx (y ∷ rest) way =
     let next : next_node net s x d ≡ Some y = ap (λ (o : Option ℕ). option_and_then (λ p. option_map (λ (hop : Hop). hop.node) (port_at net x p)) o) (same x hx) ∙ way.1 in
-    (way.0, next, same_way net ok t s d same y (next_inside net ok t x d y way.1) rest way.2)
+    (way.0, next, same_way net ok t s d same y (next_in net ok t x d y way.1) rest way.2)
 
 pub same_walk : (net : Network) → IsNetwork net → (t s : ℕ → ℕ → Option ℕ) (d : ℕ) → ((x : ℕ) → x < node_count net → s x d ≡ t x d)
     → (u : ℕ) → u < node_count net → (walk : List ℕ) → IsPrescribedWalk net t u d walk → IsPrescribedWalk net s u d walk

@@ -1,12 +1,14 @@
 -- Neighbours by number make a network.
-use Rattle.std.proofs.Common.{◌≡◌, ◌≢◌, ℕ, zero, suc, ◌+◌, ◌<◌, ◌≤◌, ◌==◌, ◌||◌, ◌&&◌, Bool, true, false, not, List, [], ◌∷◌, ◌++◌, length, map, filter, Option, Some, unwrap_or, refl, ap, sym, subst, ◌∙◌, arith, slice_get, slice_index_or, ltb, inl, inr, ◌⊎◌, ⊎_elim}
+use Rattle.std.proofs.Common.{◌≡◌, ◌≢◌, ℕ, zero, suc, ◌+◌, ◌<◌, ◌≤◌, ◌==◌, ◌&&◌, Bool, true, false, not, List, [], ◌∷◌, ◌++◌, length, map, filter, Option, Some, unwrap_or, refl, ap, sym, subst, ◌∙◌, arith, slice_get, slice_index_or, ltb, inl, inr, ◌⊎◌, ⊎_elim}
 use Rattle.std.proofs.lemmas.Bool.{cases_Bool, cases_order, eq-eqb, ne_eqb, eqb-true, eqb-false, or_cases, and_parts, not-true, ltb-true, lt-ltb}
 use Rattle.std.proofs.lemmas.List.Folds.{find_at}
+use Rattle.std.proofs.Math.Bool.{or-true, or_comm}
 use Rattle.std.specs.List.{find}
 use Rattle.ir_model.specs.declared.TheConstants.{MAX_NODES, MAX_EDGES, MAX_WEIGHT}
 use Rattle.ir_model.specs.declared.Link.{Link}
 use Rattle.ir_model.specs.declared.Hop.{Hop}
 use Rattle.ir_model.specs.Network.{Network, node_count, port_at, Joins, IsPort, IsNetwork, port_back}
+use Rattle.ir_graph.proofs.Joined.{place-append}
 use Rattle.ir_tables.specs.Numbered.{Numbers, links_at, links_from, joins_nodes, link_between, entry_port, ports_at, ports_from, network_of_rows}
 
 -- what a mapped filter gives comes from an element that passes
@@ -55,11 +57,6 @@ get_append [] ys k x at = inr (k, at)
 get_append (y ∷ xs) ys zero x at = inl at
 get_append (y ∷ xs) ys (suc k) x at = get_append xs ys k x at
 
-get_left : {A : Type 0} (xs ys : List A) (k : ℕ) (x : A) → slice_get xs k ≡ Some x → slice_get (xs ++ ys) k ≡ Some x
-get_left [] ys k x at = absurd (cc at)
-get_left (y ∷ xs) ys zero x at = at
-get_left (y ∷ xs) ys (suc k) x at = get_left xs ys k x at
-
 get_right : {A : Type 0} (xs ys : List A) (k : ℕ) (x : A) → slice_get ys k ≡ Some x → (j : ℕ) × (slice_get (xs ++ ys) j ≡ Some x)
 get_right [] ys k x at = (k, at)
 get_right (y ∷ xs) ys k x at = let r = get_right xs ys k x at in (suc r.0, r.1)
@@ -83,7 +80,7 @@ has_link k zero u i e (es ∷ rows) eq at lt =
     let same : u ≡ k = omega arith in
     let kept = kept_to (link_to u) (λ x. ltb u x.0) es i e at (lt-ltb u e.0 lt) in
     let P : ℕ → Type 0 = λ z. slice_get (links_at z es) kept.0 ≡ Some (link_to u e) in
-    (kept.0, get_left (links_at k es) (links_from (k + 1) rows) kept.0 (link_to u e) (subst P same kept.1))
+    (kept.0, place-append (links_at k es) (links_from (k + 1) rows) kept.0 (link_to u e) (subst P same kept.1))
 has_link k (suc j) u i e (es ∷ rows) eq at lt =
     let later = has_link (k + 1) j u i e rows (omega arith) at lt in
     get_right (links_at k es) (links_from (k + 1) rows) later.0 (link_to u e) later.1
@@ -107,25 +104,15 @@ joins_of u v link e =
 joins_forth : (u v w : ℕ) → joins_nodes u v (link_to u (v, w)) ≡ true
 joins_forth u v w = rw (eq-eqb u u refl, eq-eqb v v refl) refl
 
-or-true : (x : Bool) → (x || true) ≡ true
-or-true true = refl
-or-true false = refl
-
 joins_back : (u v w : ℕ) → joins_nodes u v (link_to v (u, w)) ≡ true
 joins_back u v w = rw (eq-eqb v v refl, eq-eqb u u refl) (or-true (v == u && u == v))
-
-or-swap : (x y : Bool) → (x || y) ≡ (y || x)
-or-swap true true = refl
-or-swap true false = refl
-or-swap false true = refl
-or-swap false false = refl
 
 -- the first link between two nodes is the same from both
 between_swap : (links : List Link) (u v : ℕ) → link_between links u v ≡ link_between links v u
 between_swap [] u v = refl
 between_swap (x ∷ xs) u v =
     let later = between_swap xs u v in
-    let here : joins_nodes u v x ≡ joins_nodes v u x = or-swap (x.low == u && x.high == v) (x.low == v && x.high == u) in
+    let here : joins_nodes u v x ≡ joins_nodes v u x = or_comm (x.low == u && x.high == v) (x.low == v && x.high == u) in
     rw (here, later) refl
 
 -- ---- ports

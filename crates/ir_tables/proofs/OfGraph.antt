@@ -8,6 +8,7 @@ use Rattle.std.proofs.lemmas.List.{length-map, map-append, take_more, take_all}
 use Rattle.std.proofs.lemmas.List.Elements.{filter-append, filter_more}
 use Rattle.std.proofs.lemmas.List.Sums.{passes_at_first, length-filter, count_by-le-length}
 use Rattle.std.proofs.lemmas.Option.{slice_get-map, slice_get_within, get_or_from_slice_get}
+use Rattle.std.proofs.Math.Bool.{and_comm, or_comm}
 use Rattle.ir_model.specs.declared.TheConstants.{MAX_EDGES, MAX_WEIGHT}
 use Rattle.ir_model.specs.declared.Link.{Link}
 use Rattle.ir_model.specs.declared.Hop.{Hop}
@@ -35,25 +36,13 @@ walked_test u p = ⊎_elim (λ same. rw (eq-eqb p u (sym same), lt-ltb p (u + 1)
     (λ order. ⊎_elim (λ (lt : u < p). rw (ne_eqb p u (λ e. omega (arith, e, lt)), le-ltb p u (omega arith), le-ltb p (u + 1) (omega arith)) refl)
     (λ (lt : p < u). rw (ne_eqb p u (λ e. omega (arith, e, lt)), lt-ltb p u lt, lt-ltb p (u + 1) (omega arith)) refl) order) (cases_order u p)
 
-and-swap : (x y : Bool) → (x && y) ≡ (y && x)
-and-swap true true = refl
-and-swap true false = refl
-and-swap false true = refl
-and-swap false false = refl
-
-or-swap : (x y : Bool) → (x || y) ≡ (y || x)
-or-swap true true = refl
-or-swap true false = refl
-or-swap false true = refl
-or-swap false false = refl
-
 -- the test on places and on the link
 joins_test : (u v a b : ℕ) → (a == u && b == v || b == u && a == v) ≡ (min a b == u && max a b == v || min a b == v && max a b == u)
 joins_test u v a b = ⊎_elim
     (λ (lt : a < b). let low : min a b ≡ a = omega arith in let high : max a b ≡ b = omega arith in
-    rw (low, high) (ap (λ t. (a == u && b == v) || t) (and-swap (b == u) (a == v))))
+    rw (low, high) (ap (λ t. (a == u && b == v) || t) (and_comm (b == u) (a == v))))
     (λ (ge : b ≤ a). let low : min a b ≡ b = omega arith in let high : max a b ≡ a = omega arith in
-    rw (low, high) (or-swap (a == u && b == v) (b == u && a == v) ∙ ap (λ t. (b == u && a == v) || t) (and-swap (a == u) (b == v))))
+    rw (low, high) (or_comm (a == u && b == v) (b == u && a == v) ∙ ap (λ t. (b == u && a == v) || t) (and_comm (a == u) (b == v))))
     (cases_lt a b)
 
 -- the row of a node, by number

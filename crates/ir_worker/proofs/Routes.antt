@@ -1,11 +1,11 @@
 -- The segments of a parcel, each with its stamp, when it goes on or is restamped.
-use Rattle.std.proofs.Common.{◌≡◌, ◌≢◌, ℕ, zero, suc, ◌+◌, ◌-◌, ◌*◌, ◌<◌, ◌≤◌, List, [], ◌∷◌, ◌++◌, length, drop, slice_get, Some, refl, sym, ap, ◌∙◌, subst, arith, true, false, Bool, cond, inl, inr}
+use Rattle.std.proofs.Common.{◌≡◌, ◌≢◌, ℕ, ◌+◌, ◌-◌, ◌*◌, ◌<◌, ◌≤◌, List, [], ◌∷◌, ◌++◌, length, slice_get, Some, refl, sym, ap, ◌∙◌, subst, arith, true, false, Bool, inl, inr}
 use Rattle.std.specs.Prelude.{reverse}
 use Rattle.std.proofs.lemmas.List.{length-append, length_push, length-drop, length-take-le, length-reverse, reverse-append}
 use Rattle.std.proofs.Math.Logic.{∥∥₁_elim}
 use Rattle.std.proofs.Math.Bridge.{le_prop}
 use Rattle.ir_model.specs.Network.{node_count}
-use Rattle.ir_model.specs.Scheme.{Scheme, label_in, IsScheme}
+use Rattle.ir_model.specs.Scheme.{label_in, IsScheme}
 use Rattle.ir_core.specs.declared.TheConstants.{MAX_NODES, MAX_HOPS, MAX_RESTAMPS}
 use Rattle.ir_core.specs.declared.event.Way.{Way}
 use Rattle.ir_core.specs.declared.event.Way.TheVariants.{Inbox, Link}
@@ -13,12 +13,12 @@ use Rattle.ir_core.specs.declared.packet.Fate.{Fate}
 use Rattle.ir_core.specs.declared.packet.Fate.TheVariants.{Retired}
 use Rattle.ir_core.specs.declared.packet.Restamp.{Restamp}
 use Rattle.ir_core.specs.Journey.{Journey, segments, segments_in, present, present_in, stamp_of, until}
-use Rattle.ir_core.specs.Entry.{restamped, hops_here}
+use Rattle.ir_core.specs.Entry.{restamped}
 use Rattle.ir_core.specs.Sound.{AreRising, ArePlaces, last_of}
 use Rattle.ir_core.specs.State.{IsBeginning, IsDue, IsNew, InHand}
 use Rattle.ir_core.proofs.Walks.{IsBeginning-push, first-push, next_hop-away, walk_of, prefix}
-use Rattle.ir_core.proofs.Segments.{gone, past_in, present_gone, segments_gone, segments_split, places_more, rising_same, reverse_push, stamped, begun, present_stamped, segments_stamped}
-use Rattle.ir_core.proofs.Routed.{front_of}
+use Rattle.ir_core.proofs.Segments.{gone, past_in, present_gone, segments_gone, segments_split, places_more, longer, rising_same, rising_begun, last_drop, reverse_push, stamped, begun, present_stamped, segments_stamped}
+use Rattle.ir_core.proofs.Routed.{front_of, new_hops, here_is, places_front, restamped_is, most}
 use Rattle.ir_epochs.specs.declared.registry.Stamp.{Stamp}
 use Rattle.ir_epochs.specs.Stamps.{knows}
 use Rattle.ir_worker.specs.Seen.{SeenParcel, stamp_in, stamps_of, present_stamp, EachBy, IsStretch, IsRouted, IsNext, IsUnderWay, IsKept}
@@ -57,12 +57,6 @@ split_routed first later r k =
     (segments r) (past_in (reverse r.restamps) r) (present r) (segments_split (reverse r.restamps) r) k.each
 
 -- the last hop is that of the present segment
-last_drop : (k : ℕ) (hops : List ℕ) → k < length hops → last_of (drop k hops) ≡ last_of hops
-last_drop zero hops lt = refl
-last_drop (suc k) [] lt = absurd (omega arith)
-last_drop (suc k) (x ∷ []) lt = absurd (omega arith)
-last_drop (suc k) (x ∷ y ∷ rest) lt = last_drop k (y ∷ rest) (omega arith)
-
 last_in : (latest : List Restamp) (r : Journey) → ArePlaces (length r.hops) latest → last_of (present_in latest r).hops ≡ last_of r.hops
 last_in [] r k = refl
 last_in (s ∷ older) r k = last_drop s.from r.hops k.0
@@ -75,10 +69,6 @@ pub under_way : (first : Stamp) (later : List Stamp) (r : Journey) (next address
 under_way first later r next address k =
     let st = (split_routed first later r k.routed).0 in
     record { source_in = st.source_in; dest_in = st.dest_in; few = st.few; begins = st.begins; follows = st.follows; goes = k.goes; left = k.left }
-
-longer : (b : Bool) (u : ℕ) (hops : List ℕ) → length hops ≤ length (cond b (hops ++ u ∷ []) hops)
-longer true u hops = rw length_push (omega arith)
-longer false u hops = omega arith
 
 -- one more hop or none, which the table of the present stamp allows, and another fate
 pub routed_gone : (first : Stamp) (later : List Stamp) (r : Journey) (b : Bool) (u : ℕ) (fate : Fate) → IsRouted (stamps_of first later) r → slice_get (gone b u fate (present r)).hops 0 ≡ Some (present r).source →
@@ -102,14 +92,6 @@ routed_gone first later r b u fate k begins follows =
 pub gone_present : (stamps : List Stamp) (r : Journey) (b : Bool) (u : ℕ) (fate : Fate) → IsRouted stamps r → present (gone b u fate r) ≡ gone b u fate (present r)
 gone_present stamps r b u fate k = present_gone (reverse r.restamps) b u fate r k.places
 
--- the hops of a new packet
-new_hops : (r : Journey) (u : ℕ) → r.restamps ≡ [] → (present r).hops ≡ u ∷ [] → r.hops ≡ u ∷ []
-new_hops r u none e = ap (λ (l : List Restamp). (present_in (reverse l) r).hops) (sym none) ∙ e
-
-here_is : (t : Scheme) (u : ℕ) (way : Way) (r : Journey) → IsDue t (present r) u way → IsNew r (InHand u way) → hops_here way u r.hops ≡ front_of way r.hops ++ u ∷ []
-here_is t u Inbox r due new = new_hops r u new due.0
-here_is t u (Link l) r due new = refl
-
 -- the segment that a restamp ends
 retired_here : (first : Stamp) (later : List Stamp) (u : ℕ) (way : Way) (r : Journey) → ∥ IsScheme (knows (present_stamp first later)) ∥₁ → IsRouted (stamps_of first later) r → IsDue (knows (present_stamp first later)) (present r) u way → IsNew r (InHand u way) →
     IsRouted (stamps_of first later) (record r { hops = front_of way r.hops ++ u ∷ []; fate = Retired })
@@ -122,21 +104,6 @@ retired_here first later u (Link l) r is k due new =
     let away : last_of (present r).hops ≢ r.dest = λ e. ∥∥₁_elim is (λ x y. absurd x) (λ w. next_hop-away t w (last_of (present r).hops) r.dest st.dest_in due.0 due.1 e) in
     let more = IsBeginning-push t r.dest (present r).hops u st.follows away (due.0, due.1, due.3) in
     routed_gone first later r true u Retired k (first-push (present r).hops (present r).source u st.begins) more
-
-places_front : (way : Way) (u : ℕ) (r : Journey) → IsNew r (InHand u way) → ArePlaces (length r.hops) (reverse r.restamps) → ArePlaces (length (front_of way r.hops)) (reverse r.restamps)
-places_front Inbox u r new k = subst (λ (l : List Restamp). ArePlaces 0 (reverse l)) (sym new) tt
-places_front (Link l) u r new k = k
-
-rising_begun : (u e : ℕ) (r : Journey) (latest : List Restamp) (x : Journey) → (present_in latest x).epoch < e → AreRising (segments_in latest x) → AreRising (begun u e r ∷ segments_in latest x)
-rising_begun u e r [] x lt k = (lt, k)
-rising_begun u e r (s ∷ older) x lt k = (lt, k)
-
-restamped_is : (u e : ℕ) (way : Way) (r : Journey) → hops_here way u r.hops ≡ front_of way r.hops ++ u ∷ [] →
-    restamped u way e r ≡ stamped u (front_of way r.hops) (record { epoch = e; from = length (front_of way r.hops) }) r
-restamped_is u e way r here =
-    let from : length (front_of way r.hops ++ u ∷ []) - 1 ≡ length (front_of way r.hops) = rw length_push (omega arith) in
-    ap (λ (hops : List ℕ). record r { hops = hops; restamps = r.restamps ++ record { epoch = e; from = length hops - 1 } ∷ [] }) here
-    ∙ ap (λ (n : ℕ). stamped u (front_of way r.hops) (record { epoch = e; from = n }) r) from
 
 -- a restamp
 module _ (first : Stamp) (later : List Stamp) (s : Stamp) (u : ℕ) (way : Way) (r : Journey) (is : ∥ IsScheme (knows (present_stamp first later)) ∥₁) (k : IsRouted (stamps_of first later) r)
@@ -174,11 +141,6 @@ module _ (first : Stamp) (later : List Stamp) (s : Stamp) (u : ℕ) (way : Way) 
   pub restamp_present : present (restamped u way s.epoch r) ≡ begun u s.epoch r
   restamp_present = ap present same ∙ present_stamped u s.epoch (front_of way r.hops) r
 
--- the most hops of so many segments, but one
-abbrev most : List Restamp → ℕ → ℕ
-most [] m = m
-most (s ∷ older) m = m + most older m
-
 -- a segment has no more hops than there are nodes
 stretch_short : (s : Stamp) (g : Journey) → IsStretch s g → length g.hops ≤ MAX_NODES
 stretch_short s g k = ∥∥₁_elim s.sound le_prop (λ is.
@@ -200,13 +162,6 @@ few_hops (x ∷ older) r (s ∷ ss) places each =
     let there = length-take-le (x.from + 1) r.hops (omega arith) in
     let below = few_hops older (until x r) ss (rw there (places_more older x.from (x.from + 1) (omega arith) places.1)) each.1 in
     omega arith
-
-most_few : (latest : List Restamp) → length latest ≤ 3 → most latest (MAX_NODES - 1) ≤ 4 * (MAX_NODES - 1)
-most_few [] le = omega arith
-most_few (a ∷ []) le = omega arith
-most_few (a ∷ b ∷ []) le = omega arith
-most_few (a ∷ b ∷ c ∷ []) le = omega arith
-most_few (a ∷ b ∷ c ∷ d ∷ rest) le = absurd (omega arith)
 
 -- the hops of a segment under way are fewer than the nodes
 short_on : (s : Stamp) (g : Journey) (next : ℕ) → IsStretch s g → IsNext (knows s) g next → length g.hops < MAX_NODES
