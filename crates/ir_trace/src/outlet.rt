@@ -81,8 +81,8 @@ impl<W: Writer> Outlet<W> {
         self.writer
     }
 
-    /// Writes all of a text. `Unwritable` where the writer failed: a front of the text went out then, and the outlet has
-    /// failed.
+    /// Writes all of a text. `Unwritable` where the writer failed: a front of the text went out then, and the outlet
+    /// has failed.
     pub(crate) fn write_text(&mut self, text: &[u8]) -> Result<(), TraceError>
         ensures { IsWritten W.contents W.wrote W.settled self.old text.now result self.new }
     {

@@ -163,8 +163,8 @@ fn push_segments_row(
 }
 
 /// The trace of records over the topology of their graph: the line `trace 1`, and a row for each record in order, with
-/// its first epoch and all of its hops, restamped or not. Only want of memory is refused. Condition: the topology is that
-/// of the graph; the nodes and links of each record are among its nodes and links; the hops are 1 to
+/// its first epoch and all of its hops, restamped or not. Only want of memory is refused. Condition: the topology is
+/// that of the graph; the nodes and links of each record are among its nodes and links; the hops are 1 to
 /// `ir_model::MAX_NODES` nodes, each linked to the next; the node of a `Full` is an end of its link.
 pub fn trace_text(
     alloc: Global,
