@@ -1,11 +1,9 @@
 -- Stamps and boards of one net.
-use Rattle.std.specs.Prelude.{◌≡◌, ℕ, ◌+◌, ◌<◌, ◌≤◌, Bool, true, List, [], ◌∷◌, ◌++◌, fold, filter, length, slice_set, option_map, take}
+use Rattle.std.specs.Prelude.{◌≡◌, ℕ, ◌+◌, ◌<◌, ◌≤◌, Bool, true, List, [], ◌∷◌, ◌++◌, fold, length, slice_set, option_map, take}
 use Rattle.std.proofs.Common.{refl, arith, sym, ap, ◌∙◌, subst, length-set, get_or, length-take-le}
-use Rattle.std.proofs.Math.Logic.{∥∥₁_elim}
-use Rattle.std.proofs.Math.Nat.{ℕ_set}
-use Rattle.std.proofs.lemmas.List.{length-map, length-replicate}
+use Rattle.std.proofs.lemmas.List.{length-replicate}
 use Rattle.std.proofs.lemmas.Option.{slice_get-map, slice_get_read}
-use Rattle.ir_model.specs.Network.{Network, node_count, is_up, restrict}
+use Rattle.ir_model.specs.Network.{Network, restrict}
 use Rattle.ir_core.specs.declared.TheConstants.{MAX_LINKS}
 use Rattle.ir_core.specs.declared.board.Board.{Board}
 use Rattle.ir_core.specs.Board.{opening_board}
@@ -14,7 +12,7 @@ use Rattle.ir_epochs.specs.declared.entry.Change.{Change}
 use Rattle.ir_epochs.specs.declared.entry.Change.TheVariants.{Install, Retire, Down, Up}
 use Rattle.ir_epochs.specs.declared.entry.Entry.{Entry}
 use Rattle.ir_epochs.specs.declared.entry.Entry.TheVariants.{Opened, Changed}
-use Rattle.ir_epochs.specs.Entries.{IsCurrent, registry_of, network_of, board_of, entered, changed, Fits}
+use Rattle.ir_epochs.specs.Entries.{registry_of, network_of, board_of, entered, changed, Fits}
 use Rattle.ir_epochs.specs.Over.{IsOver}
 use Rattle.ir_epochs.specs.Stamps.{knows, registry_name}
 use Rattle.ir_links.specs.Ends.{Sending, Word, WasRefused}
@@ -27,18 +25,6 @@ use Rattle.ir_worker.specs.Account.{lines_out}
 use Rattle.ir_core.specs.Sound.{last_of}
 use Rattle.ir_control.specs.Outs.{AreEntryEnds, SentTo, IsSent}
 use Rattle.std.proofs.Math.Seq.{map-set_same}
-
--- the stamp of a board's current epoch is of the net of the board
-pub of_net : (o : Stamp) (entries : List Entry) (s : Stamp) → IsCurrent entries s → registry_of entries ≡ registry_name o → network_of entries ≡ (knows o).network → IsOfNet o s
-of_net o entries s current registry network = (
-  current.registry ∙ registry,
-  subst (λ (net : Network). IsOver net (knows s).network) network current.over,
-)
-
--- a network over some links of another has its nodes
-pub over_nodes : (net over : Network) → IsOver net over → node_count over ≡ node_count net
-over_nodes net over h = ∥∥₁_elim h (ℕ_set (node_count over) (node_count net))
-    (λ m. ap (λ (n : Network). node_count n) m.2 ∙ length-map net.ports (filter (is_up m.0)))
 
 changed_marks : (b : Board) (c : Change) → length b.up ≡ MAX_LINKS → length (changed b c).up ≡ MAX_LINKS
 changed_marks b (Install s) h = h

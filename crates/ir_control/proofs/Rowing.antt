@@ -3,7 +3,7 @@ use Rattle.std.specs.Prelude.{◌≡◌, ℕ, zero, suc, ◌+◌, ◌<◌, ◌�
 use Rattle.std.proofs.Common.{refl, arith, sym, ap, ◌∙◌, subst, get_or}
 use Rattle.std.proofs.lemmas.Bool.{eqb-true, eqb-false}
 use Rattle.std.proofs.lemmas.Option.{same_Some, none-some}
-use Rattle.std.proofs.lemmas.List.{length-append, length_push, length-map, length-set, get_or-set_same, get_or-set_other}
+use Rattle.std.proofs.lemmas.List.{get_or_default, length-append, length_push, length-map, length-set, get_or-set_same, get_or-set_other}
 use Rattle.std.proofs.lemmas.List.Sums.{sum_by-append, sum_by_push, sum_by-cons, sum_by-set}
 use Rattle.ir_model.specs.Network.{node_count, ports_of}
 use Rattle.ir_worker.specs.declared.node.Node.{Node}
@@ -100,23 +100,18 @@ room_here net u n at is =
       (let z : offset net.topology u + length n.outs.items ≤ way_count net.topology = omega (arith, next, most, degree, b) in z),
     )
 
-get_or_any_here : {A : Type 0} (xs : List A) (k : ℕ) (d e : A) → k < length xs → get_or xs k d ≡ get_or xs k e
-get_or_any_here [] k d e lt = absurd (omega (arith, lt))
-get_or_any_here (y ∷ xs) zero d e lt = refl
-get_or_any_here (y ∷ xs) (suc k) d e lt = get_or_any_here xs k d e (omega (arith, lt))
-
 pub node_here : (net : Net) (u : ℕ) (slots : List (Option Node)) (x : Option Node) (n : Node) → AreSlotsFrom net u slots → u < node_count net.topology → x ≡ get_or slots u x → Some n ≡ x
     → (slice_index_or slots u None ≡ Some n) × (n.index ≡ u) × IsNodeOf net n
 node_here net u slots x n from lt read got =
     let f = from.full u (omega arith) lt in
-    let there : get_or slots u x ≡ get_or slots u None = get_or_any_here slots u x None (let c = from.count in omega (arith, c, lt)) in
+    let there : get_or slots u x ≡ get_or slots u None = get_or_default slots u x None (let c = from.count in omega (arith, c, lt)) in
     let same : f.0 ≡ n = same_Some f.0 n (sym f.1 ∙ sym there ∙ sym read ∙ sym got) in
     (f.1 ∙ ap (λ (m : Node). Some m) same, subst (λ (m : Node). m.index ≡ u) same f.2, subst (λ (m : Node). IsNodeOf net m) same f.3)
 
 pub never_empty : (net : Net) (u : ℕ) (slots : List (Option Node)) (x : Option Node) → AreSlotsFrom net u slots → u < node_count net.topology → x ≡ get_or slots u x → x ≡ None → ⊥
 never_empty net u slots x from lt read none =
     let f = from.full u (omega arith) lt in
-    none-some f.0 (sym none ∙ read ∙ get_or_any_here slots u x None (let c = from.count in omega (arith, c, lt)) ∙ f.1)
+    none-some f.0 (sym none ∙ read ∙ get_or_default slots u x None (let c = from.count in omega (arith, c, lt)) ∙ f.1)
 
 pub slots_next : (net : Net) (u : ℕ) (slots : List (Option Node)) (new : Option Node) → AreSlotsFrom net u slots → u < node_count net.topology → new ≡ None → AreSlotsFrom net (u + 1) (slice_set slots u new)
 slots_next net u slots new from lt none = record {

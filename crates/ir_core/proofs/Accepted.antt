@@ -32,7 +32,7 @@ passed true x rest y e = absurd (refused e)
     refused q = cc
 passed false x rest y e = (refl, e)
 
-same_entry : (x y : Entry) → ◌≡◌ {A = Result Entry Refused} (Ok x) (Ok y) → x ≡ y
+pub same_entry : (x y : Entry) → ◌≡◌ {A = Result Entry Refused} (Ok x) (Ok y) → x ≡ y
 same_entry x y e = cc
 
 not_accepted : (x : Refused) (y : Entry) → ◌≡◌ {A = Result Entry Refused} (Err x) (Ok y) → ⊥

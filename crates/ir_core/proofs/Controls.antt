@@ -1,11 +1,12 @@
 -- What the controller's steps of a list install.
-use Rattle.std.proofs.Common.{◌≡◌, ◌≢◌, ℕ, zero, suc, ◌<◌, ◌≤◌, List, [], ◌∷◌, ◌++◌, length, take, map, filter, replicate, slice_get, slice_index_or, Option, Some, None, refl, sym, ap, ◌∙◌, subst, arith, true, false, Bool, cond, inl, inr}
+use Rattle.std.proofs.Common.{◌≡◌, ◌≢◌, ℕ, zero, suc, ◌<◌, ◌≤◌, List, [], ◌∷◌, ◌++◌, length, take, replicate, slice_index_or, Option, Some, None, refl, sym, ap, ◌∙◌, subst, arith, true, false, Bool, cond, inl, inr}
 use Rattle.std.specs.Prelude.{Result, Ok, Err, is_ok, IfOk, not, nat_lt, nat_le}
 use Rattle.std.proofs.lemmas.Option.{slice_get_within}
 use Rattle.ir_model.specs.declared.Hop.{Hop}
 use Rattle.ir_model.specs.declared.Kind.{Kind}
 use Rattle.ir_model.specs.Network.{Network, IsNetwork, is_up, restrict}
 use Rattle.ir_model.specs.Scheme.{Scheme}
+use Rattle.ir_model.proofs.Restrict.{rows_all}
 use Rattle.ir_core.specs.declared.TheConstants.{MAX_LINKS, MAX_CHANGES}
 use Rattle.ir_core.specs.declared.board.Board.{Board}
 use Rattle.ir_core.specs.declared.built.Install.{Install}
@@ -25,6 +26,7 @@ use Rattle.ir_core.specs.History as history
 use Rattle.ir_core.specs.Meaning.{IsMade, ComesTo, InstallsUnless, install_refused, installs_made, newest, newest_of, sight_after, with_entry}
 use Rattle.ir_core.specs.State.{State, IsState, sight_in}
 use Rattle.ir_core.specs.Shows.{Shows, AnswersAfter, IsAnswered, reply_to}
+use Rattle.ir_core.proofs.Accepted.{same_entry}
 use Rattle.ir_core.specs.Installed.{IsTaken, IsControlled, IsControlRun, IsBuiltFrom, AreBuiltFrom, AreInstalls, ControlsOn, IsChange}
 
 built_push : (o : Setting) (installs : List Install) (schemes : List Scheme) (i : Install) (t : Scheme) → AreBuiltFrom o installs schemes → IsBuiltFrom o i t → AreBuiltFrom o (installs ++ i ∷ []) (schemes ++ t ∷ [])
@@ -35,9 +37,6 @@ built_push o (x ∷ installs) (s ∷ schemes) i t b is = (b.0, built_push o inst
 
 ok_err : (x : Entry) (e : Refused) → ◌≡◌ {A = Result Entry Refused} (Ok x) (Err e) → ⊥
 ok_err x e q = cc
-
-same_ok : (x y : Entry) → ◌≡◌ {A = Result Entry Refused} (Ok x) (Ok y) → x ≡ y
-same_ok x y e = cc
 
 -- the plans after a change of the board
 plans_kept : (o : Setting) (log : List Entry) (a b c : Bool) (x y z : Refused) (board : Board) →
@@ -118,7 +117,7 @@ module _ (s new : State) (kind : Kind) (root : ℕ) (reply : Result Reply Refuse
           AreBuiltFrom s.opening (installs ++ i ∷ []) (history.plans s.opening later)
       by_made None m e = absurd (ok_err entry Disconnected e)
       by_made (Some t) m e =
-          let plans = ap (λ (x : List Entry). history.plans s.opening x) is ∙ ap (λ (x : Entry). history.plans s.opening (x ∷ log)) (same_ok entry _ e) in
+          let plans = ap (λ (x : List Entry). history.plans s.opening x) is ∙ ap (λ (x : Entry). history.plans s.opening (x ∷ log)) (same_entry entry _ e) in
           subst (λ (schemes : List Scheme). AreBuiltFrom s.opening (installs ++ i ∷ []) schemes) (sym plans) (built_push s.opening installs (history.plans s.opening log) i t built (from t m))
 
   pub install_accepted_so : is_ok reply ≡ true → (i : Install) → i.kind ≡ kind → i.root ≡ root → length i.up.items ≡ links_of s.opening → i.up.items ≡ take (links_of s.opening) (newest (sight_in s)).up → (installs : List Install) →
@@ -143,15 +142,6 @@ all_up zero m l lt le = absurd (omega arith)
 all_up (suc n) zero l lt le = absurd (omega arith)
 all_up (suc n) (suc m) zero lt le = refl
 all_up (suc n) (suc m) (suc l) lt le = all_up n m l (omega arith) (omega arith)
-
-filter_all : (t : Hop → Bool) (xs : List Hop) → ((k : ℕ) (x : Hop) → slice_get xs k ≡ Some x → t x ≡ true) → filter t xs ≡ xs
-filter_all t [] h = refl
-filter_all t (y ∷ xs) h = rw (h 0 y refl) (ap (λ (l : List Hop). y ∷ l) (filter_all t xs (λ k x e. h (suc k) x e)))
-
-rows_all : (t : Hop → Bool) (rows : List (List Hop)) → ((u k : ℕ) (x : Hop) → slice_get (slice_index_or rows u []) k ≡ Some x → t x ≡ true) → map (filter t) rows ≡ rows
-rows_all t [] h = refl
-rows_all t (row ∷ rows) h =
-    ap (λ (r : List Hop). r ∷ map (filter t) rows) (filter_all t row (λ k x e. h 0 k x e)) ∙ ap (λ (rs : List (List Hop)). row ∷ rs) (rows_all t rows (λ u k x e. h (suc u) k x e))
 
 restrict_all : (net : Network) → IsNetwork net → length net.links ≤ MAX_LINKS → restrict (take (length net.links) (replicate MAX_LINKS true)) net ≡ net
 restrict_all net ok few =

@@ -28,8 +28,7 @@ use Rattle.ir_core.specs.State.{State, IsState, IsBoard, ArePlaced, IsPacket, Is
 use Rattle.ir_core.proofs.Channels.{channel_within, into_is, hop_leads}
 use Rattle.ir_core.proofs.Lists.{or_set}
 use Rattle.ir_core.specs.Sound.{last_of}
-use Rattle.ir_core.proofs.Walks.{next_hop-away, next_hop-there, walk_of, IsBeginning-push, first-push, prefix}
-use Rattle.std.proofs.lemmas.Bool.{cases_eq}
+use Rattle.ir_core.proofs.Walks.{next_hop-away, next_hop-none, walk_of, IsBeginning-push, first-push, prefix}
 use Rattle.ir_core.proofs.Verdicts.{Means, judged_means, IsLive, judged_live, if_full, judged-if_full}
 use Rattle.ir_core.proofs.Routed.{RuledBy, present_stretch, ruled_packet, retired_here, here_is, hops_fit}
 use Rattle.ir_core.proofs.Placed.{moved, place_after, placed_inject, placed_take, ended, sent}
@@ -280,13 +279,7 @@ opened_read items id x r read is = subst (λ (y : Journey). y ≡ slice_index_or
 
 -- no hop means the destination
 none_means : (o : Setting) (t : Scheme) (u d : ℕ) → IsPlanFor o t → u < nodes_of o → d < nodes_of o → next_hop t u d ≡ None → u ≡ d
-none_means o t u d k u_in d_in e = chosen (cases_eq u d)
-  where
-    chosen : ((u ≡ d) ⊎ (u ≡ d → ⊥)) → u ≡ d
-    chosen (inl s) = s
-    chosen (inr ne) =
-        let h = next_hop-there t k.scheme u d (omega (arith, k.nodes)) (omega (arith, k.nodes)) ne in
-        absurd (none-some h.0 (sym e ∙ h.1))
+none_means o t u d k u_in d_in e = next_hop-none t k.scheme u d (omega (arith, k.nodes)) (omega (arith, k.nodes)) e
 
 away_from : (o : Setting) (t : Scheme) → IsPlanFor o t → (d : ℕ) → d < nodes_of o → (x : ℕ) (h : Hop) → next_hop t x d ≡ Some h → x ≢ d
 away_from o t k d d_in x h e = next_hop-away t k.scheme x d (omega (arith, k.nodes)) h e
@@ -426,7 +419,7 @@ hops_below o t r u l k s_in d_in first from due =
 short_by : (o : Setting) (plans : List Scheme) → ((k : ℕ) → IsPlanFor o (slice_index_or plans k o.first)) → 0 < nodes_of o → nodes_of o ≤ MAX_NODES → o.restamps ≤ 3 → (u : ℕ) (way : Way) (r : Journey) → IsRouted o plans r →
     IsDue (plan_of o plans (stamp_of r)) (present r) u way → IsNew r (InHand u way) → length r.hops < MAX_HOPS
 short_by o plans each some few limit u Inbox r k due new =
-    let here : r.hops ≡ u ∷ [] = here_is o plans each (plan_of o plans (stamp_of r)) u Inbox r due new in
+    let here : r.hops ≡ u ∷ [] = here_is (plan_of o plans (stamp_of r)) u Inbox r due new in
     rw here (omega arith)
 short_by o plans each some few limit u (Link l) r k due new =
     let more = retired_here o plans each u (Link l) r k due new in

@@ -15,11 +15,11 @@ use Rattle.ir_model.specs.Network.{Network, node_count, IsNetwork}
 use Rattle.ir_core.specs.Journey.{Journey}
 use Rattle.ir_core.specs.declared.packet.Held.{Held}
 use Rattle.ir_core.specs.declared.board.Board.{Board}
-use Rattle.ir_core.specs.declared.event.Way.{Way}
 use Rattle.ir_core.specs.Board.{opening_board}
 use Rattle.ir_core.specs.Setting.{Setting, IsSetting, IsPlanFor, links_of, nodes_of, no_scheme}
-use Rattle.ir_core.specs.State.{State, IsState, IsBoard, Waits, InHand, Ended}
+use Rattle.ir_core.specs.State.{State, IsState, IsBoard, Ended}
 use Rattle.ir_core.specs.Shows.{Shows}
+use Rattle.ir_core.proofs.Placed.{ended_waits, ended_in_hand}
 
 -- an element of equal ones, or the default, which is the same
 same_all : {X : Type 0} (n k : ℕ) (x : X) → slice_index_or (replicate n x) k x ≡ x
@@ -42,12 +42,6 @@ opened o = record {
 none_waits : (o : Setting) (c k id : ℕ) → slice_get (slice_index_or (opened o).channels c []) k ≡ Some id → ⊥
 none_waits o c k id e =
     none-some id (sym (ap (λ (l : List ℕ). slice_get l k) (same_all ((nodes_of o) + 2 * links_of o) c [])) ∙ e)
-
-not_waiting : (u : ℕ) (way : Way) → Ended ≡ Waits u way → ⊥
-not_waiting u way e = cc
-
-not_held : (u : ℕ) (way : Way) → Ended ≡ InHand u way → ⊥
-not_held u way e = cc
 
 one_plan : (o : Setting) → IsPlanFor o o.first → (k : ℕ) → IsPlanFor o (slice_index_or (o.first ∷ []) k o.first)
 one_plan o t zero = t
@@ -74,8 +68,8 @@ opened_kept o ok = record {
     each = λ id r e. absurd (none-some r e);
     waiting = λ c k id e. absurd (none_waits o c k id e);
     once = λ c j k id e f. absurd (none_waits o c j id e);
-    stands = λ id u way e. absurd (not_waiting u way e);
-    rests = λ id u way e. absurd (not_held u way e);
+    stands = λ id u way e. absurd (ended_waits u way e);
+    rests = λ id u way e. absurd (ended_in_hand u way e);
     held = λ u h e. absurd (none-some h (sym (same_all {X = Option Held} (nodes_of o) u None) ∙ e));
   };
 }

@@ -341,10 +341,11 @@ placed_take o plans hands channels records place u way c0 id p u_in h_in c_in th
         let was = p.held v h (sym q.1 ∙ e) in
         (was.0, moved_other place id (InHand u way) h.id (λ s. waits_in_hand u v way h.way (sym here ∙ ap place (sym s) ∙ was.1)) ∙ was.1)
 
-ended_waits : (u : ℕ) (way : Way) → Ended ≡ Waits u way → ⊥
+-- a packet that ended is nowhere
+pub ended_waits : (u : ℕ) (way : Way) → Ended ≡ Waits u way → ⊥
 ended_waits u way e = cc
 
-ended_in_hand : (u : ℕ) (way : Way) → Ended ≡ InHand u way → ⊥
+pub ended_in_hand : (u : ℕ) (way : Way) → Ended ≡ InHand u way → ⊥
 ended_in_hand u way e = cc
 
 -- an Act on the packet in a node's hand

@@ -1,6 +1,6 @@
 use Rattle.std.proofs.Common.{◌≡◌, ◌≢◌, ℕ, zero, suc, ◌+◌, ◌-◌, ◌*◌, ◌<◌, ◌≤◌, List, [], ◌∷◌, ◌++◌, length, take, get_or, slice_get, slice_index_or, Option, Some, None, refl, sym, ap, ◌∙◌, subst, arith, add-one, true, false, Bool, ◌⊎◌, inl, inr}
 use Rattle.std.specs.Prelude.{◌||◌}
-use Rattle.std.proofs.lemmas.Bool.{cases_lt}
+use Rattle.std.proofs.lemmas.Bool.{cases_lt, or_parts}
 use Rattle.std.proofs.lemmas.Option.{same_Some, none-some, slice_get_within, slice_get-get_or, get_or_from_slice_get}
 use Rattle.std.proofs.lemmas.List.{take_more}
 use Rattle.ir_model.specs.declared.Link.{Link as Edge}
@@ -48,10 +48,6 @@ ports_same s new u k e p hop at = empty_same s new u (Link hop.link) k (e p hop 
 quiet_same : (s new : State) (u : ℕ) → SamePackets s new → IsQuietAt s u → IsQuietAt new u
 quiet_same s new u k q = record { hand = hand_same s new u k q.hand; inbox = empty_same s new u Inbox k q.inbox; ports = ports_same s new u k q.ports }
 
-both_false : (a b : Bool) → (a || b) ≡ false → (a ≡ false) × (b ≡ false)
-both_false true b e = cc
-both_false false b e = (refl, e)
-
 -- the ports up to one more
 ports_push : (o : Setting) (u : ℕ) (hops : List Hop) (h : Hop) (log : List Entry) → after_ports o u (hops ++ h ∷ []) log ≡ after_way o u (Link h.link) (after_ports o u hops log)
 ports_push o u [] h log = refl
@@ -83,7 +79,7 @@ ports_more s mid new u k acted sent hop so at m idle hand view = record {
       (subst (λ (o : Setting). Moves (after_way o u (Link hop.link)) sent mid new) so.moves.opening m));
   hand = hand;
   view = view;
-  idle = λ e p other lt at_p. (let both = both_false acted sent e in by_place both.0 both.1 p other at_p (cases_lt p k) lt);
+  idle = λ e p other lt at_p. (let both = or_parts acted sent e in by_place both.0 both.1 p other at_p (cases_lt p k) lt);
 }
   where
     ports : List Hop
@@ -128,7 +124,7 @@ visit_done s read held taken new u a b c m1 m2 m3 inbox hand m4 ports =
     let s4 = subst (λ (x : Setting). Moves (after_ports x u (ports_of x.network u)) c taken new) p3.opening m4 in
     let p4 = moves_then (λ log. after_way o u Inbox (after_act o u (after_read o u log))) (after_ports o u (ports_of o.network u)) (a || b) c s taken new p3 s4 in (
       p4,
-      λ e. (let both = both_false (a || b) c e in let first = both_false a b both.0 in let stays = m4.stays both.1 in
+      λ e. (let both = or_parts (a || b) c e in let first = or_parts a b both.0 in let stays = m4.stays both.1 in
           (p4.stays e, record { hand = hand_same taken new u stays hand; inbox = empty_same taken new u Inbox stays (inbox first.1); ports = ports both.1 })),
     )
 
@@ -145,10 +141,10 @@ round_more s mid new k acted sent so m quiet = subst (λ (j : ℕ). RoundSo s j 
   where
     by_node : (acted || sent) ≡ false → (u : ℕ) → u < suc k → ((u < k) ⊎ (k ≤ u)) → IsQuietAt new u
     by_node e u lt (inl below) =
-        let both = both_false acted sent e in
+        let both = or_parts acted sent e in
         quiet_same mid new u (m.stays both.1) (so.quiet both.0 u below)
     by_node e u lt (inr above) =
-        let both = both_false acted sent e in
+        let both = or_parts acted sent e in
         let same : k ≡ u = omega arith in
         subst (λ (x : ℕ). IsQuietAt new x) same (quiet both.1)
 

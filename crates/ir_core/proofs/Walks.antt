@@ -78,6 +78,14 @@ next_hop-there t is u d u_in d_in ne =
         let s : StepsTo t d u y = subst (λ (z : ℕ). StepsTo t d z y) k.begins k.steps.1 in
         (s.0, s.1)
 
+-- no hop means the destination
+pub next_hop-none : (t : Scheme) → IsScheme t → (u d : ℕ) → u < node_count t.network → d < node_count t.network → next_hop t u d ≡ None → u ≡ d
+next_hop-none t is u d u_in d_in none = by_place (cases_eq u d)
+  where
+    by_place : ((u ≡ d) ⊎ (u ≡ d → ⊥)) → u ≡ d
+    by_place (inl same) = same
+    by_place (inr ne) = let h = next_hop-there t is u d u_in d_in ne in absurd (none-some h.0 (sym none ∙ h.1))
+
 -- the port that a next hop leaves by
 pub port_of : (t : Scheme) (u d : ℕ) (h : Hop) → next_hop t u d ≡ Some h → (p : ℕ) × (port_at t.network u p ≡ Some h)
 port_of t u d h e = by_port (table_port t u d) refl e

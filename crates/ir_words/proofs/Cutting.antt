@@ -1,7 +1,7 @@
 -- The lines of the two parts of an input.
 use Rattle.std.proofs.Common.{◌≡◌, ◌<◌, ◌≤◌, ◌+◌, ℕ, zero, suc, Bool, true, false, not, cond, List, [], ◌∷◌, ◌++◌, length, take, drop, refl, sym, ap, ◌∙◌, arith, ◌==◌, append_assoc}
 use Rattle.std.proofs.lemmas.List.{append-nil, take_all, drop_all, drop-drop, length-drop}
-use Rattle.std.proofs.Math.Seq.{take-add}
+use Rattle.std.proofs.Math.Seq.{take-add, take-nil}
 use Rattle.std.specs.List.{prefix_len}
 use Rattle.ir_model.specs.Text.{lines, onto_first}
 use Rattle.ir_model.proofs.Pieces.{stops, goes_on, not-true-false, not-false-true, lines_at}
@@ -10,18 +10,14 @@ use Rattle.ir_words.specs.Cut.{is_cut, topology_part, script_part}
 abbrev pub is_text : ℕ → Bool
 is_text b = not (b == 10)
 
-take-none : (n : ℕ) → take {A = ℕ} n [] ≡ []
-take-none zero = refl
-take-none (suc n) = refl
-
 -- a line with its line feed is one line, or what is left without one
 pub one_line : (bs : List ℕ) (n : ℕ) → prefix_len is_text bs ≡ n → 0 < length bs → lines (take (suc n) bs) ≡ take n bs ∷ []
 one_line [] n e h = absurd (omega arith)
 one_line (b ∷ bs) zero e h = ap (λ t. cond t ([] ∷ []) ((b ∷ []) ∷ [])) (not-true-false (b == 10) (stops is_text b bs e))
 one_line (b ∷ []) (suc n) e h =
-    ap (λ t. lines (b ∷ t)) (take-none (suc n))
+    ap (λ t. lines (b ∷ t)) (take-nil (suc n))
     ∙ ap (λ t. cond t ([] ∷ []) ((b ∷ []) ∷ [])) (not-false-true (b == 10) (goes_on is_text b [] n e).0)
-    ∙ ap (λ t. (b ∷ t) ∷ []) (sym (take-none n))
+    ∙ ap (λ t. (b ∷ t) ∷ []) (sym (take-nil n))
 one_line (b ∷ c ∷ cs) (suc n) e h =
     let on = goes_on is_text b (c ∷ cs) n e in
     ap (λ t. cond t ([] ∷ lines (take (suc n) (c ∷ cs))) (onto_first b (lines (take (suc n) (c ∷ cs))))) (not-false-true (b == 10) on.0)

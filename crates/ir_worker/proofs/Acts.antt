@@ -2,8 +2,7 @@
 use Rattle.std.proofs.Common.{◌≡◌, ◌≢◌, ℕ, ◌<◌, ◌≤◌, List, [], ◌∷◌, slice_get, Option, Some, None, refl, sym, ap, ◌∙◌, subst, arith, ◌⊎◌, inl, inr}
 use Rattle.std.specs.Prelude.{Bool, false, true, not, cond, nat_lt, reverse, ◌==◌}
 use Rattle.std.proofs.lemmas.Grind.{common_steps}
-use Rattle.std.proofs.lemmas.Option.{slice_get_within, none-some}
-use Rattle.std.proofs.lemmas.Bool.{cases_eq}
+use Rattle.std.proofs.lemmas.Option.{slice_get_within}
 use Rattle.std.proofs.Math.Logic.{∥∥₁_elim, ∥∥₁_prop}
 use Rattle.ir_model.specs.declared.Hop.{Hop}
 use Rattle.ir_model.specs.Network.{node_count}
@@ -23,7 +22,7 @@ use Rattle.ir_core.specs.Setting.{Setting, IsPlanFor}
 use Rattle.ir_core.specs.Entry.{judged, judged_here, onward, acted, is_hop, fate_of}
 use Rattle.ir_core.specs.Sound.{IsSound, FateFits, LeadsOn, last_of}
 use Rattle.ir_core.specs.State.{IsBeginning, IsDue, FitsPlace, Ended}
-use Rattle.ir_core.proofs.Walks.{walk_of, prefix, next_hop-away, next_hop-there, last_of-push}
+use Rattle.ir_core.proofs.Walks.{walk_of, prefix, next_hop-away, next_hop-none, last_of-push}
 use Rattle.ir_core.proofs.Verdicts.{Means, judged_means, if_full, judged-if_full}
 use Rattle.ir_core.proofs.Placed.{acted_fits, place_after}
 use Rattle.ir_core.proofs.Segments.{gone, past_in, segments_split}
@@ -98,14 +97,6 @@ left_sound first later r next address k =
     let t = knows (present_stamp first later) in
     journey_sound first later r k.routed (λ is. sound_at t is (present r) st.source_in st.dest_in st.begins st.follows (λ walk w. subst (λ (x : Fate). FateFits t (present r) walk x) (sym k.left) tt))
 
--- elsewhere than at the destination there is a next hop
-home : (t : Scheme) → IsScheme t → (u d : ℕ) → u < node_count t.network → d < node_count t.network → next_hop t u d ≡ None → u ≡ d
-home t is u d u_in d_in none = chosen (cases_eq u d)
-  where
-    chosen : ((u ≡ d) ⊎ (u ≡ d → ⊥)) → u ≡ d
-    chosen (inl e) = e
-    chosen (inr ne) = let h = next_hop-there t is u d u_in d_in ne in absurd (none-some h.0 (sym none ∙ h.1))
-
 -- the node is the last hop of what it sends on
 acted_here : (t : Scheme) (way : Way) (u : ℕ) (g : Journey) (h : Hop) → IsDue t g u way → last_of (acted u way (GoesOn h) g).hops ≡ u
 acted_here t Inbox u g h due = ap last_of due.0
@@ -124,7 +115,7 @@ module _ (first : Stamp) (later : List Stamp) (is : IsScheme (knows (present_sta
   means : Means (knows (present_stamp first later)) (λ _. false) u way r.dest v
   means =
       subst (λ (w : Verdict). Means (knows (present_stamp first later)) (λ _. false) u way r.dest w) (sym e)
-      (judged_means (knows (present_stamp first later)) b (λ _. false) way u (stamp_of r) r.dest (home (knows (present_stamp first later)) is u r.dest u_in st.dest_in))
+      (judged_means (knows (present_stamp first later)) b (λ _. false) way u (stamp_of r) r.dest (next_hop-none (knows (present_stamp first later)) is u r.dest u_in st.dest_in))
 
   fits : (slice_get (acted u way v (present r)).hops 0 ≡ Some (present r).source) × IsBeginning (knows (present_stamp first later)) r.dest (acted u way v (present r)).hops × FitsPlace (knows (present_stamp first later)) (acted u way v (present r)) (place_after v)
   fits =

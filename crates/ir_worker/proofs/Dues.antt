@@ -8,7 +8,7 @@ use Rattle.ir_model.specs.declared.Link.{Link as Edge}
 use Rattle.ir_model.specs.declared.Hop.{Hop}
 use Rattle.ir_model.specs.Network.{Network, IsNetwork, IsLink, Joins, node_count, port_at, ports_of, port_back, restrict}
 use Rattle.ir_model.specs.Scheme.{Scheme, next_hop, IsScheme}
-use Rattle.ir_model.proofs.Restrict.{node_count-restrict, port_at-restrict}
+use Rattle.ir_model.proofs.Restrict.{port_at-restrict}
 use Rattle.ir_core.specs.declared.event.Way.{Way}
 use Rattle.ir_core.specs.declared.event.Way.TheVariants.{Inbox, Link}
 use Rattle.ir_core.specs.Journey.{Journey, present}
@@ -19,6 +19,7 @@ use Rattle.ir_core.proofs.Walks.{port_of, last_of-push}
 use Rattle.ir_epochs.specs.declared.registry.Stamp.{Stamp}
 use Rattle.ir_epochs.specs.Stamps.{knows}
 use Rattle.ir_epochs.specs.Over.{IsOver}
+use Rattle.ir_epochs.proofs.Overs.{over_nodes}
 use Rattle.ir_worker.specs.Seen.{SeenParcel, IsUnderWay, IsNext, IsOfNet, stamps_of, present_stamp, stamp_now}
 use Rattle.ir_worker.specs.Ends.{CameBy}
 use Rattle.ir_worker.proofs.Routes.{split_of, stamps_push}
@@ -33,10 +34,6 @@ no_loop net is u p h at e =
     by_ends : (link : Edge) → link.low < link.high → Joins link u h.node → ⊥
     by_ends link lt (inl j) = let a = j.0 in let b = j.1 in omega arith
     by_ends link lt (inr j) = let a = j.0 in let b = j.1 in omega arith
-
--- the nodes and ports of a network over some links of another are that one's
-pub over_nodes : (net over : Network) → IsOver net over → node_count over ≡ node_count net
-over_nodes net over o = ∥∥₁_elim o (ℕ_set _ _) (λ w. ap node_count w.2 ∙ node_count-restrict w.0 net)
 
 -- the link that leads from the node of a port of u to u is the port's
 over_link : (net over : Network) → IsOver net over → ∥ IsNetwork net ∥₁ → (u j : ℕ) (mine : Hop) → port_at net u j ≡ Some mine → (p : ℕ) (h : Hop) → port_at over mine.node p ≡ Some h → h.node ≡ u → h.link ≡ mine.link

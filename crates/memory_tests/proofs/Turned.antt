@@ -18,16 +18,3 @@ first_turned net count nodes u a b first at same = record {
       subst (λ (m : Node). IsNodeOf net m × (m.index ≡ j)) x.1 (node_back net a b was.0 same, same.index ∙ was.1 ∙ sym x.0)))
       (λ (x : (j ≢ u) × (slice_get nodes j ≡ Some n)). first.each j n x.1) (get_set nodes u j b n got);
 }
-
-pub same_again : (a b c : Node) → IsSameNode a b → IsSameNode b c → IsSameNode a c
-same_again a b c one two = record {
-  index = two.index ∙ one.index;
-  registry = two.registry ∙ one.registry;
-  opening = two.opening ∙ one.opening;
-  restamps = two.restamps ∙ one.restamps;
-  ports = two.ports ∙ one.ports;
-  inbox = two.inbox ∙ one.inbox;
-  ins = two.ins ∙ one.ins;
-  outs = two.outs ∙ one.outs;
-  reader = two.reader ∙ one.reader;
-}

@@ -1,9 +1,9 @@
 use Rattle.std.specs.Prelude.{◌≡◌, ◌<◌, ◌++◌, ◌∷◌, [], Some, None, length, map, slice_index_or}
 use Rattle.std.proofs.Common.{arith, sym, ◌∙◌}
 use Rattle.std.proofs.lemmas.Option.{none-some}
-use Rattle.std.proofs.lemmas.List.{length_push, length-set, length-map, get_or-set_other}
+use Rattle.std.proofs.lemmas.List.{get_or_default, length_push, length-set, length-map, get_or-set_other}
 use Rattle.ir_worker.specs.declared.parcel.Outcome.{Outcome}
-use Rattle.ir_control.proofs.Telling.{or_any, told_more, map_push, same_list}
+use Rattle.ir_control.proofs.Telling.{told_more, map_push, same_list}
 use Rattle.ir_control.proofs.outcomes.told_in_order.Goals as goal
 
 pub unreachable-requires : goal.unreachable-requires
@@ -13,7 +13,7 @@ unreachable-requires c =
     let ok = c.args.slots.ok in
     let lt : c.loop-i.i < length c.args.slots.items = omega (arith, n, e, ok) in
     let f = c.requires.full c.loop-i.i lt in
-    none-some f.0 (sym (sym c.take.ensures.value ∙ c.in_default.is) ∙ c.index_mut.ensures.value ∙ or_any c.loop-i.slots.items c.loop-i.i c.index_mut.result.now None (omega (arith, n, lt)) ∙ c.loop-i.invariant.full c.loop-i.i (omega arith) (omega (arith, n, lt)) ∙ f.1)
+    none-some f.0 (sym (sym c.take.ensures.value ∙ c.in_default.is) ∙ c.index_mut.ensures.value ∙ get_or_default c.loop-i.slots.items c.loop-i.i c.index_mut.result.now None (omega (arith, n, lt)) ∙ c.loop-i.invariant.full c.loop-i.i (omega arith) (omega (arith, n, lt)) ∙ f.1)
 
 pub loop-i-preserved : goal.loop-i-preserved
 loop-i-preserved c =
@@ -23,7 +23,7 @@ loop-i-preserved c =
     let lt : c.loop-i.i < length c.args.slots.items = omega (arith, n, e, ok) in
     let was = c.loop-i.invariant.told in
     let here : slice_index_or c.args.slots.items c.loop-i.i None ≡ Some c.in-Some.outcome =
-    sym (c.loop-i.invariant.full c.loop-i.i (omega arith) (omega (arith, n, lt))) ∙ sym (or_any c.loop-i.slots.items c.loop-i.i c.index_mut.result.now None (omega (arith, n, lt))) ∙ sym c.index_mut.ensures.value ∙ sym c.in-Some.ensures.value in
+    sym (c.loop-i.invariant.full c.loop-i.i (omega arith) (omega (arith, n, lt))) ∙ sym (get_or_default c.loop-i.slots.items c.loop-i.i c.index_mut.result.now None (omega (arith, n, lt))) ∙ sym c.index_mut.ensures.value ∙ sym c.in-Some.ensures.value in
     record {
       count = length-set c.loop-i.slots.items c.loop-i.i c.take.new.self ∙ n;
       full = λ k le less. (let z = length-set c.loop-i.slots.items c.loop-i.i c.take.new.self in

@@ -3,7 +3,8 @@ use Rattle.ir_core.specs.Sound.{last_of}
 use Rattle.ir_model.specs.Network.{node_count}
 use Rattle.ir_epochs.specs.Stamps.{knows}
 use Rattle.ir_worker.specs.Seen.{SeenParcel, present_stamp}
-use Rattle.ir_worker.proofs.Dues.{due_at, over_nodes, now_of_net, same_nodes, restamped_of_net, restamped_last}
+use Rattle.ir_epochs.proofs.Overs.{over_nodes}
+use Rattle.ir_worker.proofs.Dues.{due_at, now_of_net, same_nodes, restamped_of_net, restamped_last}
 use Rattle.ir_worker.proofs.passing.ready.Goals as goal
 
 pub restamp-requires-in-Some-clause-at_in : goal.restamp-requires-in-Some-clause-at_in
