@@ -1,15 +1,10 @@
-//! Worked runs by hand and between threads: of channels, of the registry of plans and of the board; of whole nets; and of
-//! live runs.
+//! Worked runs by hand and between threads: of whole nets; and live runs.
 #![tactic(auto)]
 
 #[cfg(test)]
 mod by_hand;
 #[cfg(test)]
-mod epochs;
-#[cfg(test)]
 mod gates;
-#[cfg(test)]
-mod links;
 #[cfg(test)]
 mod live;
 #[cfg(test)]

@@ -1,4 +1,4 @@
-//! Tests: worked examples through the public calls of the crates below.
+//! Tests: worked examples of graphs, tables, plans and runs through the public calls of the crates below.
 #![tactic(auto)]
 
 #[cfg(test)]
@@ -8,15 +8,11 @@ mod errors;
 #[cfg(test)]
 mod graphs;
 #[cfg(test)]
-mod hostile;
-#[cfg(test)]
 mod networks;
 #[cfg(test)]
 mod numbers;
 #[cfg(test)]
 mod plans;
-#[cfg(test)]
-mod programs;
 #[cfg(test)]
 mod restamps;
 #[cfg(test)]
@@ -24,12 +20,6 @@ mod rings;
 #[cfg(test)]
 mod runs;
 #[cfg(test)]
-mod scripts;
-#[cfg(test)]
-mod streams;
-#[cfg(test)]
 mod tables;
 #[cfg(test)]
 mod texts;
-#[cfg(test)]
-mod traces;

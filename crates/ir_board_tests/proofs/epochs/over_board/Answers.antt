@@ -2,7 +2,7 @@ use Rattle.std.proofs.Common.{sym, subst}
 use Rattle.ir_model.specs.Network.{Network}
 use Rattle.ir_epochs.specs.Over.{IsOver}
 use Rattle.ir_epochs.specs.Stamps.{knows}
-use Rattle.ir_live_tests.proofs.epochs.over_board.Goals as goal
+use Rattle.ir_board_tests.proofs.epochs.over_board.Goals as goal
 
 pub returns : goal.returns
 returns g c = subst (λ (net : Network). IsOver net (knows c.args.stamp.now).network) (sym c.requires.network) c.requires.over

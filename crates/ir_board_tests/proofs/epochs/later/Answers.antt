@@ -4,7 +4,7 @@ use Rattle.ir_model.specs.Scheme.{Scheme}
 use Rattle.ir_epochs.specs.declared.registry.Stamp.{Stamp}
 use Rattle.ir_epochs.specs.Over.{IsOver}
 use Rattle.ir_epochs.specs.Stamps.{knows, IsOf}
-use Rattle.ir_live_tests.proofs.epochs.later.Goals as goal
+use Rattle.ir_board_tests.proofs.epochs.later.Goals as goal
 
 -- what follows for each value follows for one that is there
 if_there : {T : Type 0} (P Q : T → Type 0) → ((x : T) → P x → Q x) → (o : Option T) → IfSome o P → IfSome o Q

@@ -1,5 +1,5 @@
 use Rattle.std.proofs.Common.{◌≡◌}
-use Rattle.ir_live_tests.proofs.links.send_ids.Given as goal
+use Rattle.ir_board_tests.proofs.links.send_ids.Given as goal
 
 abbrev pub invariant-loop-id : goal.invariant-loop-id
 invariant-loop-id g l = l.sender.line ≡ l.fn.sender.line

@@ -1,8 +1,8 @@
 use Rattle.std.proofs.Common.{◌<◌, [], ◌∷◌, subst, arith}
 use Rattle.ir_model.specs.Network.{Network, node_count}
 use Rattle.ir_trace.specs.Written.{AreWritable}
-use Rattle.ir_tests.proofs.Lone.{lone_writable}
-use Rattle.ir_tests.proofs.traces.write_lone.Goals as goal
+use Rattle.ir_text_tests.proofs.Lone.{lone_writable}
+use Rattle.ir_text_tests.proofs.traces.write_lone.Goals as goal
 
 pub write_trace-requires-clause-records : goal.write_trace-requires-clause-records
 write_trace-requires-clause-records g c =
