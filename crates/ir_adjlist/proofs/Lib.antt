@@ -1,5 +1,4 @@
 pub mod Names
-pub mod Refusals
 pub mod Reading
 pub mod Meaning
 pub mod EdgeMeaning

@@ -38,12 +38,6 @@ module _ {X : Type 0} where
       by later true t e = and_from _ _ t (later (omega (arith, e)))
       by later false t e = absurd (omega (arith, e))
 
-  pub list_all-take : (p : X → Bool) (xs : List X) (n : ℕ) → list_all p xs ≡ true → list_all p (take n xs) ≡ true
-  list_all-take p [] zero h = refl
-  list_all-take p [] (suc n) h = refl
-  list_all-take p (x ∷ xs) zero h = refl
-  list_all-take p (x ∷ xs) (suc n) h = let a = and_parts (p x) (list_all p xs) h in and_from _ _ a.0 (list_all-take p xs n a.1)
-
 -- the bytes of the pieces are bytes of the whole, and no blanks
 pieces_all : (q : ℕ → Bool) (bs : List ℕ) → list_all q bs ≡ true → list_all (λ (w : Name). list_all (λ b. q b && not (is_blank b)) w) (pieces is_blank bs) ≡ true
 pieces_all q [] h = refl

@@ -16,7 +16,7 @@ use Rattle.ir_control.specs.Parts.{IsNodeOf, AreNodesOf, node_number}
 use Rattle.ir_control.specs.Places.{offset, way_count}
 use Rattle.ir_control.specs.Reported.{AreAllThere}
 use Rattle.ir_control.specs.Rowed.{AllGet, AreRows, AreSlotsFrom}
-use Rattle.ir_control.specs.Slots.{slot_weight, hit, once, IsAt, AllAt, AllIn}
+use Rattle.ir_control.specs.Slots.{slot_weight, hit, once, AllAt, AllIn}
 use Rattle.ir_control.specs.Wired.{AreEntries}
 use Rattle.ir_control.proofs.Rows.{offset_all, place_of}
 use Rattle.ir_control.proofs.Rowing.{slot_get}
@@ -25,12 +25,6 @@ use Rattle.ir_control.proofs.Sums.{sum_of_none}
 use Rattle.ir_control.proofs.Wiring.{sum_nothing}
 
 module _ {X : Type 0} (slots : List (Option X)) (none : (k : ℕ) → slice_index_or slots k None ≡ None) where
-  pub none_at : (key : X → ℕ) → AllAt key slots
-  none_at key = λ k. subst (IsAt key k) (sym (none k)) tt
-
-  pub none_in : (P : X → Type 0) → AllIn P slots
-  none_in P = λ k x got. absurd (none-some x (sym (none k) ∙ got))
-
   pub none_weigh : (f : X → ℕ) → sum_by (slot_weight f) slots ≡ 0
   none_weigh f = sum_of_none (slot_weight f) slots None (λ k lt. ap (slot_weight f) (none k))
 

@@ -1,16 +1,10 @@
 -- Each outcome goes into the slot of its packet, and is told in order.
 use Rattle.std.specs.Prelude.{◌≡◌, ℕ, suc, ◌+◌, ◌<◌, ◌≤◌, List, [], ◌∷◌, ◌++◌, All, Option, Some, None, length, map, sum_by, slice_index_or}
-use Rattle.std.proofs.Common.{refl, arith, sym, ap, ◌∙◌, subst, ◌⊎◌, inl, inr}
+use Rattle.std.proofs.Common.{refl, arith, sym, ap, ◌∙◌, ◌⊎◌, inl, inr}
 use Rattle.std.proofs.lemmas.Bool.{cases_eq}
 use Rattle.std.proofs.lemmas.List.{length-map, get_or_append_left, get_or_push, map-append}
 use Rattle.std.proofs.lemmas.List.Sums.{sum_by_push, sum_by-cons, sum_by-append}
-use Rattle.std.proofs.lemmas.List.Elements.{All-push, All-nil, All-cons, All-head, All-tail}
-
--- the slots and the rest, with one of the rest in hand
-pub rest_split : {X : Type 0} (f : X → ℕ) (slots before all : ℕ) (items rest : List X) (x : X) → items ≡ rest ++ x ∷ [] → slots + sum_by f items ≡ before + all → slots + (sum_by f rest + f x) ≡ before + all
-rest_split f slots before all items rest x popped was =
-    let e = ap (sum_by f) popped ∙ sum_by_push f rest x in
-    omega (arith, e, was)
+use Rattle.std.proofs.lemmas.List.Elements.{All-nil, All-cons, All-head, All-tail}
 
 -- what was put into the slots is no more in the rest
 pub rest_put : {X : Type 0} (f : X → ℕ) (slots slots_1 before all : ℕ) (items rest : List X) (x : X) → items ≡ rest ++ x ∷ [] → slots + sum_by f items ≡ before + all → slots_1 ≡ slots + f x → slots_1 + sum_by f rest ≡ before + all
@@ -44,9 +38,6 @@ pub part_put : {X : Type 0} (f : X → ℕ) (slots slots_1 before all : ℕ) (it
 part_put f slots slots_1 before all items rest part popped was put =
     let e = ap (sum_by f) popped ∙ sum_by-append f rest part in
     omega (arith, e, was, put)
-
-pub all_back : {X : Type 0} (P : X → Type 0) (items rest : List X) (x : X) → items ≡ rest ++ x ∷ [] → All P rest → P x → All P items
-all_back P items rest x popped all here = subst (All P) (sym popped) (All-push P rest x all here)
 
 -- the first part and the last part of what holds of each
 pub all_first : {X : Type 0} (P : X → Type 0) (xs ys : List X) → All P (xs ++ ys) → All P xs

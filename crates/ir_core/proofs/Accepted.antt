@@ -35,7 +35,7 @@ passed false x rest y e = (refl, e)
 pub same_entry : (x y : Entry) → ◌≡◌ {A = Result Entry Refused} (Ok x) (Ok y) → x ≡ y
 same_entry x y e = cc
 
-not_accepted : (x : Refused) (y : Entry) → ◌≡◌ {A = Result Entry Refused} (Err x) (Ok y) → ⊥
+pub not_accepted : (x : Refused) (y : Entry) → ◌≡◌ {A = Result Entry Refused} (Err x) (Ok y) → ⊥
 not_accepted x y e = cc
 
 within : (u n : ℕ) → not (nat_lt u n) ≡ false → u < n

@@ -26,7 +26,7 @@ use Rattle.ir_core.specs.History as history
 use Rattle.ir_core.specs.Meaning.{IsMade, ComesTo, InstallsUnless, install_refused, installs_made, newest, newest_of, sight_after, with_entry}
 use Rattle.ir_core.specs.State.{State, IsState, sight_in}
 use Rattle.ir_core.specs.Shows.{Shows, AnswersAfter, IsAnswered, reply_to}
-use Rattle.ir_core.proofs.Accepted.{same_entry}
+use Rattle.ir_core.proofs.Accepted.{same_entry, not_accepted}
 use Rattle.ir_core.specs.Installed.{IsTaken, IsControlled, IsControlRun, IsBuiltFrom, AreBuiltFrom, AreInstalls, ControlsOn, IsChange}
 
 built_push : (o : Setting) (installs : List Install) (schemes : List Scheme) (i : Install) (t : Scheme) → AreBuiltFrom o installs schemes → IsBuiltFrom o i t → AreBuiltFrom o (installs ++ i ∷ []) (schemes ++ t ∷ [])
@@ -34,9 +34,6 @@ built_push o [] [] i t b is = (is, tt)
 built_push o [] (s ∷ schemes) i t b is = absurd b
 built_push o (x ∷ installs) [] i t b is = absurd b
 built_push o (x ∷ installs) (s ∷ schemes) i t b is = (b.0, built_push o installs schemes i t b.1 is)
-
-ok_err : (x : Entry) (e : Refused) → ◌≡◌ {A = Result Entry Refused} (Ok x) (Err e) → ⊥
-ok_err x e q = cc
 
 -- the plans after a change of the board
 plans_kept : (o : Setting) (log : List Entry) (a b c : Bool) (x y z : Refused) (board : Board) →
@@ -110,12 +107,12 @@ module _ (s new : State) (kind : Kind) (root : ℕ) (reply : Result Reply Refuse
       InstallsUnless s.opening (sight_after s.opening log) kind root wanted x → ((t : Scheme) → IsMade kind root (restrict (take (links_of s.opening) (newest (sight_after s.opening log)).up) s.opening.network) (Some t) → IsBuiltFrom s.opening i t) →
       AreBuiltFrom s.opening installs (history.plans s.opening log) → AreBuiltFrom s.opening (installs ++ i ∷ []) (history.plans s.opening later)
   built_by log later installs i (Err e) x did is comes from built = cc
-  built_by log later installs i (Ok entry) (Some e) did is comes from built = absurd (ok_err entry e comes)
+  built_by log later installs i (Ok entry) (Some e) did is comes from built = absurd (not_accepted e entry (sym comes))
   built_by log later installs i (Ok entry) None did is comes from built = by_made comes.0 comes.1 comes.2
     where
       by_made : (made : Option Scheme) → IsMade kind root (restrict (take (links_of s.opening) (newest (sight_after s.opening log)).up) s.opening.network) made → Ok entry ≡ installs_made (sight_after s.opening log) made →
           AreBuiltFrom s.opening (installs ++ i ∷ []) (history.plans s.opening later)
-      by_made None m e = absurd (ok_err entry Disconnected e)
+      by_made None m e = absurd (not_accepted Disconnected entry (sym e))
       by_made (Some t) m e =
           let plans = ap (λ (x : List Entry). history.plans s.opening x) is ∙ ap (λ (x : Entry). history.plans s.opening (x ∷ log)) (same_entry entry _ e) in
           subst (λ (schemes : List Scheme). AreBuiltFrom s.opening (installs ++ i ∷ []) schemes) (sym plans) (built_push s.opening installs (history.plans s.opening log) i t built (from t m))
@@ -167,10 +164,6 @@ pub record ControlSo (net : Network) (kind : Kind) (root room most limit : ℕ) 
   pub run : IsControlRun world.opening [] steps log
   pub shows : Shows log world
   pub built : AreBuiltFrom world.opening installs (history.plans world.opening log)
-
-pub control_none : (net : Network) (kind : Kind) (root room most limit : ℕ) (world : State) (installs : List Install) → IsOpenedWith net kind root room most limit world.opening → Shows [] world →
-    AreBuiltFrom world.opening installs (history.plans world.opening []) → ControlSo net kind root room most limit [] world installs
-control_none net kind root room most limit world installs opened shows built = record { opened = opened; log = []; run = refl; shows = shows; built = built }
 
 pub control_more : (net : Network) (kind : Kind) (root room most limit : ℕ) (steps : List Step) (s : Step) (world new : State) (installs more : List Install) → ControlSo net kind root room most limit steps world installs →
     ControlsOn world s installs new more → ControlSo net kind root room most limit (steps ++ s ∷ []) new more

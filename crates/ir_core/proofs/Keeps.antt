@@ -1,4 +1,4 @@
-use Rattle.std.proofs.Common.{◌≡◌, ◌≢◌, ℕ, zero, suc, ◌+◌, ◌-◌, ◌<◌, ◌≤◌, max, List, [], ◌∷◌, ◌++◌, length, drop, slice_get, slice_index, slice_index_or, slice_set, Option, Some, None, refl, sym, ap, ◌∙◌, subst, arith, true, false, Bool, cond, nat_lt, ◌⊎◌, inl, inr}
+use Rattle.std.proofs.Common.{◌≡◌, ◌≢◌, ℕ, zero, suc, ◌+◌, ◌-◌, ◌<◌, ◌≤◌, List, [], ◌∷◌, ◌++◌, length, drop, slice_get, slice_index, slice_index_or, slice_set, Option, Some, None, refl, sym, ap, ◌∙◌, subst, arith, true, false, Bool, cond, nat_lt, ◌⊎◌, inl, inr}
 use Rattle.std.proofs.lemmas.Grind.{common_steps}
 use Rattle.std.proofs.lemmas.List.{length-set, length-append, get_or_push, length_push, get_or_read, get_or_append_left}
 use Rattle.std.proofs.lemmas.Option.{none-some, slice_get_read, get_or_from_slice_get}
@@ -59,25 +59,6 @@ keep_read_place s ok u k u_in k_in = (
     view_of : (v : ℕ) → ((v ≡ u) × (slice_index_or (slice_set s.views u k) v 0 ≡ k)) ⊎ ((v ≢ u) × (slice_index_or (slice_set s.views u k) v 0 ≡ slice_index_or s.views v 0)) → slice_index (slice_set s.views u k) v < length s.boards
     view_of v (inl p) = rw p.1 k_in
     view_of v (inr p) = rw p.1 (ok.views_in v)
-
-pub keep_read : (s : State) → IsState s → (u k : ℕ) → u < nodes_of s.opening → k < length s.boards → IsState (record s { views = slice_set s.views u k })
-keep_read s ok u k u_in k_in = (keep_read_place s ok u k u_in k_in).0
-
-pub keep_learn : (s : State) → IsState s → (e : ℕ) → e ≤ length s.plans → IsState (record s { learnt = max s.learnt e })
-keep_learn s ok e e_in = record {
-  opening = ok.opening;
-  views = ok.views;
-  hands = ok.hands;
-  channels = ok.channels;
-  boards = ok.boards;
-  plans = ok.plans;
-  views_in = ok.views_in;
-  learnt_above = let a = ok.learnt_above in omega arith;
-  learnt_in = let a = ok.learnt_in in omega arith;
-  few_packets = ok.few_packets;
-  place = ok.place;
-  placed = ok.placed;
-}
 
 newest-push : (boards : List Board) (b : Board) → newest_of (boards ++ b ∷ []) ≡ b
 newest-push boards b = rw length_push (get_or_push boards b opening_board (length boards + 1 - 1) (omega arith))
@@ -272,10 +253,6 @@ open_read s now e ok u way stamp dest t b v address d_in t_read b_read labelled 
     let home = (label_back s.opening t plan.1 dest address (omega arith) labelled).1 in
     is ∙ ap (λ (x : ℕ). judged t b (λ _. false) way u stamp x) home ∙ ap (λ (x : Scheme). judged x b (λ _. false) way u stamp dest) t_read
     ∙ ap (λ (x : Board). judged (plan_of now.opening now.plans stamp) x (λ _. false) way u stamp dest) b_read
-
--- a record that the code read, opened
-pub opened_read : (items : List Journey) (id : ℕ) (x r : Journey) → x ≡ slice_index_or items id x → r ≡ x → r ≡ slice_index_or items id r
-opened_read items id x r read is = subst (λ (y : Journey). y ≡ slice_index_or items id y) (sym is) read
 
 -- no hop means the destination
 none_means : (o : Setting) (t : Scheme) (u d : ℕ) → IsPlanFor o t → u < nodes_of o → d < nodes_of o → next_hop t u d ≡ None → u ≡ d

@@ -32,9 +32,6 @@ pub record Ran (net : Network) (kind : Kind) (root room most limit : ℕ) (steps
   pub run : IsRun world.opening [] steps replies log
   pub shows : Shows log world
 
-pub ran_none : (net : Network) (kind : Kind) (root room most limit : ℕ) (world : State) → IsOpenedWith net kind root room most limit world.opening → open_refused net root room most limit ≡ None → Shows [] world → Ran net kind root room most limit [] [] world
-ran_none net kind root room most limit world opened accepted shows = record { opened = opened; accepted = accepted; log = []; run = refl; shows = shows }
-
 pub ran_more : (net : Network) (kind : Kind) (root room most limit : ℕ) (steps : List Step) (replies : List (Result Reply Refused)) (world new : State) (s : Step) (r : Result Reply Refused) →
     Ran net kind root room most limit steps replies world → new.opening ≡ world.opening → ((log : List Entry) → Shows log world → StepsAfter log s r world.opening new) →
     Ran net kind root room most limit (steps ++ s ∷ []) (replies ++ r ∷ []) new

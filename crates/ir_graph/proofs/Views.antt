@@ -145,25 +145,11 @@ length-change_row [] i f = refl
 length-change_row (r ∷ rs) zero f = refl
 length-change_row (r ∷ rs) (suc i) f = ap suc (length-change_row rs i f)
 
-pub names-change_row : (g : Adjacency) (i : ℕ) (f : Neighbors → Neighbors) → names (change_row g i f) ≡ names g
-names-change_row [] i f = refl
-names-change_row (r ∷ rs) zero f = refl
-names-change_row (r ∷ rs) (suc i) f = ap (λ t. r.0 ∷ t) (names-change_row rs i f)
-
 -- a change that does nothing to the row
 pub change_row-same : (g : Adjacency) (i : ℕ) (f : Neighbors → Neighbors) → IfSome (slice_get g i) (λ r. f r.1 ≡ r.1) → change_row g i f ≡ g
 change_row-same [] i f h = refl
 change_row-same (r ∷ rs) zero f h = ap (λ es. (r.0, es) ∷ rs) h
 change_row-same (r ∷ rs) (suc i) f h = ap (λ t. r ∷ t) (change_row-same rs i f h)
-
--- a new neighbour goes last
-pub put-new : (es : Neighbors) (y : Name) (w : ℕ) → lookup (bytes_eq y) es ≡ None → put es y w ≡ es ++ (y, w) ∷ []
-put-new [] y w h = refl
-put-new (e ∷ es) y w h = by (put-new es y w) (bytes_eq y e.0) h
-  where
-    by : (lookup (bytes_eq y) es ≡ None → put es y w ≡ es ++ (y, w) ∷ []) → (b : Bool) → cond b (Some e.1) (lookup (bytes_eq y) es) ≡ None → cond b ((e.0, w) ∷ es) (e ∷ put es y w) ≡ e ∷ (es ++ (y, w) ∷ [])
-    by later true h = absurd (none-some e.1 (sym h))
-    by later false h = ap (λ t. e ∷ t) (later h)
 
 pub without-put : (es : Neighbors) (y : Name) (w : ℕ) → lookup (bytes_eq y) es ≡ None → without (put es y w) y ≡ es
 without-put [] y w h = ap (λ b. cond {A = Neighbors} (not b) ((y, w) ∷ []) []) (bytes_eq-same y)

@@ -84,15 +84,6 @@ pub record IsBestBelow (n own : ℕ) (may : ℕ → ℕ → Type 0) (m a count p
   pub low : port ≤ m
 
 module _ (n own : ℕ) (may : ℕ → ℕ → Type 0) where
-  pub best_none : (a : ℕ) → IsBestBelow n own may 0 a 0 0
-  best_none a = record {
-    within = omega arith;
-    serves = λ i l off. absurd (omega arith);
-    longest = λ q t l. absurd (omega arith);
-    least = λ q l. absurd (omega arith);
-    low = omega arith;
-  }
-
   pub best_more : (m a c p r count port : ℕ) (row : List Bool) → IsBestBelow n own may m a c p → IsRowRun n own row a r
       → ((d : ℕ) → may d m ↔ Marks row d) → IsBetter r m c p count port → IsBestBelow n own may (m + 1) a count port
   best_more m a c p r count port row best run is better =

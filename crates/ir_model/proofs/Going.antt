@@ -1,5 +1,5 @@
 -- Going round the labels, one after the other.
-use Rattle.std.proofs.Common.{◌≡◌, ℕ, zero, suc, ◌+◌, ◌-◌, ◌<◌, ◌≤◌, ◌≢◌, ap, sym, ◌∙◌, inl, inr, ◌⊎◌, arith}
+use Rattle.std.proofs.Common.{◌≡◌, ℕ, zero, suc, ◌+◌, ◌-◌, ◌<◌, ◌≤◌, ◌≢◌, ap, ◌∙◌, inl, inr, ◌⊎◌, arith}
 use Rattle.std.proofs.lemmas.Bool.{cases_eq, cases_lt}
 use Rattle.std.proofs.lemmas.Bool.Decides.{nat_tests}
 use Rattle.ir_model.specs.Interval.{InInterval}
@@ -52,13 +52,6 @@ from_differs n s i j h l b = λ e.
     elim (from_where n s i h (omega arith)) [
       | inl v ↦ elim (from_where n s j h (omega arith)) [ inl w ↦ omega (arith, v.0, v.1, w.0, w.1, e) | inr w ↦ omega (arith, v.0, v.1, w.0, w.1, e) ]
       | inr v ↦ elim (from_where n s j h (omega arith)) [ inl w ↦ omega (arith, v.0, v.1, w.0, w.1, e) | inr w ↦ omega (arith, v.0, v.1, w.0, w.1, e) ]
-    ]
-
-pub from_same : (n s i j : ℕ) → s < n → i < n → j < n → label_from n s i ≡ label_from n s j → i ≡ j
-from_same n s i j h a b e =
-    elim (cases_eq i j) [
-      | inl f ↦ f
-      | inr ne ↦ elim (cases_lt i j) [ inl l ↦ absurd (from_differs n s i j h l b e) | inr g ↦ absurd (from_differs n s j i h (omega arith) a (sym e)) ]
     ]
 
 -- the place where a label comes

@@ -1,18 +1,17 @@
 -- The scheme of numbers and rows stands for the full table that the rows were compiled from.
 use Rattle.std.proofs.Common.{◌≡◌, ◌≢◌, ℕ, suc, ◌*◌, ◌<◌, ◌≤◌, zero-add, List, [], ◌∷◌, length, map, Option, Some, None, get_or, refl, ap, sym, ◌∙◌, subst, inl, inr, arith}
-use Rattle.std.specs.Prelude.{slice_index, slice_index_or, IsSome, option_map, option_and_then, sum_by, All}
+use Rattle.std.specs.Prelude.{slice_index, slice_index_or, IsSome, sum_by, All}
 use Rattle.std.specs.List.{range_with_len}
 use Rattle.std.proofs.lemmas.Bool.{cases_eq, eq-eqb, ne_eqb}
 use Rattle.std.proofs.lemmas.List.{get_or-map, length-map, get_or_default}
 use Rattle.std.proofs.lemmas.List.Elements.{Contains-get_or}
 use Rattle.std.proofs.lemmas.List.Sums.{sum_by-le}
 use Rattle.std.proofs.lemmas.List.FromFn.{get_or-map-range_with_len, get_or-range_with_len, length-range_with_len}
-use Rattle.ir_model.specs.declared.Hop.{Hop}
 use Rattle.ir_model.specs.declared.Kind.{Kind}
 use Rattle.ir_model.specs.declared.Kind.TheVariants.{Tree, Shortest, Compact}
-use Rattle.ir_model.specs.Network.{Network, IsNetwork, node_count, port_at}
+use Rattle.ir_model.specs.Network.{Network, IsNetwork, node_count}
 use Rattle.ir_model.specs.Walk.{IsConnected}
-use Rattle.ir_model.specs.Table.{IsPrescribedWalk, Continues, next_node}
+use Rattle.ir_model.specs.Table.{IsPrescribedWalk}
 use Rattle.ir_model.specs.Numbering.{IsDepthFirst, neighbors_of}
 use Rattle.ir_model.specs.Row.{Start, labels as start_labels, intervals_of}
 use Rattle.ir_model.specs.Choices.{AreChosen}
@@ -24,7 +23,7 @@ use Rattle.ir_model.proofs.Fewest.{canonical_is_fewest}
 use Rattle.ir_model.proofs.Pigeonhole.{length-le_from_places}
 use Rattle.ir_model.proofs.Rows.{rises}
 use Rattle.ir_model.proofs.Round.{start_is_label}
-use Rattle.ir_tables.proofs.Ways.{next_in}
+use Rattle.ir_tables.proofs.Ways.{continues_agree}
 use Rattle.ir_plan.specs.Shown.{row_port, shown_port, shown_table, scheme_with, AreRows, IsFull}
 use Rattle.ir_plan.proofs.RowPorts.{shown_fits, shown_some}
 
@@ -73,17 +72,10 @@ module _ (n : ℕ) (order labels : List ℕ) (table : ℕ → ℕ → Option ℕ
       ]
 
 -- tables that agree on the nodes prescribe the same walks
-same_way : (net : Network) → IsNetwork net → (t s : ℕ → ℕ → Option ℕ) (d : ℕ) → ((x : ℕ) → x < node_count net → s x d ≡ t x d)
-    → (x : ℕ) → x < node_count net → (rest : List ℕ) → Continues net t d x rest → Continues net s d x rest
-same_way net ok t s d same x hx [] way = way
-same_way net ok t s d same x hx (y ∷ rest) way =
-    let next : next_node net s x d ≡ Some y = ap (λ (o : Option ℕ). option_and_then (λ p. option_map (λ (hop : Hop). hop.node) (port_at net x p)) o) (same x hx) ∙ way.1 in
-    (way.0, next, same_way net ok t s d same y (next_in net ok t x d y way.1) rest way.2)
-
 pub same_walk : (net : Network) → IsNetwork net → (t s : ℕ → ℕ → Option ℕ) (d : ℕ) → ((x : ℕ) → x < node_count net → s x d ≡ t x d)
     → (u : ℕ) → u < node_count net → (walk : List ℕ) → IsPrescribedWalk net t u d walk → IsPrescribedWalk net s u d walk
 same_walk net ok t s d same u hu [] is = is
-same_walk net ok t s d same u hu (x ∷ rest) is = (is.0, same_way net ok t s d same u hu rest is.1)
+same_walk net ok t s d same u hu (x ∷ rest) is = (is.0, continues_agree net ok t s d (λ x hx. sym (same x hx)) u hu rest is.1)
 
 -- maps by functions that agree on the list's numbers
 map_same : (n : ℕ) (f g : ℕ → Option ℕ) → ((x : ℕ) → x < n → f x ≡ g x) → (xs : List ℕ) → ((k : ℕ) → k < length xs → get_or xs k 0 < n) → map f xs ≡ map g xs

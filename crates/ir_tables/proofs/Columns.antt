@@ -1,16 +1,14 @@
 -- A table made of columns.
-use Rattle.std.proofs.Common.{◌≡◌, ℕ, ◌+◌, ◌<◌, ◌≤◌, List, [], ◌∷◌, ◌++◌, length, map, Option, Some, refl, ap, sym, subst, ◌∙◌, arith, ⊎_elim, slice_index_or}
+use Rattle.std.proofs.Common.{◌≡◌, ℕ, ◌+◌, ◌<◌, ◌≤◌, List, [], ◌∷◌, ◌++◌, length, map, Option, refl, sym, subst, ◌∙◌, arith, ⊎_elim, slice_index_or}
 use Rattle.std.proofs.lemmas.List.{get_or-map, length-map, get_or_append_left, get_or_push}
 use Rattle.std.proofs.lemmas.Bool.{cases_lt}
-use Rattle.ir_model.specs.Network.{Network, node_count, port_at, IsNetwork}
-use Rattle.std.specs.Prelude.{option_map, option_and_then}
-use Rattle.ir_model.specs.declared.Hop.{Hop}
+use Rattle.ir_model.specs.Network.{Network, node_count, IsNetwork}
 use Rattle.ir_model.specs.Walk.{IsConnected}
-use Rattle.ir_model.specs.Table.{FullTable, table_size, port_in, weight_in, IsSquare, IsShortest, IsRouted, next_node, Continues}
+use Rattle.ir_model.specs.Table.{FullTable, table_size, port_in, weight_in, IsSquare, IsShortest, IsRouted}
 use Rattle.ir_tables.specs.declared.table.Column.{Column}
 use Rattle.ir_tables.specs.Relaxation.{IsColumn}
 use Rattle.ir_tables.specs.Listed.{listed_port, IsPortList, IsListed, IsWay, IsListedColumn}
-use Rattle.ir_tables.proofs.Ways.{continues_short, next_in}
+use Rattle.ir_tables.proofs.Ways.{continues_agree, continues_short}
 
 -- the full table of its columns
 abbrev pub of_columns : List Column → FullTable
@@ -107,14 +105,6 @@ listed_table net list cols are = record {
   size = size_of_columns cols ∙ are.len;
   held = λ u d u_in d_in. (listed_of net list cols are d (omega (arith, are.len))).held u u_in;
 }
-
--- tables that agree at the nodes go on alike
-continues_agree : (net : Network) → IsNetwork net → (table other : ℕ → ℕ → Option ℕ) (d : ℕ) → ((x : ℕ) → x < node_count net → table x d ≡ other x d)
-    → (x : ℕ) → x < node_count net → (rest : List ℕ) → Continues net table d x rest → Continues net other d x rest
-continues_agree net ok table other d agree x x_in [] way = way
-continues_agree net ok table other d agree x x_in (y ∷ rest) way =
-    let next : next_node net other x d ≡ Some y = ap (λ o. option_and_then (λ p. option_map (λ (hop : Hop). hop.node) (port_at net x p)) o) (sym (agree x x_in)) ∙ way.1 in
-    (way.0, next, continues_agree net ok table other d agree y (next_in net ok table x d y way.1) rest way.2)
 
 pub listed_routed : (net : Network) → IsNetwork net → (list : List (Option ℕ)) (cols : List Column) → IsPortList net list → AreListed net list cols → IsRouted net (of_columns cols)
 listed_routed net ok list cols is are =

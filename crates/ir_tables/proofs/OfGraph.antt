@@ -1,5 +1,5 @@
 -- The network of a graph is that of its neighbours by number.
-use Rattle.std.proofs.Common.{◌≡◌, ◌≢◌, ℕ, zero, suc, ◌+◌, ◌<◌, ◌≤◌, ◌==◌, ◌||◌, ◌&&◌, min, max, Bool, true, false, not, cond, List, [], ◌∷◌, ◌++◌, length, map, filter, Option, Some, None, option_map, refl, ap, sym, subst, ◌∙◌, arith, get_or, slice_get, slice_index_or, take, drop, append-nil, add-one, drop-cons, ltb, nat_lt, leb, ⊎_elim, bytes_eq}
+use Rattle.std.proofs.Common.{◌≡◌, ◌≢◌, ℕ, zero, suc, ◌+◌, ◌<◌, ◌≤◌, ◌==◌, ◌||◌, ◌&&◌, min, max, Bool, true, false, not, cond, List, [], ◌∷◌, ◌++◌, length, map, filter, Option, Some, None, option_map, refl, ap, sym, subst, ◌∙◌, arith, get_or, slice_get, slice_index_or, take, append-nil, ltb, nat_lt, leb, ⊎_elim, bytes_eq}
 use Rattle.std.specs.Option.{option_map_or}
 use Rattle.std.specs.List.{position_or_len, list_all, IsDistinct}
 use Rattle.std.specs.Map.{keys_of}
@@ -74,9 +74,6 @@ module _ (g : Adjacency) (graph : IsGraph g) where
 
   link_here : (a u b w : ℕ) → a ≡ u → u < b → ◌≡◌ {A = Link} (record { low = min a b; high = max a b; weight = w }) (record { low = u; high = b; weight = w })
   link_here a u b w e lt = let low : min a b ≡ u = omega arith in let high : max a b ≡ b = omega arith in rw (low, high) refl
-
-  edge_to : Name → Name × ℕ → Pair
-  edge_to x e = (x, e.0, e.1)
 
   -- the links from a row
   row_links : (walked : List Name) (u : ℕ) (x : Name) → slice_get (names g) u ≡ Some x → ((y : Name) → among walked y ≡ nat_lt (place_of g y) u) → (es : Neighbors)
@@ -276,13 +273,6 @@ row_of_node g u = row_at g g u
 
 pub length_rows : (g : Adjacency) → length (rows_of g) ≡ length g
 length_rows g = length-map g (λ (r : Name × Neighbors). row_numbers g r.1)
-
--- the row of a node among the rows that are left
-pub rows_more : (g : Adjacency) (u : ℕ) → u < length g → drop u (rows_of g) ≡ row_numbers g (neighbors_at g u) ∷ drop (u + 1) (rows_of g)
-rows_more g u lt =
-    let len : length (rows_of g) ≡ length g = length-map g (λ (r : Name × Neighbors). row_numbers g r.1) in
-    let within : u < length (rows_of g) = omega arith in
-    rw (add-one, drop-cons (rows_of g) u [] within) (ap (λ (x : Numbers). x ∷ drop (suc u) (rows_of g)) (row_at g g u))
 
 -- the ports of one more node
 pub ports_step : (g : Adjacency) (links : List Link) (u : ℕ) → u < length g

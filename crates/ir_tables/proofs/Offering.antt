@@ -25,9 +25,6 @@ contains_tail e z es has ne = go has.0 has.1 has.2
     go zero lt is = absurd (ne (sym is))
     go (suc k) lt is = (k, omega (arith, lt), is)
 
-contains_none : (z : Entry) → Contains [] z → ⊥
-contains_none z has = omega (arith, has.1)
-
 all_cons : (P : Entry → Type 0) (e : Entry) (es : List Entry) → P e → All P es → All P (e ∷ es)
 all_cons P e es here rest zero d lt = here
 all_cons P e es here rest (suc k) d lt = rest k d (omega (arith, lt))

@@ -1,8 +1,7 @@
 -- The walks that a list of ports prescribes.
-use Rattle.std.proofs.Common.{◌≡◌, ◌≢◌, ℕ, suc, ◌+◌, ◌-◌, ◌*◌, ◌<◌, ◌≤◌, true, false, List, [], ◌∷◌, length, Option, Some, None, refl, ap, sym, subst, ◌∙◌, arith, eqb, set, replicate, length-set, get_or-set_same, get_or-set_other, ⊎_elim}
+use Rattle.std.proofs.Common.{◌≡◌, ◌≢◌, ℕ, suc, ◌+◌, ◌-◌, ◌*◌, ◌<◌, ◌≤◌, true, false, List, [], ◌∷◌, length, Option, Some, None, refl, ap, sym, subst, ◌∙◌, arith, eqb, set, length-set, get_or-set_same, get_or-set_other, ⊎_elim}
 use Rattle.std.specs.Prelude.{option_map, option_and_then}
 use Rattle.std.specs.List.{AllByRecursion, IsDistinct, list_any}
-use Rattle.std.proofs.lemmas.List.{get_or-replicate, length-replicate}
 use Rattle.std.proofs.lemmas.Bool.{cases_eq, eqb-true, ne_eqb, or_cases}
 use Rattle.std.proofs.lemmas.Map.Steps.{length-le_from_distinct_below}
 use Rattle.ir_model.specs.declared.TheConstants.{MAX_NODES, MAX_WEIGHT}
@@ -50,6 +49,14 @@ pub next_in : (net : Network) → IsNetwork net → (table : ℕ → ℕ → Opt
 next_in net ok table x d y e =
     let next = next_of net table x d y e in
     omega (arith, (port_facts net ok x next.1.port next.0 next.1.there).to, next.2)
+
+-- tables that agree at the nodes go on alike
+pub continues_agree : (net : Network) → IsNetwork net → (table other : ℕ → ℕ → Option ℕ) (d : ℕ) → ((x : ℕ) → x < node_count net → table x d ≡ other x d)
+    → (x : ℕ) → x < node_count net → (rest : List ℕ) → Continues net table d x rest → Continues net other d x rest
+continues_agree net ok table other d agree x x_in [] way = way
+continues_agree net ok table other d agree x x_in (y ∷ rest) way =
+    let next : next_node net other x d ≡ Some y = ap (λ o. option_and_then (λ p. option_map (λ (hop : Hop). hop.node) (port_at net x p)) o) (sym (agree x x_in)) ∙ way.1 in
+    (way.0, next, continues_agree net ok table other d agree y (next_in net ok table x d y way.1) rest way.2)
 
 -- what a way from x goes on with: nothing at d, and else the next node
 way_step : (net : Network) → IsNetwork net → (table : ℕ → ℕ → Option ℕ) (d x weight : ℕ) (hop : Hop) → x ≢ d → IsNext net table x d hop → (rest : List ℕ) → Continues net table d x rest → weight_from net x rest ≡ weight
@@ -220,11 +227,6 @@ pub record IsWritten (net : Network) (table : ℕ → ℕ → Option ℕ) (d u x
   pub known : 0 < step → at weights u < unreached
   pub keeps : (v : ℕ) → at old v < unreached → at weights v < unreached
 
-pub written_known : (net : Network) (table : ℕ → ℕ → Option ℕ) (d u x left step : ℕ) (old weights : List ℕ) → IsWritten net table d u x left step old weights → at weights x < unreached → at weights u < unreached
-written_known net table d u x left step old weights so_far below =
-    ⊎_elim (λ (none : step ≡ 0). let P : ℕ → Type 0 = λ k. at weights k < unreached in subst P (so_far.first none) below)
-    (λ (some : step ≢ 0). so_far.known (omega arith)) (cases_eq step 0)
-
 pub written_step : (net : Network) → IsNetwork net → (table : ℕ → ℕ → Option ℕ) (d u x left step : ℕ) (old weights : List ℕ) (hop : Hop) → d < node_count net → IsWritten net table d u x left step old weights
     → at weights x ≡ unreached → x ≢ d → IsNext net table x d hop
     → IsWritten net table d u hop.node (left - hop.weight) (step + 1) old (set weights x left)
@@ -253,23 +255,6 @@ written_step net ok table d u x left step old weights hop d_in so_far new other 
       known = λ _. ⊎_elim (λ (none : step ≡ 0). let P : ℕ → Type 0 = λ k. at (set weights x left) k < unreached in subst P (so_far.first none) below)
           (λ (some : step ≢ 0). still u (so_far.known (omega arith))) (cases_eq step 0);
       keeps = λ v lt. still v (so_far.keeps v lt);
-    }
-
--- before any walk is written
-pub filled_start : (net : Network) (table : ℕ → ℕ → Option ℕ) (d : ℕ) → d < node_count net → IsFilled net table d (set (replicate (node_count net) unreached) d 0)
-filled_start net table d d_in =
-    let blank : List ℕ = replicate (node_count net) unreached in
-    let len : length blank ≡ node_count net = length-replicate (node_count net) unreached in
-    let here : at (set blank d 0) d ≡ 0 = get_or-set_same blank d 0 0 (omega arith) in
-    record {
-      len = length-set blank d 0 ∙ len;
-      end = here;
-      ways = λ x x_in lt. ⊎_elim
-          (λ (e : x ≡ d). let P : ℕ → Type 0 = λ k. IsWay net table d k (at (set blank d 0) k) in let Q : ℕ → Type 0 = λ w. IsWay net table d d w in
-          subst P (sym e) (subst Q (sym here) (record { rest = []; continues = refl; weighs = refl })))
-          (λ (ne : x ≢ d). let same : at (set blank d 0) x ≡ at blank x = get_or-set_other blank d x 0 0 ne in
-          let far : at blank x ≡ unreached = get_or-replicate (node_count net) x unreached 0 x_in in absurd (omega (arith, same, far, lt)))
-          (cases_eq x d);
     }
 
 -- ---- whether a list is one
@@ -326,9 +311,3 @@ followed_lost net table d u x step so_far other at walk =
     by : (rest : List ℕ) → Continues net table d x rest → ⊥
     by [] way = other way
     by (y ∷ rest) way = let next = next_of net table x d y way.1 in let there : hop_in net table x d ≡ Some next.0 = rw (next.1.held, next.1.there) refl in cc (there, at)
-
--- and none after as many steps as there are nodes
-pub followed_long : (net : Network) (table : ℕ → ℕ → Option ℕ) (d u x step : ℕ) → IsFollowed net table d u x step → node_count net ≤ step → HasWalk net table u d → ⊥
-followed_long net table d u x step so_far ge walk =
-    let all = walk_rest net table d u walk in
-    omega (arith, (so_far.goes all.0 all.1).1, ge)

@@ -1,5 +1,5 @@
 -- The lines of the two parts of an input.
-use Rattle.std.proofs.Common.{◌≡◌, ◌<◌, ◌≤◌, ◌+◌, ℕ, zero, suc, Bool, true, false, not, cond, List, [], ◌∷◌, ◌++◌, length, take, drop, refl, sym, ap, ◌∙◌, arith, ◌==◌, append_assoc}
+use Rattle.std.proofs.Common.{◌≡◌, ◌<◌, ◌≤◌, ◌+◌, ℕ, zero, suc, Bool, true, false, not, cond, List, [], ◌∷◌, ◌++◌, length, take, drop, sym, ap, ◌∙◌, arith, ◌==◌, append_assoc}
 use Rattle.std.proofs.lemmas.List.{append-nil, take_all, drop_all, drop-drop, length-drop}
 use Rattle.std.proofs.Math.Seq.{take-add, take-nil}
 use Rattle.std.specs.List.{prefix_len}
@@ -37,9 +37,6 @@ pub record IsBefore (input : List ℕ) (at : ℕ) : Type 0 where
   pub whole : at < length input → (tail : List ℕ) → lines (take at input ++ tail) ≡ lines (take at input) ++ lines tail
   pub topology : topology_part (lines input) ≡ lines (take at input) ++ topology_part (lines (drop at input))
   pub script : script_part (lines input) ≡ script_part (lines (drop at input))
-
-pub before_first : (input : List ℕ) → IsBefore input 0
-before_first input = record { whole = λ h tail. refl; topology = refl; script = refl }
 
 module _ (input : List ℕ) (at n : ℕ) (before : IsBefore input at) (in_input : at < length input) (len : prefix_len is_text (drop at input) ≡ n) where
   some_left : 0 < length (drop at input)

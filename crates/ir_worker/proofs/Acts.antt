@@ -153,9 +153,6 @@ module _ (first : Stamp) (later : List Stamp) (is : IsScheme (knows (present_sta
   acted_last h g =
       sym (last_present (stamps_of first later) (acted u way v r) routed) ∙ ap (λ (x : Journey). last_of x.hops) (now ∙ ap (λ (w : Verdict). acted u way w (present r)) g) ∙ acted_here (knows (present_stamp first later)) way u (present r) h due
 
-  pub acted_table : (h : Hop) → v ≡ GoesOn h → next_hop (knows (present_stamp first later)) u r.dest ≡ Some h
-  acted_table h g = (let m : Means (knows (present_stamp first later)) (λ _. false) u way r.dest (GoesOn h) = subst (λ (w : Verdict). Means (knows (present_stamp first later)) (λ _. false) u way r.dest w) g means in m).0
-
 -- what is known of a parcel when a node has judged it
 abbrev pub IsJudged : Board → Way → ℕ → Verdict → SeenParcel → Type 0
 IsJudged b way u v p =
@@ -175,21 +172,8 @@ module _ (b : Board) (way : Way) (u : ℕ) (p : SeenParcel) (first : Stamp) (lat
       subst (λ (x : Journey). LeadsOn (knows (present_stamp first later)) (present x) h.link h.node) (sym w) (acted_leads first later inside.0 b way u inside.1 r next address k inside.2 v inside.3 h g) in
       subst (λ (x : SeenParcel). LeadsOn (knows (stamp_now x)) (present r') h.link h.node) view there
 
-  pub on_as : (h : Hop) → v ≡ GoesOn h → GoesOnAs b way u p h (record { journey = r'; first = first; later = later; next = h.node })
-  on_as h g = subst (λ (x : SeenParcel). GoesOnAs b way u x h (record { journey = r'; first = first; later = later; next = h.node })) view (record {
-    verdict = sym inside.3 ∙ g;
-    journey = w ∙ ap (λ (x : Verdict). acted u way x r) g;
-    first = refl;
-    later = refl;
-    next = refl;
-  })
-
   pub on_here : (h : Hop) → v ≡ GoesOn h → last_of r'.hops ≡ u
   on_here h g = ap (λ (x : Journey). last_of x.hops) w ∙ acted_last first later inside.0 b way u inside.1 r next address k inside.2 v inside.3 h g
-
-  pub on_table : (h : Hop) → v ≡ GoesOn h → next_hop (knows (stamp_now p)) u p.journey.dest ≡ Some h
-  on_table h g =
-      subst (λ (x : SeenParcel). next_hop (knows (stamp_now x)) u x.journey.dest ≡ Some h) view (acted_table first later inside.0 b way u inside.1 r next address k inside.2 v inside.3 h g)
 
   pub on_sound : ∥ IsSoundJourney (stamps_of first later) r' ∥₁
   on_sound = subst (λ (x : Journey). ∥ IsSoundJourney (stamps_of first later) x ∥₁) (sym w) (acted_sound first later inside.0 b way u inside.1 r next address k inside.2 v inside.3)

@@ -21,7 +21,7 @@ use Rattle.ir_core.proofs.Segments.{gone, past_in, present_gone, segments_gone, 
 use Rattle.ir_core.proofs.Routed.{front_of, new_hops, here_is, places_front, restamped_is, most}
 use Rattle.ir_epochs.specs.declared.registry.Stamp.{Stamp}
 use Rattle.ir_epochs.specs.Stamps.{knows}
-use Rattle.ir_worker.specs.Seen.{SeenParcel, stamp_in, stamps_of, present_stamp, EachBy, IsStretch, IsRouted, IsNext, IsUnderWay, IsKept}
+use Rattle.ir_worker.specs.Seen.{SeenParcel, stamp_in, stamps_of, present_stamp, EachBy, IsStretch, IsRouted, IsNext, IsKept}
 
 -- the stamps before the present one
 abbrev pub earlier_in : List Stamp → Stamp → List Stamp
@@ -64,12 +64,6 @@ last_in (s ∷ older) r k = last_drop s.from r.hops k.0
 pub last_present : (stamps : List Stamp) (r : Journey) → IsRouted stamps r → last_of (present r).hops ≡ last_of r.hops
 last_present stamps r k = last_in (reverse r.restamps) r k.places
 
--- the present segment is under way
-pub under_way : (first : Stamp) (later : List Stamp) (r : Journey) (next address : ℕ) → IsKept first later r next address → IsUnderWay (knows (present_stamp first later)) (present r) next
-under_way first later r next address k =
-    let st = (split_routed first later r k.routed).0 in
-    record { source_in = st.source_in; dest_in = st.dest_in; few = st.few; begins = st.begins; follows = st.follows; goes = k.goes; left = k.left }
-
 -- one more hop or none, which the table of the present stamp allows, and another fate
 pub routed_gone : (first : Stamp) (later : List Stamp) (r : Journey) (b : Bool) (u : ℕ) (fate : Fate) → IsRouted (stamps_of first later) r → slice_get (gone b u fate (present r)).hops 0 ≡ Some (present r).source →
     IsBeginning (knows (present_stamp first later)) r.dest (gone b u fate (present r)).hops → IsRouted (stamps_of first later) (gone b u fate r)
@@ -109,11 +103,6 @@ retired_here first later u (Link l) r is k due new =
 module _ (first : Stamp) (later : List Stamp) (s : Stamp) (u : ℕ) (way : Way) (r : Journey) (is : ∥ IsScheme (knows (present_stamp first later)) ∥₁) (k : IsRouted (stamps_of first later) r)
     (u_in : u < node_count (knows s).network) (nodes : node_count (knows s).network ≡ node_count (knows (present_stamp first later)).network)
     (due : IsDue (knows (present_stamp first later)) (present r) u way) (new : IsNew r (InHand u way)) (above : stamp_of r < s.epoch) (left : length r.restamps < MAX_RESTAMPS) where
-  front : List ℕ
-  front = front_of way r.hops
-
-  mark : Restamp
-  mark = record { epoch = s.epoch; from = length (front_of way r.hops) }
 
   same : restamped u way s.epoch r ≡ stamped u (front_of way r.hops) (record { epoch = s.epoch; from = length (front_of way r.hops) }) r
   same = restamped_is u s.epoch way r (here_is (knows (present_stamp first later)) u way r due new)

@@ -108,7 +108,7 @@ fn answered(turn: Turn, wanted: Turn) -> Result<(), &'static str> {
 }
 
 /// A turn of a node, which answers this; again, where there was no memory, for then nothing was polled.
-#[tactic(auto, using(crate::proofs::Turned::same_again))]
+#[tactic(auto, using(ir_worker::proofs::Serves::same_then))]
 fn turn<R: Wait>(rt: &R, node: &mut Node, wanted: Turn) -> Result<(), &'static str>
     ensures { IsSameNode node.old node.new }
 {
