@@ -4,6 +4,7 @@ use Rattle.std.proofs.lemmas.List.{length-set, length-append, get_or_push, lengt
 use Rattle.std.proofs.lemmas.Option.{none-some, slice_get_read, get_or_from_slice_get}
 use Rattle.ir_model.specs.declared.Hop.{Hop}
 use Rattle.ir_model.specs.Scheme.{Scheme, next_hop, label_in, node_in}
+use Rattle.ir_model.proofs.Graphs.{none_from_is_some}
 use Rattle.std.specs.List.{AllByRecursion}
 use Rattle.ir_core.specs.declared.TheConstants.{MAX_NODES, MAX_CHANGES, MAX_EPOCHS, MAX_RESTAMPS, MAX_HOPS}
 use Rattle.ir_core.specs.declared.packet.Fate.TheVariants.{Retired}
@@ -139,10 +140,6 @@ keep_inject s ok source dest s_in d_in room = record {
 pub newest_known : (s now : State) → s ≡ now → (b : Board) → b ≡ newest_of now.boards → b ≡ newest_of s.boards
 newest_known s now e b n = n ∙ ap (λ (x : State). newest_of x.boards) (sym e)
 
-not_some : {X : Type 0} (x : Option X) → is_some x ≡ false → x ≡ None
-not_some None e = refl
-not_some (Some y) e = cc
-
 -- the same as keep_take, from what the code read
 pub keep_take_at : (s : State) → IsState s → (u : ℕ) (way : Way) (c id : ℕ) (seen was now : List ℕ) → u < (nodes_of s.opening) → Some c ≡ channel_of s.opening u way →
     seen ≡ slice_index_or s.channels c seen → Some id ≡ slice_get seen 0 → was ≡ slice_index_or s.channels c was → now ≡ drop 1 was → (hand : Option Held) → hand ≡ slice_index_or s.hands u hand → is_some hand ≡ false →
@@ -152,7 +149,7 @@ keep_take_at s ok u way c id seen was now u_in there read first read_again left 
     let lt : c < length s.channels = omega (arith, ok.channels) in
     let held : seen ≡ slice_index_or s.channels c [] = get_or_read s.channels c seen lt read [] in
     let again : was ≡ slice_index_or s.channels c [] = get_or_read s.channels c was lt read_again [] in
-    let empty : slice_index_or s.hands u None ≡ None = sym (get_or_read s.hands u hand (omega (arith, ok.hands)) hand_is None) ∙ not_some hand none in
+    let empty : slice_index_or s.hands u None ≡ None = sym (get_or_read s.hands u hand (omega (arith, ok.hands)) hand_is None) ∙ none_from_is_some hand none in
     rw (left, again) (keep_take s ok u way c id u_in (sym there) (ap (λ (l : List ℕ). slice_get l 0) (sym held) ∙ sym first) empty)
 
 -- what a Take comes to, from what the code read
@@ -164,7 +161,7 @@ take_done s now e ok u way c id seen was left u_in there read first read_again i
     let lt : c < length s.channels = omega (arith, ok.channels) in
     let held : seen ≡ slice_index_or s.channels c [] = get_or_read s.channels c seen lt read [] in
     let again : was ≡ slice_index_or s.channels c [] = get_or_read s.channels c was lt read_again [] in
-    let empty : slice_index_or s.hands u None ≡ None = sym (get_or_read s.hands u hand (omega (arith, ok.hands)) hand_is None) ∙ not_some hand none in
+    let empty : slice_index_or s.hands u None ≡ None = sym (get_or_read s.hands u hand (omega (arith, ok.hands)) hand_is None) ∙ none_from_is_some hand none in
     let within : nat_lt u (nodes_of s.opening) ≡ true = grind (arith, common_steps) in
     let top : slice_get (slice_index_or s.channels c []) 0 ≡ Some id = ap (λ (l : List ℕ). slice_get l 0) (sym held) ∙ sym first in
     let number : into s.opening u way ≡ c = into_is s.opening u way c (sym there) in

@@ -9,6 +9,7 @@ use Rattle.std.proofs.lemmas.List.{map-append, take-map, length-map}
 use Rattle.indexmap.specs.IndexMap.{IndexMap, insert_entry, get, set_value_at}
 use Rattle.indexmap.proofs.CallerLemmas.{insert_entry-new}
 use Rattle.ir_model.proofs.Names.{bytes_eq-same}
+use Rattle.ir_model.proofs.Graphs.{none_from_is_some}
 use Rattle.ir_model.specs.Graph.{Name, Neighbors, Adjacency, names, has_node, neighbors, weight_of, with_node, put, without}
 use Rattle.std.specs.Option.{option_map_or}
 use Rattle.ir_graph.specs.View.{rows_view, row_view, change_row}
@@ -56,10 +57,6 @@ is_some-option_map f (Some x) = refl
 option_map-id : {X : Type 0} (o : Option X) → option_map (λ x. x) o ≡ o
 option_map-id None = refl
 option_map-id (Some x) = refl
-
-none_from_is_some : {X : Type 0} (o : Option X) → is_some o ≡ false → o ≡ None
-none_from_is_some None h = refl
-none_from_is_some (Some x) h = cc
 
 module _ {Z S : Type 0} where
   pub has_node-view : (rows : IndexMap (String Z) (IndexMap (String Z) ℕ S) S) (x : Name) → has_node (rows_view rows) x ≡ is_some (lookup (λ k. bytes_eq x (string_bytes k)) rows.entries)

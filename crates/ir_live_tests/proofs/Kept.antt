@@ -1,5 +1,5 @@
 -- Nodes of a net are its nodes still after one of them turned, was taken away or was brought back.
-use Rattle.std.specs.Prelude.{◌≡◌, ℕ, Bool, true, false, ◌+◌, ◌<◌, ◌≤◌, ◌==◌, List, [], ◌∷◌, ◌++◌, All, cond, length, sum_by, slice_index_or, slice_set, ltb}
+use Rattle.std.specs.Prelude.{◌≡◌, ℕ, Option, Some, IfSome, Bool, true, false, ◌+◌, ◌<◌, ◌≤◌, ◌==◌, List, [], ◌∷◌, ◌++◌, All, cond, length, sum_by, slice_index_or, slice_set, ltb}
 use Rattle.std.specs.List.{remove}
 use Rattle.std.proofs.Common.{refl, arith, sym, ap, ◌∙◌, subst, ◌⊎◌, inl, inr, get_or}
 use Rattle.std.proofs.lemmas.Bool.{cases_eq, ltb-true, ltb-false}
@@ -97,6 +97,9 @@ module _ (net : Net) (nodes : List Node) (of : AreNodesOf net nodes) (i : ℕ) (
 
   pub away_apart : (now : List Node) → i < length nodes → a ≡ get_or nodes i a → now ≡ remove nodes i → sum_by (hit node_number a.index) now ≡ 0
   away_apart now lt read e = ap (λ (ns : List Node). sum_by (hit node_number a.index) ns) e ∙ other_numbers net nodes of i a lt read
+
+pub if_some : {T : Type 0} (P : T → Type 0) (o : Option T) (x : T) → o ≡ Some x → IfSome o P → P x
+if_some P o x e h = subst (λ (o : Option _). IfSome o P) e h
 
 -- a node that is away is so still after it turned
 pub away_same : {R : Type 0} (net : Net) (p : Parts R) (a b : Node) → IsAway net p a → IsSameNode a b → IsAway net p b

@@ -103,7 +103,6 @@ retired_here first later u (Link l) r is k due new =
 module _ (first : Stamp) (later : List Stamp) (s : Stamp) (u : ℕ) (way : Way) (r : Journey) (is : ∥ IsScheme (knows (present_stamp first later)) ∥₁) (k : IsRouted (stamps_of first later) r)
     (u_in : u < node_count (knows s).network) (nodes : node_count (knows s).network ≡ node_count (knows (present_stamp first later)).network)
     (due : IsDue (knows (present_stamp first later)) (present r) u way) (new : IsNew r (InHand u way)) (above : stamp_of r < s.epoch) (left : length r.restamps < MAX_RESTAMPS) where
-
   same : restamped u way s.epoch r ≡ stamped u (front_of way r.hops) (record { epoch = s.epoch; from = length (front_of way r.hops) }) r
   same = restamped_is u s.epoch way r (here_is (knows (present_stamp first later)) u way r due new)
 
