@@ -12,8 +12,8 @@ use std::test::Fail;
 fn linked(alloc: Global, nodes: u16, reach: u16) -> Result<Topology, Fail> {
     let mut graph = Graph::new(alloc);
     for u in 0..nodes {
-        for step in 1..reach + 1 {
-            let v = (u as usize + step as usize) % nodes as usize;
+        for step in 0..reach {
+            let v = (u as usize + step as usize + 1) % nodes as usize;
             let from = format!(in alloc; "n{u}")?;
             let to = format!(in alloc; "n{v}")?;
             let Ok(_) = graph.add_edge(from.as_str(), to.as_str(), 1) else {
