@@ -12,9 +12,9 @@ mod networks;
 #[cfg(test)]
 mod numbers;
 #[cfg(test)]
-mod plans;
+mod openings;
 #[cfg(test)]
-mod restamps;
+mod plans;
 #[cfg(test)]
 mod rings;
 #[cfg(test)]

@@ -35,81 +35,114 @@ fn shows(plan: &Plan, u: u16, label: u16, starts: &[(u16, u16)]) -> bool
     true
 }
 
-#[test]
-fn tree_plan_of_a_path(rt: HostRuntime) -> Result<(), Fail> {
-    let plan = plan_of(rt.alloc(), &PATH, Kind::Tree, 1)?;
-    assert_eq!(rt; plan.nodes(), 3);
-    assert_eq!(rt; plan.labels(), 4);
-    assert!(rt; shows(&plan, 0, 1, &[(2, 0)]));
-    assert!(rt; shows(&plan, 1, 0, &[(1, 0), (2, 1)]));
-    assert!(rt; shows(&plan, 2, 2, &[(0, 0)]));
-    Ok(())
+/// A plan of a network: for each node its label and its starts, each with its port.
+struct Case {
+    name: &'static str,
+    edges: &'static [Edge],
+    kind: Kind,
+    root: u16,
+    rows: &'static [(u16, &'static [(u16, u16)])],
+}
+
+const PLANS: [Case; 7] = [
+    Case {
+        name: "the tree of a path",
+        edges: &PATH,
+        kind: Kind::Tree,
+        root: 1,
+        rows: &[(1, &[(2, 0)]), (0, &[(1, 0), (2, 1)]), (2, &[(0, 0)])],
+    },
+    Case {
+        name: "a path has no tie",
+        edges: &PATH,
+        kind: Kind::Compact,
+        root: 1,
+        rows: &[(1, &[(2, 0)]), (0, &[(1, 0), (2, 1)]), (2, &[(0, 0)])],
+    },
+    Case {
+        name: "shortest ways of a ring",
+        edges: &RING,
+        kind: Kind::Shortest,
+        root: 0,
+        rows: &[
+            (0, &[(1, 0), (3, 1)]),
+            (1, &[(2, 1), (3, 0)]),
+            (3, &[(0, 0), (2, 1)]),
+            (2, &[(0, 0), (3, 1)]),
+        ],
+    },
+    Case {
+        name: "the fewest intervals of a ring",
+        edges: &RING,
+        kind: Kind::Compact,
+        root: 0,
+        rows: &[
+            (0, &[(1, 0), (3, 1)]),
+            (1, &[(0, 0), (2, 1)]),
+            (3, &[(0, 0), (2, 1)]),
+            (2, &[(1, 0), (3, 1)]),
+        ],
+    },
+    Case {
+        name: "shortest ways go round the heavy link",
+        edges: &HEAVY,
+        kind: Kind::Shortest,
+        root: 0,
+        rows: &AROUND,
+    },
+    Case {
+        name: "the ways round the heavy link have no tie",
+        edges: &HEAVY,
+        kind: Kind::Compact,
+        root: 0,
+        rows: &AROUND,
+    },
+    Case {
+        name: "the tree goes by the heavy link",
+        edges: &HEAVY,
+        kind: Kind::Tree,
+        root: 0,
+        rows: &[
+            (0, &[(1, 0)]),
+            (1, &[(0, 0), (2, 1)]),
+            (2, &[(0, 1), (3, 2), (4, 3), (5, 4)]),
+            (3, &[(4, 0)]),
+            (4, &[(5, 0)]),
+            (5, &[(0, 0)]),
+        ],
+    },
+];
+
+/// The rows of shortest ways round the heavy link.
+const AROUND: [(u16, &'static [(u16, u16)]); 6] = [
+    (0, &[(1, 0), (2, 1), (4, 0), (5, 1)]),
+    (1, &[(4, 2), (5, 0)]),
+    (2, &[(0, 0), (3, 2), (4, 0), (5, 4)]),
+    (3, &[(4, 0)]),
+    (4, &[(5, 1)]),
+    (5, &[(0, 0)]),
+];
+
+/// Whether a plan has these rows and no more.
+fn has_rows(plan: &Plan, rows: &[(u16, &[(u16, u16)])]) -> bool {
+    let mut labels = 0usize;
+    for (u, row) in rows.iter().enumerate() {
+        if u >= plan.nodes() || !shows(plan, u as u16, row.0, row.1) {
+            return false;
+        }
+        labels = labels.saturating_add(row.1.len());
+    }
+    plan.nodes() == rows.len() && plan.labels() == labels
 }
 
 #[test]
-fn shortest_plan_of_a_ring(rt: HostRuntime) -> Result<(), Fail> {
-    let plan = plan_of(rt.alloc(), &RING, Kind::Shortest, 0)?;
-    assert_eq!(rt; plan.nodes(), 4);
-    assert_eq!(rt; plan.labels(), 8);
-    assert!(rt; shows(&plan, 0, 0, &[(1, 0), (3, 1)]));
-    assert!(rt; shows(&plan, 1, 1, &[(2, 1), (3, 0)]));
-    assert!(rt; shows(&plan, 2, 3, &[(0, 0), (2, 1)]));
-    assert!(rt; shows(&plan, 3, 2, &[(0, 0), (3, 1)]));
-    Ok(())
-}
-
-#[test]
-fn shortest_plan_goes_round_the_heavy_link(rt: HostRuntime) -> Result<(), Fail> {
-    let plan = plan_of(rt.alloc(), &HEAVY, Kind::Shortest, 0)?;
-    assert_eq!(rt; plan.nodes(), 6);
-    assert_eq!(rt; plan.labels(), 13);
-    assert!(rt; shows(&plan, 0, 0, &[(1, 0), (2, 1), (4, 0), (5, 1)]));
-    assert!(rt; shows(&plan, 1, 1, &[(4, 2), (5, 0)]));
-    assert!(rt; shows(&plan, 2, 2, &[(0, 0), (3, 2), (4, 0), (5, 4)]));
-    assert!(rt; shows(&plan, 3, 3, &[(4, 0)]));
-    assert!(rt; shows(&plan, 4, 4, &[(5, 1)]));
-    assert!(rt; shows(&plan, 5, 5, &[(0, 0)]));
-    Ok(())
-}
-
-#[test]
-fn tree_plan_goes_by_the_heavy_link(rt: HostRuntime) -> Result<(), Fail> {
-    let plan = plan_of(rt.alloc(), &HEAVY, Kind::Tree, 0)?;
-    assert_eq!(rt; plan.nodes(), 6);
-    assert_eq!(rt; plan.labels(), 10);
-    assert!(rt; shows(&plan, 0, 0, &[(1, 0)]));
-    assert!(rt; shows(&plan, 1, 1, &[(0, 0), (2, 1)]));
-    assert!(rt; shows(&plan, 2, 2, &[(0, 1), (3, 2), (4, 3), (5, 4)]));
-    assert!(rt; shows(&plan, 3, 3, &[(4, 0)]));
-    assert!(rt; shows(&plan, 4, 4, &[(5, 0)]));
-    assert!(rt; shows(&plan, 5, 5, &[(0, 0)]));
-    Ok(())
-}
-
-#[test]
-fn compact_plan_of_a_ring(rt: HostRuntime) -> Result<(), Fail> {
-    let plan = plan_of(rt.alloc(), &RING, Kind::Compact, 0)?;
-    assert_eq!(rt; plan.nodes(), 4);
-    assert_eq!(rt; plan.labels(), 8);
-    assert!(rt; shows(&plan, 0, 0, &[(1, 0), (3, 1)]));
-    assert!(rt; shows(&plan, 1, 1, &[(0, 0), (2, 1)]));
-    assert!(rt; shows(&plan, 2, 3, &[(0, 0), (2, 1)]));
-    assert!(rt; shows(&plan, 3, 2, &[(1, 0), (3, 1)]));
-    Ok(())
-}
-
-#[test]
-fn compact_plan_without_a_tie(rt: HostRuntime) -> Result<(), Fail> {
-    let plan = plan_of(rt.alloc(), &HEAVY, Kind::Compact, 0)?;
-    assert_eq!(rt; plan.nodes(), 6);
-    assert_eq!(rt; plan.labels(), 13);
-    assert!(rt; shows(&plan, 0, 0, &[(1, 0), (2, 1), (4, 0), (5, 1)]));
-    assert!(rt; shows(&plan, 2, 2, &[(0, 0), (3, 2), (4, 0), (5, 4)]));
-    let path = plan_of(rt.alloc(), &PATH, Kind::Compact, 1)?;
-    assert_eq!(rt; path.nodes(), 3);
-    assert_eq!(rt; path.labels(), 4);
-    assert!(rt; shows(&path, 0, 1, &[(2, 0)]));
-    assert!(rt; shows(&path, 1, 0, &[(1, 0), (2, 1)]));
+fn plans_by_hand(rt: HostRuntime) -> Result<(), Fail> {
+    for case in &PLANS {
+        let plan = plan_of(rt.alloc(), case.edges, case.kind, case.root)?;
+        if !has_rows(&plan, case.rows) {
+            return Err(case.name.into());
+        }
+    }
     Ok(())
 }
 
@@ -177,31 +210,27 @@ fn ports_by_address(rt: HostRuntime) -> Result<(), Fail> {
     Ok(())
 }
 
-#[test]
-fn no_plan_without_a_node(rt: HostRuntime) -> Result<(), Fail> {
-    let topology = topology_of(rt.alloc(), &[])?;
-    let answer = Plan::build(rt.alloc(), topology, Kind::Shortest, 0);
-    assert!(rt; matches!(answer, Err((PlanError::Empty, _))));
-    Ok(())
-}
+/// The edges of a network, a root, why no plan of it is built, and how many nodes come back.
+const NO_PLANS: [(&'static [Edge], u16, PlanError, usize); 3] = [
+    (&[], 0, PlanError::Empty, 0),
+    (&PATH, 3, PlanError::NoNode, 3),
+    (
+        &[("a", "b", 1), ("c", "d", 1)],
+        0,
+        PlanError::Disconnected,
+        4,
+    ),
+];
 
 #[test]
-fn no_plan_from_a_root_that_is_no_node(rt: HostRuntime) -> Result<(), Fail> {
-    let topology = topology_of(rt.alloc(), &PATH)?;
-    let answer = Plan::build(rt.alloc(), topology, Kind::Tree, 3);
-    assert!(rt; matches!(answer, Err((PlanError::NoNode, _))));
-    Ok(())
-}
-
-#[test]
-fn no_plan_of_two_parts(rt: HostRuntime) -> Result<(), Fail> {
-    let topology = topology_of(rt.alloc(), &[("a", "b", 1), ("c", "d", 1)])?;
-    match Plan::build(rt.alloc(), topology, Kind::Shortest, 0) {
-        Err((error, back)) => {
-            assert_eq!(rt; error, PlanError::Disconnected);
-            assert_eq!(rt; back.nodes(), 4);
-        }
-        Ok(_) => return Err("a plan of two parts".into()),
+fn plans_refused(rt: HostRuntime) -> Result<(), Fail> {
+    for (edges, root, why, nodes) in &NO_PLANS {
+        let topology = topology_of(rt.alloc(), edges)?;
+        let Err((error, back)) = Plan::build(rt.alloc(), topology, Kind::Tree, *root) else {
+            return Err("a plan".into());
+        };
+        assert_eq!(rt; error, *why);
+        assert_eq!(rt; back.nodes(), *nodes);
     }
     Ok(())
 }

@@ -1,13 +1,449 @@
-//! Runs of steps, played by hand.
+//! Runs of steps that were played by hand: what each step is told, and what becomes of each packet.
 
 use crate::networks::{Edge, HEAVY, PATH, topology_of};
-use ir_core::{
-    Event, Fate, Kind, OpenError, Opening, Played, Refused, Reply, Step, Way, World, play,
-};
-use ir_graph::Graph;
-use ir_tables::Topology;
+use ir_core::Event::{Act, Down, Inject, Install, Learn, Read, Retire, Take, Up};
+use ir_core::Step::{Drain, Event};
+use ir_core::{Fate, Kind, Opening, Played, Refused, Reply, Restamp, Step, Way, play};
 use std::alloc::Global;
 use std::test::Fail;
+
+/// What a step is told: its place among the steps, and the reply.
+type Told = (usize, Result<Reply, Refused>);
+
+/// What became of a packet: its first epoch, its hops, its restamps and its fate.
+type Ended = (u32, &'static [u16], &'static [Restamp], Fate);
+
+/// A run of steps over a network, and what is to come of it.
+struct Run {
+    name: &'static str,
+    edges: &'static [Edge],
+    kind: Kind,
+    root: u16,
+    capacity: usize,
+    restamps: u8,
+    /// What is played first, and what then.
+    first: &'static [Step],
+    then: &'static [Step],
+    told: &'static [Told],
+    /// All packets, by their numbers.
+    packets: &'static [Ended],
+}
+
+/// A packet from node 0 to node 4 is sent into its first channel.
+const SENT: [Step; 3] = [
+    Event(Inject(0, 4)),
+    Event(Take(0, Way::Inbox)),
+    Event(Act(0)),
+];
+
+/// Such a packet, which is then acted on by node 1.
+const SENT_TWICE: [Step; 5] = [
+    Event(Inject(0, 4)),
+    Event(Take(0, Way::Inbox)),
+    Event(Act(0)),
+    Event(Take(1, Way::Link(0))),
+    Event(Act(1)),
+];
+
+/// Epoch 2, of shortest ways, is installed, and epoch 1 retired.
+const TO_SHORTEST: [Step; 3] = [Event(Install(Kind::Shortest, 0)), Event(Retire(2)), Drain];
+
+/// The same, and node 2 passes on a packet of epoch 2 before epoch 3, of the tree, is installed and epoch 2 retired.
+const TO_SHORTEST_AND_BACK: [Step; 8] = [
+    Event(Install(Kind::Shortest, 0)),
+    Event(Retire(2)),
+    Event(Take(2, Way::Link(2))),
+    Event(Read(2, 2)),
+    Event(Act(2)),
+    Event(Install(Kind::Tree, 0)),
+    Event(Retire(3)),
+    Drain,
+];
+
+/// A packet to node 2 is sent by node 1 and is in a channel when epoch 1 is retired.
+const AT_THE_END: [Step; 6] = [
+    Event(Inject(1, 2)),
+    Event(Take(1, Way::Inbox)),
+    Event(Act(1)),
+    Event(Install(Kind::Tree, 1)),
+    Event(Retire(2)),
+    Drain,
+];
+
+const RUNS: [Run; 20] = [
+    Run {
+        name: "along the tree",
+        edges: &HEAVY,
+        kind: Kind::Tree,
+        root: 0,
+        capacity: 16,
+        restamps: 0,
+        first: &[],
+        then: &[Event(Inject(0, 4)), Drain],
+        told: &[],
+        packets: &[(1, &[0, 1, 2, 4], &[], Fate::Delivered)],
+    },
+    Run {
+        name: "along shortest ways",
+        edges: &HEAVY,
+        kind: Kind::Shortest,
+        root: 0,
+        capacity: 16,
+        restamps: 0,
+        first: &[],
+        then: &[Event(Inject(0, 4)), Drain],
+        told: &[],
+        packets: &[(1, &[0, 1, 4], &[], Fate::Delivered)],
+    },
+    Run {
+        name: "a packet keeps its epoch",
+        edges: &HEAVY,
+        kind: Kind::Tree,
+        root: 0,
+        capacity: 16,
+        restamps: 0,
+        first: &SENT,
+        then: &[
+            Event(Install(Kind::Shortest, 0)),
+            Event(Learn(2)),
+            Event(Inject(0, 4)),
+            Drain,
+        ],
+        told: &[],
+        packets: &[
+            (1, &[0, 1, 2, 4], &[], Fate::Delivered),
+            (2, &[0, 1, 4], &[], Fate::Delivered),
+        ],
+    },
+    Run {
+        name: "retired in the second channel",
+        edges: &HEAVY,
+        kind: Kind::Tree,
+        root: 0,
+        capacity: 16,
+        restamps: 0,
+        first: &SENT_TWICE,
+        then: &TO_SHORTEST,
+        told: &[],
+        packets: &[(1, &[0, 1], &[], Fate::Retired)],
+    },
+    Run {
+        name: "retired in the first channel",
+        edges: &HEAVY,
+        kind: Kind::Tree,
+        root: 0,
+        capacity: 16,
+        restamps: 0,
+        first: &SENT,
+        then: &TO_SHORTEST,
+        told: &[],
+        packets: &[(1, &[0], &[], Fate::Retired)],
+    },
+    Run {
+        name: "the link ahead is down",
+        edges: &HEAVY,
+        kind: Kind::Tree,
+        root: 0,
+        capacity: 16,
+        restamps: 0,
+        first: &SENT,
+        then: &[
+            Event(Take(1, Way::Link(0))),
+            Event(Down(2)),
+            Event(Read(1, 1)),
+            Event(Act(1)),
+        ],
+        told: &[],
+        packets: &[(1, &[0, 1], &[], Fate::Down(2))],
+    },
+    Run {
+        name: "the link behind is down",
+        edges: &HEAVY,
+        kind: Kind::Tree,
+        root: 0,
+        capacity: 16,
+        restamps: 0,
+        first: &SENT,
+        then: &[
+            Event(Down(0)),
+            Event(Take(1, Way::Link(0))),
+            Event(Read(1, 1)),
+            Event(Act(1)),
+        ],
+        told: &[],
+        packets: &[(1, &[0], &[], Fate::Down(0))],
+    },
+    Run {
+        name: "the link behind is up again",
+        edges: &HEAVY,
+        kind: Kind::Tree,
+        root: 0,
+        capacity: 16,
+        restamps: 0,
+        first: &SENT,
+        then: &[
+            Event(Down(0)),
+            Event(Take(1, Way::Link(0))),
+            Event(Read(1, 1)),
+            Event(Up(0)),
+            Event(Read(1, 2)),
+            Event(Act(1)),
+            Drain,
+        ],
+        told: &[],
+        packets: &[(1, &[0, 1, 2, 4], &[], Fate::Delivered)],
+    },
+    Run {
+        name: "installs over the links that are up",
+        edges: &PATH,
+        kind: Kind::Tree,
+        root: 1,
+        capacity: 16,
+        restamps: 0,
+        first: &[],
+        then: &[
+            Event(Down(0)),
+            Event(Install(Kind::Tree, 1)),
+            Event(Retire(2)),
+            Event(Retire(1)),
+            Event(Inject(1, 2)),
+            Drain,
+        ],
+        told: &[
+            (1, Err(Refused::Disconnected)),
+            (2, Err(Refused::NoEpoch)),
+            (3, Err(Refused::Same)),
+        ],
+        packets: &[(1, &[1, 2], &[], Fate::Delivered)],
+    },
+    Run {
+        name: "a retired stamp",
+        edges: &PATH,
+        kind: Kind::Tree,
+        root: 1,
+        capacity: 16,
+        restamps: 0,
+        first: &[],
+        then: &[
+            Event(Down(0)),
+            Event(Up(0)),
+            Event(Install(Kind::Tree, 1)),
+            Event(Retire(2)),
+            Event(Retire(1)),
+            Event(Inject(1, 2)),
+            Drain,
+        ],
+        told: &[(4, Err(Refused::Same))],
+        packets: &[(1, &[1], &[], Fate::Retired)],
+    },
+    Run {
+        name: "a full inbox",
+        edges: &PATH,
+        kind: Kind::Tree,
+        root: 1,
+        capacity: 1,
+        restamps: 0,
+        first: &[],
+        then: &[
+            Event(Inject(0, 2)),
+            Event(Inject(0, 1)),
+            Drain,
+            Event(Inject(0, 1)),
+            Drain,
+        ],
+        told: &[(1, Err(Refused::InboxFull))],
+        packets: &[
+            (1, &[0, 1, 2], &[], Fate::Delivered),
+            (1, &[0, 1], &[], Fate::Delivered),
+        ],
+    },
+    Run {
+        name: "a full channel",
+        edges: &PATH,
+        kind: Kind::Tree,
+        root: 1,
+        capacity: 1,
+        restamps: 0,
+        first: &[],
+        then: &[
+            Event(Inject(0, 2)),
+            Event(Take(0, Way::Inbox)),
+            Event(Act(0)),
+            Event(Inject(0, 2)),
+            Event(Take(0, Way::Inbox)),
+            Event(Act(0)),
+            Drain,
+        ],
+        told: &[],
+        packets: &[
+            (1, &[0, 1, 2], &[], Fate::Delivered),
+            (1, &[0], &[], Fate::Full { link: 0, to: 1 }),
+        ],
+    },
+    Run {
+        name: "refusals in order",
+        edges: &PATH,
+        kind: Kind::Tree,
+        root: 1,
+        capacity: 16,
+        restamps: 0,
+        first: &[],
+        then: &[
+            Event(Act(0)),
+            Event(Take(0, Way::Inbox)),
+            Event(Read(0, 1)),
+            Event(Learn(2)),
+            Event(Up(0)),
+            Event(Inject(0, 2)),
+            Event(Inject(0, 1)),
+            Event(Take(0, Way::Inbox)),
+            Event(Take(0, Way::Inbox)),
+            Event(Act(0)),
+            Drain,
+            Event(Take(0, Way::Link(1))),
+            Event(Take(0, Way::Link(2))),
+            Event(Down(2)),
+            Event(Act(3)),
+        ],
+        told: &[
+            (0, Err(Refused::HandEmpty)),
+            (1, Err(Refused::Empty)),
+            (2, Err(Refused::BadView)),
+            (3, Err(Refused::NoEpoch)),
+            (4, Err(Refused::Same)),
+            (8, Err(Refused::HandFull)),
+            (9, Ok(Reply::Sent(0, 1))),
+            (10, Ok(Reply::Changed)),
+            (11, Err(Refused::NoChannel)),
+            (12, Err(Refused::NoChannel)),
+            (13, Err(Refused::NoLink)),
+            (14, Err(Refused::NoNode)),
+        ],
+        packets: &[
+            (1, &[0, 1, 2], &[], Fate::Delivered),
+            (1, &[0, 1], &[], Fate::Delivered),
+        ],
+    },
+    Run {
+        name: "restamped in a channel",
+        edges: &HEAVY,
+        kind: Kind::Tree,
+        root: 0,
+        capacity: 16,
+        restamps: 1,
+        first: &SENT,
+        then: &TO_SHORTEST,
+        told: &[],
+        packets: &[(
+            1,
+            &[0, 1, 4],
+            &[Restamp { epoch: 2, from: 1 }],
+            Fate::Delivered,
+        )],
+    },
+    Run {
+        name: "turned back by a restamp",
+        edges: &HEAVY,
+        kind: Kind::Tree,
+        root: 0,
+        capacity: 16,
+        restamps: 1,
+        first: &SENT_TWICE,
+        then: &TO_SHORTEST,
+        told: &[],
+        packets: &[(
+            1,
+            &[0, 1, 2, 0, 1, 4],
+            &[Restamp { epoch: 2, from: 2 }],
+            Fate::Delivered,
+        )],
+    },
+    Run {
+        name: "restamped once and dropped",
+        edges: &HEAVY,
+        kind: Kind::Tree,
+        root: 0,
+        capacity: 16,
+        restamps: 1,
+        first: &SENT_TWICE,
+        then: &TO_SHORTEST_AND_BACK,
+        told: &[],
+        packets: &[(
+            1,
+            &[0, 1, 2],
+            &[Restamp { epoch: 2, from: 2 }],
+            Fate::Retired,
+        )],
+    },
+    Run {
+        name: "restamped twice",
+        edges: &HEAVY,
+        kind: Kind::Tree,
+        root: 0,
+        capacity: 16,
+        restamps: 2,
+        first: &SENT_TWICE,
+        then: &TO_SHORTEST_AND_BACK,
+        told: &[],
+        packets: &[(
+            1,
+            &[0, 1, 2, 0, 1, 2, 4],
+            &[Restamp { epoch: 2, from: 2 }, Restamp { epoch: 3, from: 3 }],
+            Fate::Delivered,
+        )],
+    },
+    Run {
+        name: "restamped at the end",
+        edges: &PATH,
+        kind: Kind::Tree,
+        root: 1,
+        capacity: 16,
+        restamps: 1,
+        first: &[],
+        then: &AT_THE_END,
+        told: &[],
+        packets: &[(
+            1,
+            &[1, 2],
+            &[Restamp { epoch: 2, from: 1 }],
+            Fate::Delivered,
+        )],
+    },
+    Run {
+        name: "retired at the end",
+        edges: &PATH,
+        kind: Kind::Tree,
+        root: 1,
+        capacity: 16,
+        restamps: 0,
+        first: &[],
+        then: &AT_THE_END,
+        told: &[],
+        packets: &[(1, &[1], &[], Fate::Retired)],
+    },
+    Run {
+        name: "restamped at the source",
+        edges: &PATH,
+        kind: Kind::Tree,
+        root: 1,
+        capacity: 16,
+        restamps: 1,
+        first: &[],
+        then: &[
+            Event(Install(Kind::Tree, 1)),
+            Event(Retire(2)),
+            Event(Inject(1, 2)),
+            Drain,
+        ],
+        told: &[],
+        packets: &[(
+            1,
+            &[1, 2],
+            &[Restamp { epoch: 2, from: 0 }],
+            Fate::Delivered,
+        )],
+    },
+];
 
 /// An opening over a network of these edges.
 pub(crate) fn opening(
@@ -28,360 +464,54 @@ pub(crate) fn opening(
     })
 }
 
-/// A run of these steps over a network of these edges.
-pub(crate) fn played(
-    alloc: Global,
-    edges: &[Edge],
-    kind: Kind,
-    root: u16,
-    capacity: usize,
-    restamps: u8,
-    steps: &[Step],
-) -> Result<Played, Fail> {
-    let opening = opening(alloc, edges, kind, root, capacity, restamps)?;
-    let Ok(played) = play(alloc, opening, steps) else {
-        return Err("not opened".into());
-    };
-    Ok(played)
-}
-
-/// A run of these steps along the tree of such a network, whose channels hold 16 packets.
-pub(crate) fn along_tree(
-    alloc: Global,
-    edges: &[Edge],
-    root: u16,
-    restamps: u8,
-    steps: &[Step],
-) -> Result<Played, Fail> {
-    played(alloc, edges, Kind::Tree, root, 16, restamps, steps)
-}
-
-/// A packet from node 0 to node 4 is sent into its first channel.
-const SENT: [Step; 3] = [
-    Step::Event(Event::Inject(0, 4)),
-    Step::Event(Event::Take(0, Way::Inbox)),
-    Step::Event(Event::Act(0)),
-];
-
-/// These steps behind that packet's first ones.
-pub(crate) fn once_sent(alloc: Global, steps: &[Step]) -> Result<Vec<Step>, Fail> {
-    let mut all = Vec::from_slice(alloc, &SENT)?;
-    all.extend_from_slice(steps)?;
-    Ok(all)
-}
-
-/// What became of a packet: its epoch, hops and fate are these.
-fn ended(p: &Played, id: u32, epoch: u32, hops: &[u16], fate: Fate) -> bool {
-    let Some(record) = p.world.packet(id) else {
-        return false;
-    };
-    record.epoch == epoch && record.hops.as_slice() == hops && record.fate == fate
-}
-
-/// The reply to a step.
-fn reply(p: &Played, step: usize) -> Option<Result<Reply, Refused>> {
-    p.replies.get(step).copied()
-}
-
-/// An event as a step.
-pub(crate) fn event(event: Event) -> Step {
-    Step::Event(event)
-}
-
-#[test]
-fn a_single_node(rt: HostRuntime) -> Result<(), Fail> {
-    let mut graph = Graph::new(rt.alloc());
-    let Ok(_) = graph.add_node("a") else {
-        return Err("refused".into());
-    };
-    let Ok(lone) = Topology::of(rt.alloc(), &graph) else {
-        return Err("no memory".into());
-    };
-    let opening = Opening {
-        topology: lone,
-        kind: Kind::Shortest,
-        root: 0,
-        capacity: 16,
-        max_packets: 4096,
-        restamps: 0,
-    };
-    let steps = [event(Event::Inject(0, 0)), Step::Drain];
-    let Ok(p) = play(rt.alloc(), opening, &steps) else {
-        return Err("not opened".into());
-    };
-    assert!(rt; ended(&p, 0, 1, &[0], Fate::Delivered));
-    Ok(())
-}
-
-#[test]
-fn tree_and_shortest(rt: HostRuntime) -> Result<(), Fail> {
-    let steps = [event(Event::Inject(0, 4)), Step::Drain];
-    let tree = along_tree(rt.alloc(), &HEAVY, 0, 0, &steps)?;
-    assert!(rt; ended(&tree, 0, 1, &[0, 1, 2, 4], Fate::Delivered));
-    let shortest = played(rt.alloc(), &HEAVY, Kind::Shortest, 0, 16, 0, &steps)?;
-    assert!(rt; ended(&shortest, 0, 1, &[0, 1, 4], Fate::Delivered));
-    Ok(())
-}
-
-#[test]
-fn a_packet_keeps_its_epoch(rt: HostRuntime) -> Result<(), Fail> {
-    let steps = once_sent(
-        rt.alloc(),
-        &[
-            event(Event::Install(Kind::Shortest, 0)),
-            event(Event::Learn(2)),
-            event(Event::Inject(0, 4)),
-            Step::Drain,
-        ],
-    )?;
-    let p = along_tree(rt.alloc(), &HEAVY, 0, 0, steps.as_slice())?;
-    assert!(rt; ended(&p, 0, 1, &[0, 1, 2, 4], Fate::Delivered));
-    assert!(rt; ended(&p, 1, 2, &[0, 1, 4], Fate::Delivered));
-    Ok(())
-}
-
-#[test]
-fn retired_in_hand(rt: HostRuntime) -> Result<(), Fail> {
-    let steps = once_sent(
-        rt.alloc(),
-        &[
-            event(Event::Take(1, Way::Link(0))),
-            event(Event::Act(1)),
-            event(Event::Install(Kind::Shortest, 0)),
-            event(Event::Retire(2)),
-            Step::Drain,
-        ],
-    )?;
-    let p = along_tree(rt.alloc(), &HEAVY, 0, 0, steps.as_slice())?;
-    assert!(rt; ended(&p, 0, 1, &[0, 1], Fate::Retired));
-    let behind = [
-        event(Event::Install(Kind::Shortest, 0)),
-        event(Event::Retire(2)),
-        Step::Drain,
-    ];
-    let steps = once_sent(rt.alloc(), &behind)?;
-    let early = along_tree(rt.alloc(), &HEAVY, 0, 0, steps.as_slice())?;
-    assert!(rt; ended(&early, 0, 1, &[0], Fate::Retired));
-    Ok(())
-}
-
-#[test]
-fn the_link_ahead_is_down(rt: HostRuntime) -> Result<(), Fail> {
-    let steps = once_sent(
-        rt.alloc(),
-        &[
-            event(Event::Take(1, Way::Link(0))),
-            event(Event::Down(2)),
-            event(Event::Read(1, 1)),
-            event(Event::Act(1)),
-        ],
-    )?;
-    let p = along_tree(rt.alloc(), &HEAVY, 0, 0, steps.as_slice())?;
-    assert!(rt; ended(&p, 0, 1, &[0, 1], Fate::Down(2)));
-    Ok(())
-}
-
-#[test]
-fn the_link_behind_is_down(rt: HostRuntime) -> Result<(), Fail> {
-    let steps = once_sent(
-        rt.alloc(),
-        &[
-            event(Event::Down(0)),
-            event(Event::Take(1, Way::Link(0))),
-            event(Event::Read(1, 1)),
-            event(Event::Act(1)),
-        ],
-    )?;
-    let p = along_tree(rt.alloc(), &HEAVY, 0, 0, steps.as_slice())?;
-    assert!(rt; ended(&p, 0, 1, &[0], Fate::Down(0)));
-    Ok(())
-}
-
-#[test]
-fn the_link_behind_is_up_again(rt: HostRuntime) -> Result<(), Fail> {
-    let steps = once_sent(
-        rt.alloc(),
-        &[
-            event(Event::Down(0)),
-            event(Event::Take(1, Way::Link(0))),
-            event(Event::Read(1, 1)),
-            event(Event::Up(0)),
-            event(Event::Read(1, 2)),
-            event(Event::Act(1)),
-            Step::Drain,
-        ],
-    )?;
-    let p = along_tree(rt.alloc(), &HEAVY, 0, 0, steps.as_slice())?;
-    assert!(rt; ended(&p, 0, 1, &[0, 1, 2, 4], Fate::Delivered));
-    Ok(())
-}
-
-#[test]
-fn installs_over_the_links_that_are_up(rt: HostRuntime) -> Result<(), Fail> {
-    let steps = [
-        event(Event::Down(0)),
-        event(Event::Install(Kind::Tree, 1)),
-        event(Event::Retire(2)),
-        event(Event::Retire(1)),
-        event(Event::Inject(1, 2)),
-        Step::Drain,
-    ];
-    let p = along_tree(rt.alloc(), &PATH, 1, 0, &steps)?;
-    assert!(rt; matches!(reply(&p, 1), Some(Err(Refused::Disconnected))));
-    assert!(rt; matches!(reply(&p, 2), Some(Err(Refused::NoEpoch))));
-    assert!(rt; matches!(reply(&p, 3), Some(Err(Refused::Same))));
-    assert!(rt; ended(&p, 0, 1, &[1, 2], Fate::Delivered));
-    Ok(())
-}
-
-#[test]
-fn a_retired_stamp(rt: HostRuntime) -> Result<(), Fail> {
-    let steps = [
-        event(Event::Down(0)),
-        event(Event::Up(0)),
-        event(Event::Install(Kind::Tree, 1)),
-        event(Event::Retire(2)),
-        event(Event::Retire(1)),
-        event(Event::Inject(1, 2)),
-        Step::Drain,
-    ];
-    let p = along_tree(rt.alloc(), &PATH, 1, 0, &steps)?;
-    assert!(rt; matches!(reply(&p, 4), Some(Err(Refused::Same))));
-    assert!(rt; ended(&p, 0, 1, &[1], Fate::Retired));
-    Ok(())
-}
-
-#[test]
-fn a_full_inbox(rt: HostRuntime) -> Result<(), Fail> {
-    let steps = [
-        event(Event::Inject(0, 2)),
-        event(Event::Inject(0, 1)),
-        Step::Drain,
-        event(Event::Inject(0, 1)),
-        Step::Drain,
-    ];
-    let p = played(rt.alloc(), &PATH, Kind::Tree, 1, 1, 0, &steps)?;
-    assert!(rt; matches!(reply(&p, 1), Some(Err(Refused::InboxFull))));
-    assert!(rt; ended(&p, 0, 1, &[0, 1, 2], Fate::Delivered));
-    assert!(rt; ended(&p, 1, 1, &[0, 1], Fate::Delivered));
-    Ok(())
-}
-
-#[test]
-fn a_full_channel(rt: HostRuntime) -> Result<(), Fail> {
-    let steps = [
-        event(Event::Inject(0, 2)),
-        event(Event::Take(0, Way::Inbox)),
-        event(Event::Act(0)),
-        event(Event::Inject(0, 2)),
-        event(Event::Take(0, Way::Inbox)),
-        event(Event::Act(0)),
-        Step::Drain,
-    ];
-    let p = played(rt.alloc(), &PATH, Kind::Tree, 1, 1, 0, &steps)?;
-    assert!(rt; ended(&p, 0, 1, &[0, 1, 2], Fate::Delivered));
-    assert!(rt; ended(&p, 1, 1, &[0], Fate::Full { link: 0, to: 1 }));
-    Ok(())
-}
-
-#[test]
-fn refusals_in_order(rt: HostRuntime) -> Result<(), Fail> {
-    let steps = [
-        event(Event::Act(0)),
-        event(Event::Take(0, Way::Inbox)),
-        event(Event::Read(0, 1)),
-        event(Event::Learn(2)),
-        event(Event::Up(0)),
-        event(Event::Inject(0, 2)),
-        event(Event::Inject(0, 1)),
-        event(Event::Take(0, Way::Inbox)),
-        event(Event::Take(0, Way::Inbox)),
-        event(Event::Act(0)),
-        Step::Drain,
-        event(Event::Take(0, Way::Link(1))),
-        event(Event::Take(0, Way::Link(2))),
-        event(Event::Down(2)),
-        event(Event::Act(3)),
-    ];
-    let p = along_tree(rt.alloc(), &PATH, 1, 0, &steps)?;
-    assert!(rt; matches!(reply(&p, 0), Some(Err(Refused::HandEmpty))));
-    assert!(rt; matches!(reply(&p, 1), Some(Err(Refused::Empty))));
-    assert!(rt; matches!(reply(&p, 2), Some(Err(Refused::BadView))));
-    assert!(rt; matches!(reply(&p, 3), Some(Err(Refused::NoEpoch))));
-    assert!(rt; matches!(reply(&p, 4), Some(Err(Refused::Same))));
-    assert!(rt; matches!(reply(&p, 8), Some(Err(Refused::HandFull))));
-    assert!(rt; matches!(reply(&p, 9), Some(Ok(Reply::Sent(0, 1)))));
-    assert!(rt; matches!(reply(&p, 10), Some(Ok(Reply::Changed))));
-    assert!(rt; matches!(reply(&p, 11), Some(Err(Refused::NoChannel))));
-    assert!(rt; matches!(reply(&p, 12), Some(Err(Refused::NoChannel))));
-    assert!(rt; matches!(reply(&p, 13), Some(Err(Refused::NoLink))));
-    assert!(rt; matches!(reply(&p, 14), Some(Err(Refused::NoNode))));
-    assert!(rt; ended(&p, 0, 1, &[0, 1, 2], Fate::Delivered));
-    assert!(rt; ended(&p, 1, 1, &[0, 1], Fate::Delivered));
-    assert!(rt; p.world.packets() == 2);
-    Ok(())
-}
-
-/// Why a world over such a network, along its tree, is refused.
-fn refused(
-    alloc: Global,
-    edges: &[Edge],
-    root: u16,
-    capacity: usize,
-    packets: usize,
-    restamps: u8,
-) -> Result<Option<OpenError>, Fail> {
-    let topology = topology_of(alloc, edges)?;
-    Ok(World::new(
-        alloc,
-        topology,
-        Kind::Tree,
-        root,
-        capacity,
-        packets,
-        restamps,
-    )
-    .err())
-}
-
-#[test]
-fn openings_refused(rt: HostRuntime) -> Result<(), Fail> {
-    let alloc = rt.alloc();
-    let apart = [("a", "a", 1), ("b", "b", 1)];
-    assert!(rt; refused(alloc, &[], 0, 16, 4096, 0)? == Some(OpenError::Empty));
-    assert!(rt; refused(alloc, &apart, 0, 16, 4096, 0)? == Some(OpenError::Disconnected));
-    let numbers = [
-        (3, 0, 4096, 0, Some(OpenError::NoNode)),
-        (3, 16, 4096, 4, Some(OpenError::NoNode)),
-        (0, 0, 4096, 0, Some(OpenError::TooLarge)),
-        (0, 1, 4097, 0, Some(OpenError::TooLarge)),
-        (1, 16, 4096, 4, Some(OpenError::TooLarge)),
-        (1, 16, 4096, 3, None),
-    ];
-    for (root, capacity, packets, restamps, why) in numbers {
-        assert!(rt; refused(alloc, &PATH, root, capacity, packets, restamps)? == why);
+fn is_told(played: &Played, told: &[Told]) -> bool {
+    for (at, reply) in told {
+        if played.replies.get(*at) != Some(reply) {
+            return false;
+        }
     }
-    assert!(rt; OpenError::NoMemory.code() == 5);
-    assert!(rt; Refused::Used.code() == 16);
-    Ok(())
+    true
 }
 
-#[test]
-fn epochs_are_64(rt: HostRuntime) -> Result<(), Fail> {
-    let topology = topology_of(rt.alloc(), &PATH)?;
-    let Ok(mut world) = World::new(rt.alloc(), topology, Kind::Tree, 1, 16, 4096, 0) else {
-        return Err("not opened".into());
-    };
-    for _ in 0..63 {
-        let Ok(_) = world.apply(Event::Install(Kind::Tree, 1)) else {
-            return Err("refused".into());
+fn has_ended(played: &Played, packets: &[Ended]) -> bool {
+    for (id, ended) in packets.iter().enumerate() {
+        let (epoch, hops, restamps, fate) = *ended;
+        let Ok(id) = u32::try_from(id) else {
+            return false;
         };
+        let Some(record) = played.world.packet(id) else {
+            return false;
+        };
+        if record.epoch != epoch
+            || record.hops.as_slice() != hops
+            || record.restamps.as_slice() != restamps
+            || record.fate != fate
+        {
+            return false;
+        }
     }
-    assert!(rt;
-        matches!(
-            world.apply(Event::Install(Kind::Tree, 1)),
-            Err(Refused::EpochsFull)
-        )
-    );
+    played.world.packets() == packets.len()
+}
+
+#[test]
+fn runs_by_hand(rt: HostRuntime) -> Result<(), Fail> {
+    for run in &RUNS {
+        let mut steps = Vec::from_slice(rt.alloc(), run.first)?;
+        steps.extend_from_slice(run.then)?;
+        let opening = opening(
+            rt.alloc(),
+            run.edges,
+            run.kind,
+            run.root,
+            run.capacity,
+            run.restamps,
+        )?;
+        let Ok(played) = play(rt.alloc(), opening, steps.as_slice()) else {
+            return Err(run.name.into());
+        };
+        if !is_told(&played, run.told) || !has_ended(&played, run.packets) {
+            return Err(run.name.into());
+        }
+    }
     Ok(())
 }
