@@ -10,10 +10,13 @@ use std::alloc::Global;
 use std::fmt::Display;
 use std::test::Fail;
 
-/// Whether the error is shown as this text.
-fn tells<E: Display>(alloc: Global, error: &E, text: &str) -> Result<bool, Fail> {
+/// Passes where the error is shown as this text.
+fn tells<E: Display>(alloc: Global, error: &E, text: &str) -> Result<(), Fail> {
     let shown = format!(in alloc; "{error}")?;
-    Ok(shown.as_str() == text)
+    if shown.as_str() != text {
+        return Err("other words".into());
+    }
+    Ok(())
 }
 
 #[test]
@@ -23,20 +26,13 @@ fn errors_in_words(rt: HostRuntime) -> Result<(), Fail> {
         line: 3,
         kind: Fault::BadWeight,
     };
-    assert!(rt; tells(alloc, &weight, "line 3: no whole number from 1 to 65535")?);
-    assert!(rt; tells(alloc, &TableError::Empty, "the topology has no node")?);
-    assert!(rt; tells(alloc, &NumberError::NoNode, "the root is no node")?);
-    let row = CompileError::BadRow;
-    assert!(rt;
-        tells(
-            alloc,
-            &row,
-            "the ports are not one for each label but the own"
-        )?
-    );
-    assert!(rt; tells(alloc, &PlanError::NoMemory, "out of memory")?);
+    tells(alloc, &weight, "line 3: no whole number from 1 to 65535")?;
+    tells(alloc, &TableError::Empty, "the topology has no node")?;
+    tells(alloc, &NumberError::NoNode, "the root is no node")?;
+    let each = "the ports are not one for each label but the own";
+    tells(alloc, &CompileError::BadRow, each)?;
+    tells(alloc, &PlanError::NoMemory, "out of memory")?;
     let apart = OpenError::Disconnected;
-    assert!(rt; tells(alloc, &apart, "some node has no walk to some node")?);
-    assert!(rt; tells(alloc, &Refused::HandEmpty, "the hand is empty")?);
-    Ok(())
+    tells(alloc, &apart, "some node has no walk to some node")?;
+    tells(alloc, &Refused::HandEmpty, "the hand is empty")
 }

@@ -4,77 +4,114 @@ use ir_graph::{Graph, GraphError};
 use std::alloc::Global;
 use std::test::Fail;
 
+/// A call that changes a graph, with its answer.
+enum Change {
+    AddNode(&'static str, Result<bool, GraphError>),
+    AddEdge(&'static str, &'static str, u32, Result<Option<u32>, GraphError>),
+    RemoveNode(&'static str, Result<(), GraphError>),
+    RemoveEdge(&'static str, &'static str, Result<u32, GraphError>),
+}
+
 /// a to b of weight 5, b to c of weight 3, and a to itself, added with one change of weight.
-fn three_edges(alloc: Global) -> Result<Graph, Fail> {
-    let mut graph = Graph::new(alloc);
-    let Ok(None) = graph.add_edge("a", "b", 2) else {
-        return Err("the first edge".into());
-    };
-    let Ok(None) = graph.add_edge("b", "c", 3) else {
-        return Err("the second edge".into());
-    };
-    let Ok(Some(2)) = graph.add_edge("a", "b", 5) else {
-        return Err("the weight before".into());
-    };
-    let Ok(None) = graph.add_edge("a", "a", 1) else {
-        return Err("the self-loop".into());
-    };
+const THREE_EDGES: [Change; 4] = [
+    Change::AddEdge("a", "b", 2, Ok(None)),
+    Change::AddEdge("b", "c", 3, Ok(None)),
+    Change::AddEdge("a", "b", 5, Ok(Some(2))),
+    Change::AddEdge("a", "a", 1, Ok(None)),
+];
+
+/// What may then be told.
+const REFUSALS: [Change; 6] = [
+    Change::RemoveEdge("a", "c", Err(GraphError::NoEdge)),
+    Change::AddEdge("a", "c", 0, Err(GraphError::BadWeight)),
+    Change::AddNode("d", Ok(true)),
+    Change::AddNode("d", Ok(false)),
+    Change::RemoveNode("b", Ok(())),
+    Change::RemoveNode("b", Err(GraphError::NoNode)),
+];
+
+/// Whether a graph answers a change so.
+fn is_answered(graph: &mut Graph, change: &Change) -> bool {
+    match change {
+        Change::AddNode(name, answer) => graph.add_node(name) == *answer,
+        Change::AddEdge(u, v, weight, answer) => graph.add_edge(u, v, *weight) == *answer,
+        Change::RemoveNode(name, answer) => graph.remove_node(name) == *answer,
+        Change::RemoveEdge(u, v, answer) => graph.remove_edge(u, v) == *answer,
+    }
+}
+
+/// The graph after these changes.
+fn changed(graph: Graph, changes: &[Change]) -> Result<Graph, Fail> {
+    let mut graph = graph;
+    for change in changes {
+        if !is_answered(&mut graph, change) {
+            return Err("another answer".into());
+        }
+    }
     Ok(graph)
+}
+
+fn three_edges(alloc: Global) -> Result<Graph, Fail> {
+    changed(Graph::new(alloc), &THREE_EDGES)
+}
+
+/// Whether these are a graph's nodes, in order.
+fn has_nodes(graph: &Graph, nodes: &[&str]) -> bool {
+    for (i, node) in nodes.iter().enumerate() {
+        if graph.node(i) != Some(*node) || graph.index_of(node) != u16::try_from(i).ok() {
+            return false;
+        }
+    }
+    graph.node(nodes.len()).is_none() && graph.number_of_nodes() == nodes.len()
+}
+
+/// Whether these are a graph's edges, in order.
+fn has_edges(graph: &Graph, edges: &[(&str, &str, u32)]) -> bool {
+    for (i, edge) in edges.iter().enumerate() {
+        if graph.edge(i) != Some(*edge) {
+            return false;
+        }
+    }
+    graph.edge(edges.len()).is_none() && graph.number_of_edges() == edges.len()
+}
+
+/// Whether these are a node's neighbors and the weights to them, in order.
+fn has_neighbors(graph: &Graph, u: usize, neighbors: &[(usize, u32)]) -> bool {
+    for (p, neighbor) in neighbors.iter().enumerate() {
+        if graph.neighbor_at(u, p) != Some(*neighbor) {
+            return false;
+        }
+    }
+    graph.neighbor_count(u) == neighbors.len() && graph.neighbor_at(u, neighbors.len()).is_none()
 }
 
 #[test]
 fn edges_in_order(rt: HostRuntime) -> Result<(), Fail> {
     let graph = three_edges(rt.alloc())?;
+    assert!(rt; has_nodes(&graph, &["a", "b", "c"]));
+    assert!(rt; has_edges(&graph, &[("a", "b", 5), ("a", "a", 1), ("b", "c", 3)]));
     assert_eq!(rt; graph.degree("a"), Ok(3));
-    assert_eq!(rt; graph.edge(0), Some(("a", "b", 5)));
-    assert_eq!(rt; graph.edge(1), Some(("a", "a", 1)));
-    assert_eq!(rt; graph.edge(2), Some(("b", "c", 3)));
-    assert_eq!(rt; graph.edge(3), None);
     assert_eq!(rt; graph.is_connected(), Ok(true));
     Ok(())
 }
 
 #[test]
-fn refusals(rt: HostRuntime) -> Result<(), Fail> {
-    let mut graph = three_edges(rt.alloc())?;
-    assert_eq!(rt; graph.remove_edge("a", "c"), Err(GraphError::NoEdge));
-    assert_eq!(rt; graph.add_edge("a", "c", 0), Err(GraphError::BadWeight));
-    assert_eq!(rt; graph.add_node("d"), Ok(true));
-    assert_eq!(rt; graph.add_node("d"), Ok(false));
-    assert_eq!(rt; graph.remove_node("b"), Ok(()));
-    assert_eq!(rt; graph.remove_node("b"), Err(GraphError::NoNode));
-    assert_eq!(rt;
-        Graph::new(rt.alloc()).is_connected(),
-        Err(GraphError::EmptyGraph)
-    );
-    Ok(())
-}
-
-#[test]
 fn what_is_left(rt: HostRuntime) -> Result<(), Fail> {
-    let mut graph = three_edges(rt.alloc())?;
-    assert_eq!(rt; graph.add_node("d"), Ok(true));
-    assert_eq!(rt; graph.remove_node("b"), Ok(()));
-    assert_eq!(rt; graph.node(0), Some("a"));
-    assert_eq!(rt; graph.node(1), Some("c"));
-    assert_eq!(rt; graph.node(2), Some("d"));
-    assert_eq!(rt; graph.node(3), None);
-    assert_eq!(rt; graph.edge(0), Some(("a", "a", 1)));
-    assert_eq!(rt; graph.edge(1), None);
+    let graph = changed(three_edges(rt.alloc())?, &REFUSALS)?;
+    assert!(rt; has_nodes(&graph, &["a", "c", "d"]));
+    assert!(rt; has_edges(&graph, &[("a", "a", 1)]));
     assert_eq!(rt; graph.is_connected(), Ok(false));
+    let empty = Graph::new(rt.alloc());
+    assert_eq!(rt; empty.is_connected(), Err(GraphError::EmptyGraph));
     Ok(())
 }
 
 #[test]
-fn by_place(rt: HostRuntime) -> Result<(), Fail> {
+fn neighbors_in_order(rt: HostRuntime) -> Result<(), Fail> {
     let graph = three_edges(rt.alloc())?;
-    assert_eq!(rt; graph.index_of("c"), Some(2));
+    assert!(rt; has_neighbors(&graph, 0, &[(1, 5), (0, 1)]));
+    assert!(rt; has_neighbors(&graph, 1, &[(0, 5), (2, 3)]));
     assert_eq!(rt; graph.index_of("d"), None);
-    assert_eq!(rt; graph.neighbor_count(0), 2);
-    assert_eq!(rt; graph.neighbor_at(0, 0), Some((1, 5)));
-    assert_eq!(rt; graph.neighbor_at(0, 1), Some((0, 1)));
-    assert_eq!(rt; graph.neighbor_at(1, 1), Some((2, 3)));
-    assert_eq!(rt; graph.neighbor_at(1, 2), None);
     assert_eq!(rt; graph.neighbor("b", 0), Some("a"));
     assert_eq!(rt; graph.weight("c", "b"), Some(3));
     Ok(())

@@ -16,8 +16,6 @@ mod openings;
 #[cfg(test)]
 mod plans;
 #[cfg(test)]
-mod rings;
-#[cfg(test)]
 mod runs;
 #[cfg(test)]
 mod tables;

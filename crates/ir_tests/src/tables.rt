@@ -4,8 +4,7 @@ ghost use Rattle.std.specs.Prelude.{◌≡◌, IfOk};
 ghost use Rattle.ir_model.specs.Network.{node_count};
 ghost use Rattle.ir_model.specs.Table.{table_size, IsShortest};
 
-use crate::networks::{HEAVY, PATH, graph_of, topology_of};
-use ir_graph::Graph;
+use crate::networks::{HEAVY, PATH, topology_of};
 use ir_tables::{Hop, Table, TableError, Topology, is_port_list, weights_by_rounds};
 use std::alloc::Global;
 use std::test::Fail;
@@ -19,28 +18,50 @@ fn shortest(alloc: Global, topology: &Topology) -> Result<Table, Fail>
     Ok(table)
 }
 
-/// The port and the distance at two nodes.
-fn way(topology: &Topology, table: &Table, u: u16, d: u16) -> Option<(Option<u16>, u32)>
+/// Two nodes, and the port and the distance from the one to the other.
+type Way = (u16, u16, Option<u16>, u32);
+
+/// Whether a table has these ways.
+fn has_ways(topology: &Topology, table: &Table, ways: &[Way]) -> bool
     requires { table_size table.now ≡ node_count topology.now }
 {
-    if (u as usize) < topology.nodes() && (d as usize) < topology.nodes() {
-        return Some((table.next(u, d), table.distance(u, d)));
+    for (u, d, port, distance) in ways {
+        if *u as usize >= topology.nodes() || *d as usize >= topology.nodes() {
+            return false;
+        }
+        if table.next(*u, *d) != *port || table.distance(*u, *d) != *distance {
+            return false;
+        }
     }
-    None
+    true
 }
 
-fn ends(topology: &Topology, l: u16) -> Option<(u16, u16)> {
-    if (l as usize) < topology.links() {
-        return Some(topology.ends(l));
+/// Whether these links, by their numbers, have these ends.
+fn has_links(topology: &Topology, links: &[(u16, (u16, u16))]) -> bool {
+    for (l, ends) in links {
+        if *l as usize >= topology.links() || topology.ends(*l) != *ends {
+            return false;
+        }
     }
-    None
+    true
 }
 
-fn port(topology: &Topology, u: u16, p: u16) -> Option<Hop> {
-    if (u as usize) < topology.nodes() && (p as usize) < topology.degree(u) {
-        return Some(topology.port(u, p));
+/// Whether these are a node's first ports: the node there, the link and its weight.
+fn has_ports(topology: &Topology, u: u16, degree: usize, ports: &[(u16, (u16, u16, u32))]) -> bool {
+    if u as usize >= topology.nodes() || topology.degree(u) as usize != degree {
+        return false;
     }
-    None
+    for (p, (node, link, weight)) in ports {
+        let hop = Hop {
+            node: *node,
+            link: *link,
+            weight: *weight,
+        };
+        if *p as usize >= degree || topology.port(u, *p) != hop {
+            return false;
+        }
+    }
+    true
 }
 
 /// The example without the links that are not marked.
@@ -56,61 +77,37 @@ fn only(alloc: Global, up: &[bool]) -> Result<Topology, Fail> {
 }
 
 #[test]
+fn links_and_ports_in_order(rt: HostRuntime) -> Result<(), Fail> {
+    let topology = topology_of(rt.alloc(), &HEAVY)?;
+    assert!(rt; topology.nodes() == 6 && topology.links() == 7);
+    let links = [(0, (0, 1)), (3, (1, 4)), (4, (2, 3)), (6, (2, 5))];
+    assert!(rt; has_links(&topology, &links));
+    assert!(rt; has_ports(&topology, 1, 3, &[(2, (4, 3, 1))]));
+    let Ok(copy) = topology.try_clone(rt.alloc()) else {
+        return Err("no memory".into());
+    };
+    assert!(rt; copy.links() == 7 && has_links(&copy, &links));
+    Ok(())
+}
+
+#[test]
 fn shortest_ways(rt: HostRuntime) -> Result<(), Fail> {
     let topology = topology_of(rt.alloc(), &HEAVY)?;
     let table = shortest(rt.alloc(), &topology)?;
-    assert_eq!(rt; way(&topology, &table, 0, 4), Some((Some(0), 2)));
-    assert_eq!(rt; way(&topology, &table, 1, 2), Some((Some(0), 2)));
-    assert_eq!(rt; way(&topology, &table, 3, 3), Some((None, 0)));
+    let ways = [(0, 4, Some(0), 2), (1, 2, Some(0), 2), (3, 3, None, 0)];
+    assert!(rt; has_ways(&topology, &table, &ways));
     Ok(())
 }
 
 #[test]
-fn links_in_edge_order(rt: HostRuntime) -> Result<(), Fail> {
-    let topology = topology_of(rt.alloc(), &HEAVY)?;
-    assert_eq!(rt; topology.nodes(), 6);
-    assert_eq!(rt; topology.links(), 7);
-    assert_eq!(rt; ends(&topology, 0), Some((0, 1)));
-    assert_eq!(rt; ends(&topology, 3), Some((1, 4)));
-    assert_eq!(rt; ends(&topology, 4), Some((2, 3)));
-    assert_eq!(rt; ends(&topology, 6), Some((2, 5)));
-    Ok(())
-}
-
-#[test]
-fn ports_in_adjacency_order(rt: HostRuntime) -> Result<(), Fail> {
-    let topology = topology_of(rt.alloc(), &HEAVY)?;
-    let to_t = Hop {
-        node: 4,
-        link: 3,
-        weight: 1,
-    };
-    assert_eq!(rt; port(&topology, 1, 2), Some(to_t));
-    assert_eq!(rt; port(&topology, 1, 3), None);
-    Ok(())
-}
-
-#[test]
-fn without_one_link(rt: HostRuntime) -> Result<(), Fail> {
-    let topology = only(rt.alloc(), &[false, true, true, true, true, true, true])?;
-    let to_q = Hop {
-        node: 2,
-        link: 1,
-        weight: 1,
-    };
-    assert_eq!(rt; topology.links(), 7);
-    assert_eq!(rt; port(&topology, 0, 0), Some(to_q));
-    assert_eq!(rt; port(&topology, 0, 1), None);
-    let table = shortest(rt.alloc(), &topology)?;
-    assert_eq!(rt; way(&topology, &table, 0, 4), Some((Some(0), 10)));
-    Ok(())
-}
-
-#[test]
-fn without_two_links(rt: HostRuntime) -> Result<(), Fail> {
-    let topology = only(rt.alloc(), &[false, true, false, true, true, true, true])?;
-    let table = shortest(rt.alloc(), &topology)?;
-    assert_eq!(rt; way(&topology, &table, 0, 1), Some((Some(0), 11)));
+fn without_links(rt: HostRuntime) -> Result<(), Fail> {
+    let one = only(rt.alloc(), &[false, true, true, true, true, true, true])?;
+    assert!(rt; one.links() == 7 && has_ports(&one, 0, 1, &[(0, (2, 1, 1))]));
+    let table = shortest(rt.alloc(), &one)?;
+    assert!(rt; has_ways(&one, &table, &[(0, 4, Some(0), 10)]));
+    let two = only(rt.alloc(), &[false, true, false, true, true, true, true])?;
+    let table = shortest(rt.alloc(), &two)?;
+    assert!(rt; has_ways(&two, &table, &[(0, 1, Some(0), 11)]));
     Ok(())
 }
 
@@ -127,22 +124,10 @@ fn a_node_cut_off(rt: HostRuntime) -> Result<(), Fail> {
 }
 
 #[test]
-fn cloned(rt: HostRuntime) -> Result<(), Fail> {
-    let topology = topology_of(rt.alloc(), &HEAVY)?;
-    let Ok(copy) = topology.try_clone(rt.alloc()) else {
-        return Err("no memory".into());
-    };
-    assert_eq!(rt; copy.links(), 7);
-    assert_eq!(rt; ends(&copy, 3), Some((1, 4)));
-    Ok(())
-}
-
-#[test]
 fn self_loops_make_no_link(rt: HostRuntime) -> Result<(), Fail> {
     let topology = topology_of(rt.alloc(), &[("a", "a", 1), ("a", "b", 1), ("b", "c", 1)])?;
-    assert_eq!(rt; topology.links(), 2);
-    assert_eq!(rt; ends(&topology, 0), Some((0, 1)));
-    assert_eq!(rt; port(&topology, 0, 1), None);
+    assert!(rt; topology.links() == 2 && has_links(&topology, &[(0, (0, 1))]));
+    assert!(rt; has_ports(&topology, 0, 1, &[]));
     Ok(())
 }
 
@@ -210,7 +195,7 @@ fn listed_ports(rt: HostRuntime) -> Result<(), Fail> {
     let Ok(table) = Table::from_ports(rt.alloc(), &topology, ports) else {
         return Err("no memory".into());
     };
-    assert_eq!(rt; way(&topology, &table, 0, 2), Some((Some(0), 2)));
+    assert!(rt; has_ways(&topology, &table, &[(0, 2, Some(0), 2)]));
     Ok(())
 }
 

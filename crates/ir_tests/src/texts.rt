@@ -3,116 +3,149 @@
 use ir_adjlist::{
     Fault, generate_adjlist, generate_weighted_edgelist, parse_adjlist, parse_weighted_edgelist,
 };
+use ir_graph::Graph;
+use std::alloc::Global;
 use std::test::Fail;
 
-#[test]
-fn reads_comments_and_loops(rt: HostRuntime) -> Result<(), Fail> {
-    let text = b"#x.py\n# GMT\n#\n\na a b\nb c # y\nc";
-    let Ok(graph) = parse_adjlist(rt.alloc(), text) else {
-        return Err(Fail::from("refused"));
-    };
-    assert_eq!(rt; graph.number_of_nodes(), 3);
-    assert_eq!(rt; graph.number_of_edges(), 3);
-    assert_eq!(rt; graph.neighbor("b", 0), Some("a"));
-    assert_eq!(rt; graph.neighbor("b", 1), Some("c"));
-    assert_eq!(rt; graph.weight("b", "a"), Some(1));
-    let Ok(written) = generate_adjlist(rt.alloc(), &graph) else {
-        return Err(Fail::from("no memory"));
-    };
-    assert!(rt; written.as_slice() == b"a a b\nb c\nc\n".as_slice());
-    Ok(())
+/// A text, the text that is written of its graph, how many nodes that has, and nodes with a neighbor and its place.
+struct Reading {
+    text: &'static [u8],
+    written: &'static [u8],
+    nodes: usize,
+    neighbors: &'static [(&'static str, usize, &'static str)],
 }
 
-#[test]
-fn orders_are_those_of_the_text(rt: HostRuntime) -> Result<(), Fail> {
-    let Ok(graph) = parse_adjlist(rt.alloc(), b"a b c\nc d\nb d\n") else {
-        return Err(Fail::from("refused"));
-    };
-    assert_eq!(rt; graph.neighbor("d", 0), Some("c"));
-    assert_eq!(rt; graph.neighbor("d", 1), Some("b"));
-    let Ok(written) = generate_adjlist(rt.alloc(), &graph) else {
-        return Err(Fail::from("no memory"));
-    };
-    assert!(rt; written.as_slice() == b"a b c\nb d\nc d\nd\n".as_slice());
-    let Ok(again) = parse_adjlist(rt.alloc(), &written) else {
-        return Err(Fail::from("refused"));
-    };
-    assert_eq!(rt; again.neighbor("d", 0), Some("b"));
-    assert_eq!(rt; again.neighbor("d", 1), Some("c"));
-    Ok(())
-}
+/// Adjacency lists, of which the third is what is written of the second.
+const LISTS: [Reading; 4] = [
+    Reading {
+        text: b"#x.py\n# GMT\n#\n\na a b\nb c # y\nc",
+        written: b"a a b\nb c\nc\n",
+        nodes: 3,
+        neighbors: &[("b", 0, "a"), ("b", 1, "c")],
+    },
+    Reading {
+        text: b"a b c\nc d\nb d\n",
+        written: b"a b c\nb d\nc d\nd\n",
+        nodes: 4,
+        neighbors: &[("d", 0, "c"), ("d", 1, "b")],
+    },
+    Reading {
+        text: b"a b c\nb d\nc d\nd\n",
+        written: b"a b c\nb d\nc d\nd\n",
+        nodes: 4,
+        neighbors: &[("d", 0, "b"), ("d", 1, "c")],
+    },
+    Reading {
+        text: b"0 1 2 3\n1 2 3\n2 3\n3 4\n4 5\n5 6\n6\n",
+        written: b"0 1 2 3\n1 2 3\n2 3\n3 4\n4 5\n5 6\n6\n",
+        nodes: 7,
+        neighbors: &[],
+    },
+];
 
-#[test]
-fn writes_the_lollipop(rt: HostRuntime) -> Result<(), Fail> {
-    let text = b"0 1 2 3\n1 2 3\n2 3\n3 4\n4 5\n5 6\n6\n";
-    let Ok(graph) = parse_adjlist(rt.alloc(), text) else {
-        return Err(Fail::from("refused"));
-    };
-    let Ok(written) = generate_adjlist(rt.alloc(), &graph) else {
-        return Err(Fail::from("no memory"));
-    };
-    assert!(rt; written.as_slice() == text.as_slice());
-    Ok(())
-}
+/// Weighted edge lists.
+const WEIGHTED: [Reading; 3] = [
+    Reading {
+        text: b"a b 2\nb c 3.0\nx\na b 5\n",
+        written: b"a b 5\nb c 3\n",
+        nodes: 3,
+        neighbors: &[("b", 0, "a"), ("b", 1, "c")],
+    },
+    Reading {
+        text: b"a b 007",
+        written: b"a b 7\n",
+        nodes: 2,
+        neighbors: &[],
+    },
+    Reading {
+        text: b"a b 65535",
+        written: b"a b 65535\n",
+        nodes: 2,
+        neighbors: &[],
+    },
+];
 
-#[test]
-fn reads_weights(rt: HostRuntime) -> Result<(), Fail> {
-    let Ok(graph) = parse_weighted_edgelist(rt.alloc(), b"a b 2\nb c 3.0\nx\na b 5\n") else {
-        return Err(Fail::from("refused"));
-    };
-    assert_eq!(rt; graph.weight("a", "b"), Some(5));
-    assert_eq!(rt; graph.weight("c", "b"), Some(3));
-    assert!(rt; !graph.has_node("x"));
-    let Ok(written) = generate_weighted_edgelist(rt.alloc(), &graph) else {
-        return Err(Fail::from("no memory"));
-    };
-    assert!(rt; written.as_slice() == b"a b 5\nb c 3\n".as_slice());
-    Ok(())
-}
-
-fn weight_in(rt: HostRuntime, text: &[u8]) -> Option<u32> {
-    match parse_weighted_edgelist(rt.alloc(), text) {
-        Ok(graph) => graph.weight("a", "b"),
-        Err(_) => None,
+/// Whether a graph has these neighbors.
+fn has_neighbors(graph: &Graph, neighbors: &[(&str, usize, &str)]) -> bool {
+    for (node, place, neighbor) in neighbors {
+        if graph.neighbor(node, *place) != Some(*neighbor) {
+            return false;
+        }
     }
+    true
+}
+
+/// Whether a graph is the one that was to be read, and is written so.
+fn is_read(graph: &Graph, written: &[u8], wanted: &Reading) -> bool {
+    written == wanted.written
+        && graph.number_of_nodes() == wanted.nodes
+        && has_neighbors(graph, wanted.neighbors)
 }
 
 #[test]
-fn reads_single_weights(rt: HostRuntime) -> Result<(), Fail> {
-    assert_eq!(rt; weight_in(rt, b"a b 007"), Some(7));
-    assert_eq!(rt; weight_in(rt, b"a b 65535"), Some(65_535));
+fn adjacency_lists_are_read_and_written(rt: HostRuntime) -> Result<(), Fail> {
+    for reading in &LISTS {
+        let Ok(graph) = parse_adjlist(rt.alloc(), reading.text) else {
+            return Err("refused".into());
+        };
+        let Ok(written) = generate_adjlist(rt.alloc(), &graph) else {
+            return Err("no memory".into());
+        };
+        assert!(rt; is_read(&graph, written.as_slice(), reading));
+    }
     Ok(())
 }
 
-fn fault_of(rt: HostRuntime, text: &[u8]) -> (usize, u8) {
-    match parse_weighted_edgelist(rt.alloc(), text) {
+#[test]
+fn edge_lists_are_read_and_written(rt: HostRuntime) -> Result<(), Fail> {
+    for reading in &WEIGHTED {
+        let Ok(graph) = parse_weighted_edgelist(rt.alloc(), reading.text) else {
+            return Err("refused".into());
+        };
+        let Ok(written) = generate_weighted_edgelist(rt.alloc(), &graph) else {
+            return Err("no memory".into());
+        };
+        assert!(rt; is_read(&graph, written.as_slice(), reading));
+    }
+    Ok(())
+}
+
+fn fault_of(alloc: Global, text: &[u8]) -> (usize, u8) {
+    match parse_weighted_edgelist(alloc, text) {
         Ok(_) => (0, 0),
         Err(error) => (error.line, error.code()),
     }
 }
 
+/// Edge lists with their first faults: the line, and the fault's number.
+const FAULTS: [(&'static [u8], usize, u8); 5] = [
+    (b"a b 2.5", 1, 4),
+    (b"a b 0", 1, 4),
+    (b"a b 65536", 1, 4),
+    (b"a b", 1, 3),
+    (b"x\na b 3 4", 2, 3),
+];
+
 #[test]
-fn refuses_weights_and_rows(rt: HostRuntime) -> Result<(), Fail> {
-    assert!(rt; fault_of(rt, b"a b 2.5") == (1, 4));
-    assert!(rt; fault_of(rt, b"a b 0") == (1, 4));
-    assert!(rt; fault_of(rt, b"a b 65536") == (1, 4));
-    assert!(rt; fault_of(rt, b"a b") == (1, 3));
-    assert!(rt; fault_of(rt, b"x\na b 3 4") == (2, 3));
+fn weights_and_rows_refused(rt: HostRuntime) -> Result<(), Fail> {
+    for (text, line, code) in &FAULTS {
+        assert!(rt; fault_of(rt.alloc(), text) == (*line, *code));
+    }
     Ok(())
 }
 
 #[test]
-fn tells_the_first_fault(rt: HostRuntime) -> Result<(), Fail> {
-    let Err(byte) = parse_adjlist(rt.alloc(), b"a b\n# \xc3\nb \xc3\n") else {
-        return Err(Fail::from("read"));
-    };
-    assert_eq!(rt; byte.line, 3);
-    assert!(rt; byte.kind == Fault::BadByte);
+fn bytes_and_names_refused(rt: HostRuntime) -> Result<(), Fail> {
     let long = [b'x'; 65];
-    let Err(name) = parse_adjlist(rt.alloc(), &long) else {
-        return Err(Fail::from("read"));
-    };
-    assert_eq!(rt; name.line, 1);
-    assert!(rt; name.kind == Fault::BadName);
+    let faults: [(&[u8], usize, Fault); 2] = [
+        (b"a b\n# \xc3\nb \xc3\n", 3, Fault::BadByte),
+        (&long, 1, Fault::BadName),
+    ];
+    for (text, line, kind) in faults {
+        let Err(error) = parse_adjlist(rt.alloc(), text) else {
+            return Err("read".into());
+        };
+        assert!(rt; error.line == line && error.kind == kind);
+    }
     Ok(())
 }

@@ -1,8 +1,11 @@
-//! Tests: texts that are read and written, and the program's runs, through the public calls of the crates below.
+//! Tests: texts that are read and written, the program's runs, and runs at the limits, through the public calls of the crates
+//! below.
 #![tactic(auto)]
 
 #[cfg(test)]
 mod hostile;
+#[cfg(test)]
+mod limits;
 #[cfg(test)]
 mod programs;
 #[cfg(test)]

@@ -36,25 +36,26 @@ fn is_event(alloc: Global, text: &str, event: Event) -> Result<bool, Fail> {
     }
 }
 
+/// Lines with their events.
+const EVENTS: [(&'static str, Event); 11] = [
+    ("inject a c", Event::Inject(0, 2)),
+    ("down b a", Event::Down(0)),
+    ("up b c", Event::Up(1)),
+    ("install tree b", Event::Install(Kind::Tree, 1)),
+    ("install shortest c", Event::Install(Kind::Shortest, 2)),
+    ("retire 00002", Event::Retire(2)),
+    ("learn 65535", Event::Learn(65_535)),
+    ("take b inbox", Event::Take(1, Way::Inbox)),
+    ("take b from c", Event::Take(1, Way::Link(1))),
+    ("read a 7", Event::Read(0, 7)),
+    ("act c", Event::Act(2)),
+];
+
 #[test]
 fn every_line_has_its_step(rt: HostRuntime) -> Result<(), Fail> {
-    assert!(rt; is_event(rt.alloc(), "inject a c", Event::Inject(0, 2))?);
-    assert!(rt; is_event(rt.alloc(), "down b a", Event::Down(0))?);
-    assert!(rt; is_event(rt.alloc(), "up b c", Event::Up(1))?);
-    assert!(rt; is_event(rt.alloc(), "install tree b", Event::Install(Kind::Tree, 1))?);
-    assert!(rt;
-        is_event(
-            rt.alloc(),
-            "install shortest c",
-            Event::Install(Kind::Shortest, 2)
-        )?
-    );
-    assert!(rt; is_event(rt.alloc(), "retire 00002", Event::Retire(2))?);
-    assert!(rt; is_event(rt.alloc(), "learn 65535", Event::Learn(65_535))?);
-    assert!(rt; is_event(rt.alloc(), "take b inbox", Event::Take(1, Way::Inbox))?);
-    assert!(rt; is_event(rt.alloc(), "take b from c", Event::Take(1, Way::Link(1)))?);
-    assert!(rt; is_event(rt.alloc(), "read a 7", Event::Read(0, 7))?);
-    assert!(rt; is_event(rt.alloc(), "act c", Event::Act(2))?);
+    for (line, event) in &EVENTS {
+        assert!(rt; is_event(rt.alloc(), line, *event)?, "{line}");
+    }
     Ok(())
 }
 
@@ -72,30 +73,30 @@ fn lines_are_counted_from_one(rt: HostRuntime) -> Result<(), Fail> {
     Ok(())
 }
 
-#[test]
-fn faults_of_single_lines(rt: HostRuntime) -> Result<(), Fail> {
-    let alloc = rt.alloc();
-    assert!(rt; is_refused(alloc, "inject a \u{e9}", 1, ScriptFault::BadByte)?);
-    assert!(rt; is_refused(alloc, "inj", 1, ScriptFault::BadCommand)?);
-    assert!(rt; is_refused(alloc, "inject a", 1, ScriptFault::BadCommand)?);
-    assert!(rt; is_refused(alloc, "drain now", 1, ScriptFault::BadCommand)?);
-    assert!(rt; is_refused(alloc, "install least a", 1, ScriptFault::BadCommand)?);
-    assert!(rt; is_refused(alloc, "take z out", 1, ScriptFault::BadCommand)?);
-    assert!(rt; is_refused(alloc, "retire 65536", 1, ScriptFault::BadNumber)?);
-    assert!(rt; is_refused(alloc, "learn 000001", 1, ScriptFault::BadNumber)?);
-    assert!(rt; is_refused(alloc, "read a +1", 1, ScriptFault::BadNumber)?);
-    assert!(rt; is_refused(alloc, "inject a z", 1, ScriptFault::UnknownNode)?);
-    assert!(rt; is_refused(alloc, "down a c", 1, ScriptFault::UnknownLink)?);
-    assert!(rt; is_refused(alloc, "take a from a", 1, ScriptFault::UnknownLink)?);
-    Ok(())
-}
+/// Texts with their first faults: the line, and what is wrong there.
+const FAULTS: [(&'static str, usize, ScriptFault); 15] = [
+    ("inject a \u{e9}", 1, ScriptFault::BadByte),
+    ("inj", 1, ScriptFault::BadCommand),
+    ("inject a", 1, ScriptFault::BadCommand),
+    ("drain now", 1, ScriptFault::BadCommand),
+    ("install least a", 1, ScriptFault::BadCommand),
+    ("take z out", 1, ScriptFault::BadCommand),
+    ("retire 65536", 1, ScriptFault::BadNumber),
+    ("learn 000001", 1, ScriptFault::BadNumber),
+    ("read a +1", 1, ScriptFault::BadNumber),
+    ("inject a z", 1, ScriptFault::UnknownNode),
+    ("down a c", 1, ScriptFault::UnknownLink),
+    ("take a from a", 1, ScriptFault::UnknownLink),
+    ("drain\n\nact z\ninj\n", 3, ScriptFault::UnknownNode),
+    ("read z 70000", 1, ScriptFault::UnknownNode),
+    ("down c z", 1, ScriptFault::UnknownNode),
+];
 
 #[test]
 fn the_first_fault_is_told(rt: HostRuntime) -> Result<(), Fail> {
-    let alloc = rt.alloc();
-    assert!(rt; is_refused(alloc, "drain\n\nact z\ninj\n", 3, ScriptFault::UnknownNode)?);
-    assert!(rt; is_refused(alloc, "read z 70000", 1, ScriptFault::UnknownNode)?);
-    assert!(rt; is_refused(alloc, "down c z", 1, ScriptFault::UnknownNode)?);
+    for (text, line, kind) in &FAULTS {
+        assert!(rt; is_refused(rt.alloc(), text, *line, *kind)?, "{text}");
+    }
     let error = ScriptError {
         line: 1,
         kind: ScriptFault::UnknownLink,

@@ -30,12 +30,6 @@ fn is_refused(alloc: Global, text: &str, line: usize, kind: FindingKind) -> Resu
     }
 }
 
-/// Whether a row is refused so behind the first line.
-fn is_row_refused(alloc: Global, row: &str, kind: FindingKind) -> Result<bool, Fail> {
-    let text = format!(in alloc; "trace 1\n{row}\n")?;
-    is_refused(alloc, text.as_str(), 2, kind)
-}
-
 #[test]
 fn rows_are_read(rt: HostRuntime) -> Result<(), Fail> {
     let text = "trace 1\n7 2 a c 1 down b c a b\n0 1 c a 0 full c b c\n";
@@ -64,44 +58,48 @@ fn the_first_line_alone(rt: HostRuntime) -> Result<(), Fail> {
     Ok(())
 }
 
-#[test]
-fn no_traces(rt: HostRuntime) -> Result<(), Fail> {
-    let alloc = rt.alloc();
-    assert!(rt; is_refused(alloc, "", 1, FindingKind::NotTrace)?);
-    assert!(rt; is_refused(alloc, "trace 1", 1, FindingKind::NotTrace)?);
-    assert!(rt; is_refused(alloc, "trace 3\n", 1, FindingKind::NotTrace)?);
-    assert!(rt; is_refused(alloc, "\ntrace 1\n", 1, FindingKind::NotTrace)?);
-    Ok(())
-}
+/// Texts with their first findings: the line, and what is found in it.
+const FINDINGS: [(&'static str, usize, FindingKind); 6] = [
+    ("", 1, FindingKind::NotTrace),
+    ("trace 1", 1, FindingKind::NotTrace),
+    ("trace 3\n", 1, FindingKind::NotTrace),
+    ("\ntrace 1\n", 1, FindingKind::NotTrace),
+    ("trace 1\n0 1 a c 2 delivered a b c", 2, FindingKind::BadRow),
+    (
+        "trace 1\n4294967295 9 a c 7 left a\n0 1 a z 0 left a\n0\n",
+        3,
+        FindingKind::UnknownNode,
+    ),
+];
+
+/// Rows that are refused behind the first line.
+const ROWS: [(&'static str, FindingKind); 15] = [
+    ("", FindingKind::BadRow),
+    ("0 1 a c 2  delivered a b c", FindingKind::BadRow),
+    ("0 1 a c 2 delivered a b c ", FindingKind::BadRow),
+    ("0 1 a c 2 delivered", FindingKind::BadRow),
+    ("0 1 a c 2 down a b", FindingKind::BadRow),
+    ("00 1 a c 2 delivered a b c", FindingKind::BadRow),
+    ("4294967296 1 a c 2 left a", FindingKind::BadRow),
+    ("0 one a c 2 left a", FindingKind::BadRow),
+    ("0 1 a c 2 lost z", FindingKind::BadRow),
+    ("0 1 a\tc c 2 left a", FindingKind::BadRow),
+    ("0 1 a z 2 delivered a b c", FindingKind::UnknownNode),
+    ("0 1 a c 2 delivered a b z", FindingKind::UnknownNode),
+    ("0 1 a c 0 down a c a", FindingKind::UnknownNode),
+    ("0 1 a c 0 down b a a", FindingKind::UnknownNode),
+    ("0 1 d d 0 full d d d", FindingKind::UnknownNode),
+];
 
 #[test]
-fn bad_rows(rt: HostRuntime) -> Result<(), Fail> {
-    let alloc = rt.alloc();
-    let cut = "trace 1\n0 1 a c 2 delivered a b c";
-    assert!(rt; is_refused(alloc, cut, 2, FindingKind::BadRow)?);
-    assert!(rt; is_row_refused(alloc, "", FindingKind::BadRow)?);
-    assert!(rt; is_row_refused(alloc, "0 1 a c 2  delivered a b c", FindingKind::BadRow)?);
-    assert!(rt; is_row_refused(alloc, "0 1 a c 2 delivered a b c ", FindingKind::BadRow)?);
-    assert!(rt; is_row_refused(alloc, "0 1 a c 2 delivered", FindingKind::BadRow)?);
-    assert!(rt; is_row_refused(alloc, "0 1 a c 2 down a b", FindingKind::BadRow)?);
-    assert!(rt; is_row_refused(alloc, "00 1 a c 2 delivered a b c", FindingKind::BadRow)?);
-    assert!(rt; is_row_refused(alloc, "4294967296 1 a c 2 left a", FindingKind::BadRow)?);
-    assert!(rt; is_row_refused(alloc, "0 one a c 2 left a", FindingKind::BadRow)?);
-    assert!(rt; is_row_refused(alloc, "0 1 a c 2 lost z", FindingKind::BadRow)?);
-    assert!(rt; is_row_refused(alloc, "0 1 a\tc c 2 left a", FindingKind::BadRow)?);
-    Ok(())
-}
-
-#[test]
-fn unknown_nodes_and_links(rt: HostRuntime) -> Result<(), Fail> {
-    let alloc = rt.alloc();
-    assert!(rt; is_row_refused(alloc, "0 1 a z 2 delivered a b c", FindingKind::UnknownNode)?);
-    assert!(rt; is_row_refused(alloc, "0 1 a c 2 delivered a b z", FindingKind::UnknownNode)?);
-    assert!(rt; is_row_refused(alloc, "0 1 a c 0 down a c a", FindingKind::UnknownNode)?);
-    assert!(rt; is_row_refused(alloc, "0 1 a c 0 down b a a", FindingKind::UnknownNode)?);
-    assert!(rt; is_row_refused(alloc, "0 1 d d 0 full d d d", FindingKind::UnknownNode)?);
-    let later = "trace 1\n4294967295 9 a c 7 left a\n0 1 a z 0 left a\n0\n";
-    assert!(rt; is_refused(alloc, later, 3, FindingKind::UnknownNode)?);
+fn first_findings(rt: HostRuntime) -> Result<(), Fail> {
+    for (text, line, kind) in &FINDINGS {
+        assert!(rt; is_refused(rt.alloc(), text, *line, *kind)?, "{text}");
+    }
+    for (row, kind) in &ROWS {
+        let text = format!(in rt.alloc(); "trace 1\n{row}\n")?;
+        assert!(rt; is_refused(rt.alloc(), text.as_str(), 2, *kind)?, "{row}");
+    }
     let finding = Finding {
         line: 3,
         kind: FindingKind::UnknownNode,
