@@ -1,7 +1,7 @@
 //! Openings that are refused, networks of one node, and installs.
 
-use crate::networks::{Edge, HEAVY, PATH, topology_of};
-use crate::runs::opening;
+use crate::networks::{Edge, PATH, topology_of};
+use crate::runs::{HEAVY_TREE, PATH_TREE, Setting, opening};
 use ir_core::{Event, Fate, Kind, OpenError, Opening, Refused, Step, World, installs, play};
 use ir_graph::Graph;
 use ir_tables::Topology;
@@ -122,7 +122,7 @@ fn installs_these(
 
 #[test]
 fn installs_of_a_list(rt: HostRuntime) -> Result<(), Fail> {
-    let path = opening(rt.alloc(), &PATH, Kind::Tree, 1, 16, 0)?;
+    let path = opening(rt.alloc(), &PATH_TREE)?;
     let steps = [
         Step::Event(Event::Install(Kind::Shortest, 0)),
         Step::Event(Event::Down(0)),
@@ -139,7 +139,7 @@ fn installs_of_a_list(rt: HostRuntime) -> Result<(), Fail> {
         (Kind::Tree, 2, &[true, true]),
     ];
     assert!(rt; installs_these(rt.alloc(), &path, &steps, &all)?);
-    let wide = opening(rt.alloc(), &HEAVY, Kind::Tree, 0, 16, 0)?;
+    let wide = opening(rt.alloc(), &HEAVY_TREE)?;
     let down = [
         Step::Event(Event::Down(0)),
         Step::Event(Event::Install(Kind::Tree, 0)),
@@ -150,7 +150,11 @@ fn installs_of_a_list(rt: HostRuntime) -> Result<(), Fail> {
         (Kind::Tree, 0, &[false, true, true, true, true, true, true]),
     ];
     assert!(rt; installs_these(rt.alloc(), &wide, &down, &two)?);
-    let none = opening(rt.alloc(), &PATH, Kind::Tree, 0, 0, 0)?;
+    let narrow = Setting {
+        capacity: 0,
+        ..PATH_TREE
+    };
+    let none = opening(rt.alloc(), &narrow)?;
     assert!(rt; matches!(installs(rt.alloc(), &none, &[]), Err(OpenError::TooLarge)));
     Ok(())
 }

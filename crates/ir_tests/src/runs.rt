@@ -13,14 +13,20 @@ type Told = (usize, Result<Reply, Refused>);
 /// What became of a packet: its first epoch, its hops, its restamps and its fate.
 type Ended = (u32, &'static [u16], &'static [Restamp], Fate);
 
-/// A run of steps over a network, and what is to come of it.
+/// What a run is opened with.
+#[derive(Clone, Copy)]
+pub(crate) struct Setting {
+    pub(crate) edges: &'static [Edge],
+    pub(crate) kind: Kind,
+    pub(crate) root: u16,
+    pub(crate) capacity: usize,
+    pub(crate) restamps: u8,
+}
+
+/// A run of steps, and what is to come of it.
 struct Run {
     name: &'static str,
-    edges: &'static [Edge],
-    kind: Kind,
-    root: u16,
-    capacity: usize,
-    restamps: u8,
+    over: &'static Setting,
     /// What is played first, and what then.
     first: &'static [Step],
     then: &'static [Step],
@@ -28,6 +34,52 @@ struct Run {
     /// All packets, by their numbers.
     packets: &'static [Ended],
 }
+
+/// The tree of the heavy network, no packet being restamped.
+pub(crate) const HEAVY_TREE: Setting = Setting {
+    edges: &HEAVY,
+    kind: Kind::Tree,
+    root: 0,
+    capacity: 16,
+    restamps: 0,
+};
+
+/// The same, a packet being restamped once.
+const HEAVY_ONCE: Setting = Setting {
+    restamps: 1,
+    ..HEAVY_TREE
+};
+
+/// The same, a packet being restamped twice.
+const HEAVY_TWICE: Setting = Setting {
+    restamps: 2,
+    ..HEAVY_TREE
+};
+
+/// The shortest ways of the heavy network.
+const HEAVY_SHORTEST: Setting = Setting {
+    kind: Kind::Shortest,
+    ..HEAVY_TREE
+};
+
+/// The tree of the path from its middle, no packet being restamped.
+pub(crate) const PATH_TREE: Setting = Setting {
+    edges: &PATH,
+    root: 1,
+    ..HEAVY_TREE
+};
+
+/// The same, a packet being restamped once.
+const PATH_ONCE: Setting = Setting {
+    restamps: 1,
+    ..PATH_TREE
+};
+
+/// The same as the first, each channel holding one packet.
+const PATH_NARROW: Setting = Setting {
+    capacity: 1,
+    ..PATH_TREE
+};
 
 /// A packet from node 0 to node 4 is sent into its first channel.
 const SENT: [Step; 3] = [
@@ -73,11 +125,7 @@ const AT_THE_END: [Step; 6] = [
 const RUNS: [Run; 20] = [
     Run {
         name: "along the tree",
-        edges: &HEAVY,
-        kind: Kind::Tree,
-        root: 0,
-        capacity: 16,
-        restamps: 0,
+        over: &HEAVY_TREE,
         first: &[],
         then: &[Event(Inject(0, 4)), Drain],
         told: &[],
@@ -85,11 +133,7 @@ const RUNS: [Run; 20] = [
     },
     Run {
         name: "along shortest ways",
-        edges: &HEAVY,
-        kind: Kind::Shortest,
-        root: 0,
-        capacity: 16,
-        restamps: 0,
+        over: &HEAVY_SHORTEST,
         first: &[],
         then: &[Event(Inject(0, 4)), Drain],
         told: &[],
@@ -97,11 +141,7 @@ const RUNS: [Run; 20] = [
     },
     Run {
         name: "a packet keeps its epoch",
-        edges: &HEAVY,
-        kind: Kind::Tree,
-        root: 0,
-        capacity: 16,
-        restamps: 0,
+        over: &HEAVY_TREE,
         first: &SENT,
         then: &[
             Event(Install(Kind::Shortest, 0)),
@@ -117,11 +157,7 @@ const RUNS: [Run; 20] = [
     },
     Run {
         name: "retired in the second channel",
-        edges: &HEAVY,
-        kind: Kind::Tree,
-        root: 0,
-        capacity: 16,
-        restamps: 0,
+        over: &HEAVY_TREE,
         first: &SENT_TWICE,
         then: &TO_SHORTEST,
         told: &[],
@@ -129,11 +165,7 @@ const RUNS: [Run; 20] = [
     },
     Run {
         name: "retired in the first channel",
-        edges: &HEAVY,
-        kind: Kind::Tree,
-        root: 0,
-        capacity: 16,
-        restamps: 0,
+        over: &HEAVY_TREE,
         first: &SENT,
         then: &TO_SHORTEST,
         told: &[],
@@ -141,11 +173,7 @@ const RUNS: [Run; 20] = [
     },
     Run {
         name: "the link ahead is down",
-        edges: &HEAVY,
-        kind: Kind::Tree,
-        root: 0,
-        capacity: 16,
-        restamps: 0,
+        over: &HEAVY_TREE,
         first: &SENT,
         then: &[
             Event(Take(1, Way::Link(0))),
@@ -158,11 +186,7 @@ const RUNS: [Run; 20] = [
     },
     Run {
         name: "the link behind is down",
-        edges: &HEAVY,
-        kind: Kind::Tree,
-        root: 0,
-        capacity: 16,
-        restamps: 0,
+        over: &HEAVY_TREE,
         first: &SENT,
         then: &[
             Event(Down(0)),
@@ -175,11 +199,7 @@ const RUNS: [Run; 20] = [
     },
     Run {
         name: "the link behind is up again",
-        edges: &HEAVY,
-        kind: Kind::Tree,
-        root: 0,
-        capacity: 16,
-        restamps: 0,
+        over: &HEAVY_TREE,
         first: &SENT,
         then: &[
             Event(Down(0)),
@@ -195,11 +215,7 @@ const RUNS: [Run; 20] = [
     },
     Run {
         name: "installs over the links that are up",
-        edges: &PATH,
-        kind: Kind::Tree,
-        root: 1,
-        capacity: 16,
-        restamps: 0,
+        over: &PATH_TREE,
         first: &[],
         then: &[
             Event(Down(0)),
@@ -218,11 +234,7 @@ const RUNS: [Run; 20] = [
     },
     Run {
         name: "a retired stamp",
-        edges: &PATH,
-        kind: Kind::Tree,
-        root: 1,
-        capacity: 16,
-        restamps: 0,
+        over: &PATH_TREE,
         first: &[],
         then: &[
             Event(Down(0)),
@@ -238,11 +250,7 @@ const RUNS: [Run; 20] = [
     },
     Run {
         name: "a full inbox",
-        edges: &PATH,
-        kind: Kind::Tree,
-        root: 1,
-        capacity: 1,
-        restamps: 0,
+        over: &PATH_NARROW,
         first: &[],
         then: &[
             Event(Inject(0, 2)),
@@ -259,11 +267,7 @@ const RUNS: [Run; 20] = [
     },
     Run {
         name: "a full channel",
-        edges: &PATH,
-        kind: Kind::Tree,
-        root: 1,
-        capacity: 1,
-        restamps: 0,
+        over: &PATH_NARROW,
         first: &[],
         then: &[
             Event(Inject(0, 2)),
@@ -282,11 +286,7 @@ const RUNS: [Run; 20] = [
     },
     Run {
         name: "refusals in order",
-        edges: &PATH,
-        kind: Kind::Tree,
-        root: 1,
-        capacity: 16,
-        restamps: 0,
+        over: &PATH_TREE,
         first: &[],
         then: &[
             Event(Act(0)),
@@ -326,11 +326,7 @@ const RUNS: [Run; 20] = [
     },
     Run {
         name: "restamped in a channel",
-        edges: &HEAVY,
-        kind: Kind::Tree,
-        root: 0,
-        capacity: 16,
-        restamps: 1,
+        over: &HEAVY_ONCE,
         first: &SENT,
         then: &TO_SHORTEST,
         told: &[],
@@ -343,11 +339,7 @@ const RUNS: [Run; 20] = [
     },
     Run {
         name: "turned back by a restamp",
-        edges: &HEAVY,
-        kind: Kind::Tree,
-        root: 0,
-        capacity: 16,
-        restamps: 1,
+        over: &HEAVY_ONCE,
         first: &SENT_TWICE,
         then: &TO_SHORTEST,
         told: &[],
@@ -360,11 +352,7 @@ const RUNS: [Run; 20] = [
     },
     Run {
         name: "restamped once and dropped",
-        edges: &HEAVY,
-        kind: Kind::Tree,
-        root: 0,
-        capacity: 16,
-        restamps: 1,
+        over: &HEAVY_ONCE,
         first: &SENT_TWICE,
         then: &TO_SHORTEST_AND_BACK,
         told: &[],
@@ -377,11 +365,7 @@ const RUNS: [Run; 20] = [
     },
     Run {
         name: "restamped twice",
-        edges: &HEAVY,
-        kind: Kind::Tree,
-        root: 0,
-        capacity: 16,
-        restamps: 2,
+        over: &HEAVY_TWICE,
         first: &SENT_TWICE,
         then: &TO_SHORTEST_AND_BACK,
         told: &[],
@@ -394,11 +378,7 @@ const RUNS: [Run; 20] = [
     },
     Run {
         name: "restamped at the end",
-        edges: &PATH,
-        kind: Kind::Tree,
-        root: 1,
-        capacity: 16,
-        restamps: 1,
+        over: &PATH_ONCE,
         first: &[],
         then: &AT_THE_END,
         told: &[],
@@ -411,11 +391,7 @@ const RUNS: [Run; 20] = [
     },
     Run {
         name: "retired at the end",
-        edges: &PATH,
-        kind: Kind::Tree,
-        root: 1,
-        capacity: 16,
-        restamps: 0,
+        over: &PATH_TREE,
         first: &[],
         then: &AT_THE_END,
         told: &[],
@@ -423,11 +399,7 @@ const RUNS: [Run; 20] = [
     },
     Run {
         name: "restamped at the source",
-        edges: &PATH,
-        kind: Kind::Tree,
-        root: 1,
-        capacity: 16,
-        restamps: 1,
+        over: &PATH_ONCE,
         first: &[],
         then: &[
             Event(Install(Kind::Tree, 1)),
@@ -445,22 +417,14 @@ const RUNS: [Run; 20] = [
     },
 ];
 
-/// An opening over a network of these edges.
-pub(crate) fn opening(
-    alloc: Global,
-    edges: &[Edge],
-    kind: Kind,
-    root: u16,
-    capacity: usize,
-    restamps: u8,
-) -> Result<Opening, Fail> {
+pub(crate) fn opening(alloc: Global, over: &Setting) -> Result<Opening, Fail> {
     Ok(Opening {
-        topology: topology_of(alloc, edges)?,
-        kind,
-        root,
-        capacity,
+        topology: topology_of(alloc, over.edges)?,
+        kind: over.kind,
+        root: over.root,
+        capacity: over.capacity,
         max_packets: 4096,
-        restamps,
+        restamps: over.restamps,
     })
 }
 
@@ -498,14 +462,7 @@ fn runs_by_hand(rt: HostRuntime) -> Result<(), Fail> {
     for run in &RUNS {
         let mut steps = Vec::from_slice(rt.alloc(), run.first)?;
         steps.extend_from_slice(run.then)?;
-        let opening = opening(
-            rt.alloc(),
-            run.edges,
-            run.kind,
-            run.root,
-            run.capacity,
-            run.restamps,
-        )?;
+        let opening = opening(rt.alloc(), run.over)?;
         let Ok(played) = play(rt.alloc(), opening, steps.as_slice()) else {
             return Err(run.name.into());
         };
