@@ -63,118 +63,71 @@ fn lived<T: Threads + Wait + Sync>(
     })
 }
 
-/// The words of a run, its topology and script, and its status, output and faults.
-struct Run {
-    words: &'static [&'static str],
-    topology: &'static str,
-    script: &'static str,
-    status: u8,
-    output: &'static str,
-    faults: &'static str,
-}
-
-/// The words of a run over two files.
-const FILES: [&'static str; 3] = ["live", "topology", "script"];
-
-/// A packet over two links.
-const DELIVERED: Run = Run {
-    words: &[
-        "live", "--kind", "tree", "--root", "b", "topology", "script",
-    ],
-    topology: PATH,
-    script: "inject a c\ndrain\n",
-    status: 0,
-    output: "trace 1\n0 1 a c 2 delivered a b c\n",
-    faults: "",
-};
-
-/// A run that is refused.
-const REFUSED: Run = Run {
-    words: &FILES,
-    topology: PATH,
-    script: "",
-    status: 1,
-    output: "",
-    faults: "",
-};
-
-const RUNS: [Run; 12] = [
-    DELIVERED,
-    Run {
-        words: &["live", "-"],
-        topology: "a b\nb c\n%%\ninject a c\ndrain\n",
-        ..DELIVERED
-    },
-    Run {
-        words: &["live", "--restamps", "1", "topology", "script"],
-        output: "trace 2\n0 a c 2 delivered #1 a b c\n",
-        ..DELIVERED
-    },
-    Run {
-        words: &FILES,
-        script: "retire 65535\n",
-        output: "trace 1\n",
-        faults: "refused 1 NoEpoch\n",
-        ..DELIVERED
-    },
-    Run {
-        words: &FILES,
-        script: "down a b\n\ninstall tree b\nretire 1\ninject b c\ndrain\n",
-        output: "trace 1\n0 1 b c 1 delivered b c\n",
-        faults: "refused 3 Disconnected\nrefused 4 Same\n",
-        ..DELIVERED
-    },
-    Run {
-        words: &["live", "--root", "z", "topology", "script"],
-        faults: "opening NoNode\n",
-        ..REFUSED
-    },
-    Run {
-        topology: "a\nb\n",
-        faults: "opening Disconnected\n",
-        ..REFUSED
-    },
-    Run {
-        topology: "",
-        faults: "opening Empty\n",
-        ..REFUSED
-    },
-    Run {
-        script: "inject a z\n",
-        faults: "script 1 UnknownNode\n",
-        ..REFUSED
-    },
-    Run {
-        script: "down a c\n",
-        faults: "script 1 UnknownLink\n",
-        ..REFUSED
-    },
-    Run {
-        script: "\nretire 65536\n",
-        faults: "script 2 BadNumber\n",
-        ..REFUSED
-    },
-    Run {
-        script: "take a inbox\n",
-        faults: "script 1 BadCommand\n",
-        ..REFUSED
-    },
-];
-
-#[test]
-fn runs_over_texts(rt: HostRuntime) -> Result<(), Fail> {
-    for run in &RUNS {
-        let printed = lived(&rt, rt.alloc(), run.words, run.topology, run.script)?;
-        if !printed.is(run.status, run.output, run.faults) {
-            return Err(run.faults.into());
-        }
-    }
-    Ok(())
+/// Whether `route live` refuses the two texts by this line.
+fn is_refused<T: Threads + Wait + Sync>(
+    rt: &T,
+    alloc: Global,
+    topology: &str,
+    script: &str,
+    line: &str,
+) -> Result<bool, Fail> {
+    let words = ["live", "topology", "script"];
+    Ok(lived(rt, alloc, &words, topology, script)?.is(1, "", line))
 }
 
 #[test]
 fn words_of_live(rt: HostRuntime) -> Result<(), Fail> {
     let words = asked(rt.alloc(), &["live", "--restamps", "2", "-"])?;
-    assert!(rt; words.sub == Sub::Live && words.restamps == 2);
+    assert!(rt; words.sub == Sub::Live);
+    assert!(rt; words.restamps == 2);
+    Ok(())
+}
+
+#[test]
+fn a_packet_over_two_links(rt: HostRuntime) -> Result<(), Fail> {
+    let delivered = "trace 1\n0 1 a c 2 delivered a b c\n";
+    let input = "a b\nb c\n%%\ninject a c\ndrain\n";
+    let one = lived(&rt, rt.alloc(), &["live", "-"], input, "")?;
+    assert!(rt; one.is(0, delivered, ""));
+    let words = [
+        "live", "--kind", "tree", "--root", "b", "topology", "script",
+    ];
+    let two = lived(&rt, rt.alloc(), &words, PATH, "inject a c\ndrain\n")?;
+    assert!(rt; two.is(0, delivered, ""));
+    Ok(())
+}
+
+#[test]
+fn a_packet_of_segments(rt: HostRuntime) -> Result<(), Fail> {
+    let words = ["live", "--restamps", "1", "topology", "script"];
+    let printed = lived(&rt, rt.alloc(), &words, PATH, "inject a c\ndrain\n")?;
+    assert!(rt; printed.is(0, "trace 2\n0 a c 2 delivered #1 a b c\n", ""));
+    Ok(())
+}
+
+#[test]
+fn refused_inputs(rt: HostRuntime) -> Result<(), Fail> {
+    let alloc = rt.alloc();
+    assert!(rt; is_refused(&rt, alloc, "a\nb\n", "", "opening Disconnected\n")?);
+    assert!(rt; is_refused(&rt, alloc, "", "", "opening Empty\n")?);
+    assert!(rt; is_refused(&rt, alloc, PATH, "inject a z\n", "script 1 UnknownNode\n")?);
+    assert!(rt; is_refused(&rt, alloc, PATH, "down a c\n", "script 1 UnknownLink\n")?);
+    assert!(rt; is_refused(&rt, alloc, PATH, "\nretire 65536\n", "script 2 BadNumber\n")?);
+    assert!(rt; is_refused(&rt, alloc, PATH, "take a inbox\n", "script 1 BadCommand\n")?);
+    let words = ["live", "--root", "z", "topology", "script"];
+    let printed = lived(&rt, alloc, &words, PATH, "")?;
+    assert!(rt; printed.is(1, "", "opening NoNode\n"));
+    Ok(())
+}
+
+#[test]
+fn refused_commands(rt: HostRuntime) -> Result<(), Fail> {
+    let words = ["live", "topology", "script"];
+    let printed = lived(&rt, rt.alloc(), &words, PATH, "retire 65535\n")?;
+    assert!(rt; printed.is(0, "trace 1\n", "refused 1 NoEpoch\n"));
+    let script = "down a b\n\ninstall tree b\nretire 1\ninject b c\ndrain\n";
+    let more = lived(&rt, rt.alloc(), &words, PATH, script)?;
+    let told = "refused 3 Disconnected\nrefused 4 Same\n";
+    assert!(rt; more.is(0, "trace 1\n0 1 b c 1 delivered b c\n", told));
     Ok(())
 }
