@@ -20,7 +20,7 @@ const THREE_EDGES: [Change; 4] = [
     Change::AddEdge("a", "a", 1, Ok(None)),
 ];
 
-/// What may then be told.
+/// Changes of that graph, some of them refused.
 const REFUSALS: [Change; 6] = [
     Change::RemoveEdge("a", "c", Err(GraphError::NoEdge)),
     Change::AddEdge("a", "c", 0, Err(GraphError::BadWeight)),

@@ -417,6 +417,7 @@ const RUNS: [Run; 20] = [
     },
 ];
 
+/// The opening of a run with this setting.
 pub(crate) fn opening(alloc: Global, over: &Setting) -> Result<Opening, Fail> {
     Ok(Opening {
         topology: topology_of(alloc, over.edges)?,
