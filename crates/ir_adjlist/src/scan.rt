@@ -27,7 +27,7 @@ pub fn all_plain(bytes: &[u8]) -> bool
 }
 
 /// The place of the first such byte.
-fn find_byte(bytes: &[u8], wanted: u8) -> Option<usize>
+pub fn find_byte(bytes: &[u8], wanted: u8) -> Option<usize>
     ensures { result ≡ position (λ b. b == wanted) bytes.now }
 {
     bytes.iter().position(|byte| *byte == wanted)

@@ -10,6 +10,4 @@ mod live;
 #[cfg(test)]
 mod nets;
 #[cfg(test)]
-mod programs;
-#[cfg(test)]
 mod turns;

@@ -1,7 +1,7 @@
 //! The stored run of `route` under hostile use: texts that are cut off or changed, and readers and writers that fail.
 ghost use Rattle.std.specs.Prelude.{◌≡◌, length};
 
-use crate::programs::asked;
+use crate::programs::understood;
 use ir_shell::{Sub, Words, run_check, run_sim};
 use std::alloc::Global;
 use std::io;
@@ -75,10 +75,7 @@ impl Write for Sink {
 
 /// The words of a subcommand over one input.
 fn over_one(alloc: Global, sub: &str) -> Result<Words, Fail> {
-    let Ok(words) = asked(alloc, &[sub, "-"])? else {
-        return Err("the words are refused".into());
-    };
-    Ok(words)
+    understood(alloc, &[sub, "-"])
 }
 
 /// The status of a run over one input, by any reader and writers.

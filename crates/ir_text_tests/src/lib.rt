@@ -7,6 +7,8 @@ mod hostile;
 #[cfg(test)]
 mod limits;
 #[cfg(test)]
+mod living;
+#[cfg(test)]
 mod programs;
 #[cfg(test)]
 mod scripts;

@@ -5,8 +5,8 @@ use ir_shell::{Format, Sub, Words, WordsError, read_words};
 use std::alloc::Global;
 use std::test::Fail;
 
-/// What the words behind the program's name ask for.
-pub(crate) fn asked(alloc: Global, words: &[&str]) -> Result<Result<Words, WordsError>, Fail> {
+/// What the words behind the program's name ask for, or why they are refused.
+fn asked(alloc: Global, words: &[&str]) -> Result<Result<Words, WordsError>, Fail> {
     let mut all: Vec<String> = Vec::new(alloc);
     for word in words {
         all.push(String::from_str(alloc, word)?)?;
@@ -14,7 +14,15 @@ pub(crate) fn asked(alloc: Global, words: &[&str]) -> Result<Result<Words, Words
     Ok(read_words(alloc, all.as_slice()))
 }
 
-/// The same of a line of words.
+/// What they ask for where they are not refused.
+pub(crate) fn understood(alloc: Global, words: &[&str]) -> Result<Words, Fail> {
+    match asked(alloc, words)? {
+        Ok(words) => Ok(words),
+        Err(_) => Err("the words are refused".into()),
+    }
+}
+
+/// What a line of words asks for, or why it is refused.
 fn asked_by(alloc: Global, line: &str) -> Result<Result<Words, WordsError>, Fail> {
     let mut words: Vec<&str> = Vec::new(alloc);
     for word in line.split_whitespace() {

@@ -1,5 +1,5 @@
 //! Traces as they are read.
-ghost use Rattle.std.specs.Prelude.{◌≡◌, ◌<◌, ◌==◌, ◌++◌, List, Some, position, MatchOption, MatchResult, IfOk, IfErr, length, map, slice_get};
+ghost use Rattle.std.specs.Prelude.{◌≡◌, ◌<◌, ◌++◌, List, Some, MatchOption, MatchResult, IfOk, IfErr, length, map, slice_get};
 ghost use Rattle.ir_model.specs.OfGraph.{network_of_graph};
 ghost use Rattle.ir_core.specs.Journey.{Journey};
 ghost use Rattle.ir_trace.specs.Rows.{header};
@@ -13,6 +13,7 @@ use crate::finding::{Finding, FindingKind};
 use crate::resolve::resolve;
 use crate::row::{TraceRow, Version};
 use crate::words::{line_words, spelled};
+use ir_adjlist::scan::find_byte;
 use ir_graph::Graph;
 use std::alloc::Global;
 use std::marker::Model;
@@ -56,18 +57,11 @@ impl Trace {
     }
 }
 
-/// The place of the first line feed.
-fn find_feed(text: &[u8]) -> Option<usize>
-    ensures { result ≡ position (λ b. b == 10) text.now }
-{
-    text.iter().position(|byte| *byte == b'\n')
-}
-
 /// The line at the front, and what stands behind its line feed. There is none where no line feed stands.
 fn cut_line(text: &[u8]) -> Option<(&[u8], &[u8])>
     ensures { MatchOption result (HasNoFeed text.now) (λ p. CutsLine text.now p.0.now p.1.now) }
 {
-    let end = find_feed(text)?;
+    let end = find_byte(text, b'\n')?;
     Some((&text[..end], &text[end + 1..]))
 }
 

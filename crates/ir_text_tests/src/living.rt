@@ -1,6 +1,7 @@
 //! `route live` over texts in memory: what it prints, from files and from one input.
 
-use ir_shell::{Sub, Words, read_words, run_live_text};
+use crate::programs::understood;
+use ir_shell::{Sub, run_live_text};
 use std::alloc::Global;
 use std::sync::Wait;
 use std::test::Fail;
@@ -8,18 +9,6 @@ use std::thread::Threads;
 
 /// Two links in a row.
 const PATH: &str = "a b\nb c\n";
-
-/// What the words behind the program's name ask for.
-fn asked(alloc: Global, words: &[&str]) -> Result<Words, Fail> {
-    let mut all: Vec<String> = Vec::new(alloc);
-    for word in words {
-        all.push(String::from_str(alloc, word)?)?;
-    }
-    match read_words(alloc, all.as_slice()) {
-        Ok(words) => Ok(words),
-        Err(_) => Err("the words are refused".into()),
-    }
-}
 
 /// What a run answers and prints.
 #[derive(Drop)]
@@ -46,7 +35,7 @@ fn lived<T: Threads + Wait + Sync>(
     topology: &str,
     script: &str,
 ) -> Result<Printed, Fail> {
-    let words = asked(alloc, words)?;
+    let words = understood(alloc, words)?;
     let mut output: Vec<u8> = Vec::new(alloc);
     let mut faults: Vec<u8> = Vec::new(alloc);
     let status = if words.is_one_input() {
@@ -77,7 +66,7 @@ fn is_refused<T: Threads + Wait + Sync>(
 
 #[test]
 fn words_of_live(rt: HostRuntime) -> Result<(), Fail> {
-    let words = asked(rt.alloc(), &["live", "--restamps", "2", "-"])?;
+    let words = understood(rt.alloc(), &["live", "--restamps", "2", "-"])?;
     assert!(rt; words.sub == Sub::Live);
     assert!(rt; words.restamps == 2);
     Ok(())
