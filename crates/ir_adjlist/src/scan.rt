@@ -26,7 +26,7 @@ pub fn all_plain(bytes: &[u8]) -> bool
     bytes.iter().all(|byte| is_plain_byte(*byte))
 }
 
-/// The place of the first such byte.
+/// The place of the first byte of this value, if there is one.
 pub fn find_byte(bytes: &[u8], wanted: u8) -> Option<usize>
     ensures { result ≡ position (λ b. b == wanted) bytes.now }
 {
