@@ -1,9 +1,8 @@
 -- A network and the labels of its nodes have one compact table.
-use Rattle.std.proofs.Common.{◌≡◌, ◌≢◌, ℕ, ◌<◌, List, Option, None, length, map, get_or, ap, sym, ◌∙◌, subst}
+use Rattle.std.proofs.Common.{◌≡◌, ◌≢◌, ℕ, ◌<◌, List, Option, None, map, get_or, ap, sym, ◌∙◌, subst}
 use Rattle.std.specs.Prelude.{slice_index}
 use Rattle.std.proofs.lemmas.List.{get_or-map}
 use Rattle.ir_model.specs.Network.{Network, node_count}
-use Rattle.ir_model.specs.Table.{LeadsNearer}
 use Rattle.ir_model.specs.Choices.{AreChoices}
 use Rattle.ir_model.specs.Compact.{IsTied, IsCompactTable}
 use Rattle.ir_model.specs.Scheme.{AreLabels}

@@ -1,7 +1,6 @@
 -- Walks the other way round, and one behind the other.
-use Rattle.std.proofs.Common.{◌≡◌, ℕ, ◌+◌, ◌<◌, ◌≤◌, List, [], ◌∷◌, ◌++◌, Some, refl, sym, subst, ◌∙◌, arith}
-use Rattle.ir_model.specs.declared.Hop.{Hop}
-use Rattle.ir_model.specs.Network.{Network, node_count, port_at, port_back, IsNetwork}
+use Rattle.std.proofs.Common.{◌≡◌, ℕ, ◌+◌, ◌<◌, ◌≤◌, List, [], ◌∷◌, ◌++◌, refl, sym, subst, ◌∙◌, arith}
+use Rattle.ir_model.specs.Network.{Network, node_count, port_back, IsNetwork}
 use Rattle.ir_model.specs.Walk.{Linked, link_weight, LeadsTo, IsWalk, weight_from, walk_weight, IsDistance}
 use Rattle.ir_model.proofs.Walks.{link_weight_at, leads_from_node}
 use Rattle.ir_model.proofs.Tables.{distance_way}

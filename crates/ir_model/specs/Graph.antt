@@ -1,5 +1,5 @@
 -- A graph as contracts see it: its nodes in order, each with its neighbours in order and the weight of the link to each.
-use Rattle.std.specs.Prelude.{ℕ, ◌+◌, ◌<◌, ◌≤◌, ◌≡◌, Bool, true, not, ◌||◌, ◌&&◌, if◌then◌else◌, List, [], ◌∷◌, ◌++◌, map, filter, length, Option, unwrap_or, option_and_then, bytes_eq, IsTrue, nat_le, ◌==◌}
+use Rattle.std.specs.Prelude.{ℕ, ◌+◌, ◌≤◌, ◌≡◌, Bool, true, not, ◌&&◌, if◌then◌else◌, List, [], ◌∷◌, ◌++◌, map, filter, length, Option, unwrap_or, bytes_eq, nat_le, ◌==◌}
 use Rattle.std.specs.List.{list_any, list_all, IsDistinct}
 use Rattle.std.specs.Option.{is_some}
 use Rattle.std.specs.Map.{lookup, keys_of}

@@ -1,5 +1,5 @@
 -- The network of a graph.
-use Rattle.std.specs.Prelude.{ℕ, min, max, Bool, not, List, map, filter, bytes_eq}
+use Rattle.std.specs.Prelude.{ℕ, min, max, not, List, map, filter, bytes_eq}
 use Rattle.std.specs.List.{position_or_len}
 use Rattle.ir_model.specs.declared.Link.{Link}
 use Rattle.ir_model.specs.declared.Hop.{Hop}

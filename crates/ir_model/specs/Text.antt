@@ -5,7 +5,7 @@ use Rattle.ir_model.specs.declared.TheConstants.{MAX_NODES, MAX_EDGES, MAX_NAME_
 use Rattle.ir_model.specs.Graph.{Name, edges}
 use Rattle.ir_model.specs.Made.{Pair, distinct, graph_of}
 use Rattle.ir_model.specs.declared.Fault.{Fault}
-use Rattle.ir_model.specs.declared.Fault.TheVariants.{BadByte, BadName, BadRow, BadWeight, TooManyNodes, TooManyEdges}
+use Rattle.ir_model.specs.declared.Fault.TheVariants.{BadByte, BadName, TooManyNodes, TooManyEdges}
 
 -- the byte at the front of the first piece
 abbrev pub onto_first : ℕ → List (List ℕ) → List (List ℕ)

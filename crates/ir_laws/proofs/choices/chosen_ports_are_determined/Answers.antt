@@ -1,4 +1,4 @@
-use Rattle.std.proofs.Common.{◌≡◌, ℕ, true}
+use Rattle.std.proofs.Common.{◌≡◌, true}
 use Rattle.ir_model.proofs.Chosen.{chosen_same}
 use Rattle.ir_laws.proofs.choices.chosen_ports_are_determined.Goals as goal
 

@@ -1,4 +1,3 @@
-use Rattle.std.proofs.Common.{refl, lit<}
 use Rattle.ir_laws.proofs.Line.{line_walk, line_distance}
 use Rattle.ir_laws.proofs.worked.line_of_three_nodes.Goals as goal
 

@@ -1,6 +1,5 @@
 use Rattle.std.proofs.Common.{subst, sym, ◌<◌, ◌∙◌, ap, ℕ}
 use Rattle.ir_core.specs.Sound.{last_of}
-use Rattle.ir_model.specs.Network.{node_count}
 use Rattle.ir_epochs.specs.Stamps.{knows}
 use Rattle.ir_worker.specs.Seen.{SeenParcel, present_stamp}
 use Rattle.ir_epochs.proofs.Overs.{over_nodes}

@@ -1,4 +1,4 @@
-use Rattle.std.proofs.Common.{◌++◌, ◌∷◌, [], ap, ◌∙◌}
+use Rattle.std.proofs.Common.{◌++◌, ◌∷◌, [], ap}
 use Rattle.ir_epochs.proofs.chronicle.Chronicle.record.Goals as goal
 
 pub returns-then-add-clause-added : goal.returns-then-add-clause-added

@@ -1,7 +1,7 @@
 use Rattle.std.proofs.Common.{List, ap, subst}
 use mathlib.Core.List.{IsPrefix}
 use Rattle.ir_epochs.specs.declared.entry.Entry.{Entry}
-use Rattle.ir_epochs.specs.Handles.{known, told}
+use Rattle.ir_epochs.specs.Handles.{told}
 use Rattle.ir_epochs.proofs.Rising.{later_of}
 use Rattle.ir_epochs.proofs.handles.BoardReader.learn.Goals as goal
 

@@ -1,4 +1,4 @@
-use Rattle.std.proofs.Common.{◌<◌, ◌∷◌, [], length, sym, subst, refl, rules, arith}
+use Rattle.std.proofs.Common.{◌<◌, ◌∷◌, [], length, sym, subst, rules, arith}
 use Rattle.ir_epochs.specs.declared.published.Published.{Published}
 use Rattle.ir_epochs.specs.Entries.{Fits}
 use Rattle.ir_epochs.specs.declared.entry.Entry.TheVariants.{Changed}
