@@ -4,7 +4,7 @@ ghost use Rattle.std.specs.Prelude.{◌≡◌, ◌≢◌, ◌<◌, ◌≤◌, �
 ghost use Rattle.ir_model.specs.Row.{intervals_of};
 ghost use Rattle.ir_model.specs.Compiled.{IsCanonical};
 ghost use Rattle.ir_model.specs.Choices.{FitsChoices, IsFewestOfChoices, AreChosen};
-ghost use Rattle.ir_model.proofs.Steps.{AreLongest};
+ghost use Rattle.ir_model.proofs.Steps.{AreLongest, AreSteps, HaveRoundPorts};
 ghost use Rattle.ir_compile.specs.Allowed.{rows_of, Allows, IsChoiceTable};
 
 use crate::error::CompileError;
@@ -83,9 +83,27 @@ fn chosen_ports(
         return vec![in alloc; None; 1];
     }
     let (counts, ports) = longest_runs(alloc, n, own, choices)?;
-    let start = label_at(n, own, first_near(n, own, counts.as_slice()));
-    let held = round_ports(alloc, n, own, start, counts.as_slice(), ports.as_slice())?;
-    Ok(held)
+    ports_of_runs(alloc, n, own, counts.as_slice(), ports.as_slice())
+}
+
+/// The port of each label, none for the own one, by the first round with the fewest runs, where a run of so many labels
+/// of one port begins at each label. Conditions: there are two labels at least, the own one is a label, each run but the
+/// own label's has a label, and none that doesn't end the round ends before the own one.
+pub fn ports_of_runs(
+    alloc: Global,
+    n: u16,
+    own: u16,
+    counts: &[u16],
+    ports: &[u16],
+) -> Result<Vec<Option<u16>>, AllocError>
+    requires two { 1 < n }
+    requires own { own < n }
+    requires steps { AreSteps n own counts.now }
+    requires ports { length ports.now ≡ n }
+    ensures { IfOk result (λ held. HaveRoundPorts n own counts.now ports.now held.items) }
+{
+    let start = label_at(n, own, first_near(n, own, counts));
+    round_ports(alloc, n, own, start, counts, ports)
 }
 
 // For each label how many labels the longest run from it on has, and the least port that serves them.

@@ -12,9 +12,10 @@ mod error;
 mod round;
 mod runs;
 
-pub use choices::{choose, compile_choices};
+pub use choices::{choose, compile_choices, ports_of_runs};
 pub use error::CompileError;
 use ir_lookup::{Row, WORD_BASE};
+pub use runs::{keep_longer, row_runs};
 use std::alloc::{AllocError, Global};
 
 /// The most ports of a node.

@@ -14,3 +14,4 @@ pub mod Conserved
 pub mod Few
 pub mod Returned
 pub mod Slotted
+pub mod Restamped

@@ -1,5 +1,5 @@
 -- A node's ends are those of its net.
-use Rattle.std.specs.Prelude.{◌≡◌, ℕ, suc, ◌+◌, ◌<◌, ◌≤◌, Bool, List, [], ◌∷◌, ◌++◌, All, Some, length, map, slice_get, slice_index, sum_by}
+use Rattle.std.specs.Prelude.{◌≡◌, ℕ, suc, ◌+◌, ◌<◌, ◌≤◌, List, [], ◌∷◌, ◌++◌, All, Some, length, map, slice_get, slice_index, sum_by}
 use Rattle.std.proofs.Common.{refl, arith, sym, ap, ◌∙◌, subst, inl, inr, get_or}
 use Rattle.std.proofs.lemmas.Option.{same_Some, slice_get-get_or, get_or_from_slice_get, slice_get_within}
 use Rattle.std.proofs.lemmas.List.{length_push}
@@ -15,7 +15,8 @@ use Rattle.ir_links.specs.Ends.{Line, Sending, Taking}
 use Rattle.ir_worker.specs.declared.node.Node.{Node}
 use Rattle.ir_worker.specs.declared.parcel.Place.{Place}
 use Rattle.ir_worker.specs.Seen.{SeenParcel, place_of}
-use Rattle.ir_worker.specs.Account.{Head, times, times_taken, times_sent, lines_out}
+use Rattle.ir_core.specs.Journey.{Journey}
+use Rattle.ir_worker.specs.Account.{weigh, weigh_taken, weigh_sent, IsEven, lines_out}
 use Rattle.ir_worker.specs.Wires.{AreEndsOf}
 use Rattle.ir_control.specs.declared.net.Net.{Net}
 use Rattle.ir_control.specs.Places.{offset, way_count}
@@ -67,11 +68,11 @@ module _ (registry : Registry) (net : Network) (o : Stamp) (opening : IsOpening 
         (λ p s h got there. (ways_are.out u p h s.line (port_here p h there) (ap (λ k. slice_get ways (k + p)) (sym at) ∙ (outs_at.each p s got).0)).place);
   }
 
-  pub fresh_account : inbox.taken ≡ [] → (p : Head → Bool) → times p inbox.taken + times_taken p ins ≡ times_sent p outs + 0
-  fresh_account none p =
-      let a : times p inbox.taken ≡ 0 = ap (times p) none in
-      let b : times_taken p ins ≡ 0 = sum_nothing (λ (t : Taking Place SeenParcel). times p t.taken) ins (λ q t got. ap (times p) (ins_at.each q t got).1) in
-      let d : times_sent p outs ≡ 0 = sum_nothing (λ (s : Sending Place SeenParcel). times p s.sent) outs (λ q s got. ap (times p) (outs_at.each q s got).1) in
+  pub fresh_even : inbox.taken ≡ [] → (w : Journey → ℕ) → IsEven w inbox ins outs []
+  fresh_even none w =
+      let a : weigh w inbox.taken ≡ 0 = ap (weigh w) none in
+      let b : weigh_taken w ins ≡ 0 = sum_nothing (λ (t : Taking Place SeenParcel). weigh w t.taken) ins (λ q t got. ap (weigh w) (ins_at.each q t got).1) in
+      let d : weigh_sent w outs ≡ 0 = sum_nothing (λ (s : Sending Place SeenParcel). weigh w s.sent) outs (λ q s got. ap (weigh w) (outs_at.each q s got).1) in
       omega (arith, a, b, d)
 
 pub node_of : (net : Net) (n : Node) (u first degree : ℕ) (row : List Hop) (inbox : Taking Place SeenParcel) (ins : List (Taking Place SeenParcel)) (outs : List (Sending Place SeenParcel))
@@ -111,9 +112,9 @@ entry_ends registry net o opening restamps capacity inboxes are outs same = reco
 pub outs_unsent : (lines : List (Line Place)) (first n : ℕ) (outs : List (Sending Place SeenParcel)) → AreOutsAt lines first n outs → All (λ s. s.sent ≡ []) outs
 outs_unsent lines first n outs at = λ k d lt. (at.each k (get_or outs k d) (slice_get-get_or outs k d lt)).1
 
-pub none_sent : (p : Head → Bool) (outs : List (Sending Place SeenParcel)) → All (λ s. s.sent ≡ []) outs → times_sent p outs ≡ 0
-none_sent p outs all = sum_nothing (λ (s : Sending Place SeenParcel). times p s.sent) outs
-    (λ q s got. subst (λ (y : Sending Place SeenParcel). times p y.sent ≡ 0) (get_or_from_slice_get outs q s s got) (ap (times p) (all q s (slice_get_within outs q s got))))
+pub none_sent : (w : Journey → ℕ) (outs : List (Sending Place SeenParcel)) → All (λ s. s.sent ≡ []) outs → weigh_sent w outs ≡ 0
+none_sent w outs all = sum_nothing (λ (s : Sending Place SeenParcel). weigh w s.sent) outs
+    (λ q s got. subst (λ (y : Sending Place SeenParcel). weigh w y.sent ≡ 0) (get_or_from_slice_get outs q s s got) (ap (weigh w) (all q s (slice_get_within outs q s got))))
 
 pub first_more : (net : Net) (u : ℕ) (nodes after : List Node) (n : Node) → AreFirstNodes net u nodes → IsNodeOf net n → n.index ≡ u → after ≡ nodes ++ n ∷ [] → AreFirstNodes net (u + 1) after
 first_more net u nodes after n first is index e = subst (λ (after : List Node). AreFirstNodes net (u + 1) after) (sym e) (record {

@@ -107,11 +107,12 @@ module _ {R : Type 0} where
     pub publishes : Publishes before after (Install stamp) t
     pub used : after.used ≡ before.used + 1
 
-  -- no plan was published; a cell may be used up where the answer is want of memory or `Used`
+  -- no plan was published; a cell is used up where the answer is `Used`, and may be where it is want of memory
   pub record IsNoInstall (root : ℕ) (before after : Controller R) (e : InstallError) : Type 0 where
     pub refused : IsInstallRefusedBy before e (install_refusal before root)
     pub nothing : PublishesNothing before after
     pub used : (after.used ≡ before.used) ⊎ ((after.used ≡ before.used + 1) × ((e ≡ install.NoMemory) ⊎ (e ≡ install.Used)))
+    pub cell : e ≡ install.Used → after.used ≡ before.used + 1
 
   abbrev pub IsInstallAnswer : Kind → ℕ → Controller R → Controller R → Result Receipt InstallError → Type 0
   IsInstallAnswer kind root before after answer = MatchResult answer (λ t. Installs kind root before after t) (λ e. IsNoInstall root before after e)

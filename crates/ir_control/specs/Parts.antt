@@ -3,11 +3,12 @@ use Rattle.std.specs.Prelude.{◌≡◌, ℕ, ◌+◌, ◌<◌, ◌≤◌, List,
 use Rattle.std.specs.Arc.{arc_value}
 use Rattle.ir_model.specs.Network.{node_count, ports_of}
 use Rattle.ir_links.specs.Ends.{Sending, Taking}
-use Rattle.ir_epochs.specs.Handles.{published, writer_board, reader_board}
+use Rattle.ir_epochs.specs.Handles.{published, known, writer_board, reader_board}
 use Rattle.ir_worker.specs.declared.node.Node.{Node}
 use Rattle.ir_worker.specs.declared.parcel.Place.{Place}
 use Rattle.ir_worker.specs.Seen.{SeenParcel}
 use Rattle.ir_worker.specs.Account.{lines_out}
+use Rattle.ir_epochs.specs.declared.entry.Entry.{Entry}
 use Rattle.ir_epochs.specs.declared.entry.Entry.TheVariants.{Opened}
 use Rattle.ir_control.specs.Places.{offset}
 use Rattle.ir_control.specs.Slots.{hit}
@@ -47,10 +48,17 @@ pub record AreFirstNodes (net : Net) (count : ℕ) (nodes : List Node) : Type 0 
   pub count_is : length nodes ≡ count
   pub each : (u : ℕ) (n : Node) → slice_get nodes u ≡ Some n → IsNodeOf net n × (n.index ≡ u)
 
--- The parts of a net as they are handed out: nothing was injected, and the board is the opening one.
+-- A node as it is handed out: it has settled nothing, takes from its inbox first, and has read these entries of the board.
+pub record IsFreshNode (entries : List Entry) (n : Node) : Type 0 where
+  pub unsettled : n.outcomes.items ≡ []
+  pub inbox_first : n.entrances.next ≡ 0
+  pub has_read : known n.reader ≡ entries
+
+-- The parts of a net as they are handed out: nothing was injected, the board is the opening one, and each node has read it.
 pub record AreFreshParts {R : Type 0} (net : Net) (nodes : List Node) (injector : Injector) (controller : Controller R) : Type 0 where
   pub nodes_are : AreFirstNodes net (node_count net.topology) nodes
   pub boards : All (λ n. reader_board n.reader ≡ writer_board controller.writer) nodes
+  pub fresh_nodes : All (IsFreshNode (Opened (length net.topology.links) net.opening ∷ [])) nodes
   pub injector_of : IsInjectorOf net injector
   pub nothing : injector.accepted.items ≡ []
   pub learnt : injector.newest ≡ net.opening

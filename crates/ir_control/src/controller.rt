@@ -9,12 +9,14 @@ ghost use Rattle.ir_epochs.specs.Stamps.{IsOf, knows, registry_name};
 ghost use Rattle.ir_epochs.specs.Entries.{registry_of, network_of, links_of, board_of, changed, Fits};
 ghost use Rattle.ir_epochs.specs.declared.entry.Entry.TheVariants.{Opened, Changed};
 ghost use Rattle.ir_core.specs.declared.TheConstants.{MAX_CHANGES};
-ghost use Rattle.ir_epochs.specs.Handles.{published, writer_board, told, receipt_board};
+ghost use Rattle.ir_epochs.specs.Handles.{published, known, writer_board, reader_board, told, receipt_board};
+ghost use mathlib.Core.List.{IsPrefix};
 
 use ir_core::{Board, BuildError, MAX_CHANGES, MAX_EPOCHS, plan_up};
 use ir_epochs::{BoardWriter, Change, Receipt, RegisterError, Registry, Stamp};
 use ir_model::Kind;
 use ir_plan::Plan;
+use ir_worker::Node;
 use std::alloc::Global;
 use std::sync::{Arc, Wait};
 use thiserror::Error;
@@ -141,6 +143,14 @@ impl<R: Wait + Drop> Controller<R> {
         ensures { result ≡ board_of (published self.now.writer) }
     {
         self.writer.board()
+    }
+
+    /// Sees that it published all that a node of its board has read or learnt.
+    pub fn leads(&self, node: &Node)
+        requires { reader_board node.now.reader ≡ writer_board self.now.writer }
+        ensures { IsPrefix (known node.now.reader) (published self.now.writer) }
+    {
+        node.follows(&self.writer);
     }
 
     /// Publishes one change, for which there is room.

@@ -8,7 +8,7 @@ ghost use Rattle.ir_epochs.specs.Entries.{registry_of, network_of, installed_by}
 ghost use Rattle.ir_epochs.specs.Handles.{told};
 ghost use Rattle.ir_worker.specs.Seen.{IsOfNet};
 ghost use Rattle.ir_control.specs.Whole.{IsParcelOf};
-ghost use Rattle.ir_worker.specs.Account.{Head, times, times_sent, lines_out};
+ghost use Rattle.ir_worker.specs.Account.{Head, times_sent, weigh_sent, restamps_with, lines_out};
 ghost use Rattle.ir_control.specs.Heads.{times_injected, AreNumbered};
 ghost use Rattle.ir_control.specs.Outs.{AreEntryEnds, IsSent};
 
@@ -61,7 +61,7 @@ impl InjectError {
 }
 
 /// The injector of a net. It stamps each packet with the greatest epoch whose receipt it learnt, epoch 1 at first, and
-/// keeps a list of the packets that were accepted.
+/// keeps a list of the packets that were accepted. What it sends had no restamp.
 #[derive(Drop)]
 pub struct Injector {
     alloc: Global,
@@ -80,6 +80,7 @@ pub struct Injector {
     ghost ends: { AreEntryEnds opening restamps (lines_out outs.items) },
     ghost numbered: { AreNumbered accepted.items },
     ghost account: { (p : Head → Bool) → times_sent p outs.items ≡ times_injected p accepted.items },
+    ghost fresh: { (p : ℕ → Bool) → weigh_sent (restamps_with p) outs.items ≡ 0 },
 }
 
 // Puts a parcel into an inbox, unless it has no room.

@@ -211,13 +211,20 @@ impl Net {
     ghost use Rattle.ir_epochs.specs.Handles.{known, reader_board};
     ghost use Rattle.ir_model.specs.Network.{ports_of};
     ghost use Rattle.ir_control.specs.Fresh.{AreFreshOuts, AreFreshIns};
-    ghost use Rattle.ir_control.specs.Parts.{IsNodeOf};
+    ghost use Rattle.ir_control.specs.Parts.{IsNodeOf, IsFreshNode};
 
     /// The registry of its plans.
     pub fn registry(&self) -> &Registry
         ensures { result.now ≡ arc_value self.now.registry }
     {
         &self.registry
+    }
+
+    /// The stamp of epoch 1.
+    pub fn opening(&self) -> &Stamp
+        ensures { result.now ≡ self.now.opening }
+    {
+        &self.opening
     }
 
     /// How many packets were settled, or about so many: a hint of which nothing is claimed.
@@ -245,6 +252,7 @@ impl Net {
         ensures senders { AreFreshOuts self.now.ways.items senders.new.items }
         ensures takers { AreFreshIns self.now.ways.items takers.new.items }
         ensures node { IfOk result (λ given. IfSome given (λ n. IsNodeOf self.now n × (n.index ≡ u) × (reader_board n.reader ≡ reader_board reader))) }
+        ensures fresh { IfOk result (λ given. IfSome given (λ n. IsFreshNode (known reader) n)) }
     {
         let degree = self.topology.ports(u).len();
         let Some(outs) = outs_of(self.alloc, &self.ways, first, degree, senders)? else {
@@ -292,7 +300,7 @@ impl Net {
     ghost use Rattle.ir_epochs.specs.declared.entry.Entry.TheVariants.{Opened};
     ghost use Rattle.ir_epochs.specs.Handles.{known, published, reader_board, writer_board};
     ghost use Rattle.ir_control.specs.Fresh.{AreFreshIns};
-    ghost use Rattle.ir_control.specs.Parts.{AreFirstNodes, AreFreshParts};
+    ghost use Rattle.ir_control.specs.Parts.{AreFirstNodes, IsFreshNode, AreFreshParts};
 
     // All nodes, by number.
     fn nodes<R: Wait + Drop>(
@@ -306,6 +314,7 @@ impl Net {
         requires readers { All (λ x. (known x ≡ published writer.now) × (reader_board x ≡ writer_board writer.now)) readers.items }
         ensures nodes { IfOk result (λ given. IfSome given (λ nodes. AreFirstNodes self.now (node_count self.now.topology) nodes.items)) }
         ensures boards { IfOk result (λ given. IfSome given (λ nodes. All (λ n. reader_board n.reader ≡ writer_board writer.now) nodes.items)) }
+        ensures fresh { IfOk result (λ given. IfSome given (λ nodes. All (IsFreshNode (published writer.now)) nodes.items)) }
     {
         let _ = writer;
         let Some((mut senders, mut takers)) = all_ends(self.alloc, &self.ways)? else {

@@ -1,6 +1,6 @@
 use Rattle.std.proofs.Common.{◌≡◌, ℕ, ◌-◌, ◌<◌, List, [], ◌∷◌, ◌++◌, slice_get, Some, refl, sym, ap, ◌∙◌, subst, arith, inl, inr}
 use Rattle.std.specs.Prelude.{Result, Ok, Err, IfErr, reverse, length, slice_index_or, ◌≤◌}
-use Rattle.std.proofs.lemmas.Option.{slice_get_within}
+use Rattle.std.proofs.lemmas.Option.{slice_get_within, slice_get-get_or}
 use Rattle.ir_model.specs.declared.Kind.{Kind}
 use Rattle.ir_model.specs.declared.Kind.TheVariants.{Tree, Shortest, Compact}
 use Rattle.ir_model.specs.Network.{node_count}
@@ -21,7 +21,7 @@ use Rattle.ir_core.specs.Setting.{Setting, IsPlanFor, nodes_of}
 use Rattle.ir_core.specs.Entry.{Entry, DidInject, DidLearn, DidTake, DidRead, DidAct, DidChange, DidInstall, reply_of}
 use Rattle.ir_core.specs.Meaning.{Sight, ComesTo, sight_after, plan_of, with_entry}
 use Rattle.ir_core.specs.History as history
-use Rattle.ir_core.specs.Sound.{IsSoundAmong, IsSoundJourney, AllSound, AllOfOneEpoch, FateFits, WeighsTheDistance, GoesOnAlong, LeadsOn, last_of}
+use Rattle.ir_core.specs.Sound.{IsSoundBy, IsPlanAmong, IsSoundJourney, AllSound, AllOfOneEpoch, FateFits, WeighsTheDistance, GoesOnAlong, LeadsOn, last_of}
 use Rattle.ir_core.specs.State.{State, IsState, IsStretch, sight_in, after, IsAnswer, IsBeginning, Place, Waits, InHand, Ended, FitsPlace, EndFits}
 use Rattle.ir_core.specs.Shows.{Shows, AnswersAfter, MayWantMemory, reply_to}
 use Rattle.ir_core.specs.Handled.{IsAnswerTo}
@@ -118,7 +118,7 @@ module _ (o : Setting) (t : Scheme) (plan : IsPlanFor o t) (r : Journey) (s_in :
 
 -- a segment is sound, where its fate fits the prescribed walk
 segment_sound : (o : Setting) (plans : List Scheme) → ((k : ℕ) → IsPlanFor o (slice_index_or plans k o.first)) → (g : Journey) → IsStretch o plans g →
-    ((walk : List ℕ) → IsPrescribedWalk (plan_of o plans g.epoch).network (table_port (plan_of o plans g.epoch)) g.source g.dest walk → FateFits (plan_of o plans g.epoch) g walk g.fate) → IsSoundAmong o plans g
+    ((walk : List ℕ) → IsPrescribedWalk (plan_of o plans g.epoch).network (table_port (plan_of o plans g.epoch)) g.source g.dest walk → FateFits (plan_of o plans g.epoch) g walk g.fate) → IsSoundBy (IsPlanAmong plans) g
 segment_sound o plans each g p fits =
     let t = plan_of o plans g.epoch in
     let k = each (g.epoch - 1) in
@@ -126,8 +126,8 @@ segment_sound o plans each g p fits =
     let w = k.scheme.walks g.source g.dest (let i = p.source_in in omega arith) (let i = p.dest_in in omega arith) in
     let walk = walk_of t g.source g.dest w.0 w.1 in
     record {
-      epoch_above = p.epoch_above;
-      epoch_in = p.epoch_in;
+      plan = t;
+      of_epoch = (p.epoch_above, slice_get-get_or plans (g.epoch - 1) o.first (let above = p.epoch_above in let within = p.epoch_in in omega arith));
       sound = record {
         scheme = k.scheme;
         walk = w.0;
@@ -140,7 +140,7 @@ segment_sound o plans each g p fits =
 
 -- the segments that restamps ended
 past_sound : (o : Setting) (plans : List Scheme) → ((k : ℕ) → IsPlanFor o (slice_index_or plans k o.first)) → (latest : List Restamp) (r : Journey) → r.fate ≡ Retired → AllByRecursion (IsStretch o plans) (segments_in latest r) →
-    AllByRecursion (IsSoundAmong o plans) (segments_in latest r)
+    AllByRecursion (IsSoundBy (IsPlanAmong plans)) (segments_in latest r)
 past_sound o plans each [] r e k =
     (segment_sound o plans each (present_in [] r) k.0 (λ walk w. subst (λ (f : Fate). FateFits (plan_of o plans r.epoch) (present_in [] r) walk f) (sym e) tt), tt)
 past_sound o plans each (s ∷ older) r e k = (
@@ -149,12 +149,12 @@ past_sound o plans each (s ∷ older) r e k = (
 )
 
 all_segments_sound : (o : Setting) (plans : List Scheme) → ((k : ℕ) → IsPlanFor o (slice_index_or plans k o.first)) → (latest : List Restamp) (r : Journey) → AllByRecursion (IsStretch o plans) (segments_in latest r) →
-    (IsStretch o plans (present_in latest r) → IsSoundAmong o plans (present_in latest r)) → AllByRecursion (IsSoundAmong o plans) (segments_in latest r)
+    (IsStretch o plans (present_in latest r) → IsSoundBy (IsPlanAmong plans) (present_in latest r)) → AllByRecursion (IsSoundBy (IsPlanAmong plans)) (segments_in latest r)
 all_segments_sound o plans each [] r k now = (now k.0, tt)
 all_segments_sound o plans each (s ∷ older) r k now = (now k.0, past_sound o plans each older (until s r) refl k.1)
 
 -- each record is sound
-pub sound : (s : State) → IsState s → (id : ℕ) (r : Journey) → slice_get s.records id ≡ Some r → IsSoundJourney s.opening s.plans r
+pub sound : (s : State) → IsState s → (id : ℕ) (r : Journey) → slice_get s.records id ≡ Some r → IsSoundJourney s.opening.restamps (IsPlanAmong s.plans) r
 sound s ok id r e =
     let p = ok.placed.each id r e in
     let g = present r in
@@ -173,12 +173,12 @@ sound s ok id r e =
 -- and so are the records of its history
 pub all_sound : (s : State) → IsState s → (log : List Entry) → Shows log s → AllSound s.opening log
 all_sound s ok log k id r e =
-    subst (λ (plans : List Scheme). IsSoundJourney s.opening plans r) k.plans (sound s ok id r (k.packet id ∙ e))
+    subst (λ (plans : List Scheme). IsSoundJourney s.opening.restamps (IsPlanAmong plans) r) k.plans (sound s ok id r (k.packet id ∙ e))
 
 -- where no restamp is allowed, a record is of one epoch
-one_epoch : (o : Setting) (plans : List Scheme) (r : Journey) (restamps : List Restamp) → r.restamps ≡ restamps → length restamps ≤ 0 → AllByRecursion (IsSoundAmong o plans) (segments_in (reverse restamps) r) →
-    (r.restamps ≡ []) × IsSoundAmong o plans r
-one_epoch o plans r [] e le k = (e, subst (λ (l : List Restamp). IsSoundAmong o plans (record r { restamps = l })) (sym e) k.0)
+one_epoch : (o : Setting) (plans : List Scheme) (r : Journey) (restamps : List Restamp) → r.restamps ≡ restamps → length restamps ≤ 0 → AllByRecursion (IsSoundBy (IsPlanAmong plans)) (segments_in (reverse restamps) r) →
+    (r.restamps ≡ []) × IsSoundBy (IsPlanAmong plans) r
+one_epoch o plans r [] e le k = (e, subst (λ (l : List Restamp). IsSoundBy (IsPlanAmong plans) (record r { restamps = l })) (sym e) k.0)
 one_epoch o plans r (s ∷ restamps) e le k = absurd (omega arith)
 
 pub all_of_one_epoch : (o : Setting) (log : List Entry) → AllSound o log → o.restamps ≡ 0 → AllOfOneEpoch o log

@@ -1,6 +1,6 @@
 -- What makes a packet's record sound: each of its segments follows the walk that the full table of its one epoch
 -- prescribes.
-use Rattle.std.specs.Prelude.{◌≡◌, ℕ, ◌<◌, ◌≤◌, List, [], ◌∷◌, ◌++◌, length, reverse, Some}
+use Rattle.std.specs.Prelude.{◌≡◌, ℕ, ◌-◌, ◌<◌, ◌≤◌, List, [], ◌∷◌, ◌++◌, length, reverse, Some, slice_get}
 use Rattle.std.specs.List.{AllByRecursion}
 use mathlib.Core.List.{IsPrefix}
 use Rattle.ir_model.specs.declared.Hop.{Hop}
@@ -16,7 +16,6 @@ use Rattle.ir_core.specs.declared.packet.Fate.TheVariants.{Delivered, Retired, D
 use Rattle.ir_core.specs.Setting.{Setting}
 use Rattle.ir_core.specs.Entry.{Entry}
 use Rattle.ir_core.specs.History as history
-use Rattle.ir_core.specs.Meaning.{plan_of}
 
 abbrev pub last_of : List ℕ → ℕ
 last_of [] = 0
@@ -55,11 +54,11 @@ pub record IsSound (t : Scheme) (r : Journey) : Type 0 where
   pub follows : IsPrefix r.hops walk
   pub fate : FateFits t r walk r.fate
 
--- Its stamp is an epoch that was installed, and it is sound by that epoch's scheme.
-pub record IsSoundAmong (o : Setting) (plans : List Scheme) (r : Journey) : Type 0 where
-  pub epoch_above : 0 < r.epoch
-  pub epoch_in : r.epoch ≤ length plans
-  pub sound : IsSound (plan_of o plans r.epoch) r
+-- A journey of one epoch is sound by a plan of that epoch.
+pub record IsSoundBy (IsPlan : ℕ → Scheme → Type 0) (r : Journey) : Type 0 where
+  pub plan : Scheme
+  pub of_epoch : IsPlan r.epoch plan
+  pub sound : IsSound plan r
 
 -- the epochs rise from segment to segment; the latest segment stands first
 abbrev pub AreRising : List Journey → Type 0
@@ -78,21 +77,25 @@ abbrev pub ArePlaces : ℕ → List Restamp → Type 0
 ArePlaces n [] = Unit {0}
 ArePlaces n (s ∷ older) = (s.from < n) × ArePlaces s.from older
 
--- A record is sound: it has at most as many restamps as the network allows, each at a place of its own in the hops. Its
+-- A record is sound by the plans of epochs: it has at most so many restamps, each at a place of its own in the hops. Its
 -- hops are its segments joined end to end, each of which begins where the one before it ended; their epochs rise, and
--- each segment is sound, the last of them with the record's fate.
-pub record IsSoundJourney (o : Setting) (plans : List Scheme) (r : Journey) : Type 0 where
-  pub few : length r.restamps ≤ o.restamps
+-- each segment is sound by the plan of its epoch, the last of them with the record's fate.
+pub record IsSoundJourney (most : ℕ) (IsPlan : ℕ → Scheme → Type 0) (r : Journey) : Type 0 where
+  pub few : length r.restamps ≤ most
   pub places : ArePlaces (length r.hops) (reverse r.restamps)
   pub joined : joined (segments r) ≡ r.hops
   pub linked : AreLinked (segments r)
   pub rising : AreRising (segments r)
-  pub each : AllByRecursion (IsSoundAmong o plans) (segments r)
+  pub each : AllByRecursion (IsSoundBy IsPlan) (segments r)
 
--- Every record of a history is sound.
+-- the plan of an epoch, where these are the plans of the epochs from 1 on
+abbrev pub IsPlanAmong : List Scheme → ℕ → Scheme → Type 0
+IsPlanAmong plans epoch plan = (0 < epoch) × (slice_get plans (epoch - 1) ≡ Some plan)
+
+-- Every record of a history is sound by the plans of its epochs.
 abbrev pub AllSound : Setting → List Entry → Type 0
-AllSound o log = (id : ℕ) (r : Journey) → history.packet id log ≡ Some r → IsSoundJourney o (history.plans o log) r
+AllSound o log = (id : ℕ) (r : Journey) → history.packet id log ≡ Some r → IsSoundJourney o.restamps (IsPlanAmong (history.plans o log)) r
 
 -- Where a network allows no restamp, every record of a history is a journey of one epoch, and sound as one.
 abbrev pub AllOfOneEpoch : Setting → List Entry → Type 0
-AllOfOneEpoch o log = (id : ℕ) (r : Journey) → history.packet id log ≡ Some r → (r.restamps ≡ []) × IsSoundAmong o (history.plans o log) r
+AllOfOneEpoch o log = (id : ℕ) (r : Journey) → history.packet id log ≡ Some r → (r.restamps ≡ []) × IsSoundBy (IsPlanAmong (history.plans o log)) r

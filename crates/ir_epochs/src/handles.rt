@@ -244,6 +244,23 @@ impl<R: Wait + Drop> BoardWriter<R> {
         &self.writer.published().front
     }
 
+    /// Sees that all that a reader of this board knows was published. It was, since the writer alone changes the board;
+    /// for a reader that knew more this would wait without end.
+    pub fn leads(&self, reader: &BoardReader)
+        requires { reader_board reader.now ≡ writer_board self.now }
+        ensures { IsPrefix (known reader.now) (published self.now) }
+    {
+        let mut both = self.published().again();
+        both.learn(reader.known());
+        let now = self.writer.published();
+        for _ in self.rt.forever() {
+            if reader.newest.board.version() <= now.board.version() {
+                return;
+            }
+        }
+        unreachable!()
+    }
+
     // A reader that knows the board as it is. Returns `Err` where each place is in use.
     pub(crate) fn reader(&mut self) -> Result<BoardReader, AllocError>
         ensures same { (published self.new ≡ published self.old) × (writer_board self.new ≡ writer_board self.old) }

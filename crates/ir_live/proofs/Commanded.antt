@@ -1,8 +1,7 @@
 -- Answers of commands, and one more of them.
-use Rattle.std.specs.Prelude.{◌≡◌, ℕ, suc, ◌+◌, ◌<◌, List, [], ◌∷◌, ◌++◌, Option, Some, None, Result, Ok, Err, MatchOption, length, take}
+use Rattle.std.specs.Prelude.{◌≡◌, ℕ, suc, ◌+◌, ◌<◌, List, [], ◌∷◌, ◌++◌, Option, Result, Ok, Err, length, take}
 use Rattle.std.proofs.lemmas.List.{take_more, length-take-le}
 use Rattle.std.proofs.Common.{get_or, refl, arith, sym, ap, ◌∙◌, subst, append-nil, append_assoc}
-use Rattle.ir_model.specs.declared.Kind.{Kind}
 use Rattle.ir_core.specs.declared.event.Refused.{Refused}
 use Rattle.ir_epochs.specs.declared.registry.Stamp.{Stamp}
 use Rattle.ir_epochs.specs.declared.handles.Receipt.{Receipt}
@@ -14,20 +13,11 @@ use Rattle.ir_control.specs.Changes.{IsChangeAnswer}
 use Rattle.ir_live.specs.declared.command.Command.{Command}
 use Rattle.ir_live.specs.declared.desk.Desk.{Desk}
 use Rattle.ir_live.specs.Answers.{Answer, answer_of, refusal_in, refusal_at, refusals_from}
-use Rattle.ir_live.specs.Carried.{IsCarriedOut, IsChangedAs, IsInstalledAs, AreCarriedOut}
+use Rattle.ir_live.specs.Planned.{stamp_by, stamps_in}
+use Rattle.ir_live.specs.Carried.{IsCarriedOut, IsChangedAs, AreCarriedOut}
 use Rattle.ir_live.specs.Words.{change_refusal}
 
-pub answered : (r : Option Refused) → r ≡ refusal_in (answer_of r)
-answered None = refl
-answered (Some why) = refl
-
 module _ {B : Type 0} where
-  pub installed : (kind : Kind) (root : ℕ) (before after : Desk B) (r : Option Refused) →
-      MatchOption r ((s : Stamp) × IsInstalledAs kind root before (Ok (Some s)) after) (λ why. IsInstalledAs kind root before (Err why) after) →
-      (answer : Answer) × (r ≡ refusal_in answer) × IsInstalledAs kind root before answer after
-  installed kind root before after None h = (Ok (Some h.0), refl, h.1)
-  installed kind root before after (Some why) h = (Err why, refl, h)
-
   pub changed_as : (refused : Option ChangeError) (c : Change) (before after : Desk B) (result : Result Receipt ChangeError) (r : Option Refused) → r ≡ change_refusal result →
       after.injector ≡ before.injector → IsChangeAnswer refused c before.controller after.controller result → IsChangedAs refused c before (answer_of r) after
   changed_as refused c before after result r told same is = subst (λ (o : Option Refused). IsChangedAs refused c before (answer_of o) after) (sym told) (by_case result is) where
@@ -59,22 +49,26 @@ refusals_more k (x ∷ answers) answer =
     ∙ sym (append_assoc (refusal_at k (refusal_in x)) (refusals_from (k + 1) answers) (refusal_at (k + 1 + length answers) (refusal_in answer)))
     ∙ ap (λ (n : ℕ). refusal_at k (refusal_in x) ++ refusals_from (k + 1) answers ++ refusal_at n (refusal_in answer)) (let e : k + 1 + length answers ≡ k + suc (length answers) = omega arith in e)
 
+stamps_more : (answers : List Answer) (answer : Answer) → stamps_in (answers ++ answer ∷ []) ≡ stamps_in answers ++ stamp_by answer
+stamps_more [] answer = append-nil (stamp_by answer)
+stamps_more (x ∷ answers) answer = ap (λ (rest : List Stamp). stamp_by x ++ rest) (stamps_more answers answer) ∙ sym (append_assoc (stamp_by x) (stamps_in answers) (stamp_by answer))
+
 module _ (was_full : Word SeenParcel) {B : Type 0} where
-  -- the first commands with their answers, one more of them, and the refusals
-  pub carried_to : (commands : List Command) (place : ℕ) (c default : Command) (a b d : Desk B) (before after : List (ℕ × Refused)) (r : Option Refused) →
+  -- the first commands with their answers, one more of them, the refusals and the stamps
+  pub carried_to : (commands : List Command) (place : ℕ) (c default : Command) (a b d : Desk B) (before after : List (ℕ × Refused)) (opening : Stamp) (stamps stamps' : List Stamp) (x : Answer) →
       place < length commands → c ≡ get_or commands place default →
-      (answers : List Answer) × AreCarriedOut was_full (take place commands) a answers b × (before ≡ refusals_from 0 answers) →
-      (answer : Answer) × (r ≡ refusal_in answer) × IsCarriedOut was_full c b answer d →
-      after ≡ before ++ refusal_at place r →
-      (answers : List Answer) × AreCarriedOut was_full (take (place + 1) commands) a answers d × (after ≡ refusals_from 0 answers)
-  carried_to commands place c default a b d before after r lt is done one told = (
-    done.0 ++ one.0 ∷ [],
-    subst (λ (ks : List Command). AreCarriedOut was_full ks a (done.0 ++ one.0 ∷ []) d) (ap (λ (k : Command). take place commands ++ k ∷ []) is ∙ sym (take_more commands place default lt))
-        (carried_more was_full (take place commands) a b d done.0 c one.0 done.1 one.2),
-    told ∙ ap (λ (xs : List (ℕ × Refused)). xs ++ refusal_at place r) done.2
-        ∙ ap (λ (n : ℕ). refusals_from 0 done.0 ++ refusal_at n r) many
-        ∙ ap (λ (o : Option Refused). refusals_from 0 done.0 ++ refusal_at (0 + length done.0) o) one.1
-        ∙ sym (refusals_more 0 done.0 one.0),
+      (answers : List Answer) × AreCarriedOut was_full (take place commands) a answers b × (before ≡ refusals_from 0 answers) × (stamps ≡ opening ∷ stamps_in answers) →
+      IsCarriedOut was_full c b x d →
+      after ≡ before ++ refusal_at place (refusal_in x) → stamps' ≡ stamps ++ stamp_by x →
+      (answers : List Answer) × AreCarriedOut was_full (take (place + 1) commands) a answers d × (after ≡ refusals_from 0 answers) × (stamps' ≡ opening ∷ stamps_in answers)
+  carried_to commands place c default a b d before after opening stamps stamps' x lt is done one told more = (
+    done.0 ++ x ∷ [],
+    subst (λ (ks : List Command). AreCarriedOut was_full ks a (done.0 ++ x ∷ []) d) (ap (λ (k : Command). take place commands ++ k ∷ []) is ∙ sym (take_more commands place default lt))
+        (carried_more was_full (take place commands) a b d done.0 c x done.1 one),
+    told ∙ ap (λ (xs : List (ℕ × Refused)). xs ++ refusal_at place (refusal_in x)) done.2
+        ∙ ap (λ (n : ℕ). refusals_from 0 done.0 ++ refusal_at n (refusal_in x)) many
+        ∙ sym (refusals_more 0 done.0 x),
+    more ∙ ap (λ (xs : List Stamp). xs ++ stamp_by x) done.3 ∙ ap (λ (xs : List Stamp). opening ∷ xs) (sym (stamps_more done.0 x)),
   ) where
     many : place ≡ 0 + length done.0
     many = (let n : length done.0 ≡ length (take place commands) = as_many was_full (take place commands) a b done.0 done.1 in let t : length (take place commands) ≡ place = length-take-le place commands (omega arith) in omega (arith, n, t))

@@ -4,3 +4,6 @@ pub mod Kept
 pub mod Handed
 pub mod Accepting
 pub mod Lived
+pub mod Agreement
+pub mod Asked
+pub mod Epochs

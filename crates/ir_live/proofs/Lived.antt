@@ -1,6 +1,26 @@
 -- A live run, of a run of the nodes and its report.
-use Rattle.std.specs.Prelude.{◌≡◌, ℕ, List, ◌++◌, Option, Some, IfSome, Result, Ok, Err, IfOk, length, map}
-use Rattle.std.proofs.Common.{ap, sym, ◌∙◌, subst}
+use Rattle.std.specs.Prelude.{◌≡◌, ℕ, ◌≤◌, Bool, true, not, List, [], ◌∷◌, ◌++◌, All, Option, Some, IfSome, Result, Ok, Err, IfOk, length, map, replicate, slice_get, slice_index_or}
+use Rattle.std.proofs.Common.{refl, ap, sym, ◌∙◌, subst, arith}
+use Rattle.std.specs.List.{AllByRecursion}
+use Rattle.std.proofs.lemmas.List.Elements.{All-nil, All-push, All-append}
+use Rattle.std.proofs.lemmas.Option.{slice_get-get_or}
+use mathlib.Core.List.{IsPrefix}
+use Rattle.ir_core.specs.declared.packet.Restamp.{Restamp}
+use Rattle.ir_core.specs.Sound.{IsSoundJourney}
+use Rattle.ir_epochs.specs.Handles.{known, published, reader_board, writer_board}
+use Rattle.ir_epochs.specs.Stamps.{registry_name}
+use Rattle.ir_worker.specs.declared.parcel.Outcome.{Outcome}
+use Rattle.ir_worker.specs.Account.{NeverCurrent}
+use Rattle.ir_worker.specs.Seen.{stamps_of}
+use Rattle.ir_worker.proofs.Restamps.{never_earlier}
+use Rattle.ir_control.specs.Nets.{first_plan}
+use Rattle.ir_control.specs.Reports.{IsSoundOutcome}
+use Rattle.ir_control.proofs.Restamped.{not_told}
+use Rattle.ir_live.specs.Agreed.{AreOfOne, Agrees}
+use Rattle.ir_live.specs.Planned.{Planned, planned, stamps_in, IsPlanIn}
+use Rattle.ir_live.proofs.Agreement.{at_all, all_mapped, all_agree}
+use Rattle.ir_live.proofs.Asked.{Stands, stands_first, never_first, all_asked, same_board, stamps_of_one, never_all}
+use Rattle.ir_live.proofs.Epochs.{among, all_among, none_beside, not_beside, entered_among, first_among, sound_by_plans}
 use Rattle.ir_model.specs.Network.{node_count}
 use Rattle.ir_epochs.specs.declared.registry.Stamp.{Stamp}
 use Rattle.ir_worker.specs.declared.node.Node.{Node}
@@ -20,7 +40,7 @@ use Rattle.ir_live.specs.declared.working.NotRun.{NotRun}
 use Rattle.ir_live.specs.declared.working.NotRun.TheVariants as not_run
 use Rattle.ir_live.specs.declared.working.Run.{Run}
 use Rattle.ir_live.specs.Answers.{accepted_from}
-use Rattle.ir_live.specs.Lives.{IsLive, IsRefusal}
+use Rattle.ir_live.specs.Lives.{AreSameNodes, IsLive, IsRefusal}
 use Rattle.ir_live.specs.Runs.{IsRun, IsStopped, live_error}
 use Rattle.ir_live.proofs.Accepting.{same_injector, injector_kept, accepted_are}
 use Rattle.ir_live.proofs.Handed.{first_back, same_back, all_there}
@@ -37,7 +57,7 @@ refused {S} unstarted net s n nodes why error first is stopped = subst (λ (e : 
   by_case not_run.NoMemory h = tt
 
 module _ (was_full : Word SeenParcel) {B : Type 0} (net : Net) (nodes : List Node) (opened : Desk B) (commands : List Command) (run : Run B)
-    (fresh : AreFreshParts net nodes opened.injector opened.controller) (done : IsRun was_full nodes opened commands run) where
+    (fresh : AreFreshParts net nodes opened.injector opened.controller) (done : IsRun was_full net.opening nodes opened commands run) where
   pub nodes_back : AreFirstNodes net (node_count net.topology) (map (λ (b : Node × Option NoMemory). b.0) run.back.items)
   nodes_back = first_back net (node_count net.topology) nodes run.back.items fresh.nodes_are done.came_back
 
@@ -50,26 +70,94 @@ module _ (was_full : Word SeenParcel) {B : Type 0} (net : Net) (nodes : List Nod
       ∙ ap (λ (xs : List Accepted). xs ++ accepted_from (length xs) opened.injector.newest.epoch commands done.answers) fresh.nothing
       ∙ ap (λ (e : ℕ). accepted_from 0 e commands done.answers) (ap (λ (s : Stamp). s.epoch) fresh.learnt ∙ net.opened.epoch)
 
-  is_live : (live : Live) → IsReport net (map (λ (b : Node × Option NoMemory). b.0) run.back.items) run.desk.injector live.report → live.refusals ≡ run.refusals → IsLive B was_full net commands live
-  is_live live report told = record {
-    first = nodes;
-    opened = opened;
-    handed_out = fresh;
-    answers = done.answers;
-    closed = run.desk;
-    carried_out = done.carried_out;
-    refusals = ap (λ xs. xs.items) told ∙ done.refusals;
-    accepted = accepted;
-    last = map (λ (b : Node × Option NoMemory). b.0) run.back.items;
-    same_nodes = same_back net (node_count net.topology) nodes run.back.items fresh.nodes_are done.came_back;
-    nodes_of = first_apart net (node_count net.topology) (map (λ (b : Node × Option NoMemory). b.0) run.back.items) nodes_back;
-    all_there = all_there net (node_count net.topology) (map (λ (b : Node × Option NoMemory). b.0) run.back.items) nodes_back;
-    injector_of = injector_back;
-    report = report;
-  }
+  abbrev back : List Node
+  back = map (λ (b : Node × Option NoMemory). b.0) run.back.items
+
+  came : AreSameNodes nodes back
+  came = same_back net (node_count net.topology) nodes run.back.items fresh.nodes_are done.came_back
+
+  stands : Stands net opened.controller (replicate (length net.topology.links) true) 1 opened.controller
+  stands = stands_first net nodes opened fresh
+
+  pub boards_back : All (λ n. reader_board n.reader ≡ writer_board run.desk.controller.writer) (map (λ (b : Node × Option NoMemory). b.0) run.back.items)
+  boards_back k d lt =
+      let count = came.count in
+      (came.each k d d (omega (arith, lt, count))).reader ∙ fresh.boards k d (omega (arith, lt, count))
+      ∙ sym (same_board net opened.controller was_full commands (replicate (length net.topology.links) true) 1 opened run.desk done.answers done.carried_out stands)
+
+  abbrev whole : List Stamp
+  whole = net.opening ∷ stamps_in done.answers
+
+  pub stamps_of_net : AreOfOne net.opening run.stamps.items
+  stamps_of_net = subst (AreOfOne net.opening) (sym done.stamps)
+      (All-append (λ t. registry_name t ≡ registry_name net.opening) (net.opening ∷ []) (stamps_in done.answers)
+      (All-push (λ t. registry_name t ≡ registry_name net.opening) [] net.opening (All-nil (λ t. registry_name t ≡ registry_name net.opening)) refl)
+      (stamps_of_one net opened.controller was_full commands (replicate (length net.topology.links) true) 1 opened run.desk done.answers done.carried_out stands))
+
+  abbrev beside : ℕ → Bool
+  beside e = not (among whole e)
+
+  there : AllByRecursion (λ s. among whole s.epoch ≡ true) whole
+  there = all_among whole
+
+  opening_there : among whole 1 ≡ true
+  opening_there = ap (among whole) (sym net.opened.epoch) ∙ there.0
+
+  never_published : NeverCurrent beside (published run.desk.controller.writer)
+  never_published = never_all was_full beside commands opened run.desk done.answers done.carried_out (none_beside whole (stamps_in done.answers) there.1) (never_first net nodes opened fresh beside (ap not opening_there))
+
+  module _ (live : Live) (report : IsReport net (map (λ (b : Node × Option NoMemory). b.0) run.back.items) run.desk.injector live.report)
+      (read : All (λ n. IsPrefix (known n.reader) (published run.desk.controller.writer)) (map (λ (b : Node × Option NoMemory). b.0) run.back.items))
+      (first : All (λ s. Agrees run.stamps.items s) live.report.stamps.items) (later : All (λ row. All (λ s. Agrees run.stamps.items s) row.items) live.report.later.items) where
+    never_read : (k : ℕ) (n : Node) → slice_get back k ≡ Some n → NeverCurrent beside (known n.reader)
+    never_read k n got = never_earlier beside (known n.reader) (published run.desk.controller.writer) (at_all (λ n. IsPrefix (known n.reader) (published run.desk.controller.writer)) back read k n got) never_published
+
+    restamps_there : (k : ℕ) (o : Outcome) → slice_get report.outcomes k ≡ Some o → All (λ (s : Restamp). among whole s.epoch ≡ true) o.packet.restamps
+    restamps_there k o got j d lt =
+        not_beside (among whole (slice_index_or o.packet.restamps j d).epoch)
+        (not_told beside net back run.desk.injector live.report report never_read k o got j (slice_index_or o.packet.restamps j d) (slice_get-get_or o.packet.restamps j d lt))
+
+    first_there : (k : ℕ) (o : Outcome) → slice_get report.outcomes k ≡ Some o → among whole o.packet.epoch ≡ true
+    first_there = first_among whole report.outcomes run.desk.injector.accepted.items report.heads
+        (subst (AllByRecursion (λ (a : Accepted). among whole a.epoch ≡ true)) (sym accepted) (entered_among whole commands done.answers 0 1 opening_there there.1))
+
+    agree : (k : ℕ) (o : Outcome) → slice_get report.outcomes k ≡ Some o → All (λ s. Agrees whole s) (stamps_of o.stamp o.later.items)
+    agree k o got = subst (λ (plans : List Stamp). All (λ s. Agrees plans s) (stamps_of o.stamp o.later.items)) done.stamps
+        (all_agree run.stamps.items report.outcomes live.report.stamps.items report.stamps first (λ row. row.items) (λ (o : Outcome). o.later) (λ o. refl) live.report.later.items report.later later k o got)
+
+    sound : All (λ r. ∥ IsSoundJourney net.restamps (IsPlanIn (planned whole)) r ∥₁) live.report.records.items
+    sound = subst (All (λ r. ∥ IsSoundJourney net.restamps (IsPlanIn (planned whole)) r ∥₁)) (sym report.records)
+        (all_mapped (λ r. ∥ IsSoundJourney net.restamps (IsPlanIn (planned whole)) r ∥₁) (λ (o : Outcome). o.packet) report.outcomes
+        (λ k o got. sound_by_plans whole net.restamps (stamps_of o.stamp o.later.items) o.packet (at_all IsSoundOutcome report.outcomes report.sound k o got).1
+        (at_all (λ (o : Outcome). length o.packet.restamps ≤ net.restamps) report.outcomes report.few k o got) (agree k o got) (first_there k o got) (restamps_there k o got)))
+
+    is_live : live.refusals ≡ run.refusals → IsLive B was_full net commands live
+    is_live told = record {
+      first = nodes;
+      opened = opened;
+      handed_out = fresh;
+      answers = done.answers;
+      closed = run.desk;
+      carried_out = done.carried_out;
+      refusals = ap (λ xs. xs.items) told ∙ done.refusals;
+      accepted = accepted;
+      last = map (λ (b : Node × Option NoMemory). b.0) run.back.items;
+      same_nodes = came;
+      nodes_of = first_apart net (node_count net.topology) (map (λ (b : Node × Option NoMemory). b.0) run.back.items) nodes_back;
+      all_there = all_there net (node_count net.topology) (map (λ (b : Node × Option NoMemory). b.0) run.back.items) nodes_back;
+      injector_of = injector_back;
+      report = report;
+      plans = planned whole;
+      plans_are = ap (λ (e : ℕ). let p : Planned = record { epoch = e; plan = first_plan net } in p ∷ planned (stamps_in done.answers)) net.opened.epoch;
+      asked = all_asked net opened.controller was_full commands (replicate (length net.topology.links) true) 1 opened run.desk done.answers done.carried_out stands;
+      sound = sound;
+    }
 
   pub lived : (result : Result Live LiveError) →
       IfOk result (λ live. IsReport net (map (λ (b : Node × Option NoMemory). b.0) run.back.items) run.desk.injector live.report) →
+      IfOk result (λ _. All (λ n. IsPrefix (known n.reader) (published run.desk.controller.writer)) (map (λ (b : Node × Option NoMemory). b.0) run.back.items)) →
+      IfOk result (λ live. All (λ s. Agrees run.stamps.items s) live.report.stamps.items) →
+      IfOk result (λ live. All (λ row. All (λ s. Agrees run.stamps.items s) row.items) live.report.later.items) →
       IfOk result (λ live. live.refusals ≡ run.refusals) → IfOk result (λ live. IsLive B was_full net commands live)
-  lived (Ok live) report told = is_live live report told
-  lived (Err e) report told = tt
+  lived (Ok live) report read first later told = is_live live report read first later told
+  lived (Err e) report read first later told = tt

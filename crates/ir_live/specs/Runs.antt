@@ -1,6 +1,7 @@
 -- What nodes that turned on threads of their own came to, while commands were carried out.
-use Rattle.std.specs.Prelude.{◌≡◌, ℕ, ◌<◌, List, length, slice_index_or, slice_get, Option, Some}
+use Rattle.std.specs.Prelude.{◌≡◌, ℕ, ◌<◌, List, ◌∷◌, length, slice_index_or, slice_get, Option, Some}
 use Rattle.ir_links.specs.Ends.{Word}
+use Rattle.ir_epochs.specs.declared.registry.Stamp.{Stamp}
 use Rattle.ir_worker.specs.declared.node.Node.{Node}
 use Rattle.ir_worker.specs.declared.serving.NoMemory.{NoMemory as Short}
 use Rattle.ir_worker.specs.Same.{IsSameNode}
@@ -13,6 +14,7 @@ use Rattle.ir_live.specs.declared.working.NotRun.{NotRun}
 use Rattle.ir_live.specs.declared.working.NotRun.TheVariants.{NoThread, NoMemory}
 use Rattle.ir_live.specs.declared.working.Run.{Run}
 use Rattle.ir_live.specs.Answers.{Answer, refusals_from}
+use Rattle.ir_live.specs.Planned.{stamps_in}
 use Rattle.ir_live.specs.Carried.{AreCarriedOut}
 
 -- the same nodes, in the same order
@@ -20,12 +22,14 @@ pub record CameBack (before : List Node) (after : List (Node × Option Short)) :
   pub count : length after ≡ length before
   pub each : (k : ℕ) (d : Node) (e : Node × Option Short) → k < length before → IsSameNode (slice_index_or before k d) (slice_index_or after k e).0
 
--- The nodes came back, and each command had its answer.
-pub record IsRun (was_full : Word SeenParcel) {B : Type 0} (nodes : List Node) (desk : Desk B) (commands : List Command) (run : Run B) : Type 0 where
+-- The nodes came back, and each command had its answer. The stamps are that of the opening and those of the epochs that were
+-- installed.
+pub record IsRun (was_full : Word SeenParcel) {B : Type 0} (opening : Stamp) (nodes : List Node) (desk : Desk B) (commands : List Command) (run : Run B) : Type 0 where
   pub came_back : CameBack nodes run.back.items
   pub answers : List Answer
   pub carried_out : AreCarriedOut was_full commands desk answers run.desk
   pub refusals : run.refusals.items ≡ refusals_from 0 answers
+  pub stamps : run.stamps.items ≡ opening ∷ stamps_in answers
 
 -- the thread of one of these nodes was not started, or a growth was refused
 abbrev pub IsStopped : {S : Type 0} → (S → ℕ → Type 0) → S → List Node → NotRun → Type 0

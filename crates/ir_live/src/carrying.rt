@@ -1,33 +1,40 @@
 //! Carrying out commands in turn.
-ghost use Rattle.std.specs.Prelude.{◌≡◌, ◌++◌, List, IfOk, OnOk};
-ghost use Rattle.ir_live.specs.Answers.{Answer, refusal_at, refusals_from};
+ghost use Rattle.std.specs.Prelude.{◌≡◌, ◌++◌, ◌∷◌, List, IfOk, OnOk};
+ghost use Rattle.ir_live.specs.Answers.{Answer, refusal_in, refusal_at, refusals_from};
+ghost use Rattle.ir_live.specs.Planned.{stamp_by, stamps_in};
 ghost use Rattle.ir_live.specs.Carried.{AreCarriedOut};
 
 use crate::command::Command;
 use crate::desk::Desk;
 use ir_control::Net;
-use ir_core::Refused;
+use ir_core::{MAX_EPOCHS, Refused};
+use ir_epochs::Stamp;
 use ir_links::Moments;
 use ir_worker::Parcel;
 use std::alloc::{AllocError, Global};
 use std::sync::Wait;
 use std::sync::atomic::AtomicBool;
 
-// Adds a refusal with its place, if there is one.
+// Adds what a command was answered: a refusal with its place, or the stamp of the epoch that was installed.
 fn note(
     refusals: &mut Vec<(usize, Refused)>,
+    stamps: &mut Vec<Stamp>,
     place: usize,
-    refusal: Option<Refused>,
+    answer: Result<Option<Stamp>, Refused>,
 ) -> Result<(), AllocError>
-    ensures { OnOk result (refusals.new.items ≡ refusals.old.items ++ refusal_at place refusal) }
+    ensures refusals { OnOk result (refusals.new.items ≡ refusals.old.items ++ refusal_at place (refusal_in answer)) }
+    ensures stamps { OnOk result (stamps.new.items ≡ stamps.old.items ++ stamp_by answer) }
 {
-    if let Some(why) = refusal {
-        refusals.push((place, why))?;
+    match answer {
+        Ok(None) => {}
+        Ok(Some(stamp)) => stamps.push(stamp)?,
+        Err(why) => refusals.push((place, why))?,
     }
     Ok(())
 }
 
-/// Carries out commands in order, and answers each refused one's place, counted from 0, with its refusal.
+/// Carries out commands in order, and answers each refused one's place, counted from 0, with its refusal; and the stamps of
+/// the opening and of each epoch that was installed.
 pub(crate) fn carry_out_all<R: Moments<Parcel>, B: Wait + Drop>(
     rt: &R,
     alloc: Global,
@@ -35,13 +42,15 @@ pub(crate) fn carry_out_all<R: Moments<Parcel>, B: Wait + Drop>(
     ended: &AtomicBool,
     desk: &mut Desk<B>,
     commands: &[Command],
-) -> Result<Vec<(usize, Refused)>, AllocError>
-    ensures { IfOk result (λ refusals. (answers : List Answer) × AreCarriedOut R.was_full commands.now desk.old answers desk.new × (refusals.items ≡ refusals_from 0 answers)) }
+) -> Result<(Vec<(usize, Refused)>, Vec<Stamp>), AllocError>
+    ensures { IfOk result (λ told. (answers : List Answer) × AreCarriedOut R.was_full commands.now desk.old answers desk.new × (told.0.items ≡ refusals_from 0 answers) × (told.1.items ≡ net.now.opening ∷ stamps_in answers)) }
 {
     let mut refusals = Vec::with_capacity(alloc, commands.len())?;
+    let mut stamps = Vec::with_capacity(alloc, MAX_EPOCHS)?;
+    stamps.push(net.opening().again())?;
     for place in 0..commands.len() {
-        let refusal = desk.carry_out(rt, net, ended, commands[place]);
-        note(&mut refusals, place, refusal)?;
+        let answer = desk.carry_out(rt, net, ended, commands[place]);
+        note(&mut refusals, &mut stamps, place, answer)?;
     }
-    Ok(refusals)
+    Ok((refusals, stamps))
 }

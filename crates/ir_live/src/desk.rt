@@ -1,11 +1,12 @@
 //! The desk where commands are carried out.
 ghost use Rattle.std.specs.Prelude.{◌≡◌};
+ghost use Rattle.ir_live.specs.Answers.{answer_of};
 ghost use Rattle.ir_live.specs.Words.{change_refusal};
 
 use crate::command::{Command, change_word, inject_word, install_word};
 use ir_control::{ChangeError, Controller, Injector, Net};
 use ir_core::Refused;
-use ir_epochs::Receipt;
+use ir_epochs::{Receipt, Stamp};
 use ir_links::Moments;
 use ir_model::Kind;
 use ir_worker::Parcel;
@@ -31,6 +32,16 @@ fn refusal_of(answer: Result<Receipt, ChangeError>) -> Option<Refused>
     }
 }
 
+// The answer of a command that installs nothing.
+fn answered(refusal: Option<Refused>) -> Result<Option<Stamp>, Refused>
+    ensures { result ≡ answer_of refusal }
+{
+    match refusal {
+        None => Ok(None),
+        Some(why) => Err(why),
+    }
+}
+
 // Looks until so many packets are settled or a node has ended, and lets others go first between two looks.
 fn drain<R: Wait>(rt: &R, net: &Net, count: u32, ended: &AtomicBool) {
     for _ in rt.forever() {
@@ -42,9 +53,6 @@ fn drain<R: Wait>(rt: &R, net: &Net, count: u32, ended: &AtomicBool) {
 }
 
 impl<B: Wait + Drop> Desk<B> {
-    ghost use Rattle.std.specs.Prelude.{Ok, Err, Some, MatchOption};
-    ghost use Rattle.ir_epochs.specs.declared.registry.Stamp.{Stamp};
-    ghost use Rattle.ir_live.specs.Answers.{Answer, answer_of, refusal_in};
     ghost use Rattle.ir_live.specs.Carried.{IsInstalledAs, IsRetiredAs, IsDownAs, IsUpAs, IsCarriedOut};
     ghost use Rattle.ir_live.specs.declared.command.Command.TheVariants.{Inject};
 
@@ -59,17 +67,18 @@ impl<B: Wait + Drop> Desk<B> {
     }
 
     // Installs an epoch, of which the injector learns at once.
-    fn install(&mut self, kind: Kind, root: u16) -> Option<Refused>
-        ensures { MatchOption result
-            ((s : Stamp) × IsInstalledAs kind root self.old (Ok (Some s)) self.new)
-            (λ why. IsInstalledAs kind root self.old (Err why) self.new) }
+    fn install(&mut self, kind: Kind, root: u16) -> Result<Option<Stamp>, Refused>
+        ensures { IsInstalledAs kind root self.old result self.new }
     {
         match self.controller.install(kind, root) {
             Ok(receipt) => {
                 self.injector.learn(&receipt);
-                None
+                match receipt.stamp() {
+                    Some(stamp) => Ok(Some(stamp.again())),
+                    None => unreachable!(),
+                }
             }
-            Err(error) => Some(install_word(error)),
+            Err(error) => Err(install_word(error)),
         }
     }
 
@@ -94,25 +103,25 @@ impl<B: Wait + Drop> Desk<B> {
         refusal_of(self.controller.up(link))
     }
 
-    // Carries out a command, and answers why not.
+    // Carries out a command, and answers it.
     pub(crate) fn carry_out<R: Moments<Parcel>>(
         &mut self,
         rt: &R,
         net: &Net,
         ended: &AtomicBool,
         command: Command,
-    ) -> Option<Refused>
-        ensures { (answer : Answer) × (result ≡ refusal_in answer) × IsCarriedOut R.was_full command self.old answer self.new }
+    ) -> Result<Option<Stamp>, Refused>
+        ensures { IsCarriedOut R.was_full command self.old result self.new }
     {
         match command {
-            Command::Inject(source, dest) => self.inject(rt, source, dest),
+            Command::Inject(source, dest) => answered(self.inject(rt, source, dest)),
             Command::Install(kind, root) => self.install(kind, root),
-            Command::Retire(floor) => self.retire(floor),
-            Command::Down(link) => self.down(link),
-            Command::Up(link) => self.up(link),
+            Command::Retire(floor) => answered(self.retire(floor)),
+            Command::Down(link) => answered(self.down(link)),
+            Command::Up(link) => answered(self.up(link)),
             Command::Drain => {
                 drain(rt, net, self.injector.count(), ended);
-                None
+                Ok(None)
             }
         }
     }

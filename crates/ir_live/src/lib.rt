@@ -1,6 +1,7 @@
 //! A live run of a net: each node turns on a thread of its own while commands are carried out, and then there is a report.
 #![tactic(auto)]
 
+mod agreeing;
 mod carrying;
 mod command;
 mod desk;

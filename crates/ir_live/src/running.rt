@@ -4,9 +4,13 @@ ghost use Rattle.ir_model.specs.Network.{node_count};
 ghost use Rattle.ir_control.specs.Parts.{AreFirstNodes, IsInjectorOf};
 ghost use Rattle.ir_control.specs.Reports.{IsReport};
 ghost use Rattle.std.specs.Borrow.{Bor};
+ghost use mathlib.Core.List.{IsPrefix};
+ghost use Rattle.ir_epochs.specs.Handles.{known, published, reader_board, writer_board};
+ghost use Rattle.ir_live.specs.Agreed.{AreOfOne, Agrees};
 ghost use Rattle.ir_live.specs.Lives.{IsLive, IsRefusal};
 ghost use Rattle.ir_live.specs.Runs.{live_error};
 
+use crate::agreeing::{agree_all, agree_rows, lead_all};
 use crate::command::Command;
 use crate::desk::Desk;
 use crate::live::{Live, LiveError};
@@ -44,7 +48,7 @@ fn all_back(alloc: Global, back: Vec<(Node, Option<NoMemory>)>) -> Result<Vec<No
     Ok(nodes)
 }
 
-// The report of a run.
+// The report of a run. The nodes have read nothing that was not published, and the stamps of one epoch know one plan.
 fn reported<R: Wait, B: Wait + Drop>(
     rt: &R,
     alloc: Global,
@@ -53,14 +57,20 @@ fn reported<R: Wait, B: Wait + Drop>(
 ) -> Result<Live, LiveError>
     requires nodes { AreFirstNodes net.now (node_count net.now.topology) (map (λ b. b.0) run.back.items) }
     requires injector { IsInjectorOf net.now run.desk.injector }
+    requires boards { All (λ n. reader_board n.reader ≡ writer_board run.desk.controller.writer) (map (λ b. b.0) run.back.items) }
+    requires registry { AreOfOne net.now.opening run.stamps.items }
     ensures report { IfOk result (λ live. IsReport net.now (map (λ b. b.0) run.back.items) run.desk.injector live.report) }
     ensures refusals { IfOk result (λ live. live.refusals ≡ run.refusals) }
     ensures refused { IfErr result (λ error. error ≡ LiveError.NoMemory) }
+    ensures read { IfOk result (λ _. All (λ n. IsPrefix (known n.reader) (published run.desk.controller.writer)) (map (λ b. b.0) run.back.items)) }
+    ensures first { IfOk result (λ live. All (λ s. Agrees run.stamps.items s) live.report.stamps.items) }
+    ensures later { IfOk result (λ live. All (λ row. All (λ s. Agrees run.stamps.items s) row.items) live.report.later.items) }
 {
     let Run {
         back,
         desk,
         refusals,
+        stamps,
     } = run;
     let Ok(nodes) = all_back(alloc, back) else {
         return Err(LiveError::NoMemory);
@@ -69,13 +79,18 @@ fn reported<R: Wait, B: Wait + Drop>(
         injector,
         controller,
     } = desk;
+    lead_all(&controller, &nodes);
     let parts = Parts {
         nodes,
         injector,
         controller,
     };
     match finish(rt, net, parts) {
-        Ok(report) => Ok(Live { report, refusals }),
+        Ok(report) => {
+            agree_all(&report.stamps, &stamps);
+            agree_rows(&report.later, &stamps);
+            Ok(Live { report, refusals })
+        }
         Err((FinishError::NoMemory, _)) => Err(LiveError::NoMemory),
         Err((FinishError::Missing(_), _)) => unreachable!(),
     }

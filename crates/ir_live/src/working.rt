@@ -9,6 +9,7 @@ use crate::desk::Desk;
 use crate::starter::Starter;
 use ir_control::Net;
 use ir_core::Refused;
+use ir_epochs::Stamp;
 use ir_links::Moments;
 use ir_worker::{ComesBack, Gate, NoMemory, Node, Parcel, serve};
 use std::alloc::Global;
@@ -25,12 +26,14 @@ pub(crate) enum NotRun {
     NoMemory,
 }
 
-/// What came of a run: the nodes that came back, the injector and the controller, and the refused commands.
+/// What came of a run: the nodes that came back, the injector and the controller, the refused commands, and the stamps of
+/// all epochs.
 #[derive(Drop)]
 pub(crate) struct Run<B: Wait + Drop> {
     pub(crate) back: Vec<(Node, Option<NoMemory>)>,
     pub(crate) desk: Desk<B>,
     pub(crate) refusals: Vec<(usize, Refused)>,
+    pub(crate) stamps: Vec<Stamp>,
 }
 
 // Serves, and tells by a flag that it has ended.
@@ -59,7 +62,7 @@ pub(crate) fn run_nodes<R: Threads + Moments<Parcel> + Sync, G: Gate, S: Starter
     gate: &G,
     starter: &S,
 ) -> Result<Run<B>, NotRun>
-    ensures run { IfOk result (λ run. IsRun R.was_full nodes.items desk commands.now run) }
+    ensures run { IfOk result (λ run. IsRun R.was_full net.now.opening nodes.items desk commands.now run) }
     ensures stopped { IfErr result (λ why. IsStopped S.unstarted starter.now nodes.items why) }
 {
     let (stop, ended) = (AtomicBool::new(false), AtomicBool::new(false));
@@ -68,7 +71,7 @@ pub(crate) fn run_nodes<R: Threads + Moments<Parcel> + Sync, G: Gate, S: Starter
         thread::scope_env(),
         rt,
         move |scope| -> Result<Run<B>, NotRun>
-            ensures run { IfOk result (λ run. IsRun R.was_full nodes.items desk commands.entry.now run) }
+            ensures run { IfOk result (λ run. IsRun R.was_full net.entry.now.opening nodes.items desk commands.entry.now run) }
             ensures stopped { IfErr result (λ why. IsStopped S.unstarted starter.entry.now nodes.items why) }
         {
             let mut desk = desk;
@@ -100,7 +103,7 @@ pub(crate) fn run_nodes<R: Threads + Moments<Parcel> + Sync, G: Gate, S: Starter
             }
             let told = carry_out_all(rt, alloc, net, ended, &mut desk, commands);
             stop.store(true, Ordering::SeqCst);
-            let Ok(refusals) = told else {
+            let Ok((refusals, stamps)) = told else {
                 return Err(NotRun::NoMemory);
             };
             let Ok(back) = thread::join_promised(rt, running) else {
@@ -110,6 +113,7 @@ pub(crate) fn run_nodes<R: Threads + Moments<Parcel> + Sync, G: Gate, S: Starter
                 back,
                 desk,
                 refusals,
+                stamps,
             })
         },
     )

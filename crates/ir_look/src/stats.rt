@@ -128,7 +128,7 @@ fn push_weights(
     distances: &Table,
     worst: Option<Pair>,
 ) -> Result<(), AllocError>
-    requires few { nodes ≤ 1024 }
+    requires few { nodes ≤ 16384 }
     requires nodes { nodes ≡ length graph.now }
     requires walks { table_size walks.now ≡ nodes }
     requires distances { table_size distances.now ≡ nodes }

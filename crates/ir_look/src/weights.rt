@@ -60,7 +60,7 @@ fn weight_apart(table: &Table, u: u16, d: u16) -> u32
 /// The sum of the weights from a node to the others.
 fn sum_from(nodes: usize, table: &Table, u: u16) -> u64
     requires size { table_size table.now ≡ nodes }
-    requires few { nodes ≤ 1024 }
+    requires few { nodes ≤ 16384 }
     requires node { u < nodes }
     ensures sum { result ≡ sum_from nodes (weight_in table.now) u }
     ensures light { result ≤ 4294967296 * nodes }
@@ -75,7 +75,7 @@ fn sum_from(nodes: usize, table: &Table, u: u16) -> u64
 /// The sum of the weights between all ordered pairs of two nodes.
 pub fn sum_of_pairs(nodes: usize, table: &Table) -> u64
     requires size { table_size table.now ≡ nodes }
-    requires few { nodes ≤ 1024 }
+    requires few { nodes ≤ 16384 }
     ensures { result ≡ sum_of_pairs nodes (weight_in table.now) }
 {
     let mut sum = 0;

@@ -63,7 +63,7 @@ fn worst_from(
 ) -> Option<Pair>
     requires walks { table_size walks.now ≡ nodes }
     requires distances { table_size distances.now ≡ nodes }
-    requires few { nodes ≤ 1024 }
+    requires few { nodes ≤ 16384 }
     requires node { u < nodes }
     requires positive { ArePositive nodes (weight_in distances.now) }
     requires best { IsWorstBefore nodes (weight_in walks.now) (weight_in distances.now) u 0 best }
@@ -84,7 +84,7 @@ fn worst_from(
 pub fn worst(nodes: usize, walks: &Table, distances: &Table) -> Option<Pair>
     requires walks { table_size walks.now ≡ nodes }
     requires distances { table_size distances.now ≡ nodes }
-    requires few { nodes ≤ 1024 }
+    requires few { nodes ≤ 16384 }
     requires positive { ArePositive nodes (weight_in distances.now) }
     ensures { IsWorstOf nodes (weight_in walks.now) (weight_in distances.now) result }
 {

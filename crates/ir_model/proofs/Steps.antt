@@ -50,6 +50,16 @@ pub record IsFirstNear (n own : ℕ) (counts : List ℕ) (t : ℕ) : Type 0 wher
   pub before : (i : ℕ) → 0 < i → i < t → (others : ℕ) × Steps n counts (label_from n own i) 0 others × (steps < others)
   pub near : (i : ℕ) → 0 < i → i < n → i ≤ 1 + slice_index counts (label_from n own 1) → (others : ℕ) × Steps n counts (label_from n own i) 0 others × (steps ≤ others)
 
+-- the labels but the own have the ports of the steps of the first near label with the fewest
+pub record HaveRoundPorts (n own : ℕ) (counts ports : List ℕ) (held : List (Option ℕ)) : Type 0 where
+  pub every : length held ≡ n
+  pub none : port_to held own ≡ None
+  pub place : ℕ
+  pub near : IsFirstNear n own counts place
+  pub steps : ℕ
+  pub go : Steps n counts (label_from n own place) 0 steps
+  pub have : HaveStepPorts n own counts ports (label_from n own place) 0 steps held
+
 -- where the step from the place i leads, at most to the end of the round
 pub record IsPlaceAfter (n : ℕ) (counts : List ℕ) (s i after : ℕ) : Type 0 where
   pub further : i < after

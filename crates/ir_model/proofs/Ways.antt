@@ -6,7 +6,7 @@ use Rattle.ir_model.proofs.Walks.{link_weight_at, leads_from_node}
 use Rattle.ir_model.proofs.Tables.{distance_way}
 
 -- one way behind another
-joined : (net : Network) (u v d : ℕ) (rest more : List ℕ) → LeadsTo net u v rest → LeadsTo net v d more
+pub joined : (net : Network) (u v d : ℕ) (rest more : List ℕ) → LeadsTo net u v rest → LeadsTo net v d more
     → LeadsTo net u d (rest ++ more) × (weight_from net u (rest ++ more) ≡ weight_from net u rest + weight_from net v more)
 joined net u v d [] more way on =
     let P : ℕ → Type 0 = λ x. LeadsTo net x d more × (weight_from net x more ≡ 0 + weight_from net v more) in

@@ -4,10 +4,10 @@
 #![tactic(auto)]
 
 /// The most nodes of a graph.
-pub const MAX_NODES: usize = 1_024;
+pub const MAX_NODES: usize = 16_384;
 
 /// The most edges of a graph.
-pub const MAX_EDGES: usize = 8_192;
+pub const MAX_EDGES: usize = 65_536;
 
 /// The most bytes of a node's name.
 pub const MAX_NAME_BYTES: usize = 64;

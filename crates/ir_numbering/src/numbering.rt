@@ -6,11 +6,12 @@ ghost use Rattle.ir_model.specs.Subtree.{IsSubtree};
 ghost use Rattle.ir_model.specs.Table.{port_in, IsRouted};
 ghost use Rattle.ir_model.specs.Tree.{IsTreeTable};
 ghost use Rattle.ir_numbering.specs.Numbers.{IsNumberingOf};
+ghost use Rattle.ir_numbering.specs.Cells.{AreTreeCells};
 
 use crate::error::NumberError;
 use crate::parents::{labels_of, parent_ports, subtree_size};
 use crate::search::{Order, search};
-use crate::tree::tree_ports;
+use crate::tree::{ports_by_label, tree_ports};
 use ir_tables::{Table, Topology};
 use std::alloc::{AllocError, Global};
 use std::marker::Model;
@@ -110,6 +111,29 @@ impl Numbering {
     {
         let label = self.label_of(u);
         subtree_size(self.parents.as_slice(), label as usize)
+    }
+
+    /// The ports of a node to all nodes, by label, along the tree of the numbering; none to itself.
+    ///
+    /// Condition: the numbering is of the topology. It is refused for want of memory alone.
+    pub fn tree_ports(
+        &self,
+        alloc: Global,
+        topology: &Topology,
+        u: u16,
+    ) -> Result<Vec<Option<u16>>, AllocError>
+        requires numbering { IsNumberingOf topology.now self.now }
+        requires node { u < node_count topology.now }
+        ensures { IfOk result (λ ports. AreTreeCells topology.now self.now.order self.now.parents (slice_index self.now.labels u) (node_count topology.now) ports.items) }
+    {
+        ports_by_label(
+            alloc,
+            topology,
+            self.order.as_slice(),
+            self.parents.as_slice(),
+            self.parent(u),
+            self.label_of(u) as usize,
+        )
     }
 }
 

@@ -5,3 +5,4 @@ pub mod Counting
 pub mod TreeStarts
 pub mod CompactRows
 pub mod CompactPlans
+pub mod NodeRows

@@ -3,3 +3,4 @@ pub mod Shown
 pub mod Views
 pub mod TreeRows
 pub mod CompactRows
+pub mod NodeRows

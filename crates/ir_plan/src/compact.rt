@@ -1,117 +1,112 @@
-//! The rows of a compact plan: at each node the fewest intervals over all choices of ports that lead nearer.
+//! The row of a node in a compact plan: the fewest intervals over all choices of ports that lead nearer.
 
-ghost use Rattle.std.specs.Prelude.{◌≡◌, ◌+◌, ◌<◌, ◌↔◌, ℕ, Some, IsTrue, IfOk, Bool, true, false, length, map, slice_index, slice_index_or};
+ghost use Rattle.std.specs.Prelude.{◌≡◌, ◌<◌, IfOk, length, slice_index};
 ghost use Rattle.ir_model.specs.declared.Kind.TheVariants.{Compact};
-ghost use Rattle.ir_model.specs.Network.{node_count, ports_of, port_at};
-ghost use Rattle.ir_model.specs.Table.{table_size, weight_in, IsShortest};
-ghost use Rattle.ir_model.specs.Scheme.{AreLabels};
+ghost use Rattle.ir_model.specs.Network.{node_count, ports_of};
+ghost use Rattle.ir_model.specs.Walk.{IsConnected};
+ghost use Rattle.ir_model.proofs.Steps.{AreLongest};
 ghost use Rattle.ir_numbering.specs.Numbers.{IsNumberingOf};
-ghost use Rattle.ir_compile.specs.Allowed.{rows_of};
-ghost use Rattle.ir_plan.specs.Shown.{StandForTable};
-ghost use Rattle.ir_plan.specs.CompactRows.{IsCompactRow, AreTiedMarks, AreTiedRows};
+ghost use Rattle.ir_tables.specs.FromNode.{AreFrom};
+ghost use Rattle.ir_plan.specs.NodeRows.{IsNodeRow, ArePortsOf};
+ghost use Rattle.ir_plan.specs.CompactRows.{AreTiedMarks, MayTake};
 
-use ir_compile::{CompileError, compile_choices};
+use crate::rows::row_of;
+use ir_compile::{keep_longer, ports_of_runs, row_runs};
 use ir_lookup::Row;
-use ir_model::Hop;
 use ir_numbering::Numbering;
-use ir_tables::{Table, Topology};
+use ir_tables::{Outward, Topology};
 use std::alloc::{AllocError, Global};
 
-/// The row of each node, by number, where `shortest` has the distances.
-pub fn compact_rows(
+/// The row of a node.
+pub fn compact_row(
     alloc: Global,
     topology: &Topology,
     numbering: &Numbering,
-    shortest: &Table,
-) -> Result<Vec<Row>, AllocError>
-    requires numbering { IsNumberingOf topology.now numbering.now }
-    requires shortest { IsShortest topology.now shortest.now }
-    ensures { IfOk result (λ rows. StandForTable Compact topology.now numbering.now.order numbering.now.parents numbering.now.labels rows.items) }
-{
-    let nodes = topology.nodes() as u16;
-    let mut rows = Vec::with_capacity(alloc, nodes as usize)?;
-    for u in 0..nodes {
-        rows.push(compact_row(alloc, topology, numbering, shortest, u)?)?;
-    }
-    Ok(rows)
-}
-
-// The row of a node.
-fn compact_row(
-    alloc: Global,
-    topology: &Topology,
-    numbering: &Numbering,
-    shortest: &Table,
     u: u16,
 ) -> Result<Row, AllocError>
     requires numbering { IsNumberingOf topology.now numbering.now }
-    requires shortest { IsShortest topology.now shortest.now }
+    requires connected { IsConnected topology.now }
     requires node { u < node_count topology.now }
-    ensures { IfOk result (λ row. IsCompactRow topology.now numbering.now.order (slice_index numbering.now.labels u) row) }
+    ensures { IfOk result (λ row. IsNodeRow Compact topology.now numbering.now.order numbering.now.parents (slice_index numbering.now.labels u) row) }
 {
     let nodes = topology.nodes() as u16;
-    let marks = tied_marks(alloc, topology, numbering, shortest, u)?;
-    match compile_choices(alloc, nodes, numbering.label_of(u), marks.as_slice()) {
-        Ok(row) => Ok(row),
-        Err(CompileError::BadRow) => unreachable!(),
-        Err(CompileError::NoMemory) => Err(AllocError),
-    }
+    let ports = chosen_ports(alloc, topology, numbering, u)?;
+    row_of(alloc, nodes, numbering.label_of(u), ports.as_slice())
 }
 
-// For each port of a node the marks, by label, of the nodes to which it leads nearer.
-fn tied_marks(
+// The port of a node to each label, of those that lead nearer, such that the fewest intervals tell the ports.
+fn chosen_ports(
     alloc: Global,
     topology: &Topology,
     numbering: &Numbering,
-    shortest: &Table,
     u: u16,
-) -> Result<Vec<Vec<bool>>, AllocError>
+) -> Result<Vec<Option<u16>>, AllocError>
     requires numbering { IsNumberingOf topology.now numbering.now }
-    requires shortest { IsShortest topology.now shortest.now }
+    requires connected { IsConnected topology.now }
     requires node { u < node_count topology.now }
-    ensures { IfOk result (λ marks. AreTiedRows topology.now numbering.now.order u (length (ports_of topology.now u)) (rows_of marks.items)) }
+    ensures { IfOk result (λ ports. ArePortsOf Compact topology.now numbering.now.order numbering.now.parents (slice_index numbering.now.labels u) ports.items) }
 {
-    let degree = topology.degree(u);
-    let mut marks = Vec::with_capacity(alloc, degree)?;
-    for p in 0..degree {
-        marks.push(marks_of_port(alloc, topology, numbering, shortest, u, p)?)?;
+    let nodes = topology.nodes() as u16;
+    let ways = Outward::from(alloc, topology, u)?;
+    if nodes == 1 {
+        return vec![in alloc; None; 1];
     }
-    Ok(marks)
+    let (counts, ports) = longest_runs(alloc, topology, numbering, &ways, u)?;
+    ports_of_runs(
+        alloc,
+        nodes,
+        numbering.label_of(u),
+        counts.as_slice(),
+        ports.as_slice(),
+    )
 }
 
-// The marks of a port.
-#[inline(never)]
+// For each label how many labels the longest run of one port from it on has, and the least such port. The marks of one
+// port are held at a time.
+fn longest_runs(
+    alloc: Global,
+    topology: &Topology,
+    numbering: &Numbering,
+    ways: &Outward,
+    u: u16,
+) -> Result<(Vec<u16>, Vec<u16>), AllocError>
+    requires numbering { IsNumberingOf topology.now numbering.now }
+    requires source { ways.now.source ≡ u }
+    requires distances { AreFrom topology.now u ways.now.weights }
+    ensures counts { IfOk result (λ made. length made.0.items ≡ node_count topology.now) }
+    ensures ports { IfOk result (λ made. length made.1.items ≡ node_count topology.now) }
+    ensures longest { IfOk result (λ made. AreLongest (node_count topology.now) (slice_index numbering.now.labels u) (MayTake topology.now numbering.now.order (slice_index numbering.now.labels u)) made.0.items made.1.items) }
+{
+    let nodes = topology.nodes() as u16;
+    let own = numbering.label_of(u);
+    let mut counts = vec![in alloc; 0u16; nodes as usize]?;
+    let mut ports = vec![in alloc; 0u16; nodes as usize]?;
+    for p in 0..topology.degree(u) {
+        let marks = marks_of_port(alloc, topology, numbering, ways, p)?;
+        let runs = row_runs(alloc, nodes, own, marks.as_slice())?;
+        keep_longer(runs.as_slice(), p as u16, &mut counts, &mut ports);
+    }
+    Ok((counts, ports))
+}
+
+// The marks of a port, by label: where it leads nearer.
 fn marks_of_port(
     alloc: Global,
     topology: &Topology,
     numbering: &Numbering,
-    shortest: &Table,
-    u: u16,
+    ways: &Outward,
     p: usize,
 ) -> Result<Vec<bool>, AllocError>
     requires numbering { IsNumberingOf topology.now numbering.now }
-    requires shortest { IsShortest topology.now shortest.now }
-    requires node { u < node_count topology.now }
-    requires port { p < length (ports_of topology.now u) }
-    ensures { IfOk result (λ row. AreTiedMarks topology.now numbering.now.order u p row.items) }
+    requires distances { AreFrom topology.now ways.now.source ways.now.weights }
+    requires port { p < length (ports_of topology.now ways.now.source) }
+    ensures { IfOk result (λ row. AreTiedMarks topology.now numbering.now.order ways.now.source p row.items) }
 {
     let nodes = topology.nodes() as u16;
-    let hop = topology.port(u, p as u16);
-    let mut row = vec![in alloc; false; nodes as usize]?;
-    for d in 0..nodes {
-        row[numbering.label_of(d) as usize] = leads_nearer(shortest, u, hop, d);
+    let held = ways.nodes_by(alloc, topology, p)?;
+    let mut row = Vec::with_capacity(alloc, nodes as usize)?;
+    for label in 0..nodes {
+        row.push(held[numbering.node_of(label) as usize].is_some())?;
     }
     Ok(row)
-}
-
-// Whether the way over a hop is as short as the distance. The weights to one node lie side by side in the table, and so
-// the distances are looked up from the far end.
-fn leads_nearer(shortest: &Table, u: u16, hop: Hop, d: u16) -> bool
-    requires node { u < table_size shortest.now }
-    requires hop { hop.node < table_size shortest.now }
-    requires end { d < table_size shortest.now }
-    ensures { IsTrue result ↔ (weight_in shortest.now d u ≡ hop.weight + weight_in shortest.now d hop.node) }
-{
-    let near = shortest.distance(d, hop.node) as u64;
-    shortest.distance(d, u) as u64 == hop.weight as u64 + near
 }

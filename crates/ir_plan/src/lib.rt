@@ -5,6 +5,7 @@ mod compact;
 mod error;
 mod plan;
 mod rows;
+mod threads;
 
 pub use error::PlanError;
 pub use ir_model::{Hop, Kind};

@@ -1,27 +1,28 @@
-ghost use Rattle.std.specs.Prelude.{◌-◌, ◌*◌, ◌≡◌, ◌↔◌, ◌<◌, ◌≤◌, Some, length, sum_by, IfOk, IfErr};
+ghost use Rattle.std.specs.Prelude.{◌-◌, ◌*◌, ◌≡◌, ◌↔◌, ◌<◌, ◌≤◌, Some, length, sum_by, IfOk, IfErr, OnOk};
+ghost use Rattle.ir_model.specs.Numbering.{IsDepthFirst, neighbors_of};
 ghost use Rattle.ir_model.specs.Network.{IsNetwork, node_count, port_at, ports_of};
 ghost use Rattle.ir_model.specs.Walk.{IsConnected, IsDisconnected};
-ghost use Rattle.ir_model.specs.Table.{IsShortest, IsRouted};
 ghost use Rattle.ir_model.specs.Scheme.{IsScheme, by_label, label_in, node_in, table_port, row_in};
 ghost use Rattle.ir_model.specs.Row.{intervals_of};
 ghost use Rattle.ir_model.specs.Compiled.{Fits, IsFewest};
 ghost use Rattle.ir_numbering.specs.Numbers.{IsNumberingOf};
-ghost use Rattle.ir_plan.specs.Shown.{scheme_with, StandForTable};
+ghost use Rattle.ir_plan.specs.Shown.{StandForTable};
 ghost use Rattle.ir_plan.specs.CompactRows.{FitsTied, IsFewestOfTied};
 ghost use Rattle.ir_plan.specs.TreeRows.{HasTreeRow};
 
-use crate::compact::compact_rows;
 use crate::error::PlanError;
 use crate::rows::rows_of;
+use crate::threads::rows_in_threads;
 use ir_lookup::Row;
 use ir_model::{Hop, Kind};
-use ir_numbering::{Numbering, tree_table};
-use ir_tables::{Table, Topology};
+use ir_numbering::Numbering;
+use ir_tables::Topology;
 use std::alloc::{AllocError, Global};
 use std::marker::Model;
+use std::thread::Threads;
 
 /// A plan of routes over its own topology, for one epoch: the nodes' labels, and for each node a row of interval starts
-/// (Santoro and Khatib 1985; van Leeuwen and Tan 1987). The full table that the rows stand for is not kept.
+/// (Santoro and Khatib 1985; van Leeuwen and Tan 1987). The full table that the rows stand for is never made.
 #[derive(Drop)]
 pub struct Plan {
     topology: Topology,
@@ -64,22 +65,73 @@ impl Plan {
         ensures no_node { IfErr result (λ e. (e.0 ≡ PlanError.NoNode) ↔ ((0 < node_count topology) × (node_count topology ≤ root))) }
         ensures disconnected { IfErr result (λ e. e.0 ≡ PlanError.Disconnected → (0 < node_count topology) × (root < node_count topology) × IsDisconnected topology) }
     {
-        let nodes = topology.nodes();
-        if nodes == 0 {
-            return Err((PlanError::Empty, topology));
+        match numbering_of(alloc, &topology, root) {
+            Ok(numbering) => {
+                let rows = rows_of(alloc, &topology, &numbering, kind);
+                Plan::of_rows(topology, kind, root, numbering, rows)
+            }
+            Err(error) => Err((error, topology)),
         }
-        if nodes <= root as usize {
-            return Err((PlanError::NoNode, topology));
+    }
+
+    /// The plan that `build` makes, its rows made in as many threads as there are processors.
+    ///
+    /// Refused as `build` is; NoMemory is also where a growth is refused in a thread.
+    pub fn build_in_threads(
+        rt: &(impl Threads + Sync),
+        alloc: Global,
+        topology: Topology,
+        kind: Kind,
+        root: u16,
+    ) -> Result<Plan, (PlanError, Topology)>
+        ensures kind { IfOk result (λ p. p.kind ≡ kind) }
+        ensures root { IfOk result (λ p. p.root ≡ root) }
+        ensures network { IfOk result (λ p. p.network ≡ topology) }
+        ensures scheme { IfOk result (λ p. IsScheme p) }
+        ensures back { IfErr result (λ e. e.1 ≡ topology) }
+        ensures empty { IfErr result (λ e. (e.0 ≡ PlanError.Empty) ↔ (node_count topology ≡ 0)) }
+        ensures no_node { IfErr result (λ e. (e.0 ≡ PlanError.NoNode) ↔ ((0 < node_count topology) × (node_count topology ≤ root))) }
+        ensures disconnected { IfErr result (λ e. e.0 ≡ PlanError.Disconnected → (0 < node_count topology) × (root < node_count topology) × IsDisconnected topology) }
+    {
+        match numbering_of(alloc, &topology, root) {
+            Ok(numbering) => {
+                let rows = rows_in_threads(rt, alloc, &topology, &numbering, kind);
+                Plan::of_rows(topology, kind, root, numbering, rows)
+            }
+            Err(refusal) => Err((refusal, topology)),
         }
-        match numbered_rows(alloc, &topology, kind, root) {
-            Ok((numbering, rows)) => Ok(Plan {
+    }
+
+    // The plan of these numbers and rows, where the rows could be made.
+    fn of_rows(
+        topology: Topology,
+        kind: Kind,
+        root: u16,
+        numbering: Numbering,
+        rows: Result<Vec<Row>, AllocError>,
+    ) -> Result<Plan, (PlanError, Topology)>
+        requires root { root < node_count topology }
+        requires connected { IsConnected topology }
+        requires depth_first { IsDepthFirst (neighbors_of topology) (node_count topology) root numbering.order numbering.parents }
+        requires numbering { IsNumberingOf topology numbering }
+        requires rows { IfOk rows (λ made. StandForTable kind topology numbering.order numbering.parents numbering.labels made.items) }
+        ensures kind { IfOk result (λ p. p.kind ≡ kind) }
+        ensures root { IfOk result (λ p. p.root ≡ root) }
+        ensures network { IfOk result (λ p. p.network ≡ topology) }
+        ensures scheme { IfOk result (λ p. IsScheme p) }
+        ensures back { IfErr result (λ e. e.1 ≡ topology) }
+        ensures memory { IfErr result (λ e. e.0 ≡ PlanError.NoMemory) }
+    {
+        let _nodes = topology.nodes();
+        match rows {
+            Ok(rows) => Ok(Plan {
                 topology,
                 kind,
                 root,
                 numbering,
                 rows,
             }),
-            Err(error) => Err((error, topology)),
+            Err(_) => Err((PlanError::NoMemory, topology)),
         }
     }
 
@@ -179,78 +231,18 @@ impl Plan {
     }
 }
 
-// The numbers from the root, and the rows of the full table of a kind. The table goes once the rows stand.
-fn numbered_rows(
-    alloc: Global,
-    topology: &Topology,
-    kind: Kind,
-    root: u16,
-) -> Result<(Numbering, Vec<Row>), PlanError>
-    requires { root < node_count topology.now }
-    ensures scheme { IfOk result (λ made. IsScheme (scheme_with kind root topology.now made.0.order made.0.labels made.1.items)) }
-    ensures some { IfErr result (λ e. e ≡ PlanError.Empty → ⊥) }
-    ensures in_range { IfErr result (λ e. e ≡ PlanError.NoNode → ⊥) }
-    ensures disconnected { IfErr result (λ e. e ≡ PlanError.Disconnected → IsDisconnected topology.now) }
+// The numbers from the root.
+fn numbering_of(alloc: Global, topology: &Topology, root: u16) -> Result<Numbering, PlanError>
+    ensures root { OnOk result (root < node_count topology.now) }
+    ensures depth_first { IfOk result (λ numbers. IsDepthFirst (neighbors_of topology.now) (node_count topology.now) root numbers.order numbers.parents) }
+    ensures numbering { IfOk result (λ numbers. IsNumberingOf topology.now numbers) }
+    ensures connected { OnOk result (IsConnected topology.now) }
+    ensures empty { IfErr result (λ e. (e ≡ PlanError.Empty) ↔ (node_count topology.now ≡ 0)) }
+    ensures no_node { IfErr result (λ e. (e ≡ PlanError.NoNode) ↔ ((0 < node_count topology.now) × (node_count topology.now ≤ root))) }
+    ensures disconnected { IfErr result (λ e. e ≡ PlanError.Disconnected → (0 < node_count topology.now) × (root < node_count topology.now) × IsDisconnected topology.now) }
 {
-    let _nodes = topology.nodes();
-    let numbering = Numbering::depth_first(alloc, topology, root)?;
-    let rows = rows_of_kind(alloc, topology, kind, &numbering)?;
-    Ok((numbering, rows))
-}
-
-// The rows of the full table of a kind.
-fn rows_of_kind(
-    alloc: Global,
-    topology: &Topology,
-    kind: Kind,
-    numbering: &Numbering,
-) -> Result<Vec<Row>, PlanError>
-    requires some { 0 < node_count topology.now }
-    requires numbering { IsNumberingOf topology.now numbering.now }
-    ensures stand { IfOk result (λ rows. StandForTable kind topology.now numbering.now.order numbering.now.parents numbering.now.labels rows.items) }
-    ensures some { IfErr result (λ e. e ≡ PlanError.Empty → ⊥) }
-    ensures in_range { IfErr result (λ e. e ≡ PlanError.NoNode → ⊥) }
-    ensures disconnected { IfErr result (λ e. e ≡ PlanError.Disconnected → IsDisconnected topology.now) }
-{
-    match kind {
-        Kind::Tree => Ok(tree_rows(alloc, topology, numbering)?),
-        Kind::Shortest => {
-            let table = Table::shortest(alloc, topology)?;
-            Ok(shortest_rows(alloc, topology, numbering, &table)?)
-        }
-        Kind::Compact => {
-            let table = Table::shortest(alloc, topology)?;
-            Ok(compact_rows(alloc, topology, numbering, &table)?)
-        }
+    if topology.nodes() == 0 {
+        return Err(PlanError::Empty);
     }
-}
-
-// The rows of the tree table.
-fn tree_rows(
-    alloc: Global,
-    topology: &Topology,
-    numbering: &Numbering,
-) -> Result<Vec<Row>, AllocError>
-    requires { IsNumberingOf topology.now numbering.now }
-    ensures { IfOk result (λ rows. StandForTable Kind.Tree topology.now numbering.now.order numbering.now.parents numbering.now.labels rows.items) }
-{
-    let nodes = topology.nodes() as u16;
-    let table = tree_table(alloc, topology, numbering)?;
-    Ok(rows_of(alloc, nodes, numbering, &table)?)
-}
-
-// The rows of the shortest table.
-fn shortest_rows(
-    alloc: Global,
-    topology: &Topology,
-    numbering: &Numbering,
-    table: &Table,
-) -> Result<Vec<Row>, AllocError>
-    requires numbering { IsNumberingOf topology.now numbering.now }
-    requires shortest { IsShortest topology.now table.now }
-    requires routed { IsRouted topology.now table.now }
-    ensures { IfOk result (λ rows. StandForTable Kind.Shortest topology.now numbering.now.order numbering.now.parents numbering.now.labels rows.items) }
-{
-    let nodes = topology.nodes() as u16;
-    Ok(rows_of(alloc, nodes, numbering, table)?)
+    Ok(Numbering::depth_first(alloc, topology, root)?)
 }

@@ -1,60 +1,117 @@
-//! The rows of all nodes, compiled from a full table.
+//! The row of each node, from the shortest ways or the tree of that node alone.
 
-ghost use Rattle.std.specs.Prelude.{◌≡◌, ◌≢◌, ◌<◌, ◌≤◌, ℕ, IsSome, IfOk, None, length, map, slice_index};
-ghost use Rattle.ir_model.specs.Table.{table_size, port_in};
+ghost use Rattle.std.specs.Prelude.{◌≡◌, ◌<◌, IfOk, length, map, slice_index};
+ghost use Rattle.ir_model.specs.declared.Kind.TheVariants.{Tree, Shortest};
+ghost use Rattle.ir_model.specs.Network.{node_count};
+ghost use Rattle.ir_model.specs.Walk.{IsConnected};
 ghost use Rattle.ir_model.specs.Scheme.{AreLabels};
 ghost use Rattle.ir_model.specs.Compiled.{IsDestinations, IsCanonical};
-ghost use Rattle.ir_model.specs.declared.TheConstants.{MAX_NODES};
-ghost use Rattle.ir_plan.specs.Shown.{AreRows, IsFull};
+ghost use Rattle.ir_numbering.specs.Numbers.{IsNumberingOf};
+ghost use Rattle.ir_tables.specs.FromNode.{held_at};
+ghost use Rattle.ir_plan.specs.Shown.{StandForTable};
+ghost use Rattle.ir_plan.specs.NodeRows.{IsNodeRow};
 
+use crate::compact::compact_row;
 use ir_compile::{CompileError, compile};
 use ir_lookup::Row;
+use ir_model::Kind;
 use ir_numbering::Numbering;
-use ir_tables::Table;
+use ir_tables::{Outward, Topology};
 use std::alloc::{AllocError, Global};
 
 /// The row of each node, by number.
 pub fn rows_of(
     alloc: Global,
-    nodes: u16,
+    topology: &Topology,
     numbering: &Numbering,
-    table: &Table,
+    kind: Kind,
 ) -> Result<Vec<Row>, AllocError>
-    requires size { table_size table.now ≡ nodes }
-    requires labels { AreLabels nodes numbering.now.order numbering.now.labels }
-    requires full { IsFull nodes (port_in table.now) }
-    ensures { IfOk result (λ rows. AreRows nodes numbering.now.order numbering.now.labels (port_in table.now) rows.items) }
+    requires numbering { IsNumberingOf topology.now numbering.now }
+    requires connected { IsConnected topology.now }
+    ensures { IfOk result (λ rows. StandForTable kind topology.now numbering.now.order numbering.now.parents numbering.now.labels rows.items) }
 {
+    let nodes = topology.nodes() as u16;
     let mut rows = Vec::with_capacity(alloc, nodes as usize)?;
     for u in 0..nodes {
-        let ports = ports_by_label(alloc, nodes, numbering, table, u)?;
-        rows.push(row_of(alloc, nodes, numbering.label_of(u), ports.as_slice())?)?;
+        rows.push(row_at(alloc, topology, numbering, kind, u)?)?;
     }
     Ok(rows)
 }
 
-// The ports of a node to each label, in order.
+/// The row of a node.
+pub fn row_at(
+    alloc: Global,
+    topology: &Topology,
+    numbering: &Numbering,
+    kind: Kind,
+    u: u16,
+) -> Result<Row, AllocError>
+    requires numbering { IsNumberingOf topology.now numbering.now }
+    requires connected { IsConnected topology.now }
+    requires node { u < node_count topology.now }
+    ensures { IfOk result (λ row. IsNodeRow kind topology.now numbering.now.order numbering.now.parents (slice_index numbering.now.labels u) row) }
+{
+    match kind {
+        Kind::Tree => tree_row(alloc, topology, numbering, u),
+        Kind::Shortest => shortest_row(alloc, topology, numbering, u),
+        Kind::Compact => compact_row(alloc, topology, numbering, u),
+    }
+}
+
+// The row of a node in the tree table.
+fn tree_row(
+    alloc: Global,
+    topology: &Topology,
+    numbering: &Numbering,
+    u: u16,
+) -> Result<Row, AllocError>
+    requires numbering { IsNumberingOf topology.now numbering.now }
+    requires node { u < node_count topology.now }
+    ensures { IfOk result (λ row. IsNodeRow Tree topology.now numbering.now.order numbering.now.parents (slice_index numbering.now.labels u) row) }
+{
+    let nodes = topology.nodes() as u16;
+    let ports = numbering.tree_ports(alloc, topology, u)?;
+    row_of(alloc, nodes, numbering.label_of(u), ports.as_slice())
+}
+
+// The row of a node in the shortest table.
+fn shortest_row(
+    alloc: Global,
+    topology: &Topology,
+    numbering: &Numbering,
+    u: u16,
+) -> Result<Row, AllocError>
+    requires numbering { IsNumberingOf topology.now numbering.now }
+    requires connected { IsConnected topology.now }
+    requires node { u < node_count topology.now }
+    ensures { IfOk result (λ row. IsNodeRow Shortest topology.now numbering.now.order numbering.now.parents (slice_index numbering.now.labels u) row) }
+{
+    let nodes = topology.nodes() as u16;
+    let least = Outward::from(alloc, topology, u)?.least_ports(alloc, topology)?;
+    let ports = ports_by_label(alloc, nodes, numbering, least.as_slice())?;
+    row_of(alloc, nodes, numbering.label_of(u), ports.as_slice())
+}
+
+// The ports by label, of ports by node.
 fn ports_by_label(
     alloc: Global,
     nodes: u16,
     numbering: &Numbering,
-    table: &Table,
-    u: u16,
+    by_node: &[Option<u16>],
 ) -> Result<Vec<Option<u16>>, AllocError>
-    requires size { table_size table.now ≡ nodes }
     requires labels { AreLabels nodes numbering.now.order numbering.now.labels }
-    requires node { u < nodes }
-    ensures { IfOk result (λ ports. ports.items ≡ map (port_in table.now u) numbering.now.order) }
+    requires nodes { length by_node.now ≡ nodes }
+    ensures { IfOk result (λ ports. ports.items ≡ map (held_at by_node.now) numbering.now.order) }
 {
     let mut ports = Vec::with_capacity(alloc, nodes as usize)?;
     for label in 0..nodes {
-        ports.push(table.next(u, numbering.node_of(label)))?;
+        ports.push(by_node[numbering.node_of(label) as usize])?;
     }
     Ok(ports)
 }
 
-// The canonical row of ports that are known to be a list of destinations.
-fn row_of(alloc: Global, nodes: u16, own: u16, ports: &[Option<u16>]) -> Result<Row, AllocError>
+/// The canonical row of ports that are known to be a list of destinations.
+pub fn row_of(alloc: Global, nodes: u16, own: u16, ports: &[Option<u16>]) -> Result<Row, AllocError>
     requires { IsDestinations nodes own ports.now }
     ensures { IfOk result (λ row. IsCanonical nodes own ports.now row) }
 {

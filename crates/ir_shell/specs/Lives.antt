@@ -41,8 +41,9 @@ pub record IsOpenedNet (g : Adjacency) (words : Words) (root : ℕ) (net : Net) 
   pub opened : IsNetFor (network_of_graph g) words.kind root words.capacity words.packets words.restamps net
 
 -- The commands of a script are carried out over such a net while its nodes turn on threads of their own, and none of them
--- wants memory. The word tells of refused pushes. The text is the trace of the records that are reported, and the refused lines are those of the commands
--- that were refused.
+-- wants memory. The word tells of refused pushes. The text is the trace of the records that are reported, each of which is a
+-- sound journey by the plans of its epochs: epoch 1 has the plan that the words ask for, and each other epoch the one that
+-- the install of the script asked for which it is of. The refused lines are those of the commands that were refused.
 pub record IsLiveRun (B : Type 0) (was_full : Word SeenParcel) (g : Adjacency) (words : Words) (root : ℕ) (script : Listing Command) (text refused : List ℕ) : Type 0 where
   pub net : Net
   pub live : Live

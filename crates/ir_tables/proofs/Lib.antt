@@ -6,3 +6,6 @@ pub mod Offering
 pub mod OfGraph
 pub mod Ways
 pub mod Runs
+pub mod Leading
+pub mod Flooding
+pub mod Spreading

@@ -169,7 +169,7 @@ module _ (rows : List Numbers) where
         ap (λ (o : Option (ℕ × ℕ)). (unwrap_or {T = ℕ × ℕ} o (0, 0)).1) both
 
     -- the link of a port
-    port_link : (u i : ℕ) (e : ℕ × ℕ) → row_get rows u i ≡ Some e → e.0 ≢ u
+    pub port_link : (u i : ℕ) (e : ℕ × ℕ) → row_get rows u i ≡ Some e → e.0 ≢ u
         → (link : Link) × (slice_get links (link_between links u e.0) ≡ Some link) × Joins link u e.0 × (e.1 ≡ link.weight)
     port_link u i e at other =
         let some = ⊎_elim (λ same. absurd (other (sym same))) (λ order. ⊎_elim forth back order) (cases_order u e.0) in

@@ -5,3 +5,4 @@ pub mod Errors
 pub mod Numbered
 pub mod ByPlace
 pub mod Listed
+pub mod FromNode

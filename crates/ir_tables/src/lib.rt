@@ -7,12 +7,14 @@
 mod adjacency;
 mod frontier;
 mod listed;
+mod outward;
 mod relaxation;
 mod table;
 mod topology;
 
 pub use ir_model::{Hop, Link};
 pub use listed::is_port_list;
+pub use outward::Outward;
 pub use relaxation::weights_by_rounds;
 pub use table::{Table, TableError};
 pub use topology::Topology;

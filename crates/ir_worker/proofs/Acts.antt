@@ -25,7 +25,7 @@ use Rattle.ir_core.specs.State.{IsBeginning, IsDue, FitsPlace, Ended}
 use Rattle.ir_core.proofs.Walks.{walk_of, prefix, next_hop-away, next_hop-none, last_of-push}
 use Rattle.ir_core.proofs.Verdicts.{Means, judged_means, if_full, judged-if_full}
 use Rattle.ir_core.proofs.Placed.{acted_fits, place_after}
-use Rattle.ir_core.proofs.Segments.{gone, past_in, segments_split}
+use Rattle.ir_core.proofs.Segments.{gone, past_in, segments_split, joined_in, linked_in}
 use Rattle.ir_core.proofs.Theorem.{place_fits}
 use Rattle.ir_epochs.specs.declared.registry.Stamp.{Stamp}
 use Rattle.ir_epochs.specs.Stamps.{knows}
@@ -85,6 +85,8 @@ journey_sound first later r k fits =
     ∥∥₁_elim (present_stamp first later).sound ∥∥₁_prop (λ is. ∥∥₁_elim (past_sound (reverse r.restamps) r (earlier_in (reverse later) first) each.1) ∥∥₁_prop (λ past. ∣ record {
       few = k.few;
       places = k.places;
+      joined = joined_in (reverse r.restamps) r k.places;
+      linked = linked_in (reverse r.restamps) r k.places;
       rising = k.rising;
       each = each_join IsSoundBy (stamps_of first later) (earlier_in (reverse later) first) (present_stamp first later) (split_of first later)
           (segments r) (past_in (reverse r.restamps) r) (present r) (segments_split (reverse r.restamps) r) (each.0.epoch, fits is) past;

@@ -3,6 +3,7 @@ pub mod Bodies
 pub mod Counts
 pub mod Dues
 pub mod Nodes
+pub mod Restamps
 pub mod Routes
 pub mod Serves
 pub mod Ways

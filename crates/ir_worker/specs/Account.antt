@@ -1,7 +1,10 @@
 -- How often a head was sent, taken and settled, and what a node's account says of it.
-use Rattle.std.specs.Prelude.{◌≡◌, ℕ, ◌+◌, Bool, List, cond, sum_by, map}
+use Rattle.std.specs.Prelude.{◌≡◌, ℕ, ◌+◌, Bool, false, List, cond, sum_by, map, take}
 use Rattle.ir_links.specs.Ends.{Line, Sending, Taking}
+use Rattle.ir_core.specs.declared.packet.Restamp.{Restamp}
 use Rattle.ir_core.specs.Journey.{Journey}
+use Rattle.ir_epochs.specs.declared.entry.Entry.{Entry}
+use Rattle.ir_epochs.specs.Entries.{board_of}
 use Rattle.ir_worker.specs.declared.parcel.Place.{Place}
 use Rattle.ir_worker.specs.declared.parcel.Outcome.{Outcome}
 use Rattle.ir_worker.specs.Seen.{SeenParcel}
@@ -36,6 +39,36 @@ times_taken p ins = sum_by (λ t. times p t.taken) ins
 abbrev pub IsBalanced : Taking Place SeenParcel → List (Taking Place SeenParcel) → List (Sending Place SeenParcel) → List Outcome → Type 0
 IsBalanced inbox ins outs outcomes =
     (p : Head → Bool) → times p inbox.taken + times_taken p ins ≡ times_sent p outs + times_settled p outcomes
+
+-- what journeys weigh that were taken, sent and settled, whatever each journey weighs
+abbrev pub weigh : (Journey → ℕ) → List SeenParcel → ℕ
+weigh w items = sum_by (λ x. w x.journey) items
+
+abbrev pub weigh_settled : (Journey → ℕ) → List Outcome → ℕ
+weigh_settled w outcomes = sum_by (λ o. w o.packet) outcomes
+
+abbrev pub weigh_sent : (Journey → ℕ) → List (Sending Place SeenParcel) → ℕ
+weigh_sent w outs = sum_by (λ s. weigh w s.sent) outs
+
+abbrev pub weigh_taken : (Journey → ℕ) → List (Taking Place SeenParcel) → ℕ
+weigh_taken w ins = sum_by (λ t. weigh w t.taken) ins
+
+-- what was taken weighs as much as what was sent and settled
+abbrev pub IsEven : (Journey → ℕ) → Taking Place SeenParcel → List (Taking Place SeenParcel) → List (Sending Place SeenParcel) → List Outcome → Type 0
+IsEven w inbox ins outs outcomes = weigh w inbox.taken + weigh_taken w ins ≡ weigh_sent w outs + weigh_settled w outcomes
+
+-- how many restamps of a journey are of epochs that pass a test
+abbrev pub restamps_with : (ℕ → Bool) → Journey → ℕ
+restamps_with p r = sum_by (λ (s : Restamp). cond (p s.epoch) 1 0) r.restamps
+
+-- no epoch that was current on the board of these entries, at whatever version, passes the test
+abbrev pub NeverCurrent : (ℕ → Bool) → List Entry → Type 0
+NeverCurrent p entries = (n : ℕ) → p (board_of (take n entries)).current ≡ false
+
+-- Each restamp that was made here is of an epoch that was current on the board of these entries: as many restamps of other
+-- epochs were taken as were sent and settled.
+abbrev pub AreRestampsKnown : List Entry → Taking Place SeenParcel → List (Taking Place SeenParcel) → List (Sending Place SeenParcel) → List Outcome → Type 0
+AreRestampsKnown entries inbox ins outs outcomes = (p : ℕ → Bool) → NeverCurrent p entries → IsEven (restamps_with p) inbox ins outs outcomes
 
 -- the channels of ends
 abbrev pub lines_out : List (Sending Place SeenParcel) → List (Line Place)

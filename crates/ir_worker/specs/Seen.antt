@@ -4,8 +4,8 @@ use Rattle.ir_model.specs.Network.{node_count}
 use Rattle.ir_model.specs.Scheme.{Scheme, label_in}
 use Rattle.ir_core.specs.declared.TheConstants.{MAX_NODES, MAX_RESTAMPS}
 use Rattle.ir_core.specs.declared.packet.Fate.TheVariants.{Left}
-use Rattle.ir_core.specs.Journey.{Journey, segments, present}
-use Rattle.ir_core.specs.Sound.{IsSound, AreRising, ArePlaces, last_of}
+use Rattle.ir_core.specs.Journey.{Journey, segments, joined, present}
+use Rattle.ir_core.specs.Sound.{IsSound, AreRising, AreLinked, ArePlaces, last_of}
 use Rattle.ir_core.specs.State.{IsBeginning, StepsTo}
 use Rattle.ir_epochs.specs.declared.registry.Stamp.{Stamp}
 use Rattle.ir_epochs.specs.Stamps.{knows, registry_name}
@@ -62,10 +62,13 @@ pub record IsRouted (stamps : List Stamp) (r : Journey) : Type 0 where
 abbrev pub IsSoundBy : Stamp → Journey → Type 0
 IsSoundBy s g = (g.epoch ≡ s.epoch) × IsSound (knows s) g
 
--- A journey is sound by its stamps: each segment is, their epochs rise, and each restamp stands at a place of its own.
+-- A journey is sound by its stamps: each segment is, the segments joined end to end are its hops, each begins where the
+-- one before it ended, their epochs rise, and each restamp stands at a place of its own.
 pub record IsSoundJourney (stamps : List Stamp) (r : Journey) : Type 0 where
   pub few : length r.restamps ≤ MAX_RESTAMPS
   pub places : ArePlaces (length r.hops) (reverse r.restamps)
+  pub joined : joined (segments r) ≡ r.hops
+  pub linked : AreLinked (segments r)
   pub rising : AreRising (segments r)
   pub each : EachBy IsSoundBy stamps (segments r)
 

@@ -1,22 +1,23 @@
 //! Nodes, and their turns.
-ghost use Rattle.std.specs.Prelude.{◌≡◌, ◌≤◌, [], length, map, All};
+ghost use Rattle.std.specs.Prelude.{◌≡◌, ◌≤◌, ℕ, [], length, map, All};
 ghost use Rattle.std.specs.Arc.{arc_value};
 ghost use Rattle.ir_epochs.specs.Stamps.{IsOf, knows, registry_name};
 ghost use Rattle.ir_epochs.specs.Entries.{registry_of, network_of};
 ghost use Rattle.ir_epochs.specs.Handles.{known};
 ghost use Rattle.ir_worker.specs.Outcomes.{IsOutcomeOf, IsCauseKnown};
-ghost use Rattle.ir_worker.specs.Account.{IsBalanced};
+ghost use Rattle.ir_core.specs.Journey.{Journey};
+ghost use Rattle.ir_worker.specs.Account.{IsBalanced, IsEven, AreRestampsKnown};
 ghost use Rattle.ir_worker.specs.Wires.{AreEndsOf};
 
 use crate::entrances::Entrances;
 use crate::parcel::{Outcome, Parcel};
 use crate::passing::{pass_on, ready};
 use ir_core::{Hop, Way};
-use ir_epochs::{BoardReader, Receipt, Registry, Stamp};
+use ir_epochs::{BoardReader, BoardWriter, Receipt, Registry, Stamp};
 use ir_links::{Bound, Moments, Sender, Taker};
 use std::alloc::{AllocError, Global};
-use std::sync::Arc;
 use std::sync::atomic::{AtomicU32, Ordering};
+use std::sync::{Arc, Wait};
 
 /// What a turn did.
 #[derive(Clone, Copy, Debug, PartialEq, Eq)]
@@ -30,8 +31,9 @@ pub enum Turn {
 }
 
 /// A node of a net. It owns the ends that take from its inbox and from each port, and those that send over each port.
-/// The heads of the parcels that it took are those that it sent and settled, each as often. The causes of the drops that
-/// it keeps held on boards that it has read.
+/// The heads of the parcels that it took are those that it sent and settled, each as often, and the restamps that it made
+/// are of epochs that were current on the board that it reads. The causes of the drops that it keeps held on boards that
+/// it has read.
 #[derive(Drop)]
 pub struct Node {
     index: u16,
@@ -48,6 +50,7 @@ pub struct Node {
     ghost of_board: { (registry_of (known reader) ≡ registry_name opening) × (network_of (known reader) ≡ (knows opening).network) },
     ghost ends: { AreEndsOf opening restamps index ports.items entrances.inbox entrances.ports.items outs.items },
     ghost account: { IsBalanced entrances.inbox entrances.ports.items outs.items outcomes.items },
+    ghost restamped: { AreRestampsKnown (known reader) entrances.inbox entrances.ports.items outs.items outcomes.items },
     ghost of_net: { ∥ All (IsOutcomeOf opening restamps) outcomes.items ∥₁ },
     ghost causes: { ∥ All (IsCauseKnown (known reader)) outcomes.items ∥₁ },
 }
@@ -66,7 +69,7 @@ impl Node {
     ghost use mathlib.Core.List.{IsPrefix};
     ghost use Rattle.ir_model.specs.Network.{node_count, ports_of};
     ghost use Rattle.ir_epochs.specs.Entries.{board_of, Rises};
-    ghost use Rattle.ir_epochs.specs.Handles.{told, reader_board, receipt_board};
+    ghost use Rattle.ir_epochs.specs.Handles.{told, published, reader_board, writer_board, receipt_board};
     ghost use Rattle.ir_worker.specs.Same.{IsSameNode};
     ghost use Rattle.ir_worker.specs.Turns.{IsTurn, IsUntouched, HoldsAll};
     ghost use Rattle.ir_worker.specs.Wires.{IsWayAt};
@@ -89,7 +92,7 @@ impl Node {
         requires registry { IsOf (arc_value registry) opening }
         requires board { (registry_of (known reader) ≡ registry_name opening) × (network_of (known reader) ≡ (knows opening).network) }
         requires ends { AreEndsOf opening restamps index ports.items inbox ins.items outs.items }
-        requires fresh { IsBalanced inbox ins.items outs.items [] }
+        requires fresh { (w : Journey → ℕ) → IsEven w inbox ins.items outs.items [] }
         ensures node { (result.index ≡ index) × (result.registry ≡ registry) × (result.opening ≡ opening) × (result.restamps ≡ restamps) × (result.ports ≡ ports) × (result.reader ≡ reader) }
         ensures ends { (result.entrances.inbox ≡ inbox) × (result.entrances.ports ≡ ins) × (result.outs ≡ outs) }
         ensures start { (result.entrances.next ≡ 0) × (result.outcomes.items ≡ []) }
@@ -126,6 +129,14 @@ impl Node {
         ensures rises { Rises (board_of (told receipt.now)) (board_of (known self.new.reader)) }
     {
         self.reader.learn(receipt);
+    }
+
+    /// Sees that the writer of its board published all that it has read or learnt.
+    pub fn follows<R: Wait + Drop>(&self, writer: &BoardWriter<R>)
+        requires { reader_board self.now.reader ≡ writer_board writer.now }
+        ensures { IsPrefix (known self.now.reader) (published writer.now) }
+    {
+        writer.leads(&self.reader);
     }
 
     // The way by which the packet core takes from what is polled next.

@@ -7,6 +7,12 @@ use Rattle.ir_control.specs.Parts.{AreNodesOf, AreFirstNodes}
 use Rattle.ir_control.specs.Reports.{IsFinishRefusal}
 use Rattle.ir_control.proofs.Returned.{first_apart}
 use Rattle.ir_live.proofs.Handed.{all_there}
+use Rattle.std.specs.Prelude.{All}
+use Rattle.ir_worker.specs.declared.parcel.Outcome.{Outcome}
+use Rattle.std.proofs.Common.{refl}
+use mathlib.Core.List.{IsPrefix}
+use Rattle.ir_epochs.specs.Handles.{known, published}
+use Rattle.ir_live.proofs.Agreement.{first_of_one, later_of_one}
 use Rattle.ir_live.proofs.running.reported.Goals as goal
 
 pub finish-requires-clause-nodes : goal.finish-requires-clause-nodes
@@ -23,3 +29,17 @@ unreachable-requires g c =
     let none = least.missing in
     let some = all_there net n nodes first c.in-Err-Missing-default.field-0-0-0 least.in_range in
     omega (arith, none, some)
+
+pub agree_all-requires : goal.agree_all-requires
+agree_all-requires g c =
+    let is = c.in-Ok-finish.ensures.0 in
+    first_of_one c.args.net.now.opening c.args.run.stamps.items c.requires.registry is.outcomes is.of_net c.in-Ok-finish.report.stamps.items is.stamps
+
+pub agree_rows-requires : goal.agree_rows-requires
+agree_rows-requires g c =
+    let is = c.in-Ok-finish.ensures.0 in
+    later_of_one c.args.net.now.opening c.args.run.stamps.items c.requires.registry is.outcomes is.of_net (λ v. v.items) (λ (o : Outcome). o.later) (λ o. refl) c.in-Ok-finish.report.later.items is.later
+
+pub returns-in-Ok-finish-clause-read : goal.returns-in-Ok-finish-clause-read
+returns-in-Ok-finish-clause-read g c =
+    subst (λ (ns : List Node). All (λ n. IsPrefix (known n.reader) (published c.args.run.desk.controller.writer)) ns) c.in-Ok.ensures.nodes c.lead_all.ensures

@@ -5,4 +5,4 @@ use Rattle.ir_look.specs.StatsText.{sum_from}
 use Rattle.ir_look.proofs.weights.sum_of_pairs.Given as goal
 
 abbrev pub invariant-loop-u : goal.invariant-loop-u
-invariant-loop-u l = (l.sum ≡ sum_by (sum_from l.nodes (weight_in l.table)) (range_with_len 0 l.u)) × (l.sum ≤ 4398046511104 * l.u)
+invariant-loop-u l = (l.sum ≡ sum_by (sum_from l.nodes (weight_in l.table)) (range_with_len 0 l.u)) × (l.sum ≤ 70368744177664 * l.u)

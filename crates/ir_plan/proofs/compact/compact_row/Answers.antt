@@ -1,35 +1,37 @@
-use Rattle.std.proofs.Common.{ℕ, List, Option}
+use Rattle.std.proofs.Common.{List}
+use Rattle.std.proofs.lemmas.Result.{IfOk-weaker}
 use Rattle.std.specs.Prelude.{slice_index}
+use Rattle.ir_model.specs.declared.Kind.TheVariants.{Compact}
 use Rattle.ir_model.specs.Network.{node_count}
-use Rattle.ir_compile.specs.Allowed.{rows_of, Allows}
-use Rattle.ir_model.specs.Choices.{AreChosen}
+use Rattle.ir_model.specs.Row.{Start}
+use Rattle.ir_model.specs.Compact.{IsTied}
 use Rattle.ir_model.specs.Compiled.{IsCanonical}
-use Rattle.ir_plan.proofs.CompactRows.{tied_choices, marks_are_choices, chosen_of_tied}
+use Rattle.ir_model.proofs.Chosen.{chosen_are_destinations}
+use Rattle.ir_plan.specs.NodeRows.{IsNodeRow}
 use Rattle.ir_plan.proofs.compact.compact_row.Goals as goal
 
-pub unreachable-requires : goal.unreachable-requires
-unreachable-requires c =
+pub row_of-requires : goal.row_of-requires
+row_of-requires c =
     let net = c.args.topology.now in
-    let order = c.args.numbering.now.order in
-    let labels = c.args.numbering.now.labels in
-    let named = c.requires.numbering.labels in
-    let u = c.args.u in
-    let a = slice_index labels u in
-    let marks = rows_of c.in_ok-marks.marks.items in
-    let tied = tied_choices net order labels named c.args.shortest.now c.requires.shortest a (named.label u c.requires.node) in
-    let table = marks_are_choices net order labels named u c.requires.node marks c.in_ok-marks.ensures c.nodes-nodes.ensures.network tied in
-    let bad = c.compile_choices.ensures.bad_row.0 (rw c.in-Err-BadRow.field-0-is at c.in-Err-BadRow.is) in
-    (rw (c.nodes-nodes.ensures.count, c.label_of.ensures, c.as_slice.ensures.value) at bad) table
+    let numbers = c.args.numbering.now in
+    let a = slice_index numbers.labels c.args.u in
+    let tied = c.in_ok-ports.ensures in
+    rw (c.nodes-nodes.ensures.count, c.label_of.ensures, c.as_slice.ensures.value)
+    (chosen_are_destinations (node_count net) a (IsTied net numbers.order a) tied.0 c.in_ok-ports.ports.items tied.1)
 
-pub returns-in-Ok : goal.returns-in-Ok
-returns-in-Ok c =
+pub returns : goal.returns
+returns c =
     let net = c.args.topology.now in
-    let order = c.args.numbering.now.order in
-    let labels = c.args.numbering.now.labels in
-    let named = c.requires.numbering.labels in
-    let u = c.args.u in
-    let a = slice_index labels u in
-    let marks = rows_of c.in_ok-marks.marks.items in
-    let made : (ports : List (Option ℕ)) × AreChosen (node_count net) a (Allows marks) ports × IsCanonical (node_count net) a ports c.in-Ok.row =
-    rw (c.nodes-nodes.ensures.count, c.label_of.ensures, c.as_slice.ensures.value) at c.in-Ok.ensures.canonical in
-    (made.0, chosen_of_tied net order labels named u c.requires.node marks c.in_ok-marks.ensures made.0 made.1, made.2)
+    let numbers = c.args.numbering.now in
+    let a = slice_index numbers.labels c.args.u in
+    let ports = c.in_ok-ports.ports.items in
+    let tied = c.in_ok-ports.ensures in
+    let made = rw (c.nodes-nodes.ensures.count, c.label_of.ensures, c.as_slice.ensures.value) at c.row_of.ensures in
+    IfOk-weaker c.row_of.result (λ (row : List Start). IsCanonical (node_count net) a ports row) (λ (row : List Start). IsNodeRow Compact net numbers.order numbers.parents a row)
+    (λ row canonical. record {
+      ports = ports;
+      ports_of_kind = tied;
+      destinations = chosen_are_destinations (node_count net) a (IsTied net numbers.order a) tied.0 ports tied.1;
+      canonical = canonical;
+    })
+    made

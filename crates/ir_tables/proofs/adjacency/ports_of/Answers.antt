@@ -1,18 +1,29 @@
-use Rattle.std.proofs.Common.{◌≡◌, ◌+◌, ◌<◌, ◌≤◌, ◌++◌, ◌∷◌, [], ℕ, List, Some, not, length, sym, ap, ◌∙◌, arith, take, slice_get}
-use Rattle.std.proofs.lemmas.List.Sums.{prefix_len-le-length}
+use Rattle.std.proofs.Common.{◌≡◌, ◌+◌, ◌<◌, ◌++◌, ◌∷◌, [], ℕ, List, Some, length, subst, sym, ap, ◌∙◌, arith, take, slice_get}
+use Rattle.std.proofs.lemmas.Option.{slice_get_within}
+use Rattle.ir_model.specs.declared.Link.{Link}
 use Rattle.ir_model.specs.declared.Hop.{Hop}
 use Rattle.ir_model.specs.Places.{neighbors_at}
-use Rattle.ir_tables.specs.Numbered.{Numbers, joins_nodes, link_between, ports_at}
+use Rattle.ir_tables.specs.Numbered.{Numbers, link_between, links_from, ports_at}
 use Rattle.ir_tables.specs.ByPlace.{row_numbers, rows_of}
-use Rattle.ir_tables.proofs.OfGraph.{next_entry, ports_more, ports_same}
+use Rattle.ir_tables.proofs.OfGraph.{next_entry, ports_more, ports_same, row_of_node, graph_numbered}
+use Rattle.ir_tables.proofs.Numbered.{port_link}
 use Rattle.ir_tables.proofs.Runs.{begins_within, joins_in_run}
 use Rattle.ir_tables.proofs.adjacency.ports_of.Goals as goal
 use Rattle.ir_tables.proofs.adjacency.ports_of.Goals.{then-v-u+in_ok-push, else-v-u}
 
 pub overflow_cast-link : goal.overflow_cast-link
 overflow_cast-link c =
-    let le : link_between c.args.links.now c.args.u c.unwrap-v.result.0 ≤ length c.args.links.now = prefix_len-le-length (λ x. not (joins_nodes c.args.u c.unwrap-v.result.0 x)) c.args.links.now in
-    omega (arith, le, c.link_between-link.ensures, c.requires.few)
+    let g = c.args.graph.now in
+    let u : ℕ = c.args.u in
+    let graph = c.number_of_nodes-nodes.ensures.graph in
+    let row : Numbers = row_numbers g (neighbors_at g u) in
+    let entry : slice_get row c.loop-place.place ≡ Some c.unwrap-v.result = next_entry g u c.loop-place.place c.unwrap-v.result (sym c.neighbor_at.ensures.at ∙ c.unwrap-v.ensures) in
+    let P : Numbers → Type 0 = λ es. slice_get es c.loop-place.place ≡ Some c.unwrap-v.result in
+    let link = port_link (rows_of g) (graph_numbered g graph) u c.loop-place.place c.unwrap-v.result (subst P (sym (row_of_node g u)) entry) c.if-v-u.true in
+    let Q : List Link → Type 0 = λ links. link_between links u c.unwrap-v.result.0 < length links in
+    let within : link_between c.args.links.now u c.unwrap-v.result.0 < length c.args.links.now =
+    subst Q (sym c.requires.links) (slice_get_within (links_from 0 (rows_of g)) (link_between (links_from 0 (rows_of g)) u c.unwrap-v.result.0) link.0 link.1) in
+    omega (arith, within, c.link_between-link.ensures, c.requires.few)
 
 pub link_between-link-requires-clause-within : goal.link_between-link-requires-clause-within
 link_between-link-requires-clause-within c = let g = c.args.graph.now in

@@ -6,12 +6,12 @@ use Rattle.ir_model.specs.Network.{node_count}
 use Rattle.ir_epochs.specs.Stamps.{knows}
 use Rattle.ir_core.specs.Entry.{fresh}
 use Rattle.ir_worker.specs.Seen.{SeenParcel}
-use Rattle.ir_worker.specs.Account.{head_of}
+use Rattle.ir_worker.specs.Account.{head_of, times_sent, weigh_sent, restamps_with}
 use Rattle.ir_control.specs.declared.injector.Accepted.{Accepted}
-use Rattle.ir_control.specs.Heads.{head_at}
+use Rattle.ir_control.specs.Heads.{head_at, times_injected, AreNumbered}
 use Rattle.ir_control.specs.Outs.{SentTo}
 use Rattle.ir_control.proofs.Nets.{parcel_of_net}
-use Rattle.ir_control.proofs.Injecting.{numbered_more, account_more, not_refused}
+use Rattle.ir_control.proofs.Injecting.{numbered_more, account_more, fresh_more, not_refused}
 use Rattle.ir_control.proofs.injector.Injector.inject.Goals as goal
 
 abbrev entry : ℕ → ℕ → ℕ → ℕ → Accepted
@@ -32,6 +32,20 @@ invariant_of-self-2-clause-account g c =
     (ap (λ (p : SeenParcel). head_of p.journey) c.in-Ok.ensures
     ∙ ap (λ (e : ℕ). head_at (entry c.len-count.result e c.args.source c.args.dest)) (ap (λ (s : Stamp). s.epoch) c.again.ensures ∙ sym c.epoch-epoch.ensures.value))
     c.args.self.now.account
+
+pub invariant_of-self-2-clause-fresh : goal.invariant_of-self-2-clause-fresh
+invariant_of-self-2-clause-fresh g c =
+    fresh_more c.args.self.now.outs.items c.send_to.new.outs.items c.args.source c.in-Ok.parcel c.if-not-send_to.ensures.sent (ap (λ (p : SeenParcel). p.journey.restamps) c.in-Ok.ensures) c.args.self.now.fresh
+
+pub invariant_of-self-then-not-send_to-clause-fresh : goal.invariant_of-self-then-not-send_to-clause-fresh
+invariant_of-self-then-not-send_to-clause-fresh g c = λ p. ap (weigh_sent (restamps_with p)) c.if-not-send_to.ensures.sent.0 ∙ c.args.self.now.fresh p
+
+pub invariant_of-self-then-not-send_to-clause-account : goal.invariant_of-self-then-not-send_to-clause-account
+invariant_of-self-then-not-send_to-clause-account g c =
+    λ p. ap (times_sent p) c.if-not-send_to.ensures.sent.0 ∙ c.args.self.now.account p ∙ sym (ap (times_injected p) c.reserve.ensures.items)
+
+pub invariant_of-self-then-not-send_to-clause-numbered : goal.invariant_of-self-then-not-send_to-clause-numbered
+invariant_of-self-then-not-send_to-clause-numbered g c = subst AreNumbered (sym c.reserve.ensures.items) c.args.self.now.numbered
 
 pub invariant_of-self-2-clause-numbered : goal.invariant_of-self-2-clause-numbered
 invariant_of-self-2-clause-numbered g c =

@@ -3,7 +3,8 @@ use Rattle.std.proofs.Common.{subst, sym, ap, refl, arith}
 use Rattle.ir_epochs.specs.declared.registry.Stamp.{Stamp}
 use Rattle.ir_epochs.specs.Stamps.{knows}
 use Rattle.ir_epochs.proofs.Overs.{over_itself}
-use Rattle.ir_worker.specs.Account.{lines_out}
+use Rattle.ir_worker.specs.Account.{lines_out, restamps_with}
+use Rattle.ir_worker.proofs.Counts.{head_weighs}
 use Rattle.ir_worker.specs.Seen.{IsOfNet}
 use Rattle.ir_control.specs.Heads.{times_injected}
 use Rattle.ir_control.specs.Outs.{AreEntryEnds}
@@ -20,6 +21,9 @@ invariant_of-result-clause-ends c = subst (λ (s : Stamp). AreEntryEnds s c.args
 
 pub invariant_of-result-clause-account : goal.invariant_of-result-clause-account
 invariant_of-result-clause-account c = λ p.
-    (let a = none_sent p c.args.outs.items c.requires.fresh in
+    (let a = none_sent (head_weighs p) c.args.outs.items c.requires.fresh in
     let b : times_injected p c.new.result.items ≡ 0 = ap (times_injected p) c.new.ensures.items in
     omega (arith, a, b))
+
+pub invariant_of-result-clause-fresh : goal.invariant_of-result-clause-fresh
+invariant_of-result-clause-fresh c = λ p. none_sent (restamps_with p) c.args.outs.items c.requires.fresh

@@ -2,11 +2,11 @@ use Rattle.std.specs.Prelude.{ℕ, List, length}
 use Rattle.std.proofs.Common.{arith, sym, ap, ◌∙◌, subst, refl}
 use Rattle.std.specs.Arc.{arc_value}
 use Rattle.ir_model.specs.declared.Hop.{Hop}
-use Rattle.ir_epochs.specs.Handles.{reader_board}
+use Rattle.ir_epochs.specs.Handles.{known, reader_board}
 use Rattle.ir_control.specs.Fresh.{AreInsAt}
 use Rattle.ir_epochs.specs.declared.registry.Stamp.{Stamp}
 use Rattle.ir_worker.specs.Wires.{AreEndsOf}
-use Rattle.ir_control.proofs.Wiring.{fits_ways, ends_of, fresh_account, node_of}
+use Rattle.ir_control.proofs.Wiring.{fits_ways, ends_of, fresh_even, node_of}
 use Rattle.ir_control.proofs.net.Net.node.Goals as goal
 
 pub outs_of-requires-clause-within : goal.outs_of-requires-clause-within
@@ -39,7 +39,7 @@ new-requires-clause-fresh c =
     let outs_at = rw c.in-Some.is at c.in_ok-outs.ensures.outs in
     let ins_at = rw c.in-Some-2.is at c.in_ok-ins.ensures.ins in
     let row = c.in_ok-ports.ensures.items ∙ c.ports.ensures in
-    fresh_account (arc_value c.args.self.now.registry) c.args.self.now.topology c.args.self.now.opening c.args.self.now.opened c.args.self.now.restamps c.args.self.now.capacity c.args.self.now.few_restamps c.args.self.now.inboxes.items c.args.self.now.ways.items c.args.self.now.peers.items
+    fresh_even (arc_value c.args.self.now.registry) c.args.self.now.topology c.args.self.now.opening c.args.self.now.opened c.args.self.now.restamps c.args.self.now.capacity c.args.self.now.few_restamps c.args.self.now.inboxes.items c.args.self.now.ways.items c.args.self.now.peers.items
     c.args.self.now.inboxes_are c.args.self.now.ways_are c.args.u c.args.first (length c.ports-degree.result.now) c.requires.node c.requires.first c.in_ok-ports.ports.items
     row (ap (λ (r : List Hop). length r) (c.ports-degree.ensures ∙ sym row)) c.args.inbox c.requires.inbox
     c.in-Some.outs.items outs_at c.in-Some-2.ins.items
@@ -58,3 +58,8 @@ returns-clause-node c =
       n.0,
       ap reader_board n.5,
     )
+
+pub returns-clause-fresh : goal.returns-clause-fresh
+returns-clause-fresh c =
+    let start = c.new.ensures.start in
+    record { unsettled = start.1; inbox_first = start.0; has_read = ap known c.new.ensures.node.5 }

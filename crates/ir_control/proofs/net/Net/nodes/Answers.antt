@@ -5,6 +5,8 @@ use Rattle.ir_epochs.specs.declared.handles.BoardReader.{BoardReader}
 use Rattle.ir_epochs.specs.Entries.{registry_of, network_of}
 use Rattle.ir_epochs.specs.Handles.{known, published, reader_board, writer_board}
 use Rattle.ir_worker.specs.declared.node.Node.{Node}
+use Rattle.ir_epochs.specs.declared.entry.Entry.{Entry}
+use Rattle.ir_control.specs.Parts.{IsFreshNode}
 use Rattle.ir_control.proofs.Handed.{in_there, ins_taken}
 use Rattle.ir_control.proofs.OfNet.{all_front, all_last}
 use Rattle.ir_control.proofs.Wiring.{first_more}
@@ -35,6 +37,7 @@ loop-u-preserved g c =
     let e = c.len-u-end.ensures in
     let lt : c.loop-u.u < length c.loop-u.inboxes.items = omega (arith, n, e) in
     let is = rw c.in-Some-2.is at c.in_ok-node.ensures.node in
+    let fresh = rw c.in-Some-2.is at c.in_ok-node.ensures.fresh in
     let last = all_last (λ (x : BoardReader). (known x ≡ published c.args.writer.now) × (reader_board x ≡ writer_board c.args.writer.now)) c.pop.new.self.items c.loop-u.readers.items c.in-Some-pop.reader c.in-Some-pop.ensures.items c.loop-u.invariant.readers in
     record {
       inboxes = ins_taken c.args.self.now.inboxes.items c.loop-u.inboxes.items c.loop-u.u c.take.new.self lt c.take.ensures.after c.loop-u.invariant.inboxes;
@@ -44,4 +47,6 @@ loop-u-preserved g c =
       nodes = first_more c.args.self.now c.loop-u.u c.loop-u.nodes.items c.push.new.self.items c.in-Some-2.node c.loop-u.invariant.nodes is.0 is.1 c.in_ok-push.ensures.items;
       boards = subst (λ (xs : List Node). All (λ n. reader_board n.reader ≡ writer_board c.args.writer.now) xs) (sym c.in_ok-push.ensures.items)
           (All-push (λ (n : Node). reader_board n.reader ≡ writer_board c.args.writer.now) c.loop-u.nodes.items c.in-Some-2.node c.loop-u.invariant.boards (is.2 ∙ last.1));
+      fresh = subst (λ (xs : List Node). All (IsFreshNode (published c.args.writer.now)) xs) (sym c.in_ok-push.ensures.items)
+          (All-push (IsFreshNode (published c.args.writer.now)) c.loop-u.nodes.items c.in-Some-2.node c.loop-u.invariant.fresh (subst (λ (es : List Entry). IsFreshNode es c.in-Some-2.node) last.0 fresh));
     }

@@ -5,31 +5,29 @@ use Rattle.ir_worker.specs.Seen.{SeenParcel}
 use Rattle.ir_core.specs.declared.event.Refused.{Refused}
 use Rattle.ir_live.specs.declared.command.Command.{Command}
 use Rattle.ir_live.specs.declared.desk.Desk.{Desk}
-use Rattle.ir_live.specs.Answers.{Answer, answer_of, refusal_in}
+use Rattle.ir_live.specs.Answers.{Answer, answer_of}
 use Rattle.ir_live.specs.Carried.{IsCarriedOut}
-use Rattle.ir_live.proofs.Commanded.{answered, installed}
 use Rattle.ir_live.proofs.desk.Desk.carry_out.Goals as goal
 
 -- a command that is known to be this one
-known : (was_full : Word SeenParcel) {B : Type 0} (command named : Command) (before after : Desk B) (r : Option Refused) → command ≡ named → IsCarriedOut was_full named before (answer_of r) after → (answer : Answer) × (r ≡ refusal_in answer) × IsCarriedOut was_full command before answer after
-known was_full command named before after r is done = (answer_of r, answered r, subst (λ (k : Command). IsCarriedOut was_full k before (answer_of r) after) (sym is) done)
+known : (was_full : Word SeenParcel) {B : Type 0} (command named : Command) (before after : Desk B) (r : Option Refused) (answer : Answer) → answer ≡ answer_of r → command ≡ named → IsCarriedOut was_full named before (answer_of r) after → IsCarriedOut was_full command before answer after
+known was_full command named before after r answer told is done =
+    subst (λ (k : Command). IsCarriedOut was_full k before answer after) (sym is) (subst (λ (x : Answer). IsCarriedOut was_full named before x after) (sym told) done)
 
 pub returns-in-Inject : goal.returns-in-Inject
-returns-in-Inject g c = known g.R.Moments.was_full _ _ _ _ c.inject.result c.in-Inject.is c.inject.ensures
+returns-in-Inject g c = known g.R.Moments.was_full _ _ _ _ c.inject.result c.answered.result c.answered.ensures c.in-Inject.is c.inject.ensures
 
 pub returns-in-Install : goal.returns-in-Install
-returns-in-Install g c =
-    let a = installed c.in-Install.kind c.in-Install.root c.args.self.now c.install.new.self c.install.result c.install.ensures in
-    (a.0, a.1, subst (λ (k : Command). IsCarriedOut g.R.Moments.was_full k c.args.self.now a.0 c.install.new.self) (sym c.in-Install.is) a.2)
+returns-in-Install g c = subst (λ (k : Command). IsCarriedOut g.R.Moments.was_full k c.args.self.now c.install.result c.install.new.self) (sym c.in-Install.is) c.install.ensures
 
 pub returns-in-Retire : goal.returns-in-Retire
-returns-in-Retire g c = known g.R.Moments.was_full _ _ _ _ c.retire.result c.in-Retire.is c.retire.ensures
+returns-in-Retire g c = known g.R.Moments.was_full _ _ _ _ c.retire.result c.answered-in-Retire.result c.answered-in-Retire.ensures c.in-Retire.is c.retire.ensures
 
 pub returns-in-Down : goal.returns-in-Down
-returns-in-Down g c = known g.R.Moments.was_full _ _ _ _ c.down.result c.in-Down.is c.down.ensures
+returns-in-Down g c = known g.R.Moments.was_full _ _ _ _ c.down.result c.answered-in-Down.result c.answered-in-Down.ensures c.in-Down.is c.down.ensures
 
 pub returns-in-Up : goal.returns-in-Up
-returns-in-Up g c = known g.R.Moments.was_full _ _ _ _ c.up.result c.in-Up.is c.up.ensures
+returns-in-Up g c = known g.R.Moments.was_full _ _ _ _ c.up.result c.answered-in-Up.result c.answered-in-Up.ensures c.in-Up.is c.up.ensures
 
 pub returns-in-Drain : goal.returns-in-Drain
-returns-in-Drain g c = (Ok None, refl, subst (λ (k : Command). IsCarriedOut g.R.Moments.was_full k c.args.self.now (Ok None) c.args.self.now) (sym c.in-Drain.is) (refl, refl, refl))
+returns-in-Drain g c = subst (λ (k : Command). IsCarriedOut g.R.Moments.was_full k c.args.self.now (Ok None) c.args.self.now) (sym c.in-Drain.is) (refl, refl, refl)

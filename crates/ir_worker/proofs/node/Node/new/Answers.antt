@@ -1,12 +1,18 @@
 use Rattle.std.proofs.Common.{ap, []}
 use Rattle.ir_epochs.specs.Handles.{known}
-use Rattle.ir_worker.proofs.Counts.{same_account}
+use Rattle.ir_worker.proofs.Counts.{same_even, head_weighs}
+use Rattle.ir_worker.specs.Account.{restamps_with}
 use Rattle.ir_worker.proofs.Nodes.{none_of_net, no_causes}
 use Rattle.ir_worker.proofs.node.Node.new.Goals as goal
 
 pub invariant_of-result-clause-account : goal.invariant_of-result-clause-account
 invariant_of-result-clause-account c =
-    same_account c.args.inbox c.new.result.inbox c.args.ins.items c.new.result.ports.items c.args.outs.items [] c.new-2.result.items c.requires.fresh
+    λ p. same_even (head_weighs p) c.args.inbox c.new.result.inbox c.args.ins.items c.new.result.ports.items c.args.outs.items [] c.new-2.result.items (c.requires.fresh (head_weighs p))
+    c.new.ensures.0 (ap (λ v. v.items) c.new.ensures.1) c.new-2.ensures.items
+
+pub invariant_of-result-clause-restamped : goal.invariant_of-result-clause-restamped
+invariant_of-result-clause-restamped c =
+    λ p never. same_even (restamps_with p) c.args.inbox c.new.result.inbox c.args.ins.items c.new.result.ports.items c.args.outs.items [] c.new-2.result.items (c.requires.fresh (restamps_with p))
     c.new.ensures.0 (ap (λ v. v.items) c.new.ensures.1) c.new-2.ensures.items
 
 pub invariant_of-result-clause-of_net : goal.invariant_of-result-clause-of_net

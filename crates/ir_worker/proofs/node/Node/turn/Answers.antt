@@ -13,12 +13,18 @@ use Rattle.ir_worker.specs.Wires.{SentOver, WasFullFor}
 use Rattle.ir_worker.proofs.Acts.{live_on, live_here, cause_here}
 use Rattle.ir_worker.proofs.Counts.{same_account, balanced_sent, balanced_settled, settled_behind}
 use Rattle.ir_worker.proofs.Nodes.{ends_kept, taken_place, same_of_net, more_of_net, current_of_net, head_with, goes_by_board, settles_by_board, causes_same, causes_later, causes_more}
+use Rattle.ir_worker.proofs.Restamps.{known_same, known_sent, known_settled}
 use Rattle.ir_worker.proofs.node.Node.turn.Goals as goal
 
 pub invariant_of-self-clause-account : goal.invariant_of-self-clause-account
 invariant_of-self-clause-account g c =
     let n = c.args.self.now in
     same_account n.entrances.inbox n.entrances.inbox n.entrances.ports.items n.entrances.ports.items n.outs.items n.outcomes.items c.reserve.new.self.items n.account refl refl c.reserve.ensures.items
+
+pub invariant_of-self-clause-restamped : goal.invariant_of-self-clause-restamped
+invariant_of-self-clause-restamped g c =
+    let n = c.args.self.now in
+    known_same (known n.reader) n.entrances.inbox n.entrances.ports.items n.outs.items n.outcomes.items c.reserve.new.self.items n.restamped c.reserve.ensures.items
 
 pub invariant_of-self-clause-of_net : goal.invariant_of-self-clause-of_net
 invariant_of-self-clause-of_net g c =
@@ -71,6 +77,9 @@ invariant_of-self-in-Ok-1 g c =
           c.poll.ensures.inbox c.poll.ensures.ins c.pass_on.ensures.lines;
       account = balanced_sent n.entrances.inbox n.entrances.ports.items c.poll.new.self.inbox c.poll.new.self.ports.items n.outs.items c.pass_on.new.outs.items n.outcomes.items c.reserve.new.self.items n.account
           p a.1 n.entrances.next c.in-Some.ensures.took c.as_slice-ports.result.now a.0 a.4 (ap head_of a.2.journey ∙ same) c.reserve.ensures.items;
+      restamped = known_sent (known n.reader) (known c.read-board.new.self) c.read-board.ensures.later b c.read-board.ensures.board n.restamps p c.ready-parcel.result.0 c.stamp.result c.way-way.result n.index c.ready-parcel.ensures.parcel
+          n.entrances.inbox n.entrances.ports.items c.poll.new.self.inbox c.poll.new.self.ports.items n.outs.items c.pass_on.new.outs.items n.outcomes.items c.reserve.new.self.items n.restamped
+          n.entrances.next c.in-Some.ensures.took c.ready-parcel.result.1 a.0 a.1 a.2 c.as_slice-ports.result.now a.4 c.reserve.ensures.items;
       of_net = same_of_net n.opening n.restamps n.outcomes.items c.reserve.new.self.items n.of_net c.reserve.ensures.items;
       causes = causes_later (known n.reader) (known c.read-board.new.self) n.outcomes.items c.reserve.new.self.items n.causes c.read-board.ensures.later c.reserve.ensures.items;
     }
@@ -91,6 +100,9 @@ invariant_of-self-in-Err g c =
           c.poll.ensures.inbox c.poll.ensures.ins c.pass_on.ensures.lines;
       account = balanced_settled n.entrances.inbox n.entrances.ports.items c.poll.new.self.inbox c.poll.new.self.ports.items n.outs.items c.pass_on.new.outs.items n.outcomes.items c.push_reserved.new.self.items n.account
           p n.entrances.next c.in-Some.ensures.took a.3 c.in-Err.outcome behind (ap head_of a.2.packet ∙ same);
+      restamped = known_settled (known n.reader) (known c.read-board.new.self) c.read-board.ensures.later b c.read-board.ensures.board n.restamps p c.ready-parcel.result.0 c.stamp.result c.way-way.result n.index c.ready-parcel.ensures.parcel
+          n.entrances.inbox n.entrances.ports.items c.poll.new.self.inbox c.poll.new.self.ports.items n.outs.items c.pass_on.new.outs.items n.outcomes.items c.push_reserved.new.self.items n.restamped
+          n.entrances.next c.in-Some.ensures.took a.3 c.ready-parcel.result.1 a.0 a.1 c.in-Err.outcome a.2 behind;
       of_net = more_of_net n.opening n.restamps n.outcomes.items c.push_reserved.new.self.items c.in-Err.outcome n.of_net behind c.ready-parcel.result.0 c.ready-parcel.ensures.of_net c.ready-parcel.ensures.few
           a.2.first a.2.later (ap (λ (r : Journey). r.restamps) a.2.packet);
       causes = causes_more (known n.reader) (known c.read-board.new.self) n.outcomes.items c.push_reserved.new.self.items c.in-Err.outcome n.causes c.read-board.ensures.later behind (ap (λ k. k + 1) a.2.version ∙ c.read-board.ensures.version)

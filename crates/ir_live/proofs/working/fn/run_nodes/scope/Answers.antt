@@ -45,6 +45,7 @@ returns g c =
         answers = c.in-Ok-told.ensures.0;
         carried_out = c.in-Ok-told.ensures.1;
         refusals = c.in-Ok-told.ensures.2;
+        stamps = c.in-Ok-told.ensures.3;
       };
       stopped = tt;
     }

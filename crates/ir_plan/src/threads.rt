@@ -1,0 +1,63 @@
+//! The rows of all nodes, made in several threads.
+
+ghost use Rattle.std.specs.Prelude.{◌≡◌, ◌<◌, IfOk, slice_index};
+ghost use Rattle.ir_model.specs.Network.{node_count};
+ghost use Rattle.ir_model.specs.Walk.{IsConnected};
+ghost use Rattle.ir_numbering.specs.Numbers.{IsNumberingOf};
+ghost use Rattle.ir_plan.specs.Shown.{StandForTable};
+ghost use Rattle.ir_plan.specs.NodeRows.{IsNodeRow};
+
+use crate::rows::row_at;
+use ir_lookup::Row;
+use ir_model::Kind;
+use ir_numbering::Numbering;
+use ir_tables::Topology;
+use rayon::prelude::*;
+use std::alloc::{AllocError, Global};
+use std::thread::Threads;
+
+/// The fewest rows that a thread is started for.
+const LEAST_ROWS: usize = 16;
+
+/// The row of each node, by number, made in as many threads as there are processors. It is refused where a growth is
+/// refused in any of them.
+pub fn rows_in_threads(
+    rt: &(impl Threads + Sync),
+    alloc: Global,
+    topology: &Topology,
+    numbering: &Numbering,
+    kind: Kind,
+) -> Result<Vec<Row>, AllocError>
+    requires numbering { IsNumberingOf topology.now numbering.now }
+    requires connected { IsConnected topology.now }
+    ensures { IfOk result (λ rows. StandForTable kind topology.now numbering.now.order numbering.now.parents numbering.now.labels rows.items) }
+{
+    let nodes = topology.nodes();
+    (0..nodes)
+        .into_par_iter()
+        .with_min_len(LEAST_ROWS)
+        .map(
+            |u: usize| -> Result<Row, AllocError>
+                requires { (u < node_count topology.now) × IsNumberingOf topology.now numbering.now × IsConnected topology.now }
+                ensures { IfOk result (λ row. IsNodeRow kind topology.entry.now numbering.entry.now.order numbering.entry.now.parents (slice_index numbering.entry.now.labels u) row) }
+            { row_in_thread(alloc, topology, numbering, kind, u) },
+        )
+        .collect::<Result<Vec<Row>, AllocError>>(rt, alloc)?
+}
+
+// The row of a node, by its number as a place.
+fn row_in_thread(
+    alloc: Global,
+    topology: &Topology,
+    numbering: &Numbering,
+    kind: Kind,
+    u: usize,
+) -> Result<Row, AllocError>
+    requires numbering { IsNumberingOf topology.now numbering.now }
+    requires connected { IsConnected topology.now }
+    requires node { u < node_count topology.now }
+    ensures { IfOk result (λ row. IsNodeRow kind topology.now numbering.now.order numbering.now.parents (slice_index numbering.now.labels u) row) }
+{
+    let _nodes = topology.nodes();
+    row_at(alloc, topology, numbering, kind, u as u16)
+}

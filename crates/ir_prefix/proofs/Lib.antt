@@ -1,0 +1,10 @@
+pub mod AmongLemmas
+pub mod BlockLemmas
+pub mod TrieLemmas
+pub mod Costs
+pub mod Tallies
+pub mod Lower
+pub mod Upper
+pub mod Orders
+pub mod Final
+pub mod Loading

@@ -1,0 +1,44 @@
+-- The prefixes that are told for a trie, each node before what lies below it.
+use Rattle.std.specs.Prelude.{◌==◌, ◌&&◌, ◌≤◌, count_by, ℕ, ◌+◌, ◌-◌, ◌*◌, ◌^◌, ◌<◌, List, [], ◌∷◌, ◌++◌, Bool, true, false, Option, Some, slice_index}
+use Rattle.std.specs.List.Sorted.{IsNonDecreasing}
+use Rattle.ir_prefix.specs.Joined.{is_named}
+use Rattle.ir_prefix.specs.Described.{names_of, IsJoin}
+use Rattle.ir_prefix.specs.declared.cover.Prefix.{Prefix}
+use Rattle.ir_prefix.specs.declared.trie.Trie.{Trie}
+use Rattle.ir_prefix.specs.declared.trie.Trie.TheVariants.{Free, Alike, Fork'}
+
+-- the prefix of the node so high, the index-th of its height
+abbrev pub prefix_at : ℕ → ℕ → ℕ → ℕ → Prefix
+prefix_at bits h i p = record { value = i * 2 ^ h; length = bits - h; port = p }
+
+-- a prefix is told unless the one above names one of the node's names
+abbrev pub told_unless : Bool → Prefix → List Prefix
+told_unless true m = []
+told_unless false m = m ∷ []
+
+abbrev pub told : ℕ → ℕ → ℕ → List ℕ → Option ℕ → List Prefix
+told bits h i names above = told_unless (is_named names above) (prefix_at bits h i (slice_index names 0))
+
+-- what the node's halves find above them
+abbrev pub taken_unless : Bool → Option ℕ → ℕ → Option ℕ
+taken_unless true above p = above
+taken_unless false above p = Some p
+
+abbrev pub taken : List ℕ → Option ℕ → Option ℕ
+taken names above = taken_unless (is_named names above) above (slice_index names 0)
+
+abbrev pub cover_of : ℕ → Trie → ℕ → ℕ → Option ℕ → List Prefix
+cover_of bits Free h i above = []
+cover_of bits (Alike p) h i above = told bits h i (p ∷ []) above
+cover_of bits (Fork' names a l b r) h i above =
+    told bits h i names.items above ++ (cover_of bits l (h - 1) (2 * i) (taken names.items above) ++ cover_of bits r (h - 1) (2 * i + 1) (taken names.items above))
+
+-- each node is no higher than its height, and has the names that follow from its halves
+abbrev pub IsTrie : ℕ → Trie → Type 0
+IsTrie h Free = Unit {0}
+IsTrie h (Alike p) = Unit {0}
+IsTrie h (Fork' names a l b r) = (0 < h) × IsTrie (h - 1) l × IsTrie (h - 1) r × IsJoin (names_of l) (names_of r) names.items × IsNonDecreasing names.items
+
+-- no two prefixes have one length and one value
+abbrev pub AreDistinct : List Prefix → Type 0
+AreDistinct set = (length value : ℕ) → count_by (λ (m : Prefix). (m.length == length) && (m.value == value)) set ≤ 1

@@ -1,0 +1,42 @@
+-- The nodes of a trie.
+use Rattle.std.specs.Prelude.{◌≡◌, ℕ, ◌+◌, ◌-◌, ◌*◌, ◌/◌, ◌^◌, ◌<◌, ◌||◌, ◌&&◌, ◌⊎◌, List, [], ◌∷◌, length, false, Option, Some}
+use Rattle.std.specs.List.Sorted.{IsNonDecreasing}
+use Rattle.ir_model.specs.Compiled.{port_to}
+use Rattle.ir_prefix.specs.Joined.{is_named, AreJoined}
+use Rattle.ir_prefix.specs.declared.trie.Trie.{Trie}
+use Rattle.ir_prefix.specs.declared.trie.Trie.TheVariants.{Free, Alike, Fork'}
+
+abbrev pub names_of : Trie → List ℕ
+names_of Free = []
+names_of (Alike p) = p ∷ []
+names_of (Fork' names a l b r) = names.items
+
+abbrev pub IsFree : Trie → Type 0
+IsFree Free = Unit {0}
+IsFree (Alike p) = ⊥
+IsFree (Fork' names a l b r) = ⊥
+
+-- no port or this one lies below
+abbrev pub IsAlike : Trie → ℕ → Type 0
+IsAlike Free q = Unit {0}
+IsAlike (Alike p) q = p ≡ q
+IsAlike (Fork' names a l b r) q = ⊥
+
+-- the node of two halves
+abbrev pub IsParent : Trie → Trie → Trie → Type 0
+IsParent l r Free = IsFree l × IsFree r
+IsParent l r (Alike p) = IsAlike l p × IsAlike r p × ((l ≡ Alike p) ⊎ (r ≡ Alike p))
+IsParent l r (Fork' names a x b y) = (x ≡ l) × (y ≡ r) × (IsFree l → IsFree r → ⊥) × AreJoined (names_of l) (names_of r) names.items × IsNonDecreasing names.items
+
+-- how the names of a node follow from those of its halves
+pub record IsJoin (a b c : List ℕ) : Type 0 where
+  pub some : 0 < length c
+  pub joins : ((q : Option ℕ) → is_named c q ≡ (is_named a q && is_named b q))
+      ⊎ ((q : Option ℕ) → ((is_named a q && is_named b q) ≡ false) × (is_named c q ≡ (is_named a q || is_named b q)))
+
+-- what the node so high, the index-th of its height, says of the ports of its numbers
+abbrev pub Describes : List (Option ℕ) → ℕ → ℕ → Trie → Type 0
+Describes ports h i Free = (x p : ℕ) → x / 2 ^ h ≡ i → port_to ports x ≡ Some p → ⊥
+Describes ports h i (Alike p) = ((x r : ℕ) → x / 2 ^ h ≡ i → port_to ports x ≡ Some r → r ≡ p) × ((x : ℕ) × (x / 2 ^ h ≡ i) × (port_to ports x ≡ Some p))
+Describes ports h i (Fork' names a l b r) =
+    (0 < h) × Describes ports (h - 1) (2 * i) l × Describes ports (h - 1) (2 * i + 1) r × IsJoin (names_of l) (names_of r) names.items × IsNonDecreasing names.items

@@ -1,0 +1,5 @@
+pub mod Code
+pub mod Joined
+pub mod Described
+pub mod Longest
+pub mod Cover

@@ -1,0 +1,82 @@
+//! The prefixes of a trie.
+
+ghost use Rattle.std.specs.Prelude.{◌≡◌, ◌<◌, ◌≤◌, ◌+◌, ◌*◌, ◌^◌, ◌++◌, length, IfOk, OnOk};
+ghost use Rattle.std.specs.List.Sorted.{IsNonDecreasing};
+ghost use Rattle.ir_prefix.specs.Cover.{IsTrie, cover_of, prefix_at, taken, told};
+
+use crate::names::has_name;
+use crate::trie::Trie;
+use std::alloc::AllocError;
+
+/// The numbers whose first `length` bits are those of `value`, and their port.
+#[derive(Clone, Copy, Debug, PartialEq, Eq)]
+pub struct Prefix {
+    pub value: u16,
+    pub length: u8,
+    pub port: u16,
+}
+
+/// Adds the prefixes of a node so high, the index-th of its height, where the longest one above it names `above`: as
+/// few as there can be.
+pub fn cover(
+    trie: &Trie,
+    bits: u8,
+    height: u8,
+    index: u32,
+    above: Option<u16>,
+    prefixes: &mut Vec<Prefix>,
+) -> Result<(), AllocError>
+    requires trie { IsTrie height trie.now }
+    requires height { height ≤ bits }
+    requires inside { (index + 1) * 2 ^ height ≤ 2 ^ 16 }
+    ensures { OnOk result (prefixes.new.items ≡ prefixes.old.items ++ cover_of bits trie.now height index above) }
+{
+    match trie {
+        Trie::Free => Ok(()),
+        Trie::Alike(port) => {
+            tell(&[*port], bits, height, index, above, prefixes)?;
+            Ok(())
+        }
+        Trie::Fork(names, left, right) => {
+            let below = tell(names.as_slice(), bits, height, index, above, prefixes)?;
+            cover(left, bits, height - 1, 2 * index, below, prefixes)?;
+            cover(right, bits, height - 1, 2 * index + 1, below, prefixes)
+        }
+    }
+}
+
+// Adds the prefix of a node unless what is above it names one of its names, and answers what is above its halves.
+fn tell(
+    names: &[u16],
+    bits: u8,
+    height: u8,
+    index: u32,
+    above: Option<u16>,
+    prefixes: &mut Vec<Prefix>,
+) -> Result<Option<u16>, AllocError>
+    requires some { 0 < length names.now }
+    requires rising { IsNonDecreasing names.now }
+    requires height { height ≤ bits }
+    requires inside { (index + 1) * 2 ^ height ≤ 2 ^ 16 }
+    ensures below { IfOk result (λ below. below ≡ taken names.now above) }
+    ensures told { OnOk result (prefixes.new.items ≡ prefixes.old.items ++ told bits height index names.now above) }
+{
+    if has_name(names, above) {
+        return Ok(above);
+    }
+    prefixes.push(node_prefix(bits, height, index, names[0]))?;
+    Ok(Some(names[0]))
+}
+
+// The prefix of a node.
+fn node_prefix(bits: u8, height: u8, index: u32, port: u16) -> Prefix
+    requires height { height ≤ bits }
+    requires inside { (index + 1) * 2 ^ height ≤ 2 ^ 16 }
+    ensures { result ≡ prefix_at bits height index port }
+{
+    Prefix {
+        value: (index * 2u32.pow(height as u32)) as u16,
+        length: bits - height,
+        port,
+    }
+}

@@ -1,0 +1,90 @@
+//! Ports by label compiled to the fewest prefixes whose longest match names them (Draves, King, Venkatachary and Zill 1999).
+#![tactic(auto)]
+
+ghost use Rattle.std.specs.Prelude.{◌≡◌, ◌≢◌, ◌<◌, ◌↔◌, ℕ, length, IsTrue, IfOk, OnOk};
+ghost use Rattle.ir_model.specs.Compiled.{IsDestinations};
+ghost use Rattle.ir_prefix.specs.Longest.{AreLeast, Forwards, IsFewestPrefixes, IsLongestFirst, IsWidth, LoadsInOrder};
+
+mod cover;
+mod error;
+mod names;
+mod order;
+mod trie;
+
+use crate::cover::cover;
+use crate::order::sort_longest_first;
+use crate::trie::trie_of;
+pub use cover::Prefix;
+pub use error::PrefixError;
+use std::alloc::{AllocError, Global};
+
+/// The fewest prefixes for the node with the label `own` among `n` nodes, given its port to each label: the longest of
+/// them that holds a label names its port, and no set of prefixes that does so is smaller. The own label and the numbers
+/// that are no labels may match any prefix or none. The longest stand first, and those of one length in the order of
+/// their values: while a table is filled in this order, a label finds no match or its port.
+///
+/// `BadRow` where `ports` does not have one entry for each of the `n` labels, `own` is no label, the own label has a
+/// port, or another label has none; then `NoMemory`.
+pub fn prefixes(
+    alloc: Global,
+    n: u16,
+    own: u16,
+    ports: &[Option<u16>],
+) -> Result<Vec<Prefix>, PrefixError>
+    ensures bad_row { (result ≡ Err PrefixError.BadRow) ↔ (IsDestinations n own ports.now → ⊥) }
+    ensures destinations { OnOk result (IsDestinations n own ports.now) }
+    ensures order { IfOk result (λ set. IsLongestFirst set.items) }
+    ensures fits { IfOk result (λ set. (bits : ℕ) → IsWidth n bits → Forwards bits ports.now set.items) }
+    ensures loads { IfOk result (λ set. (bits : ℕ) → IsWidth n bits → LoadsInOrder bits ports.now set.items) }
+    ensures values { IfOk result (λ set. (bits : ℕ) → IsWidth n bits → AreLeast bits set.items) }
+    ensures fewest { IfOk result (λ set. (bits : ℕ) → IsWidth n bits → IsFewestPrefixes bits ports.now (length set.items)) }
+{
+    if !is_destinations(n, own, ports) {
+        return Err(PrefixError::BadRow);
+    }
+    Ok(table(alloc, n, ports)?)
+}
+
+/// How many bits the labels below `n` have.
+pub fn width(n: u16) -> u8
+    ensures { IsWidth n result }
+{
+    for bits in 0..16u8 {
+        if n as u32 <= 2u32.pow(bits as u32) {
+            return bits;
+        }
+    }
+    16
+}
+
+// The prefixes, where the ports are those of the labels.
+fn table(alloc: Global, n: u16, ports: &[Option<u16>]) -> Result<Vec<Prefix>, AllocError>
+    requires { length ports.now ≡ n }
+    ensures order { IfOk result (λ set. IsLongestFirst set.items) }
+    ensures fits { IfOk result (λ set. (bits : ℕ) → IsWidth n bits → Forwards bits ports.now set.items) }
+    ensures loads { IfOk result (λ set. (bits : ℕ) → IsWidth n bits → LoadsInOrder bits ports.now set.items) }
+    ensures values { IfOk result (λ set. (bits : ℕ) → IsWidth n bits → AreLeast bits set.items) }
+    ensures fewest { IfOk result (λ set. (bits : ℕ) → IsWidth n bits → IsFewestPrefixes bits ports.now (length set.items)) }
+{
+    let bits = width(n);
+    let trie = trie_of(alloc, ports, bits, 0)?;
+    let mut set = Vec::new(alloc);
+    cover(&trie, bits, bits, 0, None, &mut set)?;
+    sort_longest_first(&mut set)?;
+    Ok(set)
+}
+
+// Whether each label but the own has a port.
+fn is_destinations(n: u16, own: u16, ports: &[Option<u16>]) -> bool
+    ensures { IsTrue result ↔ IsDestinations n own ports.now }
+{
+    if ports.len() != n as usize || own >= n {
+        return false;
+    }
+    for (d, port) in ports.iter().enumerate() {
+        if port.is_some() == (d == own as usize) {
+            return false;
+        }
+    }
+    true
+}
