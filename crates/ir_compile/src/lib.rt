@@ -129,8 +129,9 @@ fn before(n: u16, own: u16, d: u16) -> u16
     }
 }
 
-// Whether each label but the own has a port.
-fn is_destinations(n: u16, own: u16, ports: &[Option<u16>]) -> bool
+/// Whether these are a list of destinations: one entry for each of the `n` labels, the own label below `n` and without a
+/// port, and each other label with one.
+pub fn is_destinations(n: u16, own: u16, ports: &[Option<u16>]) -> bool
     ensures { IsTrue result ↔ IsDestinations n own ports.now }
 {
     if ports.len() != n as usize || own >= n {

@@ -1,7 +1,7 @@
 //! Ports by label compiled to the fewest prefixes whose longest match names them (Draves, King, Venkatachary and Zill 1999).
 #![tactic(auto)]
 
-ghost use Rattle.std.specs.Prelude.{◌≡◌, ◌≢◌, ◌<◌, ◌↔◌, ℕ, length, IsTrue, IfOk, OnOk};
+ghost use Rattle.std.specs.Prelude.{◌≡◌, ◌↔◌, ℕ, length, IfOk, OnOk};
 ghost use Rattle.ir_model.specs.Compiled.{IsDestinations};
 ghost use Rattle.ir_prefix.specs.Longest.{AreLeast, Forwards, IsFewestPrefixes, IsLongestFirst, IsWidth, LoadsInOrder};
 
@@ -16,6 +16,7 @@ use crate::order::sort_longest_first;
 use crate::trie::trie_of;
 pub use cover::Prefix;
 pub use error::PrefixError;
+use ir_compile::is_destinations;
 use std::alloc::{AllocError, Global};
 
 /// The fewest prefixes for the node with the label `own` among `n` nodes, given its port to each label: the longest of
@@ -72,19 +73,4 @@ fn table(alloc: Global, n: u16, ports: &[Option<u16>]) -> Result<Vec<Prefix>, Al
     cover(&trie, bits, bits, 0, None, &mut set)?;
     sort_longest_first(&mut set)?;
     Ok(set)
-}
-
-// Whether each label but the own has a port.
-fn is_destinations(n: u16, own: u16, ports: &[Option<u16>]) -> bool
-    ensures { IsTrue result ↔ IsDestinations n own ports.now }
-{
-    if ports.len() != n as usize || own >= n {
-        return false;
-    }
-    for (d, port) in ports.iter().enumerate() {
-        if port.is_some() == (d == own as usize) {
-            return false;
-        }
-    }
-    true
 }

@@ -16,6 +16,8 @@ mod openings;
 #[cfg(test)]
 mod plans;
 #[cfg(test)]
+mod prefixed;
+#[cfg(test)]
 mod runs;
 #[cfg(test)]
 mod tables;

@@ -1,0 +1,83 @@
+//! Ports told as the fewest prefixes, longest first.
+
+use ir_prefix::{Prefix, PrefixError, prefixes, width};
+use std::test::Fail;
+
+/// A row's ports by label, and its prefixes: the value, the length and the port of each.
+struct Case {
+    name: &'static str,
+    own: u16,
+    ports: &'static [Option<u16>],
+    told: &'static [(u16, u8, u16)],
+}
+
+// Expected values from a plain search over all sets of prefixes.
+const ROWS: [Case; 4] = [
+    Case {
+        name: "one label",
+        own: 0,
+        ports: &[None],
+        told: &[],
+    },
+    Case {
+        name: "one port",
+        own: 0,
+        ports: &[None, Some(5)],
+        told: &[(0, 0, 5)],
+    },
+    Case {
+        name: "one label of four by another port",
+        own: 0,
+        ports: &[None, Some(1), Some(1), Some(2)],
+        told: &[(3, 2, 2), (0, 0, 1)],
+    },
+    Case {
+        name: "three numbers beyond the labels",
+        own: 4,
+        ports: &[Some(0), Some(0), Some(1), Some(1), None],
+        told: &[(2, 2, 1), (0, 0, 0)],
+    },
+];
+
+/// Whether these are the prefixes, in this order.
+fn are(set: &[Prefix], told: &[(u16, u8, u16)]) -> bool {
+    if set.len() != told.len() {
+        return false;
+    }
+    for (prefix, wanted) in set.iter().zip(told.iter()) {
+        if (prefix.value, prefix.length, prefix.port) != *wanted {
+            return false;
+        }
+    }
+    true
+}
+
+#[test]
+fn rows_are_told_by_the_fewest_prefixes(rt: HostRuntime) -> Result<(), Fail> {
+    for case in ROWS.iter() {
+        let Ok(set) = prefixes(rt.alloc(), case.ports.len() as u16, case.own, case.ports) else {
+            return Err(case.name.into());
+        };
+        if !are(set.as_slice(), case.told) {
+            return Err(case.name.into());
+        }
+    }
+    Ok(())
+}
+
+#[test]
+fn rows_that_are_none_have_no_prefixes(rt: HostRuntime) {
+    let own = prefixes(rt.alloc(), 2, 0, &[Some(1), Some(1)]);
+    assert!(rt; matches!(own, Err(PrefixError::BadRow)));
+    let none = prefixes(rt.alloc(), 2, 0, &[None, None]);
+    assert!(rt; matches!(none, Err(PrefixError::BadRow)));
+    let beyond = prefixes(rt.alloc(), 2, 2, &[Some(1), Some(1)]);
+    assert!(rt; matches!(beyond, Err(PrefixError::BadRow)));
+}
+
+#[test]
+fn widths_of_labels(rt: HostRuntime) {
+    for (n, bits) in [(1u16, 0u8), (2, 1), (14, 4), (16, 4), (17, 5), (65_535, 16)] {
+        assert_eq!(rt; width(n), bits);
+    }
+}
