@@ -27,7 +27,7 @@ def find(program=None):
         return str(BUILT)
     raise ProgramNotFoundError(
         f"there is no program route: give program=.., set {VARIABLE}, put it on PATH as {NAME} "
-        f"(./install.sh PREFIX --name {NAME}), or build it in the repository ({BUILT})"
+        f"(./install.sh PREFIX --name {NAME}), or build it in the repository that this package stands in"
     )
 
 
