@@ -9,77 +9,81 @@ KINDS = ("shortest", "compact", "tree")
 
 @needs_route
 class RouteTest(unittest.TestCase):
-    def over_graphs(self):
+    def over_graphs(self, look):
         for name, graph in graphs():
             with self.subTest(name):
-                yield graph, list(graph)
+                look(graph, list(graph))
 
     def test_plans(self):
-        for graph, nodes in self.over_graphs():
-            distances = dict(networkx.all_pairs_dijkstra_path_length(graph))
-            for kind in KINDS:
-                root = nodes[len(nodes) // 2]
-                plan = bentzolu.plan(graph, kind, root)
-                self.assertEqual((plan.kind, set(plan.nodes)), (kind, set(nodes)))
-                self.assertEqual(sorted(plan.labels.values()), list(range(len(nodes))))
-                self.assertEqual(plan.labels[root], 0)
-                used = set()
-                for source in nodes:
-                    for target in nodes:
-                        path = plan.path(source, target)
-                        self.assertTrue(all(graph.has_edge(u, v) for u, v in zip(path, path[1:])))
-                        used |= {frozenset(pair) for pair in zip(path, path[1:])}
-                        weight = networkx.path_weight(graph, path, "weight") if len(path) > 1 and any(
-                            "weight" in data for _, _, data in graph.edges(data=True)) else len(path) - 1
-                        if kind != "tree":
-                            self.assertEqual(weight, distances[source][target])
-                if kind == "tree":
-                    self.assertEqual((len(used), plan.intervals), (len(nodes) - 1, 2 * (len(nodes) - 1)))
+        self.over_graphs(self.look_at_plans)
+
+    def look_at_plans(self, graph, nodes):
+        distances = dict(networkx.all_pairs_dijkstra_path_length(graph))
+        root = nodes[len(nodes) // 2]
+        for kind in KINDS:
+            plan = bentzolu.plan(graph, kind, root)
+            self.assertEqual((plan.kind, set(plan.nodes)), (kind, set(nodes)))
+            self.assertEqual(sorted(plan.labels.values()), list(range(len(nodes))))
+            self.assertEqual(plan.labels[root], 0)
+            used = set()
+            for source in nodes:
+                for target in nodes:
+                    hops = list(zip(plan.path(source, target), plan.path(source, target)[1:]))
+                    self.assertTrue(all(graph.has_edge(u, v) for u, v in hops))
+                    used |= {frozenset(hop) for hop in hops}
+                    if kind != "tree":
+                        self.assertEqual(sum(graph[u][v].get("weight", 1) for u, v in hops), distances[source][target])
+            if kind == "tree":
+                self.assertEqual((len(used), plan.intervals), (len(nodes) - 1, 2 * (len(nodes) - 1)))
 
     def test_the_first_node_is_the_root(self):
-        for graph, nodes in self.over_graphs():
-            self.assertEqual(bentzolu.plan(graph).labels[nodes[0]], 0)
+        self.over_graphs(lambda graph, nodes: self.assertEqual(bentzolu.plan(graph).labels[nodes[0]], 0))
 
     def test_walks(self):
-        chance = random.Random(5)
-        for graph, nodes in self.over_graphs():
-            plan = bentzolu.plan(graph, "compact")
-            for source, target in [(chance.choice(nodes), chance.choice(nodes)) for _ in range(4)]:
-                walk = bentzolu.walk(graph, source, target, "compact")
-                self.assertEqual(walk.path, plan.path(source, target))
-                self.assertEqual(walk.weight, networkx.dijkstra_path_length(graph, source, target))
-                self.assertEqual((walk.source, walk.target, walk.address), (source, target, plan.labels[target]))
-                for step in walk.steps[:-1]:
-                    self.assertIn(step.interval, plan.nodes[step.node].intervals)
-                    self.assertIn(walk.address, step.interval)
+        self.over_graphs(self.look_at_walks)
+
+    def look_at_walks(self, graph, nodes):
+        chance, plan = random.Random(5), bentzolu.plan(graph, "compact")
+        for source, target in [(chance.choice(nodes), chance.choice(nodes)) for _ in range(4)]:
+            walk = bentzolu.walk(graph, source, target, "compact")
+            self.assertEqual(walk.path, plan.path(source, target))
+            self.assertEqual(walk.weight, networkx.dijkstra_path_length(graph, source, target))
+            self.assertEqual((walk.source, walk.target, walk.address), (source, target, plan.labels[target]))
+            for step in walk.steps[:-1]:
+                self.assertIn(step.interval, plan.nodes[step.node].intervals)
+                self.assertIn(walk.address, step.interval)
 
     def test_stats(self):
-        for graph, nodes in self.over_graphs():
-            total = sum(sum(row.values()) for _, row in networkx.all_pairs_dijkstra_path_length(graph))
-            for kind in KINDS:
-                stats, plan = bentzolu.stats(graph, kind), bentzolu.plan(graph, kind)
-                self.assertEqual((stats.kind, stats.nodes, stats.links), (kind, len(nodes), graph.number_of_edges()))
-                self.assertEqual((stats.starts, stats.entries, stats.distances), (plan.intervals, len(nodes) * (len(nodes) - 1), total))
-                self.assertEqual(stats.greatest_row[1], max(len(it.intervals) for it in plan.nodes.values()))
-                if kind == "tree":
-                    self.assertGreaterEqual(stats.walks, total)
-                else:
-                    self.assertEqual(stats.walks, total)
-                self.assertEqual(stats.worst is None, len(nodes) == 1)
+        self.over_graphs(self.look_at_stats)
+
+    def look_at_stats(self, graph, nodes):
+        total = sum(sum(row.values()) for _, row in networkx.all_pairs_dijkstra_path_length(graph))
+        for kind in KINDS:
+            stats, plan = bentzolu.stats(graph, kind), bentzolu.plan(graph, kind)
+            self.assertEqual((stats.kind, stats.nodes, stats.links), (kind, len(nodes), graph.number_of_edges()))
+            self.assertEqual((stats.starts, stats.entries, stats.distances), (plan.intervals, len(nodes) * (len(nodes) - 1), total))
+            self.assertEqual(stats.greatest_row[1], max(len(it.intervals) for it in plan.nodes.values()))
+            if kind == "tree":
+                self.assertGreaterEqual(stats.walks, total)
+            else:
+                self.assertEqual(stats.walks, total)
+            self.assertEqual(stats.worst is None, len(nodes) == 1)
 
     def test_runs_and_checks(self):
+        self.over_graphs(self.look_at_runs)
+
+    def look_at_runs(self, graph, nodes):
         chance = random.Random(6)
-        for graph, nodes in self.over_graphs():
-            pairs = [(chance.choice(nodes), chance.choice(nodes)) for _ in range(6)]
-            steps = [("inject", *pair) for pair in pairs] + [("drain",), ("install", "compact", nodes[-1]), ("learn", 2), ("retire", 2)]
-            steps += [("inject", *pair) for pair in pairs] + [("drain",), ("retire", 1)]
-            run = bentzolu.simulate(graph, steps)
-            self.assertEqual([(it.line, it.kind, it.step) for it in run.refused], [(len(steps), "Same", ("retire", 1))])
-            self.assertEqual([(it.source, it.target, it.fate) for it in run.packets], [(*pair, "delivered") for pair in 2 * pairs])
-            for i, packet in enumerate(run.packets):
-                self.assertEqual(packet.epoch, 1 if i < 6 else 2)
-                self.assertEqual(packet.weight, networkx.dijkstra_path_length(graph, packet.source, packet.target))
-            self.check_round_trip(graph, steps, run)
+        pairs = [(chance.choice(nodes), chance.choice(nodes)) for _ in range(6)]
+        steps = [("inject", *pair) for pair in pairs] + [("drain",), ("install", "compact", nodes[-1]), ("learn", 2), ("retire", 2)]
+        steps += [("inject", *pair) for pair in pairs] + [("drain",), ("retire", 1)]
+        run = bentzolu.simulate(graph, steps)
+        self.assertEqual([(it.line, it.kind, it.step) for it in run.refused], [(len(steps), "Same", ("retire", 1))])
+        self.assertEqual([(it.source, it.target, it.fate) for it in run.packets], [(*pair, "delivered") for pair in 2 * pairs])
+        for i, packet in enumerate(run.packets):
+            self.assertEqual(packet.epoch, 1 if i < 6 else 2)
+            self.assertEqual(packet.weight, networkx.dijkstra_path_length(graph, packet.source, packet.target))
+        self.check_round_trip(graph, steps, run)
 
     def check_round_trip(self, graph, steps, run):
         for trace in (run, run.trace, run.packets):
@@ -91,11 +95,13 @@ class RouteTest(unittest.TestCase):
         self.assertEqual((verdict.ok, verdict.line, verdict.kind), (False, len(run.packets) + 1, "BadWeight"))
 
     def test_live_runs(self):
-        for graph, nodes in list(self.over_graphs())[:12]:
-            steps = [("inject", nodes[0], nodes[-1]), ("install", "tree", nodes[-1]), ("inject", nodes[-1], nodes[0]), ("drain",)]
-            run = bentzolu.live(graph, steps)
-            self.assertEqual([packet.epoch for packet in run.packets], [1, 2])
-            self.assertTrue(bentzolu.check(graph, steps, run))
+        self.over_graphs(self.look_at_live_runs)
+
+    def look_at_live_runs(self, graph, nodes):
+        steps = [("inject", nodes[0], nodes[-1]), ("install", "tree", nodes[-1]), ("inject", nodes[-1], nodes[0]), ("drain",)]
+        run = bentzolu.live(graph, steps)
+        self.assertEqual([packet.epoch for packet in run.packets], [1, 2])
+        self.assertTrue(bentzolu.check(graph, steps, run))
 
     def test_restamps(self):
         graph = networkx.Graph()
@@ -118,14 +124,16 @@ class RouteTest(unittest.TestCase):
         self.assertEqual([(it.fate, it.link) for it in run.packets], [("down", (1, 2))])
 
     def test_drawings(self):
-        for graph, nodes in self.over_graphs():
-            dot = bentzolu.draw(graph, "tree", source=nodes[0], target=nodes[-1])
-            self.assertTrue(dot.startswith("graph {") and dot.endswith("}\n"))
-            self.assertEqual(dot.count(" -- "), graph.number_of_edges())
-            if len(nodes) > 1:
-                self.assertIn("style=bold", dot)
-            label = bentzolu.plan(graph, "tree").labels[nodes[-1]]
-            self.assertIn(f'label="{nodes[-1]} {label}"', dot)
+        self.over_graphs(self.look_at_drawings)
+
+    def look_at_drawings(self, graph, nodes):
+        dot = bentzolu.draw(graph, "tree", source=nodes[0], target=nodes[-1])
+        self.assertTrue(dot.startswith("graph {") and dot.endswith("}\n"))
+        self.assertEqual(dot.count(" -- "), graph.number_of_edges())
+        if len(nodes) > 1:
+            self.assertIn("style=bold", dot)
+        label = bentzolu.plan(graph, "tree").labels[nodes[-1]]
+        self.assertIn(f'label="{nodes[-1]} {label}"', dot)
 
     def test_drawings_by_matplotlib(self):
         try:
