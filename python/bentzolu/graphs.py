@@ -22,7 +22,7 @@ def refuse_kinds(graph):
 
 
 def as_fraction(weight):
-    """A weight as an exact fraction by its decimal writing, or None where it is no finite number."""
+    """A number, or a text of one, as an exact fraction by its decimal writing; None where it is no finite number."""
     try:
         if isinstance(weight, numbers.Rational):
             return Fraction(weight)
@@ -43,7 +43,7 @@ def factor_for(weights):
 
 def advice(weights):
     """How to make whole weights from 1 to 65,535 of these."""
-    found = [as_fraction(weight) for weight in weights]
+    found = [None if isinstance(weight, (str, bytes)) else as_fraction(weight) for weight in weights]
     if None in found:
         return "each weight has to be a number"
     if min(found) <= 0:
@@ -57,8 +57,8 @@ def advice(weights):
 
 
 def whole(weight):
-    """A weight as a whole number from 1 to 65,535, or None."""
-    found = as_fraction(weight)
+    """A weight as a whole number from 1 to 65,535, or None; a text is no weight."""
+    found = None if isinstance(weight, (str, bytes)) else as_fraction(weight)
     if found is None or found.denominator != 1 or not 1 <= found <= MOST_WEIGHT:
         return None
     return int(found)

@@ -39,7 +39,7 @@ class GraphsTest(unittest.TestCase):
             self.assertEqual(prepared(edge(weight))[1], f"a b {int(weight)}\n")
 
     def test_other_weights_are_refused(self):
-        for weight in (0, -3, 65536, 2.5, float("nan"), float("inf"), "far", None, 1e9, 1e-9, 1j):
+        for weight in (0, -3, 65536, 2.5, float("nan"), float("inf"), "far", "3", None, 1e9, 1e-9, 1j):
             with self.subTest(weight), self.assertRaises(bentzolu.WeightError) as caught:
                 bentzolu.plan(edge(weight))
             self.assertIsInstance(caught.exception, ValueError)

@@ -8,7 +8,7 @@ from bentzolu.names import Names, is_fine
 class NamesTest(unittest.TestCase):
     HARD = [
         1, "1", -1, "-1", (0, 1), "(0,1)", "(0, 1)", "New York", "New_York", "New\tYork", "", " ", "#", "##", "a#b", "Zürich", "Zurich",
-        "東京", "大阪", "-", "--root", "%%", "_%%", "x" * 64, "x" * 65, "x" * 66, "é" * 40, 2.5, True if False else "True", frozenset([3]), b"ab",
+        "東京", "大阪", "-", "--root", "%%", "_%%", "x" * 64, "x" * 65, "x" * 66, "é" * 40, 2.5, "True", frozenset([3]), b"ab",
         "a\nb", "a\x00b", "\u00a0", "drain", "inbox", "from", "~2", "1~2",
     ]
 
