@@ -1,0 +1,48 @@
+# Completions of route for bash. tests/completions holds them to the options of the program.
+
+# The subcommands.
+_bentzolu_subcommands() {
+    echo 'plan walk stats draw sim live check help'
+}
+
+# The options of a subcommand, or of the program where there is none.
+_bentzolu_options() {
+    case ${1-} in
+        plan | stats | check) echo '--format --kind --root --capacity --packets --help' ;;
+        walk | draw) echo '--format --kind --root --capacity --packets --from --to --help' ;;
+        sim | live) echo '--format --kind --root --capacity --packets --restamps --help' ;;
+        '') echo '--help --version' ;;
+    esac
+}
+
+# The values of an option, where they are few.
+_bentzolu_values() {
+    case $1 in
+        --format) echo 'adjlist edgelist' ;;
+        --kind) echo 'tree shortest compact' ;;
+        --restamps) echo '0 1 2 3' ;;
+    esac
+}
+
+_bentzolu() {
+    local word=${COMP_WORDS[COMP_CWORD]} before=${COMP_WORDS[COMP_CWORD - 1]} subcommand=
+    if [ "$COMP_CWORD" -gt 1 ]; then
+        subcommand=${COMP_WORDS[1]}
+    fi
+    COMPREPLY=()
+    case $before in
+        --format | --kind | --restamps) COMPREPLY=($(compgen -W "$(_bentzolu_values "$before")" -- "$word")) ;;
+        --root | --capacity | --packets | --from | --to) ;;
+        *)
+            if [ -z "$subcommand" ] && [[ $word != -* ]] || [ "$subcommand" = help ]; then
+                COMPREPLY=($(compgen -W "$(_bentzolu_subcommands)" -- "$word"))
+            elif [[ $word == -* ]]; then
+                COMPREPLY=($(compgen -W "$(_bentzolu_options "$subcommand")" -- "$word"))
+            else
+                compopt -o filenames 2> /dev/null
+                COMPREPLY=($(compgen -f -- "$word"))
+            fi ;;
+    esac
+}
+
+complete -F _bentzolu route

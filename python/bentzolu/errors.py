@@ -1,0 +1,76 @@
+"""What can go wrong, as exceptions."""
+import re
+
+
+class BentzoluError(Exception):
+    """Any error of this package."""
+
+
+class UnknownNodeError(BentzoluError, ValueError):
+    """A node or a name that the graph does not have."""
+
+
+class DirectedGraphError(BentzoluError, TypeError):
+    """A graph with directions, of which `route` knows none."""
+
+
+class MultigraphError(BentzoluError, TypeError):
+    """A graph with several edges between two nodes, of which `route` knows one."""
+
+
+class WeightError(BentzoluError, ValueError):
+    """A weight that is not a whole number from 1 to 65,535; the text says how to scale."""
+
+
+class StepError(BentzoluError, ValueError):
+    """A step that is no line of a script."""
+
+
+class ProgramNotFoundError(BentzoluError, FileNotFoundError):
+    """There is no program `route` where one was looked for."""
+
+
+class FormatError(BentzoluError, ValueError):
+    """A text that is not what its format asks for: `line` is the number of its line, or None."""
+
+    def __init__(self, message, line=None):
+        super().__init__(message if line is None else f"line {line}: {message}")
+        self.line = line
+
+
+class RouteError(BentzoluError):
+    """The program ended with a status above 0.
+
+    `status` is the exit status: 1 a refused input, 2 words that were not understood, 3 no memory or no thread. `text` is
+    what stood on standard error. `about` is `topology`, `script`, `trace`, `opening`, `output` or None; `kind` is the name
+    of the fault, as `BadWeight` or `Disconnected`; `line` is the number of the faulty line, or None.
+    """
+
+    def __init__(self, status, text, content=None):
+        self.status = status
+        self.text = text
+        self.about, self.line, self.kind = fault_of(status, text)
+        self.content = content
+        said = text.strip() or f"status {status}"
+        super().__init__(said if content is None else f"{said} ({content})")
+
+
+FAULT = re.compile(r"(?:route: )?(topology|script|trace) ([0-9]+) ([A-Za-z]+)")
+OPENING = re.compile(r"(?:route: )?opening ([A-Za-z]+)")
+UNREAD = re.compile(r"(?:route: )?(topology|script|trace|input|output) (unreadable|too large|unwritable)")
+LAST = {"out of memory": "NoMemory", "no thread": "NoThread"}
+
+
+def fault_of(status, text):
+    """What a fault is about, its line and its kind, of the text on standard error."""
+    for line in text.splitlines():
+        if found := FAULT.match(line):
+            return found[1], int(found[2]), found[3]
+        if found := OPENING.match(line):
+            return "opening", None, found[1]
+        if found := UNREAD.match(line):
+            return found[1], None, found[2]
+        for said, kind in LAST.items():
+            if line.startswith(said):
+                return None, None, kind
+    return None, None, "usage" if status == 2 else "unknown"

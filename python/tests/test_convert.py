@@ -1,0 +1,236 @@
+"""Each format that `python -m bentzolu convert` reads, from a small text."""
+import contextlib
+import io
+import pathlib
+import tempfile
+import unittest
+
+from common import bentzolu, needs_networkx, needs_route
+from bentzolu import program
+from bentzolu.__main__ import main
+from bentzolu.convert import READERS, converted, format_of
+
+GML = """Creator "a test"
+graph [
+  node [ id 0 label "New York" Country "United States" ]
+  node [ id 1 label "Z&#252;rich" ]
+  node [ id 2 label "Rome" ]
+  edge [ source 0 target 1 LinkSpeed "10" ]
+  edge [ source 1 target 2 ]
+]
+"""
+SAME_LABELS = GML.replace("Rome", "New York")
+GRAPHML = """<?xml version="1.0" encoding="utf-8"?>
+<graphml xmlns="http://graphml.graphdrawing.org/xmlns">
+  <key attr.name="label" attr.type="string" for="node" id="d0"/>
+  <key attr.name="weight" attr.type="double" for="edge" id="d1"/>
+  <graph edgedefault="directed">
+    <node id="0"><data key="d0">Vienna</data></node>
+    <node id="1"><data key="d0">Graz</data></node>
+    <node id="2"><data key="d0">Linz</data></node>
+    <edge source="0" target="1"><data key="d1">1.5</data></edge>
+    <edge source="1" target="0"><data key="d1">1.25</data></edge>
+    <edge source="1" target="2"><data key="d1">3</data></edge>
+  </graph>
+</graphml>
+"""
+JSON = """{"directed": false, "multigraph": false, "graph": {}, "nodes": [{"id": 1}, {"id": [0, 1]}, {"id": "b c"}],
+ "links": [{"source": 1, "target": [0, 1], "weight": 4}, {"source": [0, 1], "target": "b c", "weight": 2}]}
+"""
+SNDLIB = """?SNDlib native format; type: network; version: 1.0
+# network tiny
+META (
+  granularity = 5min
+)
+NODES (
+  # <node_id> [(<longitude>, <latitude>)]
+  N1 ( 13.48 52.52 )
+  N2 ( 9.99 53.55 )
+  N3 ( 11.58 48.14 )
+)
+LINKS (
+  # <link_id> ( <source> <target> ) <pre_installed_capacity> <pre_installed_capacity_cost> <routing_cost> <setup_cost> ( {<module_capacity> <module_cost>}* )
+  L1 ( N1 N2 ) 0.00 0.00 2.50 0.00 ( 40.00 1890.00 )
+  L2 ( N2 N3 ) 40.00 0.00 1.00 0.00 ( 40.00 1000.00 80.00 1500.00 )
+)
+DEMANDS (
+  N1_N2 ( N1 N2 ) 1 5.00 UNLIMITED
+)
+"""
+SNDLIB_XML = """<?xml version="1.0" encoding="ISO-8859-1"?>
+<network xmlns="http://sndlib.zib.de/network" version="1.0">
+ <networkStructure>
+  <nodes coordinatesType="geographical">
+   <node id="N1"><coordinates><x>13.48</x><y>52.52</y></coordinates></node>
+   <node id="N2"><coordinates><x>9.99</x><y>53.55</y></coordinates></node>
+   <node id="N3"><coordinates><x>11.58</x><y>48.14</y></coordinates></node>
+  </nodes>
+  <links>
+   <link id="L1"><source>N1</source><target>N2</target><routingCost>2.50</routingCost><setupCost>0.00</setupCost></link>
+   <link id="L2"><source>N2</source><target>N3</target><routingCost>1.00</routingCost></link>
+  </links>
+ </networkStructure>
+ <demands><demand id="D"><source>N1</source><target>N3</target></demand></demands>
+</network>
+"""
+ROCKETFUEL = "Sydney,+Australia1 Perth,+Australia2 7.5\nPerth,+Australia2 Sydney,+Australia1 7\nPerth,+Australia2 Darwin,+Australia3 2\n"
+CAIDA = "# source:topology|BGP|20200101\n1|11537|0\n1|21616|-1\n11537|21616|-1|bgp\n"
+CAIDA_SEEN = "# format\nT\t1000\t1001\nM\t1\t2\t3\nD\t1\t11537\t0\nD\t11537\t2_3\t0\nI\t1\t99\t1\t0\n"
+MATRIX = "%%MatrixMarket matrix coordinate real symmetric\n% a comment\n3 3 3\n2 1 0.5\n3 2 4\n1 1 9\n"
+PATTERN = "%%MatrixMarket matrix coordinate pattern general\n3 3 3\n1 2\n2 1\n2 3\n"
+
+
+class FormatsTest(unittest.TestCase):
+    def edges(self, text, format=None, **options):
+        name = f"file.{format}" if format == "csv" else "file"
+        found = format_of(name, text)
+        self.assertEqual(found or "rocketfuel", format)
+        edges, names, notes = converted(text, format, **options)
+        return edges, names, "; ".join(notes)
+
+    @needs_networkx
+    def test_gml(self):
+        edges, names, _ = self.edges(GML, "gml")
+        self.assertEqual(edges, "New_York Zurich 1\nZurich Rome 1\n")
+        self.assertEqual(names.node("Zurich"), "Zürich")
+        self.assertEqual(self.edges(SAME_LABELS, "gml")[0], "0 1 1\n1 2 1\n")
+        edges, _, notes = self.edges(GML, "gml", weight="LinkSpeed")
+        self.assertEqual(edges, "New_York Zurich 10\nZurich Rome 1\n")
+        self.assertIn("1 of 2 edges have no 'LinkSpeed'", notes)
+
+    @needs_networkx
+    def test_graphml(self):
+        edges, _, notes = self.edges(GRAPHML, "graphml")
+        self.assertEqual(edges, "Vienna Graz 5\nGraz Linz 12\n")
+        self.assertIn("weights times 4, exactly", notes)
+        self.assertIn("1 further edges", notes)
+
+    def test_json(self):
+        self.assertEqual(self.edges(JSON, "json")[0], "1 (0,1) 4\n(0,1) b_c 2\n")
+        self.assertEqual(self.edges(JSON.replace('"links"', '"edges"'), "json")[0], "1 (0,1) 4\n(0,1) b_c 2\n")
+
+    def test_sndlib(self):
+        for text, format in [(SNDLIB, "sndlib"), (SNDLIB_XML, "sndlib-xml")]:
+            edges, _, notes = self.edges(text, format)
+            self.assertEqual(edges, "N1 N2 1\nN2 N3 1\n")
+            self.assertIn("distance, routing_cost, setup_cost: --weight", notes)
+            self.assertEqual(self.edges(text, format, weight="routing_cost")[0], "N1 N2 5\nN2 N3 2\n")
+            self.assertEqual(self.edges(text, format, weight="distance")[0], "N1 N2 260\nN2 N3 612\n")
+
+    def test_rocketfuel(self):
+        edges, _, notes = self.edges(ROCKETFUEL, "rocketfuel")
+        self.assertEqual(edges, "Sydney,+Australia1 Perth,+Australia2 7\nPerth,+Australia2 Darwin,+Australia3 2\n")
+        self.assertIn("1 further edges", notes)
+        self.assertEqual(self.edges("a b 7.5\nb c 0.25\n", "rocketfuel")[0], "a b 30\nb c 1\n")
+
+    def test_caida(self):
+        self.assertEqual(self.edges(CAIDA, "caida")[0], "1 11537 1\n1 21616 1\n11537 21616 1\n")
+        self.assertEqual(self.edges(CAIDA_SEEN, "caida")[0], "1 11537 1\n11537 2_3 1\n")
+
+    def test_csv(self):
+        for text in ("u,v,w\na b,c,2\nc,d,3.5\n", "a b,c,2\nc,d,3.5\n", "from;to;km\na b;c;2\nc;d;3.5\n", 'source\ttarget\tw\n"a b"\tc\t2\nc\td\t3.5\n'):
+            self.assertEqual(self.edges(text, "csv")[0], "a_b c 4\nc d 7\n")
+        for text in ("a,b\nb,c\n", "source,target\na,b\nb,c\n", "# text\na, b\n\nb, c\n"):
+            self.assertEqual(self.edges(text, "csv")[0], "a b 1\nb c 1\n")
+
+    def test_matrix_market(self):
+        edges, _, notes = self.edges(MATRIX, "mtx")
+        self.assertEqual(edges, "2 1 1\n3 2 8\n")
+        self.assertIn("1 edges from a node to itself", notes)
+        self.assertEqual(self.edges(PATTERN, "mtx")[0], "1 2 1\n2 3 1\n")
+
+    def test_faults(self):
+        for format, text in [
+            ("json", "{"), ("json", '{"nodes": 1}'), ("json", '{"nodes": [], "links": []}'), ("sndlib", "?SNDlib"), ("sndlib-xml", "<network"),
+            ("sndlib", SNDLIB.replace("( N1 N2 ) 0", "( N1 N9 ) 0")), ("sndlib-xml", SNDLIB_XML.replace("<target>N2", "<target>N9")),
+            ("rocketfuel", "a b\n"), ("rocketfuel", "a b far\n"), ("rocketfuel", "a b -1\n"), ("rocketfuel", "a b 0\n"), ("caida", "1|x|0\n"),
+            ("csv", "a\n"), ("csv", "a,b,1\na,b,far\n"), ("mtx", "%%MatrixMarket matrix array real general\n2 2\n"), ("mtx", MATRIX.replace("3 2 4", "9 2 4")),
+            ("mtx", PATTERN.replace("3 3 3", "3 4 3")),
+        ]:
+            with self.subTest((format, text)), self.assertRaises(bentzolu.BentzoluError):
+                converted(text, format)
+
+    @needs_networkx
+    def test_faults_of_networkx(self):
+        for format, text in [("gml", "graph [ node ["), ("gml", "graph [ edge [ source 0 target 1 ] ]"), ("graphml", "<graphml>")]:
+            with self.subTest(text), self.assertRaises(bentzolu.BentzoluError):
+                converted(text, format)
+
+    def test_great_weights_are_rounded(self):
+        edges, _, notes = self.edges("a b 1e9\nb c 1\n", "rocketfuel")
+        self.assertEqual(edges.splitlines()[1], "b c 1")
+        self.assertTrue(1 <= int(edges.splitlines()[0].split()[2]) <= 65535)
+        self.assertIn("rounded", notes)
+
+    def test_parts(self):
+        text = "a,b\nc,d\nd,e\nf,f\n"
+        with self.assertRaisesRegex(bentzolu.BentzoluError, "3 parts .* of 3, 2, 1 nodes; --largest"):
+            converted(text, "csv")
+        edges, _, notes = self.edges(text, "csv", largest=True)
+        self.assertEqual(edges, "c d 1\nd e 1\n")
+        self.assertIn("the largest of 3 parts, 3 of 6 nodes", notes)
+        self.assertEqual(self.edges("f,f\n", "csv")[0], "f f 1\n")
+
+    def test_every_format_is_tried_here(self):
+        self.assertEqual(set(READERS), {"gml", "graphml", "json", "sndlib", "sndlib-xml", "rocketfuel", "caida", "csv", "mtx"})
+
+
+class CommandTest(unittest.TestCase):
+    def setUp(self):
+        folder = tempfile.TemporaryDirectory()
+        self.addCleanup(folder.cleanup)
+        self.folder = pathlib.Path(folder.name)
+
+    def convert(self, name, text, *words):
+        file = self.folder / name
+        file.write_bytes(text.encode("utf-8"))
+        output, faults = io.StringIO(), io.StringIO()
+        with contextlib.redirect_stdout(output), contextlib.redirect_stderr(faults):
+            status = main(["convert", str(file), *map(str, words)])
+        return status, output.getvalue(), faults.getvalue()
+
+    def test_files(self):
+        out, table = self.folder / "out.edgelist", self.folder / "names"
+        status, output, faults = self.convert("net.json", JSON, "-o", out, "--names", table)
+        self.assertEqual((status, output), (0, ""))
+        self.assertEqual(out.read_text(), "1 (0,1) 4\n(0,1) b_c 2\n")
+        self.assertEqual(table.read_text(), '1\t1\n(0,1)\t"(0, 1)"\nb_c\t"b c"\n')
+        self.assertEqual(faults, "json: 3 nodes, 2 links\n")
+
+    def test_output(self):
+        status, output, faults = self.convert("net.csv", "a b,c\n")
+        self.assertEqual((status, output), (0, "a_b c 1\n"))
+        self.assertIn("1 nodes have new names: --names TABLE", faults)
+
+    def test_the_format_is_told(self):
+        self.assertEqual(self.convert("net.txt", "a b 2\n", "--from", "rocketfuel")[:2], (0, "a b 2\n"))
+        status, output, faults = self.convert("net.txt", "a b 2\n")
+        self.assertEqual((status, output), (1, ""))
+        self.assertIn("give --from, one of", faults)
+
+    def test_refusals(self):
+        for text, said in [("a,b\nc,d\n", "--largest"), ("a,b,x\nc,d,y\n", "line 2"), ("", "no node")]:
+            status, output, faults = self.convert("net.csv", text)
+            self.assertEqual((status, output), (1, ""))
+            self.assertIn(said, faults)
+        with contextlib.redirect_stderr(io.StringIO()) as faults:
+            self.assertEqual(main(["convert", str(self.folder / "nothing")]), 1)
+        self.assertIn("nothing", faults.getvalue())
+
+    def test_a_mark_of_bytes_at_the_front(self):
+        self.assertEqual(self.convert("net.csv", "\ufeffa,b\n")[:2], (0, "a b 1\n"))
+
+    @needs_route
+    def test_route_reads_what_is_written(self):
+        for name, text in [
+            ("a.gml", GML), ("a.graphml", GRAPHML), ("a.json", JSON), ("a.sndlib", SNDLIB), ("a.xml", SNDLIB_XML), ("a.intra", ROCKETFUEL),
+            ("a.caida", CAIDA), ("a.csv", "a b,c,2\n"), ("a.mtx", MATRIX), ("b.csv", "f,f\n"),
+        ]:
+            status, edges, _ = self.convert(name, text)
+            self.assertEqual(status, 0)
+            plan = bentzolu.read_plan(program.run(["plan", "--format", "edgelist"], [("topology", edges)])[0])
+            self.assertEqual(plan.kind, "shortest")
+
+
+if __name__ == "__main__":
+    unittest.main()
