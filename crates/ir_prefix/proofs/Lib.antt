@@ -8,3 +8,5 @@ pub mod Upper
 pub mod Orders
 pub mod Final
 pub mod Loading
+pub mod LineLemmas
+pub mod TableLemmas

@@ -3,3 +3,5 @@ pub mod Joined
 pub mod Described
 pub mod Longest
 pub mod Cover
+pub mod Forwarding
+pub mod Extended
