@@ -9,4 +9,6 @@ pub mod Orders
 pub mod Final
 pub mod Loading
 pub mod LineLemmas
+pub mod PartLemmas
 pub mod TableLemmas
+pub mod DisjointLemmas

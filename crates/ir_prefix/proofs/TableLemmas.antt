@@ -17,7 +17,7 @@ use Rattle.ir_prefix.proofs.Upper.{port_inside}
 use Rattle.ir_prefix.proofs.Tallies.{hit, tally, tally-le-length, tally_three, tally_some}
 use Rattle.ir_prefix.proofs.LineLemmas.{no_prefix, line_match, match_line, prefix_match, match_prefix, each_before, stands_once, keeps_matches, no_bits_past}
 
-port_of_some : (u p : ℕ) → p ≢ u → port_of u p ≡ Some p
+pub port_of_some : (u p : ℕ) → p ≢ u → port_of u p ≡ Some p
 port_of_some u p ne = grind (arith, common_steps, ne)
 
 port_of_same : (u : ℕ) → port_of u u ≡ None

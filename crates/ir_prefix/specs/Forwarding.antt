@@ -51,3 +51,15 @@ AreLongestFirst table = AllPairs StandsBefore table
 -- where only the first lines are there yet, or still, a number has the longest match that it has in the whole table, or none
 abbrev pub KeepsMatches : ℕ → List Line → Type 0
 KeepsMatches bits table = (count x : ℕ) (m : Line) → IsMatch bits (take count table) x m → IsMatch bits table x m
+
+-- A table of a node among n in which no number has two lines: each other label has one, with the node's port to it, and no
+-- number beyond the labels has any. The own label may have one or none.
+pub record IsDisjointTable (n bits : ℕ) (ports : List (Option ℕ)) (table : List Line) : Type 0 where
+  pub within : IsWithin bits table
+  pub apart : (x : ℕ) → AllPairs (λ (m o : Line). HoldsNumber bits m x → HoldsNumber bits o x → ⊥) table
+  pub meaning : (d p : ℕ) → port_to ports d ≡ Some p → (m : Line) × Contains table m × HoldsNumber bits m d × (m.port ≡ Some p)
+  pub beyond : (x : ℕ) → n ≤ x → All (λ (m : Line). HoldsNumber bits m x → ⊥) table
+
+-- no such table has fewer lines
+abbrev pub IsFewestDisjoint : ℕ → ℕ → List (Option ℕ) → ℕ → Type 0
+IsFewestDisjoint n bits ports count = (table : List Line) → IsDisjointTable n bits ports table → count ≤ length table

@@ -5,3 +5,4 @@ pub mod Longest
 pub mod Cover
 pub mod Forwarding
 pub mod Extended
+pub mod Parts

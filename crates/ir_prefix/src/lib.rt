@@ -10,6 +10,7 @@ mod error;
 mod line;
 mod names;
 mod order;
+mod parts;
 mod tables;
 mod trie;
 
@@ -21,7 +22,7 @@ pub use error::PrefixError;
 use ir_compile::is_destinations;
 pub use line::Line;
 use std::alloc::{AllocError, Global};
-pub use tables::forwarding;
+pub use tables::{disjoint, forwarding};
 
 /// The fewest prefixes for the node with the label `own` among `n` nodes, given its port to each label: the longest of
 /// them that holds a label names its port, and no set of prefixes that does so is smaller. The own label and the numbers

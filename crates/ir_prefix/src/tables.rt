@@ -4,11 +4,13 @@ ghost use Rattle.std.specs.Prelude.{◌≡◌, ◌↔◌, ◌≤◌, ◌^◌, �
 ghost use Rattle.std.specs.List.{range_with_len};
 ghost use Rattle.ir_model.specs.Compiled.{IsDestinations, port_to};
 ghost use Rattle.ir_prefix.specs.Longest.{IsWidth};
-ghost use Rattle.ir_prefix.specs.Forwarding.{AreLongestFirst, IsFewestLines, IsForwardingTable, IsWellFormed, KeepsMatches};
+ghost use Rattle.ir_prefix.specs.Forwarding.{AreLongestFirst, IsDisjointTable, IsFewestDisjoint, IsFewestLines, IsForwardingTable, IsWellFormed, KeepsMatches};
 ghost use Rattle.ir_prefix.specs.Extended.{extended_port, IsUnused};
 
 use crate::error::PrefixError;
 use crate::line::{Line, lines_of};
+use crate::order::sort_longest_first;
+use crate::parts::{part_of, push_pieces};
 use crate::{table, width};
 use ir_compile::is_destinations;
 use std::alloc::{AllocError, Global};
@@ -42,6 +44,32 @@ pub fn forwarding(
     Ok(lines(alloc, n, own, ports)?)
 }
 
+/// The forwarding table of the node with the label `own` among `n` nodes, given its port to each label, in which no number
+/// matches two lines: each other label matches one, with its port, and no number beyond the labels matches any. No table
+/// that does so has fewer lines. The own label may match a line or none. The lines stand in the order of `forwarding`, but
+/// none is needed: where a line is missing, what it holds is dropped.
+///
+/// `BadRow` where `ports` does not have one entry for each of the `n` labels, `own` is no label, the own label has a
+/// port, or another label has none; then `NoMemory`.
+pub fn disjoint(
+    alloc: Global,
+    n: u16,
+    own: u16,
+    ports: &[Option<u16>],
+) -> Result<Vec<Line>, PrefixError>
+    ensures bad_row { (result ≡ Err PrefixError.BadRow) ↔ (IsDestinations n own ports.now → ⊥) }
+    ensures destinations { OnOk result (IsDestinations n own ports.now) }
+    ensures well { IfOk result (λ table. (bits : ℕ) → IsWidth n bits → IsWellFormed bits table.items) }
+    ensures disjoint { IfOk result (λ table. (bits : ℕ) → IsWidth n bits → IsDisjointTable n bits ports.now table.items) }
+    ensures fewest { IfOk result (λ table. (bits : ℕ) → IsWidth n bits → IsFewestDisjoint n bits ports.now (length table.items)) }
+    ensures order { IfOk result (λ table. AreLongestFirst table.items) }
+{
+    if !is_destinations(n, own, ports) {
+        return Err(PrefixError::BadRow);
+    }
+    Ok(disjoint_lines(alloc, n, own, ports)?)
+}
+
 // The lines, where the ports are known to be a list of destinations.
 fn lines(alloc: Global, n: u16, own: u16, ports: &[Option<u16>]) -> Result<Vec<Line>, AllocError>
     requires { IsDestinations n own ports.now }
@@ -56,6 +84,27 @@ fn lines(alloc: Global, n: u16, own: u16, ports: &[Option<u16>]) -> Result<Vec<L
     let row = extended(alloc, n, bits, ports, unreachable)?;
     let set = table(alloc, bits, row.as_slice())?;
     Ok(lines_of(alloc, set.as_slice(), unreachable)?)
+}
+
+// The lines of which no number matches two, where the ports are known to be a list of destinations.
+fn disjoint_lines(
+    alloc: Global,
+    n: u16,
+    own: u16,
+    ports: &[Option<u16>],
+) -> Result<Vec<Line>, AllocError>
+    requires { IsDestinations n own ports.now }
+    ensures well { IfOk result (λ table. (bits : ℕ) → IsWidth n bits → IsWellFormed bits table.items) }
+    ensures disjoint { IfOk result (λ table. (bits : ℕ) → IsWidth n bits → IsDisjointTable n bits ports.now table.items) }
+    ensures fewest { IfOk result (λ table. (bits : ℕ) → IsWidth n bits → IsFewestDisjoint n bits ports.now (length table.items)) }
+    ensures order { IfOk result (λ table. AreLongestFirst table.items) }
+{
+    let bits = width(n);
+    let part = part_of(alloc, ports, bits, 0)?;
+    let mut set = Vec::new(alloc);
+    push_pieces(&part, bits, bits, 0, &mut set)?;
+    sort_longest_first(&mut set)?;
+    Ok(lines_of(alloc, set.as_slice(), unused_port(ports))?)
 }
 
 // A port that the row does not name.
