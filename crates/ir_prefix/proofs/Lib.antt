@@ -12,3 +12,4 @@ pub mod LineLemmas
 pub mod PartLemmas
 pub mod TableLemmas
 pub mod DisjointLemmas
+pub mod PortLemmas

@@ -20,26 +20,33 @@ use Rattle.ir_prefix.proofs.LineLemmas.{no_prefix, line_match, match_line, prefi
 pub port_of_some : (u p : ℕ) → p ≢ u → port_of u p ≡ Some p
 port_of_some u p ne = grind (arith, common_steps, ne)
 
-port_of_same : (u : ℕ) → port_of u u ≡ None
+pub port_of_same : (u : ℕ) → port_of u u ≡ None
 port_of_same u = grind (arith, common_steps)
 
 read_back : (u : ℕ) (o : Option ℕ) → (o ≢ Some u) → port_of u (unwrap_or o u) ≡ o
 read_back u None ne = port_of_same u
 read_back u (Some p) ne = port_of_some u p (λ e. ne (ap (λ (k : ℕ). Some k) e))
 
-extended_label : (n u : ℕ) (ports : List (Option ℕ)) (x : ℕ) → x < n → extended_port n u ports x ≡ port_to ports x
+pub extended_label : (n u : ℕ) (ports : List (Option ℕ)) (x : ℕ) → x < n → extended_port n u ports x ≡ port_to ports x
 extended_label n u ports x lt = grind (arith, common_steps, lt)
 
-extended_beyond : (n u : ℕ) (ports : List (Option ℕ)) (x : ℕ) → n ≤ x → extended_port n u ports x ≡ Some (unwrap_or (port_to ports (n - 1)) u)
+pub extended_beyond : (n u : ℕ) (ports : List (Option ℕ)) (x : ℕ) → n ≤ x → extended_port n u ports x ≡ Some (unwrap_or (port_to ports (n - 1)) u)
 extended_beyond n u ports x le = grind (arith, common_steps, le)
+
+module _ (n u bits : ℕ) (ports row : List (Option ℕ)) (is : row ≡ map (extended_port n u ports) (range_with_len 0 (2 ^ bits))) where
+  pub extended_length : length row ≡ 2 ^ bits
+  extended_length = ap (λ (l : List (Option ℕ)). length l) is ∙ length-map-range_with_len (extended_port n u ports) 0 (2 ^ bits)
+
+  pub extended_at : (x : ℕ) → x < 2 ^ bits → port_to row x ≡ extended_port n u ports x
+  extended_at x lt = let e : 0 + x ≡ x = omega arith in ap (λ (l : List (Option ℕ)). port_to l x) is ∙ get_or-map-range_with_len (extended_port n u ports) 0 (2 ^ bits) x x None lt e
 
 module _ (n own bits u : ℕ) (ports row : List (Option ℕ)) (dest : IsDestinations n own ports) (unused : IsUnused ports u) (enough : n ≤ 2 ^ bits)
     (is : row ≡ map (extended_port n u ports) (range_with_len 0 (2 ^ bits))) where
   pub row_length : length row ≡ 2 ^ bits
-  row_length = ap (λ (l : List (Option ℕ)). length l) is ∙ length-map-range_with_len (extended_port n u ports) 0 (2 ^ bits)
+  row_length = extended_length n u bits ports row is
 
   row_at : (x : ℕ) → x < 2 ^ bits → port_to row x ≡ extended_port n u ports x
-  row_at x lt = let e : 0 + x ≡ x = omega arith in ap (λ (l : List (Option ℕ)). port_to l x) is ∙ get_or-map-range_with_len (extended_port n u ports) 0 (2 ^ bits) x x None lt e
+  row_at = extended_at n u bits ports row is
 
   row_label : (d p : ℕ) → port_to ports d ≡ Some p → port_to row d ≡ Some p
   row_label d p o =

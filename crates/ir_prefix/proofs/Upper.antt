@@ -45,7 +45,7 @@ prefix_is_inside bits h i p l = record {
   value = div-eq_of_eq-mul_left (pow_pos h) refl;
 }
 
-only_one : (m o : Prefix) → Contains (m ∷ []) o → o ≡ m
+pub only_one : (m o : Prefix) → Contains (m ∷ []) o → o ≡ m
 only_one m o (zero, l, e) = sym e
 only_one m o (suc k, l, e) = absurd (omega arith)
 
@@ -136,7 +136,7 @@ half_meets bits h i x p f l some here half other all q false low away cases from
           (from_here own (0, omega arith, refl)),
     )
 
-named_one : (p : ℕ) (q : Option ℕ) → is_named (p ∷ []) q ≡ true → q ≡ Some p
+pub named_one : (p : ℕ) (q : Option ℕ) → is_named (p ∷ []) q ≡ true → q ≡ Some p
 named_one p None e = absurd cc
 named_one p (Some r) e = let c = among_found (p ∷ []) r e in let z : c.0 ≡ 0 = omega (arith, c.1) in ap (λ (k : ℕ). Some k) (sym c.2 ∙ ap (λ k. get_or (p ∷ []) k r) z)
 

@@ -41,6 +41,10 @@ pub record IsWellFormed (bits : ℕ) (table : List Line) : Type 0 where
   pub once : AllPairs (λ (m o : Line). m.length ≡ o.length → m.value ≡ o.value → ⊥) table
   pub bits_past : All (λ (m : Line). m.value % 2 ^ (bits - m.length) ≡ 0) table
 
+-- each port of a line is one of the row
+abbrev pub NamesPorts : List (Option ℕ) → List Line → Type 0
+NamesPorts ports table = All (λ (m : Line). (p : ℕ) → m.port ≡ Some p → (d : ℕ) × (port_to ports d ≡ Some p)) table
+
 -- a longer prefix stands before a shorter one, and of two as long the one with the lesser value
 abbrev pub StandsBefore : Line → Line → Type 0
 StandsBefore m o = (o.length < m.length) ⊎ ((m.length ≡ o.length) × (m.value < o.value))

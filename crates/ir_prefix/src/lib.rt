@@ -3,7 +3,7 @@
 
 ghost use Rattle.std.specs.Prelude.{◌≡◌, ◌↔◌, ◌≤◌, ◌^◌, ℕ, length, IfOk, OnOk};
 ghost use Rattle.ir_model.specs.Compiled.{IsDestinations};
-ghost use Rattle.ir_prefix.specs.Longest.{AreLeast, Forwards, IsFewestPrefixes, IsLongestFirst, IsWidth, LoadsInOrder};
+ghost use Rattle.ir_prefix.specs.Longest.{AreLeast, Forwards, HavePorts, IsFewestPrefixes, IsLongestFirst, IsWidth, LoadsInOrder};
 
 mod cover;
 mod error;
@@ -71,6 +71,7 @@ fn table(alloc: Global, bits: u8, ports: &[Option<u16>]) -> Result<Vec<Prefix>, 
     ensures fits { IfOk result (λ set. Forwards bits ports.now set.items) }
     ensures loads { IfOk result (λ set. LoadsInOrder bits ports.now set.items) }
     ensures values { IfOk result (λ set. AreLeast bits set.items) }
+    ensures ports { IfOk result (λ set. HavePorts ports.now set.items) }
     ensures fewest { IfOk result (λ set. IsFewestPrefixes bits ports.now (length set.items)) }
 {
     let trie = trie_of(alloc, ports, bits, 0)?;

@@ -4,7 +4,7 @@ ghost use Rattle.std.specs.Prelude.{◌≡◌, ◌↔◌, ◌≤◌, ◌^◌, �
 ghost use Rattle.std.specs.List.{range_with_len};
 ghost use Rattle.ir_model.specs.Compiled.{IsDestinations, port_to};
 ghost use Rattle.ir_prefix.specs.Longest.{IsWidth};
-ghost use Rattle.ir_prefix.specs.Forwarding.{AreLongestFirst, IsDisjointTable, IsFewestDisjoint, IsFewestLines, IsForwardingTable, IsWellFormed, KeepsMatches};
+ghost use Rattle.ir_prefix.specs.Forwarding.{AreLongestFirst, IsDisjointTable, IsFewestDisjoint, IsFewestLines, IsForwardingTable, IsWellFormed, KeepsMatches, NamesPorts};
 ghost use Rattle.ir_prefix.specs.Extended.{extended_port, IsUnused};
 
 use crate::error::PrefixError;
@@ -35,6 +35,7 @@ pub fn forwarding(
     ensures well { IfOk result (λ table. (bits : ℕ) → IsWidth n bits → IsWellFormed bits table.items) }
     ensures forwards { IfOk result (λ table. (bits : ℕ) → IsWidth n bits → IsForwardingTable n bits ports.now table.items) }
     ensures fewest { IfOk result (λ table. (bits : ℕ) → IsWidth n bits → IsFewestLines n bits ports.now (length table.items)) }
+    ensures ports { IfOk result (λ table. NamesPorts ports.now table.items) }
     ensures order { IfOk result (λ table. AreLongestFirst table.items) }
     ensures loads { IfOk result (λ table. (bits : ℕ) → KeepsMatches bits table.items) }
 {
@@ -62,6 +63,7 @@ pub fn disjoint(
     ensures well { IfOk result (λ table. (bits : ℕ) → IsWidth n bits → IsWellFormed bits table.items) }
     ensures disjoint { IfOk result (λ table. (bits : ℕ) → IsWidth n bits → IsDisjointTable n bits ports.now table.items) }
     ensures fewest { IfOk result (λ table. (bits : ℕ) → IsWidth n bits → IsFewestDisjoint n bits ports.now (length table.items)) }
+    ensures ports { IfOk result (λ table. NamesPorts ports.now table.items) }
     ensures order { IfOk result (λ table. AreLongestFirst table.items) }
 {
     if !is_destinations(n, own, ports) {
@@ -76,6 +78,7 @@ fn lines(alloc: Global, n: u16, own: u16, ports: &[Option<u16>]) -> Result<Vec<L
     ensures well { IfOk result (λ table. (bits : ℕ) → IsWidth n bits → IsWellFormed bits table.items) }
     ensures forwards { IfOk result (λ table. (bits : ℕ) → IsWidth n bits → IsForwardingTable n bits ports.now table.items) }
     ensures fewest { IfOk result (λ table. (bits : ℕ) → IsWidth n bits → IsFewestLines n bits ports.now (length table.items)) }
+    ensures ports { IfOk result (λ table. NamesPorts ports.now table.items) }
     ensures order { IfOk result (λ table. AreLongestFirst table.items) }
     ensures loads { IfOk result (λ table. (bits : ℕ) → KeepsMatches bits table.items) }
 {
@@ -97,6 +100,7 @@ fn disjoint_lines(
     ensures well { IfOk result (λ table. (bits : ℕ) → IsWidth n bits → IsWellFormed bits table.items) }
     ensures disjoint { IfOk result (λ table. (bits : ℕ) → IsWidth n bits → IsDisjointTable n bits ports.now table.items) }
     ensures fewest { IfOk result (λ table. (bits : ℕ) → IsWidth n bits → IsFewestDisjoint n bits ports.now (length table.items)) }
+    ensures ports { IfOk result (λ table. NamesPorts ports.now table.items) }
     ensures order { IfOk result (λ table. AreLongestFirst table.items) }
 {
     let bits = width(n);

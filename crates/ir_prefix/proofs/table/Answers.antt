@@ -7,6 +7,7 @@ use Rattle.ir_prefix.specs.declared.cover.Prefix.{Prefix}
 use Rattle.ir_prefix.proofs.TrieLemmas.{described_is_trie}
 use Rattle.ir_prefix.proofs.Orders.{cover_distinct}
 use Rattle.ir_prefix.proofs.Final.{sorted_forwards, sorted_is_fewest, sorted_is_least, sorted_loads}
+use Rattle.ir_prefix.proofs.PortLemmas.{sorted_has_ports}
 use Rattle.ir_prefix.proofs.table.Goals as goal
 
 pub trie_of-requires : goal.trie_of-requires
@@ -53,3 +54,10 @@ returns-clause-loads c =
     sorted_loads bits c.args.ports.now c.in_ok-trie.trie _ c.in_ok-trie.ensures
     (subst (λ (xs : List Prefix). IsPermutation xs c.sort_longest_first.new.set.items) e c.sort_longest_first.ensures.permutation)
     c.requires.every c.in_ok-sort_longest_first.ensures.order
+
+pub returns-clause-ports : goal.returns-clause-ports
+returns-clause-ports c =
+    let bits = c.args.bits in
+    let e : c.cover.new.prefixes.items ≡ cover_of bits c.in_ok-trie.trie bits 0 None = grind (arith, common_steps, c.in_ok-cover.ensures, c.new-set.ensures.items) in
+    sorted_has_ports bits c.args.ports.now c.in_ok-trie.trie _ c.in_ok-trie.ensures
+    (subst (λ (xs : List Prefix). IsPermutation xs c.sort_longest_first.new.set.items) e c.sort_longest_first.ensures.permutation)

@@ -3,7 +3,7 @@ use Rattle.std.proofs.lemmas.Grind.{common_steps}
 use Rattle.std.specs.List.Sorted.{IsPermutation}
 use Rattle.ir_prefix.specs.Cover.{AreDistinct}
 use Rattle.ir_prefix.specs.Extended.{line_of}
-use Rattle.ir_prefix.specs.Forwarding.{AreLongestFirst, IsDisjointTable, IsFewestDisjoint, IsWellFormed}
+use Rattle.ir_prefix.specs.Forwarding.{AreLongestFirst, IsDisjointTable, IsFewestDisjoint, IsWellFormed, NamesPorts}
 use Rattle.ir_prefix.specs.Parts.{pieces_of}
 use Rattle.ir_prefix.specs.declared.cover.Prefix.{Prefix}
 use Rattle.ir_prefix.specs.declared.line.Line.{Line}
@@ -11,6 +11,7 @@ use Rattle.ir_prefix.proofs.DisjointLemmas.{pieces_distinct, pieces_disjoint, se
 use Rattle.ir_prefix.proofs.Final.{same_width, width_fits}
 use Rattle.ir_prefix.proofs.PartLemmas.{divides_is_divided}
 use Rattle.ir_prefix.proofs.TableLemmas.{lines_in_order, lines_are_well}
+use Rattle.ir_prefix.proofs.PortLemmas.{pieces_name_ports}
 use Rattle.ir_prefix.proofs.tables.disjoint_lines.Goals as goal
 
 pub part_of-requires : goal.part_of-requires
@@ -72,3 +73,14 @@ returns-clause-order c =
     let u = c.unused_port.result in
     let f = c.in_ok-lines_of.ensures ∙ ap (λ xs. map (line_of u) xs) c.as_slice.ensures.value in
     subst AreLongestFirst (sym f) (lines_in_order u c.sort_longest_first.new.set.items c.in_ok-sort_longest_first.ensures.order)
+
+pub returns-clause-ports : goal.returns-clause-ports
+returns-clause-ports c =
+    let bits = c.width-bits.result in
+    let u = c.unused_port.result in
+    let set = c.sort_longest_first.new.set.items in
+    let t = c.in_ok-part.part in
+    let e : c.push_pieces.new.prefixes.items ≡ pieces_of bits t bits 0 = grind (arith, common_steps, c.in_ok-push_pieces.ensures, c.new-set.ensures.items) in
+    let perm = subst (λ (xs : List Prefix). IsPermutation xs set) e c.sort_longest_first.ensures.permutation in
+    let f = c.in_ok-lines_of.ensures ∙ ap (λ xs. map (line_of u) xs) c.as_slice.ensures.value in
+    subst (λ table. NamesPorts c.args.ports.now table) (sym f) (pieces_name_ports bits u c.args.ports.now t set c.in_ok-part.ensures perm)

@@ -1,9 +1,10 @@
 use Rattle.std.proofs.Common.{map, length, List, ap, sym, ◌∙◌, subst, arith}
 use Rattle.ir_prefix.specs.Extended.{line_of}
-use Rattle.ir_prefix.specs.Forwarding.{AreLongestFirst, IsFewestLines, IsForwardingTable, IsWellFormed, KeepsMatches}
+use Rattle.ir_prefix.specs.Forwarding.{AreLongestFirst, IsFewestLines, IsForwardingTable, IsWellFormed, KeepsMatches, NamesPorts}
 use Rattle.ir_prefix.specs.declared.line.Line.{Line}
 use Rattle.ir_prefix.proofs.Final.{same_width}
 use Rattle.ir_prefix.proofs.TableLemmas.{row_length, lines_forward, lines_are_fewest, lines_in_order, lines_keep_matches, lines_are_well}
+use Rattle.ir_prefix.proofs.PortLemmas.{lines_name_ports}
 use Rattle.ir_prefix.proofs.tables.lines.Goals as goal
 
 pub extended-requires-clause-bits : goal.extended-requires-clause-bits
@@ -57,3 +58,11 @@ returns-clause-loads c = λ b.
     let u = c.unused_port-unreachable.result in
     let e = c.in_ok-lines_of.ensures ∙ ap (λ xs. map (line_of u) xs) c.as_slice-2.ensures.value in
     subst (λ table. KeepsMatches b table) (sym e) (lines_keep_matches u c.in_ok-set.set.items c.in_ok-set.ensures.order b)
+
+pub returns-clause-ports : goal.returns-clause-ports
+returns-clause-ports c =
+    let u = c.unused_port-unreachable.result in
+    let set = c.in_ok-set.set.items in
+    let row = c.as_slice.ensures.value ∙ c.in_ok-row.ensures in
+    let e = c.in_ok-lines_of.ensures ∙ ap (λ xs. map (line_of u) xs) c.as_slice-2.ensures.value in
+    subst (λ table. NamesPorts c.args.ports.now table) (sym e) (lines_name_ports c.args.n c.args.own c.width-bits.result u c.args.ports.now c.as_slice.result.now set c.requires row c.in_ok-set.ensures.ports)
