@@ -26,27 +26,22 @@ forwards_permutation bits ports xs ys perm is = record {
   agrees = λ d p m o longest. is.agrees d p m o (longest_permutation bits d m ys xs (IsPermutation-sym xs ys perm) longest);
 }
 
-same_width : (n a b : ℕ) → IsWidth n a → IsWidth n b → a ≡ b
+pub same_width : (n a b : ℕ) → IsWidth n a → IsWidth n b → a ≡ b
 same_width n a b u v = let x = u.least b v.enough in let y = v.least a u.enough in omega arith
 
-module _ (n a b : ℕ) (ports : List (Option ℕ)) (t : Trie) (set : List Prefix) (every : length ports ≡ n) (u : IsWidth n a) (v : IsWidth n b) (d : Describes ports a 0 t) (perm : IsPermutation (cover_of a t a 0 None) set) where
-  pub sorted_forwards : Forwards b ports set
-  sorted_forwards =
-      let e = u.enough in
-      subst (λ k. Forwards k ports set) (same_width n a b u v) (forwards_permutation a ports (cover_of a t a 0 None) set perm (cover_forwards a ports t (omega arith) d))
+module _ (bits : ℕ) (ports : List (Option ℕ)) (t : Trie) (set : List Prefix) (d : Describes ports bits 0 t) (perm : IsPermutation (cover_of bits t bits 0 None) set) where
+  pub sorted_forwards : length ports ≤ 2 ^ bits → Forwards bits ports set
+  sorted_forwards every = forwards_permutation bits ports (cover_of bits t bits 0 None) set perm (cover_forwards bits ports t every d)
 
-  pub sorted_is_fewest : IsFewestPrefixes b ports (length set)
-  sorted_is_fewest =
-      subst (λ k. IsFewestPrefixes k ports (length set)) (same_width n a b u v)
-      (subst (λ k. IsFewestPrefixes a ports k) (sym (length_permutation (cover_of a t a 0 None) set perm)) (cover_is_fewest a ports t d))
+  pub sorted_is_fewest : IsFewestPrefixes bits ports (length set)
+  sorted_is_fewest = subst (λ k. IsFewestPrefixes bits ports k) (sym (length_permutation (cover_of bits t bits 0 None) set perm)) (cover_is_fewest bits ports t d)
 
-  pub sorted_loads : IsLongestFirst set → LoadsInOrder b ports set
-  sorted_loads order = loads_in_order b ports set sorted_forwards order
+  pub sorted_loads : length ports ≤ 2 ^ bits → IsLongestFirst set → LoadsInOrder bits ports set
+  sorted_loads every order = loads_in_order bits ports set (sorted_forwards every) order
 
-  pub sorted_is_least : AreLeast b set
+  pub sorted_is_least : AreLeast bits set
   sorted_is_least =
-      subst (λ k. AreLeast k set) (same_width n a b u v)
-      (All-permutation (λ (m : Prefix). (x : ℕ) → Holds a m x → m.value ≤ x) (cover_of a t a 0 None) set perm (cover_least a t a 0 None (omega arith)))
+      All-permutation (λ (m : Prefix). (x : ℕ) → Holds bits m x → m.value ≤ x) (cover_of bits t bits 0 None) set perm (cover_least bits t bits 0 None (omega arith))
 
 pub width_fits : (n bits : ℕ) → n < 65536 → IsWidth n bits → 2 ^ bits ≤ 65536
 width_fits n bits l w = let le = w.least 16 (omega arith) in let two : 0 < 2 = omega arith in let p : 2 ^ bits ≤ 2 ^ 16 = pow-le-pow_right two le in omega arith

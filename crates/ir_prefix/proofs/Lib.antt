@@ -8,3 +8,8 @@ pub mod Upper
 pub mod Orders
 pub mod Final
 pub mod Loading
+pub mod LineLemmas
+pub mod PartLemmas
+pub mod TableLemmas
+pub mod DisjointLemmas
+pub mod PortLemmas

@@ -70,7 +70,7 @@ module _ (bits : ℕ) (ports : List (Option ℕ)) (set : List Prefix) (fw : Forw
   pub loads_in_order : LoadsInOrder bits ports set
   loads_in_order = λ count x p m o is. fw.agrees x p m o (still_longest count x p m o is)
 
-node_is_least : (bits h i p : ℕ) → h ≤ bits → (x : ℕ) → Holds bits (prefix_at bits h i p) x → i * 2 ^ h ≤ x
+pub node_is_least : (bits h i p : ℕ) → h ≤ bits → (x : ℕ) → Holds bits (prefix_at bits h i p) x → i * 2 ^ h ≤ x
 node_is_least bits h i p le x holds =
     let s : bits - (bits - h) ≡ h = omega arith in
     let e : x / 2 ^ h ≡ (i * 2 ^ h) / 2 ^ h = subst (λ g. x / 2 ^ g ≡ (i * 2 ^ h) / 2 ^ g) s holds in

@@ -61,7 +61,7 @@ hits_apart false false false d ad bd cd ab ac bc = omega arith
 pub inside_is : (bits h i : ℕ) (m : Prefix) → is_inside bits h i m ≡ true → (height_of bits m ≤ h) × (m.value / 2 ^ h ≡ i)
 inside_is bits h i m e = (grind (arith, common_steps, e), grind (arith, common_steps, e))
 
-node_and_halves : (bits h i : ℕ) → 0 < h → (m : Prefix)
+pub node_and_halves : (bits h i : ℕ) → 0 < h → (m : Prefix)
     → hit (is_at bits h i m) + hit (is_inside bits (h - 1) (2 * i) m) + hit (is_inside bits (h - 1) (2 * i + 1) m) ≤ hit (is_inside bits h i m)
 node_and_halves bits h i some m =
     hits_apart (is_at bits h i m) (is_inside bits (h - 1) (2 * i) m) (is_inside bits (h - 1) (2 * i + 1) m) (is_inside bits h i m)

@@ -25,10 +25,10 @@ hit_cond : (b : Bool) (n : ℕ) → hit b + n ≡ cond b (1 + n) n
 hit_cond true n = refl
 hit_cond false n = omega arith
 
-tally_is_count : {X : Type 0} (p : X → Bool) (xs : List X) → tally p xs ≡ count_by p xs
+pub tally_is_count : {X : Type 0} (p : X → Bool) (xs : List X) → tally p xs ≡ count_by p xs
 tally_is_count p xs = is_count_by (tally p) p refl (λ x ys. hit_cond (p x) (tally p ys)) xs
 
-tally-append : {X : Type 0} (p : X → Bool) (xs ys : List X) → tally p (xs ++ ys) ≡ tally p xs + tally p ys
+pub tally-append : {X : Type 0} (p : X → Bool) (xs ys : List X) → tally p (xs ++ ys) ≡ tally p xs + tally p ys
 tally-append p [] ys = omega arith
 tally-append p (x ∷ xs) ys = let h = tally-append p xs ys in omega arith
 
@@ -36,7 +36,7 @@ hit_true : (b : Bool) → b ≡ true → hit b ≡ 1
 hit_true true e = refl
 hit_true false e = absurd cc
 
-two_at : {X : Type 0} (p : X → Bool) (xs : List X) (i j : ℕ) (d : X) → i < j → j < length xs → p (get_or xs i d) ≡ true → p (get_or xs j d) ≡ true → 2 ≤ tally p xs
+pub two_at : {X : Type 0} (p : X → Bool) (xs : List X) (i j : ℕ) (d : X) → i < j → j < length xs → p (get_or xs i d) ≡ true → p (get_or xs j d) ≡ true → 2 ≤ tally p xs
 two_at p [] i j d l m e f = absurd (omega arith)
 two_at p (x ∷ xs) i zero d l m e f = absurd (omega arith)
 two_at p (x ∷ xs) zero (suc j) d l m e f =
@@ -51,7 +51,7 @@ distinct_permutation xs ys perm distinct l v =
     let e = sum_by-IsPermutation (λ (m : Prefix). cond ((m.length == l) && (m.value == v)) 1 0) xs ys perm in
     omega arith
 
-same_is : (l v : ℕ) (m : Prefix) → is_same l v m ≡ true → (m.length ≡ l) × (m.value ≡ v)
+pub same_is : (l v : ℕ) (m : Prefix) → is_same l v m ≡ true → (m.length ≡ l) × (m.value ≡ v)
 same_is l v m e = (grind (arith, common_steps, e), grind (arith, common_steps, e))
 
 same_from : (l v : ℕ) (m : Prefix) → m.length ≡ l → m.value ≡ v → is_same l v m ≡ true

@@ -45,7 +45,7 @@ prefix_is_inside bits h i p l = record {
   value = div-eq_of_eq-mul_left (pow_pos h) refl;
 }
 
-only_one : (m o : Prefix) → Contains (m ∷ []) o → o ≡ m
+pub only_one : (m o : Prefix) → Contains (m ∷ []) o → o ≡ m
 only_one m o (zero, l, e) = sym e
 only_one m o (suc k, l, e) = absurd (omega arith)
 
@@ -53,10 +53,10 @@ told_inside : (bits h i p : ℕ) (b : Bool) → h ≤ bits → (o : Prefix) → 
 told_inside bits h i p true l o c = absurd (omega (arith, c.1))
 told_inside bits h i p false l o c = subst (IsInside bits h i) (sym (only_one (prefix_at bits h i p) o c)) (prefix_is_inside bits h i p l)
 
-left_is_inside : (bits h i : ℕ) (o : Prefix) → 0 < h → IsInside bits (h - 1) (2 * i) o → IsInside bits h i o
+pub left_is_inside : (bits h i : ℕ) (o : Prefix) → 0 < h → IsInside bits (h - 1) (2 * i) o → IsInside bits h i o
 left_is_inside bits h i o some w = let low = w.low in record { short = w.short; low = omega arith; value = left_inside o.value h i some w.value }
 
-right_is_inside : (bits h i : ℕ) (o : Prefix) → 0 < h → IsInside bits (h - 1) (2 * i + 1) o → IsInside bits h i o
+pub right_is_inside : (bits h i : ℕ) (o : Prefix) → 0 < h → IsInside bits (h - 1) (2 * i + 1) o → IsInside bits h i o
 right_is_inside bits h i o some w = let low = w.low in record { short = w.short; low = omega arith; value = right_inside o.value h i some w.value }
 
 module _ (bits : ℕ) (ports : List (Option ℕ)) where
@@ -77,7 +77,7 @@ module _ (bits : ℕ) (ports : List (Option ℕ)) where
       ]
 
 -- what a prefix inside a node holds is the node's
-inside_holds : (bits h i : ℕ) (o : Prefix) (x : ℕ) → IsInside bits h i o → Holds bits o x → x / 2 ^ h ≡ i
+pub inside_holds : (bits h i : ℕ) (o : Prefix) (x : ℕ) → IsInside bits h i o → Holds bits o x → x / 2 ^ h ≡ i
 inside_holds bits h i o x w holds = agree_higher x o.value (bits - o.length) h w.low holds ∙ w.value
 
 -- a node's prefix, the half that x lies in, and the other half
@@ -136,7 +136,7 @@ half_meets bits h i x p f l some here half other all q false low away cases from
           (from_here own (0, omega arith, refl)),
     )
 
-named_one : (p : ℕ) (q : Option ℕ) → is_named (p ∷ []) q ≡ true → q ≡ Some p
+pub named_one : (p : ℕ) (q : Option ℕ) → is_named (p ∷ []) q ≡ true → q ≡ Some p
 named_one p None e = absurd cc
 named_one p (Some r) e = let c = among_found (p ∷ []) r e in let z : c.0 ≡ 0 = omega (arith, c.1) in ap (λ (k : ℕ). Some k) (sym c.2 ∙ ap (λ k. get_or (p ∷ []) k r) z)
 

@@ -3,3 +3,6 @@ pub mod Joined
 pub mod Described
 pub mod Longest
 pub mod Cover
+pub mod Forwarding
+pub mod Extended
+pub mod Parts

@@ -48,3 +48,7 @@ LoadsInOrder bits ports set = (count : ℕ) → Agrees bits ports (take count se
 -- the value of each prefix is the least number that it holds: its further bits are 0
 abbrev pub AreLeast : ℕ → List Prefix → Type 0
 AreLeast bits set = All (λ (m : Prefix). (x : ℕ) → Holds bits m x → m.value ≤ x) set
+
+-- the port of each prefix is one of the row
+abbrev pub HavePorts : List (Option ℕ) → List Prefix → Type 0
+HavePorts ports set = All (λ (m : Prefix). (d : ℕ) × (port_to ports d ≡ Some m.port)) set

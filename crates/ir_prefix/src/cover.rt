@@ -68,8 +68,8 @@ fn tell(
     Ok(Some(names[0]))
 }
 
-// The prefix of a node.
-fn node_prefix(bits: u8, height: u8, index: u32, port: u16) -> Prefix
+/// The prefix of a node so high, the index-th of its height.
+pub fn node_prefix(bits: u8, height: u8, index: u32, port: u16) -> Prefix
     requires height { height ≤ bits }
     requires inside { (index + 1) * 2 ^ height ≤ 2 ^ 16 }
     ensures { result ≡ prefix_at bits height index port }

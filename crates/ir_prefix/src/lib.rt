@@ -1,14 +1,17 @@
 //! Ports by label compiled to the fewest prefixes whose longest match names them (Draves, King, Venkatachary and Zill 1999).
 #![tactic(auto)]
 
-ghost use Rattle.std.specs.Prelude.{◌≡◌, ◌↔◌, ℕ, length, IfOk, OnOk};
+ghost use Rattle.std.specs.Prelude.{◌≡◌, ◌↔◌, ◌≤◌, ◌^◌, ℕ, length, IfOk, OnOk};
 ghost use Rattle.ir_model.specs.Compiled.{IsDestinations};
-ghost use Rattle.ir_prefix.specs.Longest.{AreLeast, Forwards, IsFewestPrefixes, IsLongestFirst, IsWidth, LoadsInOrder};
+ghost use Rattle.ir_prefix.specs.Longest.{AreLeast, Forwards, HavePorts, IsFewestPrefixes, IsLongestFirst, IsWidth, LoadsInOrder};
 
 mod cover;
 mod error;
+mod line;
 mod names;
 mod order;
+mod parts;
+mod tables;
 mod trie;
 
 use crate::cover::cover;
@@ -17,7 +20,9 @@ use crate::trie::trie_of;
 pub use cover::Prefix;
 pub use error::PrefixError;
 use ir_compile::is_destinations;
+pub use line::Line;
 use std::alloc::{AllocError, Global};
+pub use tables::{disjoint, forwarding};
 
 /// The fewest prefixes for the node with the label `own` among `n` nodes, given its port to each label: the longest of
 /// them that holds a label names its port, and no set of prefixes that does so is smaller. The own label and the numbers
@@ -43,7 +48,7 @@ pub fn prefixes(
     if !is_destinations(n, own, ports) {
         return Err(PrefixError::BadRow);
     }
-    Ok(table(alloc, n, ports)?)
+    Ok(table(alloc, width(n), ports)?)
 }
 
 /// How many bits the labels below `n` have.
@@ -58,16 +63,17 @@ pub fn width(n: u16) -> u8
     16
 }
 
-// The prefixes, where the ports are those of the labels.
-fn table(alloc: Global, n: u16, ports: &[Option<u16>]) -> Result<Vec<Prefix>, AllocError>
-    requires { length ports.now ≡ n }
+// The prefixes of that width, where the ports are those of the first numbers.
+fn table(alloc: Global, bits: u8, ports: &[Option<u16>]) -> Result<Vec<Prefix>, AllocError>
+    requires bits { bits ≤ 16 }
+    requires every { length ports.now ≤ 2 ^ bits }
     ensures order { IfOk result (λ set. IsLongestFirst set.items) }
-    ensures fits { IfOk result (λ set. (bits : ℕ) → IsWidth n bits → Forwards bits ports.now set.items) }
-    ensures loads { IfOk result (λ set. (bits : ℕ) → IsWidth n bits → LoadsInOrder bits ports.now set.items) }
-    ensures values { IfOk result (λ set. (bits : ℕ) → IsWidth n bits → AreLeast bits set.items) }
-    ensures fewest { IfOk result (λ set. (bits : ℕ) → IsWidth n bits → IsFewestPrefixes bits ports.now (length set.items)) }
+    ensures fits { IfOk result (λ set. Forwards bits ports.now set.items) }
+    ensures loads { IfOk result (λ set. LoadsInOrder bits ports.now set.items) }
+    ensures values { IfOk result (λ set. AreLeast bits set.items) }
+    ensures ports { IfOk result (λ set. HavePorts ports.now set.items) }
+    ensures fewest { IfOk result (λ set. IsFewestPrefixes bits ports.now (length set.items)) }
 {
-    let bits = width(n);
     let trie = trie_of(alloc, ports, bits, 0)?;
     let mut set = Vec::new(alloc);
     cover(&trie, bits, bits, 0, None, &mut set)?;

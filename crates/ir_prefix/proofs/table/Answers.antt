@@ -1,53 +1,63 @@
-use Rattle.std.proofs.Common.{◌≡◌, sym, subst, arith, None, List}
+use Rattle.std.proofs.Common.{◌≡◌, ◌^◌, ◌≤◌, ◌<◌, sym, subst, arith, None, List}
+use Rattle.std.proofs.Math.Nat.{pow-le-pow_right}
 use Rattle.std.proofs.lemmas.Grind.{common_steps}
 use Rattle.std.specs.List.Sorted.{IsPermutation}
 use Rattle.ir_prefix.specs.Cover.{cover_of, AreDistinct}
 use Rattle.ir_prefix.specs.declared.cover.Prefix.{Prefix}
 use Rattle.ir_prefix.proofs.TrieLemmas.{described_is_trie}
 use Rattle.ir_prefix.proofs.Orders.{cover_distinct}
-use Rattle.ir_prefix.proofs.Final.{sorted_forwards, sorted_is_fewest, sorted_is_least, sorted_loads, width_fits}
+use Rattle.ir_prefix.proofs.Final.{sorted_forwards, sorted_is_fewest, sorted_is_least, sorted_loads}
+use Rattle.ir_prefix.proofs.PortLemmas.{sorted_has_ports}
 use Rattle.ir_prefix.proofs.table.Goals as goal
 
 pub trie_of-requires : goal.trie_of-requires
-trie_of-requires c = let h = width_fits c.args.n c.width-bits.result (omega arith) c.width-bits.ensures in omega arith
+trie_of-requires c = let two : 0 < 2 = omega arith in let p : 2 ^ c.args.bits ≤ 2 ^ 16 = pow-le-pow_right two c.requires.bits in omega arith
 
 pub cover-requires-clause-trie : goal.cover-requires-clause-trie
 cover-requires-clause-trie c = described_is_trie c.args.ports.now _ 0 _ c.in_ok-trie.ensures
 
 pub cover-requires-clause-inside : goal.cover-requires-clause-inside
-cover-requires-clause-inside c = let h = width_fits c.args.n c.width-bits.result (omega arith) c.width-bits.ensures in omega arith
+cover-requires-clause-inside c = let two : 0 < 2 = omega arith in let p : 2 ^ c.args.bits ≤ 2 ^ 16 = pow-le-pow_right two c.requires.bits in omega arith
 
 pub sort_longest_first-requires : goal.sort_longest_first-requires
 sort_longest_first-requires c =
-    let bits = c.width-bits.result in
+    let bits = c.args.bits in
     let e : c.cover.new.prefixes.items ≡ cover_of bits c.in_ok-trie.trie bits 0 None = grind (arith, common_steps, c.in_ok-cover.ensures, c.new-set.ensures.items) in
     subst AreDistinct (sym e) (cover_distinct bits c.args.ports.now c.in_ok-trie.trie c.in_ok-trie.ensures)
 
 pub returns-clause-fits : goal.returns-clause-fits
-returns-clause-fits c = λ b v.
-    let bits = c.width-bits.result in
+returns-clause-fits c =
+    let bits = c.args.bits in
     let e : c.cover.new.prefixes.items ≡ cover_of bits c.in_ok-trie.trie bits 0 None = grind (arith, common_steps, c.in_ok-cover.ensures, c.new-set.ensures.items) in
-    sorted_forwards c.args.n bits b c.args.ports.now c.in_ok-trie.trie _ c.requires c.width-bits.ensures v c.in_ok-trie.ensures
+    sorted_forwards bits c.args.ports.now c.in_ok-trie.trie _ c.in_ok-trie.ensures
     (subst (λ (xs : List Prefix). IsPermutation xs c.sort_longest_first.new.set.items) e c.sort_longest_first.ensures.permutation)
+    c.requires.every
 
 pub returns-clause-fewest : goal.returns-clause-fewest
-returns-clause-fewest c = λ b v.
-    let bits = c.width-bits.result in
+returns-clause-fewest c =
+    let bits = c.args.bits in
     let e : c.cover.new.prefixes.items ≡ cover_of bits c.in_ok-trie.trie bits 0 None = grind (arith, common_steps, c.in_ok-cover.ensures, c.new-set.ensures.items) in
-    sorted_is_fewest c.args.n bits b c.args.ports.now c.in_ok-trie.trie _ c.requires c.width-bits.ensures v c.in_ok-trie.ensures
+    sorted_is_fewest bits c.args.ports.now c.in_ok-trie.trie _ c.in_ok-trie.ensures
     (subst (λ (xs : List Prefix). IsPermutation xs c.sort_longest_first.new.set.items) e c.sort_longest_first.ensures.permutation)
 
 pub returns-clause-values : goal.returns-clause-values
-returns-clause-values c = λ b v.
-    let bits = c.width-bits.result in
+returns-clause-values c =
+    let bits = c.args.bits in
     let e : c.cover.new.prefixes.items ≡ cover_of bits c.in_ok-trie.trie bits 0 None = grind (arith, common_steps, c.in_ok-cover.ensures, c.new-set.ensures.items) in
-    sorted_is_least c.args.n bits b c.args.ports.now c.in_ok-trie.trie _ c.requires c.width-bits.ensures v c.in_ok-trie.ensures
+    sorted_is_least bits c.args.ports.now c.in_ok-trie.trie _ c.in_ok-trie.ensures
     (subst (λ (xs : List Prefix). IsPermutation xs c.sort_longest_first.new.set.items) e c.sort_longest_first.ensures.permutation)
 
 pub returns-clause-loads : goal.returns-clause-loads
-returns-clause-loads c = λ b v.
-    let bits = c.width-bits.result in
+returns-clause-loads c =
+    let bits = c.args.bits in
     let e : c.cover.new.prefixes.items ≡ cover_of bits c.in_ok-trie.trie bits 0 None = grind (arith, common_steps, c.in_ok-cover.ensures, c.new-set.ensures.items) in
-    sorted_loads c.args.n bits b c.args.ports.now c.in_ok-trie.trie _ c.requires c.width-bits.ensures v c.in_ok-trie.ensures
+    sorted_loads bits c.args.ports.now c.in_ok-trie.trie _ c.in_ok-trie.ensures
     (subst (λ (xs : List Prefix). IsPermutation xs c.sort_longest_first.new.set.items) e c.sort_longest_first.ensures.permutation)
-    c.in_ok-sort_longest_first.ensures.order
+    c.requires.every c.in_ok-sort_longest_first.ensures.order
+
+pub returns-clause-ports : goal.returns-clause-ports
+returns-clause-ports c =
+    let bits = c.args.bits in
+    let e : c.cover.new.prefixes.items ≡ cover_of bits c.in_ok-trie.trie bits 0 None = grind (arith, common_steps, c.in_ok-cover.ensures, c.new-set.ensures.items) in
+    sorted_has_ports bits c.args.ports.now c.in_ok-trie.trie _ c.in_ok-trie.ensures
+    (subst (λ (xs : List Prefix). IsPermutation xs c.sort_longest_first.new.set.items) e c.sort_longest_first.ensures.permutation)
