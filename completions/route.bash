@@ -2,14 +2,16 @@
 
 # The subcommands.
 _bentzolu_subcommands() {
-    echo 'plan walk stats draw sim live check help'
+    echo 'plan walk stats draw prefixes sim live check help'
 }
 
 # The options of a subcommand, or of the program where there is none.
 _bentzolu_options() {
     case ${1-} in
-        plan | stats | check) echo '--format --kind --root --capacity --packets --help' ;;
-        walk | draw) echo '--format --kind --root --capacity --packets --from --to --help' ;;
+        plan | stats) echo '--format --kind --root --capacity --packets --threads --numbering --help' ;;
+        walk | draw) echo '--format --kind --root --capacity --packets --threads --numbering --from --to --help' ;;
+        prefixes) echo '--format --kind --root --capacity --packets --threads --numbering --disjoint --help' ;;
+        check) echo '--format --kind --root --capacity --packets --help' ;;
         sim | live) echo '--format --kind --root --capacity --packets --restamps --help' ;;
         '') echo '--help --version' ;;
     esac
@@ -32,7 +34,7 @@ _bentzolu() {
     COMPREPLY=()
     case $before in
         --format | --kind | --restamps) COMPREPLY=($(compgen -W "$(_bentzolu_values "$before")" -- "$word")) ;;
-        --root | --capacity | --packets | --from | --to) ;;
+        --root | --capacity | --packets | --threads | --from | --to) ;;
         *)
             if [ -z "$subcommand" ] && [[ $word != -* ]] || [ "$subcommand" = help ]; then
                 COMPREPLY=($(compgen -W "$(_bentzolu_subcommands)" -- "$word"))

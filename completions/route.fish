@@ -1,6 +1,6 @@
 # Completions of route for fish. tests/completions holds them to the options of the program.
-set -l subcommands plan walk stats draw sim live check help
-set -l others plan walk stats draw sim live check
+set -l subcommands plan walk stats draw prefixes sim live check help
+set -l others plan walk stats draw prefixes sim live check
 
 complete -c route -n "not __fish_seen_subcommand_from $subcommands" -f
 complete -c route -n "not __fish_seen_subcommand_from $subcommands" -l version -d 'Print the version'
@@ -10,6 +10,7 @@ complete -c route -n "not __fish_seen_subcommand_from $subcommands" -a plan -d '
 complete -c route -n "not __fish_seen_subcommand_from $subcommands" -a walk -d 'Print the walk from one node to another'
 complete -c route -n "not __fish_seen_subcommand_from $subcommands" -a stats -d 'Print the figures of a plan'
 complete -c route -n "not __fish_seen_subcommand_from $subcommands" -a draw -d 'Print a drawing for Graphviz'
+complete -c route -n "not __fish_seen_subcommand_from $subcommands" -a prefixes -d 'Print the fewest prefixes by which each node sends on'
 complete -c route -n "not __fish_seen_subcommand_from $subcommands" -a sim -d 'Play a script, one step after the other'
 complete -c route -n "not __fish_seen_subcommand_from $subcommands" -a live -d 'Play a script with a thread for each node'
 complete -c route -n "not __fish_seen_subcommand_from $subcommands" -a check -d 'Check the rows of a trace'
@@ -21,6 +22,9 @@ complete -c route -n "__fish_seen_subcommand_from $others" -l kind -x -a 'tree s
 complete -c route -n "__fish_seen_subcommand_from $others" -l root -x -d 'The root of the first plan'
 complete -c route -n "__fish_seen_subcommand_from $others" -l capacity -x -d 'The most packets in each channel and inbox'
 complete -c route -n "__fish_seen_subcommand_from $others" -l packets -x -d 'The most packets'
+complete -c route -n '__fish_seen_subcommand_from plan walk stats draw prefixes' -l threads -x -d 'The most threads that make rows'
+complete -c route -n '__fish_seen_subcommand_from plan walk stats draw prefixes' -l numbering -r -d 'How nodes are numbered'
 complete -c route -n '__fish_seen_subcommand_from walk draw' -l from -x -d 'The node that the walk goes from'
 complete -c route -n '__fish_seen_subcommand_from walk draw' -l to -x -d 'The node that it goes to'
+complete -c route -n '__fish_seen_subcommand_from prefixes' -l disjoint -d 'Prefixes of which no two hold one label'
 complete -c route -n '__fish_seen_subcommand_from sim live' -l restamps -x -a '0 1 2 3' -d 'The most restamps of a packet'

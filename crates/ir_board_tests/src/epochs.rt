@@ -563,3 +563,38 @@ fn reads_beside_a_change_never_go_back(rt: HostRuntime) -> Result<(), Fail> {
     assert!(rt; one.version() <= two.version() && last.version() == 1);
     Ok(())
 }
+
+// Whether a reader that learns of nothing reads each of so many changes of the first link's mark.
+fn reads_each<R: Wait + Drop>(
+    writer: &mut BoardWriter<R>,
+    reader: &mut BoardReader,
+    changes: u32,
+) -> bool
+    requires { links_of (published writer.old) ≡ 2 }
+{
+    for k in 0..changes {
+        let up = k % 2 == 1;
+        if mark(writer, 0, up).is_none() {
+            return false;
+        }
+        let board = reader.read();
+        if board.version() != k + 1 || board.is_up(0) != up {
+            return false;
+        }
+    }
+    true
+}
+
+#[test]
+fn each_of_a_thousand_changes_is_read(rt: HostRuntime) -> Result<(), Fail> {
+    let registry = Registry::new(rt.alloc());
+    let Some(stamp) = first(&registry, rt.alloc()) else {
+        return Err("not registered".into());
+    };
+    let Some((mut writer, mut reader)) = opened(&rt, rt.alloc(), &registry, &stamp) else {
+        return Err("not opened".into());
+    };
+    assert!(rt; reads_each(&mut writer, &mut reader, 1_000));
+    assert_eq!(rt; reader.read().version(), 1_000);
+    Ok(())
+}

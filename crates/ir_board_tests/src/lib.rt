@@ -1,5 +1,5 @@
 //! Worked runs by hand and between threads: of channels, of the registry of plans and of the board, and of plans whose rows
-//! are made in threads.
+//! are made in threads or over the numbers of a tour.
 #![tactic(auto)]
 
 #[cfg(test)]
@@ -8,3 +8,5 @@ mod epochs;
 mod links;
 #[cfg(test)]
 mod plans;
+#[cfg(test)]
+mod tour;

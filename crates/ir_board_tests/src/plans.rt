@@ -10,7 +10,7 @@ use std::alloc::Global;
 use std::test::Fail;
 
 /// So many nodes, n0 to the last, of which each is linked to the next one and to the third one behind it.
-fn chain(alloc: Global, nodes: u16) -> Option<Topology> {
+pub fn chain(alloc: Global, nodes: u16) -> Option<Topology> {
     let mut graph = Graph::new(alloc);
     for u in 0..nodes {
         let from = format!(in alloc; "n{u}").ok()?;
@@ -24,8 +24,8 @@ fn chain(alloc: Global, nodes: u16) -> Option<Topology> {
     Topology::of(alloc, &graph).ok()
 }
 
-// Whether the rows of two plans give each address the same port.
-fn agree(plan: &Plan, other: &Plan) -> bool
+/// Whether the rows of two plans give each address the same port.
+pub fn agree(plan: &Plan, other: &Plan) -> bool
     requires { node_count plan.now.network ≡ node_count other.now.network }
 {
     let nodes = plan.nodes() as u16;
@@ -44,14 +44,19 @@ fn agree(plan: &Plan, other: &Plan) -> bool
 
 #[test]
 fn rows_made_in_threads_are_those_made_one_by_one(rt: HostRuntime) -> Result<(), Fail> {
-    for kind in [Kind::Tree, Kind::Shortest, Kind::Compact] {
+    for (kind, most) in [
+        (Kind::Tree, None),
+        (Kind::Shortest, Some(1)),
+        (Kind::Compact, Some(2)),
+        (Kind::Shortest, Some(256)),
+    ] {
         let (Some(first), Some(second)) = (chain(rt.alloc(), 60), chain(rt.alloc(), 60)) else {
             return Err("no topology".into());
         };
         let Ok(plan) = Plan::build(rt.alloc(), first, kind, 5) else {
             return Err("no plan".into());
         };
-        let Ok(other) = Plan::build_in_threads(&rt, rt.alloc(), second, kind, 5) else {
+        let Ok(other) = Plan::build_in_threads(&rt, rt.alloc(), second, kind, 5, most) else {
             return Err("no plan in threads".into());
         };
         if plan.nodes() != other.nodes() {
@@ -69,7 +74,7 @@ fn refusals_in_threads_are_those_of_build(rt: HostRuntime) -> Result<(), Fail> {
         return Err("no topology".into());
     };
     let nodes = topology.nodes() as u16;
-    match Plan::build_in_threads(&rt, rt.alloc(), topology, Kind::Shortest, nodes) {
+    match Plan::build_in_threads(&rt, rt.alloc(), topology, Kind::Shortest, nodes, None) {
         Err((PlanError::NoNode, back)) => assert_eq!(rt; back.nodes(), nodes as usize),
         _ => return Err("not refused as NoNode".into()),
     }

@@ -17,7 +17,7 @@ use crate::injector::Injector;
 use crate::parts::{all_ends, ins_of, outs_of};
 use crate::peers::peers_of;
 use ir_core::{BuildError, MAX_PACKETS, MAX_RESTAMPS, is_small, plan_over};
-use ir_epochs::{BoardReader, BoardWriter, RegisterError, Registry, Stamp, board};
+use ir_epochs::{BoardError, BoardReader, BoardWriter, RegisterError, Registry, Stamp, board};
 use ir_links::{Channel, Sender, Taker};
 use ir_model::Kind;
 use ir_tables::Topology;
@@ -122,7 +122,7 @@ impl Net {
     /// holds `capacity` packets, from 1 to 1,024; there may be `max_packets` packets, from 1 to 4,096, each with
     /// `restamps` restamps, from 0 to 3.
     ///
-    /// Refused are, in this order: no node (`Empty`), a root that is no node, more than 256 nodes or 1,024 links or another
+    /// Refused are, in this order: no node (`Empty`), a root that is no node, more than 1,024 nodes or 8,192 links or another
     /// number out of its range (`TooLarge`), some node without a walk to some node, want of memory. `Used` would say
     /// that a fresh cell of the registry refused its plan.
     pub fn new(
@@ -347,8 +347,8 @@ impl Net {
 
     /// The parts of the net, once, and then `None`; after an error `None` too.
     ///
-    /// An error means that there was no memory, or no place for a reader of the board.
-    pub fn parts<R: Wait + Drop>(&self, rt: R) -> Result<Option<Parts<R>>, AllocError>
+    /// An error is that of the board, which has no place for a reader of each node (`TooManyReaders`), or want of memory.
+    pub fn parts<R: Wait + Drop>(&self, rt: R) -> Result<Option<Parts<R>>, BoardError>
         ensures { IfOk result (λ given. IfSome given (λ parts. AreFreshParts self.now parts.nodes.items parts.injector parts.controller)) }
     {
         if self.spent.swap(true, Ordering::SeqCst) {
@@ -356,9 +356,27 @@ impl Net {
         }
         let nodes = self.topology.nodes();
         let links = self.topology.links() as u16;
-        let Ok((writer, readers)) = board(rt, self.alloc, &self.opening, links, nodes as u16) else {
-            return Err(AllocError);
+        let (writer, readers) = match board(rt, self.alloc, &self.opening, links, nodes as u16) {
+            Ok(both) => both,
+            Err(error) => return Err(error),
         };
+        match self.parts_over(writer, readers) {
+            Ok(parts) => Ok(parts),
+            Err(_) => Err(BoardError::NoMemory),
+        }
+    }
+
+    // The parts over a board that was just opened, with a reader of it for each node.
+    fn parts_over<R: Wait + Drop>(
+        &self,
+        writer: BoardWriter<R>,
+        readers: Vec<BoardReader>,
+    ) -> Result<Option<Parts<R>>, AllocError>
+        requires opening { published writer ≡ Opened (length self.now.topology.links) self.now.opening ∷ [] }
+        requires readers { All (λ x. (known x ≡ published writer) × (reader_board x ≡ writer_board writer)) readers.items }
+        ensures { IfOk result (λ given. IfSome given (λ parts. AreFreshParts self.now parts.nodes.items parts.injector parts.controller)) }
+    {
+        let nodes = self.topology.nodes();
         let Some((mut entries, inboxes)) = all_ends(self.alloc, &self.inboxes)? else {
             return Ok(None);
         };

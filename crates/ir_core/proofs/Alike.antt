@@ -7,7 +7,7 @@ use Rattle.ir_model.specs.declared.Hop.{Hop}
 use Rattle.ir_model.specs.declared.Kind.{Kind}
 use Rattle.ir_model.specs.Network.{Network, ports_of, restrict}
 use Rattle.ir_model.specs.Walk.{IsConnected, IsDisconnected}
-use Rattle.ir_model.specs.Scheme.{Scheme, IsScheme}
+use Rattle.ir_model.specs.Scheme.{Scheme, IsScheme, HasDepthFirst}
 use Rattle.ir_core.specs.declared.TheConstants.{MAX_CHANGES, MAX_EPOCHS}
 use Rattle.ir_core.specs.declared.board.Board.{Board}
 use Rattle.ir_core.specs.Board.{is_up, marked, retired_below, installed}
@@ -33,9 +33,9 @@ use Rattle.ir_core.specs.Run.{IsStepAnswered, IsRun}
 use Rattle.ir_core.specs.Drain.{after_read, after_act, after_take, after_way, after_ports, after_visit, after_visits, after_rounds}
 use Rattle.ir_core.specs.Installed.{IsControlled, IsControlRun, AreBuiltFrom, IsChange, NoneWantsMemory, AreEpochsOf}
 
--- two schemes of one kind, root and network
+-- two schemes of one kind, root and network, the first with depth-first labels
 abbrev IsTwin : Scheme → Scheme → Type 0
-IsTwin s t = (s.kind ≡ t.kind) × (s.root ≡ t.root) × (s.network ≡ t.network) × IsScheme s
+IsTwin s t = (s.kind ≡ t.kind) × (s.root ≡ t.root) × (s.network ≡ t.network) × IsScheme s × HasDepthFirst s
 
 abbrev AreTwins : List Scheme → List Scheme → Type 0
 AreTwins [] [] = Unit {0}
@@ -73,7 +73,7 @@ twins_built o p same (i ∷ installs) (s ∷ ss) (t ∷ ts) h built =
     let made = built.0.1 in (
       (
         built.0.0 ∙ ap (λ (net : Network). length net.links) (sym same),
-        (twin.0 ∙ made.0, twin.1 ∙ made.1, twin.2 ∙ made.2 ∙ ap (λ (net : Network). restrict i.up.items net) (sym same), twin.3),
+        (twin.0 ∙ made.0, twin.1 ∙ made.1, twin.2 ∙ made.2 ∙ ap (λ (net : Network). restrict i.up.items net) (sym same), twin.3, twin.4),
       ),
       twins_built o p same installs ss ts h.1 built.1,
     )
@@ -282,7 +282,7 @@ module _ (o p : Setting) (over : o.network ≡ p.network) where
       record {
         boards = ap (λ (boards : List Board). boards ++ installed (newest_of (history.boards log)) (length (history.plans o log) + 1) ∷ []) is.boards ∙ ap (λ (b : Board). history.boards other ++ b ∷ []) board;
         plans = twins-push (history.plans o log) (history.plans p other) t u is.plans
-            (made.0 ∙ sym given.0, made.1 ∙ sym given.1, made.2 ∙ up_same log other is ∙ sym given.2, made.3);
+            (made.0 ∙ sym given.0, made.1 ∙ sym given.1, made.2 ∙ up_same log other is ∙ sym given.2, made.3, made.4);
       }
 
   install_alike : (log other : List Entry) → AreAlike o p log other → (kind : Kind) (root : ℕ) (w v : Result Entry Refused) (x y : Option Refused) → x ≡ y →
@@ -352,7 +352,7 @@ opened_alike : (net : Network) (kind : Kind) (root room most limit : ℕ) (o p :
 opened_alike net kind root room most limit o p a b =
     let made = a.first in
     let given = b.first in
-    record { boards = refl; plans = ((made.0 ∙ sym given.0, made.1 ∙ sym given.1, made.2 ∙ sym given.2, made.3), tt) }
+    record { boards = refl; plans = ((made.0 ∙ sym given.0, made.1 ∙ sym given.1, made.2 ∙ sym given.2, made.3, made.4), tt) }
 
 -- the epochs of a run are built from the installs of its steps
 pub epochs_built : (net : Network) (kind : Kind) (root room most limit : ℕ) (steps : List Step) (replies : List (Result Reply Refused)) (world : State) (installs : List Install) →

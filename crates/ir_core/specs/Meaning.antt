@@ -4,7 +4,7 @@ use Rattle.ir_model.specs.declared.Hop.{Hop}
 use Rattle.ir_model.specs.declared.Kind.{Kind}
 use Rattle.ir_model.specs.Network.{Network, restrict}
 use Rattle.ir_model.specs.Walk.{IsDisconnected}
-use Rattle.ir_model.specs.Scheme.{Scheme, IsScheme}
+use Rattle.ir_model.specs.Scheme.{Scheme, IsScheme, HasDepthFirst}
 use Rattle.ir_core.specs.declared.TheConstants.{MAX_EPOCHS, MAX_CHANGES}
 use Rattle.ir_core.specs.declared.event.Way.{Way}
 use Rattle.ir_core.specs.declared.event.Way.TheVariants.{Inbox, Link}
@@ -142,10 +142,10 @@ marks o s l up =
 abbrev pub network_up : Setting → Sight → Network
 network_up o s = restrict (take (links_of o) (newest s).up) o.network
 
--- a scheme of this kind and root over the network, or none where the network is disconnected
+-- a scheme of this kind and root over the network, with depth-first labels, or none where the network is disconnected
 abbrev pub IsMade : Kind → ℕ → Network → Option Scheme → Type 0
 IsMade kind root net None = IsDisconnected net
-IsMade kind root net (Some s) = (s.kind ≡ kind) × (s.root ≡ root) × (s.network ≡ net) × IsScheme s
+IsMade kind root net (Some s) = (s.kind ≡ kind) × (s.root ≡ root) × (s.network ≡ net) × IsScheme s × HasDepthFirst s
 
 -- the entry of an install, once the scheme is made
 abbrev pub installs_made : Sight → Option Scheme → Result Entry Refused

@@ -29,10 +29,10 @@ pub use verdict::{decide, judge};
 pub use world::World;
 
 /// The most nodes of a network.
-pub const MAX_NODES: usize = 256;
+pub const MAX_NODES: usize = 1_024;
 
 /// The most links of a network.
-pub const MAX_LINKS: usize = 1_024;
+pub const MAX_LINKS: usize = 8_192;
 
 /// The most restamps of a packet that a network may allow.
 pub const MAX_RESTAMPS: usize = 3;

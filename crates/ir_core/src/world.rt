@@ -65,7 +65,7 @@ impl World {
     /// The world of the empty history. Epoch 1 has a plan of this kind and root over all links of the topology. Each
     /// channel and inbox holds `capacity` packets, from 1 to 1,024, there may be `max_packets` packets, from 1 to 4,096,
     /// and each may have `restamps` restamps, at most 3. Refused are, in this order: no node (`Empty`), a root that is no
-    /// node, more than 256 nodes or 1,024 links or another number out of its range (`TooLarge`), some node without a walk
+    /// node, more than 1,024 nodes or 8,192 links or another number out of its range (`TooLarge`), some node without a walk
     /// to some node, want of memory.
     pub fn new(
         alloc: Global,

@@ -41,7 +41,9 @@ use Rattle.ir_live.specs.declared.working.NotRun.TheVariants as not_run
 use Rattle.ir_live.specs.declared.working.Run.{Run}
 use Rattle.ir_live.specs.Answers.{accepted_from}
 use Rattle.ir_live.specs.Lives.{AreSameNodes, IsLive, IsRefusal}
-use Rattle.ir_live.specs.Runs.{IsRun, IsStopped, live_error}
+use Rattle.ir_epochs.specs.declared.error.BoardError.{BoardError}
+use Rattle.ir_epochs.specs.declared.error.BoardError.TheVariants as board
+use Rattle.ir_live.specs.Runs.{IsRun, IsStopped, live_error, parts_error}
 use Rattle.ir_live.proofs.Accepting.{same_injector, injector_kept, accepted_are}
 use Rattle.ir_live.proofs.Handed.{first_back, same_back, all_there}
 
@@ -55,6 +57,13 @@ refused {S} unstarted net s n nodes why error first is stopped = subst (λ (e : 
   by_case : (why : NotRun) → IsStopped unstarted s nodes why → IsRefusal unstarted net s (live_error why)
   by_case not_run.NoThread h = (h.1.index, (first.each h.0 h.1 h.2).0.index_in, h.3)
   by_case not_run.NoMemory h = tt
+
+pub parts_refused : {S : Type 0} (unstarted : S → ℕ → Type 0) (net : Net) (s : S) (why : BoardError) (error : LiveError) →
+    error ≡ parts_error why → IsRefusal unstarted net s error
+parts_refused {S} unstarted net s why error is = subst (λ (e : LiveError). IsRefusal unstarted net s e) (sym is) (by_case why) where
+  by_case : (why : BoardError) → IsRefusal unstarted net s (parts_error why)
+  by_case board.TooManyReaders = tt
+  by_case board.NoMemory = tt
 
 module _ (was_full : Word SeenParcel) {B : Type 0} (net : Net) (nodes : List Node) (opened : Desk B) (commands : List Command) (run : Run B)
     (fresh : AreFreshParts net nodes opened.injector opened.controller) (done : IsRun was_full net.opening nodes opened commands run) where

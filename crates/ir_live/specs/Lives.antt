@@ -15,7 +15,7 @@ use Rattle.ir_live.specs.declared.command.Command.{Command}
 use Rattle.ir_live.specs.declared.desk.Desk.{Desk}
 use Rattle.ir_live.specs.declared.live.Live.{Live}
 use Rattle.ir_live.specs.declared.live.LiveError.{LiveError}
-use Rattle.ir_live.specs.declared.live.LiveError.TheVariants.{Spent, NoThread, NoMemory}
+use Rattle.ir_live.specs.declared.live.LiveError.TheVariants.{Spent, NoThread, NoMemory, TooManyReaders}
 use Rattle.ir_live.specs.Answers.{Answer, refusals_from, accepted_from}
 use Rattle.ir_live.specs.Planned.{Planned, planned, stamps_in, IsPlanIn, AreAsked}
 use Rattle.ir_live.specs.Carried.{AreCarriedOut}
@@ -56,3 +56,4 @@ abbrev pub IsRefusal : {S : Type 0} → (S → ℕ → Type 0) → Net → S →
 IsRefusal unstarted net s Spent = Unit {0}
 IsRefusal unstarted net s NoThread = (u : ℕ) × (u < node_count net.topology) × unstarted s u
 IsRefusal unstarted net s NoMemory = Unit {0}
+IsRefusal unstarted net s TooManyReaders = Unit {0}

@@ -10,6 +10,8 @@ use Rattle.ir_live.specs.declared.command.Command.{Command}
 use Rattle.ir_live.specs.declared.desk.Desk.{Desk}
 use Rattle.ir_live.specs.declared.live.LiveError.{LiveError}
 use Rattle.ir_live.specs.declared.live.LiveError.TheVariants as live
+use Rattle.ir_epochs.specs.declared.error.BoardError.{BoardError}
+use Rattle.ir_epochs.specs.declared.error.BoardError.TheVariants as boards
 use Rattle.ir_live.specs.declared.working.NotRun.{NotRun}
 use Rattle.ir_live.specs.declared.working.NotRun.TheVariants.{NoThread, NoMemory}
 use Rattle.ir_live.specs.declared.working.Run.{Run}
@@ -40,3 +42,8 @@ IsStopped unstarted s nodes NoMemory = Unit {0}
 abbrev pub live_error : NotRun → LiveError
 live_error NoThread = live.NoThread
 live_error NoMemory = live.NoMemory
+
+-- and for why there are no parts of a net
+abbrev pub parts_error : BoardError → LiveError
+parts_error boards.TooManyReaders = live.TooManyReaders
+parts_error boards.NoMemory = live.NoMemory

@@ -42,3 +42,4 @@ abbrev pub live_code : LiveError → ℕ
 live_code live.Spent = 1
 live_code live.NoThread = 2
 live_code live.NoMemory = 3
+live_code live.TooManyReaders = 4

@@ -24,10 +24,13 @@ pub enum LiveError {
     /// A growth was refused, in a worker too. A command's stands among the refusals.
     #[error("out of memory")]
     NoMemory,
+    /// The board has no place for a reader of each node.
+    #[error("no place is left for a reader of the board")]
+    TooManyReaders,
 }
 
 impl LiveError {
-    /// Its number: 1 Spent, 2 NoThread, 3 NoMemory.
+    /// Its number: 1 Spent, 2 NoThread, 3 NoMemory, 4 TooManyReaders.
     pub fn code(self) -> u8
         ensures { result ≡ live_code self }
     {
@@ -35,6 +38,7 @@ impl LiveError {
             LiveError::Spent => 1,
             LiveError::NoThread => 2,
             LiveError::NoMemory => 3,
+            LiveError::TooManyReaders => 4,
         }
     }
 }

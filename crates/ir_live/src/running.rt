@@ -8,7 +8,7 @@ ghost use mathlib.Core.List.{IsPrefix};
 ghost use Rattle.ir_epochs.specs.Handles.{known, published, reader_board, writer_board};
 ghost use Rattle.ir_live.specs.Agreed.{AreOfOne, Agrees};
 ghost use Rattle.ir_live.specs.Lives.{IsLive, IsRefusal};
-ghost use Rattle.ir_live.specs.Runs.{live_error};
+ghost use Rattle.ir_live.specs.Runs.{live_error, parts_error};
 
 use crate::agreeing::{agree_all, agree_rows, lead_all};
 use crate::command::Command;
@@ -17,6 +17,7 @@ use crate::live::{Live, LiveError};
 use crate::starter::Starter;
 use crate::working::{NotRun, Run, run_nodes};
 use ir_control::{FinishError, Net, Parts, finish};
+use ir_epochs::BoardError;
 use ir_links::Moments;
 use ir_worker::{Gate, NoMemory, Node, Parcel};
 use std::alloc::{AllocError, Global};
@@ -30,6 +31,16 @@ fn stopped(why: NotRun) -> LiveError
     match why {
         NotRun::NoThread => LiveError::NoThread,
         NotRun::NoMemory => LiveError::NoMemory,
+    }
+}
+
+// Why there are no parts of a net.
+fn no_parts(error: BoardError) -> LiveError
+    ensures { result ≡ parts_error error }
+{
+    match error {
+        BoardError::TooManyReaders => LiveError::TooManyReaders,
+        BoardError::NoMemory => LiveError::NoMemory,
     }
 }
 
@@ -102,8 +113,9 @@ fn reported<R: Wait, B: Wait + Drop>(
 ///
 /// A packet is refused for a full inbox only where the push of its inject was refused.
 ///
-/// Refused are: a net whose parts were handed out before (`Spent`), a thread that was not started (`NoThread`), and want
-/// of memory, a node's too. After any answer the net is spent.
+/// Refused are: a net whose parts were handed out before (`Spent`), a board without a place for a reader of each node
+/// (`TooManyReaders`), a thread that was not started (`NoThread`), and want of memory, a node's too. After any answer the
+/// net is spent.
 pub fn run_live<R: Threads + Moments<Parcel> + Sync, G: Gate, S: Starter>(
     rt: &R,
     alloc: Global,
@@ -115,8 +127,9 @@ pub fn run_live<R: Threads + Moments<Parcel> + Sync, G: Gate, S: Starter>(
     ensures live { IfOk result (λ live. IsLive (Bor R) R.was_full net.now commands.now live) }
     ensures refused { IfErr result (λ error. IsRefusal S.unstarted net.now starter.now error) }
 {
-    let Ok(given) = net.parts(rt) else {
-        return Err(LiveError::NoMemory);
+    let given = match net.parts(rt) {
+        Ok(given) => given,
+        Err(error) => return Err(no_parts(error)),
     };
     let Some(parts) = given else {
         return Err(LiveError::Spent);

@@ -25,8 +25,8 @@ fn path(alloc: Global) -> Option<Net> {
     opened(alloc, &[("a", "b"), ("b", "c")], 1)
 }
 
-// Each node may go on.
-struct Open;
+/// Each node may go on.
+pub(crate) struct Open;
 
 impl Gate for Open {
     fn pass(&self, _node: u16, _turn: u64) -> bool {

@@ -126,7 +126,7 @@ pub(crate) fn over_ring(alloc: Global, nodes: u16) -> Result<Net, Option<NetErro
 
 #[test]
 fn a_ring_that_is_too_large(rt: HostRuntime) -> Result<(), Fail> {
-    let Err(error) = over_ring(rt.alloc(), 257) else {
+    let Err(error) = over_ring(rt.alloc(), 1_025) else {
         return Err("opened".into());
     };
     assert_eq!(rt; error, Some(NetError::TooLarge));

@@ -1,7 +1,6 @@
 -- A plan has one text of each kind.
-use Rattle.std.proofs.Common.{◌≡◌, ◌≢◌, ℕ, zero, suc, ◌+◌, ◌<◌, ◌==◌, List, ◌++◌, Option, Some, None, refl, sym, ap, ◌∙◌, subst, ⊎_elim, ◌⊎◌, arith, sum_by}
+use Rattle.std.proofs.Common.{◌≡◌, ◌≢◌, ℕ, ◌<◌, ◌==◌, List, ◌++◌, Option, Some, None, refl, sym, ap, ◌∙◌, ⊎_elim, ◌⊎◌, arith}
 use Rattle.std.specs.Prelude.{if◌then◌else◌}
-use Rattle.std.specs.List.{range_with_len}
 use Rattle.std.proofs.lemmas.Bool.{cases_eq}
 use Rattle.ir_model.specs.Graph.{Name}
 use Rattle.ir_model.specs.Network.{node_count}
@@ -12,7 +11,7 @@ use Rattle.ir_look.specs.declared.worst.Pair.{Pair}
 use Rattle.ir_look.specs.WalkText.{IsWalkOf, walk_text}
 use Rattle.ir_look.specs.Drawing.{drawing, IsBold, IsDrawingOf}
 use Rattle.ir_look.specs.StatsText.{AreWalkWeights, AreDistances, sum_from, sum_of_pairs, IsGreatestRow, IsEarlier, IsWorst, IsWorstOf, worst_line, rows_text, weights_text, IsStatsOf}
-use Rattle.ir_look.proofs.StatsSums.{sum_more}
+use Rattle.ir_look.proofs.StatsSums.{same_sums}
 
 pub one_walk_text : (nodes : List Name) (s : Scheme) (a b : ℕ) (text other : List ℕ) → IsWalkOf nodes s a b text → IsWalkOf nodes s a b other → text ≡ other
 one_walk_text nodes s a b text other x y =
@@ -39,15 +38,6 @@ same_walks s f g x y = λ u d hu hd.
 
 same_distances : (s : Scheme) (f g : ℕ → ℕ → ℕ) → AreDistances s f → AreDistances s g → Agree (node_count s.network) f g
 same_distances s f g x y = λ u d hu hd. distance_unique s.network u d (f u d) (g u d) (x u d hu hd) (y u d hu hd)
-
--- sums of what agrees on the numbers below
-same_sums : (f g : ℕ → ℕ) (n : ℕ) → ((k : ℕ) → k < n → f k ≡ g k) → sum_by f (range_with_len 0 n) ≡ sum_by g (range_with_len 0 n)
-same_sums f g zero same = refl
-same_sums f g (suc n) same =
-    let one : suc n ≡ n + 1 = omega arith in
-    let P : ℕ → Type 0 = λ k. sum_by f (range_with_len 0 k) ≡ sum_by g (range_with_len 0 k) in
-    let below = same_sums f g n (λ k h. same k (omega arith)) in
-    subst P (sym one) (omega (arith, sum_more f n, sum_more g n, below, same n (omega arith)))
 
 same_pair_sums : (n : ℕ) (f g : ℕ → ℕ → ℕ) → Agree n f g → sum_of_pairs n f ≡ sum_of_pairs n g
 same_pair_sums n f g same =

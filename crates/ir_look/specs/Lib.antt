@@ -5,3 +5,4 @@ pub mod StatsText
 pub mod Quoted
 pub mod Drawing
 pub mod Before
+pub mod Figures

@@ -1,7 +1,9 @@
 //! The texts that show a plan: its rows, a walk of it, its figures, and a drawing.
 #![tactic(auto)]
 
+mod distances;
 mod draw;
+mod figures;
 mod laws;
 pub mod plan_text;
 mod stats;

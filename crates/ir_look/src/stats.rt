@@ -2,17 +2,15 @@
 ghost use Rattle.std.specs.Prelude.{◌≡◌, ◌<◌, ◌≤◌, ◌++◌, IfOk, IfSome, OnOk, length, string_bytes};
 ghost use Rattle.ir_model.specs.Graph.{names};
 ghost use Rattle.ir_model.specs.Network.{node_count};
-ghost use Rattle.ir_model.specs.Table.{table_size, weight_in};
-ghost use Rattle.ir_look.specs.StatsText.{IsGreatestRow, IsWorstOf, AreWalkWeights, AreDistances, head_words, count_line, node_line, greatest_line, worst_line, rows_text, weights_text, IsStatsOf};
-ghost use Rattle.ir_look.specs.Before.{ArePositive};
+ghost use Rattle.ir_look.specs.StatsText.{IsGreatestRow, head_words, count_line, node_line, greatest_line, rows_text, IsStatsOf};
+ghost use Rattle.ir_look.specs.Figures.{weighed_line, figures_text};
 ghost use Rattle.ir_look.specs.Words.{line_text};
 
+use crate::figures::{Figures, figures_of};
 use crate::plan_text::kind_text;
-use crate::weights::{distances, sum_of_pairs, walk_weights};
-use crate::worst::{Pair, worst};
+use crate::worst::Weighed;
 use ir_graph::Graph;
 use ir_plan::Plan;
-use ir_tables::Table;
 use ir_trace::text::{push_name, push_next_number, push_word};
 use std::alloc::{AllocError, Global};
 
@@ -80,26 +78,18 @@ fn push_greatest(text: &mut String, graph: &Graph, plan: &Plan, u: u16) -> Resul
 }
 
 /// Writes the line of the worst pair, if there is one.
-fn push_worst(
-    text: &mut String,
-    graph: &Graph,
-    walks: &Table,
-    distances: &Table,
-    worst: Option<Pair>,
-) -> Result<(), AllocError>
-    requires walks { table_size walks.now ≡ length graph.now }
-    requires distances { table_size distances.now ≡ length graph.now }
-    requires worst { IfSome worst (λ p. (p.from < length graph.now) × (p.to < length graph.now)) }
-    ensures { OnOk result (string_bytes text.new ≡ string_bytes text.old ++ worst_line (names graph.now) (weight_in walks.now) (weight_in distances.now) worst) }
+fn push_worst(text: &mut String, graph: &Graph, worst: Option<Weighed>) -> Result<(), AllocError>
+    requires { IfSome worst (λ p. (p.ends.from < length graph.now) × (p.ends.to < length graph.now)) }
+    ensures { OnOk result (string_bytes text.new ≡ string_bytes text.old ++ weighed_line (names graph.now) worst) }
 {
     let Some(pair) = worst else {
         return Ok(());
     };
     text.push_str("worst")?;
-    push_name(text, graph, pair.from)?;
-    push_name(text, graph, pair.to)?;
-    push_next_number(text, walks.distance(pair.from, pair.to) as usize)?;
-    push_next_number(text, distances.distance(pair.from, pair.to) as usize)?;
+    push_name(text, graph, pair.ends.from)?;
+    push_name(text, graph, pair.ends.to)?;
+    push_next_number(text, pair.walk as usize)?;
+    push_next_number(text, pair.distance as usize)?;
     text.push_str("\n")?;
     Ok(())
 }
@@ -119,25 +109,14 @@ fn push_rows(text: &mut String, graph: &Graph, plan: &Plan, greatest: u16) -> Re
     Ok(())
 }
 
-/// Writes the lines that weigh the walks of a plan of so many nodes, of which one is for the worst pair.
-fn push_weights(
-    text: &mut String,
-    graph: &Graph,
-    nodes: usize,
-    walks: &Table,
-    distances: &Table,
-    worst: Option<Pair>,
-) -> Result<(), AllocError>
-    requires few { nodes ≤ 16384 }
-    requires nodes { nodes ≡ length graph.now }
-    requires walks { table_size walks.now ≡ nodes }
-    requires distances { table_size distances.now ≡ nodes }
-    requires worst { IfSome worst (λ p. (p.from < nodes) × (p.to < nodes)) }
-    ensures { OnOk result (string_bytes text.new ≡ string_bytes text.old ++ weights_text (names graph.now) nodes (weight_in walks.now) (weight_in distances.now) worst) }
+/// Writes the lines that weigh the walks of a plan.
+fn push_weights(text: &mut String, graph: &Graph, figures: &Figures) -> Result<(), AllocError>
+    requires { IfSome figures.now.worst (λ p. (p.ends.from < length graph.now) × (p.ends.to < length graph.now)) }
+    ensures { OnOk result (string_bytes text.new ≡ string_bytes text.old ++ figures_text (names graph.now) figures.now) }
 {
-    push_count(text, "walks", sum_of_pairs(nodes, walks) as usize)?;
-    push_count(text, "distances", sum_of_pairs(nodes, distances) as usize)?;
-    push_worst(text, graph, walks, distances, worst)?;
+    push_count(text, "walks", figures.walks as usize)?;
+    push_count(text, "distances", figures.distances as usize)?;
+    push_worst(text, graph, figures.worst)?;
     Ok(())
 }
 
@@ -146,13 +125,11 @@ pub fn stats_text(alloc: Global, graph: &Graph, plan: &Plan) -> Result<String, A
     requires { node_count plan.now.network ≡ length graph.now }
     ensures { IfOk result (λ text. IsStatsOf (names graph.now) plan.now (string_bytes text)) }
 {
-    let nodes = plan.nodes();
-    let walks = walk_weights(alloc, plan)?;
-    let distances = distances(alloc, plan)?;
+    let _nodes = plan.nodes();
+    let figures = figures_of(alloc, plan)?;
     let greatest = greatest_row(plan);
-    let worst = worst(nodes, &walks, &distances);
     let mut text = String::new(alloc);
     push_rows(&mut text, graph, plan, greatest)?;
-    push_weights(&mut text, graph, nodes, &walks, &distances, worst)?;
+    push_weights(&mut text, graph, &figures)?;
     Ok(text)
 }

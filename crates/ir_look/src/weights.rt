@@ -1,86 +1,96 @@
-//! The weights of a plan's walks and the distances, as tables, and their sums.
-ghost use Rattle.std.specs.Prelude.{◌≡◌, ◌≤◌, ◌<◌, ◌*◌, ◌==◌, if◌then◌else◌, IfOk};
+//! The weights of the walks that a plan prescribes to one node, and their sums.
+ghost use Rattle.std.specs.Prelude.{◌≡◌, ◌≤◌, ◌<◌, ◌*◌, ◌==◌, ℕ, if◌then◌else◌, length, IfOk};
 ghost use Rattle.ir_model.specs.Network.{node_count};
-ghost use Rattle.ir_model.specs.Table.{table_size, weight_in};
-ghost use Rattle.ir_look.specs.StatsText.{AreWalkWeights, AreDistances, sum_from, sum_of_pairs};
-ghost use Rattle.ir_look.specs.Before.{ports_by_node, ArePositive};
+ghost use Rattle.ir_model.specs.Scheme.{IsScheme, table_port};
+ghost use Rattle.ir_tables.specs.Relaxation.{at, unreached};
+ghost use Rattle.ir_tables.specs.Listed.{IsWay, IsFilled, AreWays};
+ghost use Rattle.ir_look.specs.Figures.{sum_to};
 
-use crate::walk::port_towards;
+use crate::distances::UNREACHED;
+use crate::walk::hop_towards;
 use ir_plan::Plan;
-use ir_tables::{Table, TableError};
 use std::alloc::{AllocError, Global};
 
-/// The ports at each node for each destination, node by node.
-fn ports_by_node(alloc: Global, plan: &Plan) -> Result<Vec<Option<u16>>, AllocError>
-    ensures { IfOk result (λ ports. ports.items ≡ ports_by_node plan.now) }
+/// The weight of the prescribed walk from `u` to `d`, which is followed up to the first node with a known weight.
+fn weight_of_walk(plan: &Plan, d: u16, weights: &[u32], u: u16) -> u32
+    requires scheme { IsScheme plan.now }
+    requires end { d < node_count plan.now.network }
+    requires filled { IsFilled plan.now.network (table_port plan.now) d weights.now }
+    requires node { u < node_count plan.now.network }
+    ensures { IsWay plan.now.network (table_port plan.now) d u result }
 {
-    let nodes = plan.nodes();
-    let mut ports = Vec::with_capacity(alloc, nodes * nodes)?;
-    for k in 0..nodes * nodes {
-        ports.push(port_towards(plan, (k / nodes) as u16, (k % nodes) as u16))?;
-    }
-    Ok(ports)
-}
-
-/// The weights of the walks that a plan prescribes.
-pub fn walk_weights(alloc: Global, plan: &Plan) -> Result<Table, AllocError>
-    ensures size { IfOk result (λ table. table_size table ≡ node_count plan.now.network) }
-    ensures walks { IfOk result (λ table. AreWalkWeights plan.now (weight_in table)) }
-{
-    let _nodes = plan.nodes();
-    let ports = ports_by_node(alloc, plan)?;
-    let table = Table::from_ports(alloc, plan.topology(), ports)?;
-    Ok(table)
-}
-
-/// The distances of a plan's nodes.
-pub fn distances(alloc: Global, plan: &Plan) -> Result<Table, AllocError>
-    ensures size { IfOk result (λ table. table_size table ≡ node_count plan.now.network) }
-    ensures distances { IfOk result (λ table. AreDistances plan.now (weight_in table)) }
-    ensures positive { IfOk result (λ table. ArePositive (node_count plan.now.network) (weight_in table)) }
-{
-    let _nodes = plan.nodes();
-    match Table::shortest(alloc, plan.topology()) {
-        Ok(table) => Ok(table),
-        Err(TableError::NoMemory) => Err(AllocError),
-        Err(TableError::Empty) => unreachable!(),
-        Err(TableError::Disconnected) => unreachable!(),
-    }
-}
-
-/// A weight between two nodes, and 0 to the node itself.
-fn weight_apart(table: &Table, u: u16, d: u16) -> u32
-    requires from { u < table_size table.now }
-    requires to { d < table_size table.now }
-    ensures { result ≡ (if u == d then 0 else weight_in table.now u d) }
-{
-    if u == d { 0 } else { table.distance(u, d) }
-}
-
-/// The sum of the weights from a node to the others.
-fn sum_from(nodes: usize, table: &Table, u: u16) -> u64
-    requires size { table_size table.now ≡ nodes }
-    requires few { nodes ≤ 16384 }
-    requires node { u < nodes }
-    ensures sum { result ≡ sum_from nodes (weight_in table.now) u }
-    ensures light { result ≤ 4294967296 * nodes }
-{
+    let mut x = u;
     let mut sum = 0;
-    for d in 0..nodes {
-        sum += weight_apart(table, u, d as u16) as u64;
+    for _step in 0..plan.nodes() {
+        let known = weights[x as usize];
+        if known != UNREACHED {
+            return sum + known;
+        }
+        let hop = hop_towards(plan, x, d);
+        sum += hop.weight;
+        x = hop.node;
     }
     sum
 }
 
-/// The sum of the weights between all ordered pairs of two nodes.
-pub fn sum_of_pairs(nodes: usize, table: &Table) -> u64
-    requires size { table_size table.now ≡ nodes }
-    requires few { nodes ≤ 16384 }
-    ensures { result ≡ sum_of_pairs nodes (weight_in table.now) }
+/// Writes the weights of the nodes on the prescribed walk from `u` to `d`, which weighs `total`, up to the first node
+/// with a known weight.
+fn write_walk(plan: &Plan, d: u16, weights: &mut [u32], u: u16, total: u32)
+    requires scheme { IsScheme plan.now }
+    requires end { d < node_count plan.now.network }
+    requires filled { IsFilled plan.now.network (table_port plan.now) d weights.old }
+    requires node { u < node_count plan.now.network }
+    requires way { IsWay plan.now.network (table_port plan.now) d u total }
+    ensures filled { IsFilled plan.now.network (table_port plan.now) d weights.new }
+    ensures known { at weights.new u < unreached }
+    ensures keeps { (v : ℕ) → at weights.old v < unreached → at weights.new v < unreached }
+{
+    let mut x = u;
+    let mut left = total;
+    for _step in 0..plan.nodes() {
+        if weights[x as usize] != UNREACHED {
+            return;
+        }
+        weights[x as usize] = left;
+        let hop = hop_towards(plan, x, d);
+        left -= hop.weight;
+        x = hop.node;
+    }
+}
+
+/// The weights of the walks that a plan prescribes to one node, by the node that the walk begins with. They take memory
+/// for one destination's worth, and each node is left once or twice, since what is known is not followed again.
+pub fn walk_weights_to(alloc: Global, plan: &Plan, d: u16) -> Result<Vec<u32>, AllocError>
+    requires { d < node_count plan.now.network }
+    ensures { IfOk result (λ weights. AreWays plan.now.network (table_port plan.now) d weights.items) }
+{
+    let nodes = plan.nodes();
+    let mut weights = vec![in alloc; UNREACHED; nodes]?;
+    weights[d as usize] = 0;
+    for u in 0..nodes {
+        let total = weight_of_walk(plan, d, weights.as_slice(), u as u16);
+        write_walk(plan, d, weights.as_mut_slice(), u as u16, total);
+    }
+    Ok(weights)
+}
+
+/// The weight from a node to another, and 0 to the node itself.
+fn weight_apart(weights: &[u32], u: usize, d: u16) -> u32
+    requires { u < length weights.now }
+    ensures { result ≡ (if u == d then 0 else at weights.now u) }
+{
+    if u == d as usize { 0 } else { weights[u] }
+}
+
+/// The sum of the weights to a node from the others.
+pub fn sum_to(weights: &[u32], d: u16) -> u64
+    requires few { length weights.now ≤ 16384 }
+    ensures sum { result ≡ sum_to (length weights.now) (at weights.now) d }
+    ensures light { result ≤ 70368744177664 }
 {
     let mut sum = 0;
-    for u in 0..nodes {
-        sum += sum_from(nodes, table, u as u16);
+    for u in 0..weights.len() {
+        sum += weight_apart(weights, u, d) as u64;
     }
     sum
 }

@@ -1,10 +1,8 @@
 //! The pair of nodes whose walk is the greatest multiple of its distance.
-ghost use Rattle.std.specs.Prelude.{◌≡◌, ◌≢◌, ◌↔◌, ◌+◌, ◌*◌, ◌<◌, ◌≤◌, IsTrue};
-ghost use Rattle.ir_model.specs.Table.{table_size, weight_in};
-ghost use Rattle.ir_look.specs.StatsText.{IsWorstOf};
-ghost use Rattle.ir_look.specs.Before.{ArePositive, IsWorstBefore};
-
-use ir_tables::Table;
+ghost use Rattle.std.specs.Prelude.{◌≡◌, ◌↔◌, ◌≤◌, IsTrue, length};
+ghost use Rattle.ir_look.specs.StatsText.{IsEarlier};
+ghost use Rattle.ir_look.specs.Before.{IsWorse, IsWorstWith};
+ghost use Rattle.ir_look.specs.Figures.{IsWorstWithThoseTo};
 
 /// An ordered pair of two nodes.
 #[derive(Clone, Copy, Debug, PartialEq, Eq)]
@@ -13,38 +11,50 @@ pub struct Pair {
     pub to: u16,
 }
 
-/// Whether the walk of a pair is a greater multiple of its distance than that of another.
-fn is_worse(walks: &Table, distances: &Table, pair: Pair, other: Pair) -> bool
-    requires size { table_size distances.now ≡ table_size walks.now }
-    requires from { pair.from < table_size walks.now }
-    requires to { pair.to < table_size walks.now }
-    requires other_from { other.from < table_size walks.now }
-    requires other_to { other.to < table_size walks.now }
-    ensures { IsTrue result ↔ (weight_in walks.now other.from other.to * weight_in distances.now pair.from pair.to < weight_in walks.now pair.from pair.to * weight_in distances.now other.from other.to) }
-{
-    let walk = walks.distance(pair.from, pair.to) as u64;
-    let distance = distances.distance(pair.from, pair.to) as u64;
-    let other_walk = walks.distance(other.from, other.to) as u64;
-    let other_distance = distances.distance(other.from, other.to) as u64;
-    other_walk * distance < walk * other_distance
+/// A pair, with the weight of its walk and its distance.
+#[derive(Clone, Copy, Debug, PartialEq, Eq)]
+pub struct Weighed {
+    pub ends: Pair,
+    pub walk: u32,
+    pub distance: u32,
 }
 
-/// The worst of the pairs up to a pair, by the worst of those before it.
-fn worse_of(walks: &Table, distances: &Table, best: Option<Pair>, pair: Pair) -> Option<Pair>
-    requires size { table_size distances.now ≡ table_size walks.now }
-    requires from { pair.from < table_size walks.now }
-    requires to { pair.to < table_size walks.now }
-    requires positive { ArePositive (table_size walks.now) (weight_in distances.now) }
-    requires best { IsWorstBefore (table_size walks.now) (weight_in walks.now) (weight_in distances.now) pair.from pair.to best }
-    ensures { IsWorstBefore (table_size walks.now) (weight_in walks.now) (weight_in distances.now) pair.from (pair.to + 1) result }
+/// Whether a pair stands before another.
+fn is_earlier(pair: Pair, other: Pair) -> bool
+    ensures { IsTrue result ↔ IsEarlier pair.from pair.to other.from other.to }
 {
-    if pair.from == pair.to {
+    if pair.from == other.from {
+        pair.to < other.to
+    } else {
+        pair.from < other.from
+    }
+}
+
+/// Whether the walk of a pair is a greater multiple of its distance than that of another; of two that are as great the
+/// earlier pair is the worse one.
+fn is_worse(pair: Weighed, other: Weighed) -> bool
+    ensures { IsTrue result ↔ IsWorse pair other }
+{
+    let this = pair.walk as u64 * other.distance as u64;
+    let that = other.walk as u64 * pair.distance as u64;
+    if this == that {
+        is_earlier(pair.ends, other.ends)
+    } else {
+        that < this
+    }
+}
+
+/// The worst of the pairs up to a pair, by the worst of those looked at before it.
+fn worse_of(best: Option<Weighed>, pair: Weighed) -> Option<Weighed>
+    ensures { IsWorstWith pair best result }
+{
+    if pair.ends.from == pair.ends.to {
         return best;
     }
     match best {
         None => Some(pair),
         Some(other) => {
-            if is_worse(walks, distances, pair, other) {
+            if is_worse(pair, other) {
                 Some(pair)
             } else {
                 Some(other)
@@ -53,44 +63,24 @@ fn worse_of(walks: &Table, distances: &Table, best: Option<Pair>, pair: Pair) ->
     }
 }
 
-/// The worst of the pairs up to those from a node, by the worst of those before them.
-fn worst_from(
-    nodes: usize,
-    walks: &Table,
-    distances: &Table,
-    best: Option<Pair>,
-    u: u16,
-) -> Option<Pair>
-    requires walks { table_size walks.now ≡ nodes }
-    requires distances { table_size distances.now ≡ nodes }
-    requires few { nodes ≤ 16384 }
-    requires node { u < nodes }
-    requires positive { ArePositive nodes (weight_in distances.now) }
-    requires best { IsWorstBefore nodes (weight_in walks.now) (weight_in distances.now) u 0 best }
-    ensures { IsWorstBefore nodes (weight_in walks.now) (weight_in distances.now) (u + 1) 0 result }
+/// The worst of the pairs up to those to `d`, by the worst of those to the nodes before it, and by the weights of the
+/// walks and the distances to it.
+pub fn worst_to(d: u16, walks: &[u32], distances: &[u32], best: Option<Weighed>) -> Option<Weighed>
+    requires distances { length distances.now ≡ length walks.now }
+    requires few { length walks.now ≤ 16384 }
+    ensures { IsWorstWithThoseTo d walks.now distances.now best result }
 {
     let mut worst = best;
-    for d in 0..nodes {
-        let pair = Pair {
-            from: u,
-            to: d as u16,
+    for u in 0..walks.len() {
+        let pair = Weighed {
+            ends: Pair {
+                from: u as u16,
+                to: d,
+            },
+            walk: walks[u],
+            distance: distances[u],
         };
-        worst = worse_of(walks, distances, worst, pair);
-    }
-    worst
-}
-
-/// The worst of all pairs.
-pub fn worst(nodes: usize, walks: &Table, distances: &Table) -> Option<Pair>
-    requires walks { table_size walks.now ≡ nodes }
-    requires distances { table_size distances.now ≡ nodes }
-    requires few { nodes ≤ 16384 }
-    requires positive { ArePositive nodes (weight_in distances.now) }
-    ensures { IsWorstOf nodes (weight_in walks.now) (weight_in distances.now) result }
-{
-    let mut worst = None;
-    for u in 0..nodes {
-        worst = worst_from(nodes, walks, distances, worst, u as u16);
+        worst = worse_of(worst, pair);
     }
     worst
 }

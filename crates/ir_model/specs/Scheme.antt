@@ -61,14 +61,20 @@ pub record AreLabels (n : ℕ) (order labels : List ℕ) : Type 0 where
   pub there : (u : ℕ) → u < n → slice_index order (slice_index labels u) ≡ u
   pub back : (a : ℕ) → a < n → slice_index labels (slice_index order a) ≡ a
 
--- What is true of every plan: its labels are depth-first numbers from the root, its table is the full table of its
--- kind over its network, whose prescribed walks exist and are short, and its rows are the canonical ones of that table.
+-- the labels are depth-first numbers of the network from the root, along some tree
+abbrev pub HasDepthFirst : Scheme → Type 0
+HasDepthFirst s = (parents : List ℕ) × IsDepthFirst (neighbors_of s.network) (node_count s.network) s.root s.order parents
+
+-- What is true of every plan: each node has one label, the root the first, and in a tree plan the labels are depth-first
+-- numbers from the root; its table is the full table of its kind over its network, whose prescribed walks exist and are
+-- short, and its rows are the canonical ones of that table.
 pub record IsScheme (s : Scheme) : Type 0 where
   pub network : IsNetwork s.network
   pub connected : IsConnected s.network
   pub root_in : s.root < node_count s.network
   pub parents : List ℕ
-  pub numbering : IsDepthFirst (neighbors_of s.network) (node_count s.network) s.root s.order parents
+  pub numbering : s.kind ≡ Tree → IsDepthFirst (neighbors_of s.network) (node_count s.network) s.root s.order parents
+  pub first : slice_index s.order 0 ≡ s.root
   pub labels : AreLabels (node_count s.network) s.order s.labels
   pub table : IsTableOf s.kind s.network s.order parents (table_port s)
   pub walks : (u d : ℕ) → u < node_count s.network → d < node_count s.network

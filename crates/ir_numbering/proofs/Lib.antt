@@ -9,3 +9,4 @@ pub mod Routes
 pub mod TreePorts
 pub mod TreeRow
 pub mod Subtrees
+pub mod Placing

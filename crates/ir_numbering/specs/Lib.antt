@@ -4,3 +4,4 @@ pub mod Numbers
 pub mod Views
 pub mod Cells
 pub mod Laws
+pub mod Orders

@@ -4,6 +4,7 @@
 mod error;
 mod laws;
 mod numbering;
+mod order;
 mod parents;
 mod search;
 mod tree;
@@ -11,3 +12,4 @@ mod tree;
 pub use error::NumberError;
 pub use laws::{subtrees_are_intervals, tree_rows_start_at_sons};
 pub use numbering::{Numbering, tree_table};
+pub use order::{OrderError, check_order};

@@ -5,10 +5,14 @@ ghost use Rattle.ir_model.specs.Numbering.{neighbors_of, IsDepthFirst};
 ghost use Rattle.ir_model.specs.Subtree.{IsSubtree};
 ghost use Rattle.ir_model.specs.Table.{port_in, IsRouted};
 ghost use Rattle.ir_model.specs.Tree.{IsTreeTable};
-ghost use Rattle.ir_numbering.specs.Numbers.{IsNumberingOf};
+ghost use Rattle.ir_model.specs.Scheme.{AreLabels};
+ghost use Rattle.ir_model.specs.declared.TheConstants.{MAX_NODES};
+ghost use Rattle.ir_numbering.specs.Numbers.{IsListing, IsNumberingOf};
+ghost use Rattle.ir_numbering.specs.Orders.{HoldsNoNode, HoldsOneTwice, LacksOne};
 ghost use Rattle.ir_numbering.specs.Cells.{AreTreeCells};
 
 use crate::error::NumberError;
+use crate::order::{OrderError, check_order};
 use crate::parents::{labels_of, parent_ports, subtree_size};
 use crate::search::{Order, search};
 use crate::tree::{ports_by_label, tree_ports};
@@ -16,7 +20,7 @@ use ir_tables::{Table, Topology};
 use std::alloc::{AllocError, Global};
 use std::marker::Model;
 
-/// Depth-first numbers of a topology: the label of each node, and its parent in the tree of the numbering.
+/// Numbers of nodes: the label of each node, and its parent in the tree of the numbering.
 #[derive(Drop)]
 pub struct Numbering {
     order: Vec<u16>,
@@ -79,7 +83,44 @@ impl Numbering {
         })
     }
 
-    /// The label of a node: its place in the depth-first order.
+    /// Numbers nodes by a list that has each once. Each node but the first has the first for its parent in the tree of
+    /// the numbering, and none holds a port for it.
+    pub fn listed(alloc: Global, order: Vec<u16>) -> Result<Numbering, AllocError>
+        requires listing { IsListing (length order.items) order.items }
+        requires few { length order.items ≤ MAX_NODES }
+        ensures order { IfOk result (λ numbers. numbers.order ≡ order.items) }
+        ensures labels { IfOk result (λ numbers. AreLabels (length numbers.order) numbers.order numbers.labels) }
+    {
+        let labels = labels_of(alloc, order.as_slice())?;
+        let parents = vec![in alloc; 0usize; order.len()]?;
+        let ports = vec![in alloc; None; order.len()]?;
+        Ok(Numbering {
+            order,
+            parents,
+            labels,
+            ports,
+        })
+    }
+
+    /// Numbers so many nodes by a list of them in the order of their labels.
+    ///
+    /// The first place of the list that is wrong is told: NoNode where it holds no node, Twice where it holds the node
+    /// of an earlier place. Where no place is wrong, Missing where a node has none. NoMemory may come before these.
+    pub fn of_order(alloc: Global, nodes: usize, order: Vec<u16>) -> Result<Numbering, OrderError>
+        requires few { nodes ≤ MAX_NODES }
+        ensures listing { OnOk result (IsListing nodes order.items) }
+        ensures order { IfOk result (λ numbers. numbers.order ≡ order.items) }
+        ensures labels { IfOk result (λ numbers. AreLabels nodes numbers.order numbers.labels) }
+        ensures no_node { result ≡ Err OrderError.NoNode → HoldsNoNode nodes order.items }
+        ensures twice { result ≡ Err OrderError.Twice → HoldsOneTwice nodes order.items }
+        ensures missing { result ≡ Err OrderError.Missing → LacksOne nodes order.items }
+    {
+        check_order(alloc, nodes, order.as_slice())?;
+        let numbering = Numbering::listed(alloc, order)?;
+        Ok(numbering)
+    }
+
+    /// The label of a node: its place in the order.
     pub fn label_of(&self, u: u16) -> u16
         requires { u < length self.now.order }
         ensures { result ≡ slice_index self.now.labels u }

@@ -119,36 +119,37 @@ module _ (net : Network) (order parents labels : List ℕ) (named : AreLabels (n
   }
 
 -- the rows of all nodes stand for a full table
-module _ (net : Network) (ok : IsNetwork net) (numbers : Numbers) (is : IsNumberingOf net numbers) (rows : List (List Start)) where
+module _ (net : Network) (ok : IsNetwork net) (numbers : Numbers) (named : AreLabels (node_count net) numbers.order numbers.labels) (rows : List (List Start)) where
   -- the walk that a tree table prescribes is short
   tree_short : (table : ℕ → ℕ → Option ℕ) (u d : ℕ) → u < node_count net → (walk : List ℕ) → IsPrescribedWalk net table u d walk → length walk ≤ node_count net
   tree_short table u d hu [] walks = absurd walks
   tree_short table u d hu (x ∷ rest) walks = continues_short net ok table d u hu rest walks.1
 
-  pub node_rows_stand : (kind : Kind) → AreNodeRows kind net numbers.order numbers.parents numbers.labels (node_count net) rows → StandForTable kind net numbers.order numbers.parents numbers.labels rows
-  node_rows_stand Tree are =
+  pub node_rows_stand : (kind : Kind) → (kind ≡ Tree → IsNumberingOf net numbers) → AreNodeRows kind net numbers.order numbers.parents numbers.labels (node_count net) rows → StandForTable kind net numbers.order numbers.parents numbers.labels rows
+  node_rows_stand Tree tree are =
+      let is = tree refl in
       let table = shown_port numbers.labels rows in
-      let cells = tree_cells net numbers.order numbers.parents numbers.labels is.labels rows are in (
+      let cells = tree_cells net numbers.order numbers.parents numbers.labels named rows are in (
         table,
-        tree_table_is net numbers.order numbers.parents numbers.labels (slice_index numbers.order 0) is.order is.labels table cells,
+        tree_table_is net numbers.order numbers.parents numbers.labels (slice_index numbers.order 0) is.order named table cells,
         (λ u d hu hd.
-            let w = tree_walk net numbers.order numbers.parents numbers.labels (slice_index numbers.order 0) is.order is.labels table cells u d hu hd in
+            let w = tree_walk net numbers.order numbers.parents numbers.labels (slice_index numbers.order 0) is.order named table cells u d hu hd in
             (w.0, w.1, tree_short table u d hu w.0 w.1)),
-        rows_stand Tree net numbers.order numbers.parents numbers.labels is.labels rows are,
+        rows_stand Tree net numbers.order numbers.parents numbers.labels named rows are,
       )
-  node_rows_stand Shortest are =
-      let table = shortest_shown net numbers.order numbers.parents numbers.labels is.labels rows are in (
+  node_rows_stand Shortest tree are =
+      let table = shortest_shown net numbers.order numbers.parents numbers.labels named rows are in (
         shown_port numbers.labels rows,
         table,
         nearer_walks net ok (shown_port numbers.labels rows) (shortest_is_nearer net (shown_port numbers.labels rows) table),
-        rows_stand Shortest net numbers.order numbers.parents numbers.labels is.labels rows are,
+        rows_stand Shortest net numbers.order numbers.parents numbers.labels named rows are,
       )
-  node_rows_stand Compact are =
-      let table = compact_shown net numbers.order numbers.parents numbers.labels is.labels rows are in (
+  node_rows_stand Compact tree are =
+      let table = compact_shown net numbers.order numbers.parents numbers.labels named rows are in (
         shown_port numbers.labels rows,
         table,
         nearer_walks net ok (shown_port numbers.labels rows) table.nearer,
-        rows_stand Compact net numbers.order numbers.parents numbers.labels is.labels rows are,
+        rows_stand Compact net numbers.order numbers.parents numbers.labels named rows are,
       )
 
 -- one row more

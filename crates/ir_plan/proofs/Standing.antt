@@ -115,11 +115,11 @@ full_table Shortest net order parents t is = record { own = is.own; some = λ u 
 
 -- the numbers and rows of a full table make a scheme
 pub scheme_stands : (kind : Kind) (root : ℕ) (net : Network) (order parents labels : List ℕ) (table : ℕ → ℕ → Option ℕ) (rows : List (List Start))
-    → IsNetwork net → IsConnected net → root < node_count net → IsDepthFirst (neighbors_of net) (node_count net) root order parents
+    → IsNetwork net → IsConnected net → root < node_count net → (kind ≡ Tree → IsDepthFirst (neighbors_of net) (node_count net) root order parents) → slice_index order 0 ≡ root
     → AreLabels (node_count net) order labels → IsTableOf kind net order parents table
     → ((u d : ℕ) → u < node_count net → d < node_count net → (walk : List ℕ) × IsPrescribedWalk net table u d walk × (length walk ≤ node_count net))
     → AreRows (node_count net) order labels table rows → IsScheme (scheme_with kind root net order labels rows)
-scheme_stands kind root net order parents labels table rows ok connected in_range first named is walks stand =
+scheme_stands kind root net order parents labels table rows ok connected in_range depth first named is walks stand =
     let n = node_count net in
     let s = scheme_with kind root net order labels rows in
     let full = full_table kind net order parents table is in
@@ -130,7 +130,8 @@ scheme_stands kind root net order parents labels table rows ok connected in_rang
       connected = connected;
       root_in = in_range;
       parents = parents;
-      numbering = first;
+      numbering = depth;
+      first = first;
       labels = named;
       table = same_table kind net order parents labels table (table_port s) named same is;
       walks = λ u d hu hd.

@@ -54,7 +54,7 @@ same_node net u p q v w e a b =
 pub end_outside : (n a size d : ℕ) → a < n → 0 < a → 0 < size → a + size ≤ n → d ≡ label_after n (a + size - 1) → a ≤ d → d < a + size → ⊥
 end_outside n a size d own from some within e low high = grind (arith, nat_tests)
 
-module _ (s : Scheme) (is : IsScheme s) (u size : ℕ) (hu : u < node_count s.network) (nest : IsNested (node_count s.network) is.parents)
+module _ (s : Scheme) (is : IsScheme s) (is_tree : s.kind ≡ Tree) (u size : ℕ) (hu : u < node_count s.network) (nest : IsNested (node_count s.network) is.parents)
     (sub : IsSubtree (node_count s.network) is.parents (label_in s u) size) (out : ℕ → ℕ) (up : ℕ)
     (tree : IsTreePorts (node_count s.network) (label_in s u) is.parents (by_label s u) out up)
     (to_son : (c : ℕ) → 0 < c → c < node_count s.network → slice_index is.parents c ≡ label_in s u → IsPortTo s.network u (out c) (slice_index s.order c))
@@ -186,17 +186,17 @@ module _ (s : Scheme) (is : IsScheme s) (u size : ℕ) (hu : u < node_count s.ne
       omega (arith, label, get_or-map (λ (t : Start). t.label) row i no_start 0 hi, get_or-map (λ (t : Start). t.label) row j no_start 0 hj)
 
   pub tree_row_stands : IsTreeRow s is.parents size u
-  tree_row_stands = record { numbering = is.numbering; subtree = sub; sons = start_for_son; father = start_for_father; no_other = no_other_start; one_each = ports_differ }
+  tree_row_stands = record { numbering = is.numbering is_tree; subtree = sub; sons = start_for_son; father = start_for_father; no_other = no_other_start; one_each = ports_differ }
 
 -- the row of each node of a tree plan, by the tree of its numbers
 pub tree_of : (s : Scheme) → (is : IsScheme s) → s.kind ≡ Tree → IsTreeTable s.network s.order is.parents (table_port s)
 tree_of s is tree = subst (λ (k : Kind). IsTableOf k s.network s.order is.parents (table_port s)) tree is.table
 
-pub nests : (s : Scheme) → (is : IsScheme s) → IsNested (node_count s.network) is.parents
-nests s is = depth_first_nests (neighbors_of s.network) (node_count s.network) s.root s.order is.parents is.numbering
+pub nests : (s : Scheme) → (is : IsScheme s) → s.kind ≡ Tree → IsNested (node_count s.network) is.parents
+nests s is tree = depth_first_nests (neighbors_of s.network) (node_count s.network) s.root s.order is.parents (is.numbering tree)
 
 pub tree_rows : (s : Scheme) → IsScheme s → s.kind ≡ Tree → (u : ℕ) → u < node_count s.network → HasTreeRow s u
 tree_rows s is tree u hu =
-    let ports = tree_ports s.network s.order is.parents s.labels s.root is.numbering is.labels (table_port s) (tree_of s is tree) is.network u hu in
-    let sub = subtree_of (node_count s.network) is.parents (nests s is) (label_in s u) (is.labels.label u hu) in
-    (is.parents, sub.0, tree_row_stands s is u sub.0 hu (nests s is) sub.1 ports.0 ports.1 ports.2 ports.3 ports.4)
+    let ports = tree_ports s.network s.order is.parents s.labels s.root (is.numbering tree) is.labels (table_port s) (tree_of s is tree) is.network u hu in
+    let sub = subtree_of (node_count s.network) is.parents (nests s is tree) (label_in s u) (is.labels.label u hu) in
+    (is.parents, sub.0, tree_row_stands s is tree u sub.0 hu (nests s is tree) sub.1 ports.0 ports.1 ports.2 ports.3 ports.4)

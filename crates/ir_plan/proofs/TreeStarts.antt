@@ -156,14 +156,14 @@ tree_plan_starts s is tree =
     let n = node_count s.network in
     let root = is.root_in in
     let row : (u : ℕ) → u < n → (size : ℕ) × IsRowOfTree n is.parents (label_in s u) size (row_in s u) = λ u hu.
-    let ports = tree_ports s.network s.order is.parents s.labels s.root is.numbering is.labels (table_port s) (tree_of s is tree) is.network u hu in
-    let sub = subtree_of n is.parents (nests s is) (label_in s u) (is.labels.label u hu) in (
+    let ports = tree_ports s.network s.order is.parents s.labels s.root (is.numbering tree) is.labels (table_port s) (tree_of s is tree) is.network u hu in
+    let sub = subtree_of n is.parents (nests s is tree) (label_in s u) (is.labels.label u hu) in (
       sub.0,
       record {
         place = is.labels.label u hu;
         subtree = sub.1;
         ascending = (is.rows u hu).ascending;
-        starts = tree_row n (label_in s u) sub.0 is.parents (nests s is) (is.labels.label u hu) sub.1 (by_label s u) ports.0 ports.1 ports.2 (row_in s u) (is.rows u hu);
+        starts = tree_row n (label_in s u) sub.0 is.parents (nests s is tree) (is.labels.label u hu) sub.1 (by_label s u) ports.0 ports.1 ports.2 (row_in s u) (is.rows u hu);
       },
     ) in
-    tree_starts n is.parents s.order s.labels s.rows (omega arith) is.labels (nests s is) is.row_of_each row
+    tree_starts n is.parents s.order s.labels s.rows (omega arith) is.labels (nests s is tree) is.row_of_each row

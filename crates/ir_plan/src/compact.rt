@@ -5,7 +5,7 @@ ghost use Rattle.ir_model.specs.declared.Kind.TheVariants.{Compact};
 ghost use Rattle.ir_model.specs.Network.{node_count, ports_of};
 ghost use Rattle.ir_model.specs.Walk.{IsConnected};
 ghost use Rattle.ir_model.proofs.Steps.{AreLongest};
-ghost use Rattle.ir_numbering.specs.Numbers.{IsNumberingOf};
+ghost use Rattle.ir_model.specs.Scheme.{AreLabels};
 ghost use Rattle.ir_tables.specs.FromNode.{AreFrom};
 ghost use Rattle.ir_plan.specs.NodeRows.{IsNodeRow, ArePortsOf};
 ghost use Rattle.ir_plan.specs.CompactRows.{AreTiedMarks, MayTake};
@@ -24,7 +24,7 @@ pub fn compact_row(
     numbering: &Numbering,
     u: u16,
 ) -> Result<Row, AllocError>
-    requires numbering { IsNumberingOf topology.now numbering.now }
+    requires labels { AreLabels (node_count topology.now) numbering.now.order numbering.now.labels }
     requires connected { IsConnected topology.now }
     requires node { u < node_count topology.now }
     ensures { IfOk result (λ row. IsNodeRow Compact topology.now numbering.now.order numbering.now.parents (slice_index numbering.now.labels u) row) }
@@ -41,7 +41,7 @@ fn chosen_ports(
     numbering: &Numbering,
     u: u16,
 ) -> Result<Vec<Option<u16>>, AllocError>
-    requires numbering { IsNumberingOf topology.now numbering.now }
+    requires labels { AreLabels (node_count topology.now) numbering.now.order numbering.now.labels }
     requires connected { IsConnected topology.now }
     requires node { u < node_count topology.now }
     ensures { IfOk result (λ ports. ArePortsOf Compact topology.now numbering.now.order numbering.now.parents (slice_index numbering.now.labels u) ports.items) }
@@ -70,7 +70,7 @@ fn longest_runs(
     ways: &Outward,
     u: u16,
 ) -> Result<(Vec<u16>, Vec<u16>), AllocError>
-    requires numbering { IsNumberingOf topology.now numbering.now }
+    requires labels { AreLabels (node_count topology.now) numbering.now.order numbering.now.labels }
     requires source { ways.now.source ≡ u }
     requires distances { AreFrom topology.now u ways.now.weights }
     ensures counts { IfOk result (λ made. length made.0.items ≡ node_count topology.now) }
@@ -97,7 +97,7 @@ fn marks_of_port(
     ways: &Outward,
     p: usize,
 ) -> Result<Vec<bool>, AllocError>
-    requires numbering { IsNumberingOf topology.now numbering.now }
+    requires labels { AreLabels (node_count topology.now) numbering.now.order numbering.now.labels }
     requires distances { AreFrom topology.now ways.now.source ways.now.weights }
     requires port { p < length (ports_of topology.now ways.now.source) }
     ensures { IfOk result (λ row. AreTiedMarks topology.now numbering.now.order ways.now.source p row.items) }

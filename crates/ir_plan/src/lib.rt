@@ -10,3 +10,4 @@ mod threads;
 pub use error::PlanError;
 pub use ir_model::{Hop, Kind};
 pub use plan::Plan;
+pub use threads::rows_of_a_thread;

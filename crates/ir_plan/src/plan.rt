@@ -1,11 +1,11 @@
-ghost use Rattle.std.specs.Prelude.{◌-◌, ◌*◌, ◌≡◌, ◌↔◌, ◌<◌, ◌≤◌, Some, length, sum_by, IfOk, IfErr, OnOk};
+ghost use Rattle.std.specs.Prelude.{◌-◌, ◌*◌, ◌≡◌, ◌≢◌, ◌↔◌, ◌<◌, ◌≤◌, Some, length, slice_index, sum_by, IfOk, IfErr, OnOk};
 ghost use Rattle.ir_model.specs.Numbering.{IsDepthFirst, neighbors_of};
 ghost use Rattle.ir_model.specs.Network.{IsNetwork, node_count, port_at, ports_of};
 ghost use Rattle.ir_model.specs.Walk.{IsConnected, IsDisconnected};
-ghost use Rattle.ir_model.specs.Scheme.{IsScheme, by_label, label_in, node_in, table_port, row_in};
+ghost use Rattle.ir_model.specs.Scheme.{AreLabels, IsScheme, HasDepthFirst, by_label, label_in, node_in, table_port, row_in};
 ghost use Rattle.ir_model.specs.Row.{intervals_of};
 ghost use Rattle.ir_model.specs.Compiled.{Fits, IsFewest};
-ghost use Rattle.ir_numbering.specs.Numbers.{IsNumberingOf};
+ghost use Rattle.ir_numbering.specs.Numbers.{IsListing, IsNumberingOf};
 ghost use Rattle.ir_plan.specs.Shown.{StandForTable};
 ghost use Rattle.ir_plan.specs.CompactRows.{FitsTied, IsFewestOfTied};
 ghost use Rattle.ir_plan.specs.TreeRows.{HasTreeRow};
@@ -60,6 +60,7 @@ impl Plan {
         ensures root { IfOk result (λ p. p.root ≡ root) }
         ensures network { IfOk result (λ p. p.network ≡ topology) }
         ensures scheme { IfOk result (λ p. IsScheme p) }
+        ensures numbers { IfOk result (λ p. HasDepthFirst p) }
         ensures back { IfErr result (λ e. e.1 ≡ topology) }
         ensures empty { IfErr result (λ e. (e.0 ≡ PlanError.Empty) ↔ (node_count topology ≡ 0)) }
         ensures no_node { IfErr result (λ e. (e.0 ≡ PlanError.NoNode) ↔ ((0 < node_count topology) × (node_count topology ≤ root))) }
@@ -74,7 +75,8 @@ impl Plan {
         }
     }
 
-    /// The plan that `build` makes, its rows made in as many threads as there are processors.
+    /// The plan that `build` makes, its rows made in at most `most` threads, or in as many as suit the processors where it
+    /// is None. Where no thread can be started, the rows are made on this one.
     ///
     /// Refused as `build` is; NoMemory is also where a growth is refused in a thread.
     pub fn build_in_threads(
@@ -83,11 +85,13 @@ impl Plan {
         topology: Topology,
         kind: Kind,
         root: u16,
+        most: Option<usize>,
     ) -> Result<Plan, (PlanError, Topology)>
         ensures kind { IfOk result (λ p. p.kind ≡ kind) }
         ensures root { IfOk result (λ p. p.root ≡ root) }
         ensures network { IfOk result (λ p. p.network ≡ topology) }
         ensures scheme { IfOk result (λ p. IsScheme p) }
+        ensures numbers { IfOk result (λ p. HasDepthFirst p) }
         ensures back { IfErr result (λ e. e.1 ≡ topology) }
         ensures empty { IfErr result (λ e. (e.0 ≡ PlanError.Empty) ↔ (node_count topology ≡ 0)) }
         ensures no_node { IfErr result (λ e. (e.0 ≡ PlanError.NoNode) ↔ ((0 < node_count topology) × (node_count topology ≤ root))) }
@@ -95,10 +99,80 @@ impl Plan {
     {
         match numbering_of(alloc, &topology, root) {
             Ok(numbering) => {
-                let rows = rows_in_threads(rt, alloc, &topology, &numbering, kind);
+                let rows = rows_in_threads(rt, alloc, &topology, &numbering, kind, most);
                 Plan::of_rows(topology, kind, root, numbering, rows)
             }
             Err(refusal) => Err((refusal, topology)),
+        }
+    }
+
+    /// The plan of a kind other than Tree over a topology, its labels the places of a list that has each node once; the
+    /// first of them is the root. Its rows are made as those of `build`.
+    ///
+    /// Refused as Empty where the topology has no node, else as Disconnected where some node has no walk to some node;
+    /// NoMemory may come before Disconnected is known. A refusal hands the topology back.
+    pub fn build_numbered(
+        alloc: Global,
+        topology: Topology,
+        kind: Kind,
+        order: Vec<u16>,
+    ) -> Result<Plan, (PlanError, Topology)>
+        requires kind { kind ≢ Kind.Tree }
+        requires order { IsListing (node_count topology) order.items }
+        ensures kind { IfOk result (λ p. p.kind ≡ kind) }
+        ensures order { IfOk result (λ p. p.order ≡ order.items) }
+        ensures network { IfOk result (λ p. p.network ≡ topology) }
+        ensures scheme { IfOk result (λ p. IsScheme p) }
+        ensures back { IfErr result (λ e. e.1 ≡ topology) }
+        ensures empty { IfErr result (λ e. (e.0 ≡ PlanError.Empty) ↔ (node_count topology ≡ 0)) }
+        ensures no_node { IfErr result (λ e. e.0 ≢ PlanError.NoNode) }
+        ensures disconnected { IfErr result (λ e. e.0 ≡ PlanError.Disconnected → (0 < node_count topology) × IsDisconnected topology) }
+    {
+        if topology.nodes() == 0 {
+            return Err((PlanError::Empty, topology));
+        }
+        let root = order[0];
+        match numbering_by(alloc, &topology, order) {
+            Ok(numbering) => {
+                let rows = rows_of(alloc, &topology, &numbering, kind);
+                Plan::of_rows(topology, kind, root, numbering, rows)
+            }
+            Err(refusal) => Err((refusal, topology)),
+        }
+    }
+
+    /// The plan that `build_numbered` makes, its rows made in threads as those of `build_in_threads`.
+    ///
+    /// Refused as `build_numbered` is; NoMemory is also where a growth is refused in a thread.
+    pub fn build_numbered_in_threads(
+        rt: &(impl Threads + Sync),
+        alloc: Global,
+        topology: Topology,
+        kind: Kind,
+        order: Vec<u16>,
+        most: Option<usize>,
+    ) -> Result<Plan, (PlanError, Topology)>
+        requires kind { kind ≢ Kind.Tree }
+        requires order { IsListing (node_count topology) order.items }
+        ensures kind { IfOk result (λ p. p.kind ≡ kind) }
+        ensures order { IfOk result (λ p. p.order ≡ order.items) }
+        ensures network { IfOk result (λ p. p.network ≡ topology) }
+        ensures scheme { IfOk result (λ p. IsScheme p) }
+        ensures back { IfErr result (λ e. e.1 ≡ topology) }
+        ensures empty { IfErr result (λ e. (e.0 ≡ PlanError.Empty) ↔ (node_count topology ≡ 0)) }
+        ensures no_node { IfErr result (λ e. e.0 ≢ PlanError.NoNode) }
+        ensures disconnected { IfErr result (λ e. e.0 ≡ PlanError.Disconnected → (0 < node_count topology) × IsDisconnected topology) }
+    {
+        if topology.nodes() == 0 {
+            return Err((PlanError::Empty, topology));
+        }
+        let first = order[0];
+        match numbering_by(alloc, &topology, order) {
+            Ok(numbers) => {
+                let rows = rows_in_threads(rt, alloc, &topology, &numbers, kind, most);
+                Plan::of_rows(topology, kind, first, numbers, rows)
+            }
+            Err(refused) => Err((refused, topology)),
         }
     }
 
@@ -112,12 +186,14 @@ impl Plan {
     ) -> Result<Plan, (PlanError, Topology)>
         requires root { root < node_count topology }
         requires connected { IsConnected topology }
-        requires depth_first { IsDepthFirst (neighbors_of topology) (node_count topology) root numbering.order numbering.parents }
-        requires numbering { IsNumberingOf topology numbering }
+        requires depth_first { kind ≡ Kind.Tree → IsDepthFirst (neighbors_of topology) (node_count topology) root numbering.order numbering.parents }
+        requires first { slice_index numbering.order 0 ≡ root }
+        requires labels { AreLabels (node_count topology) numbering.order numbering.labels }
         requires rows { IfOk rows (λ made. StandForTable kind topology numbering.order numbering.parents numbering.labels made.items) }
         ensures kind { IfOk result (λ p. p.kind ≡ kind) }
         ensures root { IfOk result (λ p. p.root ≡ root) }
         ensures network { IfOk result (λ p. p.network ≡ topology) }
+        ensures order { IfOk result (λ p. p.order ≡ numbering.order) }
         ensures scheme { IfOk result (λ p. IsScheme p) }
         ensures back { IfErr result (λ e. e.1 ≡ topology) }
         ensures memory { IfErr result (λ e. e.0 ≡ PlanError.NoMemory) }
@@ -164,7 +240,21 @@ impl Plan {
         &self.topology
     }
 
-    /// The label of a node: its place in the depth-first order.
+    /// The plan's own topology; the rest of the plan is let go.
+    pub fn into_topology(self) -> Topology
+        ensures { result ≡ self.network }
+    {
+        let Plan {
+            topology,
+            kind: _,
+            root: _,
+            numbering: _,
+            rows: _,
+        } = self;
+        topology
+    }
+
+    /// The label of a node: its place in the order of the nodes.
     pub fn label_of(&self, u: u16) -> u16
         requires { u < node_count self.now.network }
         ensures { result ≡ label_in self.now u }
@@ -235,6 +325,8 @@ impl Plan {
 fn numbering_of(alloc: Global, topology: &Topology, root: u16) -> Result<Numbering, PlanError>
     ensures root { OnOk result (root < node_count topology.now) }
     ensures depth_first { IfOk result (λ numbers. IsDepthFirst (neighbors_of topology.now) (node_count topology.now) root numbers.order numbers.parents) }
+    ensures first { IfOk result (λ numbers. slice_index numbers.order 0 ≡ root) }
+    ensures labels { IfOk result (λ numbers. AreLabels (node_count topology.now) numbers.order numbers.labels) }
     ensures numbering { IfOk result (λ numbers. IsNumberingOf topology.now numbers) }
     ensures connected { OnOk result (IsConnected topology.now) }
     ensures empty { IfErr result (λ e. (e ≡ PlanError.Empty) ↔ (node_count topology.now ≡ 0)) }
@@ -245,4 +337,19 @@ fn numbering_of(alloc: Global, topology: &Topology, root: u16) -> Result<Numberi
         return Err(PlanError::Empty);
     }
     Ok(Numbering::depth_first(alloc, topology, root)?)
+}
+
+// The numbers by a list of a connected topology's nodes.
+fn numbering_by(alloc: Global, topology: &Topology, order: Vec<u16>) -> Result<Numbering, PlanError>
+    requires some { 0 < node_count topology.now }
+    requires order { IsListing (node_count topology.now) order.items }
+    ensures order { IfOk result (λ numbers. numbers.order ≡ order.items) }
+    ensures labels { IfOk result (λ numbers. AreLabels (node_count topology.now) numbers.order numbers.labels) }
+    ensures connected { OnOk result (IsConnected topology.now) }
+    ensures disconnected { IfErr result (λ e. e ≡ PlanError.Disconnected → IsDisconnected topology.now) }
+    ensures others { IfErr result (λ e. (e ≢ PlanError.Empty) × (e ≢ PlanError.NoNode)) }
+{
+    let _nodes = topology.nodes();
+    let _depth_first = numbering_of(alloc, topology, order[0])?;
+    Ok(Numbering::listed(alloc, order)?)
 }

@@ -26,7 +26,8 @@ pub fn rows_of(
     numbering: &Numbering,
     kind: Kind,
 ) -> Result<Vec<Row>, AllocError>
-    requires numbering { IsNumberingOf topology.now numbering.now }
+    requires labels { AreLabels (node_count topology.now) numbering.now.order numbering.now.labels }
+    requires tree { kind ≡ Tree → IsNumberingOf topology.now numbering.now }
     requires connected { IsConnected topology.now }
     ensures { IfOk result (λ rows. StandForTable kind topology.now numbering.now.order numbering.now.parents numbering.now.labels rows.items) }
 {
@@ -46,7 +47,8 @@ pub fn row_at(
     kind: Kind,
     u: u16,
 ) -> Result<Row, AllocError>
-    requires numbering { IsNumberingOf topology.now numbering.now }
+    requires labels { AreLabels (node_count topology.now) numbering.now.order numbering.now.labels }
+    requires tree { kind ≡ Tree → IsNumberingOf topology.now numbering.now }
     requires connected { IsConnected topology.now }
     requires node { u < node_count topology.now }
     ensures { IfOk result (λ row. IsNodeRow kind topology.now numbering.now.order numbering.now.parents (slice_index numbering.now.labels u) row) }
@@ -81,14 +83,14 @@ fn shortest_row(
     numbering: &Numbering,
     u: u16,
 ) -> Result<Row, AllocError>
-    requires numbering { IsNumberingOf topology.now numbering.now }
+    requires labels { AreLabels (node_count topology.now) numbering.now.order numbering.now.labels }
     requires connected { IsConnected topology.now }
     requires node { u < node_count topology.now }
     ensures { IfOk result (λ row. IsNodeRow Shortest topology.now numbering.now.order numbering.now.parents (slice_index numbering.now.labels u) row) }
 {
     let nodes = topology.nodes() as u16;
-    let least = Outward::from(alloc, topology, u)?.least_ports(alloc, topology)?;
-    let ports = ports_by_label(alloc, nodes, numbering, least.as_slice())?;
+    let ways = Outward::from(alloc, topology, u)?;
+    let ports = ports_by_label(alloc, nodes, numbering, ways.least_ports())?;
     row_of(alloc, nodes, numbering.label_of(u), ports.as_slice())
 }
 

@@ -3,6 +3,8 @@
 ghost use Rattle.std.specs.Prelude.{◌≡◌, ◌<◌, IfOk, slice_index};
 ghost use Rattle.ir_model.specs.Network.{node_count};
 ghost use Rattle.ir_model.specs.Walk.{IsConnected};
+ghost use Rattle.ir_model.specs.Scheme.{AreLabels};
+ghost use Rattle.ir_model.specs.declared.Kind.TheVariants.{Tree};
 ghost use Rattle.ir_numbering.specs.Numbers.{IsNumberingOf};
 ghost use Rattle.ir_plan.specs.Shown.{StandForTable};
 ghost use Rattle.ir_plan.specs.NodeRows.{IsNodeRow};
@@ -19,26 +21,36 @@ use std::thread::Threads;
 /// The fewest rows that a thread is started for.
 const LEAST_ROWS: usize = 16;
 
-/// The row of each node, by number, made in as many threads as there are processors. It is refused where a growth is
-/// refused in any of them.
+/// The fewest rows of a thread, where there are to be at most so many threads: then as many have all the rows.
+pub fn rows_of_a_thread(rows: usize, most: Option<usize>) -> usize {
+    match most {
+        Some(threads) if threads > 0 => rows.div_ceil(threads).max(LEAST_ROWS),
+        _ => LEAST_ROWS,
+    }
+}
+
+/// The row of each node, by number, made in at most so many threads, or in as many as suit the processors. It is refused
+/// where a growth is refused in any of them.
 pub fn rows_in_threads(
     rt: &(impl Threads + Sync),
     alloc: Global,
     topology: &Topology,
     numbering: &Numbering,
     kind: Kind,
+    most: Option<usize>,
 ) -> Result<Vec<Row>, AllocError>
-    requires numbering { IsNumberingOf topology.now numbering.now }
+    requires labels { AreLabels (node_count topology.now) numbering.now.order numbering.now.labels }
+    requires tree { kind ≡ Tree → IsNumberingOf topology.now numbering.now }
     requires connected { IsConnected topology.now }
     ensures { IfOk result (λ rows. StandForTable kind topology.now numbering.now.order numbering.now.parents numbering.now.labels rows.items) }
 {
     let nodes = topology.nodes();
     (0..nodes)
         .into_par_iter()
-        .with_min_len(LEAST_ROWS)
+        .with_min_len(rows_of_a_thread(nodes, most))
         .map(
             |u: usize| -> Result<Row, AllocError>
-                requires { (u < node_count topology.now) × IsNumberingOf topology.now numbering.now × IsConnected topology.now }
+                requires { (u < node_count topology.now) × AreLabels (node_count topology.now) numbering.now.order numbering.now.labels × (kind ≡ Tree → IsNumberingOf topology.now numbering.now) × IsConnected topology.now }
                 ensures { IfOk result (λ row. IsNodeRow kind topology.entry.now numbering.entry.now.order numbering.entry.now.parents (slice_index numbering.entry.now.labels u) row) }
             { row_in_thread(alloc, topology, numbering, kind, u) },
         )
@@ -53,7 +65,8 @@ fn row_in_thread(
     kind: Kind,
     u: usize,
 ) -> Result<Row, AllocError>
-    requires numbering { IsNumberingOf topology.now numbering.now }
+    requires labels { AreLabels (node_count topology.now) numbering.now.order numbering.now.labels }
+    requires tree { kind ≡ Tree → IsNumberingOf topology.now numbering.now }
     requires connected { IsConnected topology.now }
     requires node { u < node_count topology.now }
     ensures { IfOk result (λ row. IsNodeRow kind topology.now numbering.now.order numbering.now.parents (slice_index numbering.now.labels u) row) }

@@ -105,7 +105,7 @@ module _ (bits n : ℕ) (ports : List (Option ℕ)) (every : length ports ≡ n)
       let g : get_or other j a ≡ b = get_or_default other j a b m ∙ f in
       dj.apart x i j a lt m (subst (λ (o : Line). HoldsNumber bits o x) (sym e) ha) (subst (λ (o : Line). HoldsNumber bits o x) (sym g) hb)
 
-  same_line : (x : ℕ) (a b : Line) → Contains other a → Contains other b → HoldsNumber bits a x → HoldsNumber bits b x → a ≡ b
+  pub same_line : (x : ℕ) (a b : Line) → Contains other a → Contains other b → HoldsNumber bits a x → HoldsNumber bits b x → a ≡ b
   same_line x a b c d ha hb =
       elim (cases_lt c.0 d.0) [
         | inl lt ↦ absurd (apart_at x a b c.0 d.0 lt c.1 d.1 c.2 d.2 ha hb)
@@ -118,7 +118,7 @@ module _ (bits n : ℕ) (ports : List (Option ℕ)) (every : length ports ≡ n)
             ]
       ]
 
-  line_port : (m : Line) → Contains other m → (x p : ℕ) → port_to ports x ≡ Some p → HoldsNumber bits m x → m.port ≡ Some p
+  pub line_port : (m : Line) → Contains other m → (x p : ℕ) → port_to ports x ≡ Some p → HoldsNumber bits m x → m.port ≡ Some p
   line_port m c x p o holds =
       let w = dj.meaning x p o in
       ap (λ (l : Line). l.port) (same_line x m w.0 c w.1 holds w.2) ∙ w.3

@@ -67,19 +67,17 @@ fn fork(alloc: Global, left: Trie, right: Trie) -> Result<Trie, AllocError>
     requires rising { IsNonDecreasing (names_of left) }
     ensures { IfOk result (λ trie. IsParent left right trie) }
 {
-    let own = names_below(alloc, &left)?;
-    let others = names_below(alloc, &right)?;
-    let names = joined(alloc, own.as_slice(), others.as_slice())?;
+    let names = joined(alloc, names_below(&left), names_below(&right))?;
     Ok(Trie::Fork(names, Box::new(alloc, left)?, Box::new(alloc, right)?))
 }
 
-// The names of a node, in a list of their own.
-fn names_below(alloc: Global, trie: &Trie) -> Result<Vec<u16>, AllocError>
-    ensures { IfOk result (λ names. names.items ≡ names_of trie.now) }
+// The names of a node.
+fn names_below(trie: &Trie) -> &[u16]
+    ensures { result.now ≡ names_of trie.now }
 {
     match trie {
-        Trie::Free => Ok(Vec::new(alloc)),
-        Trie::Alike(port) => Vec::from_slice(alloc, &[*port]),
-        Trie::Fork(names, _, _) => Vec::from_slice(alloc, names.as_slice()),
+        Trie::Free => &[],
+        Trie::Alike(port) => std::slice::from_ref(port),
+        Trie::Fork(names, _, _) => names.as_slice(),
     }
 }

@@ -5,21 +5,21 @@ use Rattle.ir_links.specs.Ends.{Word}
 use Rattle.ir_worker.specs.Seen.{SeenParcel}
 use Rattle.ir_words.specs.declared.words.Words.{Words}
 use Rattle.ir_words.specs.declared.read.Source.{Source}
-use Rattle.ir_words.specs.declared.read.Source.TheVariants.{Input, Topology, Script, Trace}
+use Rattle.ir_words.specs.declared.read.Source.TheVariants.{Input, Topology, Script, Trace, Numbering}
 use Rattle.ir_shell.specs.declared.run.Task.{Task}
-use Rattle.ir_shell.specs.declared.run.Task.TheVariants.{Look, Sim, Check}
+use Rattle.ir_shell.specs.declared.run.Task.TheVariants.{Sim, Check}
 use Rattle.ir_words.specs.Answer.{Answer}
-use Rattle.ir_words.specs.Words.{is_one_input}
+use Rattle.ir_words.specs.Words.{is_one_input, has_order}
 use Rattle.ir_words.specs.Cut.{topology_part, script_part, EndsWith}
 use Rattle.ir_words.specs.Openings.{AnswersTopology}
-use Rattle.ir_shell.specs.Looks.{LookAnswers}
 use Rattle.ir_shell.specs.Plays.{AnswersScript}
 use Rattle.ir_shell.specs.Lives.{AnswersLiveScript}
 use Rattle.ir_shell.specs.Checks.{AnswersChecked}
 
--- the inputs of `plan`, `walk`, `stats` and `draw`, of `sim` and `live`, and of `check`, in the order of reading
+-- the inputs of `plan`, `walk`, `stats`, `draw` and `prefixes`, of `sim` and `live`, and of `check`, in the order of
+-- reading
 abbrev pub look_sources : Words → List Source
-look_sources words = if is_one_input words then Input ∷ [] else Topology ∷ []
+look_sources words = (if is_one_input words then Input else Topology) ∷ (if has_order words then Numbering ∷ [] else [])
 
 abbrev pub sim_sources : Words → List Source
 sim_sources words = if is_one_input words then Input ∷ [] else Topology ∷ Script ∷ []
@@ -55,11 +55,9 @@ CheckAnswers words (text ∷ other ∷ third ∷ fourth ∷ texts) answer = ⊥
 
 -- the same, by what a run is to do
 abbrev pub sources_of : Task → Words → List Source
-sources_of (Look look) words = look_sources words
 sources_of Sim words = sim_sources words
 sources_of Check words = check_sources words
 
 abbrev pub Answers : Task → Words → List (List ℕ) → Answer → Type 0
-Answers (Look look) words texts answer = LookAnswers look words texts answer
 Answers Sim words texts answer = SimAnswers words texts answer
 Answers Check words texts answer = CheckAnswers words texts answer

@@ -101,7 +101,7 @@ fn live_texts(
 }
 
 /// The answer to a script and a net that was opened for it. Its parts were not handed out before; that they are not handed
-/// out is told as want of memory.
+/// out, or that the board has no place for a reader of each node, is told as want of memory.
 fn answer_net<T: Threads + Moments<Parcel> + Sync>(
     rt: &T,
     alloc: Global,
@@ -130,7 +130,7 @@ fn answer_net<T: Threads + Moments<Parcel> + Sync>(
             Ok(Reply::Ran(trace, refused))
         }
         Err(LiveError::NoThread) => Ok(Reply::NoThread),
-        Err(LiveError::Spent | LiveError::NoMemory) => Err(AllocError),
+        Err(LiveError::Spent | LiveError::NoMemory | LiveError::TooManyReaders) => Err(AllocError),
     }
 }
 

@@ -7,7 +7,6 @@ ghost use Rattle.ir_words.specs.Replies.{answer_of};
 ghost use Rattle.ir_words.specs.Told.{Sends, Tells};
 
 use crate::check::answer_check_texts;
-use crate::look::{Look, answer_look};
 use crate::sim::answer_sim_texts;
 use ir_streams::{Reader, Writer};
 use ir_words::ending::{Ending, status_of};
@@ -20,7 +19,6 @@ use std::alloc::{AllocError, Global};
 /// What a run is to do.
 #[derive(Clone, Copy, Debug, PartialEq, Eq)]
 pub enum Task {
-    Look(Look),
     Sim,
     Check,
 }
@@ -33,7 +31,6 @@ pub fn sources_of(task: Task, words: &Words) -> &'static [Source]
         return &[Source::Input];
     }
     match task {
-        Task::Look(_) => &[Source::Topology],
         Task::Sim => &[Source::Topology, Source::Script],
         Task::Check => &[Source::Topology, Source::Script, Source::Trace],
     }
@@ -45,7 +42,6 @@ fn answer(alloc: Global, task: Task, words: &Words, texts: &[Vec<u8>]) -> Result
     ensures { IfOk result (λ reply. Answers task words.now (texts_of texts.now) (answer_of reply)) }
 {
     match task {
-        Task::Look(look) => answer_look(alloc, look, words, texts),
         Task::Sim => answer_sim_texts(alloc, words, texts),
         Task::Check => answer_check_texts(alloc, words, texts),
     }

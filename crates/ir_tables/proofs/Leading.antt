@@ -2,33 +2,18 @@
 use Rattle.std.proofs.Common.{◌≡◌, ◌≢◌, ℕ, ◌+◌, ◌<◌, ◌≤◌, List, [], ◌∷◌, ◌++◌, Some, refl, ap, sym, subst, arith}
 use Rattle.ir_model.specs.declared.Hop.{Hop}
 use Rattle.ir_model.specs.Network.{Network, node_count, port_at, IsNetwork}
-use Rattle.ir_model.specs.Walk.{link_weight, LeadsTo, IsWalk, weight_from, walk_weight, IsDistance, IsConnected}
+use Rattle.ir_model.specs.Walk.{link_weight, LeadsTo, IsWalk, weight_from, walk_weight, IsDistance}
 use Rattle.ir_model.specs.Table.{LeadsNearer}
 use Rattle.ir_model.proofs.Tables.{distance_unique, distance_own, distance_way}
 use Rattle.ir_model.proofs.Walks.{link_weight_at, PortFacts, port_facts, leads_from_node}
-use Rattle.ir_model.proofs.Ways.{joined, symmetric}
-use Rattle.ir_tables.specs.Relaxation.{at, unreached, IsRelaxed}
+use Rattle.ir_model.proofs.Ways.{joined}
+use Rattle.ir_tables.specs.Relaxation.{at}
 use Rattle.ir_tables.specs.FromNode.{AreFrom, IsTightStep}
-use Rattle.ir_tables.proofs.Settled.{distance_from_settled, settled_within, unreached_large}
 
 -- what a list leads to is a node
 leads_to_node : (net : Network) (u d : ℕ) (rest : List ℕ) → LeadsTo net u d rest → d < node_count net
 leads_to_node net u d [] way = way.1
 leads_to_node net u d (v ∷ rest) way = leads_to_node net v d rest way.1
-
--- where each node has a way to u, settled weights to u are the distances from u
-pub from_relaxed : (net : Network) → IsNetwork net → IsConnected net → (u : ℕ) → u < node_count net → (weights : List ℕ) → IsRelaxed net u weights → AreFrom net u weights
-from_relaxed net ok connected u u_in weights done = record {
-  node = u_in;
-  every = done.len;
-  each = λ d d_in. let w = connected d u d_in u_in in by_walk d d_in w.0 w.1;
-}
-  where
-    by_walk : (d : ℕ) → d < node_count net → (walk : List ℕ) → IsWalk net d u walk → IsDistance net u d (at weights d)
-    by_walk d d_in [] is = absurd is
-    by_walk d d_in (x ∷ rest) is =
-        let below : at weights d < unreached = settled_within net ok u unreached (at weights) done.settled (unreached_large net ok) done.reached d rest is.1 in
-        symmetric net ok d u (at weights d) (distance_from_settled net ok u (at weights) done.settled d (done.reached d d_in below))
 
 module _ (net : Network) (ok : IsNetwork net) (u : ℕ) (weights : List ℕ) (are : AreFrom net u weights) where
   own_weight : at weights u ≡ 0
@@ -110,12 +95,6 @@ module _ (net : Network) (ok : IsNetwork net) (u : ℕ) (weights : List ℕ) (ar
           let link : link_weight net x y ≡ hop.weight = subst (λ (z : ℕ). link_weight net x z ≡ hop.weight) way.0.3 (link_weight_at net ok x way.0.0 hop port) in
           let tight : IsTightStep weights x hop = omega (arith, e, up, on, same, link) in
           go y rest way.1 (omega (arith, e, tight, same, link)) (subst S way.0.3 (closed x way.0.0 hop here port tight))
-
-  -- no port leads nearer to u itself
-  pub nearer_other : (p : ℕ) → LeadsNearer net u u p → ⊥
-  nearer_other p near =
-      let facts : PortFacts net u near.0 = port_facts net ok u p near.0 near.2 in
-      omega (arith, facts.positive, distance_unique net u u (near.0.weight + near.1) 0 near.4 (distance_own net u are.node))
 
   -- to each other node some port leads nearer
   pub some_nearer : (d : ℕ) → d < node_count net → u ≢ d → (p : ℕ) × LeadsNearer net u d p

@@ -9,3 +9,5 @@ pub mod Runs
 pub mod Leading
 pub mod Flooding
 pub mod Spreading
+pub mod KeySteps
+pub mod KeysOut

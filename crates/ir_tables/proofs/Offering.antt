@@ -12,28 +12,28 @@ use Rattle.ir_tables.specs.Relaxation.{IsReached, unreached, at, Offers, IsRelax
 use Rattle.ir_tables.specs.Frontier.{Entry, entry, IsPending, NoNode, Only, IsFrontier}
 use Rattle.ir_tables.proofs.Rounds.{reached_set}
 
-contains_head : (e : Entry) (es : List Entry) → Contains (e ∷ es) e
-contains_head e es = (0, omega arith, refl)
+pub contains_head : (A : Type 0) (e : A) (es : List A) → Contains (e ∷ es) e
+contains_head A e es = (0, omega arith, refl)
 
-contains_cons : (e z : Entry) (es : List Entry) → Contains es z → Contains (e ∷ es) z
-contains_cons e z es has = (suc has.0, omega (arith, has.1), has.2)
+pub contains_cons : (A : Type 0) (e z : A) (es : List A) → Contains es z → Contains (e ∷ es) z
+contains_cons A e z es has = (suc has.0, omega (arith, has.1), has.2)
 
-contains_tail : (e z : Entry) (es : List Entry) → Contains (e ∷ es) z → z ≢ e → Contains es z
-contains_tail e z es has ne = go has.0 has.1 has.2
+pub contains_tail : (A : Type 0) (e z : A) (es : List A) → Contains (e ∷ es) z → z ≢ e → Contains es z
+contains_tail A e z es has ne = go has.0 has.1 has.2
   where
     go : (k : ℕ) → k < length (e ∷ es) → slice_index_or (e ∷ es) k z ≡ z → Contains es z
     go zero lt is = absurd (ne (sym is))
     go (suc k) lt is = (k, omega (arith, lt), is)
 
-all_cons : (P : Entry → Type 0) (e : Entry) (es : List Entry) → P e → All P es → All P (e ∷ es)
-all_cons P e es here rest zero d lt = here
-all_cons P e es here rest (suc k) d lt = rest k d (omega (arith, lt))
+pub all_cons : (A : Type 0) (P : A → Type 0) (e : A) (es : List A) → P e → All P es → All P (e ∷ es)
+all_cons A P e es here rest zero d lt = here
+all_cons A P e es here rest (suc k) d lt = rest k d (omega (arith, lt))
 
-all_tail : (P : Entry → Type 0) (e : Entry) (es : List Entry) → All P (e ∷ es) → All P es
-all_tail P e es all k d lt = all (suc k) d (omega (arith, lt))
+pub all_tail : (A : Type 0) (P : A → Type 0) (e : A) (es : List A) → All P (e ∷ es) → All P es
+all_tail A P e es all k d lt = all (suc k) d (omega (arith, lt))
 
 -- a lower weight raises none
-set_le : (weights : List ℕ) (x weight z : ℕ) → x < length weights → weight ≤ at weights x → at (set weights x weight) z ≤ at weights z
+pub set_le : (weights : List ℕ) (x weight z : ℕ) → x < length weights → weight ≤ at weights x → at (set weights x weight) z ≤ at weights z
 set_le weights x weight z lt le =
     ⊎_elim (λ (e : z ≡ x). let P : ℕ → Type 0 = λ y. at (set weights x weight) y ≤ at weights y in
     subst P (sym e) (let w : at (set weights x weight) x ≡ weight = get_or-set_same weights x weight 0 lt in omega (arith, w, le)))
@@ -50,14 +50,14 @@ frontier_lower net ok d v p hop port weights entries entries' weight is less bel
     let x_in : x < length weights = omega (arith, facts.to, so_far.len) in
     let back = ok.paired v p hop port in
     let offered : (q : ℕ) × Offers (ports_of net x) weights q weight = (back.0, (port_back v hop, back.1, is)) in
-    let head : Contains entries' (entry weight x) = Contains-permutation (entry weight x ∷ entries) entries' (entry weight x) moved (contains_head (entry weight x) entries) in
+    let head : Contains entries' (entry weight x) = Contains-permutation (entry weight x ∷ entries) entries' (entry weight x) moved (contains_head Entry (entry weight x) entries) in
     let written : at (set weights x weight) x ≡ weight = get_or-set_same weights x weight 0 x_in in
     record {
       len = length-set weights x weight ∙ so_far.len;
       reached = reached_set net ok d x weight weights so_far.len facts.to below offered so_far.reached;
       end = ⊎_elim (λ (e : d ≡ x). let P : ℕ → Type 0 = λ k. at weights k ≡ 0 in let zero_here : at weights x ≡ 0 = subst P e so_far.end in absurd (omega (arith, zero_here, less)))
           (λ (other : d ≢ x). get_or-set_other weights x d weight 0 other ∙ so_far.end) (cases_eq d x);
-      nodes = All-permutation (λ e. e.0.1 < node_count net) (entry weight x ∷ entries) entries' moved (all_cons (λ e. e.0.1 < node_count net) (entry weight x) entries facts.to so_far.nodes);
+      nodes = All-permutation (λ e. e.0.1 < node_count net) (entry weight x ∷ entries) entries' moved (all_cons Entry (λ e. e.0.1 < node_count net) (entry weight x) entries facts.to so_far.nodes);
       pending = λ y y_in out. ⊎_elim
           (λ (e : y ≡ x). let P : ℕ → Type 0 = λ k. IsPending net (set weights x weight) entries' k in
           let Q : ℕ → Type 0 = λ w. Contains entries' (entry w x) in
@@ -66,7 +66,7 @@ frontier_lower net ok d v p hop port weights entries entries' weight is less bel
           let same : at (set weights x weight) y ≡ at weights y = get_or-set_other weights x y weight 0 ne in
           ⊎_elim (λ spent. inl (λ q h at_q. omega (arith, spent q h at_q, set_le weights x weight h.node x_in (omega (arith, less)), same)))
           (λ waits. let Q : ℕ → Type 0 = λ w. Contains entries' (entry w y) in
-          inr (subst Q (sym same) (Contains-permutation (entry weight x ∷ entries) entries' (entry (at weights y) y) moved (contains_cons (entry weight x) (entry (at weights y) y) entries waits))))
+          inr (subst Q (sym same) (Contains-permutation (entry weight x ∷ entries) entries' (entry (at weights y) y) moved (contains_cons Entry (entry weight x) (entry (at weights y) y) entries waits))))
           (so_far.pending y y_in out))
           (cases_eq y x);
     }
@@ -146,9 +146,9 @@ popped_fresh net d weights old entries e moved so_far = record {
   len = so_far.len;
   reached = so_far.reached;
   end = so_far.end;
-  nodes = all_tail (λ e. e.0.1 < node_count net) e entries (All-permutation (λ e. e.0.1 < node_count net) old (e ∷ entries) moved so_far.nodes);
+  nodes = all_tail Entry (λ e. e.0.1 < node_count net) e entries (All-permutation (λ e. e.0.1 < node_count net) old (e ∷ entries) moved so_far.nodes);
   pending = λ y y_in out. ⊎_elim (λ spent. inl spent)
-      (λ waits. inr (contains_tail e (entry (at weights y) y) entries (Contains-permutation old (e ∷ entries) (entry (at weights y) y) moved waits) (λ same. out (ap (λ (k : Entry). k.0.1) same))))
+      (λ waits. inr (contains_tail Entry e (entry (at weights y) y) entries (Contains-permutation old (e ∷ entries) (entry (at weights y) y) moved waits) (λ same. out (ap (λ (k : Entry). k.0.1) same))))
       (so_far.pending y y_in (λ none. none));
 }
 
@@ -158,9 +158,9 @@ popped_stale net d weights old entries e stale moved so_far = record {
   len = so_far.len;
   reached = so_far.reached;
   end = so_far.end;
-  nodes = all_tail (λ e. e.0.1 < node_count net) e entries (All-permutation (λ e. e.0.1 < node_count net) old (e ∷ entries) moved so_far.nodes);
+  nodes = all_tail Entry (λ e. e.0.1 < node_count net) e entries (All-permutation (λ e. e.0.1 < node_count net) old (e ∷ entries) moved so_far.nodes);
   pending = λ y y_in out. ⊎_elim (λ spent. inl spent)
-      (λ waits. inr (contains_tail e (entry (at weights y) y) entries (Contains-permutation old (e ∷ entries) (entry (at weights y) y) moved waits)
+      (λ waits. inr (contains_tail Entry e (entry (at weights y) y) entries (Contains-permutation old (e ∷ entries) (entry (at weights y) y) moved waits)
       (λ same. stale (let node : y ≡ e.0.1 = ap (λ (k : Entry). k.0.1) same in let weight : at weights y ≡ e.0.0 = ap (λ (k : Entry). k.0.0) same in sym weight ∙ ap (at weights) node))))
       (so_far.pending y y_in (λ none. none));
 }
@@ -208,9 +208,9 @@ frontier_start net d d_in none entries empty moved =
       reached = λ u u_in less. ⊎_elim (λ (e : u ≡ d). let R : ℕ → Type 0 = λ k. IsReached net d (at ws) k in subst R (sym e) ([], (refl, d_in), sym here))
           (λ (ne : u ≢ d). absurd (let w : at ws u ≡ 4294967295 = away u u_in ne in omega (arith, w, less))) (cases_eq u d);
       end = here;
-      nodes = All-permutation (λ e. e.0.1 < n) (entry 0 d ∷ []) entries moved' (all_cons (λ e. e.0.1 < n) (entry 0 d) [] d_in (λ k e lt. absurd (omega (arith, lt))));
+      nodes = All-permutation (λ e. e.0.1 < n) (entry 0 d ∷ []) entries moved' (all_cons Entry (λ e. e.0.1 < n) (entry 0 d) [] d_in (λ k e lt. absurd (omega (arith, lt))));
       pending = λ v v_in out. ⊎_elim
           (λ (e : v ≡ d). let R : ℕ → Type 0 = λ k. IsPending net ws entries k in let S : ℕ → Type 0 = λ w. Contains entries (entry w d) in
-          subst R (sym e) (inr (subst S (sym here) (Contains-permutation (entry 0 d ∷ []) entries (entry 0 d) moved' (contains_head (entry 0 d) [])))))
+          subst R (sym e) (inr (subst S (sym here) (Contains-permutation (entry 0 d ∷ []) entries (entry 0 d) moved' (contains_head Entry (entry 0 d) [])))))
           (λ (ne : v ≢ d). inl (λ p hop port. let w : at ws v ≡ 4294967295 = away v v_in ne in omega (arith, w, low hop.node))) (cases_eq v d);
     }

@@ -6,10 +6,11 @@ use Rattle.ir_model.specs.Walk.{IsDistance}
 use Rattle.ir_model.specs.Table.{LeadsNearer, IsShortestPort}
 use Rattle.ir_tables.specs.Relaxation.{at}
 
--- a node, and a weight for each node
+-- a node, and a weight and a port for each node
 pub record WaysOut : Type 0 where
   pub source : ℕ
   pub weights : List ℕ
+  pub ports : List (Option ℕ)
 
 -- the weights are the distances from u
 pub record AreFrom (net : Network) (u : ℕ) (weights : List ℕ) : Type 0 where

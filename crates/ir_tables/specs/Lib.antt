@@ -6,3 +6,4 @@ pub mod Numbered
 pub mod ByPlace
 pub mod Listed
 pub mod FromNode
+pub mod Keys

@@ -6,6 +6,7 @@
 
 mod adjacency;
 mod frontier;
+mod keyed;
 mod listed;
 mod outward;
 mod relaxation;

@@ -1,22 +1,24 @@
 //! The shortest ways from one node: the distance to each node, and which ports lead nearer to it. They take memory for
 //! one node's worth, where a table takes that of all nodes.
-ghost use Rattle.std.specs.Prelude.{◌≡◌, ◌≢◌, ◌+◌, ◌<◌, ℕ, IfOk, OnOk, IsTrue, ◌↔◌, All, IsSome, length};
+ghost use Rattle.std.specs.Prelude.{◌≡◌, ◌≢◌, ◌+◌, ◌<◌, ◌≤◌, ℕ, IfOk, OnOk, IsTrue, ◌↔◌, All, IsSome, length};
 ghost use Rattle.ir_model.specs.Network.{node_count, port_at, ports_of};
 ghost use Rattle.ir_model.specs.Walk.{IsConnected};
 ghost use Rattle.ir_model.specs.Table.{LeadsNearer};
 ghost use Rattle.ir_tables.specs.Relaxation.{at};
+ghost use Rattle.ir_tables.specs.Keys.{no_key, AreWeightsIn, ArePortsIn};
 ghost use Rattle.ir_tables.specs.FromNode.{AreFrom, AreLeastPorts, AreLedBy, IsClosed, IsFlooded, IsPassedOn};
 
-use crate::frontier::weights_to;
+use crate::keyed::{UNIT, keys_from};
 use crate::topology::Topology;
 use std::alloc::{AllocError, Global};
 use std::marker::Model;
 
-/// The distances from one node, by node.
+/// The distances from one node, by node, and for each other node the least of its ports that lead nearer to it.
 #[derive(Drop)]
 pub struct Outward {
     source: u16,
     weights: Vec<u32>,
+    ports: Vec<Option<u16>>,
 }
 
 impl Model for Outward {
@@ -29,42 +31,31 @@ impl Model for Outward {
 }
 
 impl Outward {
-    /// The distances from a node. Condition: it is a node, and each node has a walk to each node. It is refused for
+    /// The ways from a node. Condition: it is a node, and each node has a walk to each node. It is refused for
     /// memory alone.
     pub fn from(alloc: Global, topology: &Topology, u: u16) -> Result<Outward, AllocError>
         requires node { u < node_count topology.now }
         requires connected { IsConnected topology.now }
         ensures source { IfOk result (λ ways. ways.source ≡ u) }
         ensures distances { IfOk result (λ ways. AreFrom topology.now u ways.weights) }
+        ensures ports { IfOk result (λ ways. AreLeastPorts topology.now u ways.ports) }
     {
         let _nodes = topology.nodes();
-        let weights = weights_to(alloc, topology, u as usize)?;
-        Ok(Outward { source: u, weights })
+        let keys = keys_from(alloc, topology, u)?;
+        let weights = weights_in(alloc, keys.as_slice())?;
+        let ports = ports_in(alloc, u, keys.as_slice())?;
+        Ok(Outward {
+            source: u,
+            weights,
+            ports,
+        })
     }
 
-    /// The least port of the node that leads nearer to each node, by node; none for itself. Condition: the distances
-    /// are those of the topology. It is refused for memory alone.
-    pub fn least_ports(
-        &self,
-        alloc: Global,
-        topology: &Topology,
-    ) -> Result<Vec<Option<u16>>, AllocError>
-        requires { AreFrom topology.now self.now.source self.now.weights }
-        ensures { IfOk result (λ held. AreLeastPorts topology.now self.now.source held.items) }
+    /// The least port of the node that leads nearer to each node, by node; none for itself.
+    pub fn least_ports(&self) -> &[Option<u16>]
+        ensures { result.now ≡ self.now.ports }
     {
-        let weights = self.weights.as_slice();
-        let mut held = vec![in alloc; None; topology.nodes()]?;
-        for p in 0..topology.degree(self.source) {
-            flood(
-                alloc,
-                topology,
-                weights,
-                self.source,
-                p,
-                held.as_mut_slice(),
-            )?;
-        }
-        Ok(held)
+        self.ports.as_slice()
     }
 
     /// The nodes to which a port of the node leads nearer: a port is held for these, by node, and for no other.
@@ -91,6 +82,34 @@ impl Outward {
         )?;
         Ok(held)
     }
+}
+
+// The weights in keys.
+fn weights_in(alloc: Global, keys: &[u64]) -> Result<Vec<u32>, AllocError>
+    requires { (v : ℕ) → at keys.now v ≤ no_key }
+    ensures { IfOk result (λ weights. AreWeightsIn keys.now weights.items (length keys.now)) }
+{
+    let mut weights = Vec::with_capacity(alloc, keys.len())?;
+    for key in keys {
+        weights.push((*key / UNIT) as u32)?;
+    }
+    Ok(weights)
+}
+
+// The ports in keys from `u`, which has none for itself.
+fn ports_in(alloc: Global, u: u16, keys: &[u64]) -> Result<Vec<Option<u16>>, AllocError>
+    ensures { IfOk result (λ ports. ArePortsIn u keys.now ports.items (length keys.now)) }
+{
+    let mut ports = Vec::with_capacity(alloc, keys.len())?;
+    for (v, key) in keys.iter().enumerate() {
+        let port = if v == u as usize {
+            None
+        } else {
+            Some((*key % UNIT) as u16)
+        };
+        ports.push(port)?;
+    }
+    Ok(ports)
 }
 
 // Whether a step from `x` to `y` goes as far as the weights do.

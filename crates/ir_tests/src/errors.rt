@@ -3,7 +3,7 @@
 use ir_adjlist::{Fault, TextError};
 use ir_compile::CompileError;
 use ir_core::{OpenError, Refused};
-use ir_numbering::NumberError;
+use ir_numbering::{NumberError, OrderError};
 use ir_plan::PlanError;
 use ir_tables::TableError;
 use std::alloc::Global;
@@ -29,10 +29,28 @@ fn errors_in_words(rt: HostRuntime) -> Result<(), Fail> {
     tells(alloc, &weight, "line 3: no whole number from 1 to 65535")?;
     tells(alloc, &TableError::Empty, "the topology has no node")?;
     tells(alloc, &NumberError::NoNode, "the root is no node")?;
+    tells(alloc, &OrderError::Twice, "a node stands twice")?;
     let each = "the ports are not one for each label but the own";
     tells(alloc, &CompileError::BadRow, each)?;
     tells(alloc, &PlanError::NoMemory, "out of memory")?;
     let apart = OpenError::Disconnected;
     tells(alloc, &apart, "some node has no walk to some node")?;
     tells(alloc, &Refused::HandEmpty, "the hand is empty")
+}
+
+#[test]
+fn faults_of_a_text_in_words(rt: HostRuntime) -> Result<(), Fail> {
+    for (kind, words) in [
+        (
+            Fault::BadByte,
+            "line 7: a byte that may not stand in a text",
+        ),
+        (Fault::BadName, "line 7: a name of more than 64 bytes"),
+        (Fault::BadRow, "line 7: not two names and a weight"),
+        (Fault::TooManyNodes, "line 7: too many nodes"),
+        (Fault::TooManyEdges, "line 7: too many edges"),
+    ] {
+        tells(rt.alloc(), &TextError { line: 7, kind }, words)?;
+    }
+    Ok(())
 }

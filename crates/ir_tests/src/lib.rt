@@ -14,6 +14,8 @@ mod numbers;
 #[cfg(test)]
 mod openings;
 #[cfg(test)]
+mod orders;
+#[cfg(test)]
 mod plans;
 #[cfg(test)]
 mod prefixed;

@@ -1,7 +1,7 @@
 //! Depth-first numbers and tree tables.
 
 use crate::networks::{Edge, HEAVY, RING, topology_of};
-use ir_numbering::{NumberError, Numbering, tree_table};
+use ir_numbering::{NumberError, Numbering, OrderError, tree_table};
 use std::alloc::Global;
 use std::test::Fail;
 
@@ -82,5 +82,42 @@ fn refuses_two_lone_nodes(rt: HostRuntime) -> Result<(), Fail> {
         Numbering::depth_first(rt.alloc(), &topology, 0).err(),
         Some(NumberError::Disconnected)
     );
+    Ok(())
+}
+
+/// Lists for the order of four nodes, and why they are none.
+const ORDERS: [(&[u16], Option<OrderError>); 6] = [
+    (&[2, 0, 1, 3], None),
+    (&[2, 4, 4, 3], Some(OrderError::NoNode)),
+    (&[2, 0, 2, 4], Some(OrderError::Twice)),
+    (&[2, 0, 1], Some(OrderError::Missing)),
+    (&[], Some(OrderError::Missing)),
+    (&[0, 1, 2, 3, 3], Some(OrderError::Twice)),
+];
+
+#[test]
+fn numbers_by_a_list(rt: HostRuntime) -> Result<(), Fail> {
+    for (nodes, why) in &ORDERS {
+        let mut order = Vec::new(rt.alloc());
+        for u in *nodes {
+            order.push(*u)?;
+        }
+        if Numbering::of_order(rt.alloc(), 4, order).err() != *why {
+            return Err("another refusal".into());
+        }
+    }
+    Ok(())
+}
+
+#[test]
+fn labels_are_places_in_the_list(rt: HostRuntime) -> Result<(), Fail> {
+    let mut order = Vec::new(rt.alloc());
+    order.push(1u16)?;
+    order.push(0u16)?;
+    let Ok(numbers) = Numbering::of_order(rt.alloc(), 2, order) else {
+        return Err("no numbers".into());
+    };
+    assert_eq!(rt; numbers.label_of(1), 0);
+    assert_eq!(rt; numbers.node_of(1), 0);
     Ok(())
 }

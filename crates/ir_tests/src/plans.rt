@@ -5,6 +5,7 @@ ghost use Rattle.ir_model.specs.Network.{node_count};
 
 use crate::networks::{Edge, HEAVY, PATH, RING, topology_of};
 use ir_graph::Graph;
+use ir_numbering::check_order;
 use ir_plan::{Kind, Plan, PlanError};
 use ir_tables::Topology;
 use std::alloc::Global;
@@ -232,5 +233,30 @@ fn plans_refused(rt: HostRuntime) -> Result<(), Fail> {
         assert_eq!(rt; error, *why);
         assert_eq!(rt; back.nodes(), *nodes);
     }
+    Ok(())
+}
+
+/// A ring's rows where the labels are the places of d, a, b and c.
+#[test]
+fn plan_over_an_order(rt: HostRuntime) -> Result<(), Fail> {
+    let topology = topology_of(rt.alloc(), &RING)?;
+    let mut order = Vec::new(rt.alloc());
+    for u in &[2u16, 0, 1, 3] {
+        order.push(*u)?;
+    }
+    let Ok(()) = check_order(rt.alloc(), topology.nodes(), order.as_slice()) else {
+        return Err("no order".into());
+    };
+    let Ok(plan) = Plan::build_numbered(rt.alloc(), topology, Kind::Shortest, order) else {
+        return Err("the plan is refused".into());
+    };
+    assert_eq!(rt; plan.root(), 2);
+    let rows: [(u16, &[(u16, u16)]); 4] = [
+        (1, &[(0, 1), (2, 0)]),
+        (2, &[(0, 0), (3, 1)]),
+        (0, &[(1, 0), (3, 1)]),
+        (3, &[(0, 1), (1, 0)]),
+    ];
+    assert!(rt; has_rows(&plan, rows.as_slice()));
     Ok(())
 }

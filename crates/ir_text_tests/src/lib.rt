@@ -3,6 +3,8 @@
 #![tactic(auto)]
 
 #[cfg(test)]
+mod flushed;
+#[cfg(test)]
 mod hostile;
 #[cfg(test)]
 mod limits;

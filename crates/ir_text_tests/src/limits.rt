@@ -97,41 +97,41 @@ fn a_drain_delivers_them_all(rt: HostRuntime) -> Result<(), Fail> {
 }
 
 #[test]
-fn a_ring_of_256_is_drained(rt: HostRuntime) -> Result<(), Fail> {
+fn a_ring_of_1024_is_drained(rt: HostRuntime) -> Result<(), Fail> {
     let mut steps = Vec::new(rt.alloc());
-    for source in 0..256u16 {
-        steps.push(Step::Event(Event::Inject(source, 255 - source)))?;
+    for source in 0..1024u16 {
+        steps.push(Step::Event(Event::Inject(source, (source + 128) % 1024)))?;
     }
     steps.push(Step::Drain)?;
-    let topology = ring(rt.alloc(), 256)?;
+    let topology = ring(rt.alloc(), 1024)?;
     let Ok(played) = play(rt.alloc(), opening(topology), steps.as_slice()) else {
         return Err("not opened".into());
     };
-    assert!(rt; ended(&played, Fate::Delivered) == 256);
+    assert!(rt; ended(&played, Fate::Delivered) == 1024);
     Ok(())
 }
 
 #[test]
-fn changes_of_the_last_of_1024_links(rt: HostRuntime) -> Result<(), Fail> {
-    let topology = linked(rt.alloc(), 256, 4)?;
+fn changes_of_the_last_of_8192_links(rt: HostRuntime) -> Result<(), Fail> {
+    let topology = linked(rt.alloc(), 1024, 8)?;
     let Ok(mut world) = World::new(rt.alloc(), topology, Kind::Tree, 0, 16, 4096, 0) else {
         return Err("not opened".into());
     };
     for k in 0..65535 {
         let event = if k % 2 == 0 {
-            Event::Down(1023)
+            Event::Down(8191)
         } else {
-            Event::Up(1023)
+            Event::Up(8191)
         };
         let Ok(_) = world.apply(event) else {
             return Err("refused".into());
         };
     }
-    assert!(rt; matches!(world.apply(Event::Up(1023)), Err(Refused::TooManyChanges)));
-    assert!(rt; matches!(world.apply(Event::Down(1023)), Err(Refused::Same)));
-    assert!(rt; matches!(world.apply(Event::Down(1024)), Err(Refused::NoLink)));
+    assert!(rt; matches!(world.apply(Event::Up(8191)), Err(Refused::TooManyChanges)));
+    assert!(rt; matches!(world.apply(Event::Down(8191)), Err(Refused::Same)));
+    assert!(rt; matches!(world.apply(Event::Down(8192)), Err(Refused::NoLink)));
     let newest: Option<Board> = world.board_versions().get(65535).copied();
-    assert!(rt; newest.is_some_and(|board| !board.is_up(1023) && board.is_up(1022)));
+    assert!(rt; newest.is_some_and(|board| !board.is_up(8191) && board.is_up(8190)));
     Ok(())
 }
 
@@ -142,11 +142,11 @@ fn opens(alloc: Global, topology: Topology) -> Option<OpenError> {
 #[test]
 fn the_largest_networks(rt: HostRuntime) -> Result<(), Fail> {
     let alloc = rt.alloc();
-    assert!(rt; opens(alloc, ring(alloc, 256)?).is_none());
-    assert!(rt; opens(alloc, ring(alloc, 257)?) == Some(OpenError::TooLarge));
-    assert!(rt; opens(alloc, linked(alloc, 45, 22)?).is_none());
-    assert!(rt; opens(alloc, linked(alloc, 46, 23)?) == Some(OpenError::TooLarge));
-    let topology = ring(alloc, 257)?;
+    assert!(rt; opens(alloc, ring(alloc, 1024)?).is_none());
+    assert!(rt; opens(alloc, ring(alloc, 1025)?) == Some(OpenError::TooLarge));
+    assert!(rt; opens(alloc, linked(alloc, 128, 64)?).is_none());
+    assert!(rt; opens(alloc, linked(alloc, 129, 64)?) == Some(OpenError::TooLarge));
+    let topology = ring(alloc, 1025)?;
     let refused = play(alloc, opening(topology), &[]);
     assert!(rt; matches!(refused, Err(OpenError::TooLarge)));
     Ok(())

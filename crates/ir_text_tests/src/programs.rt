@@ -39,6 +39,7 @@ fn words_by_default(rt: HostRuntime) -> Result<(), Fail> {
     assert!(rt; words.sub == Sub::Plan && words.format == Format::AdjList);
     assert!(rt; words.kind == Kind::Shortest && words.root.is_none());
     assert!(rt; words.capacity == 16 && words.packets == 4096 && words.restamps == 0);
+    assert!(rt; words.threads.is_none());
     assert!(rt; words.files.len() == 1);
     assert!(rt;
         words
@@ -65,6 +66,37 @@ fn words_that_are_given(rt: HostRuntime) -> Result<(), Fail> {
 }
 
 #[test]
+fn threads_that_are_given(rt: HostRuntime) -> Result<(), Fail> {
+    for (line, most) in [
+        ("plan --threads 1 -", 1),
+        ("draw --threads 256 -", 256),
+        ("walk --threads 2 --from a --to b -", 2),
+        ("stats --threads 16 -", 16),
+    ] {
+        let words = asked_by(rt.alloc(), line)?;
+        assert!(rt;
+            words.is_ok_and(|words| words.threads == Some(most)),
+            "{line}"
+        );
+    }
+    Ok(())
+}
+
+#[test]
+fn words_that_ask_for_prefixes(rt: HostRuntime) -> Result<(), Fail> {
+    for (line, is_disjoint) in [("prefixes --disjoint -", true), ("prefixes -", false)] {
+        let Ok(words) = asked_by(rt.alloc(), line)? else {
+            return Err("the words are refused".into());
+        };
+        assert!(rt;
+            words.sub == Sub::Prefixes && words.disjoint == is_disjoint,
+            "{line}"
+        );
+    }
+    Ok(())
+}
+
+#[test]
 fn words_that_are_refused(rt: HostRuntime) -> Result<(), Fail> {
     for line in [
         "",
@@ -80,6 +112,11 @@ fn words_that_are_refused(rt: HostRuntime) -> Result<(), Fail> {
         "plan --packets 0 -",
         "plan --packets 4097 -",
         "plan - --to a",
+        "plan --threads 0 -",
+        "plan --threads 257 -",
+        "stats --threads many -",
+        "sim --threads 2 -",
+        "check --threads 2 -",
         "live",
         "live topology",
         "live - script",
@@ -97,6 +134,10 @@ fn words_that_are_refused(rt: HostRuntime) -> Result<(), Fail> {
         "stats - --from a",
         "draw - --from a",
         "draw - --to a",
+        "prefixes",
+        "prefixes one two",
+        "prefixes - --to a",
+        "plan --disjoint -",
     ] {
         let answer = asked_by(rt.alloc(), line)?;
         assert!(rt; answer.is_err_and(|error| error.code() == 1), "{line}");
@@ -110,6 +151,7 @@ fn words_that_ask_for_a_text(rt: HostRuntime) -> Result<(), Fail> {
         ("plan --help", "--capacity"),
         ("sim --help", "inject"),
         ("live --help", "inject"),
+        ("prefixes --help", "--disjoint"),
         ("--version", "route 1.0.0\n"),
     ] {
         let Err(WordsError::Help(text)) = asked_by(rt.alloc(), line)? else {

@@ -12,10 +12,12 @@ use Rattle.ir_trace.specs.Codes as findings
 use Rattle.ir_trace.specs.declared.finding.Finding.{Finding}
 use Rattle.ir_trace.specs.declared.finding.FindingKind.{FindingKind}
 use Rattle.ir_trace.specs.Rows.{spaced}
+use Rattle.ir_order.specs.Order.{order_fault_code}
+use Rattle.ir_order.specs.declared.fault.OrderFaultKind.{OrderFaultKind}
 use Rattle.ir_script.specs.Script as scripts
 use Rattle.ir_script.specs.declared.fault.ScriptFault.{ScriptFault}
 use Rattle.ir_words.specs.declared.read.Source.{Source}
-use Rattle.ir_words.specs.declared.read.Source.TheVariants.{Input, Topology, Script, Trace}
+use Rattle.ir_words.specs.declared.read.Source.TheVariants.{Input, Topology, Script, Trace, Numbering}
 
 -- `WHAT LINE NAME`
 abbrev pub numbered_line : List ℕ → ℕ → List ℕ → List ℕ
@@ -42,6 +44,15 @@ script_fault_words =
 
 abbrev pub script_fault_name : ScriptFault → List ℕ
 script_fault_name kind = word_of script_fault_words (scripts.fault_code kind)
+
+-- those of the faults of an order of nodes
+abbrev pub order_fault_words : List (List ℕ)
+order_fault_words =
+    codes "BadByte" ∷ codes "BadRow" ∷ codes "UnknownNode" ∷ codes "Twice" ∷ codes "Missing"
+    ∷ codes "NoMemory" ∷ []
+
+abbrev pub order_fault_name : OrderFaultKind → List ℕ
+order_fault_name kind = word_of order_fault_words (order_fault_code kind)
 
 -- those of the refusals of an opening: the first five are of a simulation and of a net, the last two of a net alone
 abbrev pub opening_words : List (List ℕ)
@@ -91,6 +102,10 @@ topology_line f = numbered_line (codes "topology") f.0 (fault_name f.1)
 abbrev pub script_line : ℕ × ScriptFault → List ℕ
 script_line f = numbered_line (codes "script") f.0 (script_fault_name f.1)
 
+-- `numbering LINE KIND`
+abbrev pub numbering_line : ℕ × OrderFaultKind → List ℕ
+numbering_line f = numbered_line (codes "numbering") f.0 (order_fault_name f.1)
+
 -- `opening NAME`
 abbrev pub opening_line : OpenError → List ℕ
 opening_line e = codes "opening " ++ open_error_name e ++ 10 ∷ []
@@ -113,6 +128,7 @@ source_name Input = codes "input"
 source_name Topology = codes "topology"
 source_name Script = codes "script"
 source_name Trace = codes "trace"
+source_name Numbering = codes "numbering"
 
 abbrev pub unreadable_line : Source → List ℕ
 unreadable_line source = source_name source ++ codes " unreadable\n"

@@ -12,7 +12,8 @@ use Rattle.ir_words.specs.declared.words.Format.{Format}
 use Rattle.ir_words.specs.declared.words.Format.TheVariants.{AdjList, EdgeList}
 use Rattle.ir_words.specs.declared.words.Words.{Words}
 use Rattle.ir_words.specs.Answer.{Answer, Refused}
-use Rattle.ir_words.specs.Lines.{topology_line, opening_line}
+use Rattle.ir_order.specs.Order.{order_fault, IsOrder}
+use Rattle.ir_words.specs.Lines.{topology_line, numbering_line, opening_line}
 
 -- the first fault of the lines of a topology text, and their graph
 abbrev pub topology_fault : Format → List (List ℕ) → Option (ℕ × Fault)
@@ -45,3 +46,9 @@ AnswersTopology format ls answers answer =
 abbrev pub AnswersRoot : Adjacency → Option Name → (ℕ → Answer → Type 0) → Answer → Type 0
 AnswersRoot g root answers answer =
     MatchOption (root_in (names g) root) (answer ≡ Refused (opening_line (no_root g))) (λ u. answers u answer)
+
+-- The answer to a graph and the lines of an order of its nodes: the order's first fault, or else an answer to the order.
+abbrev pub AnswersOrder : Adjacency → List (List ℕ) → (List ℕ → Answer → Type 0) → Answer → Type 0
+AnswersOrder g ls answers answer =
+    MatchOption (order_fault (names g) ls) ((order : List ℕ) × IsOrder (names g) ls order × answers order answer)
+    (λ f. answer ≡ Refused (numbering_line f))

@@ -1,11 +1,12 @@
 //! The lines that tell of a refusal, and of an input that was not read.
 ghost use Rattle.std.specs.Prelude.{◌≡◌, ◌∷◌, ◌++◌, [], IfOk, OnOk, codes, string_bytes};
-ghost use Rattle.ir_words.specs.Lines.{finding_line, ok_line, topology_line, script_line, opening_line, unreadable_line, too_large_line, net_line, numbered_line, reply_line};
+ghost use Rattle.ir_words.specs.Lines.{finding_line, ok_line, topology_line, script_line, numbering_line, opening_line, unreadable_line, too_large_line, net_line, numbered_line, reply_line};
 
 use crate::read::Source;
 use ir_control::NetError;
 use ir_core::{OpenError, Refused, Reply};
 use ir_model::Fault;
+use ir_order::OrderFaultKind;
 use ir_script::ScriptFault;
 use ir_trace::Finding;
 use ir_trace::text::{push_next_number, push_word};
@@ -29,6 +30,16 @@ static SCRIPT_FAULTS: [&str; 6] = [
     "BadNumber",
     "UnknownNode",
     "UnknownLink",
+    "NoMemory",
+];
+
+/// Those of the faults of an order of nodes.
+static ORDER_FAULTS: [&str; 6] = [
+    "BadByte",
+    "BadRow",
+    "UnknownNode",
+    "Twice",
+    "Missing",
     "NoMemory",
 ];
 
@@ -96,6 +107,7 @@ pub fn unreadable_line(source: Source) -> &'static str
         Source::Topology => "topology unreadable\n",
         Source::Script => "script unreadable\n",
         Source::Trace => "trace unreadable\n",
+        Source::Numbering => "numbering unreadable\n",
     }
 }
 
@@ -108,6 +120,7 @@ pub fn too_large_line(source: Source) -> &'static str
         Source::Topology => "topology too large\n",
         Source::Script => "script too large\n",
         Source::Trace => "trace too large\n",
+        Source::Numbering => "numbering too large\n",
     }
 }
 
@@ -150,6 +163,19 @@ pub fn script_line(alloc: Global, line: usize, kind: ScriptFault) -> Result<Stri
 {
     let mut text = String::new(alloc);
     push_line(&mut text, "script", line, SCRIPT_FAULTS[kind as usize - 1])?;
+    Ok(text)
+}
+
+/// The line of the fault of an order of nodes.
+pub fn numbering_line(
+    alloc: Global,
+    line: usize,
+    kind: OrderFaultKind,
+) -> Result<String, AllocError>
+    ensures { IfOk result (λ text. string_bytes text ≡ numbering_line (line, kind)) }
+{
+    let mut text = String::new(alloc);
+    push_line(&mut text, "numbering", line, ORDER_FAULTS[kind as usize - 1])?;
     Ok(text)
 }
 

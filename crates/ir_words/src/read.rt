@@ -12,6 +12,7 @@ pub enum Source {
     Topology,
     Script,
     Trace,
+    Numbering,
 }
 
 /// The first input that was not read, and why.

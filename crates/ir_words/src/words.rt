@@ -1,7 +1,10 @@
 //! The words of the command line.
 
+ghost use Rattle.std.specs.Prelude.{◌≡◌, ◌≢◌, true, IfOk};
+ghost use Rattle.ir_words.specs.Words.{format_of_name, FitsItsKind};
+
 use clap::error::ErrorKind;
-use clap::{Arg, ArgMatches, Command};
+use clap::{Arg, ArgAction, ArgMatches, Command};
 use ir_model::Kind;
 use std::alloc::{AllocError, AllocFailed, Global};
 use thiserror::Error;
@@ -13,6 +16,7 @@ pub enum Sub {
     Walk,
     Stats,
     Draw,
+    Prefixes,
     Sim,
     Live,
     Check,
@@ -25,9 +29,21 @@ pub enum Format {
     EdgeList,
 }
 
+/// How the nodes of a plan are numbered.
+#[derive(Debug, Drop)]
+pub enum Numbering {
+    /// Depth first, from the root.
+    DepthFirst,
+    /// In the order of a tour from the root, or depth first, by which has fewer starts.
+    Tour,
+    /// In the order of a file of this name; the root is the first node of it.
+    File(String),
+}
+
 /// What the words ask for. The files are the one word `-`, which stands for standard input with all texts, or else one
-/// for each text: the topology for `plan`, `walk`, `stats` and `draw`, the topology and the script for `sim` and `live`, and
-/// the trace too for `check`. No other number of files is read, and `-` beside another file is refused.
+/// for each text: the topology for `plan`, `walk`, `stats`, `draw` and `prefixes`, the topology and the script for
+/// `sim` and `live`, and the trace too for `check`. No other number of files is read, and `-` beside another file is
+/// refused.
 #[derive(Drop)]
 pub struct Words {
     pub sub: Sub,
@@ -35,27 +51,44 @@ pub struct Words {
     pub kind: Kind,
     /// The name of the root; the first node where there is none.
     pub root: Option<String>,
+    /// Other than depth first for `plan`, `walk`, `stats`, `draw` and `prefixes` alone, where the kind is not Tree; a file's
+    /// where no root is named.
+    pub numbering: Numbering,
     /// The capacity of each channel and inbox, from 1 to 1,024.
     pub capacity: usize,
     /// The most packets, from 1 to 4,096.
     pub packets: usize,
     /// The most restamps of a packet, from 0 to 3.
     pub restamps: u8,
+    /// The most threads that make the rows of a plan, from 1 to 256; as many as suit the processors where there is none.
+    pub threads: Option<usize>,
     /// The names of the nodes that a walk goes from and to: both for `walk`, both or none for `draw`.
     pub from: Option<String>,
     pub to: Option<String>,
+    /// Whether no number is to match two lines of a node, for `prefixes`.
+    pub disjoint: bool,
     pub files: Vec<String>,
 }
 
 impl Words {
     ghost use Rattle.std.specs.Prelude.{◌≡◌};
-    ghost use Rattle.ir_words.specs.Words.{is_one_input};
+    ghost use Rattle.ir_words.specs.Words.{is_one_input, has_order};
 
     /// Whether the files are the one word `-`.
     pub fn is_one_input(&self) -> bool
         ensures { result ≡ is_one_input self.now }
     {
         self.files.len() == 1 && self.files[0].as_str() == "-"
+    }
+
+    /// Whether the numbering is that of a file.
+    pub fn has_order(&self) -> bool
+        ensures { result ≡ has_order self.now }
+    {
+        match self.numbering {
+            Numbering::DepthFirst | Numbering::Tour => false,
+            Numbering::File(_) => true,
+        }
     }
 }
 
@@ -100,6 +133,9 @@ impl From<AllocError> for WordsError {
 
 static FORMATS: [&str; 2] = ["adjlist", "edgelist"];
 
+static FORMAT_HELP: &str =
+    "The format of the topology; edgelist by default for a file that ends in .edgelist or .wel, else adjlist";
+
 static KINDS: [&str; 3] = ["tree", "shortest", "compact"];
 
 static VERSION: &str = "1.0.0";
@@ -113,6 +149,23 @@ static STATS_ABOUT: &str =
     "Prints the figures of a topology's plan: its starts, its greatest row, its walks";
 
 static DRAW_ABOUT: &str = "Prints a drawing of a topology's plan for Graphviz";
+
+static PREFIXES_ABOUT: &str =
+    "Prints the fewest prefixes of labels by which each node sends on, for longest prefix match";
+
+static PREFIXES_LINES: &str = "\
+Lines that are printed:
+  prefixes KIND N BITS LINES                       The numbers of nodes, of bits of a label, and of lines of tables
+  NODE LABEL [VALUE/LENGTH NEXT]...                The lines of a node; NEXT is a neighbour, or - for unreachable
+
+Example, for a topology with the lines 'a b' and 'b c':
+  $ route prefixes --kind tree --root b TOPOLOGY
+  prefixes tree 3 2 5
+  a 1 0/0 b
+  b 0 2/1 c 0/0 a
+  c 2 2/1 - 0/0 b
+
+What goes to a label goes by the line of the longest prefix that holds it.";
 
 static SIM_ABOUT: &str = "Plays the lines of a script, and prints what became of its packets";
 
@@ -182,14 +235,31 @@ Usage: route check [OPTIONS] <TOPOLOGY> <SCRIPT> <TRACE>
 For more information, try '--help'.
 ";
 
+static TREE_NUMBERING: &str = "\
+error: '--kind tree' takes '--numbering depth-first' alone
+
+For more information, try '--help'.
+";
+
+static ROOT_NUMBERING: &str = "\
+error: '--root' does not go with a file's '--numbering', of which the first node is the root
+
+For more information, try '--help'.
+";
+
+static INPUT_NUMBERING: &str = "\
+error: '--numbering' takes 'depth-first', 'tour' or a file, not '-'
+
+For more information, try '--help'.
+";
+
 /// A subcommand's command, with the options that all have.
 fn with_options<'a>(alloc: Global, name: &'a str) -> Result<Command<'a>, AllocError> {
     let format = Arg::new(alloc, "format")
         .long("format")
         .value_name("FORMAT")
         .value_parser(FORMATS.as_slice())
-        .default_value("adjlist")
-        .help("The format of the topology");
+        .help(FORMAT_HELP);
     let kind = Arg::new(alloc, "kind")
         .long("kind")
         .value_name("KIND")
@@ -242,7 +312,21 @@ fn topology_command<'a>(
     about: &'a str,
 ) -> Result<Command<'a>, AllocError> {
     let topology = topology_arg(alloc, "The file of the topology, or - for standard input");
-    with_options(alloc, name)?.about(about).arg(topology)
+    let threads = Arg::new(alloc, "threads")
+        .long("threads")
+        .value_name("T")
+        .value_parser(clap::value_parser!(u16).range(1..=256))
+        .help("The most threads that make rows; as many as suit the processors by default");
+    let numbering = Arg::new(alloc, "numbering")
+        .long("numbering")
+        .value_name("NUMBERING")
+        .default_value("depth-first")
+        .help("How nodes are numbered: depth-first, tour (for fewer intervals), or a file with a node a line, in order");
+    with_options(alloc, name)?
+        .arg(threads)?
+        .arg(numbering)?
+        .about(about)
+        .arg(topology)
 }
 
 /// The command of `walk`.
@@ -277,6 +361,17 @@ fn draw_command<'a>(alloc: Global) -> Result<Command<'a>, AllocError> {
     topology_command(alloc, "draw", DRAW_ABOUT)?
         .arg(from)?
         .arg(to)
+}
+
+/// The command of `prefixes`.
+fn prefixes_command<'a>(alloc: Global) -> Result<Command<'a>, AllocError> {
+    let disjoint = Arg::new(alloc, "disjoint")
+        .long("disjoint")
+        .action(ArgAction::SetTrue)
+        .help("Prefixes of which no two of a node hold one label");
+    topology_command(alloc, "prefixes", PREFIXES_ABOUT)?
+        .after_help(PREFIXES_LINES)
+        .arg(disjoint)
 }
 
 /// The command of a subcommand that plays a script: its name, what it is about, its usage, and the lines of its scripts.
@@ -334,6 +429,7 @@ fn route_command<'a>(alloc: Global) -> Result<Command<'a>, AllocError> {
         .subcommand(walk_command(alloc)?)?
         .subcommand(topology_command(alloc, "stats", STATS_ABOUT)?)?
         .subcommand(draw_command(alloc)?)?
+        .subcommand(prefixes_command(alloc)?)?
         .subcommand(script_command(alloc, "sim", SIM_ABOUT, SIM_USAGE, SCRIPT_LINES)?)?
         .subcommand(script_command(alloc, "live", LIVE_ABOUT, LIVE_USAGE, LIVE_LINES)?)?
         .subcommand(check_command(alloc)?)
@@ -373,12 +469,39 @@ fn word_of(
     }
 }
 
+/// The format of a file by its name: that of edge lists where it ends in `.edgelist`, as `.weighted.edgelist` does, or in
+/// `.wel`, else that of adjacency lists.
+fn format_of_file(name: &str) -> Format
+    ensures { result ≡ format_of_name name.now }
+{
+    let bytes = name.as_bytes();
+    if bytes.ends_with(b".edgelist") || bytes.ends_with(b".wel") {
+        Format::EdgeList
+    } else {
+        Format::AdjList
+    }
+}
+
+/// The format that the words name, else that of the topology's file.
+fn format_of(found: &ArgMatches<'_>) -> Format {
+    match found.get_str("format") {
+        Some("edgelist") => Format::EdgeList,
+        Some(_) => Format::AdjList,
+        None => format_of_file(found.get_str("topology").unwrap_or("-")),
+    }
+}
+
+/// The numbering that is asked for.
+fn numbering_of(alloc: Global, found: &ArgMatches<'_>) -> Result<Numbering, AllocError> {
+    match found.get_str("numbering") {
+        None | Some("depth-first") => Ok(Numbering::DepthFirst),
+        Some("tour") => Ok(Numbering::Tour),
+        Some(file) => Ok(Numbering::File(String::from_str(alloc, file)?)),
+    }
+}
+
 /// The words of a subcommand.
 fn words_of(alloc: Global, sub: Sub, found: &ArgMatches<'_>) -> Result<Words, AllocError> {
-    let format = match found.get_str("format") {
-        Some("edgelist") => Format::EdgeList,
-        _ => Format::AdjList,
-    };
     let kind = match found.get_str("kind") {
         Some("tree") => Kind::Tree,
         Some("compact") => Kind::Compact,
@@ -395,14 +518,17 @@ fn words_of(alloc: Global, sub: Sub, found: &ArgMatches<'_>) -> Result<Words, Al
     }
     Ok(Words {
         sub,
-        format,
+        format: format_of(found),
         kind,
         root,
+        numbering: numbering_of(alloc, found)?,
         capacity: found.get_one::<usize>("capacity").unwrap_or(16),
         packets: found.get_one::<usize>("packets").unwrap_or(4096),
         restamps: restamps_of(found),
+        threads: found.get_one::<usize>("threads"),
         from,
         to,
+        disjoint: found.get_flag("disjoint"),
         files,
     })
 }
@@ -410,7 +536,7 @@ fn words_of(alloc: Global, sub: Sub, found: &ArgMatches<'_>) -> Result<Words, Al
 /// Whether the files are `-` alone, or one for each text with no `-` among them.
 fn has_its_files(words: &Words) -> bool {
     let texts = match words.sub {
-        Sub::Plan | Sub::Walk | Sub::Stats | Sub::Draw => 1,
+        Sub::Plan | Sub::Walk | Sub::Stats | Sub::Draw | Sub::Prefixes => 1,
         Sub::Sim | Sub::Live => 2,
         Sub::Check => 3,
     };
@@ -418,10 +544,31 @@ fn has_its_files(words: &Words) -> bool {
         || (words.files.len() == texts && words.files.iter().all(|file| file.as_str() != "-"))
 }
 
+/// Whether the numbering may be that of a plan of this kind.
+fn fits_its_kind(words: &Words) -> bool
+    ensures { result ≡ true → FitsItsKind words.now }
+{
+    !words.has_order() || words.kind != Kind::Tree
+}
+
+/// What is wrong with the numbering of the words, as a text for standard error, if anything is.
+fn numbering_fault(words: &Words) -> Option<&'static str> {
+    match &words.numbering {
+        Numbering::DepthFirst => None,
+        Numbering::Tour if words.kind == Kind::Tree => Some(TREE_NUMBERING),
+        Numbering::Tour => None,
+        Numbering::File(name) if name.as_str() == "-" => Some(INPUT_NUMBERING),
+        Numbering::File(_) if words.root.is_some() => Some(ROOT_NUMBERING),
+        Numbering::File(_) => None,
+    }
+}
+
 /// What the words behind the program's name ask for. Words that are refused give the text for standard error, `--help` and
 /// `--version` the text for standard output. Refused are also a number of files that the subcommand does not take, and `-`
-/// beside another file.
-pub fn read_words(alloc: Global, words: &[String]) -> Result<Words, WordsError> {
+/// beside another file; a file's numbering of a tree, or beside a root, or on standard input.
+pub fn read_words(alloc: Global, words: &[String]) -> Result<Words, WordsError>
+    ensures { IfOk result (λ words. FitsItsKind words) }
+{
     let mut all: Vec<&str> = Vec::with_capacity(alloc, words.len() + 1)?;
     all.push("route")?;
     for word in words {
@@ -441,11 +588,18 @@ pub fn read_words(alloc: Global, words: &[String]) -> Result<Words, WordsError> 
         "walk" => (Sub::Walk, SIM_FILES),
         "stats" => (Sub::Stats, SIM_FILES),
         "draw" => (Sub::Draw, SIM_FILES),
+        "prefixes" => (Sub::Prefixes, SIM_FILES),
         _ => (Sub::Plan, SIM_FILES),
     };
     let words = words_of(alloc, sub, inner)?;
     if !has_its_files(&words) {
         return Err(WordsError::Usage(String::from_str(alloc, files)?));
+    }
+    if let Some(fault) = numbering_fault(&words) {
+        return Err(WordsError::Usage(String::from_str(alloc, fault)?));
+    }
+    if !fits_its_kind(&words) {
+        return Err(WordsError::Usage(String::from_str(alloc, TREE_NUMBERING)?));
     }
     Ok(words)
 }

@@ -5,6 +5,7 @@
 
 mod channels;
 mod epochs;
+mod live;
 mod nets;
 mod networks;
 mod worlds;
@@ -12,16 +13,18 @@ mod worlds;
 use std::alloc::Global;
 use std::io;
 use std::sync::Wait;
+use std::thread::Threads;
 
 /// What is wrong first.
-fn found<R: Wait>(rt: &R, alloc: Global) -> Result<(), &'static str> {
+fn found<R: Threads + Wait + Sync>(rt: &R, alloc: Global) -> Result<(), &'static str> {
     worlds::try_world(alloc)?;
     worlds::try_full_inbox(alloc)?;
     worlds::try_full_channel(alloc)?;
     channels::try_channel(rt, alloc)?;
     epochs::try_epochs(rt, alloc)?;
     nets::try_net(rt, alloc)?;
-    nets::try_full_channel(rt, alloc)
+    nets::try_full_channel(rt, alloc)?;
+    live::try_live(rt, alloc)
 }
 
 fn main(rt: HostRuntime) -> io::Result<()> {

@@ -10,6 +10,7 @@ use ir_control::{
     finish,
 };
 use ir_core::Fate;
+use ir_epochs::BoardError;
 use ir_plan::Kind;
 use ir_tables::Topology;
 use ir_worker::{Node, Turn};
@@ -17,7 +18,7 @@ use std::alloc::Global;
 use std::sync::Wait;
 
 /// A net over a topology, each channel of this capacity.
-fn opened(alloc: Global, topology: &Topology, capacity: usize) -> Result<Net, &'static str> {
+pub fn opened(alloc: Global, topology: &Topology, capacity: usize) -> Result<Net, &'static str> {
     match Net::new(alloc, copy(alloc, topology)?, Kind::Tree, 1, capacity, 4, 1) {
         Ok(net) => return Ok(net),
         Err(NetError::NoMemory) => {}
@@ -42,7 +43,8 @@ fn parted<'a, R: Wait>(
     match net.parts(rt) {
         Ok(Some(parts)) => return Ok((net, parts)),
         Ok(None) => return Err("no parts are given"),
-        Err(_) => {}
+        Err(BoardError::NoMemory) => {}
+        Err(BoardError::TooManyReaders) => return Err("a board has no place for a reader"),
     }
     let Ok(None) = net.parts(rt) else {
         return Err("parts that were refused are given");

@@ -1,16 +1,20 @@
 //! `route`: interval routing over a network. `route sim` plays the lines of a script over a topology, and prints what
 //! became of its packets; `route live` does so while each node runs in a thread of its own; `route check` checks such a
 //! print; `route plan` prints the labels and rows of a topology's nodes, `route walk` a walk of that plan, `route stats`
-//! its figures, and `route draw` a drawing of it. With no words it does as `route sim -`, with both texts from standard
-//! input.
+//! its figures, `route draw` a drawing of it, and `route prefixes` its forwarding tables. With no words it does as
+//! `route sim -`, with both texts from standard input.
 #![tactic(auto)]
+
+ghost use Rattle.std.specs.Prelude.{◌≡◌, length};
+ghost use Rattle.ir_shell.specs.Asked.{look_sources};
+ghost use Rattle.ir_words.specs.Words.{FitsItsKind};
 
 mod input;
 
-use input::open;
+use input::{Input, open};
 use ir_shell::{
-    Sub, Words, WordsError, read_words, run_check, run_draw, run_live_text, run_plan, run_sim,
-    run_stats, run_walk,
+    Numbering, Sub, Words, WordsError, read_words, run_check, run_draw, run_live_text, run_plan, run_prefixes,
+    run_sim, run_stats, run_walk,
 };
 use std::process::ExitCode;
 use std::sync::Wait;
@@ -38,17 +42,41 @@ fn file(words: &Words, i: usize) -> &str {
     }
 }
 
-/// Prints what the words ask for of a topology's plan.
-fn show(rt: &HostRuntime, words: &Words) -> u8 {
+/// Prints what the words ask for of a topology's plan, whose rows are made in threads, over the inputs.
+fn show_over<T: Threads + Sync>(
+    rt: &HostRuntime,
+    threads: &T,
+    words: &Words,
+    inputs: &mut [Input],
+) -> u8
+    requires kind { FitsItsKind words.now }
+    requires inputs { length inputs.old ≡ length (look_sources words.now) }
+{
     let alloc = rt.alloc();
-    let mut inputs = [open(rt, file(words, 0))];
     let mut output = rt.stdout();
     let mut faults = rt.stderr();
     match words.sub {
-        Sub::Walk => run_walk(alloc, words, &mut inputs, &mut output, &mut faults),
-        Sub::Stats => run_stats(alloc, words, &mut inputs, &mut output, &mut faults),
-        Sub::Draw => run_draw(alloc, words, &mut inputs, &mut output, &mut faults),
-        _ => run_plan(alloc, words, &mut inputs, &mut output, &mut faults),
+        Sub::Walk => run_walk(threads, alloc, words, inputs, &mut output, &mut faults),
+        Sub::Stats => run_stats(threads, alloc, words, inputs, &mut output, &mut faults),
+        Sub::Draw => run_draw(threads, alloc, words, inputs, &mut output, &mut faults),
+        Sub::Prefixes => run_prefixes(threads, alloc, words, inputs, &mut output, &mut faults),
+        _ => run_plan(threads, alloc, words, inputs, &mut output, &mut faults),
+    }
+}
+
+/// Opens the file of the topology, and that of an order where the words have one, and prints what the words ask for.
+fn show<T: Threads + Sync>(rt: &HostRuntime, threads: &T, words: &Words) -> u8
+    requires { FitsItsKind words.now }
+{
+    match &words.numbering {
+        Numbering::DepthFirst | Numbering::Tour => {
+            let mut inputs = [open(rt, file(words, 0))];
+            show_over(rt, threads, words, &mut inputs)
+        }
+        Numbering::File(name) => {
+            let mut inputs = [open(rt, file(words, 0)), open(rt, name.as_str())];
+            show_over(rt, threads, words, &mut inputs)
+        }
     }
 }
 
@@ -113,7 +141,9 @@ fn check(rt: &HostRuntime, words: &Words) -> u8 {
 fn follow<T: Threads + Wait + Sync>(rt: &HostRuntime, threads: &T, words: &[String]) -> u8 {
     match read_words(rt.alloc(), words) {
         Ok(words) => match words.sub {
-            Sub::Plan | Sub::Walk | Sub::Stats | Sub::Draw => show(rt, &words),
+            Sub::Plan | Sub::Walk | Sub::Stats | Sub::Draw | Sub::Prefixes => show(
+                rt, threads, &words,
+            ),
             Sub::Sim => sim(rt, &words),
             Sub::Check => check(rt, &words),
             Sub::Live => live(rt, threads, &words),

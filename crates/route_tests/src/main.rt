@@ -3,14 +3,20 @@
 //! memory. Told are the names of the examples that differ, how many examples there are, and how many of them differ.
 #![tactic(auto)]
 
+ghost use Rattle.std.specs.Prelude.{◌≡◌, length};
+ghost use Rattle.ir_shell.specs.Asked.{look_sources};
+ghost use Rattle.ir_words.specs.Words.{FitsItsKind};
+
 use anyhow::Error;
 use ir_shell::{
-    Sub, Words, read_words, run_check, run_draw, run_plan, run_sim, run_stats, run_walk,
+    Sub, Words, read_words, run_check, run_draw, run_plan, run_prefixes, run_sim, run_stats,
+    run_walk,
 };
 use serde::Deserialize;
 use std::alloc::Global;
 use std::fs;
 use std::process::ExitCode;
+use std::thread::Threads;
 
 /// One run of the program: its words, its inputs, and what is wanted of it.
 #[derive(Debug, Drop, Deserialize)]
@@ -39,6 +45,33 @@ fn input(example: &Example, i: usize) -> &[u8] {
     }
 }
 
+/// What a run that shows a plan prints.
+fn over_plan<T: Threads + Sync>(
+    rt: &T,
+    alloc: Global,
+    words: &Words,
+    inputs: &mut [&[u8]],
+) -> Printed
+    requires kind { FitsItsKind words.now }
+    requires inputs { length inputs.old ≡ length (look_sources words.now) }
+{
+    let mut output: Vec<u8> = Vec::new(alloc);
+    let mut faults: Vec<u8> = Vec::new(alloc);
+    let status = match words.sub {
+        Sub::Plan => run_plan(rt, alloc, words, inputs, &mut output, &mut faults),
+        Sub::Walk => run_walk(rt, alloc, words, inputs, &mut output, &mut faults),
+        Sub::Stats => run_stats(rt, alloc, words, inputs, &mut output, &mut faults),
+        Sub::Draw => run_draw(rt, alloc, words, inputs, &mut output, &mut faults),
+        Sub::Prefixes => run_prefixes(rt, alloc, words, inputs, &mut output, &mut faults),
+        _ => 255,
+    };
+    Printed {
+        status,
+        output,
+        faults,
+    }
+}
+
 /// What a run over one input prints.
 fn over_one(alloc: Global, words: &Words, text: &[u8]) -> Printed {
     let mut output: Vec<u8> = Vec::new(alloc);
@@ -46,10 +79,6 @@ fn over_one(alloc: Global, words: &Words, text: &[u8]) -> Printed {
     let mut inputs = [text];
     let is_one = words.is_one_input();
     let status = match words.sub {
-        Sub::Plan => run_plan(alloc, words, &mut inputs, &mut output, &mut faults),
-        Sub::Walk => run_walk(alloc, words, &mut inputs, &mut output, &mut faults),
-        Sub::Stats => run_stats(alloc, words, &mut inputs, &mut output, &mut faults),
-        Sub::Draw => run_draw(alloc, words, &mut inputs, &mut output, &mut faults),
         Sub::Sim if is_one => run_sim(alloc, words, &mut inputs, &mut output, &mut faults),
         Sub::Check if is_one => run_check(alloc, words, &mut inputs, &mut output, &mut faults),
         _ => 255,
@@ -96,9 +125,19 @@ fn over_three(alloc: Global, words: &Words, texts: [&[u8]; 3]) -> Printed {
 }
 
 /// What an example's run prints.
-fn run_of(alloc: Global, words: &Words, example: &Example) -> Printed {
+fn run_of<T: Threads + Sync>(rt: &T, alloc: Global, words: &Words, example: &Example) -> Printed
+    requires { FitsItsKind words.now }
+{
     let first = input(example, 0);
     match words.sub {
+        Sub::Plan | Sub::Walk | Sub::Stats | Sub::Draw | Sub::Prefixes if words.has_order() => {
+            let mut inputs = [first, input(example, 1)];
+            over_plan(rt, alloc, words, &mut inputs)
+        }
+        Sub::Plan | Sub::Walk | Sub::Stats | Sub::Draw | Sub::Prefixes => {
+            let mut inputs = [first];
+            over_plan(rt, alloc, words, &mut inputs)
+        }
         Sub::Sim if example.inputs.len() == 2 => over_two(alloc, words, first, input(example, 1)),
         Sub::Check if example.inputs.len() == 3 => {
             over_three(alloc, words, [first, input(example, 1), input(example, 2)])
@@ -108,11 +147,11 @@ fn run_of(alloc: Global, words: &Words, example: &Example) -> Printed {
 }
 
 /// Whether a run prints and ends with what an example wants; words that are refused never do.
-fn agrees(alloc: Global, example: &Example) -> bool {
+fn agrees<T: Threads + Sync>(rt: &T, alloc: Global, example: &Example) -> bool {
     let Ok(words) = read_words(alloc, example.words.as_slice()) else {
         return false;
     };
-    let got = run_of(alloc, &words, example);
+    let got = run_of(rt, alloc, &words, example);
     got.status == example.status
         && got.output.as_slice() == example.stdout.as_str().as_bytes()
         && got.faults.as_slice() == example.stderr.as_str().as_bytes()
@@ -127,10 +166,14 @@ fn examples(rt: &HostRuntime) -> Result<String, Error> {
 }
 
 /// How many examples differ, each of which is told by its name.
-fn differing(rt: &HostRuntime, examples: &[Example]) -> Result<u32, Error> {
+fn differing<T: Threads + Sync>(
+    rt: &HostRuntime,
+    threads: &T,
+    examples: &[Example],
+) -> Result<u32, Error> {
     let mut differ: u32 = 0;
     for example in examples {
-        if !agrees(rt.alloc(), example) {
+        if !agrees(threads, rt.alloc(), example) {
             rt.println(format!(in rt.alloc(); "differs: {}", example.name)?)?;
             differ = differ.saturating_add(1);
         }
@@ -139,16 +182,16 @@ fn differing(rt: &HostRuntime, examples: &[Example]) -> Result<u32, Error> {
 }
 
 /// Runs every example, and tells how many there are and how many differ.
-fn tell(rt: &HostRuntime) -> Result<u32, Error> {
+fn tell<T: Threads + Sync>(rt: &HostRuntime, threads: &T) -> Result<u32, Error> {
     let text = examples(rt)?;
     let all: Vec<Example> = serde_json::from_str(rt.alloc(), text.as_str())?;
-    let differ = differing(rt, all.as_slice())?;
+    let differ = differing(rt, threads, all.as_slice())?;
     rt.println(format!(in rt.alloc(); "{} examples, {differ} differ", all.len())?)?;
     Ok(differ)
 }
 
 fn main(rt: HostRuntime) -> ExitCode {
-    match tell(&rt) {
+    match tell(&rt, &rt) {
         Ok(0) => ExitCode::SUCCESS,
         _ => ExitCode::FAILURE,
     }

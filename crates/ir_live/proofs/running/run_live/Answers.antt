@@ -1,4 +1,4 @@
-use Rattle.ir_live.proofs.Lived.{given, refused, nodes_back, injector_back, boards_back, stamps_of_net, lived}
+use Rattle.ir_live.proofs.Lived.{given, refused, parts_refused, nodes_back, injector_back, boards_back, stamps_of_net, lived}
 use Rattle.ir_live.proofs.running.run_live.Goals as goal
 
 pub reported-requires-clause-nodes : goal.reported-requires-clause-nodes
@@ -23,6 +23,9 @@ returns-in-Ok-run_nodes-clause-live g c =
     c.reported.result c.reported.ensures.report c.reported.ensures.read c.reported.ensures.first c.reported.ensures.later c.reported.ensures.refusals
 
 pub returns-in-Err-clause-refused : goal.returns-in-Err-clause-refused
-returns-in-Err-clause-refused g c =
+returns-in-Err-clause-refused g c = parts_refused g.S.Starter.unstarted c.args.net.now c.args.starter.now c.in-Err.error c.no_parts.result c.no_parts.ensures
+
+pub returns-in-Err-run_nodes-clause-refused : goal.returns-in-Err-run_nodes-clause-refused
+returns-in-Err-run_nodes-clause-refused g c =
     let fresh = given _ c.in-Ok.given c.in-Some.parts c.in-Some.is c.in-Ok.ensures in
-    refused g.S.Starter.unstarted c.args.net.now c.args.starter.now _ c.in-Some.parts.nodes.items c.in-Err.why c.stopped.result fresh.nodes_are c.stopped.ensures c.in-Err.ensures.stopped
+    refused g.S.Starter.unstarted c.args.net.now c.args.starter.now _ c.in-Some.parts.nodes.items c.in-Err-run_nodes.why c.stopped.result fresh.nodes_are c.stopped.ensures c.in-Err-run_nodes.ensures.stopped

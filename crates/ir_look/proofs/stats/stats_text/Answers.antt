@@ -1,26 +1,27 @@
-use Rattle.std.proofs.Common.{ℕ, ◌∙◌, ◌++◌, ap, subst}
+use Rattle.std.proofs.Common.{◌∙◌, ◌++◌, ap}
+use Rattle.std.specs.Option.{option_map}
 use Rattle.ir_model.specs.Graph.{names}
-use Rattle.ir_model.specs.Table.{weight_in}
-use Rattle.ir_look.specs.StatsText.{IsWorstOf, rows_text, weights_text}
+use Rattle.ir_look.specs.StatsText.{rows_text}
+use Rattle.ir_look.specs.Figures.{figures_text}
+use Rattle.ir_look.proofs.Destinations.{figures_words}
 use Rattle.ir_look.proofs.stats.stats_text.Goals as goal
 
 pub returns : goal.returns
 returns c =
     let s = c.args.plan.now in
     let nodes = names c.args.graph.now in
-    let walk = weight_in c.in_ok-walks.walks in
-    let distance = weight_in c.in_ok-distances.distances in
-    let worst = c.worst-worst.result in
-    let P : ℕ → Type 0 = λ n. IsWorstOf n walk distance worst in
+    let figures = c.in_ok-figures.figures in
+    let are = c.in_ok-figures.ensures in
+    let greatest = c.greatest_row-greatest.result in
     record {
-      greatest = c.greatest_row-greatest.result;
+      greatest = greatest;
       greatest_row = c.greatest_row-greatest.ensures;
-      walk = walk;
-      walks = c.in_ok-walks.ensures.walks;
-      distance = distance;
-      distances = c.in_ok-distances.ensures.distances;
-      worst = worst;
-      worst_pair = subst P c.nodes-nodes.ensures.count c.worst-worst.ensures;
-      whole = c.in_ok-push_weights.ensures ∙ ap (λ t. t ++ weights_text nodes c.nodes-nodes.result walk distance worst) (c.in_ok-push_rows.ensures ∙ ap (λ t. t ++ rows_text nodes s c.greatest_row-greatest.result) c.new-text.ensures.bytes)
-          ∙ ap (λ n. rows_text nodes s c.greatest_row-greatest.result ++ weights_text nodes n walk distance worst) c.nodes-nodes.ensures.count;
+      walk = are.walk;
+      walks = are.walks;
+      distance = are.distance;
+      distances = are.distances;
+      worst = option_map (λ p. p.ends) figures.worst;
+      worst_pair = are.worst_pair;
+      whole = c.in_ok-push_weights.ensures ∙ ap (λ t. t ++ figures_text nodes figures) (c.in_ok-push_rows.ensures ∙ ap (λ t. t ++ rows_text nodes s greatest) c.new-text.ensures.bytes)
+          ∙ ap (λ t. rows_text nodes s greatest ++ t) (figures_words nodes s figures are);
     }

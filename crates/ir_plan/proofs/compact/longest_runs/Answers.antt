@@ -37,7 +37,7 @@ loop-p-preserved c =
       best = λ a l.
           best_more n own may c.loop-p.p a (slice_index c.loop-p.counts.items a) (slice_index c.loop-p.ports.items a) (slice_index c.in_ok-runs.runs.items a)
           (slice_index c.keep_longer.new.counts.items a) (slice_index c.keep_longer.new.ports.items a) c.in_ok-marks.marks.items
-          (v.best a l) (runs a l) (marks_may net c.nodes-nodes.ensures.network numbers.order numbers.labels c.requires.numbering.labels u c.requires.distances.node c.loop-p.p c.in_ok-marks.marks.items marks)
+          (v.best a l) (runs a l) (marks_may net c.nodes-nodes.ensures.network numbers.order numbers.labels c.requires.labels u c.requires.distances.node c.loop-p.p c.in_ok-marks.marks.items marks)
           (better a (omega arith));
     }
 
@@ -52,5 +52,5 @@ returns-clause-longest c =
     let last : c.loop-p.p ≡ length (ports_of net u) = let e = c.loop-p.auto.p-end in let d = c.degree-p-end.ensures in omega (arith, c.loop-p-test.false) in
     λ a l off.
     best_all n own may (length (ports_of net u)) a (slice_index c.loop-p.counts.items a) (slice_index c.loop-p.ports.items a) off
-    (no_port_past net c.nodes-nodes.ensures.network numbers.order numbers.labels c.requires.numbering.labels u c.requires.distances.node)
+    (no_port_past net c.nodes-nodes.ensures.network numbers.order numbers.labels c.requires.labels u c.requires.distances.node)
     (subst (λ (p : ℕ). IsBestBelow n own may p a (slice_index c.loop-p.counts.items a) (slice_index c.loop-p.ports.items a)) last (c.loop-p.invariant.best a l))

@@ -13,7 +13,7 @@ loop-label-preserved c =
     let held = c.in_ok-held.held.items in
     let order = c.args.numbering.now.order in
     let node : c.node_of.result ≡ slice_index order i = c.node_of.ensures in
-    let node_in = c.requires.numbering.labels.node i (omega (arith, c.loop-label-test.true, c.nodes-nodes.ensures.count)) in
+    let node_in = c.requires.labels.node i (omega (arith, c.loop-label-test.true, c.nodes-nodes.ensures.count)) in
     let inside : c.node_of.result < length held = omega (arith, node, node_in, c.in_ok-held.ensures.every) in
     let read : c.index.result.now ≡ held_at held c.node_of.result = get_or_read held c.node_of.result c.index.result.now inside c.index.ensures None in
     let here : c.is_some.result ≡ is_some (held_at held (slice_index order i)) = c.is_some.ensures ∙ ap is_some read ∙ ap (λ (u : ℕ). is_some (held_at held u)) node in
@@ -32,7 +32,7 @@ pub returns : goal.returns
 returns c =
     let net = c.args.topology.now in
     let order = c.args.numbering.now.order in
-    let named = c.requires.numbering.labels in
+    let named = c.requires.labels in
     let count = c.nodes-nodes.ensures.count in
     let end = c.loop-label.auto.label-end in
     let last : c.loop-label.label ≡ node_count net = omega (arith, c.loop-label-test.false) in

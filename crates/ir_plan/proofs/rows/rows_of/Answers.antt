@@ -17,5 +17,5 @@ returns c =
     let count = c.nodes-nodes.ensures.count in
     let end = c.loop-u.auto.u-end in
     let last : c.loop-u.u ≡ node_count net = omega (arith, c.loop-u-test.false) in
-    node_rows_stand net c.nodes-nodes.ensures.network numbers c.requires.numbering c.loop-u.rows.items c.args.kind
+    node_rows_stand net c.nodes-nodes.ensures.network numbers c.requires.labels c.loop-u.rows.items c.args.kind c.requires.tree
     (subst (λ (k : ℕ). AreNodeRows c.args.kind net numbers.order numbers.parents numbers.labels k c.loop-u.rows.items) last c.loop-u.invariant)

@@ -14,24 +14,25 @@ pub row_of-requires : goal.row_of-requires
 row_of-requires c =
     let net = c.args.topology.now in
     let numbers = c.args.numbering.now in
-    let least : AreLeastPorts net c.args.u c.in_ok-least.least.items = rw c.in_ok-from.ensures.source at c.in_ok-least.ensures in
-    rw (c.nodes-nodes.ensures.count, c.label_of.ensures, c.as_slice-2.ensures.value, c.in_ok-ports.ensures, c.as_slice.ensures.value)
-    (least_destinations net numbers.order numbers.labels c.requires.numbering.labels c.args.u c.requires.node c.in_ok-least.least.items least)
+    let held = c.in_ok-ways.ways.ports in
+    let least : AreLeastPorts net c.args.u held = c.in_ok-ways.ensures.ports in
+    rw (c.nodes-nodes.ensures.count, c.label_of.ensures, c.as_slice.ensures.value, c.in_ok-ports.ensures, c.least_ports.ensures)
+    (least_destinations net numbers.order numbers.labels c.requires.labels c.args.u c.requires.node held least)
 
 pub returns : goal.returns
 returns c =
     let net = c.args.topology.now in
     let numbers = c.args.numbering.now in
     let a = slice_index numbers.labels c.args.u in
-    let held = c.in_ok-least.least.items in
-    let least : AreLeastPorts net c.args.u held = rw c.in_ok-from.ensures.source at c.in_ok-least.ensures in
+    let held = c.in_ok-ways.ways.ports in
+    let least : AreLeastPorts net c.args.u held = c.in_ok-ways.ensures.ports in
     let ports = map (held_at held) numbers.order in
-    let made = rw (c.nodes-nodes.ensures.count, c.label_of.ensures, c.as_slice-2.ensures.value, c.in_ok-ports.ensures, c.as_slice.ensures.value) at c.row_of.ensures in
+    let made = rw (c.nodes-nodes.ensures.count, c.label_of.ensures, c.as_slice.ensures.value, c.in_ok-ports.ensures, c.least_ports.ensures) at c.row_of.ensures in
     IfOk-weaker c.row_of.result (λ (row : List Start). IsCanonical (node_count net) a ports row) (λ (row : List Start). IsNodeRow Shortest net numbers.order numbers.parents a row)
     (λ row canonical. record {
       ports = ports;
-      ports_of_kind = least_by_label net numbers.order numbers.labels c.requires.numbering.labels c.args.u c.requires.node held least;
-      destinations = least_destinations net numbers.order numbers.labels c.requires.numbering.labels c.args.u c.requires.node held least;
+      ports_of_kind = least_by_label net numbers.order numbers.labels c.requires.labels c.args.u c.requires.node held least;
+      destinations = least_destinations net numbers.order numbers.labels c.requires.labels c.args.u c.requires.node held least;
       canonical = canonical;
     })
     made

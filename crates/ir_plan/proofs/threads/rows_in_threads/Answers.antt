@@ -7,6 +7,8 @@ use Rattle.rayon.specs.Numbers.{nat_range}
 use Rattle.rayon.proofs.ToStd.{nat_range-All}
 use Rattle.ir_model.specs.Network.{node_count}
 use Rattle.ir_model.specs.Walk.{IsConnected}
+use Rattle.ir_model.specs.Scheme.{AreLabels}
+use Rattle.ir_model.specs.declared.Kind.TheVariants.{Tree}
 use Rattle.ir_model.specs.Row.{Start}
 use Rattle.ir_numbering.specs.Numbers.{IsNumberingOf}
 use Rattle.ir_plan.specs.NodeRows.{IsNodeRow}
@@ -22,8 +24,8 @@ pub collect-requires-clause-ready : goal.collect-requires-clause-ready
 collect-requires-clause-ready g c κs within =
     let ends = c.into_par_iter.ensures in
     let net = c.args.topology.now in
-    let inside = nat_range-All (λ (u : ℕ). (u < node_count net) × IsNumberingOf net c.args.numbering.now × IsConnected net) 0 c.nodes-nodes.result
-    (λ i low high. (omega (arith, high, c.nodes-nodes.ensures.count), c.requires.numbering, c.requires.connected)) in
+    let inside = nat_range-All (λ (u : ℕ). (u < node_count net) × AreLabels (node_count net) c.args.numbering.now.order c.args.numbering.now.labels × (c.args.kind ≡ Tree → IsNumberingOf net c.args.numbering.now) × IsConnected net) 0 c.nodes-nodes.result
+    (λ i low high. (omega (arith, high, c.nodes-nodes.ensures.count), c.requires.labels, c.requires.tree, c.requires.connected)) in
     rw (c.map.ensures.base, c.map.ensures.f, c.with_min_len.ensures.base, ends.0, ends.1) (λ k d lt. (inside k d lt, λ y p. tt))
 
 pub returns : goal.returns
@@ -37,7 +39,7 @@ returns g c =
     let places = chain.1 ∙ (λ i. nat_range (ends.0 i) (ends.1 i)) ∙ ap (range_with_len 0) count in
     let kind = c.args.kind in
     of_match c.in_ok-collect.field-0 _ _ _ h.2 (λ v m.
-    rw m.2 (node_rows_stand net c.nodes-nodes.ensures.network numbers c.requires.numbering m.0 kind
+    rw m.2 (node_rows_stand net c.nodes-nodes.ensures.network numbers c.requires.labels m.0 kind c.requires.tree
     (rows_of_range kind net numbers.order numbers.parents numbers.labels h.0 m.0
     (subst (λ (us : List ℕ). AllZip (λ (u : ℕ) (one : Result (List Start) AllocError). IfOk one (λ (row : List Start). IsNodeRow kind net numbers.order numbers.parents (slice_index numbers.labels u) row)) us h.0) places chain.2)
     m.1)))

@@ -6,11 +6,11 @@ invariant_of-result c =
     let numbers = c.args.numbering in
     let stand = rw c.in-Ok.is at c.requires.rows in
     scheme_stands c.args.kind c.args.root c.args.topology numbers.order numbers.parents numbers.labels stand.0 c.in-Ok.rows.items
-    c.nodes-nodes.ensures.network c.requires.connected c.requires.root c.requires.depth_first c.requires.numbering.labels stand.1 stand.2 stand.3
+    c.nodes-nodes.ensures.network c.requires.connected c.requires.root c.requires.depth_first c.requires.first c.requires.labels stand.1 stand.2 stand.3
 
 pub returns-in-Ok-clause-scheme : goal.returns-in-Ok-clause-scheme
 returns-in-Ok-clause-scheme c =
     let numbers = c.args.numbering in
     let stand = rw c.in-Ok.is at c.requires.rows in
     scheme_stands c.args.kind c.args.root c.args.topology numbers.order numbers.parents numbers.labels stand.0 c.in-Ok.rows.items
-    c.nodes-nodes.ensures.network c.requires.connected c.requires.root c.requires.depth_first c.requires.numbering.labels stand.1 stand.2 stand.3
+    c.nodes-nodes.ensures.network c.requires.connected c.requires.root c.requires.depth_first c.requires.first c.requires.labels stand.1 stand.2 stand.3

@@ -1,0 +1,6 @@
+pub mod Goings
+pub mod Senders
+pub mod NodeTables
+pub mod Entries
+pub mod NodePorts
+pub mod SameLines

@@ -1,0 +1,4 @@
+pub mod Tables
+pub mod PrefixesText
+pub mod Sent
+pub mod Before

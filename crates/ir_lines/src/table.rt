@@ -1,0 +1,72 @@
+//! The forwarding table of a node of a plan.
+ghost use Rattle.std.specs.Prelude.{◌≡◌, ◌<◌, ℕ, IfOk};
+ghost use Rattle.ir_model.specs.Network.{node_count};
+ghost use Rattle.ir_model.specs.Scheme.{by_label};
+ghost use Rattle.ir_prefix.specs.Forwarding.{NamesPorts};
+ghost use Rattle.ir_prefix.specs.Longest.{IsWidth};
+ghost use Rattle.ir_lines.specs.Tables.{AreDisjointLines, AreLinesOf, AreNestedLines};
+
+use ir_plan::Plan;
+use ir_prefix::{Line, PrefixError, disjoint, forwarding};
+use std::alloc::{AllocError, Global};
+
+// The ports of a node to each label.
+fn ports_by_label(alloc: Global, plan: &Plan, u: u16) -> Result<Vec<Option<u16>>, AllocError>
+    requires { u < node_count plan.now.network }
+    ensures { IfOk result (λ ports. ports.items ≡ by_label plan.now u) }
+{
+    let mut ports = Vec::new(alloc);
+    for label in 0..plan.nodes() {
+        ports.push(plan.port(u, label as u16))?;
+    }
+    Ok(ports)
+}
+
+// The fewest lines of a node whose longest match names its port to each other label.
+fn nested_lines(alloc: Global, plan: &Plan, u: u16) -> Result<Vec<Line>, AllocError>
+    requires { u < node_count plan.now.network }
+    ensures lines { IfOk result (λ table. (bits : ℕ) → IsWidth (node_count plan.now.network) bits → AreNestedLines plan.now bits u table.items) }
+    ensures ports { IfOk result (λ table. NamesPorts (by_label plan.now u) table.items) }
+{
+    let ports = ports_by_label(alloc, plan, u)?;
+    let nodes = plan.nodes() as u16;
+    match forwarding(alloc, nodes, plan.label_of(u), ports.as_slice()) {
+        Ok(table) => Ok(table),
+        Err(PrefixError::NoMemory) => Err(AllocError),
+        Err(PrefixError::BadRow) => unreachable!(),
+    }
+}
+
+// The fewest lines of a node of which one alone holds each other label.
+fn disjoint_lines(alloc: Global, plan: &Plan, u: u16) -> Result<Vec<Line>, AllocError>
+    requires { u < node_count plan.now.network }
+    ensures lines { IfOk result (λ table. (bits : ℕ) → IsWidth (node_count plan.now.network) bits → AreDisjointLines plan.now bits u table.items) }
+    ensures ports { IfOk result (λ table. NamesPorts (by_label plan.now u) table.items) }
+{
+    let ports = ports_by_label(alloc, plan, u)?;
+    let nodes = plan.nodes() as u16;
+    match disjoint(alloc, nodes, plan.label_of(u), ports.as_slice()) {
+        Ok(table) => Ok(table),
+        Err(PrefixError::NoMemory) => Err(AllocError),
+        Err(PrefixError::BadRow) => unreachable!(),
+    }
+}
+
+/// The forwarding table of a node, by the ports of its row: that of `ir_prefix::disjoint` if the lines are to be
+/// disjoint, else that of `ir_prefix::forwarding`. It is refused for memory alone.
+pub fn table_of(
+    alloc: Global,
+    plan: &Plan,
+    u: u16,
+    is_disjoint: bool,
+) -> Result<Vec<Line>, AllocError>
+    requires { u < node_count plan.now.network }
+    ensures lines { IfOk result (λ table. (bits : ℕ) → IsWidth (node_count plan.now.network) bits → AreLinesOf is_disjoint plan.now bits u table.items) }
+    ensures ports { IfOk result (λ table. NamesPorts (by_label plan.now u) table.items) }
+{
+    if is_disjoint {
+        disjoint_lines(alloc, plan, u)
+    } else {
+        nested_lines(alloc, plan, u)
+    }
+}

@@ -1,0 +1,34 @@
+use Rattle.std.proofs.Common.{◌≡◌, ◌<◌, ℕ, List, Some, length, arith, ap, subst, slice_get, get_or}
+use Rattle.std.proofs.lemmas.Option.{slice_get_within, slice_get-get_or}
+use Rattle.std.specs.BinaryHeap.{heap_items}
+use Rattle.ir_model.specs.declared.Hop.{Hop}
+use Rattle.ir_model.specs.Network.{Network, ports_of, port_at}
+use Rattle.ir_tables.proofs.Rounds.{past}
+use Rattle.ir_tables.proofs.Offering.{offering_lower, offering_keep, offering_done}
+use Rattle.ir_look.proofs.distances.offer.Goals as goal
+use Rattle.ir_look.proofs.distances.offer.Goals.{then-through-weights+in_ok-push, else-through-weights}
+
+pub loop-hop-preserved : goal.loop-hop-preserved
+loop-hop-preserved c =
+    let net : Network = c.args.topology.now in
+    let i : ℕ = c.loop-hop.hop-index in
+    let hop : Hop = get_or c.ports-hop-items.result.now i past in
+    let P : List Hop → Type 0 = λ xs. slice_get xs i ≡ Some hop in
+    let port : port_at net c.args.v i ≡ Some hop = subst P c.ports-hop-items.ensures (slice_get-get_or c.ports-hop-items.result.now i past c.loop-hop-test.true) in
+    let own : ℕ = get_or c.args.weights.now c.args.v 0 in
+    elim c.if-through-weights.branch [
+      | then-through-weights+in_ok-push w ↦
+          rw (w.weights-is, w.frontier-is) (offering_lower net c.nodes-nodes.ensures.network c.args.v own c.args.weights.now (heap_items c.args.frontier.now) c.loop-hop.weights (heap_items c.loop-hop.frontier) (heap_items w.push.new.self) i
+          c.saturating_add-through.result hop port c.saturating_add-through.ensures w.if-through-weights.true (omega arith) w.in_ok-push.ensures.permutation c.loop-hop.invariant)
+      | else-through-weights w ↦
+          rw (w.weights-is, w.frontier-is) (offering_keep net c.args.v own c.args.weights.now (heap_items c.args.frontier.now) c.loop-hop.weights (heap_items c.loop-hop.frontier) i
+          c.saturating_add-through.result hop port c.saturating_add-through.ensures w.if-through-weights.false c.loop-hop.invariant)
+    ]
+
+pub returns-clause-offered : goal.returns-clause-offered
+returns-clause-offered c = λ d from.
+    offering_done c.args.topology.now d c.args.v (get_or c.args.weights.now c.args.v 0) c.args.weights.now (heap_items c.args.frontier.now) c.loop-hop.weights (heap_items c.loop-hop.frontier) c.loop-hop.hop-index c.loop-hop.invariant
+    (λ p hop port. let P : List Hop → Type 0 = λ xs. p < length xs in
+    let lt : p < length (ports_of c.args.topology.now c.args.v) = slice_get_within (ports_of c.args.topology.now c.args.v) p hop port in
+    omega (arith, lt, ap length c.ports-hop-items.ensures, c.loop-hop-test.false))
+    from

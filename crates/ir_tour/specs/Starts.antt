@@ -1,0 +1,23 @@
+-- How many starts a plan has, beside the depth-first plans of its kind, root and network.
+use Rattle.std.specs.Prelude.{◌≡◌, ℕ, ◌<◌, ◌≤◌, length, sum_by}
+use Rattle.ir_model.specs.Scheme.{Scheme, IsScheme, HasDepthFirst}
+
+-- how many starts all rows have
+abbrev pub starts_of : Scheme → ℕ
+starts_of s = sum_by length s.rows
+
+-- q is a depth-first plan of the kind, root and network of p
+pub record IsDepthFirstOf (p q : Scheme) : Type 0 where
+  pub scheme : IsScheme q
+  pub numbers : HasDepthFirst q
+  pub kind : q.kind ≡ p.kind
+  pub root : q.root ≡ p.root
+  pub network : q.network ≡ p.network
+
+-- no depth-first plan of the kind, root and network of p has fewer starts than p
+abbrev pub HasNoMoreStarts : Scheme → Type 0
+HasNoMoreStarts p = (q : Scheme) → IsDepthFirstOf p q → starts_of p ≤ starts_of q
+
+-- each depth-first plan of the kind, root and network of p has more starts than p
+abbrev pub HasFewerStarts : Scheme → Type 0
+HasFewerStarts p = (q : Scheme) → IsDepthFirstOf p q → starts_of p < starts_of q
