@@ -36,13 +36,13 @@ module _ (nodes : List Name) where
   words_named : (ws : List Name) (node : Option ℕ) → Ok node ≡ words_node nodes ws → NamesOne nodes ws node
   words_named [] None e = refl
   words_named [] (Some u) e = absurd (cc e)
-  words_named (w ∷ []) node e = by (position (bytes_eq w) nodes) refl node e
+  words_named (w ∷ []) u e = by (position (bytes_eq w) nodes) refl u e
     where
       by : (o : Option ℕ) → position (bytes_eq w) nodes ≡ o → (node : Option ℕ) → Ok node ≡ node_at o → NamesOne nodes (w ∷ []) node
-      by None h node k = absurd (cc k)
+      by None h u k = absurd (cc k)
       by (Some v) h None k = absurd (cc k)
       by (Some v) h (Some u) k = let same : v ≡ u = cc k in (w, refl, h ∙ ap Some same)
-  words_named (w ∷ x ∷ ws) node e = absurd (cc e)
+  words_named (w ∷ x ∷ ws) u e = absurd (cc e)
 
   words_wrong : (named ws : List Name) (kind : OrderFaultKind) → Err kind ≡ words_node nodes ws → words_fault nodes named ws ≡ Some kind
   words_wrong named [] kind e = absurd (cc e)

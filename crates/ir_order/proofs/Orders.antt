@@ -99,11 +99,11 @@ module _ (nodes : List Name) (text order : List ℕ) (placed : List Bool) (line 
 
   -- the line names a node that was named before, or memory was refused
   pub read_twice : (node : Option ℕ) → Ok node ≡ line_node nodes current → (kind : OrderFaultKind) → (kind ≢ NoMemory → (kind ≡ Twice) × (has_place placed node ≡ true)) → OrderTold (told_order (line + 1) kind) (order_fault nodes (lines text))
-  read_twice node e NoMemory h = refl
-  read_twice node e BadByte h = absurd (cc (h (λ k. cc k)).0)
-  read_twice node e BadRow h = absurd (cc (h (λ k. cc k)).0)
-  read_twice node e UnknownNode h = absurd (cc (h (λ k. cc k)).0)
-  read_twice node e Missing h = absurd (cc (h (λ k. cc k)).0)
+  read_twice u e NoMemory h = refl
+  read_twice u e BadByte h = absurd (cc (h (λ k. cc k)).0)
+  read_twice u e BadRow h = absurd (cc (h (λ k. cc k)).0)
+  read_twice u e UnknownNode h = absurd (cc (h (λ k. cc k)).0)
+  read_twice u e Missing h = absurd (cc (h (λ k. cc k)).0)
   read_twice None e Twice h = absurd (cc (h (λ k. cc k)).1)
   read_twice (Some u) e Twice h =
       let one = line_named nodes current (Some u) e in
