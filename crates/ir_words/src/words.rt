@@ -67,6 +67,8 @@ pub struct Words {
     pub to: Option<String>,
     /// Whether no number is to match two lines of a node, for `prefixes`.
     pub disjoint: bool,
+    /// Whether sentences for people are to stand behind the lines of faults.
+    pub explain: bool,
     pub files: Vec<String>,
 }
 
@@ -253,6 +255,19 @@ error: '--numbering' takes 'depth-first', 'tour' or a file, not '-'
 For more information, try '--help'.
 ";
 
+/// The same with the two flags for sentences behind the lines of faults.
+fn with_sentences<'a>(alloc: Global, command: Command<'a>) -> Result<Command<'a>, AllocError> {
+    let explain = Arg::new(alloc, "explain")
+        .long("explain")
+        .action(ArgAction::SetTrue)
+        .help("Sentences behind the lines of faults, on standard error: where, what and why");
+    let no_explain = Arg::new(alloc, "no-explain")
+        .long("no-explain")
+        .action(ArgAction::SetTrue)
+        .help("No such sentences, as by default");
+    command.arg(explain)?.arg(no_explain)
+}
+
 /// A subcommand's command, with the options that all have.
 fn with_options<'a>(alloc: Global, name: &'a str) -> Result<Command<'a>, AllocError> {
     let format = Arg::new(alloc, "format")
@@ -282,12 +297,13 @@ fn with_options<'a>(alloc: Global, name: &'a str) -> Result<Command<'a>, AllocEr
         .value_parser(clap::value_parser!(u16).range(1..=4096))
         .default_value("4096")
         .help("The most packets");
-    Command::new(alloc, name)
+    let command = Command::new(alloc, name)
         .arg(format)?
         .arg(kind)?
         .arg(root)?
         .arg(capacity)?
-        .arg(packets)
+        .arg(packets)?;
+    with_sentences(alloc, command)
 }
 
 /// The argument for the file of the topology.
@@ -529,6 +545,7 @@ fn words_of(alloc: Global, sub: Sub, found: &ArgMatches<'_>) -> Result<Words, Al
         from,
         to,
         disjoint: found.get_flag("disjoint"),
+        explain: found.get_flag("explain") && !found.get_flag("no-explain"),
         files,
     })
 }
