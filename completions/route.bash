@@ -8,11 +8,11 @@ _bentzolu_subcommands() {
 # The options of a subcommand, or of the program where there is none.
 _bentzolu_options() {
     case ${1-} in
-        plan | stats) echo '--format --kind --root --capacity --packets --threads --numbering --help' ;;
-        walk | draw) echo '--format --kind --root --capacity --packets --threads --numbering --from --to --help' ;;
-        prefixes) echo '--format --kind --root --capacity --packets --threads --numbering --disjoint --help' ;;
-        check) echo '--format --kind --root --capacity --packets --help' ;;
-        sim | live) echo '--format --kind --root --capacity --packets --restamps --help' ;;
+        plan | stats) echo '--format --kind --root --capacity --packets --explain --no-explain --threads --numbering --help' ;;
+        walk | draw) echo '--format --kind --root --capacity --packets --explain --no-explain --threads --numbering --from --to --help' ;;
+        prefixes) echo '--format --kind --root --capacity --packets --explain --no-explain --threads --numbering --disjoint --help' ;;
+        check) echo '--format --kind --root --capacity --packets --explain --no-explain --help' ;;
+        sim | live) echo '--format --kind --root --capacity --packets --explain --no-explain --restamps --help' ;;
         '') echo '--help --version' ;;
     esac
 }

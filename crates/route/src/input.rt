@@ -1,33 +1,86 @@
 //! The inputs of the program.
+use crate::keeping::Kept;
+use ir_explain::{Given, Trouble};
 use std::fs::File;
 use std::io;
 use std::io::{Read, Stdin};
 
-/// A file, standard input, or a file that can't be opened.
+/// Where an input is read.
 #[derive(Drop)]
-pub enum Input {
+enum Origin {
     File(File),
     Standard(Stdin),
+    /// A file that can't be opened.
     Missing,
 }
 
-/// The input of a name: `-` is standard input.
-pub fn open(rt: &HostRuntime, name: &str) -> Input {
-    if name == "-" {
-        return Input::Standard(rt.stdin());
+/// A file, standard input, or a file that can't be opened, beside what was read of it and what kept it from being read.
+#[derive(Drop)]
+pub struct Input {
+    origin: Origin,
+    trouble: Trouble,
+    kept: Kept,
+}
+
+/// What kept a file from being opened or read.
+fn trouble_of(kind: io::ErrorKind) -> Trouble {
+    match kind {
+        io::ErrorKind::NotFound => Trouble::Missing,
+        io::ErrorKind::PermissionDenied => Trouble::Forbidden,
+        io::ErrorKind::IsADirectory => Trouble::Directory,
+        _ => Trouble::Failed,
     }
-    match File::open(rt, name) {
-        Ok(file) => Input::File(file),
-        Err(_) => Input::Missing,
+}
+
+/// The input of a name: `-` is standard input. What is read of it is kept if that is wanted.
+pub fn open(rt: &HostRuntime, name: &str, is_kept: bool) -> Input {
+    let kept = Kept::new(rt.alloc(), is_kept);
+    let (origin, trouble) = if name == "-" {
+        (Origin::Standard(rt.stdin()), Trouble::Unknown)
+    } else {
+        match File::open(rt, name) {
+            Ok(file) => (Origin::File(file), Trouble::Unknown),
+            Err(error) => (Origin::Missing, trouble_of(error.kind())),
+        }
+    };
+    Input {
+        origin,
+        trouble,
+        kept,
+    }
+}
+
+impl Input {
+    /// What was given of it; none where memory for what was read was refused.
+    pub fn given(&self) -> Option<Given<'_>> {
+        let bytes = self.kept.whole()?;
+        let trouble = self.trouble;
+        Some(Given { bytes, trouble })
+    }
+}
+
+/// A call that reads the origin of an input.
+fn read_origin(origin: &mut Origin, room: &mut [u8]) -> io::Result<usize> {
+    match origin {
+        Origin::File(file) => file.read(room),
+        Origin::Standard(stdin) => stdin.read(room),
+        Origin::Missing => Err(io::ErrorKind::NotFound.into()),
     }
 }
 
 impl Read for Input {
     fn read(&mut self, room: &mut [u8]) -> io::Result<usize> {
-        match self {
-            Input::File(file) => file.read(room),
-            Input::Standard(stdin) => stdin.read(room),
-            Input::Missing => Err(io::ErrorKind::NotFound.into()),
+        match read_origin(&mut self.origin, room) {
+            Ok(taken) => {
+                self.kept.keep(&room[..taken.min(room.len())]);
+                Ok(taken)
+            }
+            Err(error) => {
+                if self.trouble == Trouble::Unknown && error.kind() != io::ErrorKind::Interrupted {
+                    self.trouble = trouble_of(error.kind());
+                }
+                Err(error)
+            }
         }
     }
 }

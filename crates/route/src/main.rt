@@ -6,18 +6,23 @@
 #![tactic(auto)]
 
 ghost use Rattle.std.specs.Prelude.{◌≡◌, length};
-ghost use Rattle.ir_shell.specs.Asked.{look_sources};
+ghost use Rattle.ir_shell.specs.Asked.{check_sources, look_sources, sim_sources};
 ghost use Rattle.ir_words.specs.Words.{FitsItsKind};
 
 mod input;
+mod keeping;
 
 use input::{Input, open};
+use ir_explain::explanation;
 use ir_shell::{
     Numbering, Sub, Words, WordsError, read_words, run_check, run_draw, run_live_text, run_plan, run_prefixes,
     run_sim, run_stats, run_walk,
 };
+use keeping::Keeping;
+use std::alloc::AllocError;
 use std::process::ExitCode;
 use std::sync::Wait;
+use std::io::{Stderr, Stdout};
 use std::thread::Threads;
 use std::{env, io};
 
@@ -42,6 +47,55 @@ fn file(words: &Words, i: usize) -> &str {
     }
 }
 
+/// The input of a name, of which is kept what is read where the words ask for sentences.
+fn input_of(rt: &HostRuntime, words: &Words, name: &str) -> Input {
+    open(rt, name, words.explain)
+}
+
+/// Standard output; what is written to it is kept where a finding on it is to be explained.
+fn output_of(rt: &HostRuntime, words: &Words) -> Keeping<Stdout> {
+    let is_kept = words.explain && words.sub == Sub::Check;
+    Keeping::new(rt.alloc(), rt.stdout(), is_kept)
+}
+
+/// Standard error; what is written to it is kept where the words ask for sentences.
+fn faults_of(rt: &HostRuntime, words: &Words) -> Keeping<Stderr> {
+    Keeping::new(rt.alloc(), rt.stderr(), words.explain)
+}
+
+/// The sentences on a run.
+fn sentences(
+    rt: &HostRuntime,
+    words: &Words,
+    inputs: &[Input],
+    output: &Keeping<Stdout>,
+    faults: &Keeping<Stderr>,
+) -> Result<String, AllocError> {
+    let mut given = Vec::new(rt.alloc());
+    for input in inputs {
+        given.push(input.given().ok_or(AllocError)?)?;
+    }
+    let told = faults.kept.whole().ok_or(AllocError)?;
+    let found = output.kept.whole().ok_or(AllocError)?;
+    explanation(rt.alloc(), words, given.as_slice(), told, found)
+}
+
+/// Prints sentences on a run behind its faults, where the words ask for them and there is memory for all of it.
+fn explain(
+    rt: &HostRuntime,
+    words: &Words,
+    inputs: &[Input],
+    output: &Keeping<Stdout>,
+    faults: &Keeping<Stderr>,
+) {
+    if !words.explain {
+        return;
+    }
+    if let Ok(text) = sentences(rt, words, inputs, output, faults) {
+        let _told = rt.eprint(text);
+    }
+}
+
 /// Prints what the words ask for of a topology's plan, whose rows are made in threads, over the inputs.
 fn show_over<T: Threads + Sync>(
     rt: &HostRuntime,
@@ -53,87 +107,118 @@ fn show_over<T: Threads + Sync>(
     requires inputs { length inputs.old ≡ length (look_sources words.now) }
 {
     let alloc = rt.alloc();
-    let mut output = rt.stdout();
-    let mut faults = rt.stderr();
-    match words.sub {
+    let mut output = output_of(rt, words);
+    let mut faults = faults_of(rt, words);
+    let status = match words.sub {
         Sub::Walk => run_walk(threads, alloc, words, inputs, &mut output, &mut faults),
         Sub::Stats => run_stats(threads, alloc, words, inputs, &mut output, &mut faults),
         Sub::Draw => run_draw(threads, alloc, words, inputs, &mut output, &mut faults),
         Sub::Prefixes => run_prefixes(threads, alloc, words, inputs, &mut output, &mut faults),
         _ => run_plan(threads, alloc, words, inputs, &mut output, &mut faults),
-    }
+    };
+    explain(rt, words, inputs, &output, &faults);
+    status
 }
 
 /// Opens the file of the topology, and that of an order where the words have one, and prints what the words ask for.
 fn show<T: Threads + Sync>(rt: &HostRuntime, threads: &T, words: &Words) -> u8
     requires { FitsItsKind words.now }
 {
+    let topology = input_of(rt, words, file(words, 0));
     match &words.numbering {
         Numbering::DepthFirst | Numbering::Tour => {
-            let mut inputs = [open(rt, file(words, 0))];
+            let mut inputs = [topology];
             show_over(rt, threads, words, &mut inputs)
         }
         Numbering::File(name) => {
-            let mut inputs = [open(rt, file(words, 0)), open(rt, name.as_str())];
+            let mut inputs = [topology, input_of(rt, words, name.as_str())];
             show_over(rt, threads, words, &mut inputs)
         }
     }
 }
 
 /// Plays the steps of a script over a topology, and prints the trace.
+fn sim_over(rt: &HostRuntime, words: &Words, inputs: &mut [Input]) -> u8
+    requires { length inputs.old ≡ length (sim_sources words.now) }
+{
+    let mut output = output_of(rt, words);
+    let mut faults = faults_of(rt, words);
+    let status = run_sim(rt.alloc(), words, inputs, &mut output, &mut faults);
+    explain(rt, words, inputs, &output, &faults);
+    status
+}
+
+/// Opens the files of a topology and a script, or standard input with both, and plays the steps.
 fn sim(rt: &HostRuntime, words: &Words) -> u8 {
-    let mut output = rt.stdout();
-    let mut faults = rt.stderr();
+    let topology = input_of(rt, words, file(words, 0));
     if words.is_one_input() {
-        let mut inputs = [open(rt, "-")];
-        run_sim(rt.alloc(), words, &mut inputs, &mut output, &mut faults)
+        let mut inputs = [topology];
+        sim_over(rt, words, &mut inputs)
     } else {
-        let mut inputs = [open(rt, file(words, 0)), open(rt, file(words, 1))];
-        run_sim(rt.alloc(), words, &mut inputs, &mut output, &mut faults)
+        let mut inputs = [topology, input_of(rt, words, file(words, 1))];
+        sim_over(rt, words, &mut inputs)
     }
 }
 
 /// Carries out the commands of a script over a topology, while each node runs in a thread of its own, and prints the trace.
+fn live_over<T: Threads + Wait + Sync>(
+    rt: &HostRuntime,
+    threads: &T,
+    words: &Words,
+    inputs: &mut [Input],
+) -> u8
+    requires { length inputs.old ≡ length (sim_sources words.now) }
+{
+    let mut output = output_of(rt, words);
+    let mut faults = faults_of(rt, words);
+    let status = run_live_text(
+        threads,
+        rt.alloc(),
+        words,
+        inputs,
+        &mut output,
+        &mut faults,
+    );
+    explain(rt, words, inputs, &output, &faults);
+    status
+}
+
+/// Opens the files of a topology and a script, or standard input with both, and carries out the commands.
 fn live<T: Threads + Wait + Sync>(rt: &HostRuntime, threads: &T, words: &Words) -> u8 {
-    let mut output = rt.stdout();
-    let mut faults = rt.stderr();
+    let topology = input_of(rt, words, file(words, 0));
     if words.is_one_input() {
-        let mut inputs = [open(rt, "-")];
-        run_live_text(
-            threads,
-            rt.alloc(),
-            words,
-            &mut inputs,
-            &mut output,
-            &mut faults,
-        )
+        let mut inputs = [topology];
+        live_over(rt, threads, words, &mut inputs)
     } else {
-        let mut inputs = [open(rt, file(words, 0)), open(rt, file(words, 1))];
-        run_live_text(
-            threads,
-            rt.alloc(),
-            words,
-            &mut inputs,
-            &mut output,
-            &mut faults,
-        )
+        let mut inputs = [topology, input_of(rt, words, file(words, 1))];
+        live_over(rt, threads, words, &mut inputs)
     }
 }
 
 /// Checks a trace against a topology and a script.
+fn check_over(rt: &HostRuntime, words: &Words, inputs: &mut [Input]) -> u8
+    requires { length inputs.old ≡ length (check_sources words.now) }
+{
+    let mut output = output_of(rt, words);
+    let mut faults = faults_of(rt, words);
+    let status = run_check(rt.alloc(), words, inputs, &mut output, &mut faults);
+    explain(rt, words, inputs, &output, &faults);
+    status
+}
+
+/// Opens the files of a topology, a script and a trace, or standard input with all three, and checks the trace.
 fn check(rt: &HostRuntime, words: &Words) -> u8 {
-    let mut output = rt.stdout();
-    let mut faults = rt.stderr();
+    let topology = input_of(rt, words, file(words, 0));
     if words.is_one_input() {
-        let mut inputs = [open(rt, "-")];
-        run_check(rt.alloc(), words, &mut inputs, &mut output, &mut faults)
+        let mut inputs = [topology];
+        check_over(rt, words, &mut inputs)
     } else {
         let mut inputs = [
-            open(rt, file(words, 0)),
-            open(rt, file(words, 1)),
-            open(rt, file(words, 2)),
+            topology,
+            input_of(rt, words, file(words, 1)),
+            input_of(rt, words, file(words, 2)),
         ];
-        run_check(rt.alloc(), words, &mut inputs, &mut output, &mut faults)
+        check_over(rt, words, &mut inputs)
     }
 }
 

@@ -1,0 +1,35 @@
+//! Sentences for people behind the lines of faults: which file, which line and word, what was wanted and what stands there.
+//!
+//! The lines themselves are short and never change, since scripts read them. `explanation` reads them again, beside the texts
+//! of the inputs, and writes a line `route: ..` for each, so a run that was refused stays as it is. Nothing here reads or
+//! writes anything but memory.
+#![tactic(auto)]
+
+mod bytes;
+mod explain;
+mod finding;
+mod lines;
+mod nearest;
+mod notes;
+mod numbering;
+mod opening;
+mod parts;
+mod refusal;
+mod script;
+mod sentence;
+mod topology;
+
+pub use explain::explanation;
+pub use parts::{Given, Trouble};
+
+/// The most bytes of a text that are quoted.
+pub const MOST_QUOTED: usize = 64;
+
+/// The most lines of faults that are explained.
+pub const MOST_EXPLAINED: usize = 64;
+
+/// The most names among which the nearest one is looked for.
+pub const MOST_NAMES: usize = 1_024;
+
+/// The most edits that lead from a word to a name that it may have meant.
+pub const MOST_EDITS: usize = 2;
