@@ -42,7 +42,10 @@ fn part_of<'a>(parts: &Parts<'a>, what: &str) -> Part<'a> {
 fn explain_unread(text: &mut String, part: &Part<'_>, kind: &str) -> Result<(), AllocError> {
     begin(text, part.file)?;
     if kind == "too" {
-        return write!(text, "more than {MAX_INPUT_BYTES} bytes, the most of an input\n");
+        return write!(
+            text,
+            "more than {MAX_INPUT_BYTES} bytes, the most of an input\n"
+        );
     }
     text.push_str(match part.trouble {
         Trouble::Missing => "no such file\n",

@@ -70,9 +70,13 @@ fn push_reason(
             push_quoted(text, word_at(words, 1))
         }
         "NotAPrefix" => {
-            text.push_str("the hops leave the walk that the plan of their epoch prescribes, or stop where the fate does not say so")
+            text.push_str(
+                "the hops leave the walk that the plan of their epoch prescribes, or stop where the fate does not say so",
+            )
         }
-        "NotAtDestination" => text.push_str("it says delivered, and the walk goes on behind its last hop"),
+        "NotAtDestination" => text.push_str(
+            "it says delivered, and the walk goes on behind its last hop",
+        ),
         "BadWeight" => {
             push_quoted(text, word_at(words, 4))?;
             text.push_str(" is not the weight of its hops")

@@ -95,7 +95,7 @@ fn has_in_front(text: &[u8], word: &[u8]) -> bool {
 }
 
 /// The format of a text that begins with these bytes, if it is one that is converted.
-fn begun(text: &[u8]) -> &'static str {
+fn convertible(text: &[u8]) -> &'static str {
     let front = from_first_word(text);
     if front.starts_with(b"%%MatrixMarket") {
         return "MatrixMarket";
@@ -118,8 +118,9 @@ fn begun(text: &[u8]) -> &'static str {
 /// Whether a text begins as one of Graphviz.
 fn is_dot(text: &[u8]) -> bool {
     let front = from_first_word(text);
-    let is_begun =
-        front.starts_with(b"graph ") || front.starts_with(b"digraph ") || front.starts_with(b"strict ");
+    let is_begun = front.starts_with(b"graph ")
+        || front.starts_with(b"digraph ")
+        || front.starts_with(b"strict ");
     is_begun && has_in_front(front, b"{")
 }
 
@@ -145,12 +146,16 @@ pub(crate) fn push_note(
     format: Format,
     topology: &Part<'_>,
 ) -> Result<(), AllocError> {
-    let begun = begun(topology.bytes);
-    if !begun.is_empty() {
-        return push_converted(text, topology.file, begun);
+    let name = convertible(topology.bytes);
+    if !name.is_empty() {
+        return push_converted(text, topology.file, name);
     }
     if is_dot(topology.bytes) {
-        return push_other(text, topology.file, "this looks like DOT, which is not read");
+        return push_other(
+            text,
+            topology.file,
+            "this looks like DOT, which is not read",
+        );
     }
     let seen = seen_of(alloc, topology.bytes)?;
     if seen.is_gml {

@@ -70,7 +70,10 @@ fn push_missing(
     let named = named_in(alloc, graph, part.bytes)?;
     let nodes = graph.number_of_nodes();
     push_quoted(text, missing_name(graph, named.as_slice()).as_bytes())?;
-    write!(text, " is not named: each of the {nodes} nodes is to stand on a line")
+    write!(
+        text,
+        " is not named: each of the {nodes} nodes is to stand on a line"
+    )
 }
 
 /// Says what is wrong with the words of a line.

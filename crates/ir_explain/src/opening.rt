@@ -110,6 +110,7 @@ fn mark_part(
 }
 
 /// The parts of a graph: how many there are, how many nodes the largest has, and the first node outside the first part.
+#[derive(Clone, Copy)]
 struct Divided {
     parts: usize,
     largest: usize,
@@ -117,7 +118,7 @@ struct Divided {
 }
 
 /// The parts of a graph, the first of them that of a node.
-fn divided(alloc: Global, graph: &Graph, node: usize) -> Result<Divided, AllocError> {
+fn parts_from(alloc: Global, graph: &Graph, node: usize) -> Result<Divided, AllocError> {
     let mut marked = vec![in alloc; false; graph.number_of_nodes()]?;
     let mut largest = mark_part(alloc, graph, node, &mut marked)?;
     let mut parts: usize = 1;
@@ -155,22 +156,31 @@ fn push_disconnected(
     words: &Words,
 ) -> Result<(), AllocError> {
     let root = root_of(graph, words);
-    let found = divided(alloc, graph, root)?;
+    let found = parts_from(alloc, graph, root)?;
     let (parts, largest) = (found.parts, found.largest);
     push_quoted(text, graph.node(root).unwrap_or("").as_bytes())?;
     text.push_str(" has no path to ")?;
     push_quoted(text, graph.node(found.outside).unwrap_or("").as_bytes())?;
     let plural = if largest == 1 { "" } else { "s" };
-    write!(text, ": {parts} parts, the largest has {largest} node{plural}")
+    write!(
+        text,
+        ": {parts} parts, the largest has {largest} node{plural}"
+    )
 }
 
 /// Says what is too large for packets.
 fn push_too_large(text: &mut String, graph: &Graph) -> Result<(), AllocError> {
     let (nodes, links) = (graph.number_of_nodes(), graph.number_of_edges());
     if nodes > MAX_NODES {
-        return write!(text, "{nodes} nodes; where packets travel there are at most {MAX_NODES}");
+        return write!(
+            text,
+            "{nodes} nodes; where packets travel there are at most {MAX_NODES}"
+        );
     }
-    write!(text, "{links} links; where packets travel there are at most {MAX_LINKS}")
+    write!(
+        text,
+        "{links} links; where packets travel there are at most {MAX_LINKS}"
+    )
 }
 
 /// Explains why nothing was opened over a topology.

@@ -16,10 +16,14 @@ fn push_reason(text: &mut String, kind: &str) -> Result<(), AllocError> {
         "HandFull" => text.push_str("the node's hand holds a packet that it has not acted on"),
         "HandEmpty" => text.push_str("the node's hand holds no packet"),
         "Empty" => text.push_str("no packet waits there"),
-        "BadView" => text.push_str("the board has no such version, or the node has read a later one"),
+        "BadView" => text.push_str(
+            "the board has no such version, or the node has read a later one",
+        ),
         "Same" => text.push_str("it changes nothing"),
         "EpochsFull" => write!(text, "all {MAX_EPOCHS} epochs are used"),
-        "Disconnected" => text.push_str("over the links that are up some node has no path to some node"),
+        "Disconnected" => text.push_str(
+            "over the links that are up some node has no path to some node",
+        ),
         "TooManyPackets" => text.push_str("there are as many packets as --packets allows"),
         "InboxFull" => text.push_str("the inbox holds as many packets as --capacity allows"),
         "TooManyChanges" => write!(text, "the board takes at most {MAX_CHANGES} changes"),

@@ -121,7 +121,11 @@ pub(crate) fn push_no_node(
 
 /// Says that the two nodes of a line are not linked.
 fn push_no_link(text: &mut String, words: &[&[u8]]) -> Result<(), AllocError> {
-    let other = if text_of(word_at(words, 0)) == "take" { 3 } else { 2 };
+    let other = if text_of(word_at(words, 0)) == "take" {
+        3
+    } else {
+        2
+    };
     text.push_str("no link between ")?;
     push_quoted(text, word_at(words, 1))?;
     text.push_str(" and ")?;
@@ -130,9 +134,15 @@ fn push_no_link(text: &mut String, words: &[&[u8]]) -> Result<(), AllocError> {
 
 /// Says that a word of a line is no number.
 fn push_no_number(text: &mut String, words: &[&[u8]]) -> Result<(), AllocError> {
-    let place = if text_of(word_at(words, 0)) == "read" { 2 } else { 1 };
+    let place = if text_of(word_at(words, 0)) == "read" {
+        2
+    } else {
+        1
+    };
     push_quoted(text, word_at(words, place))?;
-    text.push_str(" is no number: a whole number from 0 to 65535, of at most five digits, is wanted")
+    text.push_str(
+        " is no number: a whole number from 0 to 65535, of at most five digits, is wanted",
+    )
 }
 
 /// Says what is wrong with the words of a line.
@@ -149,9 +159,7 @@ fn push_fault(
         "BadByte" => push_bad_byte(text, words, "scripts are"),
         "BadCommand" => push_bad_command(alloc, text, words, is_live),
         "BadNumber" => push_no_number(text, words),
-        "UnknownNode" => {
-            push_no_node(alloc, text, graph, topology, unknown_word(graph, words))
-        }
+        "UnknownNode" => { push_no_node(alloc, text, graph, topology, unknown_word(graph, words)) }
         "UnknownLink" => push_no_link(text, words),
         _ => text.push_str("memory was refused while the script was read"),
     }

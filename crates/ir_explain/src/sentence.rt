@@ -25,7 +25,11 @@ pub(crate) fn push_quoted(text: &mut String, bytes: &[u8]) -> Result<(), AllocEr
     for byte in shown {
         push_byte(text, *byte)?;
     }
-    text.push_str(if shown.len() < bytes.len() { "'.." } else { "'" })
+    text.push_str(if shown.len() < bytes.len() {
+        "'.."
+    } else {
+        "'"
+    })
 }
 
 /// Writes a character of a file's name, or `\xNN` where it would move the terminal's cursor.

@@ -22,7 +22,9 @@ fn push_bad_row(text: &mut String, words: &[&[u8]]) -> Result<(), AllocError> {
     push_count(text, words.len())?;
     text.push_str("; an edge list has NODE NODE WEIGHT on a line")?;
     if word_at(words, 2).starts_with(b"{") {
-        text.push_str(" (attributes in braces are not read: write_weighted_edgelist of NetworkX writes none)")
+        text.push_str(
+            " (attributes in braces are not read: write_weighted_edgelist of NetworkX writes none)",
+        )
     } else {
         text.push_str(" (an adjacency list? try --format adjlist)")
     }
@@ -34,15 +36,27 @@ fn push_fault(text: &mut String, words: &[&[u8]], kind: &str) -> Result<(), Allo
         "BadByte" => push_bad_byte(text, words, "names are"),
         "BadName" => {
             let long = long_word(words).len();
-            write!(text, "a name of {long} bytes; at most {MAX_NAME_BYTES} are taken")
+            write!(
+                text,
+                "a name of {long} bytes; at most {MAX_NAME_BYTES} are taken"
+            )
         }
         "BadRow" => push_bad_row(text, words),
         "BadWeight" => {
             push_quoted(text, word_at(words, 2))?;
-            write!(text, " is no weight: a whole number from 1 to {MAX_WEIGHT} is wanted")
+            write!(
+                text,
+                " is no weight: a whole number from 1 to {MAX_WEIGHT} is wanted"
+            )
         }
-        "TooManyNodes" => write!(text, "a topology has at most {MAX_NODES} nodes, and here is one more"),
-        "TooManyEdges" => write!(text, "a topology has at most {MAX_EDGES} edges, and here is one more"),
+        "TooManyNodes" => write!(
+            text,
+            "a topology has at most {MAX_NODES} nodes, and here is one more"
+        ),
+        "TooManyEdges" => write!(
+            text,
+            "a topology has at most {MAX_EDGES} edges, and here is one more"
+        ),
         _ => text.push_str("memory was refused while the topology was read"),
     }
 }

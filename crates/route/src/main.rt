@@ -15,14 +15,14 @@ mod keeping;
 use input::{Input, open};
 use ir_explain::explanation;
 use ir_shell::{
-    Numbering, Sub, Words, WordsError, read_words, run_check, run_draw, run_live_text, run_plan, run_prefixes,
-    run_sim, run_stats, run_walk,
+    Numbering, Sub, Words, WordsError, read_words, run_check, run_draw, run_live_text, run_plan,
+    run_prefixes, run_sim, run_stats, run_walk,
 };
 use keeping::Keeping;
 use std::alloc::AllocError;
+use std::io::{Stderr, Stdout};
 use std::process::ExitCode;
 use std::sync::Wait;
-use std::io::{Stderr, Stdout};
 use std::thread::Threads;
 use std::{env, io};
 
@@ -171,14 +171,7 @@ fn live_over<T: Threads + Wait + Sync>(
 {
     let mut output = output_of(rt, words);
     let mut faults = faults_of(rt, words);
-    let status = run_live_text(
-        threads,
-        rt.alloc(),
-        words,
-        inputs,
-        &mut output,
-        &mut faults,
-    );
+    let status = run_live_text(threads, rt.alloc(), words, inputs, &mut output, &mut faults);
     explain(rt, words, inputs, &output, &faults);
     status
 }
