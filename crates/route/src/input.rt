@@ -1,4 +1,6 @@
 //! The inputs of the program.
+ghost use Rattle.std.specs.Io.{ReadsAtMost};
+
 use crate::keeping::Kept;
 use ir_explain::{Given, Trouble};
 use std::fs::File;
@@ -60,7 +62,9 @@ impl Input {
 }
 
 /// A call that reads the origin of an input.
-fn read_origin(origin: &mut Origin, room: &mut [u8]) -> io::Result<usize> {
+fn read_origin(origin: &mut Origin, room: &mut [u8]) -> io::Result<usize>
+    ensures { ReadsAtMost result room.new }
+{
     match origin {
         Origin::File(file) => file.read(room),
         Origin::Standard(stdin) => stdin.read(room),
