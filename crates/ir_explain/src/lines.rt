@@ -1,4 +1,8 @@
 //! Lines and words of texts, and what the lines of faults say.
+ghost use Rattle.std.specs.Prelude.{◌≡◌, ◌==◌, IfOk};
+ghost use Rattle.std.specs.List.{count_by};
+ghost use Rattle.ir_model.specs.Text.{words};
+ghost use Rattle.ir_explain.specs.Cut.{texts};
 
 use ir_adjlist::digits::all_digits;
 use ir_adjlist::scan;
@@ -22,17 +26,16 @@ pub(crate) fn line_at(text: &[u8], number: usize) -> &[u8] {
 }
 
 /// The words of a line, without its comment.
-pub(crate) fn words_of<'a>(alloc: Global, line: &'a [u8]) -> Result<Vec<&'a [u8]>, AllocError> {
-    let mut words = Vec::new(alloc);
+pub(crate) fn words_of<'a>(alloc: Global, line: &'a [u8]) -> Result<Vec<&'a [u8]>, AllocError>
+    ensures { IfOk result (λ found. texts found.items ≡ words line.now) }
+{
+    let mut found = Vec::new(alloc);
     let mut rest = scan::without_comment(line);
-    for _turn in 0..line.len() {
-        let Some((word, after)) = scan::next_word(rest) else {
-            break;
-        };
-        words.push(word)?;
+    while let Some((word, after)) = scan::next_word(rest) {
+        found.push(word)?;
         rest = after;
     }
-    Ok(words)
+    Ok(found)
 }
 
 /// The word at a place, from 0; nothing where there is none.
@@ -49,11 +52,13 @@ pub(crate) fn text_of(word: &[u8]) -> &str {
 }
 
 /// How many lines end in a text.
-pub(crate) fn line_ends(text: &[u8]) -> usize {
-    let mut count: usize = 0;
+pub(crate) fn line_ends(text: &[u8]) -> usize
+    ensures { result ≡ count_by (λ b. b == 10) text.now }
+{
+    let mut count = 0;
     for byte in text {
         if *byte == b'\n' {
-            count = count.saturating_add(1);
+            count += 1;
         }
     }
     count

@@ -1,11 +1,15 @@
 //! The pieces of a sentence.
+ghost use Rattle.std.specs.Prelude.{◌≡◌, length, min, take};
+ghost use Rattle.ir_explain.specs.declared.TheConstants.{MOST_QUOTED};
 
 use crate::MOST_QUOTED;
 use crate::parts::Part;
 use std::alloc::{AllocError, Global};
 
 /// What is shown of a text: its front.
-fn cut(bytes: &[u8]) -> &[u8] {
+fn cut(bytes: &[u8]) -> &[u8]
+    ensures { result.now ≡ take (min (length bytes.now) MOST_QUOTED) bytes.now }
+{
     &bytes[..bytes.len().min(MOST_QUOTED)]
 }
 
