@@ -50,12 +50,13 @@ fn port_behind(row: &Row, below: usize, own: u16, label: u16) -> Option<u16>
     ensures some { label ≢ own → IsSome result }
 {
     if label == own {
-        None
-    } else if below == 0 {
-        Some(row.port(row.len() - 1))
-    } else {
-        Some(row.port(below - 1))
+        return None;
     }
+    let starts = row.len();
+    if below == 0 {
+        return Some(row.port(starts - 1));
+    }
+    Some(row.port(below - 1))
 }
 
 // The fewest lines of a node whose longest match names its port to each other label.
