@@ -1,11 +1,10 @@
 -- Tries that stand in a list of nodes.
-use Rattle.std.proofs.Common.{◌≡◌, ℕ, ◌+◌, ◌-◌, ◌<◌, ◌≤◌, List, [], ◌∷◌, ◌++◌, length, get_or, take, drop, refl, ap, sym, ◌∙◌, subst, inl, inr, arith, Option}
+use Rattle.std.proofs.Common.{◌≡◌, ℕ, ◌+◌, ◌-◌, ◌<◌, ◌≤◌, List, [], ◌++◌, length, get_or, take, drop, refl, ap, sym, ◌∙◌, subst, inl, inr, arith}
 use Rattle.std.proofs.Math.ListN.{get_or-append}
 use Rattle.std.proofs.Math.Seq.{drop-append_seam, take-append_seam}
 use Rattle.std.proofs.lemmas.List.{drop-append-le, take-append-le, length-append, length-drop, append-nil}
 use Rattle.std.specs.List.{slice_range}
-use Rattle.std.specs.List.Sorted.{IsNonDecreasing}
-use Rattle.ir_prefix.specs.Described.{names_of, IsFree, IsAlike, IsParent, Describes, Trie, Free, Alike, Fork}
+use Rattle.ir_prefix.specs.Described.{IsFree, IsAlike, IsParent, Trie, Free, Alike, Fork}
 use Rattle.ir_prefix.specs.Nodes.{Holds, IsMerged, Stands, Grows}
 use Rattle.ir_prefix.specs.declared.trie.Node.{Node}
 use Rattle.ir_prefix.specs.declared.trie.Node.TheVariants.{NoPort, OnePort, Several}

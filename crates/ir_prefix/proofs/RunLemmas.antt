@@ -1,11 +1,10 @@
 -- The numbers of a block, and what lies in it.
-use Rattle.std.proofs.Common.{◌≡◌, ◌≢◌, ℕ, ◌+◌, ◌*◌, ◌/◌, ◌^◌, ◌<◌, ◌≤◌, ◌⊎◌, inl, inr, List, length, get_or, set, ap, ◌∙◌, sym, subst, arith, Option, Some, None}
+use Rattle.std.proofs.Common.{◌≡◌, ℕ, ◌+◌, ◌*◌, ◌/◌, ◌^◌, ◌<◌, ◌≤◌, inl, inr, List, length, get_or, set, ap, ◌∙◌, sym, subst, arith, Option}
 use Rattle.std.proofs.Math.Nat.{div-eq_of_lt-le, div-mul-le_self, lt-div-mul-add}
 use Rattle.std.proofs.lemmas.Nat.{pow_pos}
 use Rattle.std.proofs.lemmas.Bool.{cases_eq, cases_lt}
 use Rattle.std.proofs.lemmas.List.{get_or-set_same, get_or-set_other}
-use Rattle.ir_model.specs.Compiled.{port_to}
-use Rattle.ir_prefix.specs.Runs.{IsRun, HasTwo, LiesIn}
+use Rattle.ir_prefix.specs.Runs.{IsRun, LiesIn}
 use Rattle.ir_prefix.specs.declared.runs.Run.{Run}
 use Rattle.ir_prefix.specs.declared.runs.Block.TheVariants.{Beyond, Unsent, OnePort, Mixed}
 

@@ -1,5 +1,5 @@
 -- A trie as a list of nodes, each behind its halves, and a list of the names of all.
-use Rattle.std.specs.Prelude.{◌≡◌, ℕ, ◌<◌, ◌≤◌, ◌⊎◌, List, [], ◌++◌, length, slice_index_or}
+use Rattle.std.specs.Prelude.{◌≡◌, ℕ, ◌<◌, ◌≤◌, ◌⊎◌, List, ◌++◌, length, slice_index_or}
 use Rattle.std.specs.List.{slice_range}
 use Rattle.ir_prefix.specs.Described.{Trie, Free, Alike, Fork}
 use Rattle.ir_prefix.specs.declared.trie.Node.{Node}

@@ -1,5 +1,5 @@
 -- Blocks of numbers, each divided until it is no label's, the own label's alone, or of one port.
-use Rattle.std.specs.Prelude.{◌≡◌, ◌≢◌, ℕ, ◌+◌, ◌-◌, ◌*◌, ◌/◌, ◌^◌, ◌<◌, ◌≤◌, ◌⊎◌, List, [], ◌∷◌, ◌++◌, length, Option, Some, None}
+use Rattle.std.specs.Prelude.{◌≡◌, ℕ, ◌+◌, ◌-◌, ◌*◌, ◌/◌, ◌^◌, ◌<◌, ◌≤◌, List, [], ◌∷◌, ◌++◌, length, Option, Some, None}
 use Rattle.ir_model.specs.Compiled.{port_to}
 use Rattle.ir_prefix.specs.Cover.{prefix_at}
 use Rattle.ir_prefix.specs.declared.cover.Prefix.{Prefix}

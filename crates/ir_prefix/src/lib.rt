@@ -81,7 +81,8 @@ fn table(alloc: Global, bits: u8, ports: &[Option<u16>]) -> Result<Vec<Prefix>, 
         list: Vec::new(alloc),
         names: Vec::new(alloc),
     };
-    let root = push_trie(alloc, ports, runs.as_slice(), bits, 0, &mut nodes)?;
+    let mut room = Vec::new(alloc);
+    let root = push_trie(ports, runs.as_slice(), bits, 0, &mut nodes, &mut room)?;
     let mut set = Vec::new(alloc);
     cover(&nodes, root, bits, bits, 0, None, &mut set)?;
     sort_longest_first(&mut set)?;

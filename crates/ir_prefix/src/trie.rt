@@ -7,9 +7,9 @@ ghost use Rattle.ir_prefix.specs.Nodes.{Grows, Holds, IsMerged, Stands};
 ghost use Rattle.ir_prefix.specs.declared.trie.Node.TheVariants.{NoPort};
 ghost use Rattle.ir_prefix.specs.Runs.{AreRuns};
 
-use crate::names::joined;
+use crate::names::join;
 use crate::runs::{Block, Run, block_of};
-use std::alloc::{AllocError, Global};
+use std::alloc::AllocError;
 
 /// What lies below a node: no port, one port, or several.
 #[derive(Clone, Copy)]
@@ -35,14 +35,15 @@ pub struct Nodes {
     pub names: Vec<u16>,
 }
 
-/// Adds the node so high above the labels, the index-th of its height, behind all below it, and answers its place.
+/// Adds the node so high above the labels, the index-th of its height, behind all below it, and answers its place. What
+/// stands in the room before does not matter.
 pub fn push_trie(
-    alloc: Global,
     ports: &[Option<u16>],
     runs: &[Run],
     height: u8,
     index: u32,
     nodes: &mut Nodes,
+    room: &mut Vec<u16>,
 ) -> Result<usize, AllocError>
     requires runs { AreRuns ports.now runs.now }
     requires inside { (index + 1) * 2 ^ height ≤ 2 ^ 16 }
@@ -54,9 +55,9 @@ pub fn push_trie(
         Block::Unsent => push_node(nodes, Node::NoPort),
         Block::OnePort(port) => push_node(nodes, Node::OnePort(port)),
         Block::Mixed => {
-            let left = push_trie(alloc, ports, runs, height - 1, 2 * index, nodes)?;
-            let right = push_trie(alloc, ports, runs, height - 1, 2 * index + 1, nodes)?;
-            let place = push_parent(alloc, nodes, left, right)?;
+            let left = push_trie(ports, runs, height - 1, 2 * index, nodes, room)?;
+            let right = push_trie(ports, runs, height - 1, 2 * index + 1, nodes, room)?;
+            let place = push_parent(nodes, room, left, right)?;
             Ok(place)
         }
     }
@@ -75,8 +76,8 @@ fn push_node(nodes: &mut Nodes, node: Node) -> Result<usize, AllocError>
 
 // Adds the node of two halves.
 fn push_parent(
-    alloc: Global,
     nodes: &mut Nodes,
+    room: &mut Vec<u16>,
     left: usize,
     right: usize,
 ) -> Result<usize, AllocError>
@@ -89,7 +90,7 @@ fn push_parent(
     if let Some(node) = merged(nodes.list[left], nodes.list[right]) {
         return push_node(nodes, node);
     }
-    push_fork(alloc, nodes, left, right)
+    push_fork(nodes, room, left, right)
 }
 
 // The node of two halves with no port or one.
@@ -108,8 +109,8 @@ fn merged(left: Node, right: Node) -> Option<Node>
 
 // Adds the node of two halves with several ports.
 fn push_fork(
-    alloc: Global,
     nodes: &mut Nodes,
+    room: &mut Vec<u16>,
     left: usize,
     right: usize,
 ) -> Result<usize, AllocError>
@@ -119,9 +120,9 @@ fn push_fork(
     ensures stands { IfOk result (λ place. (l r : Trie) → Stands nodes.old.list.items nodes.old.names.items left l → Stands nodes.old.list.items nodes.old.names.items right r → (IsFree l → IsFree r → ⊥)
         → (t : Trie) × IsParent l r t × Stands nodes.new.list.items nodes.new.names.items place t) }
 {
-    let names = joined(alloc, names_at(nodes, left), names_at(nodes, right))?;
+    join(room, names_at(nodes, left), names_at(nodes, right))?;
     let first = nodes.names.len();
-    nodes.names.extend_from_slice(names.as_slice())?;
+    nodes.names.extend_from_slice(room.as_slice())?;
     let end = nodes.names.len();
     let place = push_node(nodes, Node::Several(Places { first, end, left, right }))?;
     Ok(place)

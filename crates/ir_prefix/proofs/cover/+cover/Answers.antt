@@ -1,10 +1,8 @@
-use Rattle.std.proofs.Common.{◌≡◌, ◌++◌, ◌-◌, ◌∙◌, [], sym, subst, ap, arith, List}
+use Rattle.std.proofs.Common.{◌++◌, ◌∙◌, sym, subst, ap, arith}
 use Rattle.std.proofs.lemmas.List.{append-nil, get_or_default}
 use Rattle.ir_prefix.specs.declared.trie.Node.TheVariants.{NoPort}
 use Rattle.ir_prefix.specs.Cover.{IsTrie, cover_of}
-use Rattle.ir_prefix.specs.Described.{Trie, Fork}
-use Rattle.ir_prefix.specs.Nodes.{Stands}
-use Rattle.ir_prefix.specs.declared.cover.Prefix.{Prefix}
+use Rattle.ir_prefix.specs.Described.{Trie}
 use Rattle.ir_prefix.proofs.BlockLemmas.{left_within, right_within}
 use Rattle.ir_prefix.proofs.NodeLemmas.{stands_inside, stands_free, stands_alike, stands_fork}
 use Rattle.ir_prefix.proofs.cover.+cover.Goals as goal

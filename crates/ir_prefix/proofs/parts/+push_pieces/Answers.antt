@@ -1,7 +1,7 @@
-use Rattle.std.proofs.Common.{◌≡◌, ◌++◌, ◌∷◌, [], ◌-◌, ◌*◌, ◌+◌, ◌∙◌, List, ap, sym}
+use Rattle.std.proofs.Common.{◌++◌, ◌∷◌, [], ◌-◌, ◌*◌, ◌+◌, ◌∙◌, List, ap}
 use Rattle.std.proofs.lemmas.List.{append_assoc}
 use Rattle.std.proofs.lemmas.Result.{IfOk-weaker}
-use Rattle.ir_prefix.specs.Parts.{Divides, Part, OnePort, Halves, pieces_of}
+use Rattle.ir_prefix.specs.Parts.{OnePort, Halves, pieces_of}
 use Rattle.ir_prefix.specs.declared.cover.Prefix.{Prefix}
 use Rattle.ir_prefix.proofs.parts.+push_pieces.Goals as goal
 
