@@ -16,7 +16,7 @@ pub ports_more : (s : Scheme) → IsScheme s → (u a : ℕ) (port : Option ℕ)
 ports_more s is u a port ports more a_in so_far held pushed =
     let len : length (by_label s u) ≡ node_count s.network = length-map s.order (table_port s u) ∙ is.labels.every_label in
     let next = take_more (by_label s u) a None (subst (λ (k : ℕ). a < k) (sym len) a_in) in
-        pushed ∙ ap (λ (ps : List (Option ℕ)). ps ++ port ∷ []) so_far ∙ ap (λ (p : Option ℕ). take a (by_label s u) ++ p ∷ []) held ∙ sym next
+    pushed ∙ ap (λ (ps : List (Option ℕ)). ps ++ port ∷ []) so_far ∙ ap (λ (p : Option ℕ). take a (by_label s u) ++ p ∷ []) held ∙ sym next
 
 -- the ports are a list of destinations
 pub are_destinations : (s : Scheme) → IsScheme s → (u n own : ℕ) (ports : List (Option ℕ)) → u < node_count s.network → n ≡ node_count s.network → own ≡ label_in s u → ports ≡ by_label s u → IsDestinations n own ports

@@ -28,8 +28,13 @@ stands_later list more names further place Free s = holds_later list more place 
 stands_later list more names further place (Alike p) s = holds_later list more place (OnePort p) s
 stands_later list more names further place (Fork own l r) s =
     let n = length-append names further in (
-      s.0, holds_later list more place (Several s.0) s.1, s.2, omega (arith, n, s.3), s.4 ∙ sym (range_later names further s.0.first s.0.end s.2 s.3),
-      stands_later list more names further s.0.left l s.5, stands_later list more names further s.0.right r s.6,
+      s.0,
+      holds_later list more place (Several s.0) s.1,
+      s.2,
+      omega (arith, n, s.3),
+      s.4 ∙ sym (range_later names further s.0.first s.0.end s.2 s.3),
+      stands_later list more names further s.0.left l s.5,
+      stands_later list more names further s.0.right r s.6,
     )
 
 pub stands_on : (before after : Nodes) → Grows before after → (place : ℕ) (t : Trie) → Stands before.list.items before.names.items place t → Stands after.list.items after.names.items place t

@@ -44,10 +44,15 @@ module _ (ports : List (Option ℕ)) (h i size : ℕ) (s : size ≡ 2 ^ h) (run 
           let w = is.next l in
           let f = is.from in
           inr (
-            run.first, run.end, run.port, w.1,
+            run.first,
+            run.end,
+            run.port,
+            w.1,
             in_block run.first h i size s is.from (omega (arith, w.0)),
             in_block run.end h i size s is.on below,
-            is.has (omega (arith, w.0)), w.2, λ e. w.3 (sym e),
+            is.has (omega (arith, w.0)),
+            w.2,
+            λ e. w.3 (sym e),
           )
       | inr past ↦ inl (run.end, in_block run.end h i size s is.on below, past)
     ],

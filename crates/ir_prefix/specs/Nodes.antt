@@ -25,6 +25,9 @@ Stands list names place (Fork own l r) =
     (f : Places) × Holds list place (Several f) × (f.first ≤ f.end) × (f.end ≤ length names) × (own ≡ slice_range names f.first f.end)
     × Stands list names f.left l × Stands list names f.right r
 
+abbrev pub StandsIn : Nodes → ℕ → Trie → Type 0
+StandsIn nodes place t = Stands nodes.list.items nodes.names.items place t
+
 -- the later nodes and names begin with the earlier ones
 pub record Grows (before after : Nodes) : Type 0 where
   pub nodes : (more : List Node) × (after.list.items ≡ before.list.items ++ more)

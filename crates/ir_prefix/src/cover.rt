@@ -4,7 +4,7 @@ ghost use Rattle.std.specs.Prelude.{◌≡◌, ◌<◌, ◌≤◌, ◌+◌, ◌*
 ghost use Rattle.std.specs.List.Sorted.{IsNonDecreasing};
 ghost use Rattle.ir_prefix.specs.Cover.{IsTrie, cover_of, prefix_at, taken, told};
 ghost use Rattle.ir_prefix.specs.Described.{Trie};
-ghost use Rattle.ir_prefix.specs.Nodes.{Stands};
+ghost use Rattle.ir_prefix.specs.Nodes.{StandsIn};
 
 use crate::names::has_name;
 use crate::trie::{Node, Nodes, names_at};
@@ -29,10 +29,11 @@ pub fn cover(
     above: Option<u16>,
     prefixes: &mut Vec<Prefix>,
 ) -> Result<(), AllocError>
-    requires trie { (t : Trie) × IsTrie height t × Stands nodes.now.list.items nodes.now.names.items place t }
+    requires trie { (t : Trie) × IsTrie height t × StandsIn nodes.now place t }
     requires height { height ≤ bits }
     requires inside { (index + 1) * 2 ^ height ≤ 2 ^ 16 }
-    ensures { OnOk result ((t : Trie) → Stands nodes.now.list.items nodes.now.names.items place t → prefixes.new.items ≡ prefixes.old.items ++ cover_of bits t height index above) }
+    ensures { OnOk result ((t : Trie) → StandsIn nodes.now place t
+        → prefixes.new.items ≡ prefixes.old.items ++ cover_of bits t height index above) }
 {
     match nodes.list[place] {
         Node::NoPort => Ok(()),
@@ -43,8 +44,24 @@ pub fn cover(
         Node::Several(places) => {
             let names = names_at(nodes, place);
             let below = tell(names, bits, height, index, above, prefixes)?;
-            cover(nodes, places.left, bits, height - 1, 2 * index, below, prefixes)?;
-            cover(nodes, places.right, bits, height - 1, 2 * index + 1, below, prefixes)
+            cover(
+                nodes,
+                places.left,
+                bits,
+                height - 1,
+                2 * index,
+                below,
+                prefixes,
+            )?;
+            cover(
+                nodes,
+                places.right,
+                bits,
+                height - 1,
+                2 * index + 1,
+                below,
+                prefixes,
+            )
         }
     }
 }

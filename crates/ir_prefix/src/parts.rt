@@ -20,7 +20,8 @@ pub fn push_pieces(
     requires runs { AreRuns ports.now runs.now }
     requires height { height ≤ bits }
     requires inside { (index + 1) * 2 ^ height ≤ 2 ^ 16 }
-    ensures { OnOk result ((t : Part) × Divides ports.now height index t × (prefixes.new.items ≡ prefixes.old.items ++ pieces_of bits t height index)) }
+    ensures { OnOk result ((t : Part) × Divides ports.now height index t
+        × (prefixes.new.items ≡ prefixes.old.items ++ pieces_of bits t height index)) }
 {
     match block_of(ports, runs, height, index) {
         Block::Beyond | Block::Unsent => Ok(()),

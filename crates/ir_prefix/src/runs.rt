@@ -53,7 +53,11 @@ fn run_before(ports: &[Option<u16>], x: usize, next: Run) -> Run
         Some(port) => Run {
             first: x,
             port,
-            end: if next.port == port { next.end } else { next.first },
+            end: if next.port == port {
+                next.end
+            } else {
+                next.first
+            },
         },
     }
 }

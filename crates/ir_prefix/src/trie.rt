@@ -3,7 +3,7 @@
 ghost use Rattle.std.specs.Prelude.{◌≡◌, ◌<◌, ◌≤◌, ◌+◌, ◌*◌, ◌^◌, ℕ, None, Some, length, IfOk, IfSome, OnOk};
 ghost use Rattle.std.specs.List.Sorted.{IsNonDecreasing};
 ghost use Rattle.ir_prefix.specs.Described.{Describes, IsFree, IsParent, Trie, names_of};
-ghost use Rattle.ir_prefix.specs.Nodes.{Grows, Holds, IsMerged, Stands};
+ghost use Rattle.ir_prefix.specs.Nodes.{Grows, Holds, IsMerged, StandsIn};
 ghost use Rattle.ir_prefix.specs.declared.trie.Node.TheVariants.{NoPort};
 ghost use Rattle.ir_prefix.specs.Runs.{AreRuns};
 
@@ -48,7 +48,7 @@ pub fn push_trie(
     requires runs { AreRuns ports.now runs.now }
     requires inside { (index + 1) * 2 ^ height ≤ 2 ^ 16 }
     ensures grows { OnOk result (Grows nodes.old nodes.new) }
-    ensures stands { IfOk result (λ place. (t : Trie) × Describes ports.now height index t × Stands nodes.new.list.items nodes.new.names.items place t) }
+    ensures stands { IfOk result (λ place. (t : Trie) × Describes ports.now height index t × StandsIn nodes.new place t) }
 {
     match block_of(ports, runs, height, index) {
         Block::Beyond => push_node(nodes, Node::NoPort),
@@ -81,11 +81,11 @@ fn push_parent(
     left: usize,
     right: usize,
 ) -> Result<usize, AllocError>
-    requires left { (l : Trie) × IsNonDecreasing (names_of l) × Stands nodes.old.list.items nodes.old.names.items left l }
-    requires right { (r : Trie) × Stands nodes.old.list.items nodes.old.names.items right r }
+    requires left { (l : Trie) × IsNonDecreasing (names_of l) × StandsIn nodes.old left l }
+    requires right { (r : Trie) × StandsIn nodes.old right r }
     ensures grows { OnOk result (Grows nodes.old nodes.new) }
-    ensures stands { IfOk result (λ place. (l r : Trie) → Stands nodes.old.list.items nodes.old.names.items left l → Stands nodes.old.list.items nodes.old.names.items right r
-        → (t : Trie) × IsParent l r t × Stands nodes.new.list.items nodes.new.names.items place t) }
+    ensures stands { IfOk result (λ place. (l r : Trie) → StandsIn nodes.old left l → StandsIn nodes.old right r
+        → (t : Trie) × IsParent l r t × StandsIn nodes.new place t) }
 {
     if let Some(node) = merged(nodes.list[left], nodes.list[right]) {
         return push_node(nodes, node);
@@ -114,24 +114,32 @@ fn push_fork(
     left: usize,
     right: usize,
 ) -> Result<usize, AllocError>
-    requires left { (l : Trie) × IsNonDecreasing (names_of l) × Stands nodes.old.list.items nodes.old.names.items left l }
-    requires right { (r : Trie) × Stands nodes.old.list.items nodes.old.names.items right r }
+    requires left { (l : Trie) × IsNonDecreasing (names_of l) × StandsIn nodes.old left l }
+    requires right { (r : Trie) × StandsIn nodes.old right r }
     ensures grows { OnOk result (Grows nodes.old nodes.new) }
-    ensures stands { IfOk result (λ place. (l r : Trie) → Stands nodes.old.list.items nodes.old.names.items left l → Stands nodes.old.list.items nodes.old.names.items right r → (IsFree l → IsFree r → ⊥)
-        → (t : Trie) × IsParent l r t × Stands nodes.new.list.items nodes.new.names.items place t) }
+    ensures stands { IfOk result (λ place. (l r : Trie) → StandsIn nodes.old left l
+        → StandsIn nodes.old right r → (IsFree l → IsFree r → ⊥) → (t : Trie) × IsParent l r t × StandsIn nodes.new place t) }
 {
     join(room, names_at(nodes, left), names_at(nodes, right))?;
     let first = nodes.names.len();
     nodes.names.extend_from_slice(room.as_slice())?;
     let end = nodes.names.len();
-    let place = push_node(nodes, Node::Several(Places { first, end, left, right }))?;
+    let place = push_node(
+        nodes,
+        Node::Several(Places {
+            first,
+            end,
+            left,
+            right,
+        }),
+    )?;
     Ok(place)
 }
 
 /// The names of a node.
 pub fn names_at(nodes: &Nodes, place: usize) -> &[u16]
-    requires { (t : Trie) × Stands nodes.now.list.items nodes.now.names.items place t }
-    ensures { (t : Trie) → Stands nodes.now.list.items nodes.now.names.items place t → result.now ≡ names_of t }
+    requires { (t : Trie) × StandsIn nodes.now place t }
+    ensures { (t : Trie) → StandsIn nodes.now place t → result.now ≡ names_of t }
 {
     match &nodes.list[place] {
         Node::NoPort => &[],

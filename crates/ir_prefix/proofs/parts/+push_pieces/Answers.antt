@@ -16,6 +16,6 @@ returns-in_ok-push_pieces-in-Mixed t c =
     let pl = pieces_of c.args.bits l.0 (c.args.height - 1) (2 * c.args.index) in
     IfOk-weaker c.push_pieces-in-Mixed.result _ _
     (λ x w.
-        let pr = pieces_of c.args.bits w.0 (c.args.height - 1) (2 * c.args.index + 1) in
-        (Halves l.0 w.0, (c.in-Mixed.ensures.0, l.1, w.1, c.in-Mixed.ensures.1), w.2 ∙ ap (λ (xs : List Prefix). xs ++ pr) l.2 ∙ append_assoc front pl pr))
+    let pr = pieces_of c.args.bits w.0 (c.args.height - 1) (2 * c.args.index + 1) in
+    (Halves l.0 w.0, (c.in-Mixed.ensures.0, l.1, w.1, c.in-Mixed.ensures.1), w.2 ∙ ap (λ (xs : List Prefix). xs ++ pr) l.2 ∙ append_assoc front pl pr))
     c.push_pieces-in-Mixed.ensures

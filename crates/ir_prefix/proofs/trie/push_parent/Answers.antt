@@ -16,8 +16,8 @@ returns-in-Some-clause-stands c =
     let before = c.args.nodes.now in
     IfOk-weaker c.push_node.result _ _
     (λ place holds. λ l r sl sr.
-        merged_stands before.list.items c.push_node.new.nodes.list.items before.names.items c.push_node.new.nodes.names.items c.args.left c.args.right place c.index.result.now c.index-2.result.now c.in-Some.node l r
-        (get_or_default before.list.items c.args.left NoPort c.index.result.now (stands_inside before.list.items before.names.items c.args.left l sl) ∙ sym c.index.ensures)
-        (get_or_default before.list.items c.args.right NoPort c.index-2.result.now (stands_inside before.list.items before.names.items c.args.right r sr) ∙ sym c.index-2.ensures)
-        c.in-Some.ensures.merged sl sr holds)
+    merged_stands before.list.items c.push_node.new.nodes.list.items before.names.items c.push_node.new.nodes.names.items c.args.left c.args.right place c.index.result.now c.index-2.result.now c.in-Some.node l r
+    (get_or_default before.list.items c.args.left NoPort c.index.result.now (stands_inside before.list.items before.names.items c.args.left l sl) ∙ sym c.index.ensures)
+    (get_or_default before.list.items c.args.right NoPort c.index-2.result.now (stands_inside before.list.items before.names.items c.args.right r sr) ∙ sym c.index-2.ensures)
+    c.in-Some.ensures.merged sl sr holds)
     c.push_node.ensures.holds
