@@ -1,5 +1,6 @@
 pub mod Goings
 pub mod Senders
+pub mod RowStarts
 pub mod NodeTables
 pub mod Entries
 pub mod NodePorts

@@ -2,23 +2,21 @@
 use Rattle.std.proofs.Common.{◌≡◌, ℕ, ◌+◌, ◌<◌, List, length, take, Option, None, sym, ap, subst, ◌∙◌, ◌++◌, ◌∷◌, [], get_or}
 use Rattle.std.proofs.lemmas.List.{take_more, length-map}
 use Rattle.ir_model.specs.Network.{node_count}
-use Rattle.ir_model.specs.Compiled.{IsDestinations}
-use Rattle.ir_model.specs.Scheme.{Scheme, IsScheme, label_in, node_in, table_port, by_label}
+use Rattle.ir_model.specs.Compiled.{IsDestinations, port_to}
+use Rattle.ir_model.specs.Scheme.{Scheme, IsScheme, label_in, table_port, by_label}
 use Rattle.ir_plan.proofs.Standing.{row_destinations}
 use Rattle.ir_prefix.specs.Longest.{IsWidth}
 use Rattle.ir_prefix.specs.Forwarding.{AreLongestFirst, IsDisjointTable, IsFewestDisjoint, IsFewestLines, IsForwardingTable, IsWellFormed, KeepsMatches, NamesPorts}
 use Rattle.ir_prefix.specs.declared.line.Line.{Line}
 use Rattle.ir_lines.specs.Tables.{AreDisjointLines, AreNestedLines}
-use Rattle.ir_lines.proofs.Senders.{port_at_label}
 
 -- one more port
-pub ports_more : (s : Scheme) → IsScheme s → (u a : ℕ) (port : Option ℕ) (ports more : List (Option ℕ)) → a < node_count s.network → ports ≡ take a (by_label s u) → port ≡ table_port s u (node_in s a)
+pub ports_more : (s : Scheme) → IsScheme s → (u a : ℕ) (port : Option ℕ) (ports more : List (Option ℕ)) → a < node_count s.network → ports ≡ take a (by_label s u) → port ≡ port_to (by_label s u) a
     → more ≡ ports ++ port ∷ [] → more ≡ take (a + 1) (by_label s u)
 ports_more s is u a port ports more a_in so_far held pushed =
     let len : length (by_label s u) ≡ node_count s.network = length-map s.order (table_port s u) ∙ is.labels.every_label in
     let next = take_more (by_label s u) a None (subst (λ (k : ℕ). a < k) (sym len) a_in) in
-    let same : port ≡ get_or (by_label s u) a None = held ∙ sym (port_at_label s is u a a_in) in
-    pushed ∙ ap (λ (ps : List (Option ℕ)). ps ++ port ∷ []) so_far ∙ ap (λ (p : Option ℕ). take a (by_label s u) ++ p ∷ []) same ∙ sym next
+    pushed ∙ ap (λ (ps : List (Option ℕ)). ps ++ port ∷ []) so_far ∙ ap (λ (p : Option ℕ). take a (by_label s u) ++ p ∷ []) held ∙ sym next
 
 -- the ports are a list of destinations
 pub are_destinations : (s : Scheme) → IsScheme s → (u n own : ℕ) (ports : List (Option ℕ)) → u < node_count s.network → n ≡ node_count s.network → own ≡ label_in s u → ports ≡ by_label s u → IsDestinations n own ports

@@ -1,25 +1,62 @@
 //! The forwarding table of a node of a plan.
-ghost use Rattle.std.specs.Prelude.{◌≡◌, ◌<◌, ℕ, IfOk};
+ghost use Rattle.std.specs.Prelude.{◌≡◌, ◌≢◌, ◌<◌, ◌+◌, ℕ, None, IfOk, IfSome, IsSome, length};
 ghost use Rattle.ir_model.specs.Network.{node_count};
+ghost use Rattle.ir_model.specs.Row.{HasPort};
 ghost use Rattle.ir_model.specs.Scheme.{by_label};
 ghost use Rattle.ir_prefix.specs.Forwarding.{NamesPorts};
 ghost use Rattle.ir_prefix.specs.Longest.{IsWidth};
+ghost use Rattle.ir_lines.specs.Before.{AreBelow};
 ghost use Rattle.ir_lines.specs.Tables.{AreDisjointLines, AreLinesOf, AreNestedLines};
 
+use ir_lookup::Row;
 use ir_plan::Plan;
 use ir_prefix::{Line, PrefixError, disjoint, forwarding};
 use std::alloc::{AllocError, Global};
 
-// The ports of a node to each label.
+// The ports of a node to each label, by one walk along its row.
 fn ports_by_label(alloc: Global, plan: &Plan, u: u16) -> Result<Vec<Option<u16>>, AllocError>
     requires { u < node_count plan.now.network }
     ensures { IfOk result (λ ports. ports.items ≡ by_label plan.now u) }
 {
-    let mut ports = Vec::new(alloc);
+    let row = plan.row(u);
+    let own = plan.label_of(u);
+    let mut ports = Vec::with_capacity(alloc, plan.nodes())?;
+    let mut below = 0;
     for label in 0..plan.nodes() {
-        ports.push(plan.port(u, label as u16))?;
+        below = starts_to(row, below, label as u16);
+        ports.push(port_behind(row, below, own, label as u16))?;
     }
     Ok(ports)
+}
+
+// How many starts of a row are at most a label, where so many are below it.
+fn starts_to(row: &Row, below: usize, label: u16) -> usize
+    requires { AreBelow row.now label below }
+    ensures { AreBelow row.now (label + 1) result }
+{
+    if below < row.len() && row.start(below) == label {
+        below + 1
+    } else {
+        below
+    }
+}
+
+// The port to a label, where so many starts of the row are at most the label: none to the own one.
+fn port_behind(row: &Row, below: usize, own: u16, label: u16) -> Option<u16>
+    requires below { AreBelow row.now (label + 1) below }
+    requires some { label ≢ own → 0 < length row.now }
+    ensures own { label ≡ own → result ≡ None }
+    ensures port { label ≢ own → IfSome result (λ p. (n : ℕ) → label < n → HasPort n row.now label p) }
+    ensures some { label ≢ own → IsSome result }
+{
+    if label == own {
+        return None;
+    }
+    let starts = row.len();
+    if below == 0 {
+        return Some(row.port(starts - 1));
+    }
+    Some(row.port(below - 1))
 }
 
 // The fewest lines of a node whose longest match names its port to each other label.

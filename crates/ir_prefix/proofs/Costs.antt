@@ -1,11 +1,9 @@
 -- How many prefixes a trie is told by, and what that is at least.
 use Rattle.std.proofs.Common.{◌≡◌, ℕ, ◌+◌, ◌-◌, ◌*◌, ◌<◌, ◌≤◌, ◌||◌, ◌&&◌, List, [], ◌∷◌, ◌++◌, length, length-append, get_or, Bool, true, false, refl, ap, sym, ◌∙◌, inl, inr, arith, Option}
 use Rattle.ir_prefix.specs.Joined.{is_named}
-use Rattle.ir_prefix.specs.Described.{names_of, IsJoin}
+use Rattle.ir_prefix.specs.Described.{names_of, IsJoin, Trie, Free, Alike, Fork}
 use Rattle.ir_prefix.specs.Cover.{prefix_at, told_unless, told, taken_unless, taken, cover_of, IsTrie}
 use Rattle.ir_prefix.specs.declared.cover.Prefix.{Prefix}
-use Rattle.ir_prefix.specs.declared.trie.Trie.{Trie}
-use Rattle.ir_prefix.specs.declared.trie.Trie.TheVariants.{Free, Alike, Fork'}
 use Rattle.ir_prefix.proofs.AmongLemmas.{head_among}
 
 abbrev pub miss : Bool → ℕ
@@ -16,7 +14,7 @@ miss false = 1
 abbrev pub cost : Trie → Option ℕ → ℕ
 cost Free q = 0
 cost (Alike p) q = miss (is_named (p ∷ []) q)
-cost (Fork' names a l b r) q = miss (is_named names.items q) + (cost l (taken names.items q) + cost r (taken names.items q))
+cost (Fork names l r) q = miss (is_named names q) + (cost l (taken names q) + cost r (taken names q))
 
 length_told_unless : (b : Bool) (m : Prefix) → length (told_unless b m) ≡ miss b
 length_told_unless true m = refl
@@ -25,12 +23,12 @@ length_told_unless false m = refl
 pub length_cover : (bits : ℕ) (t : Trie) (h i : ℕ) (q : Option ℕ) → length (cover_of bits t h i q) ≡ cost t q
 length_cover bits Free h i q = refl
 length_cover bits (Alike p) h i q = length_told_unless (is_named (p ∷ []) q) (prefix_at bits h i p)
-length_cover bits (Fork' names a l b r) h i q =
-    let below = taken names.items q in
-    let here = told bits h i names.items q in
+length_cover bits (Fork names l r) h i q =
+    let below = taken names q in
+    let here = told bits h i names q in
     let cl = cover_of bits l (h - 1) (2 * i) below in
     let cr = cover_of bits r (h - 1) (2 * i + 1) below in
-    let e = length_told_unless (is_named names.items q) (prefix_at bits h i (get_or names.items 0 0)) in
+    let e = length_told_unless (is_named names q) (prefix_at bits h i (get_or names 0 0)) in
     let f = length_cover bits l (h - 1) (2 * i) below in
     let g = length_cover bits r (h - 1) (2 * i + 1) below in
     let u = length-append here (cl ++ cr) in
@@ -123,10 +121,10 @@ module _ (a b c : List ℕ) (left right : Option ℕ → ℕ) (bl br : ℕ) (pl 
 pub cost_base : (h : ℕ) (t : Trie) → IsTrie h t → (base : ℕ) × ((q : Option ℕ) → cost t q ≡ base + miss (is_named (names_of t) q))
 cost_base h Free is = (0, λ q. omega arith)
 cost_base h (Alike p) is = (0, λ q. omega arith)
-cost_base h (Fork' names a l b r) is =
+cost_base h (Fork names l r) is =
     let bl = cost_base (h - 1) l is.1 in
     let br = cost_base (h - 1) r is.2 in
-    let w = priced (names_of l) (names_of r) names.items (cost l) (cost r) bl.0 br.0 bl.1 br.1 is.3 in
+    let w = priced (names_of l) (names_of r) names (cost l) (cost r) bl.0 br.0 bl.1 br.1 is.3 in
     (w.base, w.price)
 
 pub fork_priced : (h : ℕ) (l r : Trie) (c : List ℕ) → IsTrie (h - 1) l → IsTrie (h - 1) r → IsJoin (names_of l) (names_of r) c

@@ -13,11 +13,10 @@ use Rattle.ir_prefix.specs.Longest.{Holds, AreLeast}
 use Rattle.ir_prefix.specs.Forwarding.{HoldsNumber, IsDisjointTable, IsFewestDisjoint}
 use Rattle.ir_prefix.specs.Extended.{line_of, prefix_of, IsUnused}
 use Rattle.ir_prefix.specs.Cover.{AreDistinct}
-use Rattle.ir_prefix.specs.Parts.{HasTwo, Divides, pieces_of}
+use Rattle.ir_prefix.specs.Runs.{HasTwo}
+use Rattle.ir_prefix.specs.Parts.{Divides, pieces_of, Part, Beyond, Unsent, OnePort, Halves}
 use Rattle.ir_prefix.specs.declared.cover.Prefix.{Prefix}
 use Rattle.ir_prefix.specs.declared.line.Line.{Line}
-use Rattle.ir_prefix.specs.declared.parts.Part.{Part}
-use Rattle.ir_prefix.specs.declared.parts.Part.TheVariants.{Beyond, Unsent, OnePort, Halves'}
 use Rattle.ir_prefix.proofs.BlockLemmas.{left_inside, right_inside, agree_higher}
 use Rattle.ir_prefix.proofs.LineLemmas.{mapped_to, no_prefix}
 use Rattle.ir_prefix.proofs.Lower.{is_at, is_inside, inside_from, node_and_halves}
@@ -157,7 +156,7 @@ module _ (bits n : ℕ) (ports : List (Option ℕ)) (every : length ports ≡ n)
       let v : w.0.value / 2 ^ h ≡ i = sym (agree_higher l.0 w.0.value (bits - w.0.length) h w.2 w.3) ∙ l.1 in
       let s = tally_some (λ (m : Line). is_inside bits h i (prefix_of 0 m)) other w.0 w.1 (inside_from bits h i (prefix_of 0 w.0) w.2 v) in
       omega arith
-  pieces_at_most (Halves' a l b r) h i d all =
+  pieces_at_most (Halves l r) h i d all =
       let some = d.0 in
       let three = tally_three (λ (m : Line). is_at bits h i (prefix_of 0 m)) (λ (m : Line). is_inside bits (h - 1) (2 * i) (prefix_of 0 m)) (λ (m : Line). is_inside bits (h - 1) (2 * i + 1) (prefix_of 0 m))
       (λ (m : Line). is_inside bits h i (prefix_of 0 m)) (λ m. node_and_halves bits h i some (prefix_of 0 m)) other in

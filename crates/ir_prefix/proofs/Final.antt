@@ -4,10 +4,9 @@ use Rattle.std.proofs.Math.Nat.{pow-le-pow_right}
 use Rattle.std.proofs.lemmas.List.Sorted.{All-permutation, Contains-permutation, IsPermutation-sym, length_permutation}
 use Rattle.std.specs.List.Sorted.{IsPermutation}
 use Rattle.ir_prefix.specs.Longest.{Holds, IsLongest, Forwards, IsFewestPrefixes, IsWidth, IsLongestFirst, LoadsInOrder, AreLeast}
-use Rattle.ir_prefix.specs.Described.{Describes}
+use Rattle.ir_prefix.specs.Described.{Describes, Trie}
 use Rattle.ir_prefix.specs.Cover.{cover_of}
 use Rattle.ir_prefix.specs.declared.cover.Prefix.{Prefix}
-use Rattle.ir_prefix.specs.declared.trie.Trie.{Trie}
 use Rattle.ir_prefix.proofs.Lower.{cover_is_fewest}
 use Rattle.ir_prefix.proofs.Upper.{cover_forwards}
 use Rattle.ir_prefix.proofs.Loading.{loads_in_order, cover_least}

@@ -1,6 +1,8 @@
 pub mod AmongLemmas
 pub mod BlockLemmas
+pub mod RunLemmas
 pub mod TrieLemmas
+pub mod NodeLemmas
 pub mod Costs
 pub mod Tallies
 pub mod Lower

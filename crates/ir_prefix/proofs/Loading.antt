@@ -6,12 +6,11 @@ use Rattle.std.proofs.lemmas.List.{get_or-take, get_or_default, length-take}
 use Rattle.std.proofs.lemmas.List.Elements.{All-append, All-contains, All-cons, All-nil}
 use Rattle.std.specs.List.{Contains}
 use Rattle.ir_model.specs.Compiled.{port_to}
+use Rattle.ir_prefix.specs.Described.{Trie, Free, Alike, Fork}
 use Rattle.ir_prefix.specs.Longest.{Holds, IsLongest, Forwards, IsBefore, IsLongestFirst, LoadsInOrder, AreLeast}
 use Rattle.ir_prefix.specs.Joined.{is_named}
 use Rattle.ir_prefix.specs.Cover.{prefix_at, told_unless, told, taken, cover_of}
 use Rattle.ir_prefix.specs.declared.cover.Prefix.{Prefix}
-use Rattle.ir_prefix.specs.declared.trie.Trie.{Trie}
-use Rattle.ir_prefix.specs.declared.trie.Trie.TheVariants.{Free, Alike, Fork'}
 use Rattle.ir_prefix.proofs.Upper.{prefix_is_inside}
 
 before_is_longer : (m o : Prefix) → IsBefore m o → o.length ≤ m.length
@@ -87,10 +86,10 @@ told_least bits h i p false le =
 pub cover_least : (bits : ℕ) (t : Trie) (h i : ℕ) (q : Option ℕ) → h ≤ bits → AreLeast bits (cover_of bits t h i q)
 cover_least bits Free h i q le = All-nil (λ (m : Prefix). (x : ℕ) → Holds bits m x → m.value ≤ x)
 cover_least bits (Alike p) h i q le = told_least bits h i p (is_named (p ∷ []) q) le
-cover_least bits (Fork' names a l b r) h i q le =
-    let below = taken names.items q in
+cover_least bits (Fork names l r) h i q le =
+    let below = taken names q in
     let cl = cover_of bits l (h - 1) (2 * i) below in
     let cr = cover_of bits r (h - 1) (2 * i + 1) below in
     let P : Prefix → Type 0 = λ m. (x : ℕ) → Holds bits m x → m.value ≤ x in
-    All-append P (told bits h i names.items q) (cl ++ cr) (told_least bits h i (get_or names.items 0 0) (is_named names.items q) le)
+    All-append P (told bits h i names q) (cl ++ cr) (told_least bits h i (get_or names 0 0) (is_named names q) le)
     (All-append P cl cr (cover_least bits l (h - 1) (2 * i) below (omega arith)) (cover_least bits r (h - 1) (2 * i + 1) below (omega arith)))

@@ -6,12 +6,10 @@ use Rattle.std.proofs.lemmas.List.Elements.{Contains-get_or}
 use Rattle.std.specs.List.{Contains, All}
 use Rattle.ir_model.specs.Compiled.{port_to}
 use Rattle.ir_prefix.specs.Joined.{is_named}
-use Rattle.ir_prefix.specs.Described.{Describes}
+use Rattle.ir_prefix.specs.Described.{Describes, Trie, Free, Alike, Fork}
 use Rattle.ir_prefix.specs.Longest.{Holds, Forwards, IsFewestPrefixes}
 use Rattle.ir_prefix.specs.Cover.{taken, cover_of}
 use Rattle.ir_prefix.specs.declared.cover.Prefix.{Prefix}
-use Rattle.ir_prefix.specs.declared.trie.Trie.{Trie}
-use Rattle.ir_prefix.specs.declared.trie.Trie.TheVariants.{Free, Alike, Fork'}
 use Rattle.ir_prefix.proofs.AmongLemmas.{head_among}
 use Rattle.ir_prefix.proofs.BlockLemmas.{left_inside, right_inside, agree_higher}
 use Rattle.ir_prefix.proofs.TrieLemmas.{described_is_trie}
@@ -157,9 +155,9 @@ module _ (bits : ℕ) (ports : List (Option ℕ)) (set : List Prefix) (fw : Forw
   pub cost_at_most : (t : Trie) (h i : ℕ) (q : Option ℕ) → Describes ports h i t → AllReach h i q → cost t q ≤ tally (is_inside bits h i) set
   cost_at_most Free h i q d all = omega arith
   cost_at_most (Alike p) h i q d all = let w = d.1 in one_costs h i p q (is_named (p ∷ []) q) refl w.0 w.1 w.2 all
-  cost_at_most (Fork' names a l b r) h i q d all =
-      node_costs h i q names.items l r d.0
-      (fork_priced h l r names.items (described_is_trie ports (h - 1) (2 * i) l d.1) (described_is_trie ports (h - 1) (2 * i + 1) r d.2) d.3)
+  cost_at_most (Fork names l r) h i q d all =
+      node_costs h i q names l r d.0
+      (fork_priced h l r names (described_is_trie ports (h - 1) (2 * i) l d.1) (described_is_trie ports (h - 1) (2 * i + 1) r d.2) d.3)
       (λ o. cost_at_most l (h - 1) (2 * i) o d.1)
       (λ o. cost_at_most r (h - 1) (2 * i + 1) o d.2)
       all

@@ -8,13 +8,11 @@ use Rattle.std.proofs.lemmas.List.Sorted.{sum_by-IsPermutation}
 use Rattle.std.specs.List.{count_by}
 use Rattle.std.specs.List.Sorted.{IsPermutation}
 use Rattle.std.specs.Ordering.{nat_cmp, ordering_then, is_lt}
-use Rattle.ir_prefix.specs.Described.{Describes}
+use Rattle.ir_prefix.specs.Described.{Describes, Trie, Free, Alike, Fork}
 use Rattle.ir_prefix.specs.Longest.{IsBefore, IsLongestFirst}
 use Rattle.ir_prefix.specs.Cover.{prefix_at, told_unless, told, taken, cover_of, AreDistinct}
 use Rattle.ir_prefix.specs.Joined.{is_named}
 use Rattle.ir_prefix.specs.declared.cover.Prefix.{Prefix}
-use Rattle.ir_prefix.specs.declared.trie.Trie.{Trie}
-use Rattle.ir_prefix.specs.declared.trie.Trie.TheVariants.{Free, Alike, Fork'}
 use Rattle.ir_prefix.proofs.Tallies.{hit, tally, tally_some, tally_found}
 use Rattle.ir_prefix.proofs.Upper.{cover_inside}
 
@@ -73,12 +71,12 @@ module _ (bits : ℕ) (ports : List (Option ℕ)) (l v : ℕ) where
   pub cover_once : (t : Trie) (h i : ℕ) (q : Option ℕ) → Describes ports h i t → h ≤ bits → tally (is_same l v) (cover_of bits t h i q) ≤ 1
   cover_once Free h i q d le = omega arith
   cover_once (Alike p) h i q d le = (told_once (is_named (p ∷ []) q) (prefix_at bits h i p) l v).0
-  cover_once (Fork' names a t b r) h i q d le =
-      let below = taken names.items q in
-      let here = told bits h i names.items q in
+  cover_once (Fork names t r) h i q d le =
+      let below = taken names q in
+      let here = told bits h i names q in
       let cl = cover_of bits t (h - 1) (2 * i) below in
       let cr = cover_of bits r (h - 1) (2 * i + 1) below in
-      let u = told_once (is_named names.items q) (prefix_at bits h i (get_or names.items 0 0)) l v in
+      let u = told_once (is_named names q) (prefix_at bits h i (get_or names 0 0)) l v in
       let x = cover_once t (h - 1) (2 * i) below d.1 (omega arith) in
       let y = cover_once r (h - 1) (2 * i + 1) below d.2 (omega arith) in
       let s = tally-append (is_same l v) here (cl ++ cr) in

@@ -8,11 +8,9 @@ use Rattle.std.specs.List.{Contains}
 use Rattle.ir_model.specs.Compiled.{port_to}
 use Rattle.ir_prefix.specs.Longest.{Holds, AreLeast}
 use Rattle.ir_prefix.specs.Cover.{prefix_at}
-use Rattle.ir_prefix.specs.Parts.{IsBeyond, IsUnsent, IsOnePort, IsPartOf, HasTwo, Divides, IsDivided, pieces_of}
+use Rattle.ir_prefix.specs.Parts.{Divides, pieces_of, Part, Beyond, Unsent, OnePort, Halves}
 use Rattle.ir_prefix.specs.declared.cover.Prefix.{Prefix}
-use Rattle.ir_prefix.specs.declared.parts.Part.{Part}
-use Rattle.ir_prefix.specs.declared.parts.Part.TheVariants.{Beyond, Unsent, OnePort, Halves'}
-use Rattle.ir_prefix.proofs.BlockLemmas.{halves, left_inside, right_inside}
+use Rattle.ir_prefix.proofs.BlockLemmas.{halves}
 use Rattle.ir_prefix.proofs.Loading.{node_is_least}
 use Rattle.ir_prefix.proofs.Orders.{tally-append}
 use Rattle.ir_prefix.proofs.Tallies.{hit, tally, tally_found}
@@ -20,107 +18,6 @@ use Rattle.ir_prefix.proofs.Upper.{IsInside, prefix_is_inside, left_is_inside, r
 
 first_of : (h i : ℕ) → (i * 2 ^ h) / 2 ^ h ≡ i
 first_of h i = (prefix_is_inside h h i 0 (omega arith)).value
-
-beyond_below : (ports : List (Option ℕ)) (h i : ℕ) (t : Part) → IsBeyond t → Divides ports h i t → (x : ℕ) → x / 2 ^ h ≡ i → length ports ≤ x
-beyond_below ports h i Beyond is d = d
-beyond_below ports h i Unsent is d = absurd is
-beyond_below ports h i (OnePort p) is d = absurd is
-beyond_below ports h i (Halves' a l b r) is d = absurd is
-
-unsent_below : (ports : List (Option ℕ)) (h i : ℕ) (t : Part) → IsUnsent t → Divides ports h i t → (x : ℕ) → x / 2 ^ h ≡ i → (x < length ports) × (port_to ports x ≡ None)
-unsent_below ports h i Beyond is d = absurd is
-unsent_below ports h i Unsent is d = d
-unsent_below ports h i (OnePort p) is d = absurd is
-unsent_below ports h i (Halves' a l b r) is d = absurd is
-
-label_below : (ports : List (Option ℕ)) (h i : ℕ) (t : Part) (p : ℕ) → IsOnePort t p → Divides ports h i t → (x : ℕ) → x / 2 ^ h ≡ i → x < length ports
-label_below ports h i Beyond p is d = absurd is
-label_below ports h i Unsent p is d = λ x e. (d x e).0
-label_below ports h i (OnePort q) p is d = d.0
-label_below ports h i (Halves' a l b r) p is d = absurd is
-
-port_below : (ports : List (Option ℕ)) (h i : ℕ) (t : Part) (p : ℕ) → IsOnePort t p → Divides ports h i t → (x r : ℕ) → x / 2 ^ h ≡ i → port_to ports x ≡ Some r → r ≡ p
-port_below ports h i Beyond p is d = absurd is
-port_below ports h i Unsent p is d = λ x r e o. let n = (d x e).1 in absurd (cc (o, n))
-port_below ports h i (OnePort q) p is d = λ x r e o. d.1 x r e o ∙ is
-port_below ports h i (Halves' a l b r) p is d = absurd is
-
--- a number of a block that has a port, or is beyond the labels
-abbrev HasPort : List (Option ℕ) → ℕ → ℕ → ℕ → Type 0
-HasPort ports h i p = (x : ℕ) × (x / 2 ^ h ≡ i) × (port_to ports x ≡ Some p)
-
-abbrev HasBeyond : List (Option ℕ) → ℕ → ℕ → Type 0
-HasBeyond ports h i = (x : ℕ) × (x / 2 ^ h ≡ i) × (length ports ≤ x)
-
-module _ (ports : List (Option ℕ)) (h i : ℕ) (some : 0 < h) where
-  two_left : HasTwo ports (h - 1) (2 * i) → HasTwo ports h i
-  two_left (inl w) = inl (w.0, left_inside w.0 h i some w.1, w.2)
-  two_left (inr w) = inr (w.0, w.1, w.2, w.3, left_inside w.0 h i some w.4, left_inside w.1 h i some w.5, w.6, w.7, w.8)
-
-  two_right : HasTwo ports (h - 1) (2 * i + 1) → HasTwo ports h i
-  two_right (inl w) = inl (w.0, right_inside w.0 h i some w.1, w.2)
-  two_right (inr w) = inr (w.0, w.1, w.2, w.3, right_inside w.0 h i some w.4, right_inside w.1 h i some w.5, w.6, w.7, w.8)
-
-  beyond_left : ((x : ℕ) → x / 2 ^ (h - 1) ≡ 2 * i → length ports ≤ x) → HasTwo ports h i
-  beyond_left all = let x = 2 * i * 2 ^ (h - 1) in let e = first_of (h - 1) (2 * i) in inl (x, left_inside x h i some e, all x e)
-
-  beyond_right : ((x : ℕ) → x / 2 ^ (h - 1) ≡ 2 * i + 1 → length ports ≤ x) → HasTwo ports h i
-  beyond_right all = let x = (2 * i + 1) * 2 ^ (h - 1) in let e = first_of (h - 1) (2 * i + 1) in inl (x, right_inside x h i some e, all x e)
-
-  two_from : (l r : Part) → Divides ports (h - 1) (2 * i) l → Divides ports (h - 1) (2 * i + 1) r → (IsBeyond l → IsBeyond r → ⊥) → ((p : ℕ) → IsOnePort l p → IsOnePort r p → ⊥) → HasTwo ports h i
-  two_from Beyond r dl dr nb na = beyond_left dl
-  two_from (Halves' a x b y) r dl dr nb na = two_left dl.3
-  two_from Unsent Beyond dl dr nb na = beyond_right dr
-  two_from Unsent Unsent dl dr nb na = absurd (na 0 tt tt)
-  two_from Unsent (OnePort q) dl dr nb na = absurd (na q tt refl)
-  two_from Unsent (Halves' a x b y) dl dr nb na = two_right dr.3
-  two_from (OnePort p) Beyond dl dr nb na = beyond_right dr
-  two_from (OnePort p) Unsent dl dr nb na = absurd (na p refl tt)
-  two_from (OnePort p) (OnePort q) dl dr nb na =
-      let u = dl.2 in
-      let w = dr.2 in
-      inr (u.0, w.0, p, q, left_inside u.0 h i some u.1, right_inside w.0 h i some w.1, u.2, w.2, λ e. na q e refl)
-  two_from (OnePort p) (Halves' a x b y) dl dr nb na = two_right dr.3
-
-  pub part_divides : (l r t : Part) → Divides ports (h - 1) (2 * i) l → Divides ports (h - 1) (2 * i + 1) r → IsPartOf l r t → Divides ports h i t
-  part_divides l r Beyond dl dr is = λ x e.
-      elim (halves x h i some e) [
-        | inl a ↦ beyond_below ports (h - 1) (2 * i) l is.0 dl x a
-        | inr b ↦ beyond_below ports (h - 1) (2 * i + 1) r is.1 dr x b
-      ]
-  part_divides l r Unsent dl dr is = λ x e.
-      elim (halves x h i some e) [
-        | inl a ↦ unsent_below ports (h - 1) (2 * i) l is.0 dl x a
-        | inr b ↦ unsent_below ports (h - 1) (2 * i + 1) r is.1 dr x b
-      ]
-  part_divides l r (OnePort p) dl dr is = (
-    λ x e.
-        elim (halves x h i some e) [
-          | inl a ↦ label_below ports (h - 1) (2 * i) l p is.0 dl x a
-          | inr b ↦ label_below ports (h - 1) (2 * i + 1) r p is.1 dr x b
-        ],
-    λ x q e o.
-        elim (halves x h i some e) [
-          | inl a ↦ port_below ports (h - 1) (2 * i) l p is.0 dl x q a o
-          | inr b ↦ port_below ports (h - 1) (2 * i + 1) r p is.1 dr x q b o
-        ],
-    elim is.2 [
-      | inl e ↦ let w = (subst (Divides ports (h - 1) (2 * i)) e dl).2 in (w.0, left_inside w.0 h i some w.1, w.2)
-      | inr e ↦ let w = (subst (Divides ports (h - 1) (2 * i + 1)) e dr).2 in (w.0, right_inside w.0 h i some w.1, w.2)
-    ],
-  )
-  part_divides l r (Halves' a x b y) dl dr is = (
-    some,
-    subst (Divides ports (h - 1) (2 * i)) (sym is.0) dl,
-    subst (Divides ports (h - 1) (2 * i + 1)) (sym is.1) dr,
-    two_from l r dl dr is.2 is.3,
-  )
-
-pub divides_is_divided : (ports : List (Option ℕ)) (h i : ℕ) (t : Part) → Divides ports h i t → IsDivided h t
-divides_is_divided ports h i Beyond d = tt
-divides_is_divided ports h i Unsent d = tt
-divides_is_divided ports h i (OnePort p) d = tt
-divides_is_divided ports h i (Halves' a l b r) d = (d.0, divides_is_divided ports (h - 1) (2 * i) l d.1, divides_is_divided ports (h - 1) (2 * i + 1) r d.2)
 
 -- the number is one that the prefix holds
 abbrev pub is_held : ℕ → ℕ → Prefix → Bool
@@ -150,7 +47,7 @@ module _ (bits : ℕ) (ports : List (Option ℕ)) where
   piece_inside Beyond h i d l o c = absurd (omega (arith, c.1))
   piece_inside Unsent h i d l o c = absurd (omega (arith, c.1))
   piece_inside (OnePort p) h i d l o c = subst (IsInside bits h i) (sym (only_piece (prefix_at bits h i p) o c)) (prefix_is_inside bits h i p l)
-  piece_inside (Halves' a t b r) h i d l o c =
+  piece_inside (Halves t r) h i d l o c =
       elim (Contains-append_cases (pieces_of bits t (h - 1) (2 * i)) (pieces_of bits r (h - 1) (2 * i + 1)) o c) [
         | inl e ↦ left_is_inside bits h i o d.0 (piece_inside t (h - 1) (2 * i) d.1 (omega arith) o e)
         | inr e ↦ right_is_inside bits h i o d.0 (piece_inside r (h - 1) (2 * i + 1) d.2 (omega arith) o e)
@@ -166,7 +63,7 @@ module _ (bits : ℕ) (ports : List (Option ℕ)) where
   held_once Beyond h i d l x = omega arith
   held_once Unsent h i d l x = omega arith
   held_once (OnePort p) h i d l x = one_hit (is_held bits x (prefix_at bits h i p))
-  held_once (Halves' a t b r) h i d l x =
+  held_once (Halves t r) h i d l x =
       let pl = pieces_of bits t (h - 1) (2 * i) in
       let pr = pieces_of bits r (h - 1) (2 * i + 1) in
       let some = d.0 in
@@ -191,7 +88,7 @@ module _ (bits : ℕ) (ports : List (Option ℕ)) where
   piece_of_label Beyond h i d l x p e o = let n = get_or_past ports x None (d x e) in absurd (cc (o, n))
   piece_of_label Unsent h i d l x p e o = let n = (d x e).1 in absurd (cc (o, n))
   piece_of_label (OnePort q) h i d l x p e o = (prefix_at bits h i q, (0, omega arith, refl), node_holds bits h i q x l e, sym (d.1 x p e o))
-  piece_of_label (Halves' a t b r) h i d l x p e o =
+  piece_of_label (Halves t r) h i d l x p e o =
       let pl = pieces_of bits t (h - 1) (2 * i) in
       let pr = pieces_of bits r (h - 1) (2 * i + 1) in
       elim (halves x h i d.0 e) [
@@ -209,7 +106,7 @@ module _ (bits : ℕ) (ports : List (Option ℕ)) where
         λ x holds. d.0 x (inside_holds bits h i o x (piece_inside (OnePort p) h i d l o c) holds),
         let w = d.2 in (w.0, w.2 ∙ ap (λ (m : Prefix). Some m.port) (sym e)),
       )
-  piece_holds (Halves' a t b r) h i d l o c =
+  piece_holds (Halves t r) h i d l o c =
       elim (Contains-append_cases (pieces_of bits t (h - 1) (2 * i)) (pieces_of bits r (h - 1) (2 * i + 1)) o c) [
         | inl e ↦ piece_holds t (h - 1) (2 * i) d.1 (omega arith) o e
         | inr e ↦ piece_holds r (h - 1) (2 * i + 1) d.2 (omega arith) o e
@@ -220,6 +117,6 @@ pieces_least bits Beyond h i le = All-nil (λ (m : Prefix). (x : ℕ) → Holds 
 pieces_least bits Unsent h i le = All-nil (λ (m : Prefix). (x : ℕ) → Holds bits m x → m.value ≤ x)
 pieces_least bits (OnePort p) h i le =
     All-cons (λ (m : Prefix). (x : ℕ) → Holds bits m x → m.value ≤ x) (prefix_at bits h i p) [] (node_is_least bits h i p le) (All-nil (λ (m : Prefix). (x : ℕ) → Holds bits m x → m.value ≤ x))
-pieces_least bits (Halves' a l b r) h i le =
+pieces_least bits (Halves l r) h i le =
     let P : Prefix → Type 0 = λ m. (x : ℕ) → Holds bits m x → m.value ≤ x in
     All-append P (pieces_of bits l (h - 1) (2 * i)) (pieces_of bits r (h - 1) (2 * i + 1)) (pieces_least bits l (h - 1) (2 * i) (omega arith)) (pieces_least bits r (h - 1) (2 * i + 1) (omega arith))

@@ -8,17 +8,14 @@ use Rattle.std.specs.List.Sorted.{IsPermutation}
 use Rattle.std.specs.Option.{unwrap_or}
 use Rattle.ir_model.specs.Compiled.{port_to, IsDestinations}
 use Rattle.ir_prefix.specs.Joined.{is_named}
-use Rattle.ir_prefix.specs.Described.{names_of, IsJoin, Describes}
+use Rattle.ir_prefix.specs.Described.{names_of, IsJoin, Describes, Trie, Free, Alike, Fork}
 use Rattle.ir_prefix.specs.Longest.{HavePorts}
 use Rattle.ir_prefix.specs.Cover.{prefix_at, told_unless, told, taken, cover_of}
 use Rattle.ir_prefix.specs.Forwarding.{NamesPorts}
 use Rattle.ir_prefix.specs.Extended.{port_of, line_of, extended_port}
-use Rattle.ir_prefix.specs.Parts.{Divides, pieces_of}
+use Rattle.ir_prefix.specs.Parts.{Divides, pieces_of, Part}
 use Rattle.ir_prefix.specs.declared.cover.Prefix.{Prefix}
 use Rattle.ir_prefix.specs.declared.line.Line.{Line}
-use Rattle.ir_prefix.specs.declared.parts.Part.{Part}
-use Rattle.ir_prefix.specs.declared.trie.Trie.{Trie}
-use Rattle.ir_prefix.specs.declared.trie.Trie.TheVariants.{Free, Alike, Fork'}
 use Rattle.ir_prefix.proofs.AmongLemmas.{head_among}
 use Rattle.ir_prefix.proofs.PartLemmas.{piece_holds}
 use Rattle.ir_prefix.proofs.TableLemmas.{extended_length, extended_at, extended_label, extended_beyond, port_of_same, port_of_some}
@@ -77,8 +74,8 @@ module _ (ports : List (Option ℕ)) where
   named_port : (t : Trie) (h i : ℕ) → Describes ports h i t → 0 < length (names_of t) → (p : ℕ) → is_named (names_of t) (Some p) ≡ true → (x : ℕ) × (port_to ports x ≡ Some p)
   named_port Free h i d some p e = absurd (omega arith)
   named_port (Alike r) h i d some p e = let w = d.1 in (w.0, w.2 ∙ sym (named_one r (Some p) e))
-  named_port (Fork' names a l b r) h i d some p e =
-      elim (some_half (names_of l) (names_of r) names.items d.3 p e) [
+  named_port (Fork names l r) h i d some p e =
+      elim (some_half (names_of l) (names_of r) names d.3 p e) [
         | inl w ↦ named_port l (h - 1) (2 * i) d.1 w.0 p w.1
         | inr w ↦ named_port r (h - 1) (2 * i + 1) d.2 w.0 p w.1
       ]
@@ -89,15 +86,15 @@ module _ (ports : List (Option ℕ)) where
       let e = told_is (is_named (p ∷ []) q) (prefix_at bits h i p) o c in
       let w = d.1 in
       (w.0, w.2 ∙ ap (λ (m : Prefix). Some m.port) (sym e))
-  cover_port bits (Fork' names a l b r) h i q d o c =
-      let below = taken names.items q in
+  cover_port bits (Fork names l r) h i q d o c =
+      let below = taken names q in
       let cl = cover_of bits l (h - 1) (2 * i) below in
       let cr = cover_of bits r (h - 1) (2 * i + 1) below in
-      let first = get_or names.items 0 0 in
-      elim (Contains-append_cases (told bits h i names.items q) (cl ++ cr) o c) [
+      let first = get_or names 0 0 in
+      elim (Contains-append_cases (told bits h i names q) (cl ++ cr) o c) [
         | inl here ↦
-            let e = told_is (is_named names.items q) (prefix_at bits h i first) o here in
-            let w = named_port (Fork' names a l b r) h i d d.3.some first (head_named names.items d.3.some) in
+            let e = told_is (is_named names q) (prefix_at bits h i first) o here in
+            let w = named_port (Fork names l r) h i d d.3.some first (head_named names d.3.some) in
             (w.0, w.1 ∙ ap (λ (m : Prefix). Some m.port) (sym e))
         | inr under ↦
             elim (Contains-append_cases cl cr o under) [

@@ -8,12 +8,10 @@ use Rattle.std.proofs.lemmas.List.Elements.{Contains-append_left, Contains-appen
 use Rattle.std.specs.List.{Contains}
 use Rattle.ir_model.specs.Compiled.{port_to}
 use Rattle.ir_prefix.specs.Joined.{is_named}
-use Rattle.ir_prefix.specs.Described.{Describes}
+use Rattle.ir_prefix.specs.Described.{Describes, Trie, Free, Alike, Fork}
 use Rattle.ir_prefix.specs.Longest.{Holds, Forwards}
 use Rattle.ir_prefix.specs.Cover.{prefix_at, told_unless, told, taken_unless, taken, cover_of}
 use Rattle.ir_prefix.specs.declared.cover.Prefix.{Prefix}
-use Rattle.ir_prefix.specs.declared.trie.Trie.{Trie}
-use Rattle.ir_prefix.specs.declared.trie.Trie.TheVariants.{Free, Alike, Fork'}
 use Rattle.ir_prefix.proofs.AmongLemmas.{among_found}
 use Rattle.ir_prefix.proofs.BlockLemmas.{halves, left_inside, right_inside, agree_higher}
 
@@ -63,12 +61,12 @@ module _ (bits : ℕ) (ports : List (Option ℕ)) where
   pub cover_inside : (t : Trie) (h i : ℕ) (q : Option ℕ) → Describes ports h i t → h ≤ bits → (o : Prefix) → Contains (cover_of bits t h i q) o → IsInside bits h i o
   cover_inside Free h i q d l o c = absurd (omega (arith, c.1))
   cover_inside (Alike p) h i q d l o c = told_inside bits h i p (is_named (p ∷ []) q) l o c
-  cover_inside (Fork' names a t b r) h i q d l o c =
-      let below = taken names.items q in
+  cover_inside (Fork names t r) h i q d l o c =
+      let below = taken names q in
       let cl = cover_of bits t (h - 1) (2 * i) below in
       let cr = cover_of bits r (h - 1) (2 * i + 1) below in
-      elim (Contains-append_cases (told bits h i names.items q) (cl ++ cr) o c) [
-        | inl here ↦ told_inside bits h i (get_or names.items 0 0) (is_named names.items q) l o here
+      elim (Contains-append_cases (told bits h i names q) (cl ++ cr) o c) [
+        | inl here ↦ told_inside bits h i (get_or names 0 0) (is_named names q) l o here
         | inr under ↦
             elim (Contains-append_cases cl cr o under) [
               | inl e ↦ left_is_inside bits h i o d.0 (cover_inside t (h - 1) (2 * i) below d.1 (omega arith) o e)
@@ -160,10 +158,10 @@ module _ (bits : ℕ) (ports : List (Option ℕ)) where
   cover_meets Free h i q d l x p e o = absurd (d x p e o)
   cover_meets (Alike r) h i q d l x p e o =
       subst (Meets bits (told_unless (is_named (r ∷ []) q) (prefix_at bits h i r)) q x) (sym (d.0 x p e o)) (one_meets bits h i x r q (is_named (r ∷ []) q) refl l e)
-  cover_meets (Fork' names a t b r) h i q d l x p e o =
-      let below = taken names.items q in
-      let hit = is_named names.items q in
-      let first = get_or names.items 0 0 in
+  cover_meets (Fork names t r) h i q d l x p e o =
+      let below = taken names q in
+      let hit = is_named names q in
+      let first = get_or names 0 0 in
       let own = told_unless hit (prefix_at bits h i first) in
       let cl = cover_of bits t (h - 1) (2 * i) below in
       let cr = cover_of bits r (h - 1) (2 * i + 1) below in

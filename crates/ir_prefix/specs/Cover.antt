@@ -2,10 +2,8 @@
 use Rattle.std.specs.Prelude.{◌==◌, ◌&&◌, ◌≤◌, count_by, ℕ, ◌+◌, ◌-◌, ◌*◌, ◌^◌, ◌<◌, List, [], ◌∷◌, ◌++◌, Bool, true, false, Option, Some, slice_index}
 use Rattle.std.specs.List.Sorted.{IsNonDecreasing}
 use Rattle.ir_prefix.specs.Joined.{is_named}
-use Rattle.ir_prefix.specs.Described.{names_of, IsJoin}
+use Rattle.ir_prefix.specs.Described.{names_of, IsJoin, Trie, Free, Alike, Fork}
 use Rattle.ir_prefix.specs.declared.cover.Prefix.{Prefix}
-use Rattle.ir_prefix.specs.declared.trie.Trie.{Trie}
-use Rattle.ir_prefix.specs.declared.trie.Trie.TheVariants.{Free, Alike, Fork'}
 
 -- the prefix of the node so high, the index-th of its height
 abbrev pub prefix_at : ℕ → ℕ → ℕ → ℕ → Prefix
@@ -30,14 +28,14 @@ taken names above = taken_unless (is_named names above) above (slice_index names
 abbrev pub cover_of : ℕ → Trie → ℕ → ℕ → Option ℕ → List Prefix
 cover_of bits Free h i above = []
 cover_of bits (Alike p) h i above = told bits h i (p ∷ []) above
-cover_of bits (Fork' names a l b r) h i above =
-    told bits h i names.items above ++ (cover_of bits l (h - 1) (2 * i) (taken names.items above) ++ cover_of bits r (h - 1) (2 * i + 1) (taken names.items above))
+cover_of bits (Fork names l r) h i above =
+    told bits h i names above ++ (cover_of bits l (h - 1) (2 * i) (taken names above) ++ cover_of bits r (h - 1) (2 * i + 1) (taken names above))
 
 -- each node is no higher than its height, and has the names that follow from its halves
 abbrev pub IsTrie : ℕ → Trie → Type 0
 IsTrie h Free = Unit {0}
 IsTrie h (Alike p) = Unit {0}
-IsTrie h (Fork' names a l b r) = (0 < h) × IsTrie (h - 1) l × IsTrie (h - 1) r × IsJoin (names_of l) (names_of r) names.items × IsNonDecreasing names.items
+IsTrie h (Fork names l r) = (0 < h) × IsTrie (h - 1) l × IsTrie (h - 1) r × IsJoin (names_of l) (names_of r) names × IsNonDecreasing names
 
 -- no two prefixes have one length and one value
 abbrev pub AreDistinct : List Prefix → Type 0

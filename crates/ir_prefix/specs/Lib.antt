@@ -5,4 +5,6 @@ pub mod Longest
 pub mod Cover
 pub mod Forwarding
 pub mod Extended
+pub mod Runs
+pub mod Nodes
 pub mod Parts

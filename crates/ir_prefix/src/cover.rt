@@ -3,9 +3,11 @@
 ghost use Rattle.std.specs.Prelude.{◌≡◌, ◌<◌, ◌≤◌, ◌+◌, ◌*◌, ◌^◌, ◌++◌, length, IfOk, OnOk};
 ghost use Rattle.std.specs.List.Sorted.{IsNonDecreasing};
 ghost use Rattle.ir_prefix.specs.Cover.{IsTrie, cover_of, prefix_at, taken, told};
+ghost use Rattle.ir_prefix.specs.Described.{Trie};
+ghost use Rattle.ir_prefix.specs.Nodes.{StandsIn};
 
 use crate::names::has_name;
-use crate::trie::Trie;
+use crate::trie::{Node, Nodes, names_at};
 use std::alloc::AllocError;
 
 /// The numbers whose first `length` bits are those of `value`, and their port.
@@ -19,28 +21,47 @@ pub struct Prefix {
 /// Adds the prefixes of a node so high, the index-th of its height, where the longest one above it names `above`: as
 /// few as there can be.
 pub fn cover(
-    trie: &Trie,
+    nodes: &Nodes,
+    place: usize,
     bits: u8,
     height: u8,
     index: u32,
     above: Option<u16>,
     prefixes: &mut Vec<Prefix>,
 ) -> Result<(), AllocError>
-    requires trie { IsTrie height trie.now }
+    requires trie { (t : Trie) × IsTrie height t × StandsIn nodes.now place t }
     requires height { height ≤ bits }
     requires inside { (index + 1) * 2 ^ height ≤ 2 ^ 16 }
-    ensures { OnOk result (prefixes.new.items ≡ prefixes.old.items ++ cover_of bits trie.now height index above) }
+    ensures { OnOk result ((t : Trie) → StandsIn nodes.now place t
+        → prefixes.new.items ≡ prefixes.old.items ++ cover_of bits t height index above) }
 {
-    match trie {
-        Trie::Free => Ok(()),
-        Trie::Alike(port) => {
-            tell(&[*port], bits, height, index, above, prefixes)?;
+    match nodes.list[place] {
+        Node::NoPort => Ok(()),
+        Node::OnePort(port) => {
+            tell(&[port], bits, height, index, above, prefixes)?;
             Ok(())
         }
-        Trie::Fork(names, left, right) => {
-            let below = tell(names.as_slice(), bits, height, index, above, prefixes)?;
-            cover(left, bits, height - 1, 2 * index, below, prefixes)?;
-            cover(right, bits, height - 1, 2 * index + 1, below, prefixes)
+        Node::Several(places) => {
+            let names = names_at(nodes, place);
+            let below = tell(names, bits, height, index, above, prefixes)?;
+            cover(
+                nodes,
+                places.left,
+                bits,
+                height - 1,
+                2 * index,
+                below,
+                prefixes,
+            )?;
+            cover(
+                nodes,
+                places.right,
+                bits,
+                height - 1,
+                2 * index + 1,
+                below,
+                prefixes,
+            )
         }
     }
 }

@@ -11,12 +11,14 @@ mod line;
 mod names;
 mod order;
 mod parts;
+mod runs;
 mod tables;
 mod trie;
 
 use crate::cover::cover;
 use crate::order::sort_longest_first;
-use crate::trie::trie_of;
+use crate::runs::runs_of;
+use crate::trie::{Nodes, push_trie};
 pub use cover::Prefix;
 pub use error::PrefixError;
 use ir_compile::is_destinations;
@@ -74,9 +76,15 @@ fn table(alloc: Global, bits: u8, ports: &[Option<u16>]) -> Result<Vec<Prefix>, 
     ensures ports { IfOk result (λ set. HavePorts ports.now set.items) }
     ensures fewest { IfOk result (λ set. IsFewestPrefixes bits ports.now (length set.items)) }
 {
-    let trie = trie_of(alloc, ports, bits, 0)?;
+    let runs = runs_of(alloc, ports)?;
+    let mut nodes = Nodes {
+        list: Vec::new(alloc),
+        names: Vec::new(alloc),
+    };
+    let mut room = Vec::new(alloc);
+    let root = push_trie(ports, runs.as_slice(), bits, 0, &mut nodes, &mut room)?;
     let mut set = Vec::new(alloc);
-    cover(&trie, bits, bits, 0, None, &mut set)?;
+    cover(&nodes, root, bits, bits, 0, None, &mut set)?;
     sort_longest_first(&mut set)?;
     Ok(set)
 }

@@ -1,10 +1,10 @@
 //! The names of a node of a trie: the ports by which it needs the fewest prefixes below it. An empty list stands for every name.
 
-ghost use Rattle.std.specs.Prelude.{◌≡◌, ◌<◌, ℕ, None, Some, length, IfOk};
+ghost use Rattle.std.specs.Prelude.{◌≡◌, ◌<◌, ℕ, None, Some, length, OnOk};
 ghost use Rattle.std.specs.List.Sorted.{IsNonDecreasing};
 ghost use Rattle.ir_prefix.specs.Joined.{is_among, is_named, AreJoined, IsShared};
 
-use std::alloc::{AllocError, Global};
+use std::alloc::AllocError;
 
 /// Whether the names have a port, or none where a prefix above names none.
 pub fn has_name(names: &[u16], above: Option<u16>) -> bool
@@ -25,31 +25,32 @@ fn has_port(names: &[u16], port: u16) -> bool
     names.binary_search(&port).is_ok()
 }
 
-/// The names that two nodes share, or those of both where they share none.
-pub fn joined(alloc: Global, left: &[u16], right: &[u16]) -> Result<Vec<u16>, AllocError>
+/// Puts into the room, in place of what stands there, the names that two nodes share, or those of both where they share
+/// none.
+pub fn join(room: &mut Vec<u16>, left: &[u16], right: &[u16]) -> Result<(), AllocError>
     requires { IsNonDecreasing left.now }
-    ensures joined { IfOk result (λ names. AreJoined left.now right.now names.items) }
-    ensures rising { IfOk result (λ names. IsNonDecreasing names.items) }
+    ensures joined { OnOk result (AreJoined left.now right.now room.new.items) }
+    ensures rising { OnOk result (IsNonDecreasing room.new.items) }
 {
-    let mut names = shared(alloc, left, right)?;
-    if names.is_empty() {
-        names.extend_from_slice(left)?;
-        names.extend_from_slice(right)?;
+    share(room, left, right)?;
+    if room.is_empty() {
+        room.extend_from_slice(left)?;
+        room.extend_from_slice(right)?;
     }
-    names.sort()?;
-    Ok(names)
+    room.sort()?;
+    Ok(())
 }
 
-// The ports that stand in both lists.
-fn shared(alloc: Global, left: &[u16], right: &[u16]) -> Result<Vec<u16>, AllocError>
+// Puts into the room the ports that stand in both lists.
+fn share(room: &mut Vec<u16>, left: &[u16], right: &[u16]) -> Result<(), AllocError>
     requires { IsNonDecreasing left.now }
-    ensures { IfOk result (λ names. IsShared left.now right.now names.items) }
+    ensures { OnOk result (IsShared left.now right.now room.new.items) }
 {
-    let mut names = Vec::new(alloc);
+    room.clear();
     for port in right {
         if has_port(left, *port) {
-            names.push(*port)?;
+            room.push(*port)?;
         }
     }
-    Ok(names)
+    Ok(())
 }

@@ -10,7 +10,8 @@ ghost use Rattle.ir_prefix.specs.Extended.{extended_port, IsUnused};
 use crate::error::PrefixError;
 use crate::line::{Line, lines_of};
 use crate::order::sort_longest_first;
-use crate::parts::{part_of, push_pieces};
+use crate::parts::push_pieces;
+use crate::runs::runs_of;
 use crate::{table, width};
 use ir_compile::is_destinations;
 use std::alloc::{AllocError, Global};
@@ -104,9 +105,9 @@ fn disjoint_lines(
     ensures order { IfOk result (λ table. AreLongestFirst table.items) }
 {
     let bits = width(n);
-    let part = part_of(alloc, ports, bits, 0)?;
+    let runs = runs_of(alloc, ports)?;
     let mut set = Vec::new(alloc);
-    push_pieces(&part, bits, bits, 0, &mut set)?;
+    push_pieces(ports, runs.as_slice(), bits, bits, 0, &mut set)?;
     sort_longest_first(&mut set)?;
     Ok(lines_of(alloc, set.as_slice(), unused_port(ports))?)
 }

@@ -1,83 +1,149 @@
 //! The trie of the labels, each node with the names by which it needs the fewest prefixes.
 
-ghost use Rattle.std.specs.Prelude.{◌≡◌, ◌<◌, ◌≤◌, ◌+◌, ◌*◌, ◌^◌, ℕ, None, Some, length, IfOk};
+ghost use Rattle.std.specs.Prelude.{◌≡◌, ◌<◌, ◌≤◌, ◌+◌, ◌*◌, ◌^◌, ℕ, None, Some, length, IfOk, IfSome, OnOk};
 ghost use Rattle.std.specs.List.Sorted.{IsNonDecreasing};
-ghost use Rattle.ir_prefix.specs.Described.{Describes, IsFree, IsParent, names_of};
+ghost use Rattle.ir_prefix.specs.Described.{Describes, IsFree, IsParent, Trie, names_of};
+ghost use Rattle.ir_prefix.specs.Nodes.{Grows, Holds, IsMerged, StandsIn};
+ghost use Rattle.ir_prefix.specs.declared.trie.Node.TheVariants.{NoPort};
+ghost use Rattle.ir_prefix.specs.Runs.{AreRuns};
 
-use crate::names::joined;
-use std::alloc::{AllocError, Global};
+use crate::names::join;
+use crate::runs::{Block, Run, block_of};
+use std::alloc::AllocError;
 
-/// What lies below a node: no port, one port, or several. Of several, the names by which it needs the fewest prefixes,
-/// ascending, and its two halves.
-#[derive(Drop)]
-pub enum Trie {
-    Free,
-    Alike(u16),
-    Fork(Vec<u16>, Box<Trie>, Box<Trie>),
+/// What lies below a node: no port, one port, or several.
+#[derive(Clone, Copy)]
+pub enum Node {
+    NoPort,
+    OnePort(u16),
+    Several(Places),
 }
 
-/// The node so high above the labels, the index-th of its height.
-pub fn trie_of(
-    alloc: Global,
+/// Where the names of a node with several ports stand, ascending, and where its two halves.
+#[derive(Clone, Copy)]
+pub struct Places {
+    pub first: usize,
+    pub end: usize,
+    pub left: usize,
+    pub right: usize,
+}
+
+/// The nodes of a trie, each behind its halves, and their names.
+#[derive(Drop)]
+pub struct Nodes {
+    pub list: Vec<Node>,
+    pub names: Vec<u16>,
+}
+
+/// Adds the node so high above the labels, the index-th of its height, behind all below it, and answers its place. What
+/// stands in the room before does not matter.
+pub fn push_trie(
     ports: &[Option<u16>],
+    runs: &[Run],
     height: u8,
     index: u32,
-) -> Result<Trie, AllocError>
-    requires { (index + 1) * 2 ^ height ≤ 2 ^ 16 }
-    ensures { IfOk result (λ trie. Describes ports.now height index trie) }
+    nodes: &mut Nodes,
+    room: &mut Vec<u16>,
+) -> Result<usize, AllocError>
+    requires runs { AreRuns ports.now runs.now }
+    requires inside { (index + 1) * 2 ^ height ≤ 2 ^ 16 }
+    ensures grows { OnOk result (Grows nodes.old nodes.new) }
+    ensures stands { IfOk result (λ place. (t : Trie) × Describes ports.now height index t × StandsIn nodes.new place t) }
 {
-    if height == 0 {
-        return Ok(leaf(ports, index));
-    }
-    let left = trie_of(alloc, ports, height - 1, 2 * index)?;
-    let right = trie_of(alloc, ports, height - 1, 2 * index + 1)?;
-    Ok(parent(alloc, left, right)?)
-}
-
-// The node of one label.
-fn leaf(ports: &[Option<u16>], label: u32) -> Trie
-    ensures { Describes ports.now 0 label result }
-{
-    if label as usize >= ports.len() {
-        return Trie::Free;
-    }
-    match ports[label as usize] {
-        None => Trie::Free,
-        Some(port) => Trie::Alike(port),
+    match block_of(ports, runs, height, index) {
+        Block::Beyond => push_node(nodes, Node::NoPort),
+        Block::Unsent => push_node(nodes, Node::NoPort),
+        Block::OnePort(port) => push_node(nodes, Node::OnePort(port)),
+        Block::Mixed => {
+            let left = push_trie(ports, runs, height - 1, 2 * index, nodes, room)?;
+            let right = push_trie(ports, runs, height - 1, 2 * index + 1, nodes, room)?;
+            let place = push_parent(nodes, room, left, right)?;
+            Ok(place)
+        }
     }
 }
 
-// The node of two halves.
-fn parent(alloc: Global, left: Trie, right: Trie) -> Result<Trie, AllocError>
-    requires { IsNonDecreasing (names_of left) }
-    ensures { IfOk result (λ trie. IsParent left right trie) }
+// Adds a node, and answers its place.
+fn push_node(nodes: &mut Nodes, node: Node) -> Result<usize, AllocError>
+    ensures grows { OnOk result (Grows nodes.old nodes.new) }
+    ensures holds { IfOk result (λ place. Holds nodes.new.list.items place node) }
+    ensures names { OnOk result (nodes.new.names.items ≡ nodes.old.names.items) }
 {
-    match (&left, &right) {
-        (Trie::Free, Trie::Free) => Ok(Trie::Free),
-        (Trie::Free, Trie::Alike(port)) => Ok(Trie::Alike(*port)),
-        (Trie::Alike(port), Trie::Free) => Ok(Trie::Alike(*port)),
-        (Trie::Alike(port), Trie::Alike(other)) if *port == *other => Ok(Trie::Alike(*port)),
-        _ => fork(alloc, left, right),
+    let place = nodes.list.len();
+    nodes.list.push(node)?;
+    Ok(place)
+}
+
+// Adds the node of two halves.
+fn push_parent(
+    nodes: &mut Nodes,
+    room: &mut Vec<u16>,
+    left: usize,
+    right: usize,
+) -> Result<usize, AllocError>
+    requires left { (l : Trie) × IsNonDecreasing (names_of l) × StandsIn nodes.old left l }
+    requires right { (r : Trie) × StandsIn nodes.old right r }
+    ensures grows { OnOk result (Grows nodes.old nodes.new) }
+    ensures stands { IfOk result (λ place. (l r : Trie) → StandsIn nodes.old left l → StandsIn nodes.old right r
+        → (t : Trie) × IsParent l r t × StandsIn nodes.new place t) }
+{
+    if let Some(node) = merged(nodes.list[left], nodes.list[right]) {
+        return push_node(nodes, node);
+    }
+    push_fork(nodes, room, left, right)
+}
+
+// The node of two halves with no port or one.
+fn merged(left: Node, right: Node) -> Option<Node>
+    ensures free { result ≡ None → left ≡ NoPort → right ≡ NoPort → ⊥ }
+    ensures merged { IfSome result (λ node. IsMerged left right node) }
+{
+    match (left, right) {
+        (Node::NoPort, Node::NoPort) => Some(Node::NoPort),
+        (Node::NoPort, Node::OnePort(port)) => Some(Node::OnePort(port)),
+        (Node::OnePort(port), Node::NoPort) => Some(Node::OnePort(port)),
+        (Node::OnePort(port), Node::OnePort(other)) if port == other => Some(Node::OnePort(port)),
+        _ => None,
     }
 }
 
-// The node of two halves with several ports.
-fn fork(alloc: Global, left: Trie, right: Trie) -> Result<Trie, AllocError>
-    requires several { IsFree left → IsFree right → ⊥ }
-    requires rising { IsNonDecreasing (names_of left) }
-    ensures { IfOk result (λ trie. IsParent left right trie) }
+// Adds the node of two halves with several ports.
+fn push_fork(
+    nodes: &mut Nodes,
+    room: &mut Vec<u16>,
+    left: usize,
+    right: usize,
+) -> Result<usize, AllocError>
+    requires left { (l : Trie) × IsNonDecreasing (names_of l) × StandsIn nodes.old left l }
+    requires right { (r : Trie) × StandsIn nodes.old right r }
+    ensures grows { OnOk result (Grows nodes.old nodes.new) }
+    ensures stands { IfOk result (λ place. (l r : Trie) → StandsIn nodes.old left l
+        → StandsIn nodes.old right r → (IsFree l → IsFree r → ⊥) → (t : Trie) × IsParent l r t × StandsIn nodes.new place t) }
 {
-    let names = joined(alloc, names_below(&left), names_below(&right))?;
-    Ok(Trie::Fork(names, Box::new(alloc, left)?, Box::new(alloc, right)?))
+    join(room, names_at(nodes, left), names_at(nodes, right))?;
+    let first = nodes.names.len();
+    nodes.names.extend_from_slice(room.as_slice())?;
+    let end = nodes.names.len();
+    let place = push_node(
+        nodes,
+        Node::Several(Places {
+            first,
+            end,
+            left,
+            right,
+        }),
+    )?;
+    Ok(place)
 }
 
-// The names of a node.
-fn names_below(trie: &Trie) -> &[u16]
-    ensures { result.now ≡ names_of trie.now }
+/// The names of a node.
+pub fn names_at(nodes: &Nodes, place: usize) -> &[u16]
+    requires { (t : Trie) × StandsIn nodes.now place t }
+    ensures { (t : Trie) → StandsIn nodes.now place t → result.now ≡ names_of t }
 {
-    match trie {
-        Trie::Free => &[],
-        Trie::Alike(port) => std::slice::from_ref(port),
-        Trie::Fork(names, _, _) => names.as_slice(),
+    match &nodes.list[place] {
+        Node::NoPort => &[],
+        Node::OnePort(port) => std::slice::from_ref(port),
+        Node::Several(places) => nodes.names.get(places.first..places.end).unwrap(),
     }
 }

@@ -1,0 +1,34 @@
+-- A trie as a list of nodes, each behind its halves, and a list of the names of all.
+use Rattle.std.specs.Prelude.{◌≡◌, ℕ, ◌<◌, ◌≤◌, ◌⊎◌, List, ◌++◌, length, slice_index_or}
+use Rattle.std.specs.List.{slice_range}
+use Rattle.ir_prefix.specs.Described.{Trie, Free, Alike, Fork}
+use Rattle.ir_prefix.specs.declared.trie.Node.{Node}
+use Rattle.ir_prefix.specs.declared.trie.Node.TheVariants.{NoPort, OnePort, Several}
+use Rattle.ir_prefix.specs.declared.trie.Places.{Places}
+use Rattle.ir_prefix.specs.declared.trie.Nodes.{Nodes}
+
+-- the node at a place
+abbrev pub Holds : List Node → ℕ → Node → Type 0
+Holds list place node = (place < length list) × (slice_index_or list place NoPort ≡ node)
+
+-- the node of two halves that have no port or one together
+abbrev pub IsMerged : Node → Node → Node → Type 0
+IsMerged l r NoPort = (l ≡ NoPort) × (r ≡ NoPort)
+IsMerged l r (OnePort p) = ((l ≡ OnePort p) × ((r ≡ NoPort) ⊎ (r ≡ OnePort p))) ⊎ ((l ≡ NoPort) × (r ≡ OnePort p))
+IsMerged l r (Several f) = ⊥
+
+-- a trie stands at a place: its node with its names, and its halves where this tells
+abbrev pub Stands : List Node → List ℕ → ℕ → Trie → Type 0
+Stands list names place Free = Holds list place NoPort
+Stands list names place (Alike p) = Holds list place (OnePort p)
+Stands list names place (Fork own l r) =
+    (f : Places) × Holds list place (Several f) × (f.first ≤ f.end) × (f.end ≤ length names) × (own ≡ slice_range names f.first f.end)
+    × Stands list names f.left l × Stands list names f.right r
+
+abbrev pub StandsIn : Nodes → ℕ → Trie → Type 0
+StandsIn nodes place t = Stands nodes.list.items nodes.names.items place t
+
+-- the later nodes and names begin with the earlier ones
+pub record Grows (before after : Nodes) : Type 0 where
+  pub nodes : (more : List Node) × (after.list.items ≡ before.list.items ++ more)
+  pub names : (more : List ℕ) × (after.names.items ≡ before.names.items ++ more)
