@@ -1,13 +1,14 @@
 //! Live runs whose nodes a gate stops early, or holds back until the epoch of a packet that waits is retired.
 
-use crate::by_hand::{Became, path, tells};
+use crate::by_hand::{Became, ByHand, path, tells};
 use crate::live;
 use crate::nets::over_ring;
 use ir_control::Net;
 use ir_core::{Fate, Kind, Record, Restamp};
 use ir_live::{Command, Live};
-use ir_worker::Gate;
+use ir_worker::{Gate, serve};
 use std::alloc::{AllocError, Global};
+use std::sync::atomic::{AtomicBool, Ordering};
 use std::sync::Wait;
 use std::test::Fail;
 use std::thread;
@@ -101,6 +102,44 @@ fn nodes_stop_with_4096_packets_on_their_ways(rt: HostRuntime) -> Result<(), Fai
         // 64 nodes make so many turns each, of which each packet that is delivered takes 32
         assert!(rt; delivered(records) as u64 <= turns.saturating_mul(2));
     }
+    Ok(())
+}
+
+// A node may make so many turns, and the gate keeps whether it asked for one more.
+#[derive(Drop)]
+struct UpTo {
+    turns: u64,
+    asked: AtomicBool,
+}
+
+impl Gate for UpTo {
+    fn pass(&self, _node: u16, turn: u64) -> bool {
+        if turn < self.turns {
+            return true;
+        }
+        self.asked.store(true, Ordering::SeqCst);
+        false
+    }
+}
+
+#[test]
+fn a_node_turns_as_often_as_it_may(rt: HostRuntime) -> Result<(), Fail> {
+    let Some(net) = path(rt.alloc(), 16, 0) else {
+        return Err("not opened".into());
+    };
+    let Some(mut hands) = ByHand::of(&rt, net) else {
+        return Err("no parts".into());
+    };
+    let Some(node) = hands.take_away(0) else {
+        return Err("no node".into());
+    };
+    let gate = UpTo {
+        turns: 5_100_000,
+        asked: AtomicBool::new(false),
+    };
+    let stop = AtomicBool::new(false);
+    let (_node, why) = serve(&rt, node, &gate, &stop);
+    assert!(rt; why.is_none() && gate.asked.load(Ordering::SeqCst));
     Ok(())
 }
 
