@@ -1,5 +1,5 @@
 -- The tables of a node by the ports of its row.
-use Rattle.std.proofs.Common.{◌≡◌, ℕ, ◌+◌, ◌<◌, List, length, take, Option, None, sym, ap, subst, ◌∙◌, ◌++◌, ◌∷◌, [], get_or}
+use Rattle.std.proofs.Common.{◌≡◌, ℕ, ◌+◌, ◌<◌, List, length, take, Option, None, sym, ap, subst, ◌∙◌, ◌++◌, ◌∷◌, []}
 use Rattle.std.proofs.lemmas.List.{take_more, length-map}
 use Rattle.ir_model.specs.Network.{node_count}
 use Rattle.ir_model.specs.Compiled.{IsDestinations, port_to}

@@ -1,13 +1,12 @@
 -- The port to a label by how many starts of the row are at most it.
-use Rattle.std.proofs.Common.{◌≡◌, ◌≢◌, ℕ, ◌+◌, ◌-◌, ◌<◌, ◌≤◌, List, [], ◌∷◌, length, Option, Some, None, inl, inr, refl, sym, ap, subst, ◌∙◌, arith, get_or}
+use Rattle.std.proofs.Common.{◌≡◌, ◌≢◌, ℕ, ◌+◌, ◌-◌, ◌<◌, List, [], ◌∷◌, length, Option, Some, None, inl, inr, sym, ap, subst, ◌∙◌, arith}
 use Rattle.std.specs.Prelude.{IfSome, IsSome, slice_index}
-use Rattle.std.specs.List.Sorted.{IsStrictlyIncreasing}
 use Rattle.std.proofs.lemmas.Bool.{cases_eq, cases_lt}
 use Rattle.std.proofs.lemmas.List.{length-map}
 use Rattle.ir_model.specs.Compiled.{Fits, IsDestinations, port_to}
 use Rattle.ir_model.specs.Row.{Start, IsAscending, IsPlaceOf, HasPort, intervals_of, labels}
 use Rattle.ir_model.specs.Interval.{PortInterval, HasLabel}
-use Rattle.ir_model.proofs.Rows.{HasPort-from_place, port_of_start, rises}
+use Rattle.ir_model.proofs.Rows.{rises}
 use Rattle.ir_lines.specs.Before.{AreBelow}
 
 -- the last of these starts has the label

@@ -1,7 +1,7 @@
-use Rattle.std.proofs.Common.{◌≡◌, ◌<◌, List, ◌∙◌, sym, subst, arith}
-use Rattle.ir_model.specs.Compiled.{Fits, port_to}
+use Rattle.std.proofs.Common.{◌<◌, ◌∙◌, sym, subst, arith}
+use Rattle.ir_model.specs.Compiled.{Fits}
 use Rattle.ir_model.specs.Network.{node_count}
-use Rattle.ir_model.specs.Row.{Start, intervals_of}
+use Rattle.ir_model.specs.Row.{intervals_of}
 use Rattle.ir_model.specs.Scheme.{by_label, label_in}
 use Rattle.ir_plan.proofs.Standing.{row_destinations}
 use Rattle.ir_lines.proofs.NodeTables.{ports_more}
