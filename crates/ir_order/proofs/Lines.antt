@@ -104,8 +104,10 @@ module _ (nodes : List Name) where
     where
       head : position (bytes_eq x) nodes ≡ Some v
       head = cc are
+
       tail : ArePlaces named order
       tail = cc are
+
       by : (t : Bool) → bytes_eq w x ≡ t → (t || among named w) ≡ true → (among named w ≡ true → (a : ℕ) × (a < length order) × (slice_index order a ≡ u))
           → (a : ℕ) × (a < length (v ∷ order)) × (slice_index (v ∷ order) a ≡ u)
       by true h k later =

@@ -144,13 +144,13 @@ module _ (nodes : List Name) (text order : List ℕ) (placed : List Bool) (line 
           let w = one.1.0 in
           let once = known_once w u one.1.2 free in
           let places : ArePlaces nodes (names_in is.before ++ words current) (order ++ u ∷ []) =
-              ap (λ ws. map (λ name. position (bytes_eq name) nodes) (names_in is.before ++ ws)) one.1.1
-              ∙ map-append (λ name. position (bytes_eq name) nodes) (names_in is.before) (w ∷ [])
-              ∙ ap (λ xs. xs ++ position (bytes_eq w) nodes ∷ []) is.named
-              ∙ ap (λ o. map (λ v. Some v) order ++ o ∷ []) one.1.2
-              ∙ sym (map-append (λ v. Some v) order (u ∷ [])) in
+          ap (λ ws. map (λ name. position (bytes_eq name) nodes) (names_in is.before ++ ws)) one.1.1
+          ∙ map-append (λ name. position (bytes_eq name) nodes) (names_in is.before) (w ∷ [])
+          ∙ ap (λ xs. xs ++ position (bytes_eq w) nodes ∷ []) is.named
+          ∙ ap (λ o. map (λ v. Some v) order ++ o ∷ []) one.1.2
+          ∙ sym (map-append (λ v. Some v) order (u ∷ [])) in
           let marks : IsPlacing (length nodes) (length order + 1) (order ++ u ∷ []) (set placed u true) =
-              placing_more (length nodes) (length order) u (order ++ u ∷ []) placed (sym (at_end order u)) within free (placing_longer (length nodes) order (u ∷ []) placed is.placing) in
+          placing_more (length nodes) (length order) u (order ++ u ∷ []) placed (sym (at_end order u)) within free (placing_longer (length nodes) order (u ∷ []) placed is.placing) in
           read_next (order ++ u ∷ []) (set placed u true)
           (line_known nodes (names_in is.before) current w u one.0 one.1.1 one.1.2 ∙ ap (λ t. cond t (Some Twice) None) once)
           places

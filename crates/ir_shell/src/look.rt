@@ -338,7 +338,14 @@ pub fn answer_look<T: Threads + Sync>(
     ensures { IfOk result (λ reply. LookAnswers look words.now (texts_of texts.now) (answer_of reply)) }
 {
     if words.has_order() {
-        answer_numbered(rt, alloc, look, words, texts[0].as_slice(), texts[1].as_slice())
+        answer_numbered(
+            rt,
+            alloc,
+            look,
+            words,
+            texts[0].as_slice(),
+            texts[1].as_slice(),
+        )
     } else {
         answer_topology(rt, alloc, look, words, texts[0].as_slice())
     }

@@ -17,7 +17,10 @@ fn read(alloc: Global, text: &str) -> Result<Result<Vec<u16>, OrderFault>, Fail>
 const ORDERS: [(&'static str, [u16; 3]); 3] = [
     ("a\nb\nc\n", [0, 1, 2]),
     ("c\nb\na", [2, 1, 0]),
-    ("# an order\n\nb # the root \u{e9}\n\tc\r\n \n  a\n\n", [1, 2, 0]),
+    (
+        "# an order\n\nb # the root \u{e9}\n\tc\r\n \n  a\n\n",
+        [1, 2, 0],
+    ),
 ];
 
 #[test]

@@ -175,7 +175,12 @@ pub fn numbering_line(
     ensures { IfOk result (λ text. string_bytes text ≡ numbering_line (line, kind)) }
 {
     let mut text = String::new(alloc);
-    push_line(&mut text, "numbering", line, ORDER_FAULTS[kind as usize - 1])?;
+    push_line(
+        &mut text,
+        "numbering",
+        line,
+        ORDER_FAULTS[kind as usize - 1],
+    )?;
     Ok(text)
 }
 

@@ -337,7 +337,9 @@ fn topology_command<'a>(
         .long("numbering")
         .value_name("NUMBERING")
         .default_value("depth-first")
-        .help("How nodes are numbered: depth-first, tour (for fewer intervals), or a file with a node a line, in order");
+        .help(
+            "How nodes are numbered: depth-first, tour (for fewer intervals), or a file with a node a line, in order",
+        );
     with_options(alloc, name)?
         .arg(threads)?
         .arg(numbering)?
