@@ -116,6 +116,33 @@ class Plan:
             lines.append(f"worst {a} {b} {walks[a, b]} {distances[a, b]}")
         return "".join(line + "\n" for line in lines)
 
+    def field_text(self):
+        """The lines of the compactness and of the bits."""
+        lines, bits = [], lambda count: (count - 1).bit_length()
+        counts = [(u, v, sum(hop == v for _, hop in self.rows[u])) for u in self.names for v in self.ports[u]]
+        if counts:
+            lines.append("compactness {} {} {}".format(*max(counts, key=lambda row: row[2])))
+        rows = sum(len(self.rows[u]) * (bits(len(self.names)) + bits(len(self.ports[u]))) for u in self.names)
+        lines.append(f"bits {rows} {sum((len(self.names) - 1) * bits(len(self.ports[u])) for u in self.names if self.ports[u])}")
+        return "".join(line + "\n" for line in lines)
+
+    def waiting(self):
+        """The directed links, each with an arc to those that it waits for."""
+        waits = nx.DiGraph()
+        for u, d in itertools.permutations(self.names, 2):
+            v = self.table[u][d]
+            if v != d:
+                waits.add_edge((u, v), (v, self.table[v][d]))
+        return waits
+
+    def is_dependencies(self, line):
+        """Whether the line tells that no links wait for each other in a ring, or names such a ring."""
+        waits, (_, what, *ring) = self.waiting(), line.split(" ")
+        if what == "acyclic":
+            return not ring and nx.is_directed_acyclic_graph(waits)
+        links = list(zip(ring, ring[1:] + ring[:1]))
+        return what == "cycle" and len(set(links)) == len(links) and all(waits.has_edge(a, b) for a, b in zip(links, links[1:] + links[:1]))
+
     def drawing(self, ends):
         walk = self.walk(*ends) if ends else []
         bold = {frozenset(step) for step in zip(walk, walk[1:])}
@@ -191,6 +218,7 @@ for number in range(300):
                 assert as_graphviz_reads(shown) == (nodes, sorted(edges)), (words, text)
         assert route(["plan", *words], text) == plan.plan_text(), (words, text)
         assert route(["walk", *words, "--from", a, "--to", b], text) == plan.walk_text(a, b), (words, text)
-        assert route(["stats", *words], text) == plan.stats_text(), (words, text)
+        *figures, dependencies = route(["stats", *words], text).splitlines(keepends=True)
+        assert "".join(figures) == plan.stats_text() + plan.field_text() and plan.is_dependencies(dependencies.rstrip("\n")), (words, text)
         cases += 1
 print(f"{cases} plans of random graphs: rows, walks, figures and drawings agree")

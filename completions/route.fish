@@ -23,7 +23,7 @@ complete -c route -n "__fish_seen_subcommand_from $others" -l root -x -d 'The ro
 complete -c route -n "__fish_seen_subcommand_from $others" -l capacity -x -d 'The most packets in each channel and inbox'
 complete -c route -n "__fish_seen_subcommand_from $others" -l packets -x -d 'The most packets'
 complete -c route -n "__fish_seen_subcommand_from $others" -l explain -d 'Sentences behind the lines of faults'
-complete -c route -n "__fish_seen_subcommand_from $others" -l no-explain -d 'No such sentences, as by default'
+complete -c route -n "__fish_seen_subcommand_from $others" -l no-explain -d 'No such sentences, on a terminal either'
 complete -c route -n '__fish_seen_subcommand_from plan walk stats draw prefixes' -l threads -x -d 'The most threads that make rows'
 complete -c route -n '__fish_seen_subcommand_from plan walk stats draw prefixes' -l numbering -r -d 'How nodes are numbered'
 complete -c route -n '__fish_seen_subcommand_from walk draw' -l from -x -d 'The node that the walk goes from'

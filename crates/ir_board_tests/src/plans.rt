@@ -10,7 +10,7 @@ use std::alloc::Global;
 use std::test::Fail;
 
 /// So many nodes, n0 to the last, of which each is linked to the next one and to the third one behind it.
-pub fn chain(alloc: Global, nodes: u16) -> Option<Topology> {
+pub(crate) fn chain(alloc: Global, nodes: u16) -> Option<Topology> {
     let mut graph = Graph::new(alloc);
     for u in 0..nodes {
         let from = format!(in alloc; "n{u}").ok()?;
@@ -25,7 +25,7 @@ pub fn chain(alloc: Global, nodes: u16) -> Option<Topology> {
 }
 
 /// Whether the rows of two plans give each address the same port.
-pub fn agree(plan: &Plan, other: &Plan) -> bool
+pub(crate) fn agree(plan: &Plan, other: &Plan) -> bool
     requires { node_count plan.now.network ≡ node_count other.now.network }
 {
     let nodes = plan.nodes() as u16;

@@ -68,7 +68,7 @@ fn explain_over_graph(
     match told.what {
         "script" => explain_script(alloc, text, &graph, parts, told.line, told.kind, is_live),
         "numbering" => explain_numbering(alloc, text, &graph, parts, told.line, told.kind),
-        "finding" => explain_finding(alloc, text, &graph, parts, told.line, told.kind),
+        "finding" => explain_finding(alloc, text, &graph, words, parts, told.line, told.kind),
         _ => explain_opening(alloc, text, &graph, words, &parts.topology, told.kind),
     }
 }

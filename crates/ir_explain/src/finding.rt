@@ -1,11 +1,13 @@
 //! What a finding in a trace means.
 
+use crate::departing::push_departure;
 use crate::lines::{line_at, text_of, word_at, words_of};
 use crate::parts::{Part, Parts};
 use crate::script::push_no_node;
-use crate::sentence::{begin_at, joined, push_quoted};
+use crate::sentence::{begin_at, push_quoted};
 use ir_adjlist::scan;
 use ir_graph::Graph;
+use ir_words::words::Words;
 use std::alloc::{AllocError, Global};
 
 /// The first line behind the first one that begins with an id, counted from 1; 0 where there is none.
@@ -24,13 +26,23 @@ fn line_of(alloc: Global, text: &[u8], id: &[u8]) -> Result<usize, AllocError> {
     Ok(0)
 }
 
+/// Whether rows have their epochs before their hops, as those of `trace 2`, and not behind their ids.
+fn has_segments(trace: &Part<'_>) -> bool {
+    trace.bytes.starts_with(b"trace 2\n".as_slice())
+}
+
+/// The place of the source among the words of a row.
+fn place_of_source(trace: &Part<'_>) -> usize {
+    if has_segments(trace) { 1 } else { 2 }
+}
+
 /// The first end of a row that is no node; nothing where both are.
-fn unknown_end<'a>(graph: &Graph, words: &[&'a [u8]]) -> &'a [u8] {
-    let from = word_at(words, 2);
+fn unknown_end<'a>(graph: &Graph, words: &[&'a [u8]], source: usize) -> &'a [u8] {
+    let from = word_at(words, source);
     if !graph.has_node(text_of(from)) {
         return from;
     }
-    let to = word_at(words, 3);
+    let to = word_at(words, source.saturating_add(1));
     if !graph.has_node(text_of(to)) {
         return to;
     }
@@ -42,45 +54,74 @@ fn push_unknown_node(
     alloc: Global,
     text: &mut String,
     graph: &Graph,
-    topology: &Part<'_>,
+    parts: &Parts<'_>,
     words: &[&[u8]],
 ) -> Result<(), AllocError> {
-    let end = unknown_end(graph, words);
+    let end = unknown_end(graph, words, place_of_source(&parts.trace));
     if end.is_empty() {
         return text.push_str("a hop of it is no node, or no link leads there from the hop before");
     }
-    push_no_node(alloc, text, graph, topology, end)
+    push_no_node(alloc, text, graph, &parts.topology, end)
 }
 
-/// Says what a kind of finding means.
+/// Says that the run has no such epoch.
+fn push_unknown_epoch(
+    text: &mut String,
+    trace: &Part<'_>,
+    words: &[&[u8]],
+) -> Result<(), AllocError> {
+    if has_segments(trace) {
+        return text.push_str("the run has not all of its epochs");
+    }
+    text.push_str("the run has no epoch ")?;
+    push_quoted(text, word_at(words, 1))
+}
+
+/// Says that a weight is not that of the hops.
+fn push_bad_weight(text: &mut String, trace: &Part<'_>, words: &[&[u8]]) -> Result<(), AllocError> {
+    let place = place_of_source(trace).saturating_add(2);
+    push_quoted(text, word_at(words, place))?;
+    text.push_str(" is not the weight of its hops")
+}
+
+/// Says where the row on a line leaves the walks of its epochs, or else that it does.
+fn push_unfollowed(
+    alloc: Global,
+    text: &mut String,
+    graph: &Graph,
+    asked: &Words,
+    parts: &Parts<'_>,
+    line: usize,
+) -> Result<(), AllocError> {
+    if push_departure(alloc, text, graph, asked, parts, line)? {
+        return Ok(());
+    }
+    text.push_str(
+        "the hops leave the walk that the plan of their epoch prescribes, or stop where the fate does not say so",
+    )
+}
+
+/// Says what a kind of finding on a line of these words means.
 fn push_reason(
     alloc: Global,
     text: &mut String,
     graph: &Graph,
+    asked: &Words,
     parts: &Parts<'_>,
     words: &[&[u8]],
+    line: usize,
     kind: &str,
 ) -> Result<(), AllocError> {
     match kind {
         "NotTrace" => text.push_str("a trace begins with the line 'trace 1' or 'trace 2'"),
         "BadRow" => text.push_str("this is no row of a trace, or it lacks its line feed"),
-        "UnknownNode" => push_unknown_node(alloc, text, graph, &parts.topology, words),
-        "UnknownEpoch" => {
-            text.push_str("the run has no epoch ")?;
-            push_quoted(text, word_at(words, 1))
-        }
-        "NotAPrefix" => {
-            text.push_str(
-                "the hops leave the walk that the plan of their epoch prescribes, or stop where the fate does not say so",
-            )
-        }
+        "UnknownNode" => push_unknown_node(alloc, text, graph, parts, words),
+        "UnknownEpoch" => push_unknown_epoch(text, &parts.trace, words),
+        "NotAPrefix" => push_unfollowed(alloc, text, graph, asked, parts, line),
         "NotAtDestination" => text.push_str(
             "it says delivered, and the walk goes on behind its last hop",
         ),
-        "BadWeight" => {
-            push_quoted(text, word_at(words, 4))?;
-            text.push_str(" is not the weight of its hops")
-        }
+        "BadWeight" => push_bad_weight(text, &parts.trace, words),
         "Repeated" => {
             let id = word_at(words, 0);
             let line = line_of(alloc, parts.trace.bytes, id)?.saturating_add(parts.trace.above);
@@ -92,19 +133,30 @@ fn push_reason(
     }
 }
 
-/// Explains a finding.
+/// Explains a finding. A row is quoted as it stands: a trace has no comments, and `#` begins a segment.
 pub(crate) fn explain_finding(
     alloc: Global,
     text: &mut String,
     graph: &Graph,
+    asked: &Words,
     parts: &Parts<'_>,
     line: usize,
     kind: &str,
 ) -> Result<(), AllocError> {
-    let words = words_of(alloc, line_at(parts.trace.bytes, line))?;
+    let row = line_at(parts.trace.bytes, line);
+    let words = words_of(alloc, row)?;
     begin_at(text, &parts.trace, line)?;
-    push_quoted(text, joined(alloc, words.as_slice())?.as_slice())?;
+    push_quoted(text, row)?;
     text.push_str(": ")?;
-    push_reason(alloc, text, graph, parts, words.as_slice(), kind)?;
+    push_reason(
+        alloc,
+        text,
+        graph,
+        asked,
+        parts,
+        words.as_slice(),
+        line,
+        kind,
+    )?;
     text.push_str("\n")
 }

@@ -6,6 +6,7 @@
 #![tactic(auto)]
 
 mod bytes;
+mod departing;
 mod explain;
 mod finding;
 mod lines;

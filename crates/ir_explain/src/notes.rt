@@ -17,6 +17,12 @@ const MOST_FRONT: usize = 4_096;
 static ATTRIBUTES: &str =
     "each line has attributes in braces, as write_edgelist of NetworkX writes them: they are read as names";
 
+static ARROWS: &str =
+    "'->' is read as a name (a map of routers, as Rocketfuel's .cch? it is not read)";
+
+static QUOTES: &str =
+    "quotes are read as part of a name, and a blank ends it: 'New York' is two names, New_York one";
+
 static WEIGHTS: &str =
     "each line has three words, the last a number (an edge list? try --format edgelist)";
 
@@ -31,11 +37,40 @@ struct Seen {
     has_braces: bool,
     /// One of these begins with `graph [`.
     is_gml: bool,
+    /// One of these has a name in quotes that a blank cuts.
+    has_cut_name: bool,
+    /// One of these has an arrow for a word.
+    has_arrow: bool,
 }
 
 /// Whether a word is one or more digits.
 fn is_number(word: &[u8]) -> bool {
     !word.is_empty() && all_digits(word)
+}
+
+/// Whether a word begins with a quote and does not end with one.
+fn is_cut(word: &[u8]) -> bool {
+    word.starts_with(b"\"") && (word.len() == 1 || word[word.len() - 1] != b'"')
+}
+
+/// Whether a line has a name in quotes that a blank cuts.
+fn has_cut_name(words: &[&[u8]]) -> bool {
+    for word in words {
+        if is_cut(word) {
+            return true;
+        }
+    }
+    false
+}
+
+/// Whether a line has an arrow for a word.
+fn has_arrow(words: &[&[u8]]) -> bool {
+    for word in words {
+        if *word == b"->".as_slice() {
+            return true;
+        }
+    }
+    false
 }
 
 /// What was seen, with a further line of these words.
@@ -50,6 +85,8 @@ fn seen_with(seen: Seen, words: &[&[u8]]) -> Seen {
         has_weights: seen.has_weights && words.len() == 3 && is_number(third),
         has_braces: seen.has_braces && third.starts_with(b"{"),
         is_gml: seen.is_gml || is_graph,
+        has_cut_name: seen.has_cut_name || has_cut_name(words),
+        has_arrow: seen.has_arrow || has_arrow(words),
     }
 }
 
@@ -60,6 +97,8 @@ fn seen_of(alloc: Global, text: &[u8]) -> Result<Seen, AllocError> {
         has_weights: true,
         has_braces: true,
         is_gml: false,
+        has_cut_name: false,
+        has_arrow: false,
     };
     let mut rest = text;
     for _turn in 0..MOST_LINES {
@@ -160,6 +199,12 @@ pub(crate) fn push_note(
     let seen = seen_of(alloc, topology.bytes)?;
     if seen.is_gml {
         return push_converted(text, topology.file, "GML");
+    }
+    if seen.has_arrow {
+        return push_other(text, topology.file, ARROWS);
+    }
+    if seen.has_cut_name {
+        return push_other(text, topology.file, QUOTES);
     }
     if seen.lines == 0 || format == Format::EdgeList {
         return Ok(());

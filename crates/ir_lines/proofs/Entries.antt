@@ -55,7 +55,7 @@ entries_long nodes net u (m ∷ table) =
     let all : length (a ++ (b ++ rest)) ≡ length a + (length b + length rest) = length-append a (b ++ rest) ∙ ap (λ (k : ℕ). length a + k) (length-append b rest) in
     omega (arith, below, all)
 
-node_long : (nodes : List Name) (s : Scheme) (u : ℕ) (table : List Line) → length table ≤ length (line_text (node_words nodes s u table))
+pub node_long : (nodes : List Name) (s : Scheme) (u : ℕ) (table : List Line) → length table ≤ length (line_text (node_words nodes s u table))
 node_long nodes s u table =
     let name = name_at nodes u in
     let label = decimal (label_in s u) in

@@ -5,3 +5,4 @@ pub mod NodeTables
 pub mod Entries
 pub mod NodePorts
 pub mod SameLines
+pub mod NodeTexts

@@ -4,6 +4,7 @@
 mod laws;
 mod table;
 mod text;
+mod threads;
 
 pub use laws::{
     beginnings_of_lines_keep_to_walks, disjoint_lines_keep_to_walks, lines_go_all_the_way,
@@ -11,3 +12,4 @@ pub use laws::{
 };
 pub use table::table_of;
 pub use text::prefixes_text;
+pub use threads::prefixes_text_in_threads;

@@ -1,6 +1,6 @@
 //! The text of a plan's forwarding tables.
-ghost use Rattle.std.specs.Prelude.{◌≡◌, ◌<◌, ◌≤◌, ◌++◌, IfOk, IfSome, OnOk, All, length, flat_map, string_bytes};
-ghost use Rattle.ir_model.specs.Graph.{names};
+ghost use Rattle.std.specs.Prelude.{◌≡◌, ◌<◌, ◌≤◌, ◌++◌, Bool, IfOk, IfSome, List, OnOk, All, [], length, flat_map, string_bytes};
+ghost use Rattle.ir_model.specs.Graph.{Name, names};
 ghost use Rattle.ir_model.specs.Network.{node_count, ports_of};
 ghost use Rattle.ir_model.specs.Scheme.{IsScheme};
 ghost use Rattle.ir_trace.specs.Rows.{spaced};
@@ -84,7 +84,7 @@ fn push_entries(
 
 /// Writes the line of text of a node.
 #[tactic(auto, using(ir_look::proofs::PlanLines::words_of_a_line))]
-fn push_node(
+pub fn push_node(
     text: &mut String,
     graph: &Graph,
     plan: &Plan,
@@ -153,9 +153,21 @@ pub fn prefixes_text(
 {
     let mut tables = String::new(alloc);
     let lines = push_nodes(alloc, &mut tables, graph, plan, is_disjoint)?;
+    text_of_lines(alloc, plan, lines, tables.as_str())
+}
+
+/// The whole text, of the lines of all nodes, and how many these are.
+pub fn text_of_lines(
+    alloc: Global,
+    plan: &Plan,
+    lines: usize,
+    tables: &str,
+) -> Result<String, AllocError>
+    ensures { IfOk result (λ text. (is_disjoint : Bool) (nodes : List Name) → AreWritten is_disjoint nodes plan.now (node_count plan.now.network) lines [] tables.now → IsPrefixesOf is_disjoint nodes plan.now (string_bytes text)) }
+{
     let bits = width(plan.nodes() as u16);
     let mut text = String::new(alloc);
     push_head(&mut text, plan, bits, lines)?;
-    text.push_str(tables.as_str())?;
+    text.push_str(tables)?;
     Ok(text)
 }

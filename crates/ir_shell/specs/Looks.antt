@@ -6,7 +6,7 @@ use Rattle.ir_model.specs.Graph.{Name, Adjacency, names}
 use Rattle.ir_model.specs.Text.{lines}
 use Rattle.ir_look.specs.PlanText.{plan_text}
 use Rattle.ir_look.specs.WalkText.{IsWalkOf}
-use Rattle.ir_look.specs.StatsText.{IsStatsOf}
+use Rattle.ir_figures.specs.FiguresText.{AreFiguresOf}
 use Rattle.ir_look.specs.Drawing.{IsDrawingOf}
 use Rattle.ir_lines.specs.PrefixesText.{IsPrefixesOf}
 use Rattle.ir_words.specs.declared.words.Words.{Words}
@@ -38,7 +38,7 @@ AnswersBothEnds g (Some from) (Some to) answers = AnswersEnds g (Some from) (Som
 abbrev pub AnswersLook : Look → Words → Adjacency → Labelling → Answer → Type 0
 AnswersLook Plan words g labels = AnswersText g words.kind labels (λ s text. text ≡ plan_text (names g) s)
 AnswersLook Walk words g labels = AnswersEnds g (from_name words) (to_name words) (λ a b. AnswersText g words.kind labels (λ s text. IsWalkOf (names g) s a b text))
-AnswersLook Stats words g labels = AnswersText g words.kind labels (IsStatsOf (names g))
+AnswersLook Stats words g labels = AnswersText g words.kind labels (AreFiguresOf (names g))
 AnswersLook Draw words g labels = AnswersBothEnds g (from_name words) (to_name words) (λ ends. AnswersText g words.kind labels (λ s text. IsDrawingOf (names g) s ends text))
 AnswersLook Prefixes words g labels = AnswersText g words.kind labels (IsPrefixesOf words.disjoint (names g))
 

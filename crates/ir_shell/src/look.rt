@@ -4,7 +4,7 @@ ghost use Rattle.ir_model.specs.Graph.{names};
 ghost use Rattle.ir_model.specs.Text.{lines};
 ghost use Rattle.ir_look.specs.PlanText.{plan_text};
 ghost use Rattle.ir_look.specs.WalkText.{IsWalkOf};
-ghost use Rattle.ir_look.specs.StatsText.{IsStatsOf};
+ghost use Rattle.ir_figures.specs.FiguresText.{AreFiguresOf};
 ghost use Rattle.ir_look.specs.Drawing.{IsDrawingOf};
 ghost use Rattle.ir_lines.specs.PrefixesText.{IsPrefixesOf};
 ghost use Rattle.ir_shell.specs.Asked.{look_sources};
@@ -19,10 +19,11 @@ ghost use Rattle.ir_words.specs.Replies.{answer_of};
 
 use crate::plan::{Labels, build_plan};
 use ir_core::OpenError;
+use ir_figures::figures_text;
 use ir_graph::Graph;
-use ir_lines::prefixes_text;
+use ir_lines::prefixes_text_in_threads;
 use ir_look::plan_text::plan_text;
-use ir_look::{draw_text, stats_text, walk_text};
+use ir_look::{draw_text, walk_text};
 use ir_model::{Fault, Kind};
 use ir_order::{OrderFaultKind, read_order};
 use ir_words::lines::{numbering_line, opening_line, topology_line};
@@ -77,11 +78,11 @@ fn answer_stats<T: Threads + Sync>(
     labels: Labels,
 ) -> Result<Reply, AllocError>
     requires labels { MayLabel graph.now words.now.kind (labelling_of labels) }
-    ensures { IfOk result (λ reply. AnswersText graph.now words.now.kind (labelling_of labels) (IsStatsOf (names graph.now)) (answer_of reply)) }
+    ensures { IfOk result (λ reply. AnswersText graph.now words.now.kind (labelling_of labels) (AreFiguresOf (names graph.now)) (answer_of reply)) }
 {
     match build_plan(rt, alloc, graph, words.kind, labels, words.threads) {
         Ok(plan) => {
-            let text = stats_text(alloc, graph, &plan)?;
+            let text = figures_text(alloc, graph, &plan)?;
             Ok(Reply::Ran(text, String::new(alloc)))
         }
         Err(OpenError::NoMemory) => Err(AllocError),
@@ -102,7 +103,14 @@ fn answer_prefixes<T: Threads + Sync>(
 {
     match build_plan(rt, alloc, graph, words.kind, labels, words.threads) {
         Ok(plan) => {
-            let text = prefixes_text(alloc, graph, &plan, words.disjoint)?;
+            let text = prefixes_text_in_threads(
+                rt,
+                alloc,
+                graph,
+                &plan,
+                words.disjoint,
+                words.threads,
+            )?;
             Ok(Reply::Ran(text, String::new(alloc)))
         }
         Err(OpenError::NoMemory) => Err(AllocError),

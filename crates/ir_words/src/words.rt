@@ -264,7 +264,7 @@ fn with_sentences<'a>(alloc: Global, command: Command<'a>) -> Result<Command<'a>
     let no_explain = Arg::new(alloc, "no-explain")
         .long("no-explain")
         .action(ArgAction::SetTrue)
-        .help("No such sentences, as by default");
+        .help("No such sentences, on a terminal either");
     command.arg(explain)?.arg(no_explain)
 }
 

@@ -1,5 +1,6 @@
 //! Writers that keep what they wrote.
 use std::alloc::Global;
+use std::cell::Cell;
 use std::io;
 use std::io::Write;
 
@@ -37,30 +38,79 @@ impl Kept {
     }
 }
 
-/// A writer beside what it wrote.
+/// A writer beside what it wrote. That of the output notes where the reader of a pipe went away; that of the faults then
+/// takes what is left and writes nothing, since nobody asked for more of the output.
 #[derive(Drop)]
-pub struct Keeping<W> {
+pub struct Keeping<'a, W> {
     writer: W,
     pub kept: Kept,
+    is_output: bool,
+    pub is_gone: &'a Cell<bool>,
 }
 
-impl<W> Keeping<W> {
-    pub fn new(alloc: Global, writer: W, is_wanted: bool) -> Keeping<W> {
+impl<'a, W> Keeping<'a, W> {
+    /// The writer of the output.
+    pub fn output(
+        alloc: Global,
+        writer: W,
+        is_wanted: bool,
+        is_gone: &'a Cell<bool>,
+    ) -> Keeping<'a, W> {
         Keeping {
             writer,
             kept: Kept::new(alloc, is_wanted),
+            is_output: true,
+            is_gone,
+        }
+    }
+
+    /// The writer of the faults.
+    pub fn faults(
+        alloc: Global,
+        writer: W,
+        is_wanted: bool,
+        is_gone: &'a Cell<bool>,
+    ) -> Keeping<'a, W> {
+        Keeping {
+            writer,
+            kept: Kept::new(alloc, is_wanted),
+            is_output: false,
+            is_gone,
+        }
+    }
+
+    /// Notes a call of the output that failed because its reader went away.
+    fn note(&self, error: &io::Error) {
+        if self.is_output && error.kind() == io::ErrorKind::BrokenPipe {
+            self.is_gone.set(true);
         }
     }
 }
 
-impl<W: Write> Write for Keeping<W> {
+impl<W: Write> Write for Keeping<'_, W> {
     fn write(&mut self, bytes: &[u8]) -> io::Result<usize> {
-        let taken = self.writer.write(bytes)?;
-        self.kept.keep(&bytes[..taken.min(bytes.len())]);
-        Ok(taken)
+        if !self.is_output && self.is_gone.get() {
+            return Ok(bytes.len());
+        }
+        match self.writer.write(bytes) {
+            Ok(taken) => {
+                self.kept.keep(&bytes[..taken.min(bytes.len())]);
+                Ok(taken)
+            }
+            Err(error) => {
+                self.note(&error);
+                Err(error)
+            }
+        }
     }
 
     fn flush(&mut self) -> io::Result<()> {
-        self.writer.flush()
+        match self.writer.flush() {
+            Ok(()) => Ok(()),
+            Err(error) => {
+                self.note(&error);
+                Err(error)
+            }
+        }
     }
 }

@@ -2,15 +2,17 @@
 //! became of its packets; `route live` does so while each node runs in a thread of its own; `route check` checks such a
 //! print; `route plan` prints the labels and rows of a topology's nodes, `route walk` a walk of that plan, `route stats`
 //! its figures, `route draw` a drawing of it, and `route prefixes` its forwarding tables. With no words it does as
-//! `route sim -`, with both texts from standard input.
+//! `route sim -`, with both texts from standard input. Where standard error is a terminal, sentences for people stand
+//! behind the lines of faults.
 #![tactic(auto)]
 
-ghost use Rattle.std.specs.Prelude.{◌≡◌, length};
+ghost use Rattle.std.specs.Prelude.{◌≡◌, IfOk, length};
 ghost use Rattle.ir_shell.specs.Asked.{check_sources, look_sources, sim_sources};
 ghost use Rattle.ir_words.specs.Words.{FitsItsKind};
 
 mod input;
 mod keeping;
+mod terminal;
 
 use input::{Input, open};
 use ir_explain::explanation;
@@ -20,19 +22,28 @@ use ir_shell::{
 };
 use keeping::Keeping;
 use std::alloc::AllocError;
-use std::io::{Stderr, Stdout};
+use std::cell::Cell;
+use std::io::{IsTerminal, Stderr, Stdout};
 use std::process::ExitCode;
 use std::sync::Wait;
 use std::thread::Threads;
 use std::{env, io};
+use terminal::are_sentences_wanted;
 
-/// The words behind the program's name; `sim -` where there are none.
+/// What a terminal is told where there are no words, so that a program that waits for input says what it waits for.
+static NO_WORDS: &str =
+    "route: topology and script are read from standard input, with the line %% between them; see route --help";
+
+/// The words behind the program's name; `sim -` where there are none, which a terminal is told.
 fn words(rt: &HostRuntime) -> io::Result<Vec<String>> {
     let mut words: Vec<String> = Vec::new(rt.alloc());
     for word in env::args(rt)?.skip(1) {
         words.push(word)?;
     }
     if words.is_empty() {
+        if rt.stderr().is_terminal() {
+            let _told = rt.eprintln(NO_WORDS);
+        }
         words.push(String::from_str(rt.alloc(), "sim")?)?;
         words.push(String::from_str(rt.alloc(), "-")?)?;
     }
@@ -53,14 +64,14 @@ fn input_of(rt: &HostRuntime, words: &Words, name: &str) -> Input {
 }
 
 /// Standard output; what is written to it is kept where a finding on it is to be explained.
-fn output_of(rt: &HostRuntime, words: &Words) -> Keeping<Stdout> {
+fn output_of<'a>(rt: &HostRuntime, words: &Words, is_gone: &'a Cell<bool>) -> Keeping<'a, Stdout> {
     let is_kept = words.explain && words.sub == Sub::Check;
-    Keeping::new(rt.alloc(), rt.stdout(), is_kept)
+    Keeping::output(rt.alloc(), rt.stdout(), is_kept, is_gone)
 }
 
 /// Standard error; what is written to it is kept where the words ask for sentences.
-fn faults_of(rt: &HostRuntime, words: &Words) -> Keeping<Stderr> {
-    Keeping::new(rt.alloc(), rt.stderr(), words.explain)
+fn faults_of<'a>(rt: &HostRuntime, words: &Words, is_gone: &'a Cell<bool>) -> Keeping<'a, Stderr> {
+    Keeping::faults(rt.alloc(), rt.stderr(), words.explain, is_gone)
 }
 
 /// The sentences on a run.
@@ -68,8 +79,8 @@ fn sentences(
     rt: &HostRuntime,
     words: &Words,
     inputs: &[Input],
-    output: &Keeping<Stdout>,
-    faults: &Keeping<Stderr>,
+    output: &Keeping<'_, Stdout>,
+    faults: &Keeping<'_, Stderr>,
 ) -> Result<String, AllocError> {
     let mut given = Vec::new(rt.alloc());
     for input in inputs {
@@ -85,10 +96,10 @@ fn explain(
     rt: &HostRuntime,
     words: &Words,
     inputs: &[Input],
-    output: &Keeping<Stdout>,
-    faults: &Keeping<Stderr>,
+    output: &Keeping<'_, Stdout>,
+    faults: &Keeping<'_, Stderr>,
 ) {
-    if !words.explain {
+    if !words.explain || output.is_gone.get() {
         return;
     }
     if let Ok(text) = sentences(rt, words, inputs, output, faults) {
@@ -107,8 +118,9 @@ fn show_over<T: Threads + Sync>(
     requires inputs { length inputs.old ≡ length (look_sources words.now) }
 {
     let alloc = rt.alloc();
-    let mut output = output_of(rt, words);
-    let mut faults = faults_of(rt, words);
+    let is_gone = Cell::new(false);
+    let mut output = output_of(rt, words, &is_gone);
+    let mut faults = faults_of(rt, words, &is_gone);
     let status = match words.sub {
         Sub::Walk => run_walk(threads, alloc, words, inputs, &mut output, &mut faults),
         Sub::Stats => run_stats(threads, alloc, words, inputs, &mut output, &mut faults),
@@ -141,8 +153,9 @@ fn show<T: Threads + Sync>(rt: &HostRuntime, threads: &T, words: &Words) -> u8
 fn sim_over(rt: &HostRuntime, words: &Words, inputs: &mut [Input]) -> u8
     requires { length inputs.old ≡ length (sim_sources words.now) }
 {
-    let mut output = output_of(rt, words);
-    let mut faults = faults_of(rt, words);
+    let is_gone = Cell::new(false);
+    let mut output = output_of(rt, words, &is_gone);
+    let mut faults = faults_of(rt, words, &is_gone);
     let status = run_sim(rt.alloc(), words, inputs, &mut output, &mut faults);
     explain(rt, words, inputs, &output, &faults);
     status
@@ -169,8 +182,9 @@ fn live_over<T: Threads + Wait + Sync>(
 ) -> u8
     requires { length inputs.old ≡ length (sim_sources words.now) }
 {
-    let mut output = output_of(rt, words);
-    let mut faults = faults_of(rt, words);
+    let is_gone = Cell::new(false);
+    let mut output = output_of(rt, words, &is_gone);
+    let mut faults = faults_of(rt, words, &is_gone);
     let status = run_live_text(threads, rt.alloc(), words, inputs, &mut output, &mut faults);
     explain(rt, words, inputs, &output, &faults);
     status
@@ -192,8 +206,9 @@ fn live<T: Threads + Wait + Sync>(rt: &HostRuntime, threads: &T, words: &Words) 
 fn check_over(rt: &HostRuntime, words: &Words, inputs: &mut [Input]) -> u8
     requires { length inputs.old ≡ length (check_sources words.now) }
 {
-    let mut output = output_of(rt, words);
-    let mut faults = faults_of(rt, words);
+    let is_gone = Cell::new(false);
+    let mut output = output_of(rt, words, &is_gone);
+    let mut faults = faults_of(rt, words, &is_gone);
     let status = run_check(rt.alloc(), words, inputs, &mut output, &mut faults);
     explain(rt, words, inputs, &output, &faults);
     status
@@ -215,9 +230,19 @@ fn check(rt: &HostRuntime, words: &Words) -> u8 {
     }
 }
 
+/// What the words behind the program's name ask for, with sentences where standard error is a terminal too.
+fn asked(rt: &HostRuntime, given: &[String]) -> Result<Words, WordsError>
+    ensures { IfOk result (λ words. FitsItsKind words) }
+{
+    let mut words = read_words(rt.alloc(), given)?;
+    let is_terminal = rt.stderr().is_terminal();
+    words.explain = are_sentences_wanted(words.explain, is_terminal, given);
+    Ok(words)
+}
+
 /// Does what the words ask for.
 fn follow<T: Threads + Wait + Sync>(rt: &HostRuntime, threads: &T, words: &[String]) -> u8 {
-    match read_words(rt.alloc(), words) {
+    match asked(rt, words) {
         Ok(words) => match words.sub {
             Sub::Plan | Sub::Walk | Sub::Stats | Sub::Draw | Sub::Prefixes => show(
                 rt, threads, &words,
@@ -231,10 +256,12 @@ fn follow<T: Threads + Wait + Sync>(rt: &HostRuntime, threads: &T, words: &[Stri
             2
         }
         Err(WordsError::Help(text)) => {
-            if rt.print(text).is_ok() {
+            let Err(error) = rt.print(text) else {
                 return 0;
+            };
+            if error.kind() != io::ErrorKind::BrokenPipe {
+                let _told = rt.eprintln("output unwritable");
             }
-            let _told = rt.eprintln("output unwritable");
             1
         }
         Err(WordsError::NoMemory) => {

@@ -1,0 +1,4 @@
+pub mod Marks
+pub mod Rings
+pub mod Start
+pub mod Steps

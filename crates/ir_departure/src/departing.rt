@@ -1,0 +1,47 @@
+//! Where a row leaves the walks of its epochs.
+ghost use Rattle.std.specs.Prelude.{IfOk};
+ghost use Rattle.ir_model.specs.Network.{node_count};
+ghost use Rattle.ir_trace.specs.Checked.{IsRowOver, AreInstalls};
+ghost use Rattle.ir_departure.specs.Leaving.{IsDeparture, IsDepartureOf, AreOverRow};
+
+use crate::departures::Departure;
+use crate::plans::plans_of;
+use crate::segments::{are_known, first_left, last_segment, left_by_fate};
+use ir_core::Install;
+use ir_plan::Plan;
+use ir_tables::Topology;
+use ir_trace::TraceRow;
+use std::alloc::{AllocError, Global};
+
+/// Where a row leaves the walks of its epochs first, by the plans of the epochs.
+fn departure_by(plans: &[Plan], row: &TraceRow) -> Option<Departure>
+    requires { AreOverRow plans.now row.now }
+    ensures { IsDeparture plans.now row.now result }
+{
+    let segments = row.segments.as_slice();
+    if !are_known(segments, plans.len()) {
+        return None;
+    }
+    if let Some(left) = first_left(plans, segments, row.source, row.dest) {
+        return Some(left);
+    }
+    left_by_fate(plans, last_segment(segments), row.fate, row.dest)
+}
+
+/// Where a row leaves the walks of its epochs first; none where it follows them, or where an epoch of it is not one of
+/// the installs. The install of epoch e stands at place e - 1.
+/// Condition: the row was read over the topology's graph; each install has a mark for each link, a root that is a
+/// node, and joins all nodes. Refused for memory alone.
+pub fn departure(
+    alloc: Global,
+    topology: &Topology,
+    installs: &[Install],
+    row: &TraceRow,
+) -> Result<Option<Departure>, AllocError>
+    requires installs { AreInstalls topology.now installs.now }
+    requires row { IsRowOver (node_count topology.now) row.now }
+    ensures { IfOk result (IsDepartureOf topology.now installs.now row.now) }
+{
+    let plans = plans_of(alloc, topology, installs)?;
+    Ok(departure_by(plans.as_slice(), row))
+}

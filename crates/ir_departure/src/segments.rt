@@ -1,0 +1,118 @@
+//! The segments of a row beside the walks of their epochs.
+ghost use Rattle.std.specs.Prelude.{◌≡◌, ◌<◌, ◌≤◌, ◌&&◌, length, nat_lt, nat_le, IfNone, IfSome};
+ghost use Rattle.ir_core.specs.Sound.{last_of};
+ghost use Rattle.ir_trace.specs.Checked.{plan_at, last_part, AreJoined};
+ghost use Rattle.ir_trace.specs.Inspect.{are_known, fits_fate, IsOverPlan, AreOverPlans};
+ghost use Rattle.ir_departure.specs.Leaving.{left_by_fate, LeavesAmong, LeavesIn};
+
+use crate::departures::Departure;
+use crate::hops::{first_stray, is_node, last_of};
+use crate::plans::{next_of, plan_at};
+use ir_plan::Plan;
+use ir_trace::{RowFate, Segment};
+
+/// Whether the epoch of a segment is one of so many.
+fn is_known(segment: &Segment, epochs: usize) -> bool
+    ensures { result ≡ (nat_lt 0 segment.now.epoch && nat_le segment.now.epoch epochs) }
+{
+    0 < segment.epoch && segment.epoch as usize <= epochs
+}
+
+/// Whether the epoch of each segment is one of so many.
+pub fn are_known(segments: &[Segment], epochs: usize) -> bool
+    ensures { result ≡ are_known epochs segments.now }
+{
+    segments.iter().all(|segment| is_known(segment, epochs))
+}
+
+/// The last hop of a segment.
+fn last_hop(segment: &Segment) -> u16
+    requires { 0 < length segment.now.hops }
+    ensures { result ≡ last_of segment.now.hops }
+{
+    last_of(segment.hops.as_slice())
+}
+
+/// Where the segment at a place leaves the walk of its epoch, of a packet that stands at a node and whose epoch so far
+/// is `above`.
+fn left_in(
+    plans: &[Plan],
+    place: usize,
+    segment: &Segment,
+    at: u16,
+    above: u32,
+    dest: u16,
+) -> Option<Departure>
+    requires { IsOverPlan plans.now dest segment.now }
+    ensures { LeavesIn plans.now dest place segment.now at above result }
+{
+    if segment.epoch <= above {
+        return Some(Departure::Epoch { segment: place });
+    }
+    let hops = segment.hops.as_slice();
+    if hops[0] != at {
+        return Some(Departure::Start { segment: place, at });
+    }
+    match first_stray(plan_at(plans, segment.epoch), hops, dest) {
+        Some(stray) => Some(Departure::Hop {
+            segment: place,
+            hop: stray.hop,
+            next: stray.next,
+        }),
+        None => None,
+    }
+}
+
+/// Where segments leave the walks of their epochs first, of a packet from this source. Where there is no such place,
+/// they are joined end to end over rising epochs, and each follows the walk of its own.
+pub fn first_left(plans: &[Plan], segments: &[Segment], source: u16, dest: u16) -> Option<Departure>
+    requires { AreOverPlans plans.now dest segments.now }
+    ensures joined { IfNone result (AreJoined plans.now dest source 0 segments.now) }
+    ensures left { IfSome result (LeavesAmong plans.now dest source segments.now) }
+{
+    let mut at = source;
+    let mut above = 0;
+    for (k, segment) in segments.iter().enumerate() {
+        if let Some(left) = left_in(plans, k, segment, at, above, dest) {
+            return Some(left);
+        }
+        at = last_hop(segment);
+        above = segment.epoch;
+    }
+    None
+}
+
+/// Whether where a packet is and where it is to go on to fit a fate.
+fn fits_fate(fate: RowFate, at: u16, next: Option<u16>) -> bool
+    ensures { result ≡ fits_fate fate at next }
+{
+    match fate {
+        RowFate::Delivered | RowFate::Retired | RowFate::Left => true,
+        RowFate::Down { low, high } => {
+            (at == low && is_node(next, high)) || (at == high && is_node(next, low))
+        }
+        RowFate::Full { from, to } => at == from && is_node(next, to),
+    }
+}
+
+/// The last of some segments.
+pub fn last_segment(segments: &[Segment]) -> &Segment
+    requires { 0 < length segments.now }
+    ensures { result.now ≡ last_part segments.now }
+{
+    &segments[segments.len() - 1]
+}
+
+/// Where the walk of the last segment does not go on as a fate says, where it goes on.
+pub fn left_by_fate(plans: &[Plan], last: &Segment, fate: RowFate, dest: u16) -> Option<Departure>
+    requires { IsOverPlan plans.now dest last.now }
+    ensures { result ≡ left_by_fate (plan_at plans.now last.now.epoch) dest last.now.hops fate }
+{
+    let at = last_hop(last);
+    let next = next_of(plan_at(plans, last.epoch), at, dest);
+    if fits_fate(fate, at, next) {
+        None
+    } else {
+        Some(Departure::Fate { next })
+    }
+}

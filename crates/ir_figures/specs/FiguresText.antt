@@ -1,0 +1,49 @@
+-- The text of a plan's figures, those of the field among them.
+use Rattle.std.specs.Prelude.{◌≡◌, ℕ, ◌++◌, List, [], ◌∷◌, map, decimal, codes, Option, None, Some}
+use Rattle.std.specs.Option.{option_map_or}
+use Rattle.ir_model.specs.Graph.{Name}
+use Rattle.ir_model.specs.Network.{Network, node_count, port_at}
+use Rattle.ir_model.specs.Scheme.{Scheme}
+use Rattle.ir_trace.specs.Written.{name_at}
+use Rattle.ir_look.specs.Words.{line_text}
+use Rattle.ir_look.specs.StatsText.{IsStatsOf}
+use Rattle.ir_figures.specs.declared.most.Most.{Most}
+use Rattle.ir_figures.specs.Compactness.{AreMost}
+use Rattle.ir_figures.specs.RowBits.{AreBitsBefore}
+use Rattle.ir_figures.specs.Waits.{IsWithoutRing, IsWaitingRing}
+
+-- the node behind a port
+abbrev pub behind : Network → ℕ → ℕ → ℕ
+behind net u p = option_map_or (λ hop. hop.node) (port_at net u p) 0
+
+-- `compactness NODE NEIGHBOUR COUNT`, where there is a port
+abbrev pub most_line : List Name → Scheme → Option Most → List ℕ
+most_line nodes s None = []
+most_line nodes s (Some m) = line_text (codes "compactness" ∷ name_at nodes m.node ∷ name_at nodes (behind s.network m.node m.port) ∷ decimal m.count ∷ [])
+
+-- `bits ROWS TABLES`
+abbrev pub bits_line : ℕ → ℕ → List ℕ
+bits_line rows tables = line_text (codes "bits" ∷ decimal rows ∷ decimal tables ∷ [])
+
+-- `dependencies acyclic`, or `dependencies cycle` and the nodes that the links of a ring leave
+abbrev pub ring_line : List Name → Option (List ℕ) → List ℕ
+ring_line nodes None = line_text (codes "dependencies" ∷ codes "acyclic" ∷ [])
+ring_line nodes (Some ring) = line_text (codes "dependencies" ∷ codes "cycle" ∷ map (name_at nodes) ring)
+
+-- the links of a ring that wait for each other leave these nodes; without, no links do so
+abbrev pub IsRingOf : Scheme → Option (List ℕ) → Type 0
+IsRingOf s None = IsWithoutRing s
+IsRingOf s (Some ring) = (ports : List ℕ) × IsWaitingRing s ring ports
+
+-- The text has the figures of a scheme, and behind them those of the field.
+pub record AreFiguresOf (nodes : List Name) (s : Scheme) (text : List ℕ) : Type 0 where
+  pub figures : List ℕ
+  pub stats : IsStatsOf nodes s figures
+  pub most : Option Most
+  pub most_are : AreMost s most
+  pub rows : ℕ
+  pub tables : ℕ
+  pub bits : AreBitsBefore s (node_count s.network) rows tables
+  pub ring : Option (List ℕ)
+  pub ring_is : IsRingOf s ring
+  pub whole : text ≡ ((figures ++ most_line nodes s most) ++ bits_line rows tables) ++ ring_line nodes ring

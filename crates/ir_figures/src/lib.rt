@@ -1,0 +1,16 @@
+//! The figures of a plan that its field knows it by: the most intervals at one port (van Leeuwen and Tan 1987), the bits
+//! of the rows, and whether links wait for each other in a ring (Dally and Seitz 1987); and the text of all figures.
+#![tactic(auto)]
+
+mod bits;
+mod exits;
+mod laws;
+mod most;
+mod text;
+mod waits;
+
+pub use bits::{Bits, bits_of};
+pub use laws::{numbers_rule_out_rings, tree_plans_have_no_ring};
+pub use most::{Most, most_intervals};
+pub use text::figures_text;
+pub use waits::waiting_ring;

@@ -1,0 +1,96 @@
+//! The text of a plan's figures, those of the field among them.
+ghost use Rattle.std.specs.Prelude.{◌≡◌, ◌<◌, ◌++◌, ℕ, IfOk, IfSome, OnOk, flat_map, length, map, slice_index, string_bytes};
+ghost use Rattle.std.specs.Option.{option_map};
+ghost use Rattle.ir_model.specs.Graph.{names};
+ghost use Rattle.ir_model.specs.Network.{node_count};
+ghost use Rattle.ir_trace.specs.Rows.{spaced};
+ghost use Rattle.ir_trace.specs.Written.{name_at};
+ghost use Rattle.ir_figures.specs.Compactness.{HasPort};
+ghost use Rattle.ir_figures.specs.FiguresText.{most_line, bits_line, ring_line, AreFiguresOf};
+
+use crate::bits::{Bits, bits_of};
+use crate::most::{Most, most_intervals};
+use crate::waits::waiting_ring;
+use ir_graph::Graph;
+use ir_look::stats_text;
+use ir_plan::Plan;
+use ir_trace::text::{push_name, push_next_number};
+use std::alloc::{AllocError, Global};
+
+/// Writes the line of the port of the most intervals, if there is one.
+fn push_most(
+    text: &mut String,
+    graph: &Graph,
+    plan: &Plan,
+    most: Option<Most>,
+) -> Result<(), AllocError>
+    requires nodes { node_count plan.now.network ≡ length graph.now }
+    requires port { IfSome most (λ m. HasPort plan.now m.node m.port) }
+    ensures { OnOk result (string_bytes text.new ≡ string_bytes text.old ++ most_line (names graph.now) plan.now most) }
+{
+    let Some(most) = most else {
+        return Ok(());
+    };
+    let _nodes = plan.nodes();
+    let hop = plan.hop(most.node, most.port);
+    text.push_str("compactness")?;
+    push_name(text, graph, most.node)?;
+    push_name(text, graph, hop.node)?;
+    push_next_number(text, most.count)?;
+    text.push_str("\n")?;
+    Ok(())
+}
+
+/// Writes the line of the bits.
+fn push_bits(text: &mut String, bits: Bits) -> Result<(), AllocError>
+    ensures { OnOk result (string_bytes text.new ≡ string_bytes text.old ++ bits_line bits.rows bits.tables) }
+{
+    text.push_str("bits")?;
+    push_next_number(text, bits.rows as usize)?;
+    push_next_number(text, bits.tables as usize)?;
+    text.push_str("\n")?;
+    Ok(())
+}
+
+/// Writes the names of nodes, each behind a space.
+fn push_names(text: &mut String, graph: &Graph, ring: &[u16]) -> Result<(), AllocError>
+    requires { (i : ℕ) → i < length ring.now → slice_index ring.now i < length graph.now }
+    ensures { OnOk result (string_bytes text.new
+        ≡ string_bytes text.old ++ flat_map spaced (map (name_at (names graph.now)) ring.now)) }
+{
+    for u in ring {
+        push_name(text, graph, *u)?;
+    }
+    Ok(())
+}
+
+/// Writes the line of the ring of links that wait for each other, if there is one.
+#[tactic(auto, using(ir_look::proofs::PlanLines::words_of_a_line))]
+fn push_ring(text: &mut String, graph: &Graph, ring: &Option<Vec<u16>>) -> Result<(), AllocError>
+    requires { IfSome ring.now (λ r. (i : ℕ) → i < length r.items → slice_index r.items i < length graph.now) }
+    ensures { OnOk result (string_bytes text.new
+        ≡ string_bytes text.old ++ ring_line (names graph.now) (option_map (λ r. r.items) ring.now)) }
+{
+    let Some(ring) = ring else {
+        text.push_str("dependencies acyclic\n")?;
+        return Ok(());
+    };
+    text.push_str("dependencies cycle")?;
+    push_names(text, graph, ring.as_slice())?;
+    text.push_str("\n")?;
+    Ok(())
+}
+
+/// The text of the figures of a plan, those of the field behind the others. Condition: the plan is over the graph's
+/// network. It is refused for memory alone.
+pub fn figures_text(alloc: Global, graph: &Graph, plan: &Plan) -> Result<String, AllocError>
+    requires { node_count plan.now.network ≡ length graph.now }
+    ensures { IfOk result (λ text. AreFiguresOf (names graph.now) plan.now (string_bytes text)) }
+{
+    let ring = waiting_ring(alloc, plan)?;
+    let mut text = stats_text(alloc, graph, plan)?;
+    push_most(&mut text, graph, plan, most_intervals(plan))?;
+    push_bits(&mut text, bits_of(plan))?;
+    push_ring(&mut text, graph, &ring)?;
+    Ok(text)
+}

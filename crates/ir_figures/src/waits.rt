@@ -1,0 +1,152 @@
+//! Rings of directed links that wait for each other.
+ghost use Rattle.std.specs.Prelude.{◌≡◌, ◌↔◌, ◌+◌, ◌<◌, ℕ, List, Some, IsTrue, IfNone, IfOk, IfSome, OnOk, length, slice_index};
+ghost use Rattle.ir_model.specs.Network.{node_count, ports_of};
+ghost use Rattle.ir_model.specs.Scheme.{IsScheme};
+ghost use Rattle.ir_cycles.specs.Arcs.{marks_of};
+ghost use Rattle.ir_figures.specs.Waits.{IsWithoutRing, IsWaitingRing};
+ghost use Rattle.ir_figures.specs.Exits.{exits_before, AreExits, ArePortsByLabel, AreOnward, IsMarkedFor, AreLinks, AreNodesOf};
+
+use crate::exits::{Exits, exits_of};
+use ir_cycles::ring_of;
+use ir_plan::Plan;
+use std::alloc::{AllocError, Global};
+
+/// For each directed link where the links begin of the node that it leads to, and which of these links take on what
+/// comes over it.
+#[derive(Drop)]
+struct Links {
+    begins: Vec<u32>,
+    marks: Vec<Vec<bool>>,
+}
+
+/// The ports of a node by label, none at its own.
+fn ports_by_label(alloc: Global, plan: &Plan, u: u16) -> Result<Vec<Option<u16>>, AllocError>
+    requires { u < node_count plan.now.network }
+    ensures { IfOk result (λ ports. ArePortsByLabel plan.now u ports.items) }
+{
+    let mut ports = Vec::with_capacity(alloc, plan.nodes())?;
+    for a in 0..plan.nodes() {
+        ports.push(plan.port(u, a as u16))?;
+    }
+    Ok(ports)
+}
+
+/// Marks the port of a node to a label.
+fn mark_port(plan: &Plan, v: u16, a: u16, marks: &mut Vec<bool>)
+    requires scheme { IsScheme plan.now }
+    requires node { v < node_count plan.now.network }
+    requires label { a < node_count plan.now.network }
+    requires every { length marks.old.items ≡ length (ports_of plan.now.network v) }
+    ensures { IsMarkedFor plan.now v a marks.old.items marks.new.items }
+{
+    if let Some(q) = plan.port(v, a) {
+        marks[q as usize] = true;
+    }
+}
+
+/// Whether a port is there, and is the one with a number.
+fn goes_by(port: Option<u16>, p: u16) -> bool
+    ensures { IsTrue result ↔ (port ≡ Some p) }
+{
+    match port {
+        Some(q) => q == p,
+        None => false,
+    }
+}
+
+/// A mark for each port of the node behind a port of another one: whether what goes that way leaves by it.
+fn onward(
+    alloc: Global,
+    plan: &Plan,
+    u: u16,
+    ports: &[Option<u16>],
+    p: u16,
+    v: u16,
+) -> Result<Vec<bool>, AllocError>
+    requires ports { ArePortsByLabel plan.now u ports.now }
+    requires node { v < node_count plan.now.network }
+    ensures { IfOk result (λ marks. AreOnward plan.now u p v (node_count plan.now.network) marks.items) }
+{
+    let _ = u;
+    let mut marks = vec![in alloc; false; plan.topology().degree(v)]?;
+    for a in 0..plan.nodes() {
+        if goes_by(ports[a], p) {
+            mark_port(plan, v, a as u16, &mut marks);
+        }
+    }
+    Ok(marks)
+}
+
+/// Adds the links that leave a node.
+fn push_links(
+    alloc: Global,
+    plan: &Plan,
+    first: &[u32],
+    links: &mut Links,
+    u: u16,
+) -> Result<(), AllocError>
+    requires scheme { IsScheme plan.now }
+    requires node { u < node_count plan.now.network }
+    requires first { (nodes : List ℕ) × AreExits plan.now.network (node_count plan.now.network) first.now nodes }
+    requires links { AreLinks plan.now links.old.begins.items (marks_of links.old.marks.items)
+        (exits_before plan.now.network u) }
+    ensures { OnOk result (AreLinks plan.now links.new.begins.items (marks_of links.new.marks.items)
+        (exits_before plan.now.network (u + 1))) }
+{
+    let ports = ports_by_label(alloc, plan, u)?;
+    for p in 0..plan.topology().degree(u) {
+        let next = plan.hop(u, p as u16).node;
+        let marks = onward(alloc, plan, u, ports.as_slice(), p as u16, next)?;
+        links.marks.push(marks)?;
+        links.begins.push(first[next as usize])?;
+    }
+    Ok(())
+}
+
+/// The links of a plan's network.
+fn links_of(alloc: Global, plan: &Plan, first: &[u32]) -> Result<Links, AllocError>
+    requires first { (nodes : List ℕ) × AreExits plan.now.network (node_count plan.now.network) first.now nodes }
+    ensures { IfOk result (λ links. AreLinks plan.now links.begins.items (marks_of links.marks.items)
+        (exits_before plan.now.network (node_count plan.now.network))) }
+{
+    let mut links = Links {
+        begins: Vec::new(alloc),
+        marks: Vec::new(alloc),
+    };
+    for u in 0..plan.nodes() {
+        push_links(alloc, plan, first, &mut links, u as u16)?;
+    }
+    Ok(links)
+}
+
+/// The nodes that links leave, by the links' numbers.
+fn nodes_of(alloc: Global, nodes: &[u16], ring: &[u32]) -> Result<Vec<u16>, AllocError>
+    requires { (i : ℕ) → i < length ring.now → slice_index ring.now i < length nodes.now }
+    ensures { IfOk result (λ named. AreNodesOf nodes.now ring.now named.items) }
+{
+    let mut named = Vec::with_capacity(alloc, ring.len())?;
+    for c in ring {
+        named.push(nodes[*c as usize])?;
+    }
+    Ok(named)
+}
+
+/// Nodes that directed links leave which wait for each other in a ring, in order; None where the links can be numbered
+/// such that each waits for greater ones alone. A link waits for another one where a walk that the plan prescribes takes
+/// them one behind the other: packets that hold one's buffer wait for room in the other's (Dally and Seitz 1987).
+///
+/// It takes a byte for each directed link and port of the node that it leads to. Refused for memory alone.
+pub fn waiting_ring(alloc: Global, plan: &Plan) -> Result<Option<Vec<u16>>, AllocError>
+    ensures acyclic { IfOk result (λ found. IfNone found (IsWithoutRing plan.now)) }
+    ensures ring { IfOk result (λ found.
+        IfSome found (λ nodes. (ports : List ℕ) × IsWaitingRing plan.now nodes.items ports)) }
+{
+    let _nodes = plan.nodes();
+    let exits = exits_of(alloc, plan.topology())?;
+    let links = links_of(alloc, plan, exits.first.as_slice())?;
+    let Some(ring) = ring_of(alloc, links.begins.as_slice(), links.marks.as_slice())? else {
+        return Ok(None);
+    };
+    let named = nodes_of(alloc, exits.nodes.as_slice(), ring.as_slice())?;
+    Ok(Some(named))
+}
