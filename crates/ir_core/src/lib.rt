@@ -1,4 +1,5 @@
-//! The pure core of the network: events and their replies, boards, the records of packets, and runs of events.
+//! The pure core of the network: events and their replies, commands of a live run, boards, the records of packets, and
+//! runs of events.
 //!
 //! A history is a list of accepted events, each with what came of it. `specs/` defines what stands after a history
 //! and what each event comes to; `World` keeps it, `apply` does one event, `drain` a whole drain, and `play` a list.
@@ -6,6 +7,7 @@
 
 mod board;
 mod built;
+mod command;
 mod drain;
 mod event;
 mod laws;
@@ -19,6 +21,7 @@ mod world;
 
 pub use board::Board;
 pub use built::{Install, installs};
+pub use command::Command;
 pub use event::{Action, Event, OpenError, Refused, Reply, Ruling, Step, Verdict, Way};
 pub use ir_model::{Hop, Kind};
 pub use laws::{epochs_of_installs, without_restamps};

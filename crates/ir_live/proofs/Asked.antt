@@ -24,6 +24,8 @@ use Rattle.ir_epochs.proofs.Rising.{board_last}
 use Rattle.ir_links.specs.Ends.{Word}
 use Rattle.ir_worker.specs.declared.node.Node.{Node}
 use Rattle.ir_core.specs.declared.event.Refused.{Refused}
+use Rattle.ir_core.specs.declared.command.Command.{Command}
+use Rattle.ir_core.specs.declared.command.Command.TheVariants.{Inject, Install, Retire, Down, Up, Drain}
 use Rattle.std.specs.List.{AllByRecursion}
 use Rattle.ir_worker.specs.Account.{NeverCurrent}
 use Rattle.ir_worker.specs.Seen.{SeenParcel}
@@ -34,8 +36,6 @@ use Rattle.ir_control.specs.declared.controller.ChangeError.{ChangeError}
 use Rattle.ir_control.specs.declared.controller.ChangeError.TheVariants as refused
 use Rattle.ir_control.specs.Changes.{mark_refused, network_up, Publishes, PublishesNothing}
 use Rattle.ir_control.specs.Parts.{AreFreshParts}
-use Rattle.ir_live.specs.declared.command.Command.{Command}
-use Rattle.ir_live.specs.declared.command.Command.TheVariants.{Inject, Install, Retire, Down, Up, Drain}
 use Rattle.ir_live.specs.declared.desk.Desk.{Desk}
 use Rattle.ir_live.specs.Agreed.{AreOfOne}
 use Rattle.ir_live.specs.Answers.{Answer, epoch_after}

@@ -3,6 +3,7 @@ use Rattle.std.specs.Prelude.{◌≡◌, ℕ, suc, ◌+◌, ◌<◌, List, [], �
 use Rattle.std.proofs.lemmas.List.{take_more, length-take-le}
 use Rattle.std.proofs.Common.{get_or, refl, arith, sym, ap, ◌∙◌, subst, append-nil, append_assoc}
 use Rattle.ir_core.specs.declared.event.Refused.{Refused}
+use Rattle.ir_core.specs.declared.command.Command.{Command}
 use Rattle.ir_epochs.specs.declared.registry.Stamp.{Stamp}
 use Rattle.ir_epochs.specs.declared.handles.Receipt.{Receipt}
 use Rattle.ir_epochs.specs.declared.entry.Change.{Change}
@@ -10,7 +11,6 @@ use Rattle.ir_links.specs.Ends.{Word}
 use Rattle.ir_worker.specs.Seen.{SeenParcel}
 use Rattle.ir_control.specs.declared.controller.ChangeError.{ChangeError}
 use Rattle.ir_control.specs.Changes.{IsChangeAnswer}
-use Rattle.ir_live.specs.declared.command.Command.{Command}
 use Rattle.ir_live.specs.declared.desk.Desk.{Desk}
 use Rattle.ir_live.specs.Answers.{Answer, answer_of, refusal_in, refusal_at, refusals_from}
 use Rattle.ir_live.specs.Planned.{stamp_by, stamps_in}

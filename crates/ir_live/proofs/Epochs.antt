@@ -6,6 +6,8 @@ use Rattle.std.proofs.lemmas.Bool.{eqb-true}
 use Rattle.std.proofs.lemmas.Option.{same_Some, none-some}
 use Rattle.std.proofs.Math.Logic.{∥∥₁_elim, ∥∥₁_prop}
 use Rattle.ir_core.specs.declared.packet.Restamp.{Restamp}
+use Rattle.ir_core.specs.declared.command.Command.{Command}
+use Rattle.ir_core.specs.declared.command.Command.TheVariants.{Inject, Install, Retire, Down, Up, Drain}
 use Rattle.ir_core.specs.Journey.{Journey, segments, segments_in, until}
 use Rattle.ir_core.specs.Sound.{IsSoundBy, IsSoundJourney}
 use Rattle.ir_epochs.specs.declared.registry.Stamp.{Stamp}
@@ -15,8 +17,6 @@ use Rattle.ir_worker.specs.Account.{Head, head_of}
 use Rattle.ir_worker.specs.Seen.{EachBy, IsSoundBy as IsSoundByStamp, IsSoundJourney as IsSoundByStamps}
 use Rattle.ir_control.specs.declared.injector.Accepted.{Accepted}
 use Rattle.ir_control.specs.Heads.{head_at}
-use Rattle.ir_live.specs.declared.command.Command.{Command}
-use Rattle.ir_live.specs.declared.command.Command.TheVariants.{Inject, Install, Retire, Down, Up, Drain}
 use Rattle.ir_live.specs.Agreed.{Agrees}
 use Rattle.ir_live.specs.Answers.{Answer, epoch_after, accepted_by, accepted_from}
 use Rattle.ir_live.specs.Planned.{planned, stamps_in, IsPlanIn}

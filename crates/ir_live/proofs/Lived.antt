@@ -6,6 +6,7 @@ use Rattle.std.proofs.lemmas.List.Elements.{All-nil, All-push, All-append}
 use Rattle.std.proofs.lemmas.Option.{slice_get-get_or}
 use mathlib.Core.List.{IsPrefix}
 use Rattle.ir_core.specs.declared.packet.Restamp.{Restamp}
+use Rattle.ir_core.specs.declared.command.Command.{Command}
 use Rattle.ir_core.specs.Sound.{IsSoundJourney}
 use Rattle.ir_epochs.specs.Handles.{known, published, reader_board, writer_board}
 use Rattle.ir_epochs.specs.Stamps.{registry_name}
@@ -32,7 +33,6 @@ use Rattle.ir_control.specs.declared.injector.Accepted.{Accepted}
 use Rattle.ir_control.specs.Parts.{AreFreshParts, AreFirstNodes, IsInjectorOf}
 use Rattle.ir_control.specs.Reports.{IsReport}
 use Rattle.ir_control.proofs.Returned.{first_apart}
-use Rattle.ir_live.specs.declared.command.Command.{Command}
 use Rattle.ir_live.specs.declared.desk.Desk.{Desk}
 use Rattle.ir_live.specs.declared.live.Live.{Live}
 use Rattle.ir_live.specs.declared.live.LiveError.{LiveError}

@@ -1,10 +1,10 @@
 -- What came of commands: the refusals by place, and the packets that were accepted.
 use Rattle.std.specs.Prelude.{ℕ, ◌+◌, List, [], ◌∷◌, ◌++◌, Option, Some, None, Result, Ok, Err, length, nat_lt, cond}
 use Rattle.ir_core.specs.declared.event.Refused.{Refused}
+use Rattle.ir_core.specs.declared.command.Command.{Command}
+use Rattle.ir_core.specs.declared.command.Command.TheVariants.{Inject, Install, Retire, Down, Up, Drain}
 use Rattle.ir_epochs.specs.declared.registry.Stamp.{Stamp}
 use Rattle.ir_control.specs.declared.injector.Accepted.{Accepted}
-use Rattle.ir_live.specs.declared.command.Command.{Command}
-use Rattle.ir_live.specs.declared.command.Command.TheVariants.{Inject, Install, Retire, Down, Up, Drain}
 
 -- a command was accepted, with the stamp of the epoch that it installed if it did; or it was refused
 abbrev pub Answer : Type 0

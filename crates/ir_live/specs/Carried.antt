@@ -2,6 +2,8 @@
 use Rattle.std.specs.Prelude.{◌≡◌, ℕ, ◌∷◌, [], true, false, List, Option, Some, None, Ok, Err, length}
 use Rattle.ir_model.specs.declared.Kind.{Kind}
 use Rattle.ir_model.specs.Network.{node_count}
+use Rattle.ir_core.specs.declared.command.Command.{Command}
+use Rattle.ir_core.specs.declared.command.Command.TheVariants.{Inject, Install, Retire, Down, Up, Drain}
 use Rattle.ir_epochs.specs.declared.handles.Receipt.{Receipt}
 use Rattle.ir_epochs.specs.declared.entry.Change.{Change}
 use Rattle.ir_epochs.specs.declared.entry.Change.TheVariants as change
@@ -19,8 +21,6 @@ use Rattle.ir_control.specs.declared.controller.ChangeError.{ChangeError}
 use Rattle.ir_control.specs.Accepted.{IsInjected, stamp_after_learning}
 use Rattle.ir_control.specs.Refusals.{inject_refused, IsInjectRefusal}
 use Rattle.ir_control.specs.Changes.{retire_refused, mark_refused, Installs, IsNoInstall, IsChangeAnswer}
-use Rattle.ir_live.specs.declared.command.Command.{Command}
-use Rattle.ir_live.specs.declared.command.Command.TheVariants.{Inject, Install, Retire, Down, Up, Drain}
 use Rattle.ir_live.specs.declared.desk.Desk.{Desk}
 use Rattle.ir_live.specs.Answers.{Answer}
 use Rattle.ir_live.specs.Words.{inject_word, install_word, change_word}

@@ -2,6 +2,7 @@
 use Rattle.std.specs.Prelude.{◌≡◌, ℕ, ◌<◌, true, List, ◌∷◌, All, length, replicate, slice_index_or}
 use Rattle.ir_model.specs.Network.{node_count}
 use Rattle.ir_core.specs.Sound.{IsSoundJourney}
+use Rattle.ir_core.specs.declared.command.Command.{Command}
 use Rattle.ir_links.specs.Ends.{Word}
 use Rattle.ir_worker.specs.declared.node.Node.{Node}
 use Rattle.ir_worker.specs.Same.{IsSameNode}
@@ -11,7 +12,6 @@ use Rattle.ir_control.specs.Nets.{first_plan}
 use Rattle.ir_control.specs.Parts.{AreNodesOf, IsInjectorOf, AreFreshParts}
 use Rattle.ir_control.specs.Reported.{AreAllThere}
 use Rattle.ir_control.specs.Reports.{IsReport}
-use Rattle.ir_live.specs.declared.command.Command.{Command}
 use Rattle.ir_live.specs.declared.desk.Desk.{Desk}
 use Rattle.ir_live.specs.declared.live.Live.{Live}
 use Rattle.ir_live.specs.declared.live.LiveError.{LiveError}

@@ -1,12 +1,12 @@
 -- What nodes that turned on threads of their own came to, while commands were carried out.
 use Rattle.std.specs.Prelude.{◌≡◌, ℕ, ◌<◌, List, ◌∷◌, length, slice_index_or, slice_get, Option, Some}
+use Rattle.ir_core.specs.declared.command.Command.{Command}
 use Rattle.ir_links.specs.Ends.{Word}
 use Rattle.ir_epochs.specs.declared.registry.Stamp.{Stamp}
 use Rattle.ir_worker.specs.declared.node.Node.{Node}
 use Rattle.ir_worker.specs.declared.serving.NoMemory.{NoMemory as Short}
 use Rattle.ir_worker.specs.Same.{IsSameNode}
 use Rattle.ir_worker.specs.Seen.{SeenParcel}
-use Rattle.ir_live.specs.declared.command.Command.{Command}
 use Rattle.ir_live.specs.declared.desk.Desk.{Desk}
 use Rattle.ir_live.specs.declared.live.LiveError.{LiveError}
 use Rattle.ir_live.specs.declared.live.LiveError.TheVariants as live

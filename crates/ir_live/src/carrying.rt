@@ -4,10 +4,9 @@ ghost use Rattle.ir_live.specs.Answers.{Answer, refusal_in, refusal_at, refusals
 ghost use Rattle.ir_live.specs.Planned.{stamp_by, stamps_in};
 ghost use Rattle.ir_live.specs.Carried.{AreCarriedOut};
 
-use crate::command::Command;
 use crate::desk::Desk;
 use ir_control::Net;
-use ir_core::{MAX_EPOCHS, Refused};
+use ir_core::{Command, MAX_EPOCHS, Refused};
 use ir_epochs::Stamp;
 use ir_links::Moments;
 use ir_worker::Parcel;

@@ -3,9 +3,9 @@ ghost use Rattle.std.specs.Prelude.{◌≡◌};
 ghost use Rattle.ir_live.specs.Answers.{answer_of};
 ghost use Rattle.ir_live.specs.Words.{change_refusal};
 
-use crate::command::{Command, change_word, inject_word, install_word};
+use crate::words::{change_word, inject_word, install_word};
 use ir_control::{ChangeError, Controller, Injector, Net};
-use ir_core::Refused;
+use ir_core::{Command, Refused};
 use ir_epochs::{Receipt, Stamp};
 use ir_links::Moments;
 use ir_model::Kind;
@@ -54,7 +54,7 @@ fn drain<R: Wait>(rt: &R, net: &Net, count: u32, ended: &AtomicBool) {
 
 impl<B: Wait + Drop> Desk<B> {
     ghost use Rattle.ir_live.specs.Carried.{IsInstalledAs, IsRetiredAs, IsDownAs, IsUpAs, IsCarriedOut};
-    ghost use Rattle.ir_live.specs.declared.command.Command.TheVariants.{Inject};
+    ghost use Rattle.ir_core.specs.declared.command.Command.TheVariants.{Inject};
 
     // Puts a packet in.
     fn inject<R: Moments<Parcel>>(&mut self, rt: &R, source: u16, dest: u16) -> Option<Refused>

@@ -3,14 +3,14 @@
 
 mod agreeing;
 mod carrying;
-mod command;
 mod desk;
 mod live;
 mod running;
 mod starter;
+mod words;
 mod working;
 
-pub use command::Command;
+pub use ir_core::Command;
 pub use live::{Live, LiveError};
 pub use running::run_live;
 pub use starter::{Every, Starter};

@@ -11,12 +11,12 @@ ghost use Rattle.ir_live.specs.Lives.{IsLive, IsRefusal};
 ghost use Rattle.ir_live.specs.Runs.{live_error, parts_error};
 
 use crate::agreeing::{agree_all, agree_rows, lead_all};
-use crate::command::Command;
 use crate::desk::Desk;
 use crate::live::{Live, LiveError};
 use crate::starter::Starter;
 use crate::working::{NotRun, Run, run_nodes};
 use ir_control::{FinishError, Net, Parts, finish};
+use ir_core::Command;
 use ir_epochs::BoardError;
 use ir_links::Moments;
 use ir_worker::{Gate, NoMemory, Node, Parcel};

@@ -4,11 +4,10 @@ ghost use Rattle.ir_worker.specs.Same.{IsSameNode};
 ghost use Rattle.ir_live.specs.Runs.{IsRun, IsStopped};
 
 use crate::carrying::carry_out_all;
-use crate::command::Command;
 use crate::desk::Desk;
 use crate::starter::Starter;
 use ir_control::Net;
-use ir_core::Refused;
+use ir_core::{Command, Refused};
 use ir_epochs::Stamp;
 use ir_links::Moments;
 use ir_worker::{ComesBack, Gate, NoMemory, Node, Parcel, serve};

@@ -12,8 +12,8 @@ use Rattle.ir_core.specs.declared.event.Event.{Event}
 use Rattle.ir_core.specs.declared.event.Event.TheVariants.{Inject, Learn, Take, Read, Act, Install, Retire, Down, Up}
 use Rattle.ir_core.specs.declared.event.Step.{Step}
 use Rattle.ir_core.specs.declared.event.Step.TheVariants as step
-use Rattle.ir_live.specs.declared.command.Command.{Command}
-use Rattle.ir_live.specs.declared.command.Command.TheVariants as command
+use Rattle.ir_core.specs.declared.command.Command.{Command}
+use Rattle.ir_core.specs.declared.command.Command.TheVariants as command
 use Rattle.ir_script.specs.declared.TheConstants.{MAX_DIGITS, MAX_NUMBER}
 use Rattle.ir_script.specs.declared.fault.ScriptFault.{ScriptFault}
 use Rattle.ir_script.specs.declared.fault.ScriptFault.TheVariants.{BadByte, BadCommand, BadNumber, UnknownNode, UnknownLink}

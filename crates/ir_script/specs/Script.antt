@@ -4,8 +4,8 @@ use Rattle.std.specs.Prelude.{◌≡◌, ℕ, ◌+◌, List, [], ◌∷◌, ◌+
 use Rattle.ir_model.specs.Graph.{Name}
 use Rattle.ir_model.specs.Network.{Network}
 use Rattle.ir_core.specs.declared.event.Step.{Step}
+use Rattle.ir_core.specs.declared.command.Command.{Command}
 use Rattle.ir_script.specs.Command.{line_step, line_command}
-use Rattle.ir_live.specs.declared.command.Command.{Command}
 use Rattle.ir_script.specs.declared.fault.ScriptFault.{ScriptFault}
 use Rattle.ir_script.specs.declared.fault.ScriptFault.TheVariants.{BadByte, BadCommand, BadNumber, UnknownNode, UnknownLink, NoMemory}
 use Rattle.ir_script.specs.declared.fault.ScriptError.{ScriptError}

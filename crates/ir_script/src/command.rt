@@ -8,9 +8,8 @@ ghost use Rattle.ir_script.specs.Command.{event_of_one, event_of_two, event_of_t
 use crate::fault::ScriptFault;
 use crate::word::{link_between, link_of, node_of, number_of};
 use ir_adjlist::scan;
-use ir_core::{Event, Kind, Step, Way};
+use ir_core::{Command, Event, Kind, Step, Way};
 use ir_graph::Graph;
-use ir_live::Command;
 use ir_tables::Topology;
 
 /// The event of a first word that one follows.

@@ -11,8 +11,7 @@ mod script;
 mod word;
 
 pub use fault::{ScriptError, ScriptFault};
-pub use ir_core::Step;
-pub use ir_live::Command;
+pub use ir_core::{Command, Step};
 pub use script::{Script, parse_live, parse_script};
 
 /// The most digits of a number.

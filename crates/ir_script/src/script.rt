@@ -13,9 +13,8 @@ ghost use Rattle.ir_script.specs.Within.{is_within};
 use crate::command::{line_command, line_step};
 use crate::fault::{ScriptError, ScriptFault};
 use ir_adjlist::scan;
-use ir_core::Step;
+use ir_core::{Command, Step};
 use ir_graph::Graph;
-use ir_live::Command;
 use ir_tables::Topology;
 use std::alloc::{AllocError, Global};
 

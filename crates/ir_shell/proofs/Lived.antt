@@ -6,6 +6,8 @@ use Rattle.std.proofs.lemmas.Bool.{ltb-true, leb-true, and_parts}
 use Rattle.std.proofs.lemmas.Option.{same_Some, none-some, slice_get_within, get_or_from_slice_get}
 use Rattle.ir_model.specs.Network.{Network, IsNetwork, node_count}
 use Rattle.ir_core.specs.declared.TheConstants.{MAX_NODES, MAX_LINKS, MAX_CAPACITY, MAX_PACKETS, MAX_RESTAMPS}
+use Rattle.ir_core.specs.declared.command.Command.{Command}
+use Rattle.ir_core.specs.declared.command.Command.TheVariants.{Inject, Install, Retire, Down, Up, Drain}
 use Rattle.ir_core.specs.Journey.{Journey}
 use Rattle.ir_core.specs.Opened.{is_small, is_within}
 use Rattle.ir_epochs.specs.declared.registry.Stamp.{Stamp}
@@ -24,8 +26,6 @@ use Rattle.ir_control.specs.Refusals.{inject_refused}
 use Rattle.ir_control.specs.Reports.{IsSoundOutcome}
 use Rattle.ir_control.specs.Told.{IsOutcomeIn}
 use Rattle.ir_links.specs.Ends.{Word}
-use Rattle.ir_live.specs.declared.command.Command.{Command}
-use Rattle.ir_live.specs.declared.command.Command.TheVariants.{Inject, Install, Retire, Down, Up, Drain}
 use Rattle.ir_live.specs.declared.desk.Desk.{Desk}
 use Rattle.ir_live.specs.declared.live.Live.{Live}
 use Rattle.ir_live.specs.Answers.{Answer, accepted_by, accepted_from, epoch_after}

@@ -7,7 +7,7 @@ ghost use Rattle.ir_model.specs.Graph.{names};
 ghost use Rattle.ir_model.specs.OfGraph.{network_of_graph};
 ghost use Rattle.ir_model.specs.Text.{lines};
 ghost use Rattle.ir_trace.specs.Written.{HaveSegments};
-ghost use Rattle.ir_shell.specs.Lives.{is_for_memory, refusals_text, IsOpenedNet, AnswersLive, AnswersLiveScript};
+ghost use Rattle.ir_shell.specs.Lives.{is_for_memory, net_line, refusals_text, IsOpenedNet, AnswersLive, AnswersLiveScript};
 ghost use Rattle.ir_words.specs.Openings.{root_name, AnswersTopology, AnswersRoot};
 ghost use Rattle.ir_shell.specs.Plays.{listing_in, run_text};
 ghost use Rattle.ir_words.specs.Replies.{answer_of};
@@ -21,7 +21,9 @@ use ir_live::{Every, Live, LiveError, run_live};
 use ir_model::Fault;
 use ir_script::{Command, Script, ScriptFault, parse_live};
 use ir_tables::Topology;
-use ir_words::lines::{net_line, opening_line, push_reply_line, script_line, topology_line};
+use ir_words::lines::{
+    OPENINGS, named_opening, opening_line, push_reply_line, script_line, topology_line,
+};
 use ir_words::open::{no_root, read_topology, root_of};
 use ir_words::reply::Reply;
 use ir_words::words::Words;
@@ -98,6 +100,13 @@ fn live_texts(
     )?;
     let refused = refusals_text(alloc, lines, refusals)?;
     Ok((trace, refused))
+}
+
+/// The line of a refused opening of a net.
+fn net_line(alloc: Global, error: NetError) -> Result<String, AllocError>
+    ensures { IfOk result (λ text. string_bytes text ≡ net_line error) }
+{
+    named_opening(alloc, OPENINGS[error.code() as usize - 1])
 }
 
 /// The answer to a script and a net that was opened for it. Its parts were not handed out before; that they are not handed

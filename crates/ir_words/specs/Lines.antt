@@ -6,8 +6,6 @@ use Rattle.ir_core.specs.Codes.{open_code, refusal_code}
 use Rattle.ir_core.specs.declared.event.OpenError.{OpenError}
 use Rattle.ir_core.specs.declared.event.Reply.{Reply}
 use Rattle.ir_core.specs.declared.event.Refused.{Refused}
-use Rattle.ir_control.specs.Opened as nets
-use Rattle.ir_control.specs.declared.error.NetError.{NetError}
 use Rattle.ir_trace.specs.Codes as findings
 use Rattle.ir_trace.specs.declared.finding.Finding.{Finding}
 use Rattle.ir_trace.specs.declared.finding.FindingKind.{FindingKind}
@@ -63,9 +61,6 @@ opening_words =
 abbrev pub open_error_name : OpenError → List ℕ
 open_error_name error = word_of opening_words (open_code error)
 
-abbrev pub net_error_name : NetError → List ℕ
-net_error_name error = word_of opening_words (nets.code_of error)
-
 -- those of the refusals of a step
 abbrev pub refusal_words : List (List ℕ)
 refusal_words =
@@ -109,10 +104,6 @@ numbering_line f = numbered_line (codes "numbering") f.0 (order_fault_name f.1)
 -- `opening NAME`
 abbrev pub opening_line : OpenError → List ℕ
 opening_line e = codes "opening " ++ open_error_name e ++ 10 ∷ []
-
--- the same of a net
-abbrev pub net_line : NetError → List ℕ
-net_line e = codes "opening " ++ net_error_name e ++ 10 ∷ []
 
 -- `refused LINE NAME`
 abbrev pub refused_line : ℕ → Refused → List ℕ

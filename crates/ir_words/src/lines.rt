@@ -1,9 +1,8 @@
 //! The lines that tell of a refusal, and of an input that was not read.
 ghost use Rattle.std.specs.Prelude.{◌≡◌, ◌∷◌, ◌++◌, [], IfOk, OnOk, codes, string_bytes};
-ghost use Rattle.ir_words.specs.Lines.{finding_line, ok_line, topology_line, script_line, numbering_line, opening_line, unreadable_line, too_large_line, net_line, numbered_line, reply_line};
+ghost use Rattle.ir_words.specs.Lines.{finding_line, ok_line, topology_line, script_line, numbering_line, opening_line, unreadable_line, too_large_line, numbered_line, reply_line};
 
 use crate::read::Source;
-use ir_control::NetError;
 use ir_core::{OpenError, Refused, Reply};
 use ir_model::Fault;
 use ir_order::OrderFaultKind;
@@ -43,8 +42,9 @@ static ORDER_FAULTS: [&str; 6] = [
     "NoMemory",
 ];
 
-/// Those of the refusals of an opening: the first five are of a simulation and of a net, the last two of a net alone.
-static OPENINGS: [&str; 7] = [
+/// The words of the refusals of an opening, in the order of their numbers, which are counted from 1: the first five are of a
+/// simulation and of a net, the last two of a net alone.
+pub static OPENINGS: [&str; 7] = [
     "NoNode",
     "Empty",
     "Disconnected",
@@ -185,7 +185,7 @@ pub fn numbering_line(
 }
 
 /// The line of a refused opening, by its word.
-fn named_opening(alloc: Global, name: &str) -> Result<String, AllocError>
+pub fn named_opening(alloc: Global, name: &str) -> Result<String, AllocError>
     ensures { IfOk result (λ text. string_bytes text ≡ codes "opening " ++ name.now ++ 10 ∷ []) }
 {
     format!(in alloc; "opening {name}\n")
@@ -194,13 +194,6 @@ fn named_opening(alloc: Global, name: &str) -> Result<String, AllocError>
 /// The line of a refused opening.
 pub fn opening_line(alloc: Global, error: OpenError) -> Result<String, AllocError>
     ensures { IfOk result (λ text. string_bytes text ≡ opening_line error) }
-{
-    named_opening(alloc, OPENINGS[error.code() as usize - 1])
-}
-
-/// The line of a refused opening of a net.
-pub fn net_line(alloc: Global, error: NetError) -> Result<String, AllocError>
-    ensures { IfOk result (λ text. string_bytes text ≡ net_line error) }
 {
     named_opening(alloc, OPENINGS[error.code() as usize - 1])
 }

@@ -3,7 +3,7 @@ use Rattle.std.proofs.Common.{refl, sym, subst}
 use Rattle.ir_links.specs.Ends.{Word}
 use Rattle.ir_worker.specs.Seen.{SeenParcel}
 use Rattle.ir_core.specs.declared.event.Refused.{Refused}
-use Rattle.ir_live.specs.declared.command.Command.{Command}
+use Rattle.ir_core.specs.declared.command.Command.{Command}
 use Rattle.ir_live.specs.declared.desk.Desk.{Desk}
 use Rattle.ir_live.specs.Answers.{Answer, answer_of}
 use Rattle.ir_live.specs.Carried.{IsCarriedOut}
