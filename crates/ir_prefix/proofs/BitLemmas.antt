@@ -86,9 +86,12 @@ all_named (x ∷ xs) q e = absurd (omega arith)
 pub unset : (m i : ℕ) → (bit_at m i ≡ 1 → ⊥) → bit_at m i ≡ 0
 unset m i n = let l = bit_at-lt m i in elim (cases_eq (bit_at m i) 1) [ inl e ↦ absurd (n e) | inr k ↦ omega arith ]
 
+set_among : (m p : ℕ) → p < 63 → bit_at m p ≡ 1 → is_among (ports_in m) p ≡ true
+set_among m p l e = low_named m p l ∙ eq-eqb (bit_at m p) 1 e
+
 some_in : (m p : ℕ) → p < 63 → bit_at m p ≡ 1 → 0 < length (ports_in m)
 some_in m p l e =
-    let k = among_found (ports_in m) p (low_named m p l ∙ eq-eqb (bit_at m p) 1 e) in
+    let k = among_found (ports_in m) p (set_among m p l e) in
     let s = k.1 in
     omega (arith, s)
 
@@ -102,6 +105,9 @@ bits_name_none m p some l = sym (port_named (ports_in m) p some ∙ high_unnamed
 pub bits_name_above : (m : ℕ) → 0 < length (ports_in m) → false ≡ is_named (ports_in m) None
 bits_name_above m some = sym (no_port_unnamed (ports_in m) some)
 
+found_at : (xs : List ℕ) (z : ℕ) → is_among xs z ≡ true → (k : ℕ) × (k < length xs) × (get_or xs k 0 ≡ z)
+found_at xs z e = let k = among_found xs z e in (k.0, k.1, sym (get_or_default_zero xs k.0 z k.1) ∙ k.2)
+
 -- the least port is the place of the lowest bit
 pub least_is : (m : ℕ) → m < 2 ^ 64 → 0 < length (ports_in m) → trailing_zeros w64 m ≡ get_or (ports_in m) 0 0
 least_is m fits some =
@@ -114,9 +120,9 @@ least_is m fits some =
     let t = bit_at-trailing_zeros w64 m pos fits in
     let z = trailing_zeros w64 m in
     let le : z ≤ h = elim (cases_lt h z) [ inl l ↦ let e = t.2 h l in absurd (omega (arith, set, e)) | inr n ↦ n ] in
-    let k = among_found xs z (low_named m z (omega arith) ∙ eq-eqb (bit_at m z) 1 t.1) in
+    let k = found_at xs z (set_among m z (omega arith) t.1) in
     let up : h ≤ get_or xs k.0 0 = ports_rise m 0 k.0 0 (omega arith) k.1 in
-    let at : get_or xs k.0 0 ≡ z = sym (get_or_default_zero xs k.0 z k.1) ∙ k.2 in
+    let at = k.2 in
     omega (arith, le, up, at)
 
 -- numbers whose bits are the names

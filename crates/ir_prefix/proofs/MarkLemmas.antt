@@ -1,5 +1,6 @@
 -- The marks of a trie.
-use Rattle.std.proofs.Common.{◌≡◌, ℕ, ◌+◌, ◌-◌, ◌*◌, ◌^◌, ◌<◌, List, [], ◌∷◌, ◌++◌, length, take, refl, ap, sym, ◌∙◌, subst, inl, inr, arith, append_assoc, Option, Some, None, IfSome}
+use Rattle.std.proofs.Common.{◌≡◌, ℕ, ◌+◌, ◌-◌, ◌*◌, ◌/◌, ◌^◌, ◌<◌, List, [], ◌∷◌, ◌++◌, length, take, refl, ap, sym, ◌∙◌, subst, inl, inr, arith, append_assoc, Option, Some, None, IfSome}
+use Rattle.std.proofs.Math.Pow.{pow-lt}
 use Rattle.std.proofs.Math.Seq.{take-append_seam}
 use Rattle.std.proofs.lemmas.Bool.{cases_lt}
 use Rattle.std.proofs.lemmas.List.{get_or_past, length-append}
@@ -8,11 +9,11 @@ use Rattle.std.specs.Int.{bit_at}
 use Rattle.std.specs.Int.Bits.{bit_and}
 use Rattle.ir_model.specs.Compiled.{port_to}
 use Rattle.ir_prefix.specs.Cover.{cover_of, taken, told}
-use Rattle.ir_prefix.specs.Described.{Describes, names_of, IsFree, Trie, Free, Alike, Fork}
+use Rattle.ir_prefix.specs.Described.{Describes, names_of, IsFree, IsJoin, Trie, Free, Alike, Fork}
 use Rattle.ir_prefix.specs.Marks.{AreLow, AreBits, AreMarks, IsMarked, joined_bits, ports_in}
 use Rattle.ir_prefix.specs.declared.cover.Prefix.{Prefix}
 use Rattle.ir_prefix.specs.declared.marks.Mark.{Mark}
-use Rattle.ir_prefix.specs.declared.marks.Mark.TheVariants.{NoPort, OnePort, Several}
+use Rattle.ir_prefix.specs.declared.marks.Mark.TheVariants.{NoPort, OnePort, Pair, Several}
 use Rattle.ir_prefix.proofs.BitLemmas.{all_are_bits, one_is_bits, both_free, all_shared, ports_rise, joined_are_bits}
 use Rattle.ir_prefix.proofs.TrieLemmas.{parent_describes}
 
@@ -71,10 +72,41 @@ module _ (ports : List (Option ℕ)) (h i a b m before : ℕ) (old behind both a
         trie = Fork names left.trie right.trie;
         marks = (right.marks ++ left.marks) ++ own;
         describes = (some, left.describes, right.describes, j.0, ports_rise (joined_bits a b));
-        are = (joined_bits a b, left.marks, right.marks, refl, refl, left.are, right.are);
+        are = inl (joined_bits a b, left.marks, right.marks, refl, refl, left.are, right.are);
         added = added ∙ ap (λ (xs : List Mark). xs ++ own) parts ∙ append_assoc old (right.marks ++ left.marks) own;
         bits = subst (AreBits names) (sym is) j.1;
       }
+
+-- the node of two numbers with a port each
+own_block : (y : ℕ) → y / 2 ^ 0 ≡ y
+own_block y = omega arith
+
+leaf_describes : (ports : List (Option ℕ)) (x p : ℕ) → port_to ports x ≡ Some p → Describes ports 0 x (Alike p)
+leaf_describes ports x p e = (λ y r at o. let s : y ≡ x = sym (own_block y) ∙ at in let k = sym (subst (λ z. port_to ports z ≡ Some r) s o) ∙ e in cc, (x, own_block x, e))
+
+pub pair_marked : (ports : List (Option ℕ)) (h i m p q : ℕ) (before after : List Mark) → h ≡ 1 → port_to ports (2 * i) ≡ Some p → port_to ports (2 * i + 1) ≡ Some q → p < 63 → q < 63 → m ≡ joined_bits (2 ^ p) (2 ^ q)
+    → after ≡ before ++ Pair m p q ∷ [] → IsMarked ports h i m before after
+pair_marked ports h i m p q before after one e f lp lq is added =
+    let z : 0 ≡ h - 1 = omega arith in
+    let names = ports_in m in
+    let less : p < 64 = omega arith in let fits : 2 ^ p < 2 ^ 64 = pow-lt less in
+    let apart : (bit_at (bit_and (2 ^ p) (2 ^ q)) 63 ≡ 1) → ⊥ = λ set. let k = both_free (p ∷ []) (q ∷ []) (2 ^ p) (2 ^ q) (one_is_bits p lp) (one_is_bits q lq) set in absurd (omega (arith, k.0)) in
+    let j = joined_are_bits (p ∷ []) (q ∷ []) (2 ^ p) (2 ^ q) (one_is_bits p lp) (one_is_bits q lq) fits apart in
+    let k = subst (λ n. IsJoin (p ∷ []) (q ∷ []) (ports_in n) × AreBits (ports_in n) n) (sym is) j in
+    record {
+      trie = Fork names (Alike p) (Alike q);
+      marks = Pair m p q ∷ [];
+      describes = (
+        omega arith,
+        subst (λ g. Describes ports g (2 * i) (Alike p)) z (leaf_describes ports (2 * i) p e),
+        subst (λ g. Describes ports g (2 * i + 1) (Alike q)) z (leaf_describes ports (2 * i + 1) q f),
+        k.0,
+        ports_rise m,
+      );
+      are = inr (m, p, q, refl, refl, refl, refl);
+      added = added;
+      bits = k.1;
+    }
 
 pub low_at : (ports : List (Option ℕ)) (x p : ℕ) → AreLow ports → port_to ports x ≡ Some p → p < 63
 low_at ports x p low e =
@@ -100,18 +132,22 @@ same_last (x ∷ xs) (y ∷ ys) a b e =
 pub some_marks : (t : Trie) (more : List Mark) → AreMarks t more → 0 < length more
 some_marks Free more e = let n = ap (λ (l : List Mark). length l) e in omega (arith, n)
 some_marks (Alike p) more e = let n = ap (λ (l : List Mark). length l) e in omega (arith, n)
-some_marks (Fork names l r) more e =
+some_marks (Fork names l r) more (inl e) =
     let n = ap (λ (xs : List Mark). length xs) e.4 in
     let m = length-append (e.2 ++ e.1) (Several e.0 ∷ []) in
     omega (arith, n, m)
+some_marks (Fork names l r) more (inr e) = let n = ap (λ (xs : List Mark). length xs) e.4 in omega (arith, n)
 
 -- the trie by the last of its marks
 pub free_ends : (t : Trie) (rest more all front : List Mark) → AreMarks t more → all ≡ rest ++ more → all ≡ front ++ NoPort ∷ [] → (t ≡ Free) × (front ≡ rest)
 free_ends Free rest more all front are e f = (refl, (same_last front rest NoPort NoPort (sym f ∙ e ∙ ap (λ (xs : List Mark). rest ++ xs) are)).0)
 free_ends (Alike p) rest more all front are e f = let h = (same_last front rest NoPort (OnePort p) (sym f ∙ e ∙ ap (λ (xs : List Mark). rest ++ xs) are)).1 in absurd cc
-free_ends (Fork names l r) rest more all front are e f =
+free_ends (Fork names l r) rest more all front (inl are) e f =
     let own = Several are.0 ∷ [] in
     let h = (same_last front (rest ++ (are.2 ++ are.1)) NoPort (Several are.0) (sym f ∙ e ∙ ap (λ (xs : List Mark). rest ++ xs) are.4 ∙ sym (append_assoc rest (are.2 ++ are.1) own))).1 in
+    absurd cc
+free_ends (Fork names l r) rest more all front (inr are) e f =
+    let h = (same_last front rest NoPort (Pair are.0 are.1 are.2) (sym f ∙ e ∙ ap (λ (xs : List Mark). rest ++ xs) are.4)).1 in
     absurd cc
 
 pub one_ends : (t : Trie) (p : ℕ) (rest more all front : List Mark) → AreMarks t more → all ≡ rest ++ more → all ≡ front ++ OnePort p ∷ [] → (t ≡ Alike p) × (front ≡ rest)
@@ -121,9 +157,12 @@ one_ends (Alike q) p rest more all front are e f =
     let same = h.1 in
     let k : q ≡ p = cc in
     (ap (λ x. Alike x) k, h.0)
-one_ends (Fork names l r) p rest more all front are e f =
+one_ends (Fork names l r) p rest more all front (inl are) e f =
     let own = Several are.0 ∷ [] in
     let h = (same_last front (rest ++ (are.2 ++ are.1)) (OnePort p) (Several are.0) (sym f ∙ e ∙ ap (λ (xs : List Mark). rest ++ xs) are.4 ∙ sym (append_assoc rest (are.2 ++ are.1) own))).1 in
+    absurd cc
+one_ends (Fork names l r) p rest more all front (inr are) e f =
+    let h = (same_last front rest (OnePort p) (Pair are.0 are.1 are.2) (sym f ∙ e ∙ ap (λ (xs : List Mark). rest ++ xs) are.4)).1 in
     absurd cc
 
 pub record IsParted (m : ℕ) (rest front : List Mark) (t : Trie) : Type 0 where
@@ -139,7 +178,7 @@ pub record IsParted (m : ℕ) (rest front : List Mark) (t : Trie) : Type 0 where
 pub several_ends : (t : Trie) (m : ℕ) (rest more all front : List Mark) → AreMarks t more → all ≡ rest ++ more → all ≡ front ++ Several m ∷ [] → IsParted m rest front t
 several_ends Free m rest more all front are e f = let h = (same_last front rest (Several m) NoPort (sym f ∙ e ∙ ap (λ (xs : List Mark). rest ++ xs) are)).1 in absurd cc
 several_ends (Alike q) m rest more all front are e f = let h = (same_last front rest (Several m) (OnePort q) (sym f ∙ e ∙ ap (λ (xs : List Mark). rest ++ xs) are)).1 in absurd cc
-several_ends (Fork names l r) m rest more all front are e f =
+several_ends (Fork names l r) m rest more all front (inl are) e f =
     let own = Several are.0 ∷ [] in
     let h = same_last front (rest ++ (are.2 ++ are.1)) (Several m) (Several are.0) (sym f ∙ e ∙ ap (λ (xs : List Mark). rest ++ xs) are.4 ∙ sym (append_assoc rest (are.2 ++ are.1) own)) in
     let same = h.1 in
@@ -154,6 +193,27 @@ several_ends (Fork names l r) m rest more all front are e f =
       left_are = are.5;
       right_are = are.6;
     }
+several_ends (Fork names l r) m rest more all front (inr are) e f =
+    let h = (same_last front rest (Several m) (Pair are.0 are.1 are.2) (sym f ∙ e ∙ ap (λ (xs : List Mark). rest ++ xs) are.4)).1 in
+    absurd cc
+
+pub pair_ends : (t : Trie) (m p q : ℕ) (rest more all front : List Mark) → AreMarks t more → all ≡ rest ++ more → all ≡ front ++ Pair m p q ∷ [] → (t ≡ Fork (ports_in m) (Alike p) (Alike q)) × (front ≡ rest)
+pair_ends Free m p q rest more all front are e f = let h = (same_last front rest (Pair m p q) NoPort (sym f ∙ e ∙ ap (λ (xs : List Mark). rest ++ xs) are)).1 in absurd cc
+pair_ends (Alike o) m p q rest more all front are e f = let h = (same_last front rest (Pair m p q) (OnePort o) (sym f ∙ e ∙ ap (λ (xs : List Mark). rest ++ xs) are)).1 in absurd cc
+pair_ends (Fork names l r) m p q rest more all front (inl are) e f =
+    let own = Several are.0 ∷ [] in
+    let h = (same_last front (rest ++ (are.2 ++ are.1)) (Pair m p q) (Several are.0) (sym f ∙ e ∙ ap (λ (xs : List Mark). rest ++ xs) are.4 ∙ sym (append_assoc rest (are.2 ++ are.1) own))).1 in
+    absurd cc
+pair_ends (Fork names l r) m p q rest more all front (inr are) e f =
+    let h = same_last front rest (Pair m p q) (Pair are.0 are.1 are.2) (sym f ∙ e ∙ ap (λ (xs : List Mark). rest ++ xs) are.4) in
+    let same = h.1 in
+    let km : are.0 ≡ m = cc in
+    let kp : are.1 ≡ p = cc in
+    let kq : are.2 ≡ q = cc in (
+      ap (λ (xs : List ℕ). Fork xs l r) (are.3 ∙ ap (λ n. ports_in n) km) ∙ ap (λ (x : Trie). Fork (ports_in m) x r) (are.5 ∙ ap (λ n. Alike n) kp)
+          ∙ ap (λ (x : Trie). Fork (ports_in m) (Alike p) x) (are.6 ∙ ap (λ n. Alike n) kq),
+      h.0,
+    )
 
 -- the prefixes of a node, and then those of its halves
 pub fork_covered : (bits h i m : ℕ) (above below : Option ℕ) (l r : Trie) (before own half after : List Prefix) → below ≡ taken (ports_in m) above → own ≡ before ++ told bits h i (ports_in m) above → half ≡ own ++ cover_of bits l (h - 1) (2 * i) below

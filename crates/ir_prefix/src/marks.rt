@@ -1,25 +1,28 @@
 //! The trie of labels whose ports are all below 63: the names of a node are the bits of a number.
 
-ghost use Rattle.std.specs.Prelude.{◌≡◌, ◌≢◌, ◌==◌, ◌<◌, ◌≤◌, ◌+◌, ◌-◌, ◌*◌, ◌^◌, ◌++◌, List, [], ◌∷◌, None, length, slice_index, take, IfOk, IsTrue, OnOk};
+ghost use Rattle.std.specs.Prelude.{◌≡◌, ◌≢◌, ◌==◌, ◌<◌, ◌≤◌, ◌+◌, ◌-◌, ◌*◌, ◌^◌, ◌++◌, List, [], ◌∷◌, None, Some, length, slice_index, take, IfOk, IfSome, IsTrue, OnOk};
 ghost use Rattle.std.specs.Int.{bit_at};
 ghost use Rattle.std.specs.Int.Bits.{bit_and};
+ghost use Rattle.ir_model.specs.Compiled.{port_to};
 ghost use Rattle.ir_prefix.specs.Cover.{IsTrie, cover_of, taken, told};
 ghost use Rattle.ir_prefix.specs.Described.{Describes, Trie};
 ghost use Rattle.ir_prefix.specs.Joined.{is_named};
 ghost use Rattle.ir_prefix.specs.Marks.{AreLow, AreMarks, IsMarked, joined_bits, ports_in};
 ghost use Rattle.ir_prefix.specs.Runs.{AreRuns};
-ghost use Rattle.ir_prefix.specs.declared.marks.Mark.TheVariants.{NoPort, OnePort, Several};
+ghost use Rattle.ir_prefix.specs.declared.marks.Mark.TheVariants.{NoPort, OnePort, Pair, Several};
 
 use crate::cover::{Prefix, node_prefix};
 use crate::runs::{Block, Run, block_of};
 use std::alloc::{AllocError, Global};
 
-/// What lies below a node: no port, one port, or several, and then its names.
+/// What lies below a node: no port, one port, or several, and then its names, or two numbers with a port each, and then
+/// its names and these.
 #[derive(Clone, Copy)]
 pub enum Mark {
     NoPort,
     OnePort(u16),
     Several(u64),
+    Pair(u64, u16, u16),
 }
 
 /// Whether each port is below 63.
@@ -69,6 +72,9 @@ fn push_marks(
         Block::Unsent => push_free(marks),
         Block::OnePort(port) => push_one(marks, port),
         Block::Mixed => {
+            if let Some((left, right)) = pair_at(ports, height, index) {
+                return push_pair(marks, left, right);
+            }
             let before = marks.len();
             let right = push_marks(ports, runs, height - 1, 2 * index + 1, marks)?;
             let left = push_marks(ports, runs, height - 1, 2 * index, marks)?;
@@ -95,6 +101,39 @@ fn push_one(marks: &mut Vec<Mark>, port: u16) -> Result<u64, AllocError>
     Ok(1u64 << port)
 }
 
+// The ports of the two numbers of such a block, if it has two and each has a port.
+fn pair_at(ports: &[Option<u16>], height: u8, index: u32) -> Option<(u16, u16)>
+    requires { (index + 1) * 2 ^ height ≤ 2 ^ 16 }
+    ensures { IfSome result (λ pair. (height ≡ 1) × (port_to ports.now (2 * index) ≡ Some pair.0) × (port_to ports.now (2 * index + 1) ≡ Some pair.1)) }
+{
+    let first = 2 * index as usize;
+    if height != 1 || first + 1 >= ports.len() {
+        return None;
+    }
+    match (ports[first], ports[first + 1]) {
+        (Some(left), Some(right)) => Some((left, right)),
+        _ => None,
+    }
+}
+
+// Adds the mark of a node of two numbers with a port each.
+fn push_pair(marks: &mut Vec<Mark>, left: u16, right: u16) -> Result<u64, AllocError>
+    requires { (left < 63) × (right < 63) }
+    ensures { IfOk result (λ names. (names ≡ joined_bits (2 ^ left) (2 ^ right)) × (marks.new.items ≡ marks.old.items ++ Pair names left right ∷ [])) }
+{
+    let names = joined(1u64 << left, 1u64 << right);
+    marks.push(Mark::Pair(names, left, right))?;
+    Ok(names)
+}
+
+// The names that two nodes share, or those of both where they share none.
+fn joined(left: u64, right: u64) -> u64
+    ensures { result ≡ joined_bits left right }
+{
+    let shared = left & right;
+    if shared == 0 { left | right } else { shared }
+}
+
 // Adds the mark of the node of two halves, whose marks stand behind the first ones, given the names of the halves.
 fn push_parent(
     marks: &mut Vec<Mark>,
@@ -114,7 +153,7 @@ fn push_parent(
         marks.push(Mark::NoPort)?;
         return Ok(shared);
     }
-    let names = if shared == 0 { left | right } else { shared };
+    let names = joined(left, right);
     marks.push(Mark::Several(names))?;
     Ok(names)
 }
@@ -149,6 +188,12 @@ fn take_marks(
         Mark::NoPort => Ok(()),
         Mark::OnePort(port) => {
             tell_port(port, bits, height, index, above, prefixes)?;
+            Ok(())
+        }
+        Mark::Pair(names, left, right) => {
+            let below = tell_bits(names, bits, height, index, above, prefixes)?;
+            tell_port(left, bits, height - 1, 2 * index, below, prefixes)?;
+            tell_port(right, bits, height - 1, 2 * index + 1, below, prefixes)?;
             Ok(())
         }
         Mark::Several(names) => {

@@ -1,10 +1,10 @@
-use Rattle.std.proofs.Common.{arith, rules, None, inl, inr}
+use Rattle.std.proofs.Common.{arith, rules, ◌+◌, ◌*◌, None, inl, inr}
 use Rattle.std.proofs.lemmas.List.{get_or_past}
 use Rattle.std.proofs.lemmas.Result.{IfOk-weaker}
 use Rattle.std.specs.Int.{bit_at}
 use Rattle.std.specs.Int.Bits.{bit_and}
 use Rattle.std.proofs.lemmas.Bool.{cases_eq}
-use Rattle.ir_prefix.proofs.MarkLemmas.{free_marked, one_marked, freed_marked, joined_marked, low_at}
+use Rattle.ir_prefix.proofs.MarkLemmas.{free_marked, one_marked, freed_marked, joined_marked, low_at, pair_marked}
 use Rattle.ir_prefix.proofs.marks.+push_marks.Goals as goal
 
 pub returns-in-Beyond : goal.returns-in-Beyond
@@ -28,6 +28,16 @@ returns-in-OnePort t c =
     IfOk-weaker c.push_one.result _ _
     (λ names e. one_marked c.args.ports.now c.args.height c.args.index names c.in-OnePort.port c.args.marks.now.items c.push_one.new.marks.items (c.in-OnePort.ensures.1, w) (low_at c.args.ports.now w.0 c.in-OnePort.port c.requires.low w.2) e.0 e.1)
     c.push_one.ensures
+
+pub returns-in-Some : goal.returns-in-Some
+returns-in-Some t c =
+    let w = c.in-Some.ensures in
+    let ports = c.args.ports.now in
+    let left = c.in-Some.left in
+    let right = c.in-Some.right in
+    IfOk-weaker c.push_pair.result _ _
+    (λ names e. pair_marked ports c.args.height c.args.index names left right c.args.marks.now.items c.push_pair.new.marks.items w.0 w.1 w.2 (low_at ports (2 * c.args.index) left c.requires.low w.1) (low_at ports (2 * c.args.index + 1) right c.requires.low w.2) e.0 e.1)
+    c.push_pair.ensures
 
 pub returns-in_ok-names-in-Mixed : goal.returns-in_ok-names-in-Mixed
 returns-in_ok-names-in-Mixed t c =
