@@ -1,5 +1,7 @@
 pub mod AmongLemmas
 pub mod BlockLemmas
+pub mod BitLemmas
+pub mod MarkLemmas
 pub mod RunLemmas
 pub mod TrieLemmas
 pub mod NodeLemmas

@@ -8,3 +8,4 @@ pub mod Extended
 pub mod Runs
 pub mod Nodes
 pub mod Parts
+pub mod Marks

@@ -1,14 +1,16 @@
 //! The prefixes of a trie.
 
-ghost use Rattle.std.specs.Prelude.{◌≡◌, ◌<◌, ◌≤◌, ◌+◌, ◌*◌, ◌^◌, ◌++◌, length, IfOk, OnOk};
+ghost use Rattle.std.specs.Prelude.{◌≡◌, ◌<◌, ◌≤◌, ◌+◌, ◌*◌, ◌^◌, ◌++◌, None, length, IfOk, OnOk};
 ghost use Rattle.std.specs.List.Sorted.{IsNonDecreasing};
 ghost use Rattle.ir_prefix.specs.Cover.{IsTrie, cover_of, prefix_at, taken, told};
-ghost use Rattle.ir_prefix.specs.Described.{Trie};
+ghost use Rattle.ir_prefix.specs.Described.{Describes, Trie};
 ghost use Rattle.ir_prefix.specs.Nodes.{StandsIn};
+ghost use Rattle.ir_prefix.specs.Runs.{AreRuns};
 
 use crate::names::has_name;
-use crate::trie::{Node, Nodes, names_at};
-use std::alloc::AllocError;
+use crate::runs::Run;
+use crate::trie::{Node, Nodes, names_at, push_trie};
+use std::alloc::{AllocError, Global};
 
 /// The numbers whose first `length` bits are those of `value`, and their port.
 #[derive(Clone, Copy, Debug, PartialEq, Eq)]
@@ -18,9 +20,31 @@ pub struct Prefix {
     pub port: u16,
 }
 
-/// Adds the prefixes of a node so high, the index-th of its height, where the longest one above it names `above`: as
-/// few as there can be.
-pub fn cover(
+/// The prefixes of the trie of that height.
+pub fn cover_by_names(
+    alloc: Global,
+    ports: &[Option<u16>],
+    runs: &[Run],
+    bits: u8,
+) -> Result<Vec<Prefix>, AllocError>
+    requires runs { AreRuns ports.now runs.now }
+    requires bits { bits ≤ 16 }
+    ensures { IfOk result (λ set. (t : Trie) × Describes ports.now bits 0 t × (set.items ≡ cover_of bits t bits 0 None)) }
+{
+    let mut nodes = Nodes {
+        list: Vec::new(alloc),
+        names: Vec::new(alloc),
+    };
+    let mut room = Vec::new(alloc);
+    let root = push_trie(ports, runs, bits, 0, &mut nodes, &mut room)?;
+    let mut set = Vec::new(alloc);
+    cover(&nodes, root, bits, bits, 0, None, &mut set)?;
+    Ok(set)
+}
+
+// Adds the prefixes of a node so high, the index-th of its height, where the longest one above it names `above`: as few
+// as there can be.
+fn cover(
     nodes: &Nodes,
     place: usize,
     bits: u8,

@@ -1,13 +1,16 @@
 //! Ports by label compiled to the fewest prefixes whose longest match names them (Draves, King, Venkatachary and Zill 1999).
 #![tactic(auto)]
 
-ghost use Rattle.std.specs.Prelude.{◌≡◌, ◌↔◌, ◌≤◌, ◌^◌, ℕ, length, IfOk, OnOk};
+ghost use Rattle.std.specs.Prelude.{◌≡◌, ◌↔◌, ◌≤◌, ◌^◌, ℕ, None, length, IfOk, OnOk};
 ghost use Rattle.ir_model.specs.Compiled.{IsDestinations};
+ghost use Rattle.ir_prefix.specs.Cover.{cover_of};
+ghost use Rattle.ir_prefix.specs.Described.{Describes, Trie};
 ghost use Rattle.ir_prefix.specs.Longest.{AreLeast, Forwards, HavePorts, IsFewestPrefixes, IsLongestFirst, IsWidth, LoadsInOrder};
 
 mod cover;
 mod error;
 mod line;
+mod marks;
 mod names;
 mod order;
 mod parts;
@@ -15,10 +18,10 @@ mod runs;
 mod tables;
 mod trie;
 
-use crate::cover::cover;
+use crate::cover::cover_by_names;
+use crate::marks::{are_low, cover_by_marks};
 use crate::order::sort_longest_first;
 use crate::runs::runs_of;
-use crate::trie::{Nodes, push_trie};
 pub use cover::Prefix;
 pub use error::PrefixError;
 use ir_compile::is_destinations;
@@ -76,15 +79,20 @@ fn table(alloc: Global, bits: u8, ports: &[Option<u16>]) -> Result<Vec<Prefix>, 
     ensures ports { IfOk result (λ set. HavePorts ports.now set.items) }
     ensures fewest { IfOk result (λ set. IsFewestPrefixes bits ports.now (length set.items)) }
 {
-    let runs = runs_of(alloc, ports)?;
-    let mut nodes = Nodes {
-        list: Vec::new(alloc),
-        names: Vec::new(alloc),
-    };
-    let mut room = Vec::new(alloc);
-    let root = push_trie(ports, runs.as_slice(), bits, 0, &mut nodes, &mut room)?;
-    let mut set = Vec::new(alloc);
-    cover(&nodes, root, bits, bits, 0, None, &mut set)?;
+    let mut set = trie_cover(alloc, bits, ports)?;
     sort_longest_first(&mut set)?;
     Ok(set)
+}
+
+// The prefixes of the trie of that width, each node before what lies below it.
+fn trie_cover(alloc: Global, bits: u8, ports: &[Option<u16>]) -> Result<Vec<Prefix>, AllocError>
+    requires { bits ≤ 16 }
+    ensures { IfOk result (λ set. (t : Trie) × Describes ports.now bits 0 t × (set.items ≡ cover_of bits t bits 0 None)) }
+{
+    let runs = runs_of(alloc, ports)?;
+    if are_low(ports) {
+        cover_by_marks(alloc, ports, runs.as_slice(), bits)
+    } else {
+        cover_by_names(alloc, ports, runs.as_slice(), bits)
+    }
 }
