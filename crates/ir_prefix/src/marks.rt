@@ -1,5 +1,5 @@
-//! The prefixes of labels whose ports are all below 63. The names of a node are the bits of a number, which are joined at
-//! once; for other ports they stand in lists.
+//! The prefixes of labels whose ports are all below 63. The names of a node are the bits of a number, which are joined
+//! at once; for other ports they stand in lists.
 
 ghost use Rattle.std.specs.Prelude.{◌≡◌, ◌≢◌, ◌↔◌, ◌==◌, ◌<◌, ◌≤◌, ◌+◌, ◌-◌, ◌*◌, ◌^◌, ◌++◌, List, [], ◌∷◌, Some, length, slice_index, take, IfOk, IfSome, IsTrue, OnOk};
 ghost use Rattle.std.specs.Int.{bit_at};
@@ -138,8 +138,8 @@ fn joined(left: u64, right: u64) -> u64
     if shared == 0 { left | right } else { shared }
 }
 
-// Adds the mark of the node of two halves, whose marks stand behind the first ones, given the names of the halves. Where no
-// port lies below either, its mark takes the place of theirs.
+// Adds the mark of the node of two halves, whose marks stand behind the first ones, given the names of the halves. Where
+// no port lies below either, its mark takes the place of theirs.
 fn push_parent(
     marks: &mut Vec<Mark>,
     before: usize,
