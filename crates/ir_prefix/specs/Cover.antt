@@ -1,8 +1,8 @@
 -- The prefixes that are told for a trie, each node before what lies below it.
-use Rattle.std.specs.Prelude.{◌==◌, ◌&&◌, ◌≤◌, count_by, ℕ, ◌+◌, ◌-◌, ◌*◌, ◌^◌, ◌<◌, List, [], ◌∷◌, ◌++◌, Bool, true, false, Option, Some, slice_index}
+use Rattle.std.specs.Prelude.{◌≡◌, ◌==◌, ◌&&◌, ◌≤◌, count_by, ℕ, ◌+◌, ◌-◌, ◌*◌, ◌^◌, ◌<◌, List, [], ◌∷◌, ◌++◌, Bool, true, false, Option, Some, None, slice_index}
 use Rattle.std.specs.List.Sorted.{IsNonDecreasing}
 use Rattle.ir_prefix.specs.Joined.{is_named}
-use Rattle.ir_prefix.specs.Described.{names_of, IsJoin, Trie, Free, Alike, Fork}
+use Rattle.ir_prefix.specs.Described.{names_of, Describes, IsJoin, Trie, Free, Alike, Fork}
 use Rattle.ir_prefix.specs.declared.cover.Prefix.{Prefix}
 
 -- the prefix of the node so high, the index-th of its height
@@ -30,6 +30,10 @@ cover_of bits Free h i above = []
 cover_of bits (Alike p) h i above = told bits h i (p ∷ []) above
 cover_of bits (Fork names l r) h i above =
     told bits h i names above ++ (cover_of bits l (h - 1) (2 * i) (taken names above) ++ cover_of bits r (h - 1) (2 * i + 1) (taken names above))
+
+-- the prefixes that are told for a trie of these ports
+abbrev pub IsCover : List (Option ℕ) → ℕ → List Prefix → Type 0
+IsCover ports bits set = (t : Trie) × Describes ports bits 0 t × (set ≡ cover_of bits t bits 0 None)
 
 -- each node is no higher than its height, and has the names that follow from its halves
 abbrev pub IsTrie : ℕ → Trie → Type 0

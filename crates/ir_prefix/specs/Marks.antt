@@ -41,6 +41,10 @@ AreMarks (Fork names l r) marks =
     ((m : ℕ) × (left : List Mark) × (right : List Mark) × (names ≡ ports_in m) × (marks ≡ (right ++ left) ++ Several m ∷ []) × AreMarks l left × AreMarks r right)
     ⊎ ((m : ℕ) × (p : ℕ) × (q : ℕ) × (names ≡ ports_in m) × (marks ≡ Pair m p q ∷ []) × (l ≡ Alike p) × (r ≡ Alike q))
 
+-- behind other marks stand those of a trie
+abbrev pub EndsIn : Trie → List Mark → List Mark → Type 0
+EndsIn t rest marks = (more : List Mark) × AreMarks t more × (marks ≡ rest ++ more)
+
 -- the marks of the node so high, the index-th of its height, are added, and its names are those bits
 pub record IsMarked (ports : List (Option ℕ)) (h i m : ℕ) (before after : List Mark) : Type 0 where
   pub trie : Trie

@@ -1,9 +1,9 @@
 //! The prefixes of a trie.
 
-ghost use Rattle.std.specs.Prelude.{◌≡◌, ◌<◌, ◌≤◌, ◌+◌, ◌*◌, ◌^◌, ◌++◌, None, length, IfOk, OnOk};
+ghost use Rattle.std.specs.Prelude.{◌≡◌, ◌<◌, ◌≤◌, ◌+◌, ◌*◌, ◌^◌, ◌++◌, length, IfOk, OnOk};
 ghost use Rattle.std.specs.List.Sorted.{IsNonDecreasing};
-ghost use Rattle.ir_prefix.specs.Cover.{IsTrie, cover_of, prefix_at, taken, told};
-ghost use Rattle.ir_prefix.specs.Described.{Describes, Trie};
+ghost use Rattle.ir_prefix.specs.Cover.{IsCover, IsTrie, cover_of, prefix_at, taken, told};
+ghost use Rattle.ir_prefix.specs.Described.{Trie};
 ghost use Rattle.ir_prefix.specs.Nodes.{StandsIn};
 ghost use Rattle.ir_prefix.specs.Runs.{AreRuns};
 
@@ -20,7 +20,7 @@ pub struct Prefix {
     pub port: u16,
 }
 
-/// The prefixes of the trie of that height.
+/// The prefixes of the trie of that height, each node before what lies below it.
 pub fn cover_by_names(
     alloc: Global,
     ports: &[Option<u16>],
@@ -29,7 +29,7 @@ pub fn cover_by_names(
 ) -> Result<Vec<Prefix>, AllocError>
     requires runs { AreRuns ports.now runs.now }
     requires bits { bits ≤ 16 }
-    ensures { IfOk result (λ set. (t : Trie) × Describes ports.now bits 0 t × (set.items ≡ cover_of bits t bits 0 None)) }
+    ensures { IfOk result (λ set. IsCover ports.now bits set.items) }
 {
     let mut nodes = Nodes {
         list: Vec::new(alloc),

@@ -1,10 +1,9 @@
 //! Ports by label compiled to the fewest prefixes whose longest match names them (Draves, King, Venkatachary and Zill 1999).
 #![tactic(auto)]
 
-ghost use Rattle.std.specs.Prelude.{◌≡◌, ◌↔◌, ◌≤◌, ◌^◌, ℕ, None, length, IfOk, OnOk};
+ghost use Rattle.std.specs.Prelude.{◌≡◌, ◌↔◌, ◌≤◌, ◌^◌, ℕ, length, IfOk, OnOk};
 ghost use Rattle.ir_model.specs.Compiled.{IsDestinations};
-ghost use Rattle.ir_prefix.specs.Cover.{cover_of};
-ghost use Rattle.ir_prefix.specs.Described.{Describes, Trie};
+ghost use Rattle.ir_prefix.specs.Cover.{IsCover};
 ghost use Rattle.ir_prefix.specs.Longest.{AreLeast, Forwards, HavePorts, IsFewestPrefixes, IsLongestFirst, IsWidth, LoadsInOrder};
 
 mod cover;
@@ -87,7 +86,7 @@ fn table(alloc: Global, bits: u8, ports: &[Option<u16>]) -> Result<Vec<Prefix>, 
 // The prefixes of the trie of that width, each node before what lies below it.
 fn trie_cover(alloc: Global, bits: u8, ports: &[Option<u16>]) -> Result<Vec<Prefix>, AllocError>
     requires { bits ≤ 16 }
-    ensures { IfOk result (λ set. (t : Trie) × Describes ports.now bits 0 t × (set.items ≡ cover_of bits t bits 0 None)) }
+    ensures { IfOk result (λ set. IsCover ports.now bits set.items) }
 {
     let runs = runs_of(alloc, ports)?;
     if are_low(ports) {

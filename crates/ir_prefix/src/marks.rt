@@ -1,13 +1,14 @@
-//! The trie of labels whose ports are all below 63: the names of a node are the bits of a number.
+//! The prefixes of labels whose ports are all below 63. The names of a node are the bits of a number, which are joined
+//! at once; for other ports they stand in lists.
 
-ghost use Rattle.std.specs.Prelude.{◌≡◌, ◌≢◌, ◌==◌, ◌<◌, ◌≤◌, ◌+◌, ◌-◌, ◌*◌, ◌^◌, ◌++◌, List, [], ◌∷◌, None, Some, length, slice_index, take, IfOk, IfSome, IsTrue, OnOk};
+ghost use Rattle.std.specs.Prelude.{◌≡◌, ◌≢◌, ◌↔◌, ◌==◌, ◌<◌, ◌≤◌, ◌+◌, ◌-◌, ◌*◌, ◌^◌, ◌++◌, List, [], ◌∷◌, Some, length, slice_index, take, IfOk, IfSome, IsTrue, OnOk};
 ghost use Rattle.std.specs.Int.{bit_at};
 ghost use Rattle.std.specs.Int.Bits.{bit_and};
 ghost use Rattle.ir_model.specs.Compiled.{port_to};
-ghost use Rattle.ir_prefix.specs.Cover.{IsTrie, cover_of, taken, told};
-ghost use Rattle.ir_prefix.specs.Described.{Describes, Trie};
+ghost use Rattle.ir_prefix.specs.Cover.{IsCover, IsTrie, cover_of, taken, told};
+ghost use Rattle.ir_prefix.specs.Described.{Trie};
 ghost use Rattle.ir_prefix.specs.Joined.{is_named};
-ghost use Rattle.ir_prefix.specs.Marks.{AreLow, AreMarks, IsMarked, joined_bits, ports_in};
+ghost use Rattle.ir_prefix.specs.Marks.{AreLow, EndsIn, IsMarked, joined_bits, ports_in};
 ghost use Rattle.ir_prefix.specs.Runs.{AreRuns};
 ghost use Rattle.ir_prefix.specs.declared.marks.Mark.TheVariants.{NoPort, OnePort, Pair, Several};
 
@@ -25,9 +26,9 @@ pub enum Mark {
     Pair(u64, u16, u16),
 }
 
-/// Whether each port is below 63.
+/// Whether each port is below 63, so that a number of 64 bits has a bit for it, and one for no port.
 pub fn are_low(ports: &[Option<u16>]) -> bool
-    ensures { IsTrue result → AreLow ports.now }
+    ensures { IsTrue result ↔ AreLow ports.now }
 {
     ports.iter().all(|port| match port {
         None => true,
@@ -35,7 +36,7 @@ pub fn are_low(ports: &[Option<u16>]) -> bool
     })
 }
 
-/// The prefixes of the trie of that height.
+/// The prefixes of the trie of that height, each node before what lies below it.
 pub fn cover_by_marks(
     alloc: Global,
     ports: &[Option<u16>],
@@ -45,7 +46,7 @@ pub fn cover_by_marks(
     requires runs { AreRuns ports.now runs.now }
     requires low { AreLow ports.now }
     requires bits { bits ≤ 16 }
-    ensures { IfOk result (λ set. (t : Trie) × Describes ports.now bits 0 t × (set.items ≡ cover_of bits t bits 0 None)) }
+    ensures { IfOk result (λ set. IsCover ports.now bits set.items) }
 {
     let mut marks = Vec::new(alloc);
     push_marks(ports, runs, bits, 0, &mut marks)?;
@@ -54,7 +55,8 @@ pub fn cover_by_marks(
     Ok(set)
 }
 
-// Adds the marks of the node so high, the index-th of its height, and answers its names.
+// Adds the marks of the node so high, the index-th of its height, such that its own stands last, before it those of its
+// left half, and before these those of its right half; and answers its names.
 fn push_marks(
     ports: &[Option<u16>],
     runs: &[Run],
@@ -104,7 +106,8 @@ fn push_one(marks: &mut Vec<Mark>, port: u16) -> Result<u64, AllocError>
 // The ports of the two numbers of such a block, if it has two and each has a port.
 fn pair_at(ports: &[Option<u16>], height: u8, index: u32) -> Option<(u16, u16)>
     requires { (index + 1) * 2 ^ height ≤ 2 ^ 16 }
-    ensures { IfSome result (λ pair. (height ≡ 1) × (port_to ports.now (2 * index) ≡ Some pair.0) × (port_to ports.now (2 * index + 1) ≡ Some pair.1)) }
+    ensures { IfSome result (λ pair. (height ≡ 1) × (port_to ports.now (2 * index) ≡ Some pair.0)
+        × (port_to ports.now (2 * index + 1) ≡ Some pair.1)) }
 {
     let first = 2 * index as usize;
     if height != 1 || first + 1 >= ports.len() {
@@ -119,7 +122,8 @@ fn pair_at(ports: &[Option<u16>], height: u8, index: u32) -> Option<(u16, u16)>
 // Adds the mark of a node of two numbers with a port each.
 fn push_pair(marks: &mut Vec<Mark>, left: u16, right: u16) -> Result<u64, AllocError>
     requires { (left < 63) × (right < 63) }
-    ensures { IfOk result (λ names. (names ≡ joined_bits (2 ^ left) (2 ^ right)) × (marks.new.items ≡ marks.old.items ++ Pair names left right ∷ [])) }
+    ensures { IfOk result (λ names. (names ≡ joined_bits (2 ^ left) (2 ^ right))
+        × (marks.new.items ≡ marks.old.items ++ Pair names left right ∷ [])) }
 {
     let names = joined(1u64 << left, 1u64 << right);
     marks.push(Mark::Pair(names, left, right))?;
@@ -134,14 +138,16 @@ fn joined(left: u64, right: u64) -> u64
     if shared == 0 { left | right } else { shared }
 }
 
-// Adds the mark of the node of two halves, whose marks stand behind the first ones, given the names of the halves.
+// Adds the mark of the node of two halves, whose marks stand behind the first ones, given the names of the halves. Where
+// no port lies below either, its mark takes the place of theirs.
 fn push_parent(
     marks: &mut Vec<Mark>,
     before: usize,
     left: u64,
     right: u64,
 ) -> Result<u64, AllocError>
-    ensures free { bit_at (bit_and left right) 63 ≡ 1 → OnOk result (marks.new.items ≡ take before marks.old.items ++ NoPort ∷ []) }
+    ensures free { bit_at (bit_and left right) 63 ≡ 1
+        → OnOk result (marks.new.items ≡ take before marks.old.items ++ NoPort ∷ []) }
     ensures shared { bit_at (bit_and left right) 63 ≡ 1 → IfOk result (λ names. names ≡ bit_and left right) }
     ensures several { bit_at (bit_and left right) 63 ≢ 1
         → OnOk result (marks.new.items ≡ marks.old.items ++ Several (joined_bits left right) ∷ []) }
@@ -176,12 +182,12 @@ fn take_marks(
     above: Option<u16>,
     prefixes: &mut Vec<Prefix>,
 ) -> Result<(), AllocError>
-    requires trie { (t : Trie) × (rest more : List Mark) × IsTrie height t × AreMarks t more × (marks.old.items ≡ rest ++ more) }
+    requires trie { (t : Trie) × (rest : List Mark) × IsTrie height t × EndsIn t rest marks.old.items }
     requires height { height ≤ bits }
     requires inside { (index + 1) * 2 ^ height ≤ 2 ^ 16 }
-    ensures rest { OnOk result ((t : Trie) (rest more : List Mark) → IsTrie height t → AreMarks t more → marks.old.items ≡ rest ++ more
+    ensures rest { OnOk result ((t : Trie) (rest : List Mark) → IsTrie height t → EndsIn t rest marks.old.items
         → marks.new.items ≡ rest) }
-    ensures prefixes { OnOk result ((t : Trie) (rest more : List Mark) → IsTrie height t → AreMarks t more → marks.old.items ≡ rest ++ more
+    ensures prefixes { OnOk result ((t : Trie) (rest : List Mark) → IsTrie height t → EndsIn t rest marks.old.items
         → prefixes.new.items ≡ prefixes.old.items ++ cover_of bits t height index above) }
 {
     match marks.pop().unwrap() {
@@ -224,8 +230,8 @@ fn tell_port(
     Ok(())
 }
 
-// Adds the prefix of a node with several ports unless what is above it names one of its names, and answers what is above
-// its halves.
+// Adds the prefix of a node with several ports unless what is above it names one of its names, and answers what is
+// above its halves.
 fn tell_bits(
     names: u64,
     bits: u8,
@@ -238,7 +244,8 @@ fn tell_bits(
     requires height { height ≤ bits }
     requires inside { (index + 1) * 2 ^ height ≤ 2 ^ 16 }
     ensures below { IfOk result (λ below. below ≡ taken (ports_in names) above) }
-    ensures told { OnOk result (prefixes.new.items ≡ prefixes.old.items ++ told bits height index (ports_in names) above) }
+    ensures told { OnOk result (prefixes.new.items
+        ≡ prefixes.old.items ++ told bits height index (ports_in names) above) }
 {
     if has_port(names, above) {
         return Ok(above);

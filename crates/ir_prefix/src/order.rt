@@ -15,8 +15,8 @@ pub fn sort_longest_first(set: &mut Vec<Prefix>) -> Result<(), AllocError>
     ensures permutation { IsPermutation set.old.items set.new.items }
     ensures order { OnOk result (IsLongestFirst set.new.items) }
 {
-    // Prefixes of one length come here in the order of their values, mostly: by their few lengths they sort fast, and what
-    // is in order already costs one pass.
+    // Where those of one length come in the order of their values, all are in order once they are sorted by their few
+    // lengths, and the second sort is one pass.
     set.sort_by_key(|m| Reverse(m.length))?;
     set.sort_by_key(|m| (Reverse(m.length), m.value))?;
     Ok(())

@@ -8,7 +8,7 @@ pub push_marks-requires-clause-inside : goal.push_marks-requires-clause-inside
 push_marks-requires-clause-inside c = let two : 0 < 2 = omega arith in let p : 2 ^ c.args.bits ≤ 2 ^ 16 = pow-le-pow_right two c.requires.bits in omega arith
 
 pub take_marks-requires-clause-trie : goal.take_marks-requires-clause-trie
-take_marks-requires-clause-trie c = let w = c.in_ok-push_marks.ensures in (w.trie, _, w.marks, described_is_trie c.args.ports.now _ 0 w.trie w.describes, w.are, w.added)
+take_marks-requires-clause-trie c = let w = c.in_ok-push_marks.ensures in (w.trie, _, described_is_trie c.args.ports.now _ 0 w.trie w.describes, (w.marks, w.are, w.added))
 
 pub take_marks-requires-clause-inside : goal.take_marks-requires-clause-inside
 take_marks-requires-clause-inside c = let two : 0 < 2 = omega arith in let p : 2 ^ c.args.bits ≤ 2 ^ 16 = pow-le-pow_right two c.requires.bits in omega arith
@@ -16,5 +16,5 @@ take_marks-requires-clause-inside c = let two : 0 < 2 = omega arith in let p : 2
 pub returns : goal.returns
 returns c =
     let w = c.in_ok-push_marks.ensures in
-    let whole = c.in_ok-take_marks.ensures.prefixes w.trie _ w.marks (described_is_trie c.args.ports.now _ 0 w.trie w.describes) w.are w.added in
+    let whole = c.in_ok-take_marks.ensures.prefixes w.trie _ (described_is_trie c.args.ports.now _ 0 w.trie w.describes) (w.marks, w.are, w.added) in
     (w.trie, w.describes, grind (arith, common_steps, whole, c.new-set.ensures.items))
