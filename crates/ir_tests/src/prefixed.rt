@@ -12,7 +12,7 @@ struct Case {
 }
 
 // Expected values from a plain search over all sets of prefixes.
-const ROWS: [Case; 4] = [
+const ROWS: [Case; 5] = [
     Case {
         name: "one label",
         own: 0,
@@ -30,6 +30,12 @@ const ROWS: [Case; 4] = [
         own: 0,
         ports: &[None, Some(1), Some(1), Some(2)],
         told: &[(3, 2, 2), (0, 0, 1)],
+    },
+    Case {
+        name: "one label of four by another port, of ports from 63 on",
+        own: 0,
+        ports: &[None, Some(63), Some(63), Some(64)],
+        told: &[(3, 2, 64), (0, 0, 63)],
     },
     Case {
         name: "three numbers beyond the labels",
