@@ -11,18 +11,19 @@ _bentzolu_options() {
         plan | stats) echo '--format --kind --root --capacity --packets --explain --no-explain --threads --numbering --help' ;;
         walk | draw) echo '--format --kind --root --capacity --packets --explain --no-explain --threads --numbering --from --to --help' ;;
         prefixes) echo '--format --kind --root --capacity --packets --explain --no-explain --threads --numbering --disjoint --help' ;;
-        check) echo '--format --kind --root --capacity --packets --explain --no-explain --help' ;;
-        sim | live) echo '--format --kind --root --capacity --packets --explain --no-explain --restamps --help' ;;
+        check) echo '--format --kind --root --capacity --packets --explain --no-explain --numbering --help' ;;
+        sim | live) echo '--format --kind --root --capacity --packets --explain --no-explain --numbering --restamps --help' ;;
         '') echo '--help --version' ;;
     esac
 }
 
-# The values of an option, where they are few.
+# The values of an option of a subcommand, where they are few. A numbering may be a file too, but for runs.
 _bentzolu_values() {
-    case $1 in
-        --format) echo 'adjlist edgelist' ;;
-        --kind) echo 'tree shortest compact' ;;
-        --restamps) echo '0 1 2 3' ;;
+    case $1,${2-} in
+        --format,*) echo 'adjlist edgelist' ;;
+        --kind,*) echo 'tree shortest compact' ;;
+        --numbering,sim | --numbering,live | --numbering,check) echo 'depth-first tour' ;;
+        --restamps,*) echo '0 1 2 3' ;;
     esac
 }
 
@@ -34,6 +35,12 @@ _bentzolu() {
     COMPREPLY=()
     case $before in
         --format | --kind | --restamps) COMPREPLY=($(compgen -W "$(_bentzolu_values "$before")" -- "$word")) ;;
+        --numbering)
+            COMPREPLY=($(compgen -W 'depth-first tour' -- "$word"))
+            if [ -z "$(_bentzolu_values "$before" "$subcommand")" ]; then
+                compopt -o filenames 2> /dev/null
+                COMPREPLY+=($(compgen -f -- "$word"))
+            fi ;;
         --root | --capacity | --packets | --threads | --from | --to) ;;
         *)
             if [ -z "$subcommand" ] && [[ $word != -* ]] || [ "$subcommand" = help ]; then

@@ -45,7 +45,7 @@ class OutputsTest(unittest.TestCase):
                     self.assertEqual(bentzolu.write_trace(packets, version=version), text)
                 elif sub == "check" and text:
                     self.assertEqual(bool(read_verdict(text)), case["status"] == 0)
-                elif case["status"] == 1:
+                elif case["status"] == 1 and not case["stderr"].startswith("numbering"):
                     about, line, kind = fault_of(1, case["stderr"])
                     self.assertNotEqual(kind, "unknown")
                     self.assertEqual(line is None, about not in ("topology", "script", "trace"))

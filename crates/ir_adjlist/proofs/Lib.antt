@@ -10,3 +10,4 @@ pub mod Fitting
 pub mod Sound
 pub mod AdjlistRead
 pub mod EdgelistRead
+pub mod NoNames

@@ -1,5 +1,7 @@
-pub mod Steps
+-- what contracts promise
 pub mod Told
 pub mod Written
-pub mod Writing
 pub mod RoundTrip
+-- what bodies use
+pub mod Steps
+pub mod Writing

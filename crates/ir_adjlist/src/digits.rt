@@ -9,7 +9,7 @@ fn is_digit(byte: u8) -> bool
     byte >= b'0' && byte <= b'9'
 }
 
-/// Whether each byte is a decimal digit.
+/// Whether each byte is a decimal digit. Takes O(b), for b bytes.
 pub fn all_digits(bytes: &[u8]) -> bool
     ensures { result ≡ list_all is_digit bytes.now }
 {
@@ -17,7 +17,7 @@ pub fn all_digits(bytes: &[u8]) -> bool
 }
 
 /// The value of the digits, or one more than the greatest that is wanted where it is above that. Condition: the greatest
-/// is at most 65,535.
+/// is at most 65,535. Takes O(b), for b digits.
 pub fn capped_value(digits: &[u8], most: u32) -> u32
     requires { most ≤ 65535 }
     ensures { result ≡ min (most + 1) (value_of digits.now) }

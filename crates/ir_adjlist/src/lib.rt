@@ -36,7 +36,7 @@ pub struct TextError {
 impl TextError {
     ghost use Rattle.ir_adjlist.specs.Told.{code_of};
 
-    /// The number of the kind, from 1 for `BadByte` to 7 for `NoMemory`.
+    /// The number of the kind, from 1 for `BadByte` to 7 for `NoMemory`. For users of the library.
     pub fn code(self) -> u8
         ensures { result ≡ code_of self.kind }
     {
@@ -70,9 +70,10 @@ fn error_at(line: usize, kind: Fault) -> TextError
 /// The graph that an adjacency list names. The first word of a line is a source, and the further words are its targets;
 /// each is linked to it with weight 1, and a target that is the source is a self-loop. Nodes and neighbours stand by
 /// first appearance. The faults of a line, in order: `BadByte`; `BadName` of any word; then `TooManyNodes` and
-/// `TooManyEdges`, whichever comes first as the words are added.
+/// `TooManyEdges`, whichever comes first as the words are added. Takes O(b) on average, for a text of b bytes.
 pub fn parse_adjlist(alloc: Global, text: &[u8]) -> Result<Graph, TextError>
-    ensures parsed { IfOk result (λ g. (first_fault [] (lines text.now) ≡ None) × (g ≡ graph_of (names_in (lines text.now)) (pairs_in (lines text.now)))) }
+    ensures parsed { IfOk result (λ g. (first_fault [] (lines text.now) ≡ None)
+        × (g ≡ graph_of (names_in (lines text.now)) (pairs_in (lines text.now)))) }
     ensures fault { IfErr result (λ e. Tells e (first_fault [] (lines text.now))) }
 {
     let mut graph = Graph::new(alloc);
@@ -92,9 +93,11 @@ pub fn parse_adjlist(alloc: Global, text: &[u8]) -> Result<Graph, TextError>
 /// The graph that a weighted edge list names. A line has two ends and a weight: decimal digits of value 1 to 65,535,
 /// behind which a point and zeros may stand. A line of fewer than two words is skipped. Nodes and neighbours stand by
 /// first appearance, and an edge has its last weight. The faults of a line, in order: `BadByte`; `BadName` of an end;
-/// `BadRow` where the words are not three; `BadWeight`; `TooManyNodes`; `TooManyEdges`.
+/// `BadRow` where the words are not three; `BadWeight`; `TooManyNodes`; `TooManyEdges`. Takes O(b) on average, for a
+/// text of b bytes.
 pub fn parse_weighted_edgelist(alloc: Global, text: &[u8]) -> Result<Graph, TextError>
-    ensures parsed { IfOk result (λ g. (first_edge_fault (lines text.now) ≡ None) × (g ≡ graph_of_edges (edges_in (lines text.now)))) }
+    ensures parsed { IfOk result (λ g. (first_edge_fault (lines text.now) ≡ None)
+        × (g ≡ graph_of_edges (edges_in (lines text.now)))) }
     ensures fault { IfErr result (λ e. Tells e (first_edge_fault (lines text.now))) }
 {
     let mut graph = Graph::new(alloc);
@@ -113,7 +116,8 @@ pub fn parse_weighted_edgelist(alloc: Global, text: &[u8]) -> Result<Graph, Text
 
 /// The adjacency list of a graph: a line for each node in order, with the node and then its neighbours, in order, that
 /// have no line before it. So each edge stands once, and no weight. It is read again as the same nodes and the same
-/// edges, each of weight 1; the orders are then those of the text. Refused for want of memory alone.
+/// edges, each of weight 1; the orders are then those of the text. Refused for want of memory alone. Takes O(n + m) on
+/// average, for n nodes and m edges. For users of the library.
 pub fn generate_adjlist(alloc: Global, graph: &Graph) -> Result<Vec<u8>, AllocError>
     ensures text { IfOk result (λ text. text.items ≡ adjlist_text graph.now) }
     ensures read { IfOk result (λ text. IsReadAsAdjlist graph.now text.items) }
@@ -127,7 +131,8 @@ pub fn generate_adjlist(alloc: Global, graph: &Graph) -> Result<Vec<u8>, AllocEr
 
 /// The weighted edge list of a graph: a line for each edge in order, with its ends and its weight in decimal. It is read
 /// again as the same edges and weights, and as the same nodes where no node is without an edge; the orders are then
-/// those of the text. Refused for want of memory alone.
+/// those of the text. Refused for want of memory alone. Takes O(n + m) on average, for n nodes and m edges.
+/// For users of the library.
 pub fn generate_weighted_edgelist(alloc: Global, graph: &Graph) -> Result<Vec<u8>, AllocError>
     ensures text { IfOk result (λ text. text.items ≡ edgelist_text graph.now) }
     ensures read { IfOk result (λ text. IsReadAsEdgelist graph.now text.items) }

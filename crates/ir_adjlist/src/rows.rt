@@ -36,8 +36,10 @@ pub fn name_of(word: &[u8]) -> &str
 fn add_target(graph: &mut Graph, source: &str, target: &str) -> Result<(), Fault>
     requires source { is_name source.now ≡ true }
     requires target { is_name target.now ≡ true }
-    ensures ok { OnOk result ((ts : List Name) → targets_run graph.old source.now (target.now ∷ ts) ≡ targets_run graph.new source.now ts) }
-    ensures fault { IfErr result (λ e. (ts : List Name) → Fails e (targets_run graph.old source.now (target.now ∷ ts))) }
+    ensures ok { OnOk result ((ts : List Name)
+        → targets_run graph.old source.now (target.now ∷ ts) ≡ targets_run graph.new source.now ts) }
+    ensures fault { IfErr result (λ e. (ts : List Name)
+        → Fails e (targets_run graph.old source.now (target.now ∷ ts))) }
 {
     match graph.add_edge(source, target, 1) {
         Ok(_) => Ok(()),
@@ -48,7 +50,8 @@ fn add_target(graph: &mut Graph, source: &str, target: &str) -> Result<(), Fault
 /// Adds a source.
 fn add_source(graph: &mut Graph, source: &str) -> Result<(), Fault>
     requires source { is_name source.now ≡ true }
-    ensures ok { OnOk result ((ts : List Name) → row_run graph.old (source.now ∷ ts) ≡ targets_run graph.new source.now ts) }
+    ensures ok { OnOk result ((ts : List Name)
+        → row_run graph.old (source.now ∷ ts) ≡ targets_run graph.new source.now ts) }
     ensures fault { IfErr result (λ e. (ts : List Name) → Fails e (row_run graph.old (source.now ∷ ts))) }
 {
     match graph.add_node(source) {

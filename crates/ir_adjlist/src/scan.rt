@@ -20,13 +20,14 @@ fn is_plain_byte(byte: u8) -> bool
     is_blank_byte(byte) || (byte >= b'!' && byte <= b'~')
 }
 
+/// Whether each byte may stand outside a comment. Takes O(b), for b bytes.
 pub fn all_plain(bytes: &[u8]) -> bool
     ensures { result ≡ list_all is_plain bytes.now }
 {
     bytes.iter().all(|byte| is_plain_byte(*byte))
 }
 
-/// The place of the first byte of this value, if there is one.
+/// The place of the first byte of this value, if there is one. Takes O(b), for b bytes up to it.
 pub fn find_byte(bytes: &[u8], wanted: u8) -> Option<usize>
     ensures { result ≡ position (λ b. b == wanted) bytes.now }
 {
@@ -47,7 +48,7 @@ fn find_word(bytes: &[u8]) -> Option<usize>
     bytes.iter().position(|byte| !is_blank_byte(*byte))
 }
 
-/// How many bytes stand before the first such byte.
+/// How many bytes stand before the first such byte. Takes O(b), for b of them.
 pub fn before(bytes: &[u8], end: u8) -> usize
     ensures len { result ≡ prefix_len (λ b. not (b == end)) bytes.now }
     ensures within { result ≤ length bytes.now }
@@ -71,7 +72,7 @@ fn word_len(bytes: &[u8]) -> usize
     find_blank(bytes).unwrap_or(bytes.len())
 }
 
-/// The line at the front, and what follows it.
+/// The line at the front, and what follows it. Takes O(b), for a line of b bytes.
 pub fn next_line(text: &[u8]) -> (&[u8], &[u8])
     requires { 0 < length text.now }
     ensures lines { lines text.now ≡ result.0.now ∷ lines result.1.now }
@@ -84,16 +85,17 @@ pub fn next_line(text: &[u8]) -> (&[u8], &[u8])
     (&text[..end], &text[end + 1..])
 }
 
-/// What stands before the first `#`.
+/// What stands before the first `#`. Takes O(b), for b bytes of it.
 pub fn without_comment(line: &[u8]) -> &[u8]
     ensures { result.now ≡ content line.now }
 {
     &line[..before(line, b'#')]
 }
 
-/// The first word, and what follows it.
+/// The first word, and what follows it. Takes O(b), for b bytes up to its end.
 pub fn next_word(bytes: &[u8]) -> Option<(&[u8], &[u8])>
-    ensures { MatchOption result (words_of bytes.now ≡ []) (λ p. (words_of bytes.now ≡ p.0.now ∷ words_of p.1.now) × (length p.1.now < length bytes.now)) }
+    ensures { MatchOption result (words_of bytes.now ≡ [])
+        (λ p. (words_of bytes.now ≡ p.0.now ∷ words_of p.1.now) × (length p.1.now < length bytes.now)) }
 {
     let rest = &bytes[blanks(bytes)..];
     if rest.is_empty() {
@@ -103,7 +105,7 @@ pub fn next_word(bytes: &[u8]) -> Option<(&[u8], &[u8])>
     Some((&rest[..end], &rest[end..]))
 }
 
-/// Whether each word may be a name by its length.
+/// Whether each word may be a name by its length. Takes O(b), for b bytes.
 pub fn all_short(bytes: &[u8]) -> bool
     ensures { result ≡ list_all (λ w. nat_le (length w) MAX_NAME_BYTES) (words_of bytes.now) }
 {

@@ -58,7 +58,9 @@ fn put_target_at(
     source: &str,
     place: usize,
 ) -> Result<(), AllocError>
-    ensures { OnOk result (text.new.items ≡ text.old.items ++ spaced (unwritten graph.now count (option_to_list (slice_get (keys_of (neighbors graph.now source.now)) place)))) }
+    ensures { OnOk result (text.new.items ≡ text.old.items
+        ++ spaced (unwritten graph.now count
+        (option_to_list (slice_get (keys_of (neighbors graph.now source.now)) place)))) }
 {
     match graph.neighbor(source, place) {
         Some(target) => put_target(text, graph, count, target),
@@ -73,7 +75,8 @@ fn put_targets(
     count: usize,
     source: &str,
 ) -> Result<(), AllocError>
-    ensures { OnOk result (text.new.items ≡ text.old.items ++ spaced (unwritten graph.now count (keys_of (neighbors graph.now source.now)))) }
+    ensures { OnOk result (text.new.items ≡ text.old.items
+        ++ spaced (unwritten graph.now count (keys_of (neighbors graph.now source.now)))) }
 {
     for place in 0..most_neighbors(graph, source) {
         put_target_at(text, graph, count, source, place)?;
@@ -93,7 +96,8 @@ fn put_row(text: &mut Vec<u8>, graph: &Graph, count: usize, source: &str) -> Res
 
 /// Puts the line of the node at a place behind the text.
 pub fn put_row_at(text: &mut Vec<u8>, graph: &Graph, place: usize) -> Result<(), AllocError>
-    ensures { OnOk result (text.new.items ≡ text.old.items ++ flat_map (node_row graph.now place) (option_to_list (slice_get (names graph.now) place))) }
+    ensures { OnOk result (text.new.items ≡ text.old.items
+        ++ flat_map (node_row graph.now place) (option_to_list (slice_get (names graph.now) place))) }
 {
     match graph.node(place) {
         Some(source) => put_row(text, graph, place, source),
@@ -128,7 +132,10 @@ fn put_edge_to(
     source: &str,
     target: &str,
 ) -> Result<(), AllocError>
-    ensures { OnOk result (text.new.items ≡ text.old.items ++ node_edges graph.now count source.now (option_to_list (option_map {U = Name × ℕ} (λ w. (target.now, w)) (weight_of graph.now source.now target.now)))) }
+    ensures { OnOk result (text.new.items ≡ text.old.items
+        ++ node_edges graph.now count source.now
+        (option_to_list (option_map {U = Name × ℕ} (λ w. (target.now, w))
+        (weight_of graph.now source.now target.now)))) }
 {
     if is_written(graph, count, target) {
         return Ok(());
@@ -149,7 +156,8 @@ fn put_edge_at(
     place: usize,
 ) -> Result<(), AllocError>
     requires { IsDistinct bytes_eq (keys_of (neighbors graph.now source.now)) }
-    ensures { OnOk result (text.new.items ≡ text.old.items ++ node_edges graph.now count source.now (option_to_list (slice_get (neighbors graph.now source.now) place))) }
+    ensures { OnOk result (text.new.items ≡ text.old.items
+        ++ node_edges graph.now count source.now (option_to_list (slice_get (neighbors graph.now source.now) place))) }
 {
     match graph.neighbor(source, place) {
         Some(target) => put_edge_to(alloc, text, graph, count, source, target),
@@ -166,7 +174,8 @@ fn put_edges(
     source: &str,
 ) -> Result<(), AllocError>
     requires { IsDistinct bytes_eq (keys_of (neighbors graph.now source.now)) }
-    ensures { OnOk result (text.new.items ≡ text.old.items ++ node_edges graph.now count source.now (neighbors graph.now source.now)) }
+    ensures { OnOk result (text.new.items ≡ text.old.items
+        ++ node_edges graph.now count source.now (neighbors graph.now source.now)) }
 {
     for place in 0..most_neighbors(graph, source) {
         put_edge_at(alloc, text, graph, count, source, place)?;
@@ -182,7 +191,9 @@ pub fn put_edges_at(
     place: usize,
 ) -> Result<(), AllocError>
     requires { (x : Name) → IsDistinct bytes_eq (keys_of (neighbors graph.now x)) }
-    ensures { OnOk result (text.new.items ≡ text.old.items ++ flat_map (λ x. node_edges graph.now place x (neighbors graph.now x)) (option_to_list (slice_get (names graph.now) place))) }
+    ensures { OnOk result (text.new.items ≡ text.old.items
+        ++ flat_map (λ x. node_edges graph.now place x (neighbors graph.now x))
+        (option_to_list (slice_get (names graph.now) place))) }
 {
     match graph.node(place) {
         Some(source) => put_edges(alloc, text, graph, place, source),

@@ -4,7 +4,6 @@ ghost use Rattle.std.specs.Prelude.{◌≡◌, IfOk};
 use ir_links::{Bound, Channel, Sender, Taker, settle, settle_into};
 use std::alloc::{AllocError, Global};
 use std::sync::Wait;
-use std::test::*;
 use std::thread;
 use std::thread::Threads;
 
@@ -55,29 +54,45 @@ fn id_of(item: Option<Letter>) -> Option<u32> {
     Some(item?.id())
 }
 
-#[test]
-fn two_fit_and_the_third_comes_back(rt: HostRuntime) -> Result<(), Fail> {
-    let alloc = rt.alloc();
-    let channel: Channel<Letter> = Channel::new(alloc, 2, Way { to: 7 })?;
-    let Some((mut sender, mut taker)) = channel.ends()? else {
-        panic!(rt; "the ends were not given")
-    };
-    assert!(rt; sender.place().to == 7 && channel.ends()?.is_none());
-    let first = post(&rt, &mut sender, written(alloc, 0, 0)?);
-    let second = post(&rt, &mut sender, written(alloc, 1, 0)?);
-    let third = post(&rt, &mut sender, written(alloc, 2, 0)?);
-    assert!(rt; first.is_none() && second.is_none());
-    assert_eq!(rt; id_of(third), Some(2));
-    assert_eq!(rt; id_of(taker.take(&rt)), Some(0));
-    let Ok(left) = settle(&rt, alloc, sender, taker) else {
-        panic!(rt; "no memory")
-    };
-    assert_eq!(rt; left.len(), 1);
-    for letter in &left {
-        assert!(rt; letter.id() == 1 && letter.hops.len() == 1);
+// The id of the letter that comes back, where one of this id is sent.
+fn sent<R: Wait>(rt: &R, alloc: Global, sender: &mut Sender<Letter>, id: u32) -> Option<u32>
+    ensures { sender.new.line ≡ sender.old.line }
+{
+    match written(alloc, id, 0) {
+        Ok(letter) => id_of(post(rt, sender, letter)),
+        Err(_) => Some(u32::MAX),
     }
-    assert!(rt; channel.ends()?.is_none());
-    Ok(())
+}
+
+// Whether the second letter is left alone.
+fn is_second(left: &[Letter]) -> bool {
+    match left {
+        [letter] => letter.id() == 1 && letter.hops.len() == 1,
+        _ => false,
+    }
+}
+
+// Whether of three letters over two slots two fit and the third comes back, and the second is left when one was taken.
+fn two_fit<R: Wait>(rt: &R, alloc: Global) -> Option<bool> {
+    let channel: Channel<Letter> = Channel::new(alloc, 2, Way { to: 7 }).ok()?;
+    let Ok(Some((mut sender, mut taker))) = channel.ends() else {
+        return None;
+    };
+    let once = sender.place().to == 7 && matches!(channel.ends(), Ok(None));
+    let first = sent(rt, alloc, &mut sender, 0);
+    let second = sent(rt, alloc, &mut sender, 1);
+    let third = sent(rt, alloc, &mut sender, 2);
+    let taken = id_of(taker.take(rt));
+    let Ok(left) = settle(rt, alloc, sender, taker) else {
+        return None;
+    };
+    let fit = (first, second, third, taken) == (None, None, Some(2), Some(0));
+    Some(once && fit && is_second(left.as_slice()) && matches!(channel.ends(), Ok(None)))
+}
+
+#[test]
+fn two_fit_and_the_third_comes_back(rt: HostRuntime) {
+    assert!(rt; two_fit(&rt, rt.alloc()) == Some(true));
 }
 
 fn send_ids<R: Wait>(
@@ -146,7 +161,6 @@ fn through<R: Threads + Wait + Sync>(
 }
 
 #[test]
-fn ten_thousand_in_order_between_two_threads(rt: HostRuntime) -> Result<(), Fail> {
-    assert_eq!(rt; through(&rt, rt.alloc(), 10_000)?, Some(true));
-    Ok(())
+fn ten_thousand_in_order_between_two_threads(rt: HostRuntime) {
+    assert!(rt; through(&rt, rt.alloc(), 10_000) == Ok(Some(true)));
 }

@@ -4,154 +4,187 @@ use crate::plans::{agree, chain};
 use ir_graph::Graph;
 use ir_model::Kind;
 use ir_numbering::check_order;
-use ir_plan::{Plan, PlanError};
+use ir_plan::{Plan, PlanError, tour_plan};
 use ir_tables::Topology;
-use ir_tour::tour_plan;
 use std::alloc::Global;
 use std::test::Fail;
 use std::thread::Threads;
 
-// The depth-first plan of a chain from its fifth node, and its plan by a tour.
-fn both(
-    rt: &(impl Threads + Sync),
-    alloc: Global,
-    nodes: u16,
+/// A network: a chain of so many nodes, or a path of five.
+#[derive(Clone, Copy)]
+enum Over {
+    Chain(u16),
+    Path,
+}
+
+/// A plan by depth-first numbers, and the one by a tour: their starts, where these were counted, and whether they are the
+/// same.
+struct Case {
+    over: Over,
+    root: u16,
     kind: Kind,
     most: Option<usize>,
-) -> Result<(Plan, Plan), Fail> {
-    let (Some(first), Some(second)) = (chain(alloc, nodes), chain(alloc, nodes)) else {
-        return Err("no topology".into());
-    };
-    let Ok(plan) = Plan::build(alloc, first, kind, 5) else {
-        return Err("no plan".into());
-    };
-    let Ok(tour) = tour_plan(rt, alloc, second, kind, 5, most) else {
-        return Err("no plan by a tour".into());
-    };
-    Ok((plan, tour))
+    starts: Option<(usize, usize)>,
+    is_same: bool,
 }
 
-/// How many starts these plans have was counted by a plain program in another language.
-#[test]
-fn tour_has_fewer_starts(rt: HostRuntime) -> Result<(), Fail> {
-    for (nodes, most, before, after) in [
-        (10, None, 48, 38),
-        (20, Some(1), 118, 82),
-        (60, Some(2), 354, 238),
-    ] {
-        let (plan, tour) = both(&rt, rt.alloc(), nodes, Kind::Shortest, most)?;
-        assert_eq!(rt; plan.labels(), before);
-        assert_eq!(rt; tour.labels(), after);
-        assert_eq!(rt; tour.root(), 5);
-        assert_eq!(rt; tour.nodes(), plan.nodes());
-        assert!(rt; tour.kind() == Kind::Shortest);
-    }
-    Ok(())
-}
+/// How many starts the plans of chains have was counted by a plain program in another language. A tree has depth-first
+/// numbers alone. A path has as many starts by a tour as by depth-first numbers from its end, two for each link.
+const CASES: [Case; 6] = [
+    Case {
+        over: Over::Chain(10),
+        root: 5,
+        kind: Kind::Shortest,
+        most: None,
+        starts: Some((48, 38)),
+        is_same: false,
+    },
+    Case {
+        over: Over::Chain(20),
+        root: 5,
+        kind: Kind::Shortest,
+        most: Some(1),
+        starts: Some((118, 82)),
+        is_same: false,
+    },
+    Case {
+        over: Over::Chain(60),
+        root: 5,
+        kind: Kind::Shortest,
+        most: Some(2),
+        starts: Some((354, 238)),
+        is_same: false,
+    },
+    Case {
+        over: Over::Chain(20),
+        root: 5,
+        kind: Kind::Tree,
+        most: None,
+        starts: None,
+        is_same: true,
+    },
+    Case {
+        over: Over::Path,
+        root: 0,
+        kind: Kind::Shortest,
+        most: None,
+        starts: Some((8, 8)),
+        is_same: true,
+    },
+    Case {
+        over: Over::Path,
+        root: 0,
+        kind: Kind::Compact,
+        most: None,
+        starts: Some((8, 8)),
+        is_same: true,
+    },
+];
 
-#[test]
-fn tree_has_its_depth_first_numbers(rt: HostRuntime) -> Result<(), Fail> {
-    let (plan, tour) = both(&rt, rt.alloc(), 20, Kind::Tree, None)?;
-    if plan.nodes() != tour.nodes() {
-        return Err("other nodes".into());
-    }
-    assert!(rt; agree(&plan, &tour));
-    Ok(())
-}
+/// Five nodes in a row.
+const ROW: [(&'static str, &'static str); 4] = [("a", "b"), ("b", "c"), ("c", "d"), ("d", "e")];
 
-/// A path has as many starts by a tour as by depth-first numbers from its end, two for each link.
-#[test]
-fn ties_go_to_depth_first(rt: HostRuntime) -> Result<(), Fail> {
-    for kind in [Kind::Shortest, Kind::Compact] {
-        let (Some(first), Some(second)) = (path(rt.alloc()), path(rt.alloc())) else {
-            return Err("no topology".into());
-        };
-        let Ok(plan) = Plan::build(rt.alloc(), first, kind, 0) else {
-            return Err("no plan".into());
-        };
-        let Ok(tour) = tour_plan(&rt, rt.alloc(), second, kind, 0, None) else {
-            return Err("no plan by a tour".into());
-        };
-        if plan.nodes() != tour.nodes() {
-            return Err("other nodes".into());
-        }
-        assert_eq!(rt; tour.labels(), 8);
-        assert!(rt; agree(&plan, &tour));
-    }
-    Ok(())
-}
-
-// Five nodes in a row.
+// The network of that row.
 fn path(alloc: Global) -> Option<Topology> {
     let mut graph = Graph::new(alloc);
-    for (from, to) in [("a", "b"), ("b", "c"), ("c", "d"), ("d", "e")] {
-        let Ok(_) = graph.add_edge(from, to, 1) else {
-            return None;
-        };
+    for (from, to) in &ROW {
+        graph.add_edge(from, to, 1).ok()?;
     }
     Topology::of(alloc, &graph).ok()
 }
 
+fn network(alloc: Global, over: Over) -> Option<Topology> {
+    match over {
+        Over::Chain(nodes) => chain(alloc, nodes),
+        Over::Path => path(alloc),
+    }
+}
+
+// Whether these two plans are those of a case.
+fn are_those(plan: &Plan, tour: &Plan, case: &Case) -> bool {
+    let starts = (plan.labels(), tour.labels());
+    case.starts.unwrap_or(starts) == starts
+        && plan.nodes() == tour.nodes()
+        && (tour.root(), tour.kind()) == (case.root, case.kind)
+        && agree(plan, tour) == case.is_same
+}
+
+// Whether the plans of a case are as it has them.
+fn is_toured(rt: &(impl Threads + Sync), alloc: Global, case: &Case) -> Option<bool> {
+    let (first, second) = (network(alloc, case.over)?, network(alloc, case.over)?);
+    let plan = Plan::build(alloc, first, case.kind, case.root).ok()?;
+    let tour = tour_plan(rt, alloc, second, case.kind, case.root, case.most).ok()?;
+    Some(are_those(&plan, &tour, case))
+}
+
 #[test]
-fn tour_refused_hands_the_topology_back(rt: HostRuntime) -> Result<(), Fail> {
-    let Some(topology) = chain(rt.alloc(), 20) else {
-        return Err("no topology".into());
-    };
-    let nodes = topology.nodes();
-    match tour_plan(
-        &rt,
-        rt.alloc(),
-        topology,
-        Kind::Shortest,
-        nodes as u16,
-        None,
-    ) {
-        Err((PlanError::NoNode, back)) => assert_eq!(rt; back.nodes(), nodes),
-        _ => return Err("not refused as NoNode".into()),
+fn tours_have_fewer_starts_and_ties_go_to_depth_first(rt: HostRuntime) -> Result<(), Fail> {
+    for case in &CASES {
+        if is_toured(&rt, rt.alloc(), case) != Some(true) {
+            return Err("another plan".into());
+        }
     }
     Ok(())
 }
 
-#[test]
-fn rows_over_an_order_in_threads_are_those_made_one_by_one(rt: HostRuntime) -> Result<(), Fail> {
-    let alloc = rt.alloc();
-    for kind in [Kind::Shortest, Kind::Compact] {
-        let (Some(first), Some(second)) = (chain(alloc, 40), chain(alloc, 40)) else {
-            return Err("no topology".into());
-        };
-        let (one, two) = (
-            backwards(alloc, first.nodes())?,
-            backwards(alloc, second.nodes())?,
-        );
-        let (Ok(()), Ok(())) = (
-            check_order(alloc, first.nodes(), one.as_slice()),
-            check_order(alloc, second.nodes(), two.as_slice()),
-        ) else {
-            return Err("no order".into());
-        };
-        let Ok(plan) = Plan::build_numbered(alloc, first, kind, one) else {
-            return Err("no plan".into());
-        };
-        let Ok(other) = Plan::build_numbered_in_threads(&rt, alloc, second, kind, two, Some(2))
-        else {
-            return Err("no plan in threads".into());
-        };
-        if plan.nodes() != other.nodes() {
-            return Err("other nodes".into());
-        }
-        assert!(rt; agree(&plan, &other));
-        let links = plan.topology().links();
-        let topology = plan.into_topology();
-        assert_eq!(rt; topology.links(), links);
+// Whether a plan by a tour is refused where the root is no node, and the topology comes back.
+fn comes_back(rt: &(impl Threads + Sync), alloc: Global) -> Option<bool> {
+    let topology = chain(alloc, 20)?;
+    let nodes = topology.nodes();
+    match tour_plan(rt, alloc, topology, Kind::Shortest, nodes as u16, None) {
+        Err((PlanError::NoNode, back)) => Some(back.nodes() == nodes),
+        _ => None,
     }
-    Ok(())
+}
+
+#[test]
+fn tour_refused_hands_the_topology_back(rt: HostRuntime) {
+    assert!(rt; comes_back(&rt, rt.alloc()) == Some(true));
 }
 
 // So many nodes, the last first.
-fn backwards(alloc: Global, nodes: usize) -> Result<Vec<u16>, Fail> {
+fn backwards(alloc: Global, nodes: usize) -> Option<Vec<u16>> {
     let mut order = Vec::new(alloc);
     for u in 0..nodes.min(60) {
-        order.insert(0, u as u16)?;
+        order.insert(0, u as u16).ok()?;
     }
-    Ok(order)
+    Some(order)
+}
+
+// The plan of a chain over its nodes from the last on, its rows made one by one, or in two threads.
+fn over_an_order(
+    rt: &(impl Threads + Sync),
+    alloc: Global,
+    kind: Kind,
+    is_in_threads: bool,
+) -> Option<Plan> {
+    let topology = chain(alloc, 40)?;
+    let order = backwards(alloc, topology.nodes())?;
+    let Ok(()) = check_order(alloc, topology.nodes(), order.as_slice()) else {
+        return None;
+    };
+    if kind == Kind::Tree {
+        return None;
+    }
+    if is_in_threads {
+        Plan::build_numbered_in_threads(rt, alloc, topology, kind, order, Some(2)).ok()
+    } else {
+        Plan::build_numbered(alloc, topology, kind, order).ok()
+    }
+}
+
+// Whether the rows over an order are the same by both ways; and the topology is that of the plan.
+fn are_alike(rt: &(impl Threads + Sync), alloc: Global, kind: Kind) -> Option<bool> {
+    let plan = over_an_order(rt, alloc, kind, false)?;
+    let other = over_an_order(rt, alloc, kind, true)?;
+    let is_same = agree(&plan, &other);
+    let links = plan.topology().links();
+    Some(is_same && plan.into_topology().links() == links)
+}
+
+#[test]
+fn rows_over_an_order_in_threads_are_those_made_one_by_one(rt: HostRuntime) {
+    let shortest = are_alike(&rt, rt.alloc(), Kind::Shortest);
+    let compact = are_alike(&rt, rt.alloc(), Kind::Compact);
+    assert!(rt; (shortest, compact) == (Some(true), Some(true)));
 }

@@ -1,2 +1,3 @@
+-- what contracts promise
 pub mod Code
 pub mod Allowed

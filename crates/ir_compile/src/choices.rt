@@ -19,7 +19,7 @@ use std::alloc::{AllocError, Global};
 /// gives each label but the own a port that it may take, and no set of intervals that does is smaller.
 ///
 /// `BadRow` where `own` is no label, there are more than `MAX_PORTS` ports, a port does not have a mark for each label,
-/// or a label but the own has no port; then `NoMemory`.
+/// or a label but the own has no port; then `NoMemory`. Takes as long as `choose`. For users of the library.
 pub fn compile_choices(
     alloc: Global,
     n: u16,
@@ -28,7 +28,9 @@ pub fn compile_choices(
 ) -> Result<Row, CompileError>
     ensures bad_row { (result ≡ Err CompileError.BadRow) ↔ (IsChoiceTable n own (rows_of choices.now) → ⊥) }
     ensures table { OnOk result (IsChoiceTable n own (rows_of choices.now)) }
-    ensures canonical { IfOk result (λ row. (ports : List (Option ℕ)) × AreChosen n own (Allows (rows_of choices.now)) ports × IsCanonical n own ports row) }
+    ensures canonical { IfOk result
+        (λ row. (ports : List (Option ℕ)) × AreChosen n own (Allows (rows_of choices.now)) ports
+        × IsCanonical n own ports row) }
     ensures fits { IfOk result (λ row. FitsChoices n own (Allows (rows_of choices.now)) (intervals_of row)) }
     ensures fewest { IfOk result (λ row. IsFewestOfChoices n own (Allows (rows_of choices.now)) (length row)) }
 {
@@ -43,7 +45,8 @@ pub fn compile_choices(
 /// run of labels with one port is the longest that one port serves, by the least such port; and of the rounds with the
 /// fewest runs it is the first, going round from the label after the own one.
 ///
-/// Refused as `compile_choices` is.
+/// Refused as `compile_choices` is. Takes O(n p + c k), for p ports, c labels of the run from the label after the own
+/// one, and at most k runs of a round. For users of the library.
 pub fn choose(
     alloc: Global,
     n: u16,
@@ -63,7 +66,8 @@ pub fn choose(
 // The row, where the marks are known to be a table of choices.
 fn chosen_row(alloc: Global, n: u16, own: u16, choices: &[Vec<bool>]) -> Result<Row, AllocError>
     requires { IsChoiceTable n own (rows_of choices.now) }
-    ensures { IfOk result (λ row. (ports : List (Option ℕ)) × AreChosen n own (Allows (rows_of choices.now)) ports × IsCanonical n own ports row) }
+    ensures { IfOk result (λ row. (ports : List (Option ℕ)) × AreChosen n own (Allows (rows_of choices.now)) ports
+        × IsCanonical n own ports row) }
 {
     let ports = chosen_ports(alloc, n, own, choices)?;
     Ok(canonical_row(alloc, n, own, ports.as_slice())?)
@@ -88,7 +92,8 @@ fn chosen_ports(
 
 /// The port of each label, none for the own one, by the first round with the fewest runs, where a run of so many labels
 /// of one port begins at each label. Conditions: there are two labels at least, the own one is a label, each run but the
-/// own label's has a label, and none that doesn't end the round ends before the own one.
+/// own label's has a label, and none that doesn't end the round ends before the own one. Takes O(n + c k), for c
+/// labels of the run from the label after the own one, and at most k runs of a round.
 pub fn ports_of_runs(
     alloc: Global,
     n: u16,

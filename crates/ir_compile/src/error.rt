@@ -17,7 +17,7 @@ pub enum CompileError {
 }
 
 impl CompileError {
-    /// The number of the refusal.
+    /// The number of the refusal. For users of the library.
     pub fn code(self) -> u8
         ensures { result ≡ code_of self }
     {

@@ -26,7 +26,7 @@ pub const MAX_PORTS: usize = 65_536;
 /// equal there is one start, after the own label. No set of intervals that gives each label its port is smaller.
 ///
 /// `BadRow` where `ports` does not have one entry for each of the `n` labels, `own` is no label, the own label has a
-/// port, or another label has none; then `NoMemory`.
+/// port, or another label has none; then `NoMemory`. Takes O(n).
 pub fn compile(alloc: Global, n: u16, own: u16, ports: &[Option<u16>]) -> Result<Row, CompileError>
     ensures bad_row { (result ≡ Err CompileError.BadRow) ↔ (IsDestinations n own ports.now → ⊥) }
     ensures destinations { OnOk result (IsDestinations n own ports.now) }
@@ -96,7 +96,8 @@ fn is_change(n: u16, own: u16, ports: &[Option<u16>], d: u16) -> bool
 
 // Adds the word of a start.
 fn push_start(words: &mut Vec<u32>, label: u16, port: u16) -> Result<(), AllocError>
-    ensures { OnOk result (let s : Start = record { label = label; port = port } in starts_of words.new.items ≡ starts_of words.old.items ++ s ∷ []) }
+    ensures { OnOk result (let s : Start = record { label = label; port = port } in starts_of words.new.items
+        ≡ starts_of words.old.items ++ s ∷ []) }
 {
     words.push(label as u32 * WORD_BASE + port as u32)?;
     Ok(())
@@ -130,7 +131,7 @@ fn before(n: u16, own: u16, d: u16) -> u16
 }
 
 /// Whether these are a list of destinations: one entry for each of the `n` labels, the own label below `n` and without a
-/// port, and each other label with one.
+/// port, and each other label with one. Takes O(n).
 pub fn is_destinations(n: u16, own: u16, ports: &[Option<u16>]) -> bool
     ensures { IsTrue result ↔ IsDestinations n own ports.now }
 {

@@ -98,7 +98,8 @@ pub fn round_ports(
     requires off { start ≢ own }
     ensures every { IfOk result (λ held. length held.items ≡ n) }
     ensures none { IfOk result (λ held. port_to held.items own ≡ None) }
-    ensures ports { IfOk result (λ held. (k : ℕ) × Steps n counts.now start 0 k × HaveStepPorts n own counts.now ports.now start 0 k held.items) }
+    ensures ports { IfOk result (λ held. (k : ℕ) × Steps n counts.now start 0 k
+        × HaveStepPorts n own counts.now ports.now start 0 k held.items) }
 {
     let mut held = vec![in alloc; None; n as usize]?;
     let mut place = 0;
@@ -127,8 +128,10 @@ fn set_ports(
     requires to { to ≤ n }
     ensures every { length held.new.items ≡ n }
     ensures own { port_to held.new.items own ≡ port_to held.old.items own }
-    ensures set { (k : ℕ) → from ≤ k → k < to → label_from n start k ≢ own → port_to held.new.items (label_from n start k) ≡ Some port }
-    ensures kept { (k : ℕ) → k < from → port_to held.new.items (label_from n start k) ≡ port_to held.old.items (label_from n start k) }
+    ensures set { (k : ℕ) → from ≤ k → k < to → label_from n start k ≢ own
+        → port_to held.new.items (label_from n start k) ≡ Some port }
+    ensures kept { (k : ℕ) → k < from
+        → port_to held.new.items (label_from n start k) ≡ port_to held.old.items (label_from n start k) }
 {
     for place in from..to {
         set_port(held, own, label_at(n, start, place), port);

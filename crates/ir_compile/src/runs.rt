@@ -7,7 +7,7 @@ ghost use Rattle.ir_model.proofs.Best.{Marks, IsRowRun, IsBetter, IsBestBelow};
 use std::alloc::{AllocError, Global};
 
 /// For each label, how many labels from it on the port with these marks serves, the own label among them wherever it
-/// comes; at most one round.
+/// comes; at most one round. Takes O(n).
 #[inline(never)]
 pub fn row_runs(alloc: Global, n: u16, own: u16, row: &[bool]) -> Result<Vec<u16>, AllocError>
     requires every { length row.now ≡ n }
@@ -64,7 +64,7 @@ fn is_served(own: u16, row: &[bool], d: u16) -> bool
     d == own || row[d as usize]
 }
 
-/// Takes the runs of a port where they are longer than those of the ports before it.
+/// Takes the runs of a port where they are longer than those of the ports before it. Takes O(n), for n labels.
 #[inline(never)]
 pub fn keep_longer(runs: &[u16], port: u16, counts: &mut Vec<u16>, ports: &mut Vec<u16>)
     requires runs { length runs.now ≡ length counts.old.items }
@@ -72,7 +72,8 @@ pub fn keep_longer(runs: &[u16], port: u16, counts: &mut Vec<u16>, ports: &mut V
     ensures counts { length counts.new.items ≡ length counts.old.items }
     ensures ports { length ports.new.items ≡ length ports.old.items }
     ensures better { (a : ℕ) → a < length counts.old.items
-        → IsBetter (slice_index runs.now a) port (slice_index counts.old.items a) (slice_index ports.old.items a) (slice_index counts.new.items a) (slice_index ports.new.items a) }
+        → IsBetter (slice_index runs.now a) port (slice_index counts.old.items a) (slice_index ports.old.items a)
+        (slice_index counts.new.items a) (slice_index ports.new.items a) }
 {
     for a in 0..runs.len() {
         if counts[a] < runs[a] {

@@ -73,12 +73,14 @@ module _ {R : Type 0} where
     pub receipt : receipt_board t ≡ writer_board before.writer
     pub board : writer_board after.writer ≡ writer_board before.writer
     pub opening : after.opening ≡ before.opening
+    pub labels : after.labels ≡ before.labels
 
   -- nothing was published
   pub record PublishesNothing (before after : Controller R) : Type 0 where
     pub published_is : published after.writer ≡ published before.writer
     pub board : writer_board after.writer ≡ writer_board before.writer
     pub opening : after.opening ≡ before.opening
+    pub labels : after.labels ≡ before.labels
 
   -- the change was published and not refused; or the first refusal, or else want of memory, and nothing was published
   abbrev pub IsChangeAnswer : Option ChangeError → Change → Controller R → Controller R → Result Receipt ChangeError → Type 0
@@ -97,13 +99,14 @@ module _ {R : Type 0} where
   IsInstallRefusedBy c error (Some e) = error ≡ e
   IsInstallRefusedBy c error None = ((error ≡ install.Disconnected) × IsDisconnected (network_up c)) ⊎ ((error ≡ install.NoMemory) ⊎ (error ≡ install.Used))
 
-  -- The stamp of the next cell, which knows a plan of this kind and root over the links that were up, was installed.
+  -- The stamp of the next cell, which knows a plan of this kind and root over the links that were up, labelled in the
+  -- controller's order, was installed.
   pub record Installs (kind : Kind) (root : ℕ) (before after : Controller R) (t : Receipt) : Type 0 where
     pub allowed : install_refusal before root ≡ None
     pub stamp : Stamp
     pub epoch : stamp.epoch ≡ before.used + 1
     pub registered : IsOf (arc_value before.registry) stamp
-    pub plan : IsMade kind root (network_up before) (Some (knows stamp))
+    pub plan : IsMade before.labels kind root (network_up before) (Some (knows stamp))
     pub publishes : Publishes before after (Install stamp) t
     pub used : after.used ≡ before.used + 1
 

@@ -1,3 +1,4 @@
+-- what contracts promise
 pub mod Places
 pub mod Pairs
 pub mod Wired
@@ -9,10 +10,11 @@ pub mod Accepted
 pub mod Refusals
 pub mod Changes
 pub mod Slots
-pub mod Fresh
 pub mod Parts
-pub mod Whole
 pub mod Rowed
 pub mod Told
 pub mod Reported
 pub mod Reports
+-- what bodies use
+pub mod Fresh
+pub mod Whole

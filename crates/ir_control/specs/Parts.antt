@@ -63,6 +63,7 @@ pub record AreFreshParts {R : Type 0} (net : Net) (nodes : List Node) (injector 
   pub nothing : injector.accepted.items ≡ []
   pub learnt : injector.newest ≡ net.opening
   pub controller_opening : controller.opening ≡ net.opening
+  pub controller_labels : controller.labels ≡ net.labels
   pub controller_registry : arc_value controller.registry ≡ arc_value net.registry
   pub used : controller.used ≡ 1
   pub board : published controller.writer ≡ Opened (length net.topology.links) net.opening ∷ []

@@ -1,5 +1,5 @@
 //! The channels of a net.
-ghost use Rattle.std.specs.Prelude.{◌≡◌, ℕ, ◌+◌, ◌^◌, ◌<◌, ◌≤◌, Some, IfOk, length, slice_index};
+ghost use Rattle.std.specs.Prelude.{◌≡◌, ℕ, ◌+◌, ◌^◌, ◌<◌, IfOk, length, slice_index};
 ghost use Rattle.ir_model.specs.Network.{node_count};
 ghost use Rattle.ir_control.specs.Places.{offset, way_count, IsFilled, IsFilledTo};
 ghost use Rattle.ir_control.specs.Wired.{IsWay, AreInboxes};
@@ -62,8 +62,10 @@ fn add_ways(
 ) -> Result<(), AllocError>
     requires capacity { 0 < capacity }
     requires node { u < node_count topology.now }
-    requires before { IsFilledTo topology.now (λ v hop line. IsWay opening.now restamps capacity v hop.node line) u 0 ways.old.items }
-    ensures { IfOk result (λ _. IsFilledTo topology.now (λ v hop line. IsWay opening.now restamps capacity v hop.node line) (u + 1) 0 ways.new.items) }
+    requires before { IsFilledTo topology.now
+        (λ v hop line. IsWay opening.now restamps capacity v hop.node line) u 0 ways.old.items }
+    ensures { IfOk result (λ _. IsFilledTo topology.now
+        (λ v hop line. IsWay opening.now restamps capacity v hop.node line) (u + 1) 0 ways.new.items) }
 {
     for hop in topology.ports(u as usize) {
         ways.push(channel(alloc, opening, restamps, capacity, u, hop.node)?)?;
@@ -80,8 +82,10 @@ pub fn ways_of(
     capacity: usize,
 ) -> Result<(Vec<Channel<Parcel>>, Vec<usize>), AllocError>
     requires { 0 < capacity }
-    ensures ways { IfOk result (λ made. IsFilled topology.now (λ v hop line. IsWay opening.now restamps capacity v hop.node line) made.0.items) }
-    ensures offsets { IfOk result (λ made. (length made.1.items ≡ node_count topology.now) × ((v : ℕ) → v < node_count topology.now → slice_index made.1.items v ≡ offset topology.now v)) }
+    ensures ways { IfOk result (λ made. IsFilled topology.now
+        (λ v hop line. IsWay opening.now restamps capacity v hop.node line) made.0.items) }
+    ensures offsets { IfOk result (λ made. (length made.1.items ≡ node_count topology.now)
+        × ((v : ℕ) → v < node_count topology.now → slice_index made.1.items v ≡ offset topology.now v)) }
     ensures fits { IfOk result (λ _. way_count topology.now < 2 ^ 64) }
 {
     let nodes = topology.nodes();

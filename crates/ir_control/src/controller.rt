@@ -15,10 +15,11 @@ ghost use mathlib.Core.List.{IsPrefix};
 use ir_core::{Board, BuildError, MAX_CHANGES, MAX_EPOCHS, plan_up};
 use ir_epochs::{BoardWriter, Change, Receipt, RegisterError, Registry, Stamp};
 use ir_model::Kind;
-use ir_plan::Plan;
+use ir_plan::{LabelOrder, Plan};
 use ir_worker::Node;
 use std::alloc::Global;
 use std::sync::{Arc, Wait};
+use std::thread::Threads;
 use thiserror::Error;
 
 /// Why no epoch was installed.
@@ -102,6 +103,7 @@ pub struct Controller<R: Wait + Drop> {
     alloc: Global,
     registry: Arc<Registry, Global>,
     opening: Stamp,
+    labels: LabelOrder,
     writer: BoardWriter<R>,
     used: u32,
     ghost of_registry: { IsOf (arc_value registry) opening },
@@ -122,17 +124,20 @@ impl<R: Wait + Drop> Controller<R> {
         alloc: Global,
         registry: Arc<Registry, Global>,
         opening: &Stamp,
+        labels: LabelOrder,
         writer: BoardWriter<R>,
     ) -> Controller<R>
         requires registry { IsOf (arc_value registry) opening.now }
         requires board { published writer ≡ Opened (length (knows opening.now).network.links) opening.now ∷ [] }
         requires few_links { length (knows opening.now).network.links ≤ MAX_LINKS }
-        ensures { (result.opening ≡ opening.now) × (result.registry ≡ registry) × (result.writer ≡ writer) × (result.used ≡ 1) }
+        ensures { (result.opening ≡ opening.now) × (result.registry ≡ registry) × (result.writer ≡ writer)
+            × (result.used ≡ 1) × (result.labels ≡ labels) }
     {
         Controller {
             alloc,
             registry,
             opening: opening.again(),
+            labels,
             writer,
             used: 1,
         }
@@ -159,9 +164,11 @@ impl<R: Wait + Drop> Controller<R> {
         requires fits { Fits (published self.old.writer) change }
         requires epochs { (changed (board_of (published self.old.writer)) change).current ≤ self.old.used }
         ensures answer { MatchResult result
-            (λ t. (published self.new.writer ≡ published self.old.writer ++ Changed change ∷ []) × (told t ≡ published self.new.writer))
+            (λ t. (published self.new.writer ≡ published self.old.writer ++ Changed change ∷ [])
+            × (told t ≡ published self.new.writer))
             (λ e. (published self.new.writer ≡ published self.old.writer) × (e ≡ ChangeError.NoMemory)) }
-        ensures same { (self.new.opening ≡ self.old.opening) × (self.new.used ≡ self.old.used) × (self.new.registry ≡ self.old.registry) }
+        ensures same { (self.new.opening ≡ self.old.opening) × (self.new.used ≡ self.old.used)
+            × (self.new.registry ≡ self.old.registry) × (self.new.labels ≡ self.old.labels) }
         ensures board { writer_board self.new.writer ≡ writer_board self.old.writer }
         ensures receipt { IfOk result (λ t. receipt_board t ≡ writer_board self.old.writer) }
     {
@@ -174,7 +181,8 @@ impl<R: Wait + Drop> Controller<R> {
     /// Retires the epochs below a floor. Refused are, in this order: a floor above the current epoch (`NoEpoch`), one
     /// that is not above the present floor (`Same`), a change too many, want of memory.
     pub fn retire(&mut self, floor: u32) -> Result<Receipt, ChangeError>
-        ensures { IsChangeAnswer (retire_refused (board_of (published self.old.writer)) floor) (Retire floor) self.old self.new result }
+        ensures { IsChangeAnswer (retire_refused (board_of (published self.old.writer)) floor)
+            (Retire floor) self.old self.new result }
     {
         let board = self.writer.board();
         if board.current() < floor {
@@ -192,7 +200,8 @@ impl<R: Wait + Drop> Controller<R> {
     /// Marks a link as down. Refused are, in this order: a number that is no link, a link that is down, a change too
     /// many, want of memory.
     pub fn down(&mut self, link: u16) -> Result<Receipt, ChangeError>
-        ensures { IsChangeAnswer (mark_refused (length (knows self.old.opening).network.links) (board_of (published self.old.writer)) link false) (Down link) self.old self.new result }
+        ensures { IsChangeAnswer (mark_refused (length (knows self.old.opening).network.links)
+            (board_of (published self.old.writer)) link false) (Down link) self.old self.new result }
     {
         if let Some(error) = self.mark_refusal(link, false) {
             return Err(error);
@@ -203,7 +212,8 @@ impl<R: Wait + Drop> Controller<R> {
     /// Marks a link as up. Refused are, in this order: a number that is no link, a link that is up, a change too many,
     /// want of memory.
     pub fn up(&mut self, link: u16) -> Result<Receipt, ChangeError>
-        ensures { IsChangeAnswer (mark_refused (length (knows self.old.opening).network.links) (board_of (published self.old.writer)) link true) (Up link) self.old self.new result }
+        ensures { IsChangeAnswer (mark_refused (length (knows self.old.opening).network.links)
+            (board_of (published self.old.writer)) link true) (Up link) self.old self.new result }
     {
         if let Some(error) = self.mark_refusal(link, true) {
             return Err(error);
@@ -213,7 +223,8 @@ impl<R: Wait + Drop> Controller<R> {
 
     // Why a link is not marked.
     fn mark_refusal(&self, link: u16, up: bool) -> Option<ChangeError>
-        ensures { result ≡ mark_refused (length (knows self.now.opening).network.links) (board_of (published self.now.writer)) link up }
+        ensures { result ≡ mark_refused (length (knows self.now.opening).network.links)
+            (board_of (published self.now.writer)) link up }
     {
         let topology = self.registry.plan(&self.opening).topology();
         if link as usize >= topology.links() {
@@ -248,35 +259,41 @@ impl<R: Wait + Drop> Controller<R> {
     }
 
     // The plan of this kind and root over the links that are up.
-    fn plan(&self, kind: Kind, root: u16) -> Result<Plan, InstallError>
+    fn plan(&self, rt: &(impl Threads + Sync), kind: Kind, root: u16) -> Result<Plan, InstallError>
         requires { root < node_count (knows self.now.opening).network }
         ensures { MatchResult result
-            (λ p. IsMade kind root (network_up self.now) (Some p))
-            (λ e. ((e ≡ InstallError.Disconnected) × IsDisconnected (network_up self.now)) ⊎ (e ≡ InstallError.NoMemory)) }
+            (λ p. IsMade self.now.labels kind root (network_up self.now) (Some p))
+            (λ e. ((e ≡ InstallError.Disconnected) × IsDisconnected (network_up self.now))
+            ⊎ (e ≡ InstallError.NoMemory)) }
     {
         let topology = self.registry.plan(&self.opening).topology();
         let board = self.writer.board();
-        match plan_up(self.alloc, topology, &board, kind, root) {
+        match plan_up(rt, self.alloc, topology, &board, self.labels, kind, root) {
             Ok(plan) => Ok(plan),
             Err(BuildError::Disconnected) => Err(InstallError::Disconnected),
             Err(BuildError::NoMemory) => Err(InstallError::NoMemory),
         }
     }
 
-    /// Builds a plan of this kind and root over the links that are up, registers it in the next cell, and makes it the
-    /// current epoch. The receipt's stamp knows that plan.
+    /// Builds a plan of this kind and root over the links that are up, labelled in the net's order, registers it in the
+    /// next cell, and makes it the current epoch. The receipt's stamp knows that plan.
     ///
     /// Refused are, in this order: a root that is no node, no cell left, a change too many, some node without a walk to
     /// some node, want of memory. After `Used`, or after want of memory once the plan was registered, the cell is used
     /// up, and the next install takes the next number.
-    pub fn install(&mut self, kind: Kind, root: u16) -> Result<Receipt, InstallError>
+    pub fn install(
+        &mut self,
+        rt: &(impl Threads + Sync),
+        kind: Kind,
+        root: u16,
+    ) -> Result<Receipt, InstallError>
         ensures { IsInstallAnswer kind root self.old self.new result }
     {
         match self.install_refusal(root) {
             Some(error) => return Err(error),
             None => {}
         }
-        let plan = match self.plan(kind, root) {
+        let plan = match self.plan(rt, kind, root) {
             Ok(plan) => plan,
             Err(error) => return Err(error),
         };

@@ -1,5 +1,5 @@
 //! All nodes' ends in rows.
-ghost use Rattle.std.specs.Prelude.{◌≡◌, ◌≤◌, ◌<◌, ◌+◌, ◌++◌, ◌∷◌, [], ℕ, All, Some, length, map, sum_by, vec_len, vec_capacity};
+ghost use Rattle.std.specs.Prelude.{◌≡◌, ◌≤◌, ◌<◌, ◌+◌, ◌++◌, ◌∷◌, [], All, Some, length, map, sum_by, vec_len, vec_capacity};
 ghost use Rattle.ir_model.specs.Network.{node_count};
 ghost use Rattle.ir_control.specs.Places.{way_count};
 ghost use Rattle.ir_control.specs.Rowed.{AreRows, AreSlotsFrom, AreWeighed};
@@ -47,7 +47,9 @@ fn append_ends(
     ensures takers { takers.new.items ≡ takers.old.items ++ node.entrances.ports.items }
     ensures senders { senders.new.items ≡ senders.old.items ++ map (λ s. Some s) node.outs.items }
     ensures settled { settled.new.items ≡ settled.old.items ++ node.outcomes ∷ [] }
-    ensures room { (vec_capacity inboxes.old ≤ vec_capacity inboxes.new) × (vec_capacity takers.old ≤ vec_capacity takers.new) × (vec_capacity senders.old ≤ vec_capacity senders.new) × (vec_capacity settled.old ≤ vec_capacity settled.new) }
+    ensures room { (vec_capacity inboxes.old ≤ vec_capacity inboxes.new)
+        × (vec_capacity takers.old ≤ vec_capacity takers.new) × (vec_capacity senders.old ≤ vec_capacity senders.new)
+        × (vec_capacity settled.old ≤ vec_capacity settled.new) }
 {
     let Ends {
         inbox,
@@ -71,10 +73,15 @@ pub(crate) fn take_apart(
     settled: &mut Vec<Vec<Outcome>>,
 )
     requires slots { AreSlotsFrom net.now 0 slots.items }
-    requires start { (inboxes.old.items ≡ []) × (takers.old.items ≡ []) × (senders.old.items ≡ []) × (settled.old.items ≡ []) }
-    requires room { (node_count net.now.topology ≤ vec_capacity inboxes.old) × (way_count net.now.topology ≤ vec_capacity takers.old) × (way_count net.now.topology ≤ vec_capacity senders.old) × (node_count net.now.topology ≤ vec_capacity settled.old) }
+    requires start { (inboxes.old.items ≡ []) × (takers.old.items ≡ []) × (senders.old.items ≡ [])
+        × (settled.old.items ≡ []) }
+    requires room { (node_count net.now.topology ≤ vec_capacity inboxes.old)
+        × (way_count net.now.topology ≤ vec_capacity takers.old)
+        × (way_count net.now.topology ≤ vec_capacity senders.old)
+        × (node_count net.now.topology ≤ vec_capacity settled.old) }
     ensures rows { AreRows net.now (node_count net.now.topology) inboxes.new.items takers.new.items senders.new.items }
-    ensures weighed { AreWeighed slots.items [] inboxes.new.items takers.new.items senders.new.items (λ w. sum_by (λ row. sum_by w row.items) settled.new.items) }
+    ensures weighed { AreWeighed slots.items [] inboxes.new.items takers.new.items senders.new.items
+        (λ w. sum_by (λ row. sum_by w row.items) settled.new.items) }
     ensures of_net { All (λ row. All (λ o. IsOutcomeIn net.now.opening o) row.items) settled.new.items }
 {
     for u in 0..net.inboxes.len() {

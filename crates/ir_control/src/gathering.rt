@@ -32,7 +32,8 @@ pub fn gather(
     requires of_net { All (λ x. IsParcelOf opening.now x) (left_in channels.old.items) }
     requires few { All (λ x. IsFew restamps x) (left_in channels.old.items) }
     requires room { vec_len channels.old + (length inboxes.items + length takers.items) ≤ vec_capacity channels.old }
-    ensures account { (w : SeenParcel → ℕ) → (times_in_slots w injected.items + times_in_slots w senders.items) + sum_by w (left_in channels.old.items)
+    ensures account { (w : SeenParcel → ℕ)
+        → (times_in_slots w injected.items + times_in_slots w senders.items) + sum_by w (left_in channels.old.items)
         ≡ (weight_taken w inboxes.items + weight_taken w takers.items) + sum_by w (left_in channels.new.items) }
     ensures of_net { All (λ x. IsParcelOf opening.now x) (left_in channels.new.items) }
     ensures few { All (λ x. IsFew restamps x) (left_in channels.new.items) }

@@ -1,5 +1,5 @@
 //! The injector: it puts packets into the nodes' inboxes and keeps what was accepted.
-ghost use Rattle.std.specs.Prelude.{◌≡◌, ℕ, Bool, All, ◌+◌, ◌<◌, ◌≤◌, [], ◌∷◌, ◌++◌, IfOk, MatchResult, Some, None, length, slice_get};
+ghost use Rattle.std.specs.Prelude.{◌≡◌, ℕ, Bool, All, ◌<◌, ◌≤◌, [], ◌∷◌, MatchResult, Some, None, length};
 ghost use Rattle.std.specs.Arc.{arc_value};
 ghost use Rattle.ir_model.specs.Network.{node_count};
 ghost use Rattle.ir_core.specs.declared.TheConstants.{MAX_NODES, MAX_PACKETS};
@@ -129,7 +129,8 @@ impl Injector {
         requires few_packets { max_packets ≤ MAX_PACKETS }
         requires ends { AreEntryEnds opening.now restamps (lines_out outs.items) }
         requires fresh { All (λ s. s.sent ≡ []) outs.items }
-        ensures { (result.opening ≡ opening.now) × (result.newest ≡ opening.now) × (result.max_packets ≡ max_packets) × (result.outs ≡ outs) × (result.accepted.items ≡ []) }
+        ensures { (result.opening ≡ opening.now) × (result.newest ≡ opening.now) × (result.max_packets ≡ max_packets)
+            × (result.outs ≡ outs) × (result.accepted.items ≡ []) }
     {
         Injector {
             alloc,
@@ -155,7 +156,8 @@ impl Injector {
         requires registry { registry_of (told receipt.now) ≡ registry_name self.old.opening }
         requires network { network_of (told receipt.now) ≡ (knows self.old.opening).network }
         ensures newest { self.new.newest ≡ stamp_after_learning self.old.newest (installed_by (told receipt.now)) }
-        ensures same { (self.new.opening ≡ self.old.opening) × (self.new.outs ≡ self.old.outs) × (self.new.accepted ≡ self.old.accepted) × (self.new.max_packets ≡ self.old.max_packets) }
+        ensures same { (self.new.opening ≡ self.old.opening) × (self.new.outs ≡ self.old.outs)
+            × (self.new.accepted ≡ self.old.accepted) × (self.new.max_packets ≡ self.old.max_packets) }
     {
         if let Some(stamp) = receipt.stamp()
             && self.newest.epoch() < stamp.epoch()
@@ -176,9 +178,12 @@ impl Injector {
         dest: u16,
     ) -> Result<u32, InjectError>
         ensures answer { MatchResult result
-            (λ id. (inject_refused (node_count (knows self.old.opening).network) self.old.max_packets (length self.old.accepted.items) source dest ≡ None) × IsInjected self.old self.new id source dest)
-            (λ e. IsInjectRefusal R.was_full self.old source dest e × (self.new.outs.items ≡ self.old.outs.items) × (self.new.accepted.items ≡ self.old.accepted.items)) }
-        ensures same { (self.new.opening ≡ self.old.opening) × (self.new.newest ≡ self.old.newest) × (self.new.max_packets ≡ self.old.max_packets) }
+            (λ id. (inject_refused (node_count (knows self.old.opening).network) self.old.max_packets
+            (length self.old.accepted.items) source dest ≡ None) × IsInjected self.old self.new id source dest)
+            (λ e. IsInjectRefusal R.was_full self.old source dest e × (self.new.outs.items ≡ self.old.outs.items)
+            × (self.new.accepted.items ≡ self.old.accepted.items)) }
+        ensures same { (self.new.opening ≡ self.old.opening) × (self.new.newest ≡ self.old.newest)
+            × (self.new.max_packets ≡ self.old.max_packets) }
         ensures lines { lines_out self.new.outs.items ≡ lines_out self.old.outs.items }
     {
         let nodes = self.outs.len();

@@ -57,7 +57,8 @@ pub(crate) fn left_over(
     requires rows { AreEmptyRows (node_count net.now.topology) (way_count net.now.topology) rows }
     requires empty { channels.old.items ≡ [] }
     requires room { node_count net.now.topology + way_count net.now.topology ≤ vec_capacity channels.old }
-    ensures gathered { IsGathered nodes.items injected.items (λ w. sum_by (λ row. sum_by w row.items) result.items) (left_in channels.new.items) }
+    ensures gathered { IsGathered nodes.items injected.items (λ w. sum_by (λ row. sum_by w row.items) result.items)
+        (left_in channels.new.items) }
     ensures settled { All (λ row. All (λ o. IsOutcomeIn net.now.opening o) row.items) result.items }
     ensures left { All (λ x. IsParcelOf net.now.opening x) (left_in channels.new.items) }
     ensures few { All (λ x. IsFew net.now.restamps x) (left_in channels.new.items) }

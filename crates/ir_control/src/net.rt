@@ -7,7 +7,8 @@ ghost use Rattle.ir_core.specs.Meaning.{IsMade};
 ghost use Rattle.ir_core.specs.declared.TheConstants.{MAX_PACKETS, MAX_RESTAMPS};
 ghost use Rattle.ir_control.specs.Places.{offset};
 ghost use Rattle.ir_epochs.specs.Stamps.{IsOf, knows};
-ghost use Rattle.ir_control.specs.Opened.{net_refused, IsNetRefusal};
+ghost use Rattle.ir_core.specs.Opened.{open_refused};
+ghost use Rattle.ir_control.specs.Opened.{net_error, IsNetRefusal};
 ghost use Rattle.ir_control.specs.Wired.{AreInboxes, AreWays, AreEntries, AreOffsets, IsOpening};
 
 use crate::channels::{inboxes_of, ways_of};
@@ -16,15 +17,16 @@ use crate::error::NetError;
 use crate::injector::Injector;
 use crate::parts::{all_ends, ins_of, outs_of};
 use crate::peers::peers_of;
-use ir_core::{BuildError, MAX_PACKETS, MAX_RESTAMPS, is_small, plan_over};
+use ir_core::{BuildError, MAX_PACKETS, MAX_RESTAMPS, OpenError, Opening, open_refusal, plan_over};
 use ir_epochs::{BoardError, BoardReader, BoardWriter, RegisterError, Registry, Stamp, board};
 use ir_links::{Channel, Sender, Taker};
-use ir_model::Kind;
+use ir_plan::LabelOrder;
 use ir_tables::Topology;
 use ir_worker::{Node, Parcel};
 use std::alloc::{AllocError, Global};
 use std::sync::atomic::{AtomicBool, AtomicU32, Ordering};
 use std::sync::{Arc, Wait};
+use std::thread::Threads;
 
 /// A net: the registry of its plans, an inbox for each node, and for each port a channel out of it.
 ///
@@ -34,6 +36,7 @@ pub struct Net {
     pub(crate) alloc: Global,
     registry: Arc<Registry, Global>,
     pub(crate) topology: Topology,
+    labels: LabelOrder,
     pub(crate) capacity: usize,
     max_packets: usize,
     pub(crate) restamps: u8,
@@ -54,44 +57,36 @@ pub struct Net {
     ghost few_restamps: { restamps ≤ MAX_RESTAMPS },
 }
 
-// Why no net is opened, before any plan is built.
-fn net_refusal(
-    topology: &Topology,
-    root: u16,
-    capacity: usize,
-    max_packets: usize,
-    restamps: u8,
-) -> Option<NetError>
-    ensures { result ≡ net_refused topology.now root capacity max_packets restamps }
+// A refusal of an opening, as one of a net.
+fn net_error(error: OpenError) -> NetError
+    ensures { result ≡ net_error error }
 {
-    let nodes = topology.nodes();
-    if nodes == 0 {
-        return Some(NetError::Empty);
+    match error {
+        OpenError::NoNode => NetError::NoNode,
+        OpenError::Empty => NetError::Empty,
+        OpenError::Disconnected => NetError::Disconnected,
+        OpenError::TooLarge => NetError::TooLarge,
+        OpenError::NoMemory => NetError::NoMemory,
     }
-    if nodes <= root as usize {
-        return Some(NetError::NoNode);
-    }
-    if !is_small(topology, capacity, max_packets, restamps) {
-        return Some(NetError::TooLarge);
-    }
-    None
 }
 
-// A registry whose cell 1 has a plan of this kind and root over all links.
+// A registry whose cell 1 has a plan of the opening's kind and root over all links.
 fn registered(
+    rt: &(impl Threads + Sync),
     alloc: Global,
-    topology: &Topology,
-    kind: Kind,
-    root: u16,
+    opening: &Opening,
 ) -> Result<(Registry, Stamp), NetError>
-    requires { root < node_count topology.now }
-    ensures made { IfOk result (λ r. IsOf r.0 r.1 × (r.1.epoch ≡ 1) × IsMade kind root topology.now (Some (knows r.1))) }
-    ensures refused { IfErr result (λ e. ((e ≡ NetError.Disconnected) × IsDisconnected topology.now) ⊎ ((e ≡ NetError.NoMemory) ⊎ (e ≡ NetError.Used))) }
+    requires { opening.now.root < node_count opening.now.topology }
+    ensures made { IfOk result (λ r. IsOf r.0 r.1 × (r.1.epoch ≡ 1)
+        × IsMade opening.now.labels opening.now.kind opening.now.root opening.now.topology (Some (knows r.1))) }
+    ensures refused { IfErr result
+        (λ e. ((e ≡ NetError.Disconnected) × IsDisconnected opening.now.topology)
+        ⊎ ((e ≡ NetError.NoMemory) ⊎ (e ≡ NetError.Used))) }
 {
-    let Ok(over) = topology.try_clone(alloc) else {
+    let Ok(over) = opening.topology.try_clone(alloc) else {
         return Err(NetError::NoMemory);
     };
-    let plan = match plan_over(alloc, over, kind, root) {
+    let plan = match plan_over(rt, alloc, over, opening.labels, opening.kind, opening.root) {
         Ok(plan) => plan,
         Err(BuildError::Disconnected) => return Err(NetError::Disconnected),
         Err(BuildError::NoMemory) => return Err(NetError::NoMemory),
@@ -118,39 +113,21 @@ fn entries_of(alloc: Global, nodes: usize) -> Result<Vec<usize>, AllocError>
 impl Net {
     ghost use Rattle.ir_control.specs.Nets.{IsNetFor};
 
-    /// A net over a topology, whose epoch 1 has a plan of this kind and root over all links. Each channel and inbox
-    /// holds `capacity` packets, from 1 to 1,024; there may be `max_packets` packets, from 1 to 4,096, each with
-    /// `restamps` restamps, from 0 to 3.
+    /// A net for an opening, whose epoch 1 has a plan of the opening's kind and root over all links.
     ///
     /// Refused are, in this order: no node (`Empty`), a root that is no node, more than 1,024 nodes or 8,192 links or another
     /// number out of its range (`TooLarge`), some node without a walk to some node, want of memory. `Used` would say
     /// that a fresh cell of the registry refused its plan.
-    pub fn new(
-        alloc: Global,
-        topology: Topology,
-        kind: Kind,
-        root: u16,
-        capacity: usize,
-        max_packets: usize,
-        restamps: u8,
-    ) -> Result<Net, NetError>
-        ensures opened { IfOk result (λ net. IsNetFor topology kind root capacity max_packets restamps net) }
-        ensures accepted { IfOk result (λ _. net_refused topology root capacity max_packets restamps ≡ None) }
-        ensures refused { IfErr result (λ e. IsNetRefusal topology root capacity max_packets restamps e) }
+    pub fn new(rt: &(impl Threads + Sync), alloc: Global, opening: Opening) -> Result<Net, NetError>
+        ensures opened { IfOk result (λ net. IsNetFor opening net) }
+        ensures accepted { IfOk result (λ _. open_refused opening ≡ None) }
+        ensures refused { IfErr result (λ e. IsNetRefusal opening e) }
     {
-        if let Some(error) = net_refusal(&topology, root, capacity, max_packets, restamps) {
-            return Err(error);
+        if let Some(error) = open_refusal(&opening) {
+            return Err(net_error(error));
         }
-        let (registry, opening) = registered(alloc, &topology, kind, root)?;
-        match Net::wired(
-            alloc,
-            registry,
-            topology,
-            opening,
-            capacity,
-            max_packets,
-            restamps,
-        ) {
+        let (registry, first) = registered(rt, alloc, &opening)?;
+        match Net::wired(alloc, registry, first, opening) {
             Ok(net) => Ok(net),
             Err(_) => Err(NetError::NoMemory),
         }
@@ -160,27 +137,35 @@ impl Net {
     fn wired(
         alloc: Global,
         registry: Registry,
-        topology: Topology,
-        opening: Stamp,
-        capacity: usize,
-        max_packets: usize,
-        restamps: u8,
+        first: Stamp,
+        opening: Opening,
     ) -> Result<Net, AllocError>
-        requires opening { IsOpening registry topology opening }
-        requires capacity { 0 < capacity }
-        requires packets { max_packets ≤ MAX_PACKETS }
-        requires restamps { restamps ≤ MAX_RESTAMPS }
-        ensures topology { IfOk result (λ net. net.topology ≡ topology) }
-        ensures opening { IfOk result (λ net. net.opening ≡ opening) }
-        ensures numbers { IfOk result (λ net. (net.capacity ≡ capacity) × (net.max_packets ≡ max_packets) × (net.restamps ≡ restamps)) }
+        requires first { IsOpening registry opening.topology first }
+        requires capacity { 0 < opening.capacity }
+        requires packets { opening.max_packets ≤ MAX_PACKETS }
+        requires restamps { opening.restamps ≤ MAX_RESTAMPS }
+        ensures topology { IfOk result (λ net. net.topology ≡ opening.topology) }
+        ensures labels { IfOk result (λ net. net.labels ≡ opening.labels) }
+        ensures opening { IfOk result (λ net. net.opening ≡ first) }
+        ensures numbers { IfOk result (λ net. (net.capacity ≡ opening.capacity)
+            × (net.max_packets ≡ opening.max_packets) × (net.restamps ≡ opening.restamps)) }
     {
+        let Opening {
+            topology,
+            labels,
+            kind: _,
+            root: _,
+            capacity,
+            max_packets,
+            restamps,
+        } = opening;
         let Ok(registry) = Arc::new(alloc, registry) else {
             return Err(AllocError);
         };
         let nodes = topology.nodes();
-        let inboxes = inboxes_of(alloc, &topology, &opening, restamps, capacity)?;
+        let inboxes = inboxes_of(alloc, &topology, &first, restamps, capacity)?;
         let entries = entries_of(alloc, nodes)?;
-        let (ways, offsets) = ways_of(alloc, &topology, &opening, restamps, capacity)?;
+        let (ways, offsets) = ways_of(alloc, &topology, &first, restamps, capacity)?;
         let peers = peers_of(alloc, &topology, offsets.as_slice())?;
         let Ok(settled) = Arc::new(alloc, AtomicU32::new(0)) else {
             return Err(AllocError);
@@ -189,10 +174,11 @@ impl Net {
             alloc,
             registry,
             topology,
+            labels,
             capacity,
             max_packets,
             restamps,
-            opening,
+            opening: first,
             inboxes,
             entries,
             ways,
@@ -209,7 +195,6 @@ impl Net {
     ghost use Rattle.ir_epochs.specs.Stamps.{registry_name};
     ghost use Rattle.ir_epochs.specs.Entries.{registry_of, network_of};
     ghost use Rattle.ir_epochs.specs.Handles.{known, reader_board};
-    ghost use Rattle.ir_model.specs.Network.{ports_of};
     ghost use Rattle.ir_control.specs.Fresh.{AreFreshOuts, AreFreshIns};
     ghost use Rattle.ir_control.specs.Parts.{IsNodeOf, IsFreshNode};
 
@@ -246,12 +231,14 @@ impl Net {
         requires first { first ≡ offset self.now.topology u }
         requires inbox { slice_get self.now.inboxes.items u ≡ Some inbox.line }
         requires inbox_new { inbox.taken ≡ [] }
-        requires reader { (registry_of (known reader) ≡ registry_name self.now.opening) × (network_of (known reader) ≡ (knows self.now.opening).network) }
+        requires reader { (registry_of (known reader) ≡ registry_name self.now.opening)
+            × (network_of (known reader) ≡ (knows self.now.opening).network) }
         requires senders { AreFreshOuts self.now.ways.items senders.old.items }
         requires takers { AreFreshIns self.now.ways.items takers.old.items }
         ensures senders { AreFreshOuts self.now.ways.items senders.new.items }
         ensures takers { AreFreshIns self.now.ways.items takers.new.items }
-        ensures node { IfOk result (λ given. IfSome given (λ n. IsNodeOf self.now n × (n.index ≡ u) × (reader_board n.reader ≡ reader_board reader))) }
+        ensures node { IfOk result (λ given. IfSome given
+            (λ n. IsNodeOf self.now n × (n.index ≡ u) × (reader_board n.reader ≡ reader_board reader))) }
         ensures fresh { IfOk result (λ given. IfSome given (λ n. IsFreshNode (known reader) n)) }
     {
         let degree = self.topology.ports(u).len();
@@ -311,10 +298,14 @@ impl Net {
     ) -> Result<Option<Vec<Node>>, AllocError>
         requires inboxes { AreFreshIns self.now.inboxes.items inboxes.items }
         requires opening { published writer.now ≡ Opened (length self.now.topology.links) self.now.opening ∷ [] }
-        requires readers { All (λ x. (known x ≡ published writer.now) × (reader_board x ≡ writer_board writer.now)) readers.items }
-        ensures nodes { IfOk result (λ given. IfSome given (λ nodes. AreFirstNodes self.now (node_count self.now.topology) nodes.items)) }
-        ensures boards { IfOk result (λ given. IfSome given (λ nodes. All (λ n. reader_board n.reader ≡ writer_board writer.now) nodes.items)) }
-        ensures fresh { IfOk result (λ given. IfSome given (λ nodes. All (IsFreshNode (published writer.now)) nodes.items)) }
+        requires readers { All (λ x. (known x ≡ published writer.now) × (reader_board x ≡ writer_board writer.now))
+            readers.items }
+        ensures nodes { IfOk result (λ given. IfSome given
+            (λ nodes. AreFirstNodes self.now (node_count self.now.topology) nodes.items)) }
+        ensures boards { IfOk result (λ given. IfSome given
+            (λ nodes. All (λ n. reader_board n.reader ≡ writer_board writer.now) nodes.items)) }
+        ensures fresh { IfOk result (λ given. IfSome given
+            (λ nodes. All (IsFreshNode (published writer.now)) nodes.items)) }
     {
         let _ = writer;
         let Some((mut senders, mut takers)) = all_ends(self.alloc, &self.ways)? else {
@@ -349,7 +340,8 @@ impl Net {
     ///
     /// An error is that of the board, which has no place for a reader of each node (`TooManyReaders`), or want of memory.
     pub fn parts<R: Wait + Drop>(&self, rt: R) -> Result<Option<Parts<R>>, BoardError>
-        ensures { IfOk result (λ given. IfSome given (λ parts. AreFreshParts self.now parts.nodes.items parts.injector parts.controller)) }
+        ensures { IfOk result (λ given. IfSome given
+            (λ parts. AreFreshParts self.now parts.nodes.items parts.injector parts.controller)) }
     {
         if self.spent.swap(true, Ordering::SeqCst) {
             return Ok(None);
@@ -373,8 +365,10 @@ impl Net {
         readers: Vec<BoardReader>,
     ) -> Result<Option<Parts<R>>, AllocError>
         requires opening { published writer ≡ Opened (length self.now.topology.links) self.now.opening ∷ [] }
-        requires readers { All (λ x. (known x ≡ published writer) × (reader_board x ≡ writer_board writer)) readers.items }
-        ensures { IfOk result (λ given. IfSome given (λ parts. AreFreshParts self.now parts.nodes.items parts.injector parts.controller)) }
+        requires readers { All (λ x. (known x ≡ published writer) × (reader_board x ≡ writer_board writer))
+            readers.items }
+        ensures { IfOk result (λ given. IfSome given
+            (λ parts. AreFreshParts self.now parts.nodes.items parts.injector parts.controller)) }
     {
         let nodes = self.topology.nodes();
         let Some((mut entries, inboxes)) = all_ends(self.alloc, &self.inboxes)? else {
@@ -398,6 +392,7 @@ impl Net {
             self.alloc,
             Arc::try_clone(&self.registry)?,
             &self.opening,
+            self.labels,
             writer,
         );
         Ok(Some(Parts {

@@ -1,8 +1,7 @@
 //! One slot for each packet.
-ghost use Rattle.std.specs.Prelude.{◌≡◌, ◌≤◌, ◌<◌, ◌+◌, [], ℕ, All, List, None, Some, IfOk, length, map, slice_index_or, sum_by, vec_len, vec_capacity};
+ghost use Rattle.std.specs.Prelude.{◌≡◌, ◌≤◌, ◌<◌, ◌+◌, [], ℕ, All, List, None, Some, IfOk, length, map, slice_index_or, sum_by, vec_capacity};
 ghost use Rattle.ir_core.specs.declared.packet.Fate.TheVariants.{Left};
 ghost use Rattle.ir_worker.specs.declared.parcel.Outcome.{Outcome};
-ghost use Rattle.ir_worker.specs.Seen.{SeenParcel};
 ghost use Rattle.ir_control.specs.Slots.{slot_weight, hit, once, AllAt, AllIn, left_in};
 ghost use Rattle.ir_control.specs.Told.{Told, told, told_left, outcome_number, IsOutcomeIn};
 ghost use Rattle.ir_control.specs.Whole.{IsParcelOf};
@@ -49,7 +48,8 @@ pub(crate) fn empty_slots<T: Drop>(
     alloc: Global,
     count: usize,
 ) -> Result<Vec<Option<T>>, AllocError>
-    ensures { IfOk result (λ slots. (length slots.items ≡ count) × ((k : ℕ) → slice_index_or slots.items k None ≡ None)) }
+    ensures { IfOk result (λ slots. (length slots.items ≡ count)
+        × ((k : ℕ) → slice_index_or slots.items k None ≡ None)) }
 {
     let mut slots = Vec::with_capacity(alloc, count)?;
     for _slot in 0..count {
@@ -65,13 +65,16 @@ pub(crate) fn place_rows(
     slots: &mut Vec<Option<Outcome>>,
 )
     requires at { AllAt outcome_number slots.old.items }
-    requires fits { (i : ℕ) → sum_by (slot_weight (hit outcome_number i)) slots.old.items + sum_by (λ row. sum_by (hit outcome_number i) row.items) rows.items ≤ once (length slots.old.items) i }
+    requires fits { (i : ℕ) → sum_by (slot_weight (hit outcome_number i)) slots.old.items
+        + sum_by (λ row. sum_by (hit outcome_number i) row.items) rows.items ≤ once (length slots.old.items) i }
     requires all { AllIn (λ o. IsOutcomeIn opening.now o) slots.old.items }
     requires belongs { All (λ row. All (λ o. IsOutcomeIn opening.now o) row.items) rows.items }
     ensures length { length slots.new.items ≡ length slots.old.items }
     ensures at { AllAt outcome_number slots.new.items }
     ensures all { AllIn (λ o. IsOutcomeIn opening.now o) slots.new.items }
-    ensures weighs { (w : Outcome → ℕ) → sum_by (slot_weight w) slots.new.items ≡ sum_by (slot_weight w) slots.old.items + sum_by (λ row. sum_by w row.items) rows.items }
+    ensures weighs { (w : Outcome → ℕ)
+        → sum_by (slot_weight w) slots.new.items ≡ sum_by (slot_weight w) slots.old.items
+        + sum_by (λ row. sum_by w row.items) rows.items }
 {
     while let Some(row) = rows.pop() {
         place_all(opening, row, slots);
@@ -86,13 +89,16 @@ fn place_rest<R: Wait>(
     slots: &mut Vec<Option<Outcome>>,
 )
     requires at { AllAt outcome_number slots.old.items }
-    requires fits { (i : ℕ) → sum_by (slot_weight (hit outcome_number i)) slots.old.items + sum_by (hit (λ x. x.journey.id) i) channel.left ≤ once (length slots.old.items) i }
+    requires fits { (i : ℕ) → sum_by (slot_weight (hit outcome_number i)) slots.old.items
+        + sum_by (hit (λ x. x.journey.id) i) channel.left ≤ once (length slots.old.items) i }
     requires all { AllIn (λ o. IsOutcomeIn opening.now o) slots.old.items }
     requires belongs { All (λ x. IsParcelOf opening.now x) channel.left }
     ensures length { length slots.new.items ≡ length slots.old.items }
     ensures at { AllAt outcome_number slots.new.items }
     ensures all { AllIn (λ o. IsOutcomeIn opening.now o) slots.new.items }
-    ensures weighs { (w : Told → ℕ) → sum_by (slot_weight (λ o. w (told o))) slots.new.items ≡ sum_by (slot_weight (λ o. w (told o))) slots.old.items + sum_by (λ x. w (told_left x)) channel.left }
+    ensures weighs { (w : Told → ℕ)
+        → sum_by (slot_weight (λ o. w (told o))) slots.new.items
+        ≡ sum_by (slot_weight (λ o. w (told o))) slots.old.items + sum_by (λ x. w (told_left x)) channel.left }
     ensures fates { All (λ x. x.journey.fate ≡ Left) channel.left }
 {
     for _ in rt.forever() {
@@ -111,13 +117,17 @@ pub(crate) fn place_left<R: Wait>(
     slots: &mut Vec<Option<Outcome>>,
 )
     requires at { AllAt outcome_number slots.old.items }
-    requires fits { (i : ℕ) → sum_by (slot_weight (hit outcome_number i)) slots.old.items + sum_by (hit (λ x. x.journey.id) i) (left_in channels.items) ≤ once (length slots.old.items) i }
+    requires fits { (i : ℕ) → sum_by (slot_weight (hit outcome_number i)) slots.old.items
+        + sum_by (hit (λ x. x.journey.id) i) (left_in channels.items) ≤ once (length slots.old.items) i }
     requires all { AllIn (λ o. IsOutcomeIn opening.now o) slots.old.items }
     requires belongs { All (λ x. IsParcelOf opening.now x) (left_in channels.items) }
     ensures length { length slots.new.items ≡ length slots.old.items }
     ensures at { AllAt outcome_number slots.new.items }
     ensures all { AllIn (λ o. IsOutcomeIn opening.now o) slots.new.items }
-    ensures weighs { (w : Told → ℕ) → sum_by (slot_weight (λ o. w (told o))) slots.new.items ≡ sum_by (slot_weight (λ o. w (told o))) slots.old.items + sum_by (λ x. w (told_left x)) (left_in channels.items) }
+    ensures weighs { (w : Told → ℕ)
+        → sum_by (slot_weight (λ o. w (told o))) slots.new.items
+        ≡ sum_by (slot_weight (λ o. w (told o))) slots.old.items
+        + sum_by (λ x. w (told_left x)) (left_in channels.items) }
     ensures fates { All (λ x. x.journey.fate ≡ Left) (left_in channels.items) }
 {
     while let Some(channel) = channels.pop() {
@@ -134,9 +144,11 @@ pub(crate) fn told_in_order(
 )
     requires full { (k : ℕ) → k < length slots.items → (o : Outcome) × (slice_index_or slots.items k None ≡ Some o) }
     requires start { (records.old.items ≡ []) × (stamps.old.items ≡ []) × (later.old.items ≡ []) }
-    requires room { (length slots.items ≤ vec_capacity records.old) × (length slots.items ≤ vec_capacity stamps.old) × (length slots.items ≤ vec_capacity later.old) }
+    requires room { (length slots.items ≤ vec_capacity records.old) × (length slots.items ≤ vec_capacity stamps.old)
+        × (length slots.items ≤ vec_capacity later.old) }
     ensures { (outcomes : List Outcome) × (slots.items ≡ map (λ o. Some o) outcomes)
-        × (records.new.items ≡ map (λ o. o.packet) outcomes) × (stamps.new.items ≡ map (λ o. o.stamp) outcomes) × (later.new.items ≡ map (λ o. o.later) outcomes) }
+        × (records.new.items ≡ map (λ o. o.packet) outcomes) × (stamps.new.items ≡ map (λ o. o.stamp) outcomes)
+        × (later.new.items ≡ map (λ o. o.later) outcomes) }
 {
     for i in 0..slots.len() {
         let Some(outcome) = slots[i].take() else {

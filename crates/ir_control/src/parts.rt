@@ -1,10 +1,5 @@
 //! The parts of a net: its nodes, its injector and its controller.
-ghost use Rattle.std.specs.Prelude.{◌≡◌, ◌<◌, ◌≤◌, ◌+◌, ◌*◌, ℕ, IfOk, IfSome, All, [], Some, None, length, map, take, drop, option_map, slice_get, slice_index, slice_index_or};
-ghost use Rattle.ir_model.specs.Network.{node_count, ports_of, port_at};
-ghost use Rattle.ir_epochs.specs.Stamps.{knows, registry_name};
-ghost use Rattle.ir_epochs.specs.Handles.{known, reader_board, writer_board, published};
-ghost use Rattle.ir_worker.specs.Account.{lines_in, lines_out};
-ghost use Rattle.ir_control.specs.Places.{offset, way_count};
+ghost use Rattle.std.specs.Prelude.{◌≡◌, ◌<◌, ◌≤◌, ◌+◌, ℕ, IfOk, IfSome, Some, None, length, take, slice_index};
 ghost use Rattle.ir_control.specs.Fresh.{AreFreshOuts, AreFreshIns, AreOutsAt, AreInsAt};
 
 use ir_links::{Channel, Sender, Taker};
@@ -16,7 +11,8 @@ pub(crate) fn all_ends(
     alloc: Global,
     channels: &Vec<Channel<Parcel>>,
 ) -> Result<Option<(Vec<Option<Sender<Parcel>>>, Vec<Option<Taker<Parcel>>>)>, AllocError>
-    ensures { IfOk result (λ given. IfSome given (λ ends. AreFreshOuts channels.now.items ends.0.items × AreFreshIns channels.now.items ends.1.items)) }
+    ensures { IfOk result (λ given. IfSome given
+        (λ ends. AreFreshOuts channels.now.items ends.0.items × AreFreshIns channels.now.items ends.1.items)) }
 {
     let mut senders = Vec::with_capacity(alloc, channels.len())?;
     let mut takers = Vec::with_capacity(alloc, channels.len())?;
@@ -65,9 +61,11 @@ pub(crate) fn ins_of(
 ) -> Result<Option<Vec<Taker<Parcel>>>, AllocError>
     requires fresh { AreFreshIns channels.now.items takers.old.items }
     requires within { first + count ≤ length peers.now }
-    requires peers { (length peers.now ≡ length channels.now.items) × ((k : ℕ) → k < length peers.now → slice_index peers.now k < length peers.now) }
+    requires peers { (length peers.now ≡ length channels.now.items)
+        × ((k : ℕ) → k < length peers.now → slice_index peers.now k < length peers.now) }
     ensures fresh { AreFreshIns channels.now.items takers.new.items }
-    ensures ins { IfOk result (λ given. IfSome given (λ ins. AreInsAt channels.now.items peers.now first count ins.items)) }
+    ensures ins { IfOk result (λ given. IfSome given
+        (λ ins. AreInsAt channels.now.items peers.now first count ins.items)) }
 {
     let _all = channels.len();
     let mut ins = Vec::with_capacity(alloc, count)?;

@@ -1,6 +1,6 @@
 //! Which port is the other end of which port's link.
-ghost use Rattle.std.specs.Prelude.{◌≡◌, ℕ, ◌+◌, ◌^◌, ◌<◌, ◌≤◌, Some, IfOk, length, slice_index};
-ghost use Rattle.ir_model.specs.Network.{IsNetwork, node_count, port_at, port_back, ports_of};
+ghost use Rattle.std.specs.Prelude.{◌≡◌, ℕ, ◌+◌, ◌^◌, ◌<◌, Some, IfOk, length, slice_index};
+ghost use Rattle.ir_model.specs.Network.{node_count, port_at, port_back};
 ghost use Rattle.ir_control.specs.Places.{offset, way_count, IsFilled, IsFilledTo, IsPeer};
 
 use ir_tables::{Hop, Topology};
@@ -29,7 +29,8 @@ fn add_peers(
     peers: &mut Vec<usize>,
 ) -> Result<(), AllocError>
     requires node { u < node_count topology.now }
-    requires offsets { (length offsets.now ≡ node_count topology.now) × ((v : ℕ) → v < node_count topology.now → slice_index offsets.now v ≡ offset topology.now v) }
+    requires offsets { (length offsets.now ≡ node_count topology.now)
+        × ((v : ℕ) → v < node_count topology.now → slice_index offsets.now v ≡ offset topology.now v) }
     requires fits { way_count topology.now < 2 ^ 64 }
     requires before { IsFilledTo topology.now (IsPeer topology.now) u 0 peers.old.items }
     ensures { IfOk result (λ _. IsFilledTo topology.now (IsPeer topology.now) (u + 1) 0 peers.new.items) }
@@ -47,7 +48,8 @@ pub fn peers_of(
     topology: &Topology,
     offsets: &[usize],
 ) -> Result<Vec<usize>, AllocError>
-    requires offsets { (length offsets.now ≡ node_count topology.now) × ((v : ℕ) → v < node_count topology.now → slice_index offsets.now v ≡ offset topology.now v) }
+    requires offsets { (length offsets.now ≡ node_count topology.now)
+        × ((v : ℕ) → v < node_count topology.now → slice_index offsets.now v ≡ offset topology.now v) }
     requires fits { way_count topology.now < 2 ^ 64 }
     ensures { IfOk result (λ peers. IsFilled topology.now (IsPeer topology.now) peers.items) }
 {

@@ -59,7 +59,8 @@ pub(crate) fn missing(nodes: &Vec<Node>, count: usize) -> Option<u16>
     requires { count ≤ 65536 }
     ensures { MatchOption result
         ((u : ℕ) → u < count → 0 < sum_by (hit node_number u) nodes.now.items)
-        (λ v. (v < count) × (sum_by (hit node_number v) nodes.now.items ≡ 0) × ((u : ℕ) → u < v → 0 < sum_by (hit node_number u) nodes.now.items)) }
+        (λ v. (v < count) × (sum_by (hit node_number v) nodes.now.items ≡ 0)
+        × ((u : ℕ) → u < v → 0 < sum_by (hit node_number u) nodes.now.items)) }
 {
     for u in 0..count {
         if !has_node(nodes, u) {

@@ -37,7 +37,8 @@ fn reported<R: Wait>(rt: &R, net: &Net, nodes: Vec<Node>, injector: Injector, ro
     requires nodes { AreNodesOf net.now nodes.items }
     requires all { AreAllThere net.now nodes.items }
     requires injector { IsInjectorOf net.now injector }
-    requires room { HasRoom (node_count net.now.topology) (way_count net.now.topology) (length injector.accepted.items) room }
+    requires room { HasRoom (node_count net.now.topology) (way_count net.now.topology)
+        (length injector.accepted.items) room }
     ensures { IsReport net.now nodes.items injector result }
 {
     let Room {

@@ -25,8 +25,11 @@ pub fn join_all(
     requires limits { All (λ t. t.line.place.restamps ≡ restamps) takers.items }
     requires of_net { All (λ x. IsParcelOf opening.now x) (left_in channels.old.items) }
     requires few { All (λ x. IsFew restamps x) (left_in channels.old.items) }
-    ensures account { (w : SeenParcel → ℕ) → times_in_slots w senders.items + sum_by w (left_in channels.old.items) ≡ weight_taken w takers.items + sum_by w (left_in channels.new.items) }
-    ensures room { (vec_capacity channels.new ≡ vec_capacity channels.old) × (vec_len channels.new ≤ vec_len channels.old + length takers.items) }
+    ensures account { (w : SeenParcel → ℕ)
+        → times_in_slots w senders.items + sum_by w (left_in channels.old.items) ≡ weight_taken w takers.items
+        + sum_by w (left_in channels.new.items) }
+    ensures room { (vec_capacity channels.new ≡ vec_capacity channels.old)
+        × (vec_len channels.new ≤ vec_len channels.old + length takers.items) }
     ensures of_net { All (λ x. IsParcelOf opening.now x) (left_in channels.new.items) }
     ensures few { All (λ x. IsFew restamps x) (left_in channels.new.items) }
 {

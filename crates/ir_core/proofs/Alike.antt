@@ -7,7 +7,10 @@ use Rattle.ir_model.specs.declared.Hop.{Hop}
 use Rattle.ir_model.specs.declared.Kind.{Kind}
 use Rattle.ir_model.specs.Network.{Network, ports_of, restrict}
 use Rattle.ir_model.specs.Walk.{IsConnected, IsDisconnected}
-use Rattle.ir_model.specs.Scheme.{Scheme, IsScheme, HasDepthFirst}
+use Rattle.ir_model.specs.Scheme.{Scheme, IsScheme}
+use Rattle.ir_plan.specs.declared.tour.LabelOrder.{LabelOrder}
+use Rattle.ir_plan.specs.Starts.{IsLabelledBy}
+use Rattle.ir_core.specs.declared.opening.Opening.{Opening}
 use Rattle.ir_core.specs.declared.TheConstants.{MAX_CHANGES, MAX_EPOCHS}
 use Rattle.ir_core.specs.declared.board.Board.{Board}
 use Rattle.ir_core.specs.Board.{is_up, marked, retired_below, installed}
@@ -33,49 +36,56 @@ use Rattle.ir_core.specs.Run.{IsStepAnswered, IsRun}
 use Rattle.ir_core.specs.Drain.{after_read, after_act, after_take, after_way, after_ports, after_visit, after_visits, after_rounds}
 use Rattle.ir_core.specs.Installed.{IsControlled, IsControlRun, AreBuiltFrom, IsChange, NoneWantsMemory, AreEpochsOf}
 
--- two schemes of one kind, root and network, the first with depth-first labels
-abbrev IsTwin : Scheme → Scheme → Type 0
-IsTwin s t = (s.kind ≡ t.kind) × (s.root ≡ t.root) × (s.network ≡ t.network) × IsScheme s × HasDepthFirst s
+-- two schemes of one kind, root and network, the first labelled in this order
+abbrev IsTwin : LabelOrder → Scheme → Scheme → Type 0
+IsTwin n s t = (s.kind ≡ t.kind) × (s.root ≡ t.root) × (s.network ≡ t.network) × IsScheme s × IsLabelledBy n s
 
-abbrev AreTwins : List Scheme → List Scheme → Type 0
-AreTwins [] [] = Unit {0}
-AreTwins [] (t ∷ ts) = ⊥
-AreTwins (s ∷ ss) [] = ⊥
-AreTwins (s ∷ ss) (t ∷ ts) = IsTwin s t × AreTwins ss ts
+abbrev AreTwins : LabelOrder → List Scheme → List Scheme → Type 0
+AreTwins n [] [] = Unit {0}
+AreTwins n [] (t ∷ ts) = ⊥
+AreTwins n (s ∷ ss) [] = ⊥
+AreTwins n (s ∷ ss) (t ∷ ts) = IsTwin n s t × AreTwins n ss ts
 
 -- two histories with the same boards, and schemes of the same kinds, roots and networks
 record AreAlike (o p : Setting) (log other : List Entry) : Type 0 where
   boards : history.boards log ≡ history.boards other
-  plans : AreTwins (history.plans o log) (history.plans p other)
+  plans : AreTwins o.labels (history.plans o log) (history.plans p other)
 
-twins-length : (ss ts : List Scheme) → AreTwins ss ts → length ss ≡ length ts
-twins-length [] [] h = refl
-twins-length [] (t ∷ ts) h = absurd h
-twins-length (s ∷ ss) [] h = absurd h
-twins-length (s ∷ ss) (t ∷ ts) h = ap suc (twins-length ss ts h.1)
+twins-length : (n : LabelOrder) (ss ts : List Scheme) → AreTwins n ss ts → length ss ≡ length ts
+twins-length n [] [] h = refl
+twins-length n [] (t ∷ ts) h = absurd h
+twins-length n (s ∷ ss) [] h = absurd h
+twins-length n (s ∷ ss) (t ∷ ts) h = ap suc (twins-length n ss ts h.1)
 
-twins-push : (ss ts : List Scheme) (s t : Scheme) → AreTwins ss ts → IsTwin s t → AreTwins (ss ++ s ∷ []) (ts ++ t ∷ [])
-twins-push [] [] s t h is = (is, tt)
-twins-push [] (y ∷ ts) s t h is = absurd h
-twins-push (x ∷ ss) [] s t h is = absurd h
-twins-push (x ∷ ss) (y ∷ ts) s t h is = (h.0, twins-push ss ts s t h.1 is)
+twins-push : (n : LabelOrder) (ss ts : List Scheme) (s t : Scheme) → AreTwins n ss ts → IsTwin n s t → AreTwins n (ss ++ s ∷ []) (ts ++ t ∷ [])
+twins-push n [] [] s t h is = (is, tt)
+twins-push n [] (y ∷ ts) s t h is = absurd h
+twins-push n (x ∷ ss) [] s t h is = absurd h
+twins-push n (x ∷ ss) (y ∷ ts) s t h is = (h.0, twins-push n ss ts s t h.1 is)
 
-twins_built : (o p : Setting) → o.network ≡ p.network → (installs : List Install) (ss ts : List Scheme) → AreTwins ss ts → AreBuiltFrom p installs ts → AreBuiltFrom o installs ss
-twins_built o p same [] [] [] h built = tt
-twins_built o p same [] [] (t ∷ ts) h built = absurd h
-twins_built o p same [] (s ∷ ss) [] h built = absurd h
-twins_built o p same [] (s ∷ ss) (t ∷ ts) h built = absurd built
-twins_built o p same (i ∷ installs) [] [] h built = absurd built
-twins_built o p same (i ∷ installs) [] (t ∷ ts) h built = absurd h
-twins_built o p same (i ∷ installs) (s ∷ ss) [] h built = absurd h
-twins_built o p same (i ∷ installs) (s ∷ ss) (t ∷ ts) h built =
+twins_built : (o p : Setting) → o.network ≡ p.network → o.labels ≡ p.labels → (installs : List Install) (ss ts : List Scheme) → AreTwins o.labels ss ts → AreBuiltFrom p installs ts → AreBuiltFrom o installs ss
+twins_built o p same order [] [] [] h built = tt
+twins_built o p same order [] [] (t ∷ ts) h built = absurd h
+twins_built o p same order [] (s ∷ ss) [] h built = absurd h
+twins_built o p same order [] (s ∷ ss) (t ∷ ts) h built = absurd built
+twins_built o p same order (i ∷ installs) [] [] h built = absurd built
+twins_built o p same order (i ∷ installs) [] (t ∷ ts) h built = absurd h
+twins_built o p same order (i ∷ installs) (s ∷ ss) [] h built = absurd h
+twins_built o p same order (i ∷ installs) (s ∷ ss) (t ∷ ts) h built =
     let twin = h.0 in
     let made = built.0.1 in (
       (
         built.0.0 ∙ ap (λ (net : Network). length net.links) (sym same),
-        (twin.0 ∙ made.0, twin.1 ∙ made.1, twin.2 ∙ made.2 ∙ ap (λ (net : Network). restrict i.up.items net) (sym same), twin.3, twin.4),
+        (
+          twin.0 ∙ made.0,
+          twin.1 ∙ made.1,
+          twin.2 ∙ made.2 ∙ ap (λ (net : Network). restrict i.up.items net) (sym same),
+          twin.3,
+          subst (λ (n : LabelOrder). IsLabelledBy n s) (order ∙ sym built.0.2) twin.4,
+        ),
+        built.0.2 ∙ sym order,
       ),
-      twins_built o p same installs ss ts h.1 built.1,
+      twins_built o p same order installs ss ts h.1 built.1,
     )
 
 -- Entries of the steps that are no controller's change neither boards nor schemes.
@@ -183,7 +193,7 @@ kept_rounds o (suc k) log = keeps_both o log (after_rounds o k log) (after_round
 -- a step that is passed over leaves histories alike
 alike_kept : (o p : Setting) (log mid other : List Entry) → SameEpochs o log mid → AreAlike o p log other → AreAlike o p mid other
 alike_kept o p log mid other keeps is =
-    record { boards = keeps.boards ∙ is.boards; plans = subst (λ (schemes : List Scheme). AreTwins schemes (history.plans p other)) (sym keeps.plans) is.plans }
+    record { boards = keeps.boards ∙ is.boards; plans = subst (λ (schemes : List Scheme). AreTwins o.labels schemes (history.plans p other)) (sym keeps.plans) is.plans }
 
 -- what a change of the board comes to
 abbrev IsBoardChange : Result Entry Refused → Type 0
@@ -261,27 +271,27 @@ module _ (o p : Setting) (over : o.network ≡ p.network) where
   refused_same : (log other : List Entry) → AreAlike o p log other → (root : ℕ) → install_refused o (sight_after o log) root ≡ install_refused p (sight_after p other) root
   refused_same log other is root =
       ap (λ (boards : List Board). install_refused o (record (sight_after o log) { boards = boards }) root) is.boards
-      ∙ ap (λ (n : ℕ). cond (not (nat_lt root (nodes_of o))) (Some NoNode) (cond (nat_le MAX_EPOCHS n) (Some EpochsFull) (cond (nat_le MAX_CHANGES (newest_of (history.boards other)).version) (Some TooManyChanges) None))) (twins-length _ _ is.plans)
+      ∙ ap (λ (n : ℕ). cond (not (nat_lt root (nodes_of o))) (Some NoNode) (cond (nat_le MAX_EPOCHS n) (Some EpochsFull) (cond (nat_le MAX_CHANGES (newest_of (history.boards other)).version) (Some TooManyChanges) None))) (twins-length _ _ _ is.plans)
       ∙ ap (λ (net : Network). install_refused (record p { network = net }) (sight_after p other) root) over
 
-  not_both : (kind : Kind) (root : ℕ) (net : Network) (t : Scheme) → IsMade kind root net (Some t) → IsDisconnected net → ⊥
-  not_both kind root net t made apart =
+  not_both : (labels : LabelOrder) (kind : Kind) (root : ℕ) (net : Network) (t : Scheme) → IsMade labels kind root net (Some t) → IsDisconnected net → ⊥
+  not_both labels kind root net t made apart =
       let walk = subst (λ (n : Network). IsConnected n) made.2 made.3.connected apart.0 apart.1 apart.2 apart.3 in
       apart.4 walk.0 walk.1
 
-  installed_alike : (log other : List Entry) → AreAlike o p log other → (kind : Kind) (root : ℕ) (x y : Option Scheme) → IsMade kind root (network_up o (sight_after o log)) x → IsMade kind root (network_up p (sight_after p other)) y →
+  installed_alike : (log other : List Entry) → AreAlike o p log other → (kind : Kind) (root : ℕ) (x y : Option Scheme) → IsMade o.labels kind root (network_up o (sight_after o log)) x → IsMade p.labels kind root (network_up p (sight_after p other)) y →
       AreAlike o p (with_entry log (installs_made (sight_after o log) x)) (with_entry other (installs_made (sight_after p other) y))
   installed_alike log other is kind root None None made given = is
   installed_alike log other is kind root None (Some u) made given =
-      absurd (not_both kind root (network_up p (sight_after p other)) u given (subst (λ (net : Network). IsDisconnected net) (up_same log other is) made))
+      absurd (not_both p.labels kind root (network_up p (sight_after p other)) u given (subst (λ (net : Network). IsDisconnected net) (up_same log other is) made))
   installed_alike log other is kind root (Some t) None made given =
-      absurd (not_both kind root (network_up o (sight_after o log)) t made (subst (λ (net : Network). IsDisconnected net) (sym (up_same log other is)) given))
+      absurd (not_both o.labels kind root (network_up o (sight_after o log)) t made (subst (λ (net : Network). IsDisconnected net) (sym (up_same log other is)) given))
   installed_alike log other is kind root (Some t) (Some u) made given =
-      let count = twins-length (history.plans o log) (history.plans p other) is.plans in
+      let count = twins-length o.labels (history.plans o log) (history.plans p other) is.plans in
       let board = ap (λ (boards : List Board). installed (newest_of boards) (length (history.plans o log) + 1)) is.boards ∙ ap (λ (n : ℕ). installed (newest_of (history.boards other)) (n + 1)) count in
       record {
         boards = ap (λ (boards : List Board). boards ++ installed (newest_of (history.boards log)) (length (history.plans o log) + 1) ∷ []) is.boards ∙ ap (λ (b : Board). history.boards other ++ b ∷ []) board;
-        plans = twins-push (history.plans o log) (history.plans p other) t u is.plans
+        plans = twins-push o.labels (history.plans o log) (history.plans p other) t u is.plans
             (made.0 ∙ sym given.0, made.1 ∙ sym given.1, made.2 ∙ up_same log other is ∙ sym given.2, made.3, made.4);
       }
 
@@ -348,17 +358,17 @@ module _ (o p : Setting) (over : o.network ≡ p.network) where
       (All-tail (λ (r : Result Reply Refused). r ≢ Err NoMemory) reply replies memory) run.2 control.2
 
 -- the first epochs of two openings alike
-opened_alike : (net : Network) (kind : Kind) (root room most limit : ℕ) (o p : Setting) → IsOpenedWith net kind root room most limit o → IsOpenedWith net kind root room most limit p → AreAlike o p [] []
-opened_alike net kind root room most limit o p a b =
+opened_alike : (opening : Opening) (o p : Setting) → IsOpenedWith opening o → IsOpenedWith opening p → AreAlike o p [] []
+opened_alike opening o p a b =
     let made = a.first in
     let given = b.first in
-    record { boards = refl; plans = ((made.0 ∙ sym given.0, made.1 ∙ sym given.1, made.2 ∙ sym given.2, made.3, made.4), tt) }
+    record { boards = refl; plans = ((made.0 ∙ sym given.0, made.1 ∙ sym given.1, made.2 ∙ sym given.2, made.3, subst (λ (n : LabelOrder). IsLabelledBy n o.first) (sym a.labels) made.4), tt) }
 
 -- the epochs of a run are built from the installs of its steps
-pub epochs_built : (net : Network) (kind : Kind) (root room most limit : ℕ) (steps : List Step) (replies : List (Result Reply Refused)) (world : State) (installs : List Install) →
-    AreEpochsOf net kind root room most limit steps replies world installs
-epochs_built net kind root room most limit steps replies world installs opened played memory built =
+pub epochs_built : (opening : Opening) (steps : List Step) (replies : List (Result Reply Refused)) (world : State) (installs : List Install) →
+    AreEpochsOf opening steps replies world installs
+epochs_built opening steps replies world installs opened played memory built =
     let o = world.opening in
     let over = opened.network ∙ sym built.opened.network in
-    let alike = run_alike o built.setting over steps replies [] [] played.log built.log (opened_alike net kind root room most limit o built.setting opened built.opened) memory played.run built.run in
-    subst (λ (schemes : List Scheme). AreBuiltFrom o installs schemes) (sym played.shows.plans) (twins_built o built.setting over installs (history.plans o played.log) (history.plans built.setting built.log) alike.plans built.built)
+    let alike = run_alike o built.setting over steps replies [] [] played.log built.log (opened_alike opening o built.setting opened built.opened) memory played.run built.run in
+    subst (λ (schemes : List Scheme). AreBuiltFrom o installs schemes) (sym played.shows.plans) (twins_built o built.setting over (opened.labels ∙ sym built.opened.labels) installs (history.plans o played.log) (history.plans built.setting built.log) alike.plans built.built)

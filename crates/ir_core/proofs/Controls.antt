@@ -9,6 +9,8 @@ use Rattle.ir_model.specs.Scheme.{Scheme}
 use Rattle.ir_model.proofs.Restrict.{rows_all}
 use Rattle.ir_core.specs.declared.TheConstants.{MAX_LINKS, MAX_CHANGES}
 use Rattle.ir_core.specs.declared.board.Board.{Board}
+use Rattle.ir_plan.specs.declared.tour.LabelOrder.{LabelOrder}
+use Rattle.ir_core.specs.declared.opening.Opening.{Opening}
 use Rattle.ir_core.specs.declared.built.Install.{Install}
 use Rattle.ir_core.specs.declared.event.Event.{Event}
 use Rattle.ir_core.specs.declared.event.Event.TheVariants as event
@@ -104,22 +106,22 @@ module _ (s new : State) (kind : Kind) (root : ℕ) (reply : Result Reply Refuse
       by_answer log built later (inr a) shows = absurd (memory a.1)
 
   built_by : (log later : List Entry) (installs : List Install) (i : Install) (wanted : Result Entry Refused) (x : Option Refused) → is_ok (reply_to wanted) ≡ true → later ≡ with_entry log wanted →
-      InstallsUnless s.opening (sight_after s.opening log) kind root wanted x → ((t : Scheme) → IsMade kind root (restrict (take (links_of s.opening) (newest (sight_after s.opening log)).up) s.opening.network) (Some t) → IsBuiltFrom s.opening i t) →
+      InstallsUnless s.opening (sight_after s.opening log) kind root wanted x → ((t : Scheme) → IsMade s.opening.labels kind root (restrict (take (links_of s.opening) (newest (sight_after s.opening log)).up) s.opening.network) (Some t) → IsBuiltFrom s.opening i t) →
       AreBuiltFrom s.opening installs (history.plans s.opening log) → AreBuiltFrom s.opening (installs ++ i ∷ []) (history.plans s.opening later)
   built_by log later installs i (Err e) x did is comes from built = cc
   built_by log later installs i (Ok entry) (Some e) did is comes from built = absurd (not_accepted e entry (sym comes))
   built_by log later installs i (Ok entry) None did is comes from built = by_made comes.0 comes.1 comes.2
     where
-      by_made : (made : Option Scheme) → IsMade kind root (restrict (take (links_of s.opening) (newest (sight_after s.opening log)).up) s.opening.network) made → Ok entry ≡ installs_made (sight_after s.opening log) made →
+      by_made : (made : Option Scheme) → IsMade s.opening.labels kind root (restrict (take (links_of s.opening) (newest (sight_after s.opening log)).up) s.opening.network) made → Ok entry ≡ installs_made (sight_after s.opening log) made →
           AreBuiltFrom s.opening (installs ++ i ∷ []) (history.plans s.opening later)
       by_made None m e = absurd (not_accepted Disconnected entry (sym e))
       by_made (Some t) m e =
           let plans = ap (λ (x : List Entry). history.plans s.opening x) is ∙ ap (λ (x : Entry). history.plans s.opening (x ∷ log)) (same_entry entry _ e) in
           subst (λ (schemes : List Scheme). AreBuiltFrom s.opening (installs ++ i ∷ []) schemes) (sym plans) (built_push s.opening installs (history.plans s.opening log) i t built (from t m))
 
-  pub install_accepted_so : is_ok reply ≡ true → (i : Install) → i.kind ≡ kind → i.root ≡ root → length i.up.items ≡ links_of s.opening → i.up.items ≡ take (links_of s.opening) (newest (sight_in s)).up → (installs : List Install) →
+  pub install_accepted_so : is_ok reply ≡ true → (i : Install) → i.labels ≡ s.opening.labels → i.kind ≡ kind → i.root ≡ root → length i.up.items ≡ links_of s.opening → i.up.items ≡ take (links_of s.opening) (newest (sight_in s)).up → (installs : List Install) →
       ControlsOn s (step.Event (event.Install kind root)) installs new (installs ++ i ∷ [])
-  install_accepted_so did i same_kind same_root marks is_up installs = (same, λ log k built. by_answer log k built (answers log k).0 (answers log k).1 (answers log k).2)
+  install_accepted_so did i same_labels same_kind same_root marks is_up installs = (same, λ log k built. by_answer log k built (answers log k).0 (answers log k).1 (answers log k).2)
     where
       by_answer : (log : List Entry) → Shows log s → AreBuiltFrom s.opening installs (history.plans s.opening log) → (later : List Entry) → IsAnswered s.opening log (event.Install kind root) reply later → Shows later new →
           (x : List Entry) × IsControlled s.opening log (step.Event (event.Install kind root)) x × Shows x new × AreBuiltFrom s.opening (installs ++ i ∷ []) (history.plans s.opening x)
@@ -129,7 +131,7 @@ module _ (s new : State) (kind : Kind) (root : ℕ) (reply : Result Reply Refuse
             (a.0, a.1, a.3),
             shows,
             built_by log later installs i a.0 (install_refused s.opening (sight_after s.opening log) root) (sym (ap (λ (r : Result Reply Refused). is_ok r) a.2) ∙ did) a.3 a.1
-                (λ t m. (marks, subst (λ (k : Kind). IsMade k i.root (restrict i.up.items s.opening.network) (Some t)) (sym same_kind) (subst (λ (n : ℕ). IsMade kind n (restrict i.up.items s.opening.network) (Some t)) (sym same_root) (subst (λ (xs : List Bool). IsMade kind root (restrict xs s.opening.network) (Some t)) (sym here) m)))) built,
+                (λ t m. (marks, subst (λ (n : LabelOrder). IsMade n i.kind i.root (restrict i.up.items s.opening.network) (Some t)) (sym same_labels) (subst (λ (k : Kind). IsMade s.opening.labels k i.root (restrict i.up.items s.opening.network) (Some t)) (sym same_kind) (subst (λ (n : ℕ). IsMade s.opening.labels kind n (restrict i.up.items s.opening.network) (Some t)) (sym same_root) (subst (λ (xs : List Bool). IsMade s.opening.labels kind root (restrict xs s.opening.network) (Some t)) (sym here) m))), same_labels)) built,
           )
       by_answer log k built later (inr a) shows = absurd (memory a.1)
 
@@ -147,40 +149,40 @@ restrict_all net ok few =
 
 -- the install of the first epoch
 pub first_built : (s : State) → IsState s → Shows [] s → (i : Install) → length i.up.items ≡ links_of s.opening → i.up.items ≡ take (links_of s.opening) (newest (sight_in s)).up →
-    IsMade i.kind i.root s.opening.network (Some s.opening.first) → AreBuiltFrom s.opening (i ∷ []) (s.opening.first ∷ [])
-first_built s ok k i marks is_up made =
+    i.labels ≡ s.opening.labels → IsMade s.opening.labels i.kind i.root s.opening.network (Some s.opening.first) → AreBuiltFrom s.opening (i ∷ []) (s.opening.first ∷ [])
+first_built s ok k i marks is_up same_labels made =
     let here : i.up.items ≡ take (links_of s.opening) (replicate MAX_LINKS true) = is_up ∙ ap (λ (boards : List Board). take (links_of s.opening) (newest_of boards).up) k.boards in
     let whole = ap (λ (xs : List Bool). restrict xs s.opening.network) here ∙ restrict_all s.opening.network ok.opening.network ok.opening.few_links in
-    ((marks, subst (λ (net : Network). IsMade i.kind i.root net (Some s.opening.first)) (sym whole) made), tt)
+    ((marks, subst (λ (n : LabelOrder). IsMade n i.kind i.root (restrict i.up.items s.opening.network) (Some s.opening.first)) (sym same_labels) (subst (λ (net : Network). IsMade s.opening.labels i.kind i.root net (Some s.opening.first)) (sym whole) made), same_labels), tt)
 
 run_more : (o : Setting) (log mid later : List Entry) (steps : List Step) (s : Step) → IsControlRun o log steps mid → IsControlled o mid s later → IsControlRun o log (steps ++ s ∷ []) later
 run_more o log mid later [] s run next = (later, subst (λ (x : List Entry). IsControlled o x s later) run next, refl)
 run_more o log mid later (y ∷ steps) s run next = (run.0, run.1, run_more o run.0 mid later steps s run.2 next)
 
 -- the steps so far
-pub record ControlSo (net : Network) (kind : Kind) (root room most limit : ℕ) (steps : List Step) (world : State) (installs : List Install) : Type 0 where
-  pub opened : IsOpenedWith net kind root room most limit world.opening
+pub record ControlSo (opening : Opening) (steps : List Step) (world : State) (installs : List Install) : Type 0 where
+  pub opened : IsOpenedWith opening world.opening
   pub log : List Entry
   pub run : IsControlRun world.opening [] steps log
   pub shows : Shows log world
   pub built : AreBuiltFrom world.opening installs (history.plans world.opening log)
 
-pub control_more : (net : Network) (kind : Kind) (root room most limit : ℕ) (steps : List Step) (s : Step) (world new : State) (installs more : List Install) → ControlSo net kind root room most limit steps world installs →
-    ControlsOn world s installs new more → ControlSo net kind root room most limit (steps ++ s ∷ []) new more
-control_more net kind root room most limit steps s world new installs more so on =
+pub control_more : (opening : Opening) (steps : List Step) (s : Step) (world new : State) (installs more : List Install) → ControlSo opening steps world installs →
+    ControlsOn world s installs new more → ControlSo opening (steps ++ s ∷ []) new more
+control_more opening steps s world new installs more so on =
     let next = on.1 so.log so.shows so.built in
     let back = sym on.0 in
     record {
-      opened = subst (λ (o : Setting). IsOpenedWith net kind root room most limit o) back so.opened;
+      opened = subst (λ (o : Setting). IsOpenedWith opening o) back so.opened;
       log = next.0;
       run = subst (λ (o : Setting). IsControlRun o [] (steps ++ s ∷ []) next.0) back (run_more world.opening [] so.log next.0 steps s so.run next.1);
       shows = next.2;
       built = subst (λ (o : Setting). AreBuiltFrom o more (history.plans o next.0)) back next.3;
     }
 
-pub control_all : (net : Network) (kind : Kind) (root room most limit : ℕ) (steps all : List Step) (world : State) (installs : List Install) → steps ≡ all → ControlSo net kind root room most limit steps world installs →
-    AreInstalls net kind root room most limit all installs
-control_all net kind root room most limit steps all world installs same so =
+pub control_all : (opening : Opening) (steps all : List Step) (world : State) (installs : List Install) → steps ≡ all → ControlSo opening steps world installs →
+    AreInstalls opening all installs
+control_all opening steps all world installs same so =
     record { setting = world.opening; opened = so.opened; log = so.log; run = subst (λ (xs : List Step). IsControlRun world.opening [] xs so.log) same so.run; built = so.built }
 
 -- what holds of all installs holds of these

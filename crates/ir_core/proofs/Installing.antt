@@ -53,15 +53,15 @@ up_in o b = restrict (take (links_of o) b.up) o.network
 
 -- an install over a disconnected network
 pub disconnected_here : (s now : State) → s ≡ now → (kind : Kind) (root : ℕ) (b : Board) → b ≡ newest_of s.boards → install_refused s.opening (sight_in s) root ≡ None →
-    IsMade kind root (up_in s.opening b) None → IsInstallAnswer now now kind root (Err Disconnected)
+    IsMade s.opening.labels kind root (up_in s.opening b) None → IsInstallAnswer now now kind root (Err Disconnected)
 disconnected_here s now same kind root b is none apart =
-    let made : IsMade kind root (network_up s.opening (sight_in s)) None = subst (λ (x : Board). IsMade kind root (up_in s.opening x) None) is apart in
+    let made : IsMade s.opening.labels kind root (network_up s.opening (sight_in s)) None = subst (λ (x : Board). IsMade s.opening.labels kind root (up_in s.opening x) None) is apart in
     let comes : Installs s.opening (sight_in s) kind root (Err Disconnected) =
     subst (λ (x : Option Refused). InstallsUnless s.opening (sight_in s) kind root (Err Disconnected) x) (sym none) (None, made, refl) in
     subst (λ (x : State). IsInstallAnswer x x kind root (Err Disconnected)) same (inl (Err Disconnected, comes, (refl, refl)))
 
 -- a scheme that was made over the links that are up is a plan for the network
-pub made_plan : (o : Setting) (kind : Kind) (root : ℕ) (up : List Bool) (t : Scheme) → IsMade kind root (restrict up o.network) (Some t) → IsPlanFor o t
+pub made_plan : (o : Setting) (kind : Kind) (root : ℕ) (up : List Bool) (t : Scheme) → IsMade o.labels kind root (restrict up o.network) (Some t) → IsPlanFor o t
 made_plan o kind root up t is = record {
   scheme = is.3;
   nodes = ap (λ (n : Network). length n.ports) is.2 ∙ node_count-restrict up o.network;
@@ -80,9 +80,9 @@ whole_plan o t is same = record {
 
 -- an install that is accepted
 pub installed_here : (s now : State) → s ≡ now → (kind : Kind) (root epoch : ℕ) (b : Board) (t : Scheme) (new : State) → b ≡ newest_of s.boards → install_refused s.opening (sight_in s) root ≡ None →
-    IsMade kind root (up_in s.opening b) (Some t) → epoch ≡ length s.plans + 1 → new ≡ record s { boards = s.boards ++ installed b epoch ∷ []; plans = s.plans ++ t ∷ [] } → IsInstallAnswer now new kind root (Ok (Installed epoch))
+    IsMade s.opening.labels kind root (up_in s.opening b) (Some t) → epoch ≡ length s.plans + 1 → new ≡ record s { boards = s.boards ++ installed b epoch ∷ []; plans = s.plans ++ t ∷ [] } → IsInstallAnswer now new kind root (Ok (Installed epoch))
 installed_here s now same kind root epoch b t new is none made is_epoch to =
-    let made' : IsMade kind root (network_up s.opening (sight_in s)) (Some t) = subst (λ (x : Board). IsMade kind root (up_in s.opening x) (Some t)) is made in
+    let made' : IsMade s.opening.labels kind root (network_up s.opening (sight_in s)) (Some t) = subst (λ (x : Board). IsMade s.opening.labels kind root (up_in s.opening x) (Some t)) is made in
     let entry : Entry = DidInstall (length s.plans + 1) t (installed (newest (sight_in s)) (length s.plans + 1)) in
     let comes : Installs s.opening (sight_in s) kind root (Ok entry) =
     subst (λ (x : Option Refused). InstallsUnless s.opening (sight_in s) kind root (Ok entry) x) (sym none) (Some t, made', refl) in

@@ -1,16 +1,18 @@
-use Rattle.std.proofs.Common.{◌≡◌, ℕ, zero, suc, ◌+◌, ◌*◌, List, [], ◌∷◌, replicate, slice_get, slice_index_or, Option, Some, None, refl, sym, ap, ◌∙◌, subst, arith, ◌<◌, ◌≤◌, length, true, false, Bool, cond, not, ◌==◌}
+use Rattle.std.proofs.Common.{◌≡◌, ℕ, zero, suc, ◌+◌, ◌*◌, List, [], ◌∷◌, replicate, slice_get, slice_index_or, Option, Some, None, refl, sym, ap, ◌∙◌, subst, arith, ◌<◌, ◌≤◌, length, true, false, Bool, cond, not, ◌==◌, inl}
 use Rattle.std.specs.Prelude.{◌&&◌, nat_le}
 use Rattle.std.proofs.lemmas.Grind.{common_steps}
-use Rattle.ir_model.specs.declared.Kind.{Kind}
 use Rattle.ir_core.specs.declared.TheConstants.{MAX_NODES, MAX_LINKS, MAX_CAPACITY, MAX_PACKETS, MAX_RESTAMPS}
 use Rattle.ir_core.specs.declared.event.OpenError.{OpenError}
-use Rattle.ir_core.specs.declared.event.OpenError.TheVariants.{NoNode, Empty, TooLarge}
-use Rattle.ir_core.specs.Opened.{open_refused, is_small, is_within}
+use Rattle.ir_core.specs.declared.event.OpenError.TheVariants.{NoNode, Empty, Disconnected, TooLarge}
+use Rattle.ir_plan.specs.declared.tour.LabelOrder.{LabelOrder}
+use Rattle.ir_core.specs.declared.opening.Opening.{Opening}
+use Rattle.ir_core.specs.Opened.{open_refused, is_small, is_within, setting_of, IsRefusedAs, IsOpenRefusal}
 use Rattle.ir_core.specs.Meaning.{IsMade}
 use Rattle.ir_core.proofs.Installing.{whole_plan}
 use Rattle.std.proofs.lemmas.Option.{none-some}
 use Rattle.std.proofs.lemmas.List.{length-replicate}
 use Rattle.ir_model.specs.Scheme.{Scheme}
+use Rattle.ir_model.specs.Walk.{IsDisconnected}
 use Rattle.ir_model.specs.Network.{Network, node_count, IsNetwork}
 use Rattle.ir_core.specs.Journey.{Journey}
 use Rattle.ir_core.specs.declared.packet.Held.{Held}
@@ -89,9 +91,9 @@ opened_shows o = record {
 }
 
 -- a world's fields, as contracts see them
-abbrev pub made : Network → ℕ → ℕ → ℕ → List Board → List Scheme → List ℕ → List (Option Held) → List (List ℕ) → List Journey → State
-made net capacity max_packets restamps boards plans views hands channels records = record {
-  opening = record { network = net; first = slice_index_or plans 0 no_scheme; capacity = capacity; max_packets = max_packets; restamps = restamps };
+abbrev pub made : Network → LabelOrder → ℕ → ℕ → ℕ → List Board → List Scheme → List ℕ → List (Option Held) → List (List ℕ) → List Journey → State
+made net labels capacity max_packets restamps boards plans views hands channels records = record {
+  opening = record { network = net; labels = labels; first = slice_index_or plans 0 no_scheme; capacity = capacity; max_packets = max_packets; restamps = restamps };
   boards = boards;
   plans = plans;
   learnt = 1;
@@ -103,7 +105,7 @@ made net capacity max_packets restamps boards plans views hands channels records
 
 pub made_is : (o : Setting) (boards : List Board) (plans : List Scheme) (views : List ℕ) (hands : List (Option Held)) (channels : List (List ℕ)) (records : List Journey) →
     boards ≡ opening_board ∷ [] → plans ≡ o.first ∷ [] → views ≡ replicate (nodes_of o) 0 → hands ≡ replicate (nodes_of o) None → channels ≡ replicate (nodes_of o + 2 * links_of o) [] → records ≡ [] →
-    made o.network o.capacity o.max_packets o.restamps boards plans views hands channels records ≡ opened o
+    made o.network o.labels o.capacity o.max_packets o.restamps boards plans views hands channels records ≡ opened o
 made_is o boards plans views hands channels records a b c d e f = rw (a, b, c, d, e, f) refl
 
 pub made_kept : (o : Setting) → IsSetting o → (s : State) → s ≡ opened o → IsState s
@@ -123,12 +125,21 @@ not_refused false true c n = absurd (n NoNode refl)
 not_refused false false true n = (refl, refl)
 not_refused false false false n = absurd (n TooLarge refl)
 
+-- an opening that is not refused before a scheme is made, over a disconnected network
+pub apart_refused : (opening : Opening) → ((e : OpenError) → open_refused opening ≡ Some e → ⊥) → IsDisconnected opening.topology → IsOpenRefusal opening Disconnected
+apart_refused opening accepted apart = by (open_refused opening) accepted
+  where
+    by : (x : Option OpenError) → ((e : OpenError) → x ≡ Some e → ⊥) → IsRefusedAs opening.topology Disconnected x
+    by (Some e) none = absurd (none e refl)
+    by None none = inl (refl, apart)
+
 within : (n most : ℕ) → is_within n most ≡ true → (0 < n) × (n ≤ most)
 within n most e = let parts = both_true (not (n == 0)) (nat_le n most) e in let a = parts.0 in let b = parts.1 in (grind (arith, common_steps), grind (arith, common_steps))
 
-pub setting_of : (kind : Kind) (root : ℕ) (o : Setting) → ((e : OpenError) → open_refused o.network root o.capacity o.max_packets o.restamps ≡ Some e → ⊥) → IsMade kind root o.network (Some o.first) → IsSetting o
-setting_of kind root o accepted made =
-    let parts = not_refused (node_count o.network == 0) (nat_le (node_count o.network) root) (is_small o.network o.capacity o.max_packets o.restamps) accepted in
+pub setting_is : (opening : Opening) (first : Scheme) → ((e : OpenError) → open_refused opening ≡ Some e → ⊥) → IsMade opening.labels opening.kind opening.root opening.topology (Some first) → IsSetting (setting_of opening first)
+setting_is opening first accepted made =
+    let o = setting_of opening first in
+    let parts = not_refused (node_count o.network == 0) (nat_le (node_count o.network) opening.root) (is_small opening) accepted in
     let a = parts.0 in
     let p = small_parts (nat_le (node_count o.network) MAX_NODES) (nat_le (length o.network.links) MAX_LINKS) (is_within o.capacity MAX_CAPACITY) (is_within o.max_packets MAX_PACKETS) (nat_le o.restamps MAX_RESTAMPS) parts.1 in
     let nodes = p.0 in

@@ -1,7 +1,6 @@
 use Rattle.std.proofs.Common.{◌≡◌, ℕ, List, [], ◌∷◌, ◌++◌, None, refl, sym, subst}
 use Rattle.std.specs.Prelude.{Result}
-use Rattle.ir_model.specs.declared.Kind.{Kind}
-use Rattle.ir_model.specs.Network.{Network}
+use Rattle.ir_core.specs.declared.opening.Opening.{Opening}
 use Rattle.ir_core.specs.declared.event.Step.{Step}
 use Rattle.ir_core.specs.declared.event.Reply.{Reply}
 use Rattle.ir_core.specs.declared.event.Refused.{Refused}
@@ -25,29 +24,29 @@ run_more o log (y ∷ steps) (x ∷ replies) mid later s r run answered =
     (run.0, run.1, run_more o run.0 steps replies mid later s r run.2 answered)
 
 -- a run so far
-pub record Ran (net : Network) (kind : Kind) (root room most limit : ℕ) (steps : List Step) (replies : List (Result Reply Refused)) (world : State) : Type 0 where
-  pub opened : IsOpenedWith net kind root room most limit world.opening
-  pub accepted : open_refused net root room most limit ≡ None
+pub record Ran (opening : Opening) (steps : List Step) (replies : List (Result Reply Refused)) (world : State) : Type 0 where
+  pub opened : IsOpenedWith opening world.opening
+  pub accepted : open_refused opening ≡ None
   pub log : List Entry
   pub run : IsRun world.opening [] steps replies log
   pub shows : Shows log world
 
-pub ran_more : (net : Network) (kind : Kind) (root room most limit : ℕ) (steps : List Step) (replies : List (Result Reply Refused)) (world new : State) (s : Step) (r : Result Reply Refused) →
-    Ran net kind root room most limit steps replies world → new.opening ≡ world.opening → ((log : List Entry) → Shows log world → StepsAfter log s r world.opening new) →
-    Ran net kind root room most limit (steps ++ s ∷ []) (replies ++ r ∷ []) new
-ran_more net kind root room most limit steps replies world new s r ran same after =
+pub ran_more : (opening : Opening) (steps : List Step) (replies : List (Result Reply Refused)) (world new : State) (s : Step) (r : Result Reply Refused) →
+    Ran opening steps replies world → new.opening ≡ world.opening → ((log : List Entry) → Shows log world → StepsAfter log s r world.opening new) →
+    Ran opening (steps ++ s ∷ []) (replies ++ r ∷ []) new
+ran_more opening steps replies world new s r ran same after =
     let a = after ran.log ran.shows in
     record {
-      opened = subst (λ (o : Setting). IsOpenedWith net kind root room most limit o) (sym same) ran.opened;
+      opened = subst (λ (o : Setting). IsOpenedWith opening o) (sym same) ran.opened;
       accepted = ran.accepted;
       log = a.0;
       run = subst (λ (o : Setting). IsRun o [] (steps ++ s ∷ []) (replies ++ r ∷ []) a.0) (sym same) (run_more world.opening [] steps replies ran.log a.0 s r ran.run a.1);
       shows = a.2;
     }
 
-pub ran_played : (net : Network) (kind : Kind) (root room most limit : ℕ) (steps : List Step) (replies : List (Result Reply Refused)) (world : State) → Ran net kind root room most limit steps replies world →
+pub ran_played : (opening : Opening) (steps : List Step) (replies : List (Result Reply Refused)) (world : State) → Ran opening steps replies world →
     ((log : List Entry) → Shows log world → AllSound world.opening log) → IsPlayed world.opening steps replies world
-ran_played net kind root room most limit steps replies world ran sound =
+ran_played opening steps replies world ran sound =
     let all = sound ran.log ran.shows in
     record {
       log = ran.log;

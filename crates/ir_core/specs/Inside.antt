@@ -10,6 +10,7 @@ abbrev pub state_of : Inside → State
 state_of w = record {
   opening = record {
     network = w.topology;
+    labels = w.labels;
     first = slice_index_or w.plans.items 0 no_scheme;
     capacity = w.capacity;
     max_packets = w.max_packets;

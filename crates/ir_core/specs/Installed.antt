@@ -1,7 +1,6 @@
 -- What the epochs of a list of steps are built from.
-use Rattle.std.specs.Prelude.{◌≡◌, ◌≢◌, ℕ, Some, Result, Err, List, [], ◌∷◌, length, All}
-use Rattle.ir_model.specs.declared.Kind.{Kind}
-use Rattle.ir_model.specs.Network.{Network, restrict}
+use Rattle.std.specs.Prelude.{◌≡◌, ◌≢◌, Some, Result, Err, List, [], ◌∷◌, length, All}
+use Rattle.ir_model.specs.Network.{restrict}
 use Rattle.ir_model.specs.Scheme.{Scheme}
 use Rattle.ir_core.specs.declared.event.Event.{Event}
 use Rattle.ir_core.specs.declared.event.Event.TheVariants as event
@@ -10,6 +9,7 @@ use Rattle.ir_core.specs.declared.event.Step.TheVariants as step
 use Rattle.ir_core.specs.declared.event.Reply.{Reply}
 use Rattle.ir_core.specs.declared.event.Refused.{Refused}
 use Rattle.ir_core.specs.declared.event.Refused.TheVariants.{NoMemory}
+use Rattle.ir_core.specs.declared.opening.Opening.{Opening}
 use Rattle.ir_core.specs.declared.built.Install.{Install}
 use Rattle.ir_core.specs.Setting.{Setting, links_of}
 use Rattle.ir_core.specs.Opened.{IsOpenedWith}
@@ -41,9 +41,11 @@ abbrev pub IsControlRun : Setting → List Entry → List Step → List Entry �
 IsControlRun o log [] later = later ≡ log
 IsControlRun o log (s ∷ steps) later = (mid : List Entry) × IsControlled o log s mid × IsControlRun o mid steps later
 
--- an epoch's scheme is of this kind and root, over the links that are marked; there is a mark for each link
+-- an epoch's scheme is of this kind and root, over the links that are marked, labelled in the order of all; there is a mark
+-- for each link
 abbrev pub IsBuiltFrom : Setting → Install → Scheme → Type 0
-IsBuiltFrom o i s = (length i.up.items ≡ links_of o) × IsMade i.kind i.root (restrict i.up.items o.network) (Some s)
+IsBuiltFrom o i s =
+    (length i.up.items ≡ links_of o) × IsMade i.labels i.kind i.root (restrict i.up.items o.network) (Some s) × (i.labels ≡ o.labels)
 
 abbrev pub AreBuiltFrom : Setting → List Install → List Scheme → Type 0
 AreBuiltFrom o [] [] = Unit {0}
@@ -52,9 +54,9 @@ AreBuiltFrom o (i ∷ installs) [] = ⊥
 AreBuiltFrom o (i ∷ installs) (s ∷ schemes) = IsBuiltFrom o i s × AreBuiltFrom o installs schemes
 
 -- The installs of a list of steps, by epoch: each epoch after the controller's steps is built from its install.
-pub record AreInstalls (net : Network) (kind : Kind) (root room most limit : ℕ) (steps : List Step) (installs : List Install) : Type 0 where
+pub record AreInstalls (opening : Opening) (steps : List Step) (installs : List Install) : Type 0 where
   pub setting : Setting
-  pub opened : IsOpenedWith net kind root room most limit setting
+  pub opened : IsOpenedWith opening setting
   pub log : List Entry
   pub run : IsControlRun setting [] steps log
   pub built : AreBuiltFrom setting installs (history.plans setting log)
@@ -64,10 +66,10 @@ abbrev pub NoneWantsMemory : List (Result Reply Refused) → Type 0
 NoneWantsMemory replies = All (λ reply. reply ≢ Err NoMemory) replies
 
 -- Where no step of a run wanted memory, its epochs were built from the installs of the same opening and steps.
-abbrev pub AreEpochsOf : Network → Kind → ℕ → ℕ → ℕ → ℕ → List Step → List (Result Reply Refused) → State → List Install → Type 0
-AreEpochsOf net kind root room most limit steps replies world installs =
-    IsOpenedWith net kind root room most limit world.opening → IsPlayed world.opening steps replies world → NoneWantsMemory replies
-    → AreInstalls net kind root room most limit steps installs → AreBuiltFrom world.opening installs world.plans
+abbrev pub AreEpochsOf : Opening → List Step → List (Result Reply Refused) → State → List Install → Type 0
+AreEpochsOf opening steps replies world installs =
+    IsOpenedWith opening world.opening → IsPlayed world.opening steps replies world → NoneWantsMemory replies
+    → AreInstalls opening steps installs → AreBuiltFrom world.opening installs world.plans
 
 -- one step more, of a world and the installs so far
 abbrev pub ControlsOn : State → Step → List Install → State → List Install → Type 0

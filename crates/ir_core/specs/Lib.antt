@@ -1,6 +1,6 @@
+-- what contracts promise
 pub mod Codes
 pub mod Marks
-pub mod MarkLaws
 pub mod Board
 pub mod Queue
 pub mod Journey
@@ -16,7 +16,9 @@ pub mod Shows
 pub mod Drain
 pub mod Run
 pub mod Quiet
-pub mod Handled
 pub mod Inside
 pub mod Opened
 pub mod Installed
+-- what bodies use
+pub mod MarkLaws
+pub mod Handled

@@ -4,7 +4,9 @@ use Rattle.ir_model.specs.declared.Hop.{Hop}
 use Rattle.ir_model.specs.declared.Kind.{Kind}
 use Rattle.ir_model.specs.Network.{Network, restrict}
 use Rattle.ir_model.specs.Walk.{IsDisconnected}
-use Rattle.ir_model.specs.Scheme.{Scheme, IsScheme, HasDepthFirst}
+use Rattle.ir_model.specs.Scheme.{Scheme, IsScheme}
+use Rattle.ir_plan.specs.declared.tour.LabelOrder.{LabelOrder}
+use Rattle.ir_plan.specs.Starts.{IsLabelledBy}
 use Rattle.ir_core.specs.declared.TheConstants.{MAX_EPOCHS, MAX_CHANGES}
 use Rattle.ir_core.specs.declared.event.Way.{Way}
 use Rattle.ir_core.specs.declared.event.Way.TheVariants.{Inbox, Link}
@@ -142,10 +144,11 @@ marks o s l up =
 abbrev pub network_up : Setting → Sight → Network
 network_up o s = restrict (take (links_of o) (newest s).up) o.network
 
--- a scheme of this kind and root over the network, with depth-first labels, or none where the network is disconnected
-abbrev pub IsMade : Kind → ℕ → Network → Option Scheme → Type 0
-IsMade kind root net None = IsDisconnected net
-IsMade kind root net (Some s) = (s.kind ≡ kind) × (s.root ≡ root) × (s.network ≡ net) × IsScheme s × HasDepthFirst s
+-- a scheme of this kind and root over the network, labelled in this order, or none where the network is disconnected
+abbrev pub IsMade : LabelOrder → Kind → ℕ → Network → Option Scheme → Type 0
+IsMade labels kind root net None = IsDisconnected net
+IsMade labels kind root net (Some s) =
+    (s.kind ≡ kind) × (s.root ≡ root) × (s.network ≡ net) × IsScheme s × IsLabelledBy labels s
 
 -- the entry of an install, once the scheme is made
 abbrev pub installs_made : Sight → Option Scheme → Result Entry Refused
@@ -162,13 +165,13 @@ install_refused o s root =
 
 abbrev pub InstallsUnless : Setting → Sight → Kind → ℕ → Result Entry Refused → Option Refused → Type 0
 InstallsUnless o s kind root wanted (Some e) = wanted ≡ Err e
-InstallsUnless o s kind root wanted None = (made : Option Scheme) × IsMade kind root (network_up o s) made × (wanted ≡ installs_made s made)
+InstallsUnless o s kind root wanted None = (made : Option Scheme) × IsMade o.labels kind root (network_up o s) made × (wanted ≡ installs_made s made)
 
 abbrev pub Installs : Setting → Sight → Kind → ℕ → Result Entry Refused → Type 0
 Installs o s kind root wanted = InstallsUnless o s kind root wanted (install_refused o s root)
 
 -- What an event comes to: its entry, or its first refusal. Of an install it says which scheme is made, and the scheme
--- is any of that kind and root over the links that are up.
+-- is any of that kind and root over the links that are up, labelled in the order of the setting.
 abbrev pub ComesTo : Setting → Sight → Event → Result Entry Refused → Type 0
 ComesTo o s (event.Inject source dest) wanted = wanted ≡ injects o s source dest
 ComesTo o s (event.Learn e) wanted = wanted ≡ learns s e

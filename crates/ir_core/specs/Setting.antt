@@ -5,14 +5,16 @@ use Rattle.ir_model.specs.declared.Hop.{Hop}
 use Rattle.ir_model.specs.declared.Kind.TheVariants.{Tree}
 use Rattle.ir_model.specs.Network.{Network, node_count, port_at, IsNetwork}
 use Rattle.ir_model.specs.Scheme.{Scheme, IsScheme}
+use Rattle.ir_plan.specs.declared.tour.LabelOrder.{LabelOrder}
 use Rattle.ir_core.specs.declared.TheConstants.{MAX_NODES, MAX_LINKS, MAX_CAPACITY, MAX_PACKETS, MAX_RESTAMPS}
 use Rattle.ir_core.specs.declared.event.Way.{Way}
 use Rattle.ir_core.specs.declared.event.Way.TheVariants.{Inbox, Link}
 
--- A network, the scheme of its first epoch, the capacity of each channel, the most packets, and the most restamps of a
--- packet.
+-- A network, the order in which its schemes are labelled, the scheme of its first epoch, the capacity of each channel, the
+-- most packets, and the most restamps of a packet.
 pub record Setting : Type 0 where
   pub network : Network
+  pub labels : LabelOrder
   pub first : Scheme
   pub capacity : ℕ
   pub max_packets : ℕ

@@ -56,7 +56,7 @@ impl Board {
         self.up.is_up(link as usize)
     }
 
-    /// A mark for each of the first links, up or down.
+    /// A mark for each of the first links, up or down. Takes O(l), for l links.
     pub fn marks(&self, alloc: Global, links: usize) -> Result<Vec<bool>, AllocError>
         requires { links ≤ MAX_LINKS }
         ensures marks { IfOk result (λ v. v.items ≡ take links self.now.up) }

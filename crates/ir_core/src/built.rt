@@ -10,14 +10,18 @@ ghost use Rattle.ir_core.specs.Opened.{IsOpenedWith, IsOpenRefusal, open_refused
 ghost use Rattle.ir_core.specs.Installed.{AreInstalls, AreBuiltFrom, ControlsOn, IsChange};
 
 use crate::event::{Event, OpenError, Refused, Reply, Step};
-use crate::run::Opening;
-use crate::world::{World, open_refusal};
+use crate::opening::{Opening, open_refusal};
+use crate::world::World;
 use ir_model::Kind;
+use ir_plan::LabelOrder;
 use std::alloc::Global;
+use std::thread::Threads;
 
-/// What an epoch's plan was built from: its kind and root, and for each link of the network whether it was up.
+/// What an epoch's plan was built from: the order in which it is labelled, its kind and root, and for each link of the
+/// network whether it was up.
 #[derive(Drop)]
 pub struct Install {
+    pub labels: LabelOrder,
     pub kind: Kind,
     pub root: u16,
     pub up: Vec<bool>,
@@ -25,25 +29,24 @@ pub struct Install {
 
 /// What each epoch of a list of steps was built from, the first epoch first. Steps other than installs, retirements and
 /// marks of links are passed over, and so are refused ones. Refused as `World::new` is; `NoMemory` also where a step is
-/// refused for want of memory.
-pub fn installs(alloc: Global, opening: &Opening, steps: &[Step]) -> Result<Vec<Install>, OpenError>
-    ensures built { IfOk result (λ v. AreInstalls opening.now.topology opening.now.kind opening.now.root opening.now.capacity opening.now.max_packets opening.now.restamps steps.now v.items) }
-    ensures accepted { IfOk result (λ _. open_refused opening.now.topology opening.now.root opening.now.capacity opening.now.max_packets opening.now.restamps ≡ None) }
-    ensures refused { IfErr result (λ e. IsOpenRefusal opening.now.topology opening.now.root opening.now.capacity opening.now.max_packets opening.now.restamps e) }
+/// refused for want of memory. Takes as long as `World::new`, and for each install as long as `plan_up`.
+pub fn installs(
+    rt: &(impl Threads + Sync),
+    alloc: Global,
+    opening: &Opening,
+    steps: &[Step],
+) -> Result<Vec<Install>, OpenError>
+    ensures built { IfOk result (λ v. AreInstalls opening.now steps.now v.items) }
+    ensures accepted { IfOk result (λ _. open_refused opening.now ≡ None) }
+    ensures refused { IfErr result (λ e. IsOpenRefusal opening.now e) }
 {
-    if let Some(error) = open_refusal(
-        &opening.topology,
-        opening.root,
-        opening.capacity,
-        opening.max_packets,
-        opening.restamps,
-    ) {
+    if let Some(error) = open_refusal(opening) {
         return Err(error);
     }
-    let mut world = opened(alloc, opening)?;
+    let mut world = opened(rt, alloc, opening)?;
     let mut built = first_install(alloc, &world, opening.kind, opening.root)?;
     for step in steps {
-        let Ok(()) = control(alloc, &mut world, *step, &mut built) else {
+        let Ok(()) = control(rt, alloc, &mut world, *step, &mut built) else {
             return Err(OpenError::NoMemory);
         };
     }
@@ -51,24 +54,16 @@ pub fn installs(alloc: Global, opening: &Opening, steps: &[Step]) -> Result<Vec<
 }
 
 /// The world of the empty history.
-fn opened(alloc: Global, opening: &Opening) -> Result<World, OpenError>
-    requires { open_refused opening.now.topology opening.now.root opening.now.capacity opening.now.max_packets opening.now.restamps ≡ None }
-    ensures opened { IfOk result (λ w. IsOpenedWith opening.now.topology opening.now.kind opening.now.root opening.now.capacity opening.now.max_packets opening.now.restamps w.opening) }
+fn opened(rt: &(impl Threads + Sync), alloc: Global, opening: &Opening) -> Result<World, OpenError>
+    requires { open_refused opening.now ≡ None }
+    ensures opened { IfOk result (λ w. IsOpenedWith opening.now w.opening) }
     ensures history { IfOk result (λ w. Shows [] w) }
-    ensures refused { IfErr result (λ e. IsOpenRefusal opening.now.topology opening.now.root opening.now.capacity opening.now.max_packets opening.now.restamps e) }
+    ensures refused { IfErr result (λ e. IsOpenRefusal opening.now e) }
 {
-    let Ok(topology) = opening.topology.try_clone(alloc) else {
+    let Ok(copy) = opening.try_clone(alloc) else {
         return Err(OpenError::NoMemory);
     };
-    World::new(
-        alloc,
-        topology,
-        opening.kind,
-        opening.root,
-        opening.capacity,
-        opening.max_packets,
-        opening.restamps,
-    )
+    World::new(rt, alloc, copy)
 }
 
 /// The install of the first epoch, over all links.
@@ -79,7 +74,8 @@ fn first_install(
     root: u16,
 ) -> Result<Vec<Install>, OpenError>
     requires history { Shows [] world.now }
-    requires made { IsMade kind root world.now.opening.network (Some world.now.opening.first) }
+    requires made { IsMade world.now.opening.labels kind root
+        world.now.opening.network (Some world.now.opening.first) }
     ensures built { IfOk result (λ v. AreBuiltFrom world.now.opening v.items (plans world.now.opening [])) }
     ensures refused { IfErr result (λ e. e ≡ OpenError.NoMemory) }
 {
@@ -90,7 +86,13 @@ fn first_install(
     let Ok(mut built) = Vec::with_capacity(alloc, 1) else {
         return Err(OpenError::NoMemory);
     };
-    match built.push(Install { kind, root, up }) {
+    let labels = world.labels();
+    match built.push(Install {
+        labels,
+        kind,
+        root,
+        up,
+    }) {
         Ok(()) => Ok(built),
         Err(_) => Err(OpenError::NoMemory),
     }
@@ -98,6 +100,7 @@ fn first_install(
 
 /// A step, if it is one of the controller's.
 fn control(
+    rt: &(impl Threads + Sync),
     alloc: Global,
     world: &mut World,
     step: Step,
@@ -106,13 +109,14 @@ fn control(
     ensures { IfOk result (λ _. ControlsOn world.old step built.old.items world.new built.new.items) }
 {
     match step {
-        Step::Event(event) => control_event(alloc, world, event, built),
+        Step::Event(event) => control_event(rt, alloc, world, event, built),
         Step::Drain => Ok(()),
     }
 }
 
 /// An event, if it is one of the controller's.
 fn control_event(
+    rt: &(impl Threads + Sync),
     alloc: Global,
     world: &mut World,
     event: Event,
@@ -121,10 +125,10 @@ fn control_event(
     ensures { IfOk result (λ _. ControlsOn world.old (step.Event event) built.old.items world.new built.new.items) }
 {
     match event {
-        Event::Install(kind, root) => install_next(alloc, world, kind, root, built),
-        Event::Retire(floor) => change(world, Event::Retire(floor)),
-        Event::Down(link) => change(world, Event::Down(link)),
-        Event::Up(link) => change(world, Event::Up(link)),
+        Event::Install(kind, root) => install_next(rt, alloc, world, kind, root, built),
+        Event::Retire(floor) => change(rt, world, Event::Retire(floor)),
+        Event::Down(link) => change(rt, world, Event::Down(link)),
+        Event::Up(link) => change(rt, world, Event::Up(link)),
         Event::Inject(_, _)
         | Event::Learn(_)
         | Event::Take(_, _)
@@ -134,11 +138,12 @@ fn control_event(
 }
 
 /// A change of the board that installs nothing.
-fn change(world: &mut World, event: Event) -> Result<(), OpenError>
+fn change(rt: &(impl Threads + Sync), world: &mut World, event: Event) -> Result<(), OpenError>
     requires { IsChange event }
-    ensures { IfOk result (λ _. (installs : List Install) → ControlsOn world.old (step.Event event) installs world.new installs) }
+    ensures { IfOk result (λ _. (installs : List Install)
+        → ControlsOn world.old (step.Event event) installs world.new installs) }
 {
-    let reply = world.apply(event);
+    let reply = world.apply(rt, event);
     match accepted(reply) {
         Ok(_) => Ok(()),
         Err(error) => Err(error),
@@ -147,25 +152,33 @@ fn change(world: &mut World, event: Event) -> Result<(), OpenError>
 
 /// An install, with the links that are up before it.
 fn install_next(
+    rt: &(impl Threads + Sync),
     alloc: Global,
     world: &mut World,
     kind: Kind,
     root: u16,
     built: &mut Vec<Install>,
 ) -> Result<(), OpenError>
-    ensures { IfOk result (λ _. ControlsOn world.old (step.Event (event.Install kind root)) built.old.items world.new built.new.items) }
+    ensures { IfOk result (λ _. ControlsOn world.old
+        (step.Event (event.Install kind root)) built.old.items world.new built.new.items) }
 {
     let Ok(up) = world.marks(alloc) else {
         return Err(OpenError::NoMemory);
     };
-    let reply = world.apply(Event::Install(kind, root));
+    let labels = world.labels();
+    let reply = world.apply(rt, Event::Install(kind, root));
     let Ok(new) = accepted(reply) else {
         return Err(OpenError::NoMemory);
     };
     if !new {
         return Ok(());
     }
-    let Ok(()) = built.push(Install { kind, root, up }) else {
+    let Ok(()) = built.push(Install {
+        labels,
+        kind,
+        root,
+        up,
+    }) else {
         return Err(OpenError::NoMemory);
     };
     Ok(())

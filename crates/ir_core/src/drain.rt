@@ -12,7 +12,8 @@ use crate::world::World;
 impl World {
     /// Rounds over the nodes 0 to n-1, until a round has no Act. In a round each node reads the newest version of the
     /// board, acts on what it holds, then takes a packet from its inbox and acts, then from the channel of each port in
-    /// port order of the opening's topology and acts. After it no packet is under way. It takes no memory.
+    /// port order of the opening's topology and acts. After it no packet is under way. It takes no memory. Each round
+    /// takes O(n + m), for n nodes and m links, and each Act in it O(log k), for k starts of a row.
     pub fn drain(&mut self)
         // For every history whose world this is, what it does is the drain of the definition.
         ensures history { (log : List Entry) → Shows log self.old → ShowsDrained log self.old.opening self.new }
@@ -61,7 +62,8 @@ impl World {
         requires node_in { node < nodes_of self.old.opening }
         requires hand { IsHandEmpty self.old node }
         requires view { IsUpToDate self.old node }
-        ensures moves { Moves (after_ports self.old.opening node (ports_of self.old.opening.network node)) result self.old self.new }
+        ensures moves { Moves (after_ports self.old.opening node (ports_of self.old.opening.network node)) result
+            self.old self.new }
         ensures idle { result ≡ false → ArePortsEmpty self.new node }
     {
         let count = self.ports(node).len();

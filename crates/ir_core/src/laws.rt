@@ -1,6 +1,4 @@
 ghost use Rattle.std.specs.Prelude.{◌≡◌, ◌≢◌, ℕ, List, Result, None};
-ghost use Rattle.ir_model.specs.declared.Kind.{Kind};
-ghost use Rattle.ir_model.specs.Network.{Network};
 ghost use Rattle.ir_core.specs.declared.event.Way.{Way};
 ghost use Rattle.ir_core.specs.Journey.{Journey};
 ghost use Rattle.ir_core.specs.Setting.{Setting};
@@ -11,6 +9,7 @@ ghost use Rattle.ir_model.specs.Scheme.{Scheme};
 ghost use Rattle.ir_core.specs.Entry.{Entry, ruled, acted, decided};
 ghost use Rattle.ir_core.specs.Meaning.{Sight};
 ghost use Rattle.ir_core.specs.Plain.{IsPlainVerdict, IsPlainAct};
+ghost use Rattle.ir_core.specs.declared.opening.Opening.{Opening};
 ghost use Rattle.ir_core.specs.declared.built.Install.{Install};
 ghost use Rattle.ir_core.specs.declared.event.Refused.{Refused};
 ghost use Rattle.ir_core.specs.declared.event.Reply.{Reply};
@@ -25,12 +24,13 @@ pub fn without_restamps()
     ensures verdict { (o : Setting) (s : Sight) (u : ℕ) (way : Way) (r : Journey) → IsPlainVerdict o s u way r }
     ensures act { (o : Setting) (log : List Entry) (u : ℕ) → IsPlainAct o log u }
     ensures journey { (u : ℕ) (way : Way) (v : Verdict) (r : Journey) → ruled u way None v r ≡ acted u way v r }
-    ensures action { (t : Scheme) (b : Board) (way : Way) (at stamp dest : ℕ) → decided t b way at stamp dest 0 ≢ Restamp }
+    ensures action { (t : Scheme) (b : Board) (way : Way) (at stamp dest : ℕ)
+        → decided t b way at stamp dest 0 ≢ Restamp }
 {}
 
 /// A law of runs: where no step of a run wanted memory, its epochs were built from just what `installs` gives for the same
 /// opening and the same steps. So boards and plans do not depend on the steps that `installs` passes over.
 pub fn epochs_of_installs()
-    ensures { (net : Network) (kind : Kind) (root room most limit : ℕ) (steps : List Step) (replies : List (Result Reply Refused)) (world : State) (installs : List Install)
-        → AreEpochsOf net kind root room most limit steps replies world installs }
+    ensures { (opening : Opening) (steps : List Step) (replies : List (Result Reply Refused)) (world : State)
+        (installs : List Install) → AreEpochsOf opening steps replies world installs }
 {}

@@ -3,14 +3,14 @@ ghost use Rattle.std.specs.Prelude.{◌≡◌, ◌<◌, ◌≤◌, length, IfOk,
 ghost use Rattle.ir_model.specs.Network.{node_count, restrict};
 ghost use Rattle.ir_core.specs.declared.TheConstants.{MAX_LINKS};
 ghost use Rattle.ir_core.specs.Meaning.{IsMade};
-ghost use Rattle.ir_core.specs.Opened.{is_small};
 
+use crate::MAX_LINKS;
 use crate::board::Board;
-use crate::{MAX_CAPACITY, MAX_LINKS, MAX_NODES, MAX_PACKETS, MAX_RESTAMPS};
 use ir_model::Kind;
-use ir_plan::{Plan, PlanError};
+use ir_plan::{LabelOrder, Plan, PlanError, plan_in_order};
 use ir_tables::Topology;
 use std::alloc::Global;
+use std::thread::Threads;
 use thiserror::Error;
 
 /// Why there is no plan.
@@ -23,18 +23,30 @@ pub enum BuildError {
     NoMemory,
 }
 
-/// The plan of this kind and root over a topology that has the root.
+/// The most nodes of a network whose plans are made on one thread.
+const MOST_NODES_ON_ONE_THREAD: usize = 256;
+
+/// The plan of this kind and root over a topology that has the root, labelled in this order. Over more than 256 nodes its
+/// rows are made in as many threads as suit the processors, and on this one where none can be started. Takes as long
+/// as `ir_plan::plan_in_order`.
 pub fn plan_over(
+    rt: &(impl Threads + Sync),
     alloc: Global,
     topology: Topology,
+    labels: LabelOrder,
     kind: Kind,
     root: u16,
 ) -> Result<Plan, BuildError>
     requires { root < node_count topology }
-    ensures made { IfOk result (λ p. IsMade kind root topology (Some p)) }
-    ensures disconnected { result ≡ Err BuildError.Disconnected → IsMade kind root topology None }
+    ensures made { IfOk result (λ p. IsMade labels kind root topology (Some p)) }
+    ensures disconnected { result ≡ Err BuildError.Disconnected → IsMade labels kind root topology None }
 {
-    match Plan::build(alloc, topology, kind, root) {
+    let most = if topology.nodes() > MOST_NODES_ON_ONE_THREAD {
+        None
+    } else {
+        Some(1)
+    };
+    match plan_in_order(rt, alloc, topology, labels, kind, root, most) {
         Ok(plan) => Ok(plan),
         Err((error, _)) => match error {
             PlanError::Disconnected => Err(BuildError::Disconnected),
@@ -44,18 +56,23 @@ pub fn plan_over(
     }
 }
 
-/// The plan of this kind and root over the links that are up in a board.
+/// The plan of this kind and root over the links that are up in a board, labelled in this order. Takes as long as
+/// `plan_over`.
 pub fn plan_up(
+    rt: &(impl Threads + Sync),
     alloc: Global,
     topology: &Topology,
     board: &Board,
+    labels: LabelOrder,
     kind: Kind,
     root: u16,
 ) -> Result<Plan, BuildError>
     requires root { root < node_count topology.now }
     requires links { length topology.now.links ≤ MAX_LINKS }
-    ensures made { IfOk result (λ p. IsMade kind root (restrict (take (length topology.now.links) board.now.up) topology.now) (Some p)) }
-    ensures disconnected { result ≡ Err BuildError.Disconnected → IsMade kind root (restrict (take (length topology.now.links) board.now.up) topology.now) None }
+    ensures made { IfOk result (λ p. IsMade labels kind root
+        (restrict (take (length topology.now.links) board.now.up) topology.now) (Some p)) }
+    ensures disconnected { result ≡ Err BuildError.Disconnected
+        → IsMade labels kind root (restrict (take (length topology.now.links) board.now.up) topology.now) None }
 {
     let Ok(up) = board.marks(alloc, topology.links()) else {
         return Err(BuildError::NoMemory);
@@ -63,18 +80,5 @@ pub fn plan_up(
     let Ok(over) = topology.only(alloc, up.as_slice()) else {
         return Err(BuildError::NoMemory);
     };
-    plan_over(alloc, over, kind, root)
-}
-
-/// Whether the network, the capacity, the number of packets and that of restamps are within the limits.
-pub fn is_small(topology: &Topology, capacity: usize, max_packets: usize, restamps: u8) -> bool
-    ensures { result ≡ is_small topology.now capacity max_packets restamps }
-{
-    topology.nodes() <= MAX_NODES
-        && topology.links() <= MAX_LINKS
-        && capacity != 0
-        && capacity <= MAX_CAPACITY
-        && max_packets != 0
-        && max_packets <= MAX_PACKETS
-        && restamps as usize <= MAX_RESTAMPS
+    plan_over(rt, alloc, over, labels, kind, root)
 }

@@ -1,24 +1,12 @@
-ghost use Rattle.std.specs.Prelude.{◌≡◌, [], IfOk, IfErr, None};
+ghost use Rattle.std.specs.Prelude.{◌≡◌, IfOk, IfErr, None};
 ghost use Rattle.ir_core.specs.Opened.{IsOpenedWith, IsOpenRefusal, open_refused};
 ghost use Rattle.ir_core.specs.Run.{IsPlayed};
 
 use crate::event::{OpenError, Refused, Reply, Step};
-use crate::world::{World, open_refusal};
-use ir_model::Kind;
-use ir_tables::Topology;
+use crate::opening::{Opening, open_refusal};
+use crate::world::World;
 use std::alloc::Global;
-
-/// What a world is opened with: a topology, the kind and root of epoch 1's plan, the capacity of each channel and inbox,
-/// the most packets, and the most restamps of a packet.
-#[derive(Drop)]
-pub struct Opening {
-    pub topology: Topology,
-    pub kind: Kind,
-    pub root: u16,
-    pub capacity: usize,
-    pub max_packets: usize,
-    pub restamps: u8,
-}
+use std::thread::Threads;
 
 /// A run: the world after it, and a reply for each step.
 #[derive(Drop)]
@@ -33,30 +21,28 @@ pub struct Played {
 /// rise, and each is a prefix of the walk to the packet's destination that the full table of its one epoch prescribes.
 /// The last one is all of it where the packet was delivered, and then over the distance from where the segment began where
 /// the epoch's kind is Shortest or Compact; a drop names the cause that held. Where the opening allows no restamp, no Act has
-/// one, and each record is of one epoch. Refused as `World::new` is.
-pub fn play(alloc: Global, opening: Opening, steps: &[Step]) -> Result<Played, OpenError>
-    ensures opened { IfOk result (λ p. IsOpenedWith opening.topology opening.kind opening.root opening.capacity opening.max_packets opening.restamps p.world.opening) }
+/// one, and each record is of one epoch. Refused as `World::new` is. Takes as long as `World::new`, and for each step
+/// as long as `World::apply` or `World::drain`.
+pub fn play(
+    rt: &(impl Threads + Sync),
+    alloc: Global,
+    opening: Opening,
+    steps: &[Step],
+) -> Result<Played, OpenError>
+    ensures opened { IfOk result (λ p. IsOpenedWith opening p.world.opening) }
     ensures played { IfOk result (λ p. IsPlayed p.world.opening steps.now p.replies.items p.world) }
-    ensures accepted { IfOk result (λ _. open_refused opening.topology opening.root opening.capacity opening.max_packets opening.restamps ≡ None) }
-    ensures refused { IfErr result (λ e. IsOpenRefusal opening.topology opening.root opening.capacity opening.max_packets opening.restamps e) }
+    ensures accepted { IfOk result (λ _. open_refused opening ≡ None) }
+    ensures refused { IfErr result (λ e. IsOpenRefusal opening e) }
 {
-    let Opening {
-        topology,
-        kind,
-        root,
-        capacity,
-        max_packets,
-        restamps,
-    } = opening;
-    if let Some(error) = open_refusal(&topology, root, capacity, max_packets, restamps) {
+    if let Some(error) = open_refusal(&opening) {
         return Err(error);
     }
     let Ok(mut replies) = Vec::with_capacity(alloc, steps.len()) else {
         return Err(OpenError::NoMemory);
     };
-    let mut world = World::new(alloc, topology, kind, root, capacity, max_packets, restamps)?;
+    let mut world = World::new(rt, alloc, opening)?;
     for step in steps {
-        let reply = world.step(*step);
+        let reply = world.step(rt, *step);
         let Ok(()) = replies.push(reply) else {
             return Err(OpenError::NoMemory);
         };

@@ -7,7 +7,7 @@ use crate::board::Board;
 use crate::event::{Action, Verdict, Way};
 use ir_plan::Plan;
 
-/// What comes of a packet, where each channel has room.
+/// What comes of a packet, where each channel has room. Takes O(log k), for k starts of the row.
 pub fn judge(plan: &Plan, board: &Board, way: Way, at: u16, stamp: u32, address: u16) -> Verdict
     requires at_in { at < node_count plan.now.network }
     requires address_in { address < node_count plan.now.network }
@@ -39,7 +39,7 @@ pub fn judge(plan: &Plan, board: &Board, way: Way, at: u16, stamp: u32, address:
 /// of a retired epoch is restamped, where `left` restamps, above 0, are still allowed: the caller then records the node
 /// as a hop, if the packet came by a link, takes the board's current epoch and the destination's label in it, and
 /// decides again over the same board. Whether the channel of the port has room is not asked. `at` is a node and
-/// `address` a label of the plan.
+/// `address` a label of the plan. Takes O(log k), for k starts of the row. For users of the library.
 pub fn decide(
     plan: &Plan,
     board: &Board,

@@ -1,4 +1,4 @@
-ghost use Rattle.std.specs.Prelude.{◌≡◌, ℕ, ◌+◌, ◌-◌, ◌<◌, ◌≤◌, List, [], ◌∷◌, ◌++◌, length, map, All, replicate, IfOk, IfErr, IfSome, take, slice_get, slice_index, slice_index_or, unwrap_or, option_copied, Some, None};
+ghost use Rattle.std.specs.Prelude.{◌≡◌, ℕ, ◌+◌, ◌-◌, ◌<◌, ◌≤◌, List, [], length, map, All, replicate, IfOk, IfErr, take, slice_get, slice_index, slice_index_or, unwrap_or, option_copied, Some, None};
 ghost use Rattle.ir_model.specs.Network.{ports_of};
 ghost use Rattle.ir_core.specs.declared.TheConstants.{MAX_LINKS, MAX_CHANGES};
 ghost use Rattle.ir_core.specs.declared.event.Way.TheVariants.{Link as WayLink};
@@ -8,16 +8,18 @@ ghost use Rattle.ir_core.specs.Queue.{ids_of, room_of};
 
 use crate::board::Board;
 use crate::event::{Event, OpenError, Refused, Reply, Ruling, Step, Verdict, Way};
+use crate::opening::{Opening, open_refusal};
 use crate::packet::{Held, Record};
-use crate::planning::{BuildError, is_small, plan_over, plan_up};
+use crate::planning::{BuildError, plan_over, plan_up};
 use crate::queue::Queue;
 use crate::verdict::judge;
 use crate::{MAX_CHANGES, MAX_EPOCHS, MAX_LINKS};
 use ir_model::{Hop, Kind};
-use ir_plan::Plan;
+use ir_plan::{LabelOrder, Plan};
 use ir_tables::Topology;
 use std::alloc::{AllocError, Global};
 use std::marker::Model;
+use std::thread::Threads;
 
 /// All that stands after a history: the boards and plans so far, each node's view and hand, the channels, and the
 /// packets' records.
@@ -25,6 +27,7 @@ use std::marker::Model;
 pub struct World {
     alloc: Global,
     topology: Topology,
+    labels: LabelOrder,
     capacity: usize,
     max_packets: usize,
     restamps: u8,
@@ -50,8 +53,8 @@ impl Model for World {
 }
 
 impl World {
-    ghost use Rattle.ir_core.specs.Setting.{Setting, IsSetting, nodes_of, links_of};
-    ghost use Rattle.ir_core.specs.Opened.{IsOpenedWith, IsOpenRefusal};
+    ghost use Rattle.ir_core.specs.Setting.{IsSetting, nodes_of, links_of};
+    ghost use Rattle.ir_core.specs.Opened.{IsOpenedWith, IsOpenRefusal, setting_of};
     ghost use Rattle.ir_core.specs.Meaning.{newest, learns, reads, takes, acts, retires, marks, injects, verdict_on, ruling_on, record_at, board_at, is_full_towards, plan_of};
     ghost use Rattle.ir_core.specs.Journey.{stamp_of};
     ghost use Rattle.ir_core.specs.Entry.{Entry};
@@ -62,55 +65,52 @@ impl World {
     ghost use Rattle.ir_core.specs.State.{IsState, IsBoard, sight_in, IsAnswer, open_verdict_on, LeadsIn};
     ghost use Rattle.ir_core.specs.Handled.{IsAnswerOr, IsAnswerTo, IsInstallAnswer};
 
-    /// The world of the empty history. Epoch 1 has a plan of this kind and root over all links of the topology. Each
-    /// channel and inbox holds `capacity` packets, from 1 to 1,024, there may be `max_packets` packets, from 1 to 4,096,
-    /// and each may have `restamps` restamps, at most 3. Refused are, in this order: no node (`Empty`), a root that is no
-    /// node, more than 1,024 nodes or 8,192 links or another number out of its range (`TooLarge`), some node without a walk
-    /// to some node, want of memory.
+    /// The world of the empty history. Epoch 1 has a plan of the opening's kind and root over all links of the topology.
+    /// Refused are, in this order: no node (`Empty`), a root that is no node, more than 1,024 nodes or 8,192 links or another
+    /// number out of its range (`TooLarge`), some node without a walk to some node, want of memory. Plans over more than 256
+    /// nodes are made in threads, where they can be started. Takes as long as the plan.
     pub fn new(
+        rt: &(impl Threads + Sync),
         alloc: Global,
-        topology: Topology,
-        kind: Kind,
-        root: u16,
-        capacity: usize,
-        max_packets: usize,
-        restamps: u8,
+        opening: Opening,
     ) -> Result<World, OpenError>
-        ensures opened { IfOk result (λ w. IsOpenedWith topology kind root capacity max_packets restamps w.opening) }
+        ensures opened { IfOk result (λ w. IsOpenedWith opening w.opening) }
         ensures history { IfOk result (λ w. Shows [] w) }
-        ensures accepted { IfOk result (λ _. open_refused topology root capacity max_packets restamps ≡ None) }
-        ensures refused { IfErr result (λ e. IsOpenRefusal topology root capacity max_packets restamps e) }
+        ensures accepted { IfOk result (λ _. open_refused opening ≡ None) }
+        ensures refused { IfErr result (λ e. IsOpenRefusal opening e) }
     {
-        if let Some(error) = open_refusal(&topology, root, capacity, max_packets, restamps) {
+        if let Some(error) = open_refusal(&opening) {
             return Err(error);
         }
-        let Ok(over) = topology.try_clone(alloc) else {
+        let Ok(over) = opening.topology.try_clone(alloc) else {
             return Err(OpenError::NoMemory);
         };
-        let plan = match plan_over(alloc, over, kind, root) {
+        let plan = match plan_over(rt, alloc, over, opening.labels, opening.kind, opening.root) {
             Ok(plan) => plan,
             Err(BuildError::Disconnected) => return Err(OpenError::Disconnected),
             Err(BuildError::NoMemory) => return Err(OpenError::NoMemory),
         };
-        match World::start(alloc, topology, plan, capacity, max_packets, restamps) {
+        match World::start(alloc, opening, plan) {
             Ok(world) => Ok(world),
             Err(_) => Err(OpenError::NoMemory),
         }
     }
 
     /// The world of the empty history, over a plan of epoch 1.
-    fn start(
-        alloc: Global,
-        topology: Topology,
-        plan: Plan,
-        capacity: usize,
-        max_packets: usize,
-        restamps: u8,
-    ) -> Result<World, AllocError>
-        requires { IsSetting (record { network = topology; first = plan; capacity = capacity; max_packets = max_packets; restamps = restamps }) }
-        ensures opening { IfOk result (λ w. w.opening ≡ record { network = topology; first = plan; capacity = capacity; max_packets = max_packets; restamps = restamps }) }
+    fn start(alloc: Global, opening: Opening, plan: Plan) -> Result<World, AllocError>
+        requires { IsSetting (setting_of opening plan) }
+        ensures opening { IfOk result (λ w. w.opening ≡ setting_of opening plan) }
         ensures history { IfOk result (λ w. Shows [] w) }
     {
+        let Opening {
+            topology,
+            labels,
+            kind: _,
+            root: _,
+            capacity,
+            max_packets,
+            restamps,
+        } = opening;
         let nodes = topology.nodes();
         let links = topology.links();
         let mut boards = Vec::with_capacity(alloc, 1)?;
@@ -123,6 +123,7 @@ impl World {
         Ok(World {
             alloc,
             topology,
+            labels,
             capacity,
             max_packets,
             restamps,
@@ -136,7 +137,7 @@ impl World {
         })
     }
 
-    /// The version of the board that a node read last, 0 at first.
+    /// The version of the board that a node read last, 0 at first. For users of the library.
     pub fn view(&self, node: u16) -> usize
         requires { node < nodes_of self.now.opening }
         ensures { result ≡ slice_index self.now.views node }
@@ -194,7 +195,12 @@ impl World {
         Ok(Reply::Taken(id))
     }
 
-    fn install(&mut self, kind: Kind, root: u16) -> Result<Reply, Refused>
+    fn install(
+        &mut self,
+        rt: &(impl Threads + Sync),
+        kind: Kind,
+        root: u16,
+    ) -> Result<Reply, Refused>
         ensures { IsInstallAnswer self.old self.new kind root result }
     {
         if root as usize >= self.topology.nodes() {
@@ -208,7 +214,15 @@ impl World {
         if newest.version() >= MAX_CHANGES {
             return Err(Refused::TooManyChanges);
         }
-        let plan = match plan_up(self.alloc, &self.topology, &newest, kind, root) {
+        let plan = match plan_up(
+            rt,
+            self.alloc,
+            &self.topology,
+            &newest,
+            self.labels,
+            kind,
+            root,
+        ) {
             Ok(plan) => plan,
             Err(BuildError::Disconnected) => return Err(Refused::Disconnected),
             Err(BuildError::NoMemory) => return Err(Refused::NoMemory),
@@ -327,7 +341,8 @@ impl World {
     }
 
     fn is_full(&self, hop: Hop) -> bool
-        requires { (c : ℕ) × (channel_of self.now.opening hop.node (WayLink hop.link) ≡ Some c) × (c < length self.now.channels) }
+        requires { (c : ℕ) × (channel_of self.now.opening hop.node (WayLink hop.link) ≡ Some c)
+            × (c < length self.now.channels) }
         ensures { result ≡ is_full_towards self.now.opening (sight_in self.now) hop }
     {
         let channel = channel_into(&self.topology, hop);
@@ -375,7 +390,8 @@ impl World {
     fn ruling(&self, node: u16, held: Held) -> Ruling
         requires node_in { node < nodes_of self.now.opening }
         requires in_hand { slice_index_or self.now.hands node None ≡ Some held }
-        ensures { result ≡ ruling_on self.now.opening (sight_in self.now) node held.way (record_at (sight_in self.now) held.id) }
+        ensures { result ≡ ruling_on self.now.opening (sight_in self.now) node held.way
+            (record_at (sight_in self.now) held.id) }
     {
         let (stamp, dest, left) = self.bound_for(node, held);
         let verdict = self.verdict(node, held.way, stamp, dest);
@@ -414,25 +430,28 @@ impl World {
     }
 
     /// One event. The reply is that of the event's meaning after the history, or its first refusal; a refused event
-    /// changes nothing. Want of memory is answered at Inject, Install, Retire, Down and Up alone.
-    pub fn apply(&mut self, event: Event) -> Result<Reply, Refused>
+    /// changes nothing. Want of memory is answered at Inject, Install, Retire, Down and Up alone. Act takes O(log k),
+    /// for k starts of a row, Install as long as `plan_up`, and each other event constant time.
+    pub fn apply(&mut self, rt: &(impl Threads + Sync), event: Event) -> Result<Reply, Refused>
         // For every history whose world this is, the reply is the event's meaning after it.
-        ensures history { (log : List Entry) → Shows log self.old → AnswersAfter log event result self.old.opening self.new }
+        ensures history { (log : List Entry) → Shows log self.old
+            → AnswersAfter log event result self.old.opening self.new }
         ensures refused { IfErr result (λ _. self.new ≡ self.old) }
         ensures same_opening { self.new.opening ≡ self.old.opening }
     {
         // opens the world, for what it keeps
         let _ = &self.learnt;
-        self.answer(event)
+        self.answer(rt, event)
     }
 
     /// One step of a run.
-    pub(crate) fn step(&mut self, step: Step) -> Result<Reply, Refused>
-        ensures history { (log : List Entry) → Shows log self.old → StepsAfter log step result self.old.opening self.new }
+    pub(crate) fn step(&mut self, rt: &(impl Threads + Sync), step: Step) -> Result<Reply, Refused>
+        ensures history { (log : List Entry) → Shows log self.old
+            → StepsAfter log step result self.old.opening self.new }
         ensures same_opening { self.new.opening ≡ self.old.opening }
     {
         match step {
-            Step::Event(event) => self.apply(event),
+            Step::Event(event) => self.apply(rt, event),
             Step::Drain => {
                 self.drain();
                 Ok(Reply::Changed)
@@ -440,7 +459,7 @@ impl World {
         }
     }
 
-    fn answer(&mut self, event: Event) -> Result<Reply, Refused>
+    fn answer(&mut self, rt: &(impl Threads + Sync), event: Event) -> Result<Reply, Refused>
         ensures answer { IsAnswerTo event self.old self.new result }
         ensures same_opening { self.new.opening ≡ self.old.opening }
     {
@@ -450,21 +469,21 @@ impl World {
             Event::Take(node, way) => self.take(node, way),
             Event::Read(node, version) => self.read(node, version),
             Event::Act(node) => self.act(node),
-            Event::Install(kind, root) => self.install(kind, root),
+            Event::Install(kind, root) => self.install(rt, kind, root),
             Event::Retire(floor) => self.retire(floor),
             Event::Down(link) => self.mark(link, false),
             Event::Up(link) => self.mark(link, true),
         }
     }
 
-    /// A packet's record, if there is such a packet.
+    /// A packet's record, if there is such a packet. For users of the library.
     pub fn packet(&self, id: u32) -> Option<&Record>
         ensures { option_copied result ≡ slice_get self.now.records id }
     {
         self.records.get(id as usize)
     }
 
-    /// How many packets were injected.
+    /// How many packets were injected. For users of the library.
     pub fn packets(&self) -> usize
         ensures { result ≡ length self.now.records }
     {
@@ -476,6 +495,13 @@ impl World {
         ensures { result.now ≡ self.now.boards }
     {
         self.boards.as_slice()
+    }
+
+    /// The order in which each epoch's plan is labelled.
+    pub(crate) fn labels(&self) -> LabelOrder
+        ensures { result ≡ self.now.opening.labels }
+    {
+        self.labels
     }
 
     /// A mark for each link of the network, up or down, in the newest board.
@@ -516,29 +542,6 @@ impl World {
     {
         let _ = &self.learnt;
     }
-}
-
-/// Why no world is opened, before any plan is built.
-pub(crate) fn open_refusal(
-    topology: &Topology,
-    root: u16,
-    capacity: usize,
-    max_packets: usize,
-    restamps: u8,
-) -> Option<OpenError>
-    ensures { result ≡ open_refused topology.now root capacity max_packets restamps }
-{
-    let nodes = topology.nodes();
-    if nodes == 0 {
-        return Some(OpenError::Empty);
-    }
-    if nodes <= root as usize {
-        return Some(OpenError::NoNode);
-    }
-    if !is_small(topology, capacity, max_packets, restamps) {
-        return Some(OpenError::TooLarge);
-    }
-    None
 }
 
 /// The number of the channel that a node takes from by this way.

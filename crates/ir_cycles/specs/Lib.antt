@@ -1,2 +1,4 @@
+-- what contracts promise
 pub mod Arcs
+-- what bodies use
 pub mod Search

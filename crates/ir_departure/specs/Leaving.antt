@@ -1,9 +1,8 @@
 -- Where a row of a trace leaves the walks of its epochs first.
 use Rattle.std.specs.Prelude.{◌≡◌, ◌≢◌, ℕ, ◌<◌, ◌≤◌, List, [], ◌∷◌, take, Option, Some, None, slice_get, if◌then◌else◌}
-use Rattle.ir_model.specs.Network.{Network, node_count, restrict}
+use Rattle.ir_model.specs.Network.{Network, node_count}
 use Rattle.ir_model.specs.Scheme.{Scheme}
 use Rattle.ir_core.specs.declared.built.Install.{Install}
-use Rattle.ir_core.specs.Meaning.{IsMade}
 use Rattle.ir_core.specs.Sound.{last_of}
 use Rattle.ir_trace.specs.declared.row.RowFate.{RowFate}
 use Rattle.ir_trace.specs.Row.{Part, Row}
@@ -95,10 +94,6 @@ LeavesIn plans d k part u above (Some (Fate next)) = ⊥
 abbrev pub left_by_fate : Scheme → ℕ → List ℕ → RowFate → Option Departure
 left_by_fate t d hops fate =
     if fits_fate fate (last_of hops) (next_of t (last_of hops) d) then None else Some (Fate (next_of t (last_of hops) d))
-
--- a scheme of the kind and root of an install, over the links that were up
-abbrev pub IsPlanOf : Network → Install → Scheme → Type 0
-IsPlanOf net install t = IsMade install.kind install.root (restrict install.up.items net) (Some t)
 
 -- the plans of the epochs and a row are over the nodes of one network
 pub record AreOverRow (plans : List Scheme) (row : Row) : Type 0 where

@@ -5,13 +5,14 @@ ghost use Rattle.ir_trace.specs.Checked.{IsRowOver, AreInstalls};
 ghost use Rattle.ir_departure.specs.Leaving.{IsDeparture, IsDepartureOf, AreOverRow};
 
 use crate::departures::Departure;
-use crate::plans::plans_of;
-use crate::segments::{are_known, first_left, last_segment, left_by_fate};
+use crate::segments::{first_left, left_by_fate};
 use ir_core::Install;
 use ir_plan::Plan;
 use ir_tables::Topology;
 use ir_trace::TraceRow;
+use ir_trace::judging::{are_known, last_segment, plans_of};
 use std::alloc::{AllocError, Global};
+use std::thread::Threads;
 
 /// Where a row leaves the walks of its epochs first, by the plans of the epochs.
 fn departure_by(plans: &[Plan], row: &TraceRow) -> Option<Departure>
@@ -33,6 +34,7 @@ fn departure_by(plans: &[Plan], row: &TraceRow) -> Option<Departure>
 /// Condition: the row was read over the topology's graph; each install has a mark for each link, a root that is a
 /// node, and joins all nodes. Refused for memory alone.
 pub fn departure(
+    rt: &(impl Threads + Sync),
     alloc: Global,
     topology: &Topology,
     installs: &[Install],
@@ -42,6 +44,6 @@ pub fn departure(
     requires row { IsRowOver (node_count topology.now) row.now }
     ensures { IfOk result (IsDepartureOf topology.now installs.now row.now) }
 {
-    let plans = plans_of(alloc, topology, installs)?;
+    let plans = plans_of(rt, alloc, topology, installs)?;
     Ok(departure_by(plans.as_slice(), row))
 }

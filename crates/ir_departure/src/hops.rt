@@ -2,37 +2,18 @@
 ghost use Rattle.std.specs.Prelude.{◌≡◌, ◌<◌, true, length, nat_lt, IfNone, IfSome};
 ghost use Rattle.std.specs.List.{list_all};
 ghost use Rattle.ir_model.specs.Network.{node_count};
-ghost use Rattle.ir_core.specs.Sound.{last_of};
 ghost use Rattle.ir_trace.specs.Checked.{IsFrontOfWalk};
 ghost use Rattle.ir_trace.specs.Inspect.{is_node, next_of};
 ghost use Rattle.ir_departure.specs.Leaving.{IsStray};
 
-use crate::plans::next_of;
 use ir_plan::Plan;
+use ir_trace::judging::{is_node, next_of};
 
 /// A hop, counted from 0, that is another node than the plan sends on to from the hop before it, and that other node.
 #[derive(Clone, Copy)]
 pub struct Stray {
     pub hop: usize,
     pub next: Option<u16>,
-}
-
-/// Whether it is this node.
-pub fn is_node(next: Option<u16>, node: u16) -> bool
-    ensures { result ≡ is_node next node }
-{
-    match next {
-        Some(next) => next == node,
-        None => false,
-    }
-}
-
-/// The last of some hops.
-pub fn last_of(hops: &[u16]) -> u16
-    requires { 0 < length hops.now }
-    ensures { result ≡ last_of hops.now }
-{
-    hops[hops.len() - 1]
 }
 
 /// The first hop that is another node than the plan sends on to from the hop before it. Where there is none, the hops

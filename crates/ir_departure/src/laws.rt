@@ -11,7 +11,8 @@ ghost use Rattle.ir_departure.specs.Leaving.{IsDeparture};
 /// By the plans of its epochs a row leaves their walks first at one place, or at none. So a row that follows them leaves
 /// them nowhere.
 pub fn departure_is_determined()
-    ensures { (net : Network) (installs : List Install) (plans : List Scheme) (row : Row) (found other : Option Departure)
+    ensures { (net : Network) (installs : List Install) (plans : List Scheme) (row : Row)
+        (found other : Option Departure)
         → AreSchemesOf net installs plans → IsRowOver (node_count net) row
         → IsDeparture plans row found → IsDeparture plans row other → found ≡ other }
 {}

@@ -8,7 +8,6 @@ mod departing;
 mod departures;
 mod hops;
 mod laws;
-mod plans;
 mod segments;
 
 pub use departing::departure;

@@ -1,37 +1,14 @@
 //! The segments of a row beside the walks of their epochs.
-ghost use Rattle.std.specs.Prelude.{◌≡◌, ◌<◌, ◌≤◌, ◌&&◌, length, nat_lt, nat_le, IfNone, IfSome};
-ghost use Rattle.ir_core.specs.Sound.{last_of};
-ghost use Rattle.ir_trace.specs.Checked.{plan_at, last_part, AreJoined};
-ghost use Rattle.ir_trace.specs.Inspect.{are_known, fits_fate, IsOverPlan, AreOverPlans};
+ghost use Rattle.std.specs.Prelude.{◌≡◌, ◌<◌, IfNone, IfSome};
+ghost use Rattle.ir_trace.specs.Checked.{plan_at, AreJoined};
+ghost use Rattle.ir_trace.specs.Inspect.{fits_fate, IsOverPlan, AreOverPlans};
 ghost use Rattle.ir_departure.specs.Leaving.{left_by_fate, LeavesAmong, LeavesIn};
 
 use crate::departures::Departure;
-use crate::hops::{first_stray, is_node, last_of};
-use crate::plans::{next_of, plan_at};
+use crate::hops::first_stray;
 use ir_plan::Plan;
+use ir_trace::judging::{fits_fate, last_hop, next_of, plan_at};
 use ir_trace::{RowFate, Segment};
-
-/// Whether the epoch of a segment is one of so many.
-fn is_known(segment: &Segment, epochs: usize) -> bool
-    ensures { result ≡ (nat_lt 0 segment.now.epoch && nat_le segment.now.epoch epochs) }
-{
-    0 < segment.epoch && segment.epoch as usize <= epochs
-}
-
-/// Whether the epoch of each segment is one of so many.
-pub fn are_known(segments: &[Segment], epochs: usize) -> bool
-    ensures { result ≡ are_known epochs segments.now }
-{
-    segments.iter().all(|segment| is_known(segment, epochs))
-}
-
-/// The last hop of a segment.
-fn last_hop(segment: &Segment) -> u16
-    requires { 0 < length segment.now.hops }
-    ensures { result ≡ last_of segment.now.hops }
-{
-    last_of(segment.hops.as_slice())
-}
 
 /// Where the segment at a place leaves the walk of its epoch, of a packet that stands at a node and whose epoch so far
 /// is `above`.
@@ -80,27 +57,6 @@ pub fn first_left(plans: &[Plan], segments: &[Segment], source: u16, dest: u16) 
         above = segment.epoch;
     }
     None
-}
-
-/// Whether where a packet is and where it is to go on to fit a fate.
-fn fits_fate(fate: RowFate, at: u16, next: Option<u16>) -> bool
-    ensures { result ≡ fits_fate fate at next }
-{
-    match fate {
-        RowFate::Delivered | RowFate::Retired | RowFate::Left => true,
-        RowFate::Down { low, high } => {
-            (at == low && is_node(next, high)) || (at == high && is_node(next, low))
-        }
-        RowFate::Full { from, to } => at == from && is_node(next, to),
-    }
-}
-
-/// The last of some segments.
-pub fn last_segment(segments: &[Segment]) -> &Segment
-    requires { 0 < length segments.now }
-    ensures { result.now ≡ last_part segments.now }
-{
-    &segments[segments.len() - 1]
 }
 
 /// Where the walk of the last segment does not go on as a fate says, where it goes on.

@@ -1,7 +1,9 @@
-pub mod Chronicle
+-- what contracts promise
 pub mod Codes
 pub mod Entries
 pub mod Handles
 pub mod Over
 pub mod Seats
 pub mod Stamps
+-- what bodies use
+pub mod Chronicle

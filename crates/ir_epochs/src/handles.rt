@@ -52,9 +52,11 @@ fn publish<R: Wait>(rt: &R, mut writer: Desk, next: Published) -> (Desk, Result<
     requires pending { drop writer.behind writer.log.items ≡ [] }
     requires board { next.front.book ≡ writer.desk.shown.value.front.book }
     requires later { IsPrefix writer.desk.shown.value.front.log next.front.log }
-    ensures shown { MatchResult result.1 (λ _. result.0.desk.shown.value ≡ next) (λ _. result.0.desk.shown.value ≡ writer.desk.shown.value) }
+    ensures shown { MatchResult result.1 (λ _. result.0.desk.shown.value ≡ next)
+        (λ _. result.0.desk.shown.value ≡ writer.desk.shown.value) }
     ensures pending { drop result.0.behind result.0.log.items ≡ [] }
-    ensures known { MatchResult result.1 (λ _. (view result.0.desk.place).known ≡ Some next.front) (λ _. (view result.0.desk.place).known ≡ (view writer.desk.place).known) }
+    ensures known { MatchResult result.1 (λ _. (view result.0.desk.place).known ≡ Some next.front)
+        (λ _. (view result.0.desk.place).known ≡ (view writer.desk.place).known) }
 {
     match writer.append(next.again()) {
         Ok(()) => (show(rt, writer, &next), Ok(())),
@@ -77,7 +79,8 @@ fn publish_in_room<R: Wait>(rt: &R, mut writer: Desk, next: Published) -> (Desk,
 
 // Takes the value that was published last, unless the writer is gone.
 fn enter(reader: Sitting) -> (Sitting, Option<Published>)
-    ensures { MatchOption result.1 ((view result.0.place).known ≡ (view reader.place).known) (λ p. ((view result.0.place).known ≡ Some p.front) × Below (view reader.place) p) }
+    ensures { MatchOption result.1 ((view result.0.place).known ≡ (view reader.place).known)
+        (λ p. ((view result.0.place).known ≡ Some p.front) × Below (view reader.place) p) }
 {
     match reader.enter_as::<See>() {
         Ok(reading) => {
@@ -207,7 +210,8 @@ impl<R: Wait + Drop> BoardWriter<R> {
     pub fn change(&mut self, change: Change) -> Result<Receipt, AllocError>
         requires version { (board_of (published self.old)).version < MAX_CHANGES }
         requires fits { Fits (published self.old) change }
-        ensures change { IfOk result (λ t. (published self.new ≡ published self.old ++ Changed change ∷ []) × (told t ≡ published self.new)) }
+        ensures change { IfOk result (λ t. (published self.new ≡ published self.old ++ Changed change ∷ [])
+            × (told t ≡ published self.new)) }
         ensures succeeds { IsOk result }
         ensures opening { IsSameOpening (published self.old) (published self.new) }
         ensures board { writer_board self.new ≡ writer_board self.old }
@@ -295,7 +299,8 @@ impl Receipt {
 
     /// The stamp of an install, and `None` for another change.
     pub fn stamp(&self) -> Option<&Stamp>
-        ensures installed { MatchOption result (installed_by (told self.now) ≡ None) (λ s. installed_by (told self.now) ≡ Some s.now) }
+        ensures installed { MatchOption result (installed_by (told self.now) ≡ None)
+            (λ s. installed_by (told self.now) ≡ Some s.now) }
         ensures current { IfSome result (λ s. IsCurrent (told self.now) s.now) }
     {
         if self.install {

@@ -19,7 +19,8 @@ fn seats<R: Wait + Drop>(
 ) -> Result<Vec<BoardReader>, BoardError>
     ensures same { (published writer.new ≡ published writer.old) × (writer_board writer.new ≡ writer_board writer.old) }
     ensures count { IfOk result (λ r. length r.items ≡ readers) }
-    ensures each { IfOk result (λ r. All (λ x. (known x ≡ published writer.old) × (reader_board x ≡ writer_board writer.old)) r.items) }
+    ensures each { IfOk result (λ r. All
+        (λ x. (known x ≡ published writer.old) × (reader_board x ≡ writer_board writer.old)) r.items) }
 {
     let mut seats = Vec::new(alloc);
     for _ in 0..readers {
@@ -48,7 +49,8 @@ pub fn board<R: Wait + Drop>(
     requires few { links ≤ MAX_LINKS }
     ensures writer { IfOk result (λ r. published r.0 ≡ Opened links opening.now ∷ []) }
     ensures count { IfOk result (λ r. length r.1.items ≡ readers) }
-    ensures each { IfOk result (λ r. All (λ x. (known x ≡ published r.0) × (reader_board x ≡ writer_board r.0)) r.1.items) }
+    ensures each { IfOk result (λ r. All
+        (λ x. (known x ≡ published r.0) × (reader_board x ≡ writer_board r.0)) r.1.items) }
 {
     let mut writer = BoardWriter::open(rt, alloc, opening, links, readers).map_err(
         |_| BoardError::NoMemory,

@@ -1,7 +1,7 @@
 //! Bytes that may not stand in a text.
 
-use crate::sentence::push_quoted;
 use ir_adjlist::scan::all_plain;
+use ir_given::sentence::push_quoted;
 use std::alloc::AllocError;
 
 /// The first byte of a word that is not printable ASCII.

@@ -2,22 +2,23 @@
 
 use crate::MOST_EXPLAINED;
 use crate::finding::explain_finding;
-use crate::lines::{Told, told_of};
 use crate::notes::push_note;
 use crate::numbering::explain_numbering;
 use crate::opening::explain_opening;
-use crate::parts::{Given, Part, Parts, Trouble, parts_of};
 use crate::refusal::explain_refusal;
 use crate::script::explain_script;
-use crate::sentence::begin;
 use crate::topology::explain_topology;
 use ir_adjlist::scan;
+use ir_given::lines::{Told, told_of};
+use ir_given::parts::{Given, Part, Parts, Trouble, parts_of};
+use ir_given::sentence::begin;
 use ir_graph::Graph;
 use ir_model::Fault;
 use ir_streams::MAX_INPUT_BYTES;
 use ir_words::open::read_topology;
 use ir_words::words::{Sub, Words};
 use std::alloc::{AllocError, Global};
+use std::thread::Threads;
 
 /// The graph of a topology; one with no node where the text has a fault.
 fn graph_of(alloc: Global, words: &Words, topology: &Part<'_>) -> Result<Graph, AllocError> {
@@ -57,6 +58,7 @@ fn explain_unread(text: &mut String, part: &Part<'_>, kind: &str) -> Result<(), 
 
 /// Explains what is wrong with a text or a step, over the graph of the topology.
 fn explain_over_graph(
+    rt: &(impl Threads + Sync),
     alloc: Global,
     text: &mut String,
     words: &Words,
@@ -68,13 +70,14 @@ fn explain_over_graph(
     match told.what {
         "script" => explain_script(alloc, text, &graph, parts, told.line, told.kind, is_live),
         "numbering" => explain_numbering(alloc, text, &graph, parts, told.line, told.kind),
-        "finding" => explain_finding(alloc, text, &graph, words, parts, told.line, told.kind),
+        "finding" => explain_finding(rt, alloc, text, &graph, words, parts, told.line, told.kind),
         _ => explain_opening(alloc, text, &graph, words, &parts.topology, told.kind),
     }
 }
 
 /// Explains a line of faults.
 fn explain_line(
+    rt: &(impl Threads + Sync),
     alloc: Global,
     text: &mut String,
     words: &Words,
@@ -87,7 +90,7 @@ fn explain_line(
     match told.what {
         "topology" => explain_topology(alloc, text, &parts.topology, told.line, told.kind),
         "script" | "numbering" | "finding" | "opening" => {
-            explain_over_graph(alloc, text, words, parts, told)
+            explain_over_graph(rt, alloc, text, words, parts, told)
         }
         "refused" => explain_refusal(alloc, text, &parts.script, told.line, told.kind),
         "output" => text.push_str("route: standard output: it could not be written\n"),
@@ -99,6 +102,7 @@ fn explain_line(
 
 /// Explains lines of faults, as many as are explained.
 fn explain_lines(
+    rt: &(impl Threads + Sync),
     alloc: Global,
     text: &mut String,
     words: &Words,
@@ -111,7 +115,7 @@ fn explain_lines(
             return Ok(());
         }
         let (line, after) = scan::next_line(rest);
-        explain_line(alloc, text, words, parts, told_of(alloc, line)?)?;
+        explain_line(rt, alloc, text, words, parts, told_of(alloc, line)?)?;
         rest = after;
     }
     if !rest.is_empty() {
@@ -124,6 +128,7 @@ fn explain_lines(
 /// and one for a topology that looks like another format. `given` is what was given of the inputs, in their order.
 /// Refused for want of memory alone.
 pub fn explanation(
+    rt: &(impl Threads + Sync),
     alloc: Global,
     words: &Words,
     given: &[Given<'_>],
@@ -132,9 +137,9 @@ pub fn explanation(
 ) -> Result<String, AllocError> {
     let parts = parts_of(words, given);
     let mut text = String::new(alloc);
-    explain_lines(alloc, &mut text, words, &parts, faults)?;
+    explain_lines(rt, alloc, &mut text, words, &parts, faults)?;
     if words.sub == Sub::Check {
-        explain_lines(alloc, &mut text, words, &parts, output)?;
+        explain_lines(rt, alloc, &mut text, words, &parts, output)?;
     }
     push_note(alloc, &mut text, words.format, &parts.topology)?;
     Ok(text)

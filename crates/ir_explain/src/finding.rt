@@ -1,14 +1,15 @@
 //! What a finding in a trace means.
 
-use crate::departing::push_departure;
-use crate::lines::{line_at, text_of, word_at, words_of};
-use crate::parts::{Part, Parts};
 use crate::script::push_no_node;
-use crate::sentence::{begin_at, push_quoted};
 use ir_adjlist::scan;
+use ir_given::departing::push_departure;
+use ir_given::lines::{line_at, text_of, word_at, words_of};
+use ir_given::parts::{Part, Parts};
+use ir_given::sentence::{begin_at, push_quoted};
 use ir_graph::Graph;
 use ir_words::words::Words;
 use std::alloc::{AllocError, Global};
+use std::thread::Threads;
 
 /// The first line behind the first one that begins with an id, counted from 1; 0 where there is none.
 fn line_of(alloc: Global, text: &[u8], id: &[u8]) -> Result<usize, AllocError> {
@@ -86,6 +87,7 @@ fn push_bad_weight(text: &mut String, trace: &Part<'_>, words: &[&[u8]]) -> Resu
 
 /// Says where the row on a line leaves the walks of its epochs, or else that it does.
 fn push_unfollowed(
+    rt: &(impl Threads + Sync),
     alloc: Global,
     text: &mut String,
     graph: &Graph,
@@ -93,7 +95,7 @@ fn push_unfollowed(
     parts: &Parts<'_>,
     line: usize,
 ) -> Result<(), AllocError> {
-    if push_departure(alloc, text, graph, asked, parts, line)? {
+    if push_departure(rt, alloc, text, graph, asked, parts, line)? {
         return Ok(());
     }
     text.push_str(
@@ -103,6 +105,7 @@ fn push_unfollowed(
 
 /// Says what a kind of finding on a line of these words means.
 fn push_reason(
+    rt: &(impl Threads + Sync),
     alloc: Global,
     text: &mut String,
     graph: &Graph,
@@ -117,7 +120,7 @@ fn push_reason(
         "BadRow" => text.push_str("this is no row of a trace, or it lacks its line feed"),
         "UnknownNode" => push_unknown_node(alloc, text, graph, parts, words),
         "UnknownEpoch" => push_unknown_epoch(text, &parts.trace, words),
-        "NotAPrefix" => push_unfollowed(alloc, text, graph, asked, parts, line),
+        "NotAPrefix" => push_unfollowed(rt, alloc, text, graph, asked, parts, line),
         "NotAtDestination" => text.push_str(
             "it says delivered, and the walk goes on behind its last hop",
         ),
@@ -135,6 +138,7 @@ fn push_reason(
 
 /// Explains a finding. A row is quoted as it stands: a trace has no comments, and `#` begins a segment.
 pub(crate) fn explain_finding(
+    rt: &(impl Threads + Sync),
     alloc: Global,
     text: &mut String,
     graph: &Graph,
@@ -149,6 +153,7 @@ pub(crate) fn explain_finding(
     push_quoted(text, row)?;
     text.push_str(": ")?;
     push_reason(
+        rt,
         alloc,
         text,
         graph,

@@ -6,25 +6,18 @@
 #![tactic(auto)]
 
 mod bytes;
-mod departing;
 mod explain;
 mod finding;
-mod lines;
 mod nearest;
 mod notes;
 mod numbering;
 mod opening;
-mod parts;
 mod refusal;
 mod script;
-mod sentence;
 mod topology;
 
 pub use explain::explanation;
-pub use parts::{Given, Trouble};
-
-/// The most bytes of a text that are quoted.
-pub const MOST_QUOTED: usize = 64;
+pub use ir_given::parts::{Given, Trouble};
 
 /// The most lines of faults that are explained.
 pub const MOST_EXPLAINED: usize = 64;

@@ -1,10 +1,10 @@
 //! Topologies that look like another format.
 
-use crate::lines::{word_at, words_of};
-use crate::parts::Part;
-use crate::sentence::{begin, push_file};
 use ir_adjlist::digits::all_digits;
 use ir_adjlist::scan;
+use ir_given::lines::{word_at, words_of};
+use ir_given::parts::Part;
+use ir_given::sentence::{begin, push_file};
 use ir_words::words::Format;
 use std::alloc::{AllocError, Global};
 

@@ -1,11 +1,11 @@
 //! What is wrong with a line of an order of nodes.
 
 use crate::bytes::push_bad_byte;
-use crate::lines::{line_at, text_of, word_at, words_of};
-use crate::parts::{Part, Parts};
 use crate::script::push_no_node;
-use crate::sentence::{begin, begin_at, push_count, push_quoted};
 use ir_adjlist::scan;
+use ir_given::lines::{line_at, text_of, word_at, words_of};
+use ir_given::parts::{Part, Parts};
+use ir_given::sentence::{begin, begin_at, push_count, push_quoted};
 use ir_graph::Graph;
 use std::alloc::{AllocError, Global};
 

@@ -1,9 +1,9 @@
 //! Why nothing was opened over a topology.
 
 use crate::nearest::{nearest_node, push_near};
-use crate::parts::Part;
-use crate::sentence::{begin, push_file, push_quoted};
 use ir_core::{MAX_LINKS, MAX_NODES};
+use ir_given::parts::Part;
+use ir_given::sentence::{begin, push_file, push_quoted};
 use ir_graph::Graph;
 use ir_words::words::{Format, Words};
 use std::alloc::{AllocError, Global};

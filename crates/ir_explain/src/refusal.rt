@@ -1,9 +1,9 @@
 //! Why a step of a script was refused.
 
-use crate::lines::{line_at, words_of};
-use crate::parts::Part;
-use crate::sentence::{begin_at, joined, push_quoted};
 use ir_core::{MAX_CHANGES, MAX_EPOCHS};
+use ir_given::lines::{line_at, words_of};
+use ir_given::parts::Part;
+use ir_given::sentence::{begin_at, joined, push_quoted};
 use std::alloc::{AllocError, Global};
 
 /// Says what a kind of refusal means.

@@ -1,10 +1,10 @@
 //! What is wrong with a line of a script.
 
 use crate::bytes::push_bad_byte;
-use crate::lines::{line_at, text_of, word_at, words_of};
 use crate::nearest::{nearest_node, nearest_of, push_near};
-use crate::parts::{Part, Parts};
-use crate::sentence::{begin_at, joined, push_file, push_quoted};
+use ir_given::lines::{line_at, text_of, word_at, words_of};
+use ir_given::parts::{Part, Parts};
+use ir_given::sentence::{begin_at, joined, push_file, push_quoted};
 use ir_graph::Graph;
 use std::alloc::{AllocError, Global};
 

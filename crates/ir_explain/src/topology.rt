@@ -1,9 +1,9 @@
 //! What is wrong with a line of a topology.
 
 use crate::bytes::push_bad_byte;
-use crate::lines::{line_at, word_at, words_of};
-use crate::parts::Part;
-use crate::sentence::{begin_at, push_count, push_quoted};
+use ir_given::lines::{line_at, word_at, words_of};
+use ir_given::parts::Part;
+use ir_given::sentence::{begin_at, push_count, push_quoted};
 use ir_model::{MAX_EDGES, MAX_NAME_BYTES, MAX_NODES, MAX_WEIGHT};
 use std::alloc::{AllocError, Global};
 

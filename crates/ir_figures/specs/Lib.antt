@@ -1,5 +1,7 @@
+-- what contracts promise
 pub mod RowBits
 pub mod Compactness
-pub mod Exits
 pub mod FiguresText
 pub mod Waits
+-- what bodies use
+pub mod Exits

@@ -64,7 +64,7 @@ fn most_of_node(plan: &Plan, u: u16, best: Option<Most>) -> Option<Most>
 }
 
 /// The port that the most intervals of a plan go by: the first such port of the first node that has one; None where no
-/// node has a port.
+/// node has a port. Takes O(s), for the sum s over the nodes of the ports times the starts.
 pub fn most_intervals(plan: &Plan) -> Option<Most>
     ensures { AreMost plan.now result }
 {

@@ -82,7 +82,8 @@ fn push_ring(text: &mut String, graph: &Graph, ring: &Option<Vec<u16>>) -> Resul
 }
 
 /// The text of the figures of a plan, those of the field behind the others. Condition: the plan is over the graph's
-/// network. It is refused for memory alone.
+/// network. It is refused for memory alone. Takes as long as `stats_text` of `ir_look`, `most_intervals` and
+/// `waiting_ring`.
 pub fn figures_text(alloc: Global, graph: &Graph, plan: &Plan) -> Result<String, AllocError>
     requires { node_count plan.now.network ≡ length graph.now }
     ensures { IfOk result (λ text. AreFiguresOf (names graph.now) plan.now (string_bytes text)) }

@@ -135,7 +135,8 @@ fn nodes_of(alloc: Global, nodes: &[u16], ring: &[u32]) -> Result<Vec<u16>, Allo
 /// such that each waits for greater ones alone. A link waits for another one where a walk that the plan prescribes takes
 /// them one behind the other: packets that hold one's buffer wait for room in the other's (Dally and Seitz 1987).
 ///
-/// It takes a byte for each directed link and port of the node that it leads to. Refused for memory alone.
+/// It takes a byte for each directed link and port of the node that it leads to. Refused for memory alone. Takes
+/// O(n * n log n + n m), for n nodes and m links.
 pub fn waiting_ring(alloc: Global, plan: &Plan) -> Result<Option<Vec<u16>>, AllocError>
     ensures acyclic { IfOk result (λ found. IfNone found (IsWithoutRing plan.now)) }
     ensures ring { IfOk result (λ found.

@@ -1,5 +1,7 @@
+-- what contracts promise
 pub mod Faults
 pub mod Kept
 pub mod Paths
-pub mod Reached
 pub mod View
+-- what bodies use
+pub mod Reached

@@ -18,7 +18,8 @@ pub fn neighbor_count(rows: &Rows, node: usize) -> usize
 
 /// The neighbour at a place of the node at a place, by its name, and the weight of the link.
 fn entry_at(rows: &Rows, node: usize, place: usize) -> Option<(&str, u32)>
-    ensures { option_map {U = List ℕ × ℕ} (λ e. (e.0.now, e.1)) result ≡ slice_get (neighbors_at (rows_view rows.now) node) place }
+    ensures { option_map {U = List ℕ × ℕ} (λ e. (e.0.now, e.1)) result
+        ≡ slice_get (neighbors_at (rows_view rows.now) node) place }
 {
     match rows.get_index(node) {
         Some((_, row)) => match row.get_index(place) {
@@ -54,8 +55,11 @@ fn stands_before(rows: &Rows, name: &str, node: usize) -> bool
 /// The neighbour at a place of the node at a place, if it doesn't stand before the node.
 fn later_at(rows: &Rows, node: usize, place: usize) -> Option<(&str, u32)>
     requires { node < length (rows_view rows.now) }
-    ensures before { IfNone result (IfSome {T = List ℕ × ℕ} (slice_get (neighbors_at (rows_view rows.now) node) place) (λ e. among (take node (names (rows_view rows.now))) e.0 ≡ true)) }
-    ensures there { IfSome result (λ e. slice_get (neighbors_at (rows_view rows.now) node) place ≡ Some (e.0.now, e.1)) }
+    ensures before { IfNone result
+        (IfSome {T = List ℕ × ℕ} (slice_get (neighbors_at (rows_view rows.now) node) place)
+        (λ e. among (take node (names (rows_view rows.now))) e.0 ≡ true)) }
+    ensures there { IfSome result (λ e. slice_get (neighbors_at (rows_view rows.now) node) place
+        ≡ Some (e.0.now, e.1)) }
     ensures later { IfSome result (λ e. among (take node (names (rows_view rows.now))) e.0.now ≡ false) }
 {
     let (name, weight) = entry_at(rows, node, place)?;
@@ -69,7 +73,8 @@ fn later_at(rows: &Rows, node: usize, place: usize) -> Option<(&str, u32)>
 /// weight, or how many places are left behind the last of them.
 fn later_edge(rows: &Rows, node: usize, place: usize) -> Result<(&str, u32), usize>
     requires { node < length (rows_view rows.now) }
-    ensures { MatchResult result (λ e. slice_get (later_neighbors (rows_view rows.now) node) place ≡ Some (e.0.now, e.1)) (λ left. left + length (later_neighbors (rows_view rows.now) node) ≡ place) }
+    ensures { MatchResult result (λ e. slice_get (later_neighbors (rows_view rows.now) node) place
+        ≡ Some (e.0.now, e.1)) (λ left. left + length (later_neighbors (rows_view rows.now) node) ≡ place) }
 {
     let mut left = place;
     for i in 0..neighbor_count(rows, node) {
@@ -85,7 +90,8 @@ fn later_edge(rows: &Rows, node: usize, place: usize) -> Result<(&str, u32), usi
 
 /// The edge at a place, by its ends and its weight.
 pub fn edge_at(rows: &Rows, place: usize) -> Option<(&str, &str, u32)>
-    ensures { option_map {U = List ℕ × List ℕ × ℕ} (λ e. (e.0.now, e.1.now, e.2)) result ≡ slice_get (edges (rows_view rows.now)) place }
+    ensures { option_map {U = List ℕ × List ℕ × ℕ} (λ e. (e.0.now, e.1.now, e.2)) result
+        ≡ slice_get (edges (rows_view rows.now)) place }
 {
     let mut left = place;
     for node in 0..rows.len() {

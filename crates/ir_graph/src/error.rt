@@ -26,7 +26,7 @@ impl GraphError {
     ghost use Rattle.std.specs.Prelude.{◌≡◌};
     ghost use Rattle.ir_graph.specs.Faults.{code_of};
 
-    /// The number of the error, from 1 to 8.
+    /// The number of the error, from 1 to 8. For users of the library.
     pub fn code(self) -> u8
         ensures { result ≡ code_of self }
     {

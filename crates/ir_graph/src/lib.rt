@@ -125,7 +125,7 @@ impl Graph {
         rows::name_at(&self.rows, place)
     }
 
-    /// The name of a node's neighbour at a place, from 0 in the order of its neighbours.
+    /// The name of a node's neighbour at a place, from 0 in the order of its neighbours. For users of the library.
     pub fn neighbor(&self, name: &str, place: usize) -> Option<&str>
         ensures { option_map (λ other. other.now) result ≡ slice_get (keys_of (neighbors self.now name.now)) place }
     {
@@ -159,16 +159,20 @@ impl Graph {
     }
 
     /// The edge at a place, by its ends and its weight. Edges are ordered by node, then by neighbour, leaving out
-    /// neighbours that stand before the node.
+    /// neighbours that stand before the node. Takes O(n + m) on average, for n nodes and m edges before the place.
+    /// For users of the library.
     pub fn edge(&self, place: usize) -> Option<(&str, &str, u32)>
-        ensures { option_map {U = List ℕ × List ℕ × ℕ} (λ edge. (edge.0.now, edge.1.now, edge.2)) result ≡ slice_get (edges self.now) place }
+        ensures { option_map {U = List ℕ × List ℕ × ℕ} (λ edge. (edge.0.now, edge.1.now, edge.2)) result
+            ≡ slice_get (edges self.now) place }
     {
         by_place::edge_at(&self.rows, place)
     }
 
     /// How many ends of edges are at a node: a self-loop has two. `NoNode` where there is no such node.
+    /// For users of the library.
     pub fn degree(&self, name: &str) -> Result<usize, GraphError>
-        ensures { result ≡ (if has_node self.now name.now then Ok (degree self.now name.now) else Err GraphError.NoNode) }
+        ensures { result ≡ (if has_node self.now name.now then Ok
+            (degree self.now name.now) else Err GraphError.NoNode) }
     {
         if !self.has_node(name) {
             return Err(GraphError::NoNode);
@@ -236,7 +240,7 @@ impl Graph {
     }
 
     /// Removes an edge, and answers its weight. The other neighbours keep their order. `NoEdge` where there is none,
-    /// also where an end is missing.
+    /// also where an end is missing. Takes O(d), for d neighbours of the two ends. For users of the library.
     pub fn remove_edge(&mut self, u: &str, v: &str) -> Result<u32, GraphError>
         ensures ok { IfOk result (λ weight. weight_of self.old u.now v.now ≡ Some weight) }
         ensures removed { OnOk result (self.new ≡ without_edge self.old u.now v.now) }
@@ -254,6 +258,7 @@ impl Graph {
     }
 
     /// Removes a node with its edges. The other nodes and neighbours keep their order. `NoNode` where there is none.
+    /// Takes O(n + m) on average, for n nodes and m edges. For users of the library.
     pub fn remove_node(&mut self, name: &str) -> Result<(), GraphError>
         ensures ok { OnOk result (has_node self.old name.now ≡ true) }
         ensures removed { OnOk result (self.new ≡ without_node self.old name.now) }
@@ -270,6 +275,7 @@ impl Graph {
     }
 
     /// Whether each two nodes have a path from one to the other. A graph with no node is refused as `EmptyGraph`.
+    /// Takes O(n + m) on average, for n nodes and m edges. For users of the library.
     pub fn is_connected(&self) -> Result<bool, GraphError>
         ensures connected { IfOk result (λ yes. IsTrue yes ↔ IsConnected self.now) }
         ensures some { OnOk result (0 < length self.now) }

@@ -20,7 +20,8 @@ fn reach_neighbors(rows: &Rows, node: usize, reached: &mut Places) -> Result<(),
     requires there { HasPlace reached.old.keys node }
     ensures after { OnOk result (AreReached (rows_view rows.now) reached.new.keys) }
     ensures kept { OnOk result (GoesOn reached.old.keys reached.new.keys) }
-    ensures all { OnOk result (HasNeighbors (rows_view rows.now) reached.new.keys node (length (neighbors_at (rows_view rows.now) node))) }
+    ensures all { OnOk result (HasNeighbors (rows_view rows.now) reached.new.keys node
+        (length (neighbors_at (rows_view rows.now) node))) }
 {
     for place in 0..neighbor_count(rows, node) {
         if let Some((neighbor, _)) = neighbor_at(rows, node, place) {

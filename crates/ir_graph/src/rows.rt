@@ -220,7 +220,8 @@ pub fn name_at(rows: &Rows, place: usize) -> Option<&str>
 
 /// The neighbour of a node at a place.
 pub fn neighbor_at<'a>(rows: &'a Rows, name: &str, place: usize) -> Option<&'a str>
-    ensures { option_map (λ other. other.now) result ≡ slice_get (keys_of (neighbors (rows_view rows.now) name.now)) place }
+    ensures { option_map (λ other. other.now) result
+        ≡ slice_get (keys_of (neighbors (rows_view rows.now) name.now)) place }
 {
     match rows.get(name) {
         Some(row) => match row.get_index(place) {

@@ -1,1 +1,2 @@
+-- what contracts promise
 pub mod Worked

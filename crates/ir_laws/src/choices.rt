@@ -10,19 +10,24 @@ ghost use Rattle.ir_model.specs.Scheme.{AreLabels};
 
 /// The rule chooses one list of ports.
 pub fn chosen_ports_are_determined()
-    ensures { (n own : ℕ) (allowed : ℕ → ℕ → Bool) (ports others : List (Option ℕ)) → AreChoices n own (λ d p. allowed d p ≡ true)
-        → AreChosen n own (λ d p. allowed d p ≡ true) ports → AreChosen n own (λ d p. allowed d p ≡ true) others → ports ≡ others }
+    ensures { (n own : ℕ) (allowed : ℕ → ℕ → Bool) (ports others : List (Option ℕ))
+        → AreChoices n own (λ d p. allowed d p ≡ true)
+        → AreChosen n own (λ d p. allowed d p ≡ true) ports → AreChosen n own (λ d p. allowed d p ≡ true) others
+        → ports ≡ others }
 {}
 
 /// A network and the labels of its nodes have one compact table.
 pub fn compact_table_is_determined()
-    ensures { (net : Network) (order labels : List ℕ) (table other : ℕ → ℕ → Option ℕ) → AreLabels (node_count net) order labels
+    ensures { (net : Network) (order labels : List ℕ) (table other : ℕ → ℕ → Option ℕ)
+        → AreLabels (node_count net) order labels
         → IsCompactTable net order table → IsCompactTable net order other
         → (u d : ℕ) → u < node_count net → d < node_count net → table u d ≡ other u d }
 {}
 
 /// What a table of shortest ways prescribes is a walk of the weight of the distance.
 pub fn prescribed_walk_of_a_table_of_shortest_ways()
-    ensures { (net : Network) → IsNetwork net → (table : ℕ → ℕ → Option ℕ) → IsNearerTable net table → (u d : ℕ) → u < node_count net → d < node_count net
-        → (walk : List ℕ) → IsPrescribedWalk net table u d walk → IsWalk net u d walk × IsDistance net u d (walk_weight net walk) }
+    ensures { (net : Network) → IsNetwork net → (table : ℕ → ℕ → Option ℕ) → IsNearerTable net table → (u d : ℕ)
+        → u < node_count net → d < node_count net
+        → (walk : List ℕ) → IsPrescribedWalk net table u d walk → IsWalk net u d walk
+        × IsDistance net u d (walk_weight net walk) }
 {}

@@ -12,5 +12,6 @@ pub fn whole_circle()
 
 /// Two rows that are canonical for one destination list are equal.
 pub fn canonical_rows_are_equal()
-    ensures { (n own : ℕ) (ports : List (Option ℕ)) (row other : List Start) → IsCanonical n own ports row → IsCanonical n own ports other → row ≡ other }
+    ensures { (n own : ℕ) (ports : List (Option ℕ)) (row other : List Start) → IsCanonical n own ports row
+        → IsCanonical n own ports other → row ≡ other }
 {}

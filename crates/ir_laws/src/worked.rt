@@ -33,6 +33,8 @@ pub fn weighted_example()
 /// A text of three lines has no fault; it names the nodes a, b, c and the edges a-a, a-b, b-c.
 pub fn text_of_a_line()
     ensures no_fault { first_fault [] (lines text) ≡ None }
-    ensures nodes { names (graph_of (names_in (lines text)) (pairs_in (lines text))) ≡ (97 ∷ []) ∷ (98 ∷ []) ∷ (99 ∷ []) ∷ [] }
-    ensures edges { edges (graph_of (names_in (lines text)) (pairs_in (lines text))) ≡ (97 ∷ [], 97 ∷ [], 1) ∷ (97 ∷ [], 98 ∷ [], 1) ∷ (98 ∷ [], 99 ∷ [], 1) ∷ [] }
+    ensures nodes { names (graph_of (names_in (lines text)) (pairs_in (lines text)))
+        ≡ (97 ∷ []) ∷ (98 ∷ []) ∷ (99 ∷ []) ∷ [] }
+    ensures edges { edges (graph_of (names_in (lines text)) (pairs_in (lines text)))
+        ≡ (97 ∷ [], 97 ∷ [], 1) ∷ (97 ∷ [], 98 ∷ [], 1) ∷ (98 ∷ [], 99 ∷ [], 1) ∷ [] }
 {}

@@ -62,7 +62,8 @@ fn port_behind(row: &Row, below: usize, own: u16, label: u16) -> Option<u16>
 // The fewest lines of a node whose longest match names its port to each other label.
 fn nested_lines(alloc: Global, plan: &Plan, u: u16) -> Result<Vec<Line>, AllocError>
     requires { u < node_count plan.now.network }
-    ensures lines { IfOk result (λ table. (bits : ℕ) → IsWidth (node_count plan.now.network) bits → AreNestedLines plan.now bits u table.items) }
+    ensures lines { IfOk result (λ table. (bits : ℕ) → IsWidth (node_count plan.now.network) bits
+        → AreNestedLines plan.now bits u table.items) }
     ensures ports { IfOk result (λ table. NamesPorts (by_label plan.now u) table.items) }
 {
     let ports = ports_by_label(alloc, plan, u)?;
@@ -77,7 +78,8 @@ fn nested_lines(alloc: Global, plan: &Plan, u: u16) -> Result<Vec<Line>, AllocEr
 // The fewest lines of a node of which one alone holds each other label.
 fn disjoint_lines(alloc: Global, plan: &Plan, u: u16) -> Result<Vec<Line>, AllocError>
     requires { u < node_count plan.now.network }
-    ensures lines { IfOk result (λ table. (bits : ℕ) → IsWidth (node_count plan.now.network) bits → AreDisjointLines plan.now bits u table.items) }
+    ensures lines { IfOk result (λ table. (bits : ℕ) → IsWidth (node_count plan.now.network) bits
+        → AreDisjointLines plan.now bits u table.items) }
     ensures ports { IfOk result (λ table. NamesPorts (by_label plan.now u) table.items) }
 {
     let ports = ports_by_label(alloc, plan, u)?;
@@ -90,7 +92,7 @@ fn disjoint_lines(alloc: Global, plan: &Plan, u: u16) -> Result<Vec<Line>, Alloc
 }
 
 /// The forwarding table of a node, by the ports of its row: that of `ir_prefix::disjoint` if the lines are to be
-/// disjoint, else that of `ir_prefix::forwarding`. It is refused for memory alone.
+/// disjoint, else that of `ir_prefix::forwarding`. It is refused for memory alone. Takes O(n log n), for n nodes.
 pub fn table_of(
     alloc: Global,
     plan: &Plan,
@@ -98,7 +100,8 @@ pub fn table_of(
     is_disjoint: bool,
 ) -> Result<Vec<Line>, AllocError>
     requires { u < node_count plan.now.network }
-    ensures lines { IfOk result (λ table. (bits : ℕ) → IsWidth (node_count plan.now.network) bits → AreLinesOf is_disjoint plan.now bits u table.items) }
+    ensures lines { IfOk result (λ table. (bits : ℕ) → IsWidth (node_count plan.now.network) bits
+        → AreLinesOf is_disjoint plan.now bits u table.items) }
     ensures ports { IfOk result (λ table. NamesPorts (by_label plan.now u) table.items) }
 {
     if is_disjoint {

@@ -35,7 +35,8 @@ fn push_goal(
     requires scheme { IsScheme plan.now }
     requires node { u < length graph.now }
     requires port { IfSome port (λ p. p < length (ports_of plan.now.network u)) }
-    ensures { OnOk result (string_bytes text.new ≡ string_bytes text.old ++ spaced (goal_text (names graph.now) plan.now.network u port)) }
+    ensures { OnOk result (string_bytes text.new ≡ string_bytes text.old
+        ++ spaced (goal_text (names graph.now) plan.now.network u port)) }
 {
     match port {
         Some(port) => push_name(text, graph, plan.hop(u, port).node),
@@ -55,7 +56,8 @@ fn push_entry(
     requires scheme { IsScheme plan.now }
     requires node { u < length graph.now }
     requires port { IfSome line.now.port (λ p. p < length (ports_of plan.now.network u)) }
-    ensures { OnOk result (string_bytes text.new ≡ string_bytes text.old ++ flat_map spaced (entry_words (names graph.now) plan.now.network u line.now)) }
+    ensures { OnOk result (string_bytes text.new ≡ string_bytes text.old
+        ++ flat_map spaced (entry_words (names graph.now) plan.now.network u line.now)) }
 {
     push_prefix(text, line.value, line.length)?;
     push_goal(text, graph, plan, u, line.port)?;
@@ -74,7 +76,8 @@ fn push_entries(
     requires scheme { IsScheme plan.now }
     requires node { u < length graph.now }
     requires ports { All (λ m. IfSome m.port (λ p. p < length (ports_of plan.now.network u))) table.now }
-    ensures { OnOk result (string_bytes text.new ≡ string_bytes text.old ++ flat_map spaced (flat_map (entry_words (names graph.now) plan.now.network u) table.now)) }
+    ensures { OnOk result (string_bytes text.new ≡ string_bytes text.old
+        ++ flat_map spaced (flat_map (entry_words (names graph.now) plan.now.network u) table.now)) }
 {
     for line in table {
         push_entry(text, graph, plan, u, line)?;
@@ -95,7 +98,8 @@ pub fn push_node(
     requires scheme { IsScheme plan.now }
     requires node { u < length graph.now }
     requires ports { All (λ m. IfSome m.port (λ p. p < length (ports_of plan.now.network u))) table.now }
-    ensures { OnOk result (string_bytes text.new ≡ string_bytes text.old ++ line_text (node_words (names graph.now) plan.now u table.now)) }
+    ensures { OnOk result (string_bytes text.new ≡ string_bytes text.old
+        ++ line_text (node_words (names graph.now) plan.now u table.now)) }
 {
     text.push_str(name_of(graph, u))?;
     push_next_number(text, plan.label_of(u) as usize)?;
@@ -113,7 +117,8 @@ fn push_nodes(
     is_disjoint: bool,
 ) -> Result<usize, AllocError>
     requires { node_count plan.now.network ≡ length graph.now }
-    ensures { IfOk result (λ lines. AreWritten is_disjoint (names graph.now) plan.now (node_count plan.now.network) lines (string_bytes text.old) (string_bytes text.new)) }
+    ensures { IfOk result (λ lines. AreWritten is_disjoint (names graph.now) plan.now
+        (node_count plan.now.network) lines (string_bytes text.old) (string_bytes text.new)) }
 {
     let mut lines = 0;
     for u in 0..plan.nodes() {
@@ -127,7 +132,8 @@ fn push_nodes(
 
 /// Writes the first line.
 fn push_head(text: &mut String, plan: &Plan, bits: u8, lines: usize) -> Result<(), AllocError>
-    ensures { OnOk result (string_bytes text.new ≡ string_bytes text.old ++ line_text (head_words plan.now bits lines)) }
+    ensures { OnOk result (string_bytes text.new ≡ string_bytes text.old
+        ++ line_text (head_words plan.now bits lines)) }
 {
     text.push_str("prefixes")?;
     push_word(text, kind_text(plan.kind()))?;
@@ -141,7 +147,8 @@ fn push_head(text: &mut String, plan: &Plan, bits: u8, lines: usize) -> Result<(
 /// The text of the forwarding tables of a plan's nodes: `prefixes KIND N BITS LINES`, and for each node its name, its
 /// label and its lines, each as `VALUE/LENGTH` and the neighbour, or `-` where the numbers are unreachable. They are
 /// those of `table_of`, so the text is determined up to which of several lists of the fewest lines stand there.
-/// Condition: the plan is over the graph's network. It is refused for memory alone.
+/// Condition: the plan is over the graph's network. It is refused for memory alone. Takes O(n * n log n), for n nodes.
+/// For users of the library.
 pub fn prefixes_text(
     alloc: Global,
     graph: &Graph,
@@ -163,7 +170,9 @@ pub fn text_of_lines(
     lines: usize,
     tables: &str,
 ) -> Result<String, AllocError>
-    ensures { IfOk result (λ text. (is_disjoint : Bool) (nodes : List Name) → AreWritten is_disjoint nodes plan.now (node_count plan.now.network) lines [] tables.now → IsPrefixesOf is_disjoint nodes plan.now (string_bytes text)) }
+    ensures { IfOk result (λ text. (is_disjoint : Bool) (nodes : List Name)
+        → AreWritten is_disjoint nodes plan.now (node_count plan.now.network) lines [] tables.now
+        → IsPrefixesOf is_disjoint nodes plan.now (string_bytes text)) }
 {
     let bits = width(plan.nodes() as u16);
     let mut text = String::new(alloc);

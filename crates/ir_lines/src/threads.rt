@@ -24,7 +24,8 @@ pub struct NodeText {
 /// The text that `prefixes_text` makes, the lines of the nodes made in at most `most` threads, or in as many as suit the
 /// processors where it is None. Where no thread can be started, they are made on this one. Each thread holds one node's
 /// table at a time.
-/// Condition: the plan is over the graph's network. It is refused for memory alone, also in a thread.
+/// Condition: the plan is over the graph's network. It is refused for memory alone, also in a thread. All threads
+/// together take as long as `prefixes_text`.
 pub fn prefixes_text_in_threads(
     rt: &(impl Threads + Sync),
     alloc: Global,
@@ -52,7 +53,8 @@ fn texts_in_threads(
     most: Option<usize>,
 ) -> Result<Vec<NodeText>, AllocError>
     requires { node_count plan.now.network ≡ length graph.now }
-    ensures { IfOk result (λ made. AreNodeTexts is_disjoint (names graph.now) plan.now (node_count plan.now.network) made.items) }
+    ensures { IfOk result (λ made. AreNodeTexts is_disjoint (names graph.now) plan.now
+        (node_count plan.now.network) made.items) }
 {
     let nodes = plan.nodes();
     (0..nodes)

@@ -43,7 +43,11 @@ impl<T: Bound> Model for Channel<T> {
 
     ghost Value = { Line T.Place };
 
-    ghost view = { λ c. record { name = c.base.table_id; place = (arc_value c.shared).place; capacity = ruled_capacity (arc_value c.shared).queue } };
+    ghost view = { λ c. record {
+      name = c.base.table_id;
+      place = (arc_value c.shared).place;
+      capacity = ruled_capacity (arc_value c.shared).queue;
+    } };
 
     ghost invariant = { λ c. (c.base.table_id ≡ (arc_value c.shared).queue.table.shared.table_id)
         × (c.base.view.client ≡ knows_base (arc_value c.shared).place (ruled_capacity (arc_value c.shared).queue)) };
@@ -71,10 +75,18 @@ impl<T: Bound> Model for Sender<T> {
 
     ghost Value = { Sending T.Place T };
 
-    ghost view = { λ s. record { line = record { name = s.pass.table_id; place = (arc_value s.shared).place; capacity = ruled_capacity (arc_value s.shared).queue }; sent = (pass_view s.pass).sent } };
+    ghost view = { λ s. record {
+      line = record {
+        name = s.pass.table_id;
+        place = (arc_value s.shared).place;
+        capacity = ruled_capacity (arc_value s.shared).queue;
+      };
+      sent = (pass_view s.pass).sent;
+    } };
 
     ghost invariant = { λ s. IsPassOf (arc_value s.shared).queue s.pass
-        × (pass_view s.pass ≡ knows_sent (arc_value s.shared).place (ruled_capacity (arc_value s.shared).queue) (pass_view s.pass).sent) };
+        × (pass_view s.pass ≡ knows_sent (arc_value s.shared).place (ruled_capacity (arc_value s.shared).queue)
+        (pass_view s.pass).sent) };
 }
 
 /// The end that takes. Contracts see the channel's `Line`, and the list of all that was taken.
@@ -93,10 +105,18 @@ impl<T: Bound> Model for Taker<T> {
 
     ghost Value = { Taking T.Place T };
 
-    ghost view = { λ s. record { line = record { name = s.pass.table_id; place = (arc_value s.shared).place; capacity = ruled_capacity (arc_value s.shared).queue }; taken = (pass_view s.pass).taken } };
+    ghost view = { λ s. record {
+      line = record {
+        name = s.pass.table_id;
+        place = (arc_value s.shared).place;
+        capacity = ruled_capacity (arc_value s.shared).queue;
+      };
+      taken = (pass_view s.pass).taken;
+    } };
 
     ghost invariant = { λ s. IsPassOf (arc_value s.shared).queue s.pass
-        × (pass_view s.pass ≡ knows_taken (arc_value s.shared).place (ruled_capacity (arc_value s.shared).queue) (pass_view s.pass).taken) };
+        × (pass_view s.pass ≡ knows_taken (arc_value s.shared).place (ruled_capacity (arc_value s.shared).queue)
+        (pass_view s.pass).taken) };
 }
 
 /// What is left of a channel whose two ends were brought together. Contracts see the channel's `Line`, and the list of
@@ -116,11 +136,20 @@ impl<T: Bound> Model for Remains<T> {
 
     ghost Value = { Remaining T.Place T };
 
-    ghost view = { λ r. record { line = record { name = r.pass.table_id; place = (arc_value r.shared).place; capacity = ruled_capacity (arc_value r.shared).queue }; left = drop (length (pass_view r.pass).taken) (pass_view r.pass).sent } };
+    ghost view = { λ r. record {
+      line = record {
+        name = r.pass.table_id;
+        place = (arc_value r.shared).place;
+        capacity = ruled_capacity (arc_value r.shared).queue;
+      };
+      left = drop (length (pass_view r.pass).taken) (pass_view r.pass).sent;
+    } };
 
     ghost invariant = { λ r. IsPassOf (arc_value r.shared).queue r.pass
-        × (pass_view r.pass ≡ knows_both (arc_value r.shared).place (ruled_capacity (arc_value r.shared).queue) (pass_view r.pass).sent (pass_view r.pass).taken)
-        × ((pass_view r.pass).sent ≡ (pass_view r.pass).taken ++ drop (length (pass_view r.pass).taken) (pass_view r.pass).sent) };
+        × (pass_view r.pass ≡ knows_both (arc_value r.shared).place (ruled_capacity (arc_value r.shared).queue)
+        (pass_view r.pass).sent (pass_view r.pass).taken)
+        × ((pass_view r.pass).sent ≡ (pass_view r.pass).taken
+        ++ drop (length (pass_view r.pass).taken) (pass_view r.pass).sent) };
 }
 
 // Tells the rule where the channel leads and how much it holds.
@@ -159,7 +188,9 @@ impl<T: Bound> Channel<T> {
     /// An error means that the count of the channel's owners is full. That the first call gives the ends is shown by
     /// test.
     pub fn ends(&self) -> Result<Option<(Sender<T>, Taker<T>)>, AllocError>
-        ensures { IfOk result (λ given. IfSome given (λ ends. (ends.0 ≡ record { line = self.now; sent = [] }) × (ends.1 ≡ record { line = self.now; taken = [] }))) }
+        ensures { IfOk result (λ given. IfSome given
+            (λ ends. (ends.0 ≡ record { line = self.now; sent = [] })
+            × (ends.1 ≡ record { line = self.now; taken = [] }))) }
     {
         let (_, resting) = self.base.take(0);
         let Some(mut pass) = resting else {
@@ -221,7 +252,8 @@ impl<T: Bound> Taker<T> {
     pub fn take<R: Moments<T>>(&mut self, rt: &R) -> Option<T>
         ensures taken { MatchOption result
             ((self.new ≡ self.old) × WasEmpty T.goes_to self.old)
-            (λ item. (self.new ≡ record self.old { taken = self.old.taken ++ item ∷ [] }) × T.goes_to item self.old.line.place) }
+            (λ item. (self.new ≡ record self.old { taken = self.old.taken ++ item ∷ [] })
+            × T.goes_to item self.old.line.place) }
         ensures moment { IfNone result (FoundNone R.was_empty T.goes_to self.old) }
         ensures line { self.new.line ≡ self.old.line }
     {
@@ -256,7 +288,8 @@ pub fn join<T: Bound>(sender: Sender<T>, taker: Taker<T>) -> Remains<T>
 impl<T: Bound> Remains<T> {
     /// Takes the oldest item that is left, or none where nothing is left.
     pub fn take<R: Wait>(&mut self, rt: &R) -> Option<T>
-        ensures left { MatchOption result ((self.old.left ≡ []) × (self.new ≡ self.old)) (λ item. self.old.left ≡ item ∷ self.new.left) }
+        ensures left { MatchOption result ((self.old.left ≡ []) × (self.new ≡ self.old))
+            (λ item. self.old.left ≡ item ∷ self.new.left) }
         ensures line { self.new.line ≡ self.old.line }
     {
         self.shared.queue.pop_as::<Empties, R>(rt, &mut self.pass)
@@ -270,8 +303,10 @@ impl<T: Bound> Remains<T> {
 pub fn settle_into<T: Bound, R: Wait>(rt: &R, sender: Sender<T>, taker: Taker<T>, into: &mut Vec<T>)
     requires one { sender.line ≡ taker.line }
     requires room { vec_len into.old + taker.line.capacity ≤ vec_capacity into.old }
-    ensures left { (left : List T) × (into.new.items ≡ into.old.items ++ left) × (sender.sent ≡ taker.taken ++ left) × All (λ x. T.goes_to x taker.line.place) left }
-    ensures room { (vec_capacity into.new ≡ vec_capacity into.old) × (vec_len into.new ≤ vec_len into.old + taker.line.capacity) }
+    ensures left { (left : List T) × (into.new.items ≡ into.old.items ++ left) × (sender.sent ≡ taker.taken ++ left)
+        × All (λ x. T.goes_to x taker.line.place) left }
+    ensures room { (vec_capacity into.new ≡ vec_capacity into.old)
+        × (vec_len into.new ≤ vec_len into.old + taker.line.capacity) }
 {
     let mut remains = join(sender, taker);
     for _ in rt.forever() {

@@ -33,23 +33,31 @@ pub trait Moments<T: Bound>: Wait {
         item: T,
     ) -> Result<(), T>
         requires queue { IsPassOf shared.now.queue pass.old }
-        requires knows { pass_view pass.old ≡ knows_sent shared.now.place (ruled_capacity shared.now.queue) (pass_view pass.old).sent }
+        requires knows { pass_view pass.old
+            ≡ knows_sent shared.now.place (ruled_capacity shared.now.queue) (pass_view pass.old).sent }
         requires goes { T.goes_to item shared.now.place }
         ensures queue { IsSamePass pass.old pass.new }
         ensures sent { MatchResult result
-            (λ _. pass_view pass.new ≡ knows_sent shared.now.place (ruled_capacity shared.now.queue) ((pass_view pass.old).sent ++ item ∷ []))
+            (λ _. pass_view pass.new ≡ knows_sent shared.now.place (ruled_capacity shared.now.queue)
+            ((pass_view pass.old).sent ++ item ∷ []))
             (λ back. (back ≡ item) × (pass_view pass.new ≡ pass_view pass.old)) }
-        ensures moment { IfErr result (λ _. (items : List T) × was_full pass.old.table_id (pass_view pass.old).sent items × IsFull T.goes_to shared.now.place (ruled_capacity shared.now.queue) (pass_view pass.old).sent items) };
+        ensures moment { IfErr result (λ _. (items : List T)
+            × was_full pass.old.table_id (pass_view pass.old).sent items
+            × IsFull T.goes_to shared.now.place (ruled_capacity shared.now.queue) (pass_view pass.old).sent items) };
 
     /// Takes the oldest item of the queue, or none, and then this pop was refused where the queue was empty.
     fn pop(&self, shared: &Shared<T>, pass: &mut Pass<T, View<T, T::Place>>) -> Option<T>
         requires queue { IsPassOf shared.now.queue pass.old }
-        requires knows { pass_view pass.old ≡ knows_taken shared.now.place (ruled_capacity shared.now.queue) (pass_view pass.old).taken }
+        requires knows { pass_view pass.old
+            ≡ knows_taken shared.now.place (ruled_capacity shared.now.queue) (pass_view pass.old).taken }
         ensures queue { IsSamePass pass.old pass.new }
         ensures taken { MatchOption result
             (pass_view pass.new ≡ pass_view pass.old)
-            (λ item. (pass_view pass.new ≡ knows_taken shared.now.place (ruled_capacity shared.now.queue) ((pass_view pass.old).taken ++ item ∷ [])) × T.goes_to item shared.now.place) }
-        ensures moment { IfNone result ((sent : List T) × was_empty pass.old.table_id (pass_view pass.old).taken sent × IsEmpty T.goes_to shared.now.place (pass_view pass.old).taken sent) };
+            (λ item. (pass_view pass.new ≡ knows_taken shared.now.place (ruled_capacity shared.now.queue)
+            ((pass_view pass.old).taken ++ item ∷ [])) × T.goes_to item shared.now.place) }
+        ensures moment { IfNone result
+            ((sent : List T) × was_empty pass.old.table_id (pass_view pass.old).taken sent
+            × IsEmpty T.goes_to shared.now.place (pass_view pass.old).taken sent) };
 }
 
 impl<T: Bound, R: Wait> Moments<T> for R {

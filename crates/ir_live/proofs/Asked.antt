@@ -8,6 +8,7 @@ use Rattle.std.proofs.lemmas.List.Elements.{All-nil, All-push, All-append}
 use Rattle.std.proofs.Math.Seq.{take-set-lt}
 use Rattle.ir_model.specs.declared.Kind.{Kind}
 use Rattle.ir_model.specs.Network.{Network, restrict}
+use Rattle.ir_plan.specs.declared.tour.LabelOrder.{LabelOrder}
 use Rattle.ir_core.specs.declared.TheConstants.{MAX_LINKS}
 use Rattle.ir_core.specs.declared.board.Board.{Board}
 use Rattle.ir_core.specs.Meaning.{IsMade}
@@ -90,6 +91,7 @@ module _ {B : Type 0} (net : Net) (origin : Controller B) where
   -- the controller is of the net and of the board of another one, on which these links are up, and has used up this epoch
   pub record Stands (up : List Bool) (last : ℕ) (c : Controller B) : Type 0 where
     pub opening : c.opening ≡ net.opening
+    pub labels : c.labels ≡ net.labels
     pub board : writer_board c.writer ≡ writer_board origin.writer
     pub ups : take (length net.topology.links) (board_of (published c.writer)).up ≡ up
     pub used : last ≤ c.used
@@ -108,6 +110,7 @@ module _ {B : Type 0} (net : Net) (origin : Controller B) where
   nothing : (up : List Bool) (last : ℕ) (a b : Controller B) → PublishesNothing a b → a.used ≤ b.used → Stands up last a → Stands up last b
   nothing up last a b none le is = record {
     opening = none.opening ∙ is.opening;
+    labels = none.labels ∙ is.labels;
     board = none.board ∙ is.board;
     ups = ap (λ (xs : List Entry). take links (board_of xs).up) none.published_is ∙ is.ups;
     used = (let u = is.used in omega (arith, u, le));
@@ -116,6 +119,7 @@ module _ {B : Type 0} (net : Net) (origin : Controller B) where
   one_more : (up up' : List Bool) (last last' : ℕ) (a b : Controller B) (c : Change) (t : Receipt) → Publishes a b c t → take links (changed (board_of (published a.writer)) c).up ≡ up' → last' ≤ b.used → Stands up last a → Stands up' last' b
   one_more up up' last last' a b c t more marks le is = record {
     opening = more.opening ∙ is.opening;
+    labels = more.labels ∙ is.labels;
     board = more.board ∙ is.board;
     ups = ap (λ (xs : List Entry). take links (board_of xs).up) more.published_is ∙ ap (λ (b : Board). take links b.up) (board_last (published a.writer) c) ∙ marks;
     used = le;
@@ -142,22 +146,24 @@ module _ {B : Type 0} (net : Net) (origin : Controller B) where
       ap registry_name (sym done.stamp_is) ∙ done.installs.registered ∙ sym a.controller.of_registry ∙ ap registry_name is.opening
 
   installed : (kind : Kind) (root : ℕ) (up : List Bool) (last : ℕ) (a b : Desk B) (s : Stamp) → InstallsAndLearns a b kind root s → Stands up last a.controller →
-      IsAsked net.topology up last (Install kind root) (Ok (Some s)) × Stands up (epoch_after last (Ok (Some s))) b.controller
+      IsAsked net.labels net.topology up last (Install kind root) (Ok (Some s)) × Stands up (epoch_after last (Ok (Some s))) b.controller
   installed kind root up last a b s done is =
       let i = done.installs in
       let same : i.stamp.epoch ≡ s.epoch = ap (λ (x : Stamp). x.epoch) done.stamp_is in
       let number = i.epoch in
       let before = is.used in
       let now = i.used in
-      let made : IsMade kind root (restrict up net.topology) (Some (knows i.stamp)) = subst (λ (g : Network). IsMade kind root g (Some (knows i.stamp))) (same_up up last a.controller is) i.plan in (
-        (omega (arith, same, number, before), subst (λ (x : Stamp). IsMade kind root (restrict up net.topology) (Some (knows x))) done.stamp_is made),
+      let made : IsMade net.labels kind root (restrict up net.topology) (Some (knows i.stamp)) =
+      subst (λ (n : LabelOrder). IsMade n kind root (restrict up net.topology) (Some (knows i.stamp))) is.labels
+      (subst (λ (g : Network). IsMade a.controller.labels kind root g (Some (knows i.stamp))) (same_up up last a.controller is) i.plan) in (
+        (omega (arith, same, number, before), subst (λ (x : Stamp). IsMade net.labels kind root (restrict up net.topology) (Some (knows x))) done.stamp_is made),
         one_more up up last (epoch_after last (Ok (Some s))) a.controller b.controller (change.Install i.stamp) done.receipt i.publishes is.ups
             (after_epoch last b.controller.used s (omega (arith, before, now)) (omega (arith, same, number, now))) is,
       )
 
   module _ (was_full : Word SeenParcel) where
     step : (c : Command) (up : List Bool) (last : ℕ) (a b : Desk B) (answer : Answer) → IsCarriedOut was_full c a answer b → Stands up last a.controller →
-        IsAsked net.topology up last c answer × Stands (up_after up c answer) (epoch_after last answer) b.controller
+        IsAsked net.labels net.topology up last c answer × Stands (up_after up c answer) (epoch_after last answer) b.controller
     step (Inject source dest) up last a b (Ok None) done is = (refl, unmoved up last a.controller b.controller done.3 is)
     step (Inject source dest) up last a b (Ok (Some s)) done is = absurd done.0
     step (Inject source dest) up last a b (Err why) done is = (refl, unmoved up last a.controller b.controller done.3 is)
@@ -177,7 +183,7 @@ module _ {B : Type 0} (net : Net) (origin : Controller B) where
     step Drain up last a b (Ok (Some s)) done is = absurd (let e = done.0 in cc e)
     step Drain up last a b (Err why) done is = absurd (let e = done.0 in cc e)
 
-    pub all_asked : (commands : List Command) (up : List Bool) (last : ℕ) (a b : Desk B) (answers : List Answer) → AreCarriedOut was_full commands a answers b → Stands up last a.controller → AreAsked net.topology up last commands answers
+    pub all_asked : (commands : List Command) (up : List Bool) (last : ℕ) (a b : Desk B) (answers : List Answer) → AreCarriedOut was_full commands a answers b → Stands up last a.controller → AreAsked net.labels net.topology up last commands answers
     all_asked [] up last a b answers done is = tt
     all_asked (c ∷ commands) up last a b [] done is = tt
     all_asked (c ∷ commands) up last a b (x ∷ answers) done is =
@@ -255,6 +261,7 @@ module _ {B : Type 0} (net : Net) (nodes : List Node) (opened : Desk B) (fresh :
   pub stands_first : Stands net opened.controller (replicate (length net.topology.links) true) 1 opened.controller
   stands_first = record {
     opening = fresh.controller_opening;
+    labels = fresh.controller_labels;
     board = refl;
     ups = ap (λ (xs : List Entry). take (length net.topology.links) (board_of xs).up) fresh.board
         ∙ take-replicate (length net.topology.links) MAX_LINKS true (let few = net.opened.few_links in few);

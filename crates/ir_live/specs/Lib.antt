@@ -1,7 +1,9 @@
+-- what contracts promise
 pub mod Words
 pub mod Answers
 pub mod Planned
-pub mod Agreed
 pub mod Carried
-pub mod Runs
 pub mod Lives
+-- what bodies use
+pub mod Agreed
+pub mod Runs

@@ -30,7 +30,8 @@ pub record AreSameNodes (before after : List Node) : Type 0 where
 -- are those of the refused commands, with their places. The word tells of refused pushes.
 --
 -- Each record is a sound journey by the plans of its epochs: epoch 1 has the opening's plan, and each other epoch is that of
--- an install, whose plan is of the kind and root that were asked for, over the links that were up then. At first all are up.
+-- an install, whose plan is of the kind and root that were asked for, over the links that were up then, labelled in the net's
+-- order. At first all are up.
 pub record IsLive (B : Type 0) (was_full : Word SeenParcel) (net : Net) (commands : List Command) (live : Live) : Type 0 where
   pub first : List Node
   pub opened : Desk B
@@ -48,7 +49,7 @@ pub record IsLive (B : Type 0) (was_full : Word SeenParcel) (net : Net) (command
   pub report : IsReport net last closed.injector live.report
   pub plans : List Planned
   pub plans_are : plans ≡ record { epoch = 1; plan = first_plan net } ∷ planned (stamps_in answers)
-  pub asked : AreAsked net.topology (replicate (length net.topology.links) true) 1 commands answers
+  pub asked : AreAsked net.labels net.topology (replicate (length net.topology.links) true) 1 commands answers
   pub sound : All (λ r. ∥ IsSoundJourney net.restamps (IsPlanIn plans) r ∥₁) live.report.records.items
 
 -- a thread was not started only where the starter has a word of it, for a node of the net

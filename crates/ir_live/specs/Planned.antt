@@ -2,6 +2,7 @@
 use Rattle.std.specs.Prelude.{◌≡◌, ℕ, ◌<◌, Bool, true, false, List, [], ◌∷◌, ◌++◌, Some, None, Ok, Err, Contains, slice_set}
 use Rattle.ir_model.specs.Network.{Network, restrict}
 use Rattle.ir_model.specs.Scheme.{Scheme}
+use Rattle.ir_plan.specs.declared.tour.LabelOrder.{LabelOrder}
 use Rattle.ir_core.specs.Meaning.{IsMade}
 use Rattle.ir_core.specs.declared.command.Command.{Command}
 use Rattle.ir_core.specs.declared.command.Command.TheVariants.{Inject, Install, Retire, Down, Up, Drain}
@@ -45,20 +46,20 @@ up_after up (Retire floor) answer = up
 up_after up Drain answer = up
 
 -- An install that is accepted has a later epoch than all before it, and a plan of the command's kind and root over the links
--- that are up. No other command installs.
-abbrev pub IsAsked : Network → List Bool → ℕ → Command → Answer → Type 0
-IsAsked net up last (Install kind root) (Ok None) = ⊥
-IsAsked net up last (Install kind root) (Ok (Some s)) = (last < s.epoch) × IsMade kind root (restrict up net) (Some (knows s))
-IsAsked net up last (Install kind root) (Err why) = Unit {0}
-IsAsked net up last (Inject source dest) answer = stamp_by answer ≡ []
-IsAsked net up last (Retire floor) answer = stamp_by answer ≡ []
-IsAsked net up last (Down link) answer = stamp_by answer ≡ []
-IsAsked net up last (Up link) answer = stamp_by answer ≡ []
-IsAsked net up last Drain answer = stamp_by answer ≡ []
+-- that are up, labelled in the net's order. No other command installs.
+abbrev pub IsAsked : LabelOrder → Network → List Bool → ℕ → Command → Answer → Type 0
+IsAsked labels net up last (Install kind root) (Ok None) = ⊥
+IsAsked labels net up last (Install kind root) (Ok (Some s)) = (last < s.epoch) × IsMade labels kind root (restrict up net) (Some (knows s))
+IsAsked labels net up last (Install kind root) (Err why) = Unit {0}
+IsAsked labels net up last (Inject source dest) answer = stamp_by answer ≡ []
+IsAsked labels net up last (Retire floor) answer = stamp_by answer ≡ []
+IsAsked labels net up last (Down link) answer = stamp_by answer ≡ []
+IsAsked labels net up last (Up link) answer = stamp_by answer ≡ []
+IsAsked labels net up last Drain answer = stamp_by answer ≡ []
 
 -- So it is with each command and its answer, in order, where these links are up and this is the greatest epoch before them.
-abbrev pub AreAsked : Network → List Bool → ℕ → List Command → List Answer → Type 0
-AreAsked net up last [] answers = Unit {0}
-AreAsked net up last (c ∷ commands) [] = Unit {0}
-AreAsked net up last (c ∷ commands) (answer ∷ answers) =
-    IsAsked net up last c answer × AreAsked net (up_after up c answer) (epoch_after last answer) commands answers
+abbrev pub AreAsked : LabelOrder → Network → List Bool → ℕ → List Command → List Answer → Type 0
+AreAsked labels net up last [] answers = Unit {0}
+AreAsked labels net up last (c ∷ commands) [] = Unit {0}
+AreAsked labels net up last (c ∷ commands) (answer ∷ answers) =
+    IsAsked labels net up last c answer × AreAsked labels net (up_after up c answer) (epoch_after last answer) commands answers

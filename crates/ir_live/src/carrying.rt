@@ -13,6 +13,7 @@ use ir_worker::Parcel;
 use std::alloc::{AllocError, Global};
 use std::sync::Wait;
 use std::sync::atomic::AtomicBool;
+use std::thread::Threads;
 
 // Adds what a command was answered: a refusal with its place, or the stamp of the epoch that was installed.
 fn note(
@@ -34,7 +35,7 @@ fn note(
 
 /// Carries out commands in order, and answers each refused one's place, counted from 0, with its refusal; and the stamps of
 /// the opening and of each epoch that was installed.
-pub(crate) fn carry_out_all<R: Moments<Parcel>, B: Wait + Drop>(
+pub(crate) fn carry_out_all<R: Threads + Moments<Parcel> + Sync, B: Wait + Drop>(
     rt: &R,
     alloc: Global,
     net: &Net,
@@ -42,7 +43,9 @@ pub(crate) fn carry_out_all<R: Moments<Parcel>, B: Wait + Drop>(
     desk: &mut Desk<B>,
     commands: &[Command],
 ) -> Result<(Vec<(usize, Refused)>, Vec<Stamp>), AllocError>
-    ensures { IfOk result (λ told. (answers : List Answer) × AreCarriedOut R.was_full commands.now desk.old answers desk.new × (told.0.items ≡ refusals_from 0 answers) × (told.1.items ≡ net.now.opening ∷ stamps_in answers)) }
+    ensures { IfOk result (λ told. (answers : List Answer)
+        × AreCarriedOut R.was_full commands.now desk.old answers desk.new × (told.0.items ≡ refusals_from 0 answers)
+        × (told.1.items ≡ net.now.opening ∷ stamps_in answers)) }
 {
     let mut refusals = Vec::with_capacity(alloc, commands.len())?;
     let mut stamps = Vec::with_capacity(alloc, MAX_EPOCHS)?;

@@ -13,6 +13,7 @@ use ir_worker::Parcel;
 use std::sync::Wait;
 use std::sync::atomic::{AtomicBool, Ordering};
 use std::thread;
+use std::thread::Threads;
 
 /// An injector and a controller of one net.
 #[derive(Drop)]
@@ -67,10 +68,15 @@ impl<B: Wait + Drop> Desk<B> {
     }
 
     // Installs an epoch, of which the injector learns at once.
-    fn install(&mut self, kind: Kind, root: u16) -> Result<Option<Stamp>, Refused>
+    fn install<R: Threads + Sync>(
+        &mut self,
+        rt: &R,
+        kind: Kind,
+        root: u16,
+    ) -> Result<Option<Stamp>, Refused>
         ensures { IsInstalledAs kind root self.old result self.new }
     {
-        match self.controller.install(kind, root) {
+        match self.controller.install(rt, kind, root) {
             Ok(receipt) => {
                 self.injector.learn(&receipt);
                 match receipt.stamp() {
@@ -104,7 +110,7 @@ impl<B: Wait + Drop> Desk<B> {
     }
 
     // Carries out a command, and answers it.
-    pub(crate) fn carry_out<R: Moments<Parcel>>(
+    pub(crate) fn carry_out<R: Threads + Moments<Parcel> + Sync>(
         &mut self,
         rt: &R,
         net: &Net,
@@ -115,7 +121,7 @@ impl<B: Wait + Drop> Desk<B> {
     {
         match command {
             Command::Inject(source, dest) => answered(self.inject(rt, source, dest)),
-            Command::Install(kind, root) => self.install(kind, root),
+            Command::Install(kind, root) => self.install(rt, kind, root),
             Command::Retire(floor) => answered(self.retire(floor)),
             Command::Down(link) => answered(self.down(link)),
             Command::Up(link) => answered(self.up(link)),

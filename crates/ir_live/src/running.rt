@@ -68,14 +68,18 @@ fn reported<R: Wait, B: Wait + Drop>(
 ) -> Result<Live, LiveError>
     requires nodes { AreFirstNodes net.now (node_count net.now.topology) (map (λ b. b.0) run.back.items) }
     requires injector { IsInjectorOf net.now run.desk.injector }
-    requires boards { All (λ n. reader_board n.reader ≡ writer_board run.desk.controller.writer) (map (λ b. b.0) run.back.items) }
+    requires boards { All (λ n. reader_board n.reader ≡ writer_board run.desk.controller.writer)
+        (map (λ b. b.0) run.back.items) }
     requires registry { AreOfOne net.now.opening run.stamps.items }
-    ensures report { IfOk result (λ live. IsReport net.now (map (λ b. b.0) run.back.items) run.desk.injector live.report) }
+    ensures report { IfOk result (λ live. IsReport net.now
+        (map (λ b. b.0) run.back.items) run.desk.injector live.report) }
     ensures refusals { IfOk result (λ live. live.refusals ≡ run.refusals) }
     ensures refused { IfErr result (λ error. error ≡ LiveError.NoMemory) }
-    ensures read { IfOk result (λ _. All (λ n. IsPrefix (known n.reader) (published run.desk.controller.writer)) (map (λ b. b.0) run.back.items)) }
+    ensures read { IfOk result (λ _. All (λ n. IsPrefix (known n.reader) (published run.desk.controller.writer))
+        (map (λ b. b.0) run.back.items)) }
     ensures first { IfOk result (λ live. All (λ s. Agrees run.stamps.items s) live.report.stamps.items) }
-    ensures later { IfOk result (λ live. All (λ row. All (λ s. Agrees run.stamps.items s) row.items) live.report.later.items) }
+    ensures later { IfOk result (λ live. All
+        (λ row. All (λ s. Agrees run.stamps.items s) row.items) live.report.later.items) }
 {
     let Run {
         back,

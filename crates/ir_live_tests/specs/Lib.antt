@@ -1,1 +1,2 @@
+-- what bodies use
 pub mod ByHand

@@ -4,15 +4,19 @@ ghost use Rattle.ir_epochs.specs.Handles.{receipt_board, reader_board, writer_bo
 ghost use Rattle.ir_worker.specs.Same.{IsSameNode};
 ghost use Rattle.ir_live_tests.specs.ByHand.{ArePartsOf, IsAway};
 
-use ir_control::{ChangeError, FinishError, InjectError, InstallError, Net, Parts, Report, finish};
-use ir_core::{Fate, Restamp};
+use ir_control::{
+    ChangeError, FinishError, InjectError, InstallError, Net, NetError, Parts, Report, finish,
+};
+use ir_core::{Fate, Opening, Restamp};
 use ir_epochs::Receipt;
 use ir_graph::Graph;
 use ir_model::Kind;
+use ir_plan::LabelOrder;
 use ir_tables::Topology;
 use ir_worker::{Node, Turn};
 use std::alloc::Global;
 use std::sync::Wait;
+use std::thread::Threads;
 
 /// A net with its parts, of which some nodes may be away.
 #[derive(Drop)]
@@ -33,32 +37,72 @@ pub(crate) fn network(alloc: Global, edges: &[(&str, &str)]) -> Option<Topology>
     Topology::of(alloc, &graph).ok()
 }
 
-/// A net over the path a, b, c, whose links are a-b and b-c: nodes 0, 1 and 2, links 0 and 1. Its plan is of the tree with
-/// root b.
-pub(crate) fn path(alloc: Global, capacity: usize, restamps: u8) -> Option<Net> {
-    let topology = network(alloc, &[("a", "b"), ("b", "c")])?;
-    Net::new(alloc, topology, Kind::Tree, 1, capacity, 4_096, restamps).ok()
+/// A net over a topology in depth-first numbers: a kind and a root, and a capacity, a number of packets and one of
+/// restamps.
+pub(crate) fn opened(
+    rt: &(impl Threads + Sync),
+    alloc: Global,
+    topology: Topology,
+    tree: (Kind, u16),
+    limits: (usize, usize, u8),
+) -> Result<Net, NetError> {
+    let (kind, root) = tree;
+    let (capacity, max_packets, restamps) = limits;
+    let opening = Opening {
+        topology,
+        labels: LabelOrder::DepthFirst,
+        kind,
+        root,
+        capacity,
+        max_packets,
+        restamps,
+    };
+    Net::new(rt, alloc, opening)
 }
 
-/// What became of a packet that was first stamped with epoch 1.
+/// A net over the path a, b, c, whose links are a-b and b-c: nodes 0, 1 and 2, links 0 and 1. Its plan is of the tree with
+/// root b.
+pub(crate) fn path(
+    rt: &(impl Threads + Sync),
+    alloc: Global,
+    capacity: usize,
+    restamps: u8,
+) -> Option<Net> {
+    let topology = network(alloc, &[("a", "b"), ("b", "c")])?;
+    let limits = (capacity, 4_096, restamps);
+    opened(rt, alloc, topology, (Kind::Tree, 1), limits).ok()
+}
+
+/// What became of a packet, and the epoch that it was first stamped with.
 #[derive(Clone, Copy)]
 pub struct Became<'a> {
+    pub epoch: u32,
     pub hops: &'a [u16],
     pub restamps: &'a [Restamp],
     pub fate: Fate,
 }
 
 /// Whether that became of the packet of this id.
-pub(crate) fn tells(report: &Report, id: usize, what: Became<'_>) -> bool {
+pub(crate) fn tells(report: &Report, id: usize, what: &Became<'_>) -> bool {
     let (Some(record), Some(stamp)) = (report.records.get(id), report.stamps.get(id)) else {
         return false;
     };
     record.id as usize == id
-        && record.epoch == 1
-        && stamp.epoch() == 1
+        && record.epoch == what.epoch
+        && stamp.epoch() == what.epoch
         && record.hops.as_slice() == what.hops
         && record.restamps.as_slice() == what.restamps
         && record.fate == what.fate
+}
+
+/// Whether that became of all packets, by their ids.
+pub(crate) fn tells_all(report: &Report, packets: &[Became<'_>]) -> bool {
+    for (id, what) in packets.iter().enumerate() {
+        if !tells(report, id, what) {
+            return false;
+        }
+    }
+    report.records.len() == packets.len()
 }
 
 /// One turn of a node.
@@ -97,16 +141,6 @@ impl<R: Wait + Drop> ByHand<R> {
         turned(rt, node)
     }
 
-    /// Whether each of these nodes, one after another, turns as is said beside it.
-    pub(crate) fn turns<B: Wait>(&mut self, rt: &B, wanted: &[(usize, Turn)]) -> bool {
-        for (at, turn) in wanted {
-            if self.turn(rt, *at) != Some(*turn) {
-                return false;
-            }
-        }
-        true
-    }
-
     pub(crate) fn inject<B: Wait>(
         &mut self,
         rt: &B,
@@ -131,10 +165,15 @@ impl<R: Wait + Drop> ByHand<R> {
         }
     }
 
-    pub(crate) fn install(&mut self, kind: Kind, root: u16) -> Result<Receipt, InstallError>
+    pub(crate) fn install(
+        &mut self,
+        rt: &(impl Threads + Sync),
+        kind: Kind,
+        root: u16,
+    ) -> Result<Receipt, InstallError>
         ensures { IfOk result (λ t. receipt_board t ≡ writer_board self.new.parts.controller.writer) }
     {
-        self.parts.controller.install(kind, root)
+        self.parts.controller.install(rt, kind, root)
     }
 
     pub(crate) fn retire(&mut self, floor: u32) -> Result<Receipt, ChangeError>
@@ -146,10 +185,11 @@ impl<R: Wait + Drop> ByHand<R> {
     /// The epoch after an install that the injector learns.
     pub(crate) fn install_and_learn(
         &mut self,
+        rt: &(impl Threads + Sync),
         kind: Kind,
         root: u16,
     ) -> Result<Option<u32>, InstallError> {
-        let receipt = match self.parts.controller.install(kind, root) {
+        let receipt = match self.parts.controller.install(rt, kind, root) {
             Ok(receipt) => receipt,
             Err(error) => return Err(error),
         };

@@ -1,46 +1,18 @@
-//! Live runs by what becomes of their packets: down, full, retired and delivered, each with a drain behind it; as many
-//! packets as there may be, to their ends; and over many nodes.
+//! Live runs by what becomes of their packets where a gate holds a node back: full, retired, restamped and delivered, with
+//! a drain behind each; and as many packets as there may be, to their ends.
 
-use crate::by_hand::{network, path};
+use crate::by_hand::{Became, network, opened, path, tells_all};
 use crate::live;
-use crate::live::{Open, tells};
-use crate::nets::over_ring;
 use ir_control::Net;
-use ir_core::{Fate, Kind, Record};
+use ir_core::{Fate, Kind, Record, Restamp};
 use ir_live::{Command, Live};
 use ir_worker::Gate;
-use std::alloc::{AllocError, Global};
+use std::alloc::Global;
 use std::sync::Wait;
 use std::test::Fail;
 use std::thread;
 use std::thread::Threads;
 use std::time::{Clock, Duration};
-
-#[test]
-fn down_with_a_drain_behind_each(rt: HostRuntime) -> Result<(), Fail> {
-    let Some(net) = path(rt.alloc(), 16, 0) else {
-        return Err("not opened".into());
-    };
-    let commands = [
-        Command::Down(1),
-        Command::Inject(0, 2),
-        Command::Drain,
-        Command::Up(1),
-        Command::Inject(0, 2),
-        Command::Drain,
-        Command::Down(0),
-        Command::Inject(0, 1),
-        Command::Drain,
-    ];
-    let Some(live) = live::run(&rt, rt.alloc(), &net, &commands, &Open) else {
-        return Err("no report".into());
-    };
-    assert!(rt; live.refusals.is_empty() && live.report.records.len() == 3);
-    assert!(rt; tells(&live, 0, 1, &[0, 1], Fate::Down(1)));
-    assert!(rt; tells(&live, 1, 1, &[0, 1, 2], Fate::Delivered));
-    assert!(rt; tells(&live, 2, 1, &[0], Fate::Down(0)));
-    Ok(())
-}
 
 // A node makes its first turn once a packet is settled. Other nodes may go on at once.
 #[derive(Drop)]
@@ -64,60 +36,139 @@ impl Gate for Held<'_> {
     }
 }
 
-// Two packets that meet at b, before a channel to c that holds one and that c does not poll until one of them is dropped;
-// and a third behind a drain.
-fn meet_at_a_full_channel<R: Threads + Wait + Sync>(rt: &R, alloc: Global) -> Option<Live> {
-    let net = path(alloc, 1, 0)?;
-    let commands = [
-        Command::Inject(0, 2),
-        Command::Inject(1, 2),
-        Command::Drain,
-        Command::Inject(1, 2),
-        Command::Drain,
-    ];
-    let gate = Held { net: &net, node: 2 };
-    live::run(rt, alloc, &net, &commands, &gate)
+// The report of commands over the path while a node is held, where none is refused.
+fn run_held<R: Threads + Wait + Sync>(
+    rt: &R,
+    alloc: Global,
+    limits: (usize, u8),
+    node: u16,
+    commands: &[Command],
+) -> Option<Live> {
+    let net = path(rt, alloc, limits.0, limits.1)?;
+    let live = live::run(rt, alloc, &net, commands, &Held { net: &net, node })?;
+    if live.refusals.is_empty() {
+        Some(live)
+    } else {
+        None
+    }
 }
 
-#[test]
-fn full_with_a_drain_behind_each(rt: HostRuntime) -> Result<(), Fail> {
-    let Some(live) = meet_at_a_full_channel(&rt, rt.alloc()) else {
-        return Err("no report".into());
+/// A packet from b to c that is delivered.
+const OVER: Became<'static> = Became {
+    epoch: 1,
+    hops: &[1, 2],
+    restamps: &[],
+    fate: Fate::Delivered,
+};
+
+/// Two packets that meet at b, before a channel to c that holds one and that c does not poll until one of them is dropped;
+/// and a third behind a drain.
+const MEETING: [Command; 5] = [
+    Command::Inject(0, 2),
+    Command::Inject(1, 2),
+    Command::Drain,
+    Command::Inject(1, 2),
+    Command::Drain,
+];
+
+// Whether the second of two packets is dropped, or the first, since a channel is full.
+fn is_one_dropped<R: Threads + Wait + Sync>(rt: &R, alloc: Global) -> Option<bool> {
+    let report = run_held(rt, alloc, (1, 0), 2, &MEETING)?.report;
+    let far = Became {
+        hops: &[0, 1, 2],
+        ..OVER
     };
     let full = Fate::Full { link: 1, to: 2 };
-    assert!(rt; live.refusals.is_empty() && live.report.records.len() == 3);
-    let first = tells(&live, 0, 1, &[0, 1, 2], Fate::Delivered) && tells(&live, 1, 1, &[1], full);
-    let second = tells(&live, 0, 1, &[0, 1], full) && tells(&live, 1, 1, &[1, 2], Fate::Delivered);
-    assert!(rt; first || second);
-    assert!(rt; tells(&live, 2, 1, &[1, 2], Fate::Delivered));
-    Ok(())
-}
-
-// A packet that waits at a until its epoch is retired and the next packet has arrived; and a third behind a drain.
-fn wait_for_the_retirement<R: Threads + Wait + Sync>(rt: &R, alloc: Global) -> Option<Live> {
-    let net = path(alloc, 16, 0)?;
-    let commands = [
-        Command::Inject(0, 2),
-        Command::Install(Kind::Shortest, 0),
-        Command::Retire(2),
-        Command::Inject(2, 1),
-        Command::Drain,
-        Command::Inject(0, 2),
-        Command::Drain,
-    ];
-    let gate = Held { net: &net, node: 0 };
-    live::run(rt, alloc, &net, &commands, &gate)
+    let near_full = Became {
+        hops: &[1],
+        fate: full,
+        ..OVER
+    };
+    let far_full = Became {
+        hops: &[0, 1],
+        fate: full,
+        ..OVER
+    };
+    Some(tells_all(&report, &[far, near_full, OVER]) || tells_all(&report, &[far_full, OVER, OVER]))
 }
 
 #[test]
-fn retired_with_a_drain_behind_each(rt: HostRuntime) -> Result<(), Fail> {
-    let Some(live) = wait_for_the_retirement(&rt, rt.alloc()) else {
-        return Err("no report".into());
-    };
-    assert!(rt; live.refusals.is_empty() && live.report.records.len() == 3);
-    assert!(rt; tells(&live, 0, 1, &[0], Fate::Retired));
-    assert!(rt; tells(&live, 1, 2, &[2, 1], Fate::Delivered));
-    assert!(rt; tells(&live, 2, 2, &[0, 1, 2], Fate::Delivered));
+fn full_with_a_drain_behind_each(rt: HostRuntime) {
+    assert!(rt; is_one_dropped(&rt, rt.alloc()) == Some(true));
+}
+
+/// A packet that waits at a until its epoch is retired and the next packet has arrived; and a third behind a drain.
+const WAITING: [Command; 7] = [
+    Command::Inject(0, 2),
+    Command::Install(Kind::Shortest, 0),
+    Command::Retire(2),
+    Command::Inject(2, 1),
+    Command::Drain,
+    Command::Inject(0, 2),
+    Command::Drain,
+];
+
+/// How many restamps there may be, and what becomes of the packets.
+const RETIRED: [(u8, [Became<'static>; 3]); 2] = [
+    (
+        0,
+        [
+            Became {
+                epoch: 1,
+                hops: &[0],
+                restamps: &[],
+                fate: Fate::Retired,
+            },
+            BACK,
+            AGAIN,
+        ],
+    ),
+    (
+        1,
+        [
+            Became {
+                epoch: 1,
+                hops: &[0, 1, 2],
+                restamps: &[Restamp { epoch: 2, from: 0 }],
+                fate: Fate::Delivered,
+            },
+            BACK,
+            AGAIN,
+        ],
+    ),
+];
+
+const BACK: Became<'static> = Became {
+    epoch: 2,
+    hops: &[2, 1],
+    restamps: &[],
+    fate: Fate::Delivered,
+};
+
+const AGAIN: Became<'static> = Became {
+    epoch: 2,
+    hops: &[0, 1, 2],
+    restamps: &[],
+    fate: Fate::Delivered,
+};
+
+fn waits<R: Threads + Wait + Sync>(
+    rt: &R,
+    alloc: Global,
+    restamps: u8,
+    packets: &[Became<'_>],
+) -> Option<bool> {
+    let report = run_held(rt, alloc, (16, restamps), 0, &WAITING)?.report;
+    Some(tells_all(&report, packets))
+}
+
+#[test]
+fn retired_or_restamped_where_it_waits(rt: HostRuntime) -> Result<(), Fail> {
+    for (restamps, packets) in &RETIRED {
+        if waits(&rt, rt.alloc(), *restamps, packets) != Some(true) {
+            return Err("other packets".into());
+        }
+    }
     Ok(())
 }
 
@@ -136,84 +187,52 @@ impl<C: Clock + Sync> Gate for Late<'_, C> {
     }
 }
 
-// A net of one node, number 0, and four around it, 1 to 4, whose inboxes have room for all packets together.
-fn star(alloc: Global) -> Option<Net> {
-    let edges = [("hub", "a"), ("hub", "b"), ("hub", "c"), ("hub", "d")];
-    let topology = network(alloc, &edges)?;
-    Net::new(alloc, topology, Kind::Shortest, 0, 1_024, 4_096, 0).ok()
-}
+/// One node, number 0, and four around it, 1 to 4.
+const STAR: [(&'static str, &'static str); 4] = [
+    ("hub", "a"),
+    ("hub", "b"),
+    ("hub", "c"),
+    ("hub", "d"),
+];
 
 // 1,024 packets from each of the four nodes to the one in their middle, and a drain.
-fn inwards(alloc: Global) -> Result<Vec<Command>, AllocError> {
-    let mut commands = Vec::with_capacity(alloc, 4_097)?;
+fn inwards(alloc: Global) -> Option<Vec<Command>> {
+    let mut commands = Vec::new(alloc);
     for id in 0..4_096u16 {
-        commands.push(Command::Inject(id / 1_024 + 1, 0))?;
+        commands.push(Command::Inject(id / 1_024 + 1, 0)).ok()?;
     }
-    commands.push(Command::Drain)?;
-    Ok(commands)
+    commands.push(Command::Drain).ok()?;
+    Some(commands)
 }
 
-// Whether a packet was delivered over one link.
-fn is_delivered(record: &Record, source: u16, dest: u16) -> bool {
-    record.fate == Fate::Delivered && record.hops.as_slice() == [source, dest].as_slice()
-}
-
-// Whether all of them were delivered.
+// Whether all of them were delivered over one link.
 fn all_inwards(records: &[Record]) -> bool {
     for id in 0..4_096u16 {
+        let hops = [id / 1_024 + 1, 0];
         match records.get(usize::from(id)) {
-            Some(record) if is_delivered(record, id / 1_024 + 1, 0) => {}
+            Some(record)
+                if record.fate == Fate::Delivered && record.hops.as_slice() == hops.as_slice() => {}
             _ => return false,
         }
     }
     records.len() == 4_096
 }
 
-#[test]
-fn as_many_packets_as_there_may_be_to_their_ends(rt: HostRuntime) -> Result<(), Fail> {
-    let commands = inwards(rt.alloc())?;
-    let Some(net) = star(rt.alloc()) else {
-        return Err("not opened".into());
-    };
-    // by then they wait for the node in the middle, which settles them all
-    let gate = Late { clock: &rt };
-    let Some(live) = live::run(&rt, rt.alloc(), &net, commands.as_slice(), &gate) else {
-        return Err("no report".into());
-    };
-    assert!(rt; live.refusals.is_empty() && all_inwards(live.report.records.as_slice()));
-    Ok(())
-}
-
-// A packet from each of 300 nodes of a ring to the next, and a drain.
-fn to_the_next(alloc: Global) -> Result<Vec<Command>, AllocError> {
-    let mut commands = Vec::with_capacity(alloc, 301)?;
-    for source in 0..300u16 {
-        commands.push(Command::Inject(source, (source + 1) % 300))?;
-    }
-    commands.push(Command::Drain)?;
-    Ok(commands)
-}
-
-// Whether all of them were delivered.
-fn all_to_the_next(records: &[Record]) -> bool {
-    for source in 0..300u16 {
-        match records.get(usize::from(source)) {
-            Some(record) if is_delivered(record, source, (source + 1) % 300) => {}
-            _ => return false,
-        }
-    }
-    records.len() == 300
+// Whether all are delivered where the inboxes have room for all packets together: by the time that the node in the middle
+// makes its first turn they wait for it, and it settles them all.
+fn settles_all<R: Threads + Wait + Sync, C: Clock + Sync>(
+    rt: &R,
+    clock: &C,
+    alloc: Global,
+) -> Option<bool> {
+    let commands = inwards(alloc)?;
+    let star = network(alloc, &STAR)?;
+    let net = opened(rt, alloc, star, (Kind::Shortest, 0), (1_024, 4_096, 0)).ok()?;
+    let live = live::run(rt, alloc, &net, commands.as_slice(), &Late { clock })?;
+    Some(live.refusals.is_empty() && all_inwards(live.report.records.as_slice()))
 }
 
 #[test]
-fn over_a_ring_of_300_nodes(rt: HostRuntime) -> Result<(), Fail> {
-    let commands = to_the_next(rt.alloc())?;
-    let Ok(net) = over_ring(rt.alloc(), 300) else {
-        return Err("not opened".into());
-    };
-    let Some(live) = live::run(&rt, rt.alloc(), &net, commands.as_slice(), &Open) else {
-        return Err("no report".into());
-    };
-    assert!(rt; live.refusals.is_empty() && all_to_the_next(live.report.records.as_slice()));
-    Ok(())
+fn as_many_packets_as_there_may_be_to_their_ends(rt: HostRuntime) {
+    assert!(rt; settles_all(&rt, &rt, rt.alloc()) == Some(true));
 }

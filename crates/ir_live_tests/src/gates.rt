@@ -1,17 +1,15 @@
-//! Live runs whose nodes a gate stops early, or holds back until the epoch of a packet that waits is retired.
+//! Live runs whose nodes a gate stops early.
 
-use crate::by_hand::{Became, ByHand, path, tells};
+use crate::by_hand::{ByHand, path};
 use crate::live;
 use crate::nets::over_ring;
-use ir_control::Net;
-use ir_core::{Fate, Kind, Record, Restamp};
-use ir_live::{Command, Live};
-use ir_worker::{Gate, serve};
-use std::alloc::{AllocError, Global};
+use ir_core::{Fate, Record};
+use ir_live::Command;
+use ir_worker::{Gate, Node, serve};
+use std::alloc::Global;
 use std::sync::Wait;
 use std::sync::atomic::{AtomicBool, Ordering};
 use std::test::Fail;
-use std::thread;
 use std::thread::Threads;
 
 // Each node may make so many turns.
@@ -25,14 +23,15 @@ impl Gate for AtMost {
 }
 
 // 64 packets from each of 64 nodes of a ring, each to the 31st node behind its source, and a drain.
-fn around(alloc: Global) -> Result<Vec<Command>, AllocError> {
-    let mut commands = Vec::with_capacity(alloc, 4_097)?;
+fn around(alloc: Global) -> Option<Vec<Command>> {
+    let mut commands = Vec::new(alloc);
     for id in 0..4_096u16 {
         let source = id / 64;
-        commands.push(Command::Inject(source, (source + 31) % 64))?;
+        let there = Command::Inject(source, (source + 31) % 64);
+        commands.push(there).ok()?;
     }
-    commands.push(Command::Drain)?;
-    Ok(commands)
+    commands.push(Command::Drain).ok()?;
+    Some(commands)
 }
 
 // The node that follows these hops, where they are a beginning of the way around the ring from a node on.
@@ -79,28 +78,32 @@ fn all_sound(records: &[Record]) -> bool {
 }
 
 // How many packets were delivered.
-fn delivered(records: &[Record]) -> usize {
-    records
-        .iter()
-        .filter(|record| record.fate == Fate::Delivered)
-        .count()
+fn delivered(records: &[Record]) -> u64 {
+    let mut count: u64 = 0;
+    for record in records {
+        if record.fate == Fate::Delivered {
+            count = count.saturating_add(1);
+        }
+    }
+    count
+}
+
+// Whether all records are sound of nodes that make so many turns each; of these each packet that is delivered takes 32.
+fn stops<R: Threads + Wait + Sync>(rt: &R, alloc: Global, turns: u64) -> Option<bool> {
+    let commands = around(alloc)?;
+    let net = over_ring(rt, alloc)?;
+    let live = live::run(rt, alloc, &net, commands.as_slice(), &AtMost(turns))?;
+    let records = live.report.records.as_slice();
+    let is_few = delivered(records) <= turns.saturating_mul(2);
+    Some(live.refusals.is_empty() && all_sound(records) && is_few)
 }
 
 #[test]
 fn nodes_stop_with_4096_packets_on_their_ways(rt: HostRuntime) -> Result<(), Fail> {
-    let commands = around(rt.alloc())?;
-    for turns in [0u64, 40, 1_000] {
-        let Ok(net) = over_ring(rt.alloc(), 64) else {
-            return Err("not opened".into());
-        };
-        let gate = AtMost(turns);
-        let Some(live) = live::run(&rt, rt.alloc(), &net, commands.as_slice(), &gate) else {
-            return Err("no report".into());
-        };
-        let records = live.report.records.as_slice();
-        assert!(rt; live.refusals.is_empty() && all_sound(records));
-        // 64 nodes make so many turns each, of which each packet that is delivered takes 32
-        assert!(rt; delivered(records) as u64 <= turns.saturating_mul(2));
+    for turns in &[0u64, 40, 1_000] {
+        if stops(&rt, rt.alloc(), *turns) != Some(true) {
+            return Err("other records".into());
+        }
     }
     Ok(())
 }
@@ -122,84 +125,28 @@ impl Gate for UpTo {
     }
 }
 
-#[test]
-fn a_node_turns_as_often_as_it_may(rt: HostRuntime) -> Result<(), Fail> {
-    let Some(net) = path(rt.alloc(), 16, 0) else {
-        return Err("not opened".into());
-    };
-    let Some(mut hands) = ByHand::of(&rt, net) else {
-        return Err("no parts".into());
-    };
-    let Some(node) = hands.take_away(0) else {
-        return Err("no node".into());
-    };
+// The first node of a path.
+fn first_node<R: Threads + Wait + Sync>(rt: &R, alloc: Global) -> Option<Node> {
+    let mut hands = ByHand::of(rt, path(rt, alloc, 16, 0)?)?;
+    hands.take_away(0)
+}
+
+// Whether a node makes as many turns as it may, and asks for one more.
+fn turns_out<R: Wait>(rt: &R, node: Node) -> bool {
     let gate = UpTo {
         turns: 5_100_000,
         asked: AtomicBool::new(false),
     };
     let stop = AtomicBool::new(false);
-    let (_node, why) = serve(&rt, node, &gate, &stop);
-    assert!(rt; why.is_none() && gate.asked.load(Ordering::SeqCst));
-    Ok(())
-}
-
-// Node 0 makes its first turn once a packet is settled. Other nodes may go on at once.
-#[derive(Drop)]
-struct Held<'a> {
-    net: &'a Net,
-}
-
-impl Gate for Held<'_> {
-    fn pass(&self, node: u16, turn: u64) -> bool {
-        if node != 0 || turn != 0 {
-            return true;
-        }
-        for _look in 0..10_000_000u32 {
-            if self.net.settled() != 0 {
-                return true;
-            }
-            thread::yield_now();
-        }
-        false
-    }
-}
-
-// A packet waits at node 0 until the packet behind the retirement of its epoch has arrived.
-fn retired_before_it_goes<R: Threads + Wait + Sync>(
-    rt: &R,
-    alloc: Global,
-    restamps: u8,
-) -> Option<Live> {
-    let net = path(alloc, 16, restamps)?;
-    let commands = [
-        Command::Inject(0, 2),
-        Command::Install(Kind::Shortest, 0),
-        Command::Retire(2),
-        Command::Inject(2, 1),
-        Command::Drain,
-    ];
-    live::run(rt, alloc, &net, &commands, &Held { net: &net })
+    let (_node, why) = serve(rt, node, &gate, &stop);
+    why.is_none() && gate.asked.load(Ordering::SeqCst)
 }
 
 #[test]
-fn retired_or_restamped_where_it_waits(rt: HostRuntime) -> Result<(), Fail> {
-    let retired = Became {
-        hops: &[0],
-        restamps: &[],
-        fate: Fate::Retired,
+fn a_node_turns_as_often_as_it_may(rt: HostRuntime) -> Result<(), Fail> {
+    let Some(node) = first_node(&rt, rt.alloc()) else {
+        return Err("no node".into());
     };
-    let delivered = Became {
-        hops: &[0, 1, 2],
-        restamps: &[Restamp { epoch: 2, from: 0 }],
-        fate: Fate::Delivered,
-    };
-    for (restamps, became) in [(0, retired), (1, delivered)] {
-        let Some(live) = retired_before_it_goes(&rt, rt.alloc(), restamps) else {
-            return Err("no report".into());
-        };
-        assert!(rt; live.refusals.is_empty() && live.report.records.len() == 2);
-        assert!(rt; tells(&live.report, 0, became), "with {restamps} restamps");
-        assert!(rt; live::tells(&live, 1, 2, &[2, 1], Fate::Delivered));
-    }
+    assert!(rt; turns_out(&rt, node));
     Ok(())
 }

@@ -1,9 +1,8 @@
 //! Live runs: over the path a, b, c, and of nodes that wait for one another.
+use crate::by_hand::{Became, network, opened, path, tells_all};
 use ir_control::Net;
 use ir_core::{Fate, Kind, Refused};
-use ir_graph::Graph;
 use ir_live::{Command, Every, Live, LiveError, Starter, run_live};
-use ir_tables::Topology;
 use ir_worker::Gate;
 use std::alloc::Global;
 use std::sync::Wait;
@@ -12,21 +11,8 @@ use std::test::Fail;
 use std::thread;
 use std::thread::{SpawnError, Threads};
 
-fn opened(alloc: Global, edges: &[(&str, &str)], root: u16) -> Option<Net> {
-    let mut graph = Graph::new(alloc);
-    for (u, v) in edges {
-        graph.add_edge(u, v, 1).ok()?;
-    }
-    let topology = Topology::of(alloc, &graph).ok()?;
-    Net::new(alloc, topology, Kind::Tree, root, 16, 64, 0).ok()
-}
-
-fn path(alloc: Global) -> Option<Net> {
-    opened(alloc, &[("a", "b"), ("b", "c")], 1)
-}
-
 /// Each node may go on.
-pub(crate) struct Open;
+struct Open;
 
 impl Gate for Open {
     fn pass(&self, _node: u16, _turn: u64) -> bool {
@@ -101,148 +87,123 @@ fn error<R: Threads + Wait + Sync, S: Starter>(
     run_live(rt, alloc, net, &[Command::Drain], &Open, starter).err()
 }
 
-/// Whether the record of this number is of this epoch and has these hops and this fate.
-pub(crate) fn tells(live: &Live, id: usize, epoch: u32, hops: &[u16], fate: Fate) -> bool {
-    let Some(record) = live.report.records.get(id) else {
-        return false;
-    };
-    record.epoch == epoch && record.hops.as_slice() == hops && record.fate == fate
+/// A packet that is left at node 0.
+const LEFT: Became<'static> = Became {
+    epoch: 1,
+    hops: &[0],
+    restamps: &[],
+    fate: Fate::Left,
+};
+
+/// A packet that is delivered over link 1.
+const OVER: Became<'static> = Became {
+    epoch: 1,
+    hops: &[1, 2],
+    restamps: &[],
+    fate: Fate::Delivered,
+};
+
+/// Commands over the path, of which four are refused.
+const COMMANDS: [Command; 7] = [
+    Command::Down(0),
+    Command::Install(Kind::Tree, 1),
+    Command::Retire(2),
+    Command::Retire(1),
+    Command::Inject(1, 2),
+    Command::Inject(0, 3),
+    Command::Drain,
+];
+
+const REFUSED: [(usize, Refused); 4] = [
+    (1, Refused::Disconnected),
+    (2, Refused::NoEpoch),
+    (3, Refused::Same),
+    (5, Refused::NoNode),
+];
+
+// Whether the commands are refused in their places, the packet is delivered, and the net is then spent.
+fn runs_once<R: Threads + Wait + Sync>(rt: &R, alloc: Global) -> Option<bool> {
+    let net = path(rt, alloc, 16, 0)?;
+    let live = run(rt, alloc, &net, &COMMANDS, &Open)?;
+    let told = live.refusals.as_slice() == REFUSED.as_slice() && tells_all(&live.report, &[OVER]);
+    Some(told && error(rt, alloc, &net, &Every) == Some(LiveError::Spent))
 }
 
 #[test]
-fn delivered_over_the_path_and_then_spent(rt: HostRuntime) -> Result<(), Fail> {
-    let Some(net) = path(rt.alloc()) else {
-        return Err("not opened".into());
-    };
+fn refusals_with_their_places_and_then_spent(rt: HostRuntime) {
+    assert!(rt; runs_once(&rt, rt.alloc()) == Some(true));
+}
+
+// Whether a packet is left where no node may pass.
+fn is_left<R: Threads + Wait + Sync>(rt: &R, alloc: Global) -> Option<bool> {
+    let net = path(rt, alloc, 16, 0)?;
     let commands = [Command::Inject(0, 2), Command::Drain];
-    let Some(live) = run(&rt, rt.alloc(), &net, &commands, &Open) else {
-        return Err("no report".into());
-    };
-    assert!(rt; live.refusals.is_empty() && live.report.records.len() == 1);
-    assert!(rt; tells(&live, 0, 1, &[0, 1, 2], Fate::Delivered));
-    assert_eq!(rt;
-        error(&rt, rt.alloc(), &net, &Every),
-        Some(LiveError::Spent)
-    );
-    Ok(())
+    let live = run(rt, alloc, &net, &commands, &Shut)?;
+    Some(tells_all(&live.report, &[LEFT]))
 }
 
 #[test]
-fn left_at_the_source_where_no_node_may_pass(rt: HostRuntime) -> Result<(), Fail> {
-    let Some(net) = path(rt.alloc()) else {
-        return Err("not opened".into());
-    };
-    let commands = [Command::Inject(0, 2), Command::Drain];
-    let Some(live) = run(&rt, rt.alloc(), &net, &commands, &Shut) else {
-        return Err("no report".into());
-    };
-    assert!(rt; live.report.records.len() == 1 && tells(&live, 0, 1, &[0], Fate::Left));
-    Ok(())
+fn left_at_the_source_where_no_node_may_pass(rt: HostRuntime) {
+    assert!(rt; is_left(&rt, rt.alloc()) == Some(true));
+}
+
+// Why a run is refused whose second thread is not started, and why the next one over its net.
+fn not_started<R: Threads + Wait + Sync>(
+    rt: &R,
+    alloc: Global,
+) -> Option<(Option<LiveError>, Option<LiveError>)> {
+    let net = path(rt, alloc, 16, 0)?;
+    let first = error(rt, alloc, &net, &AllBut(1));
+    Some((first, error(rt, alloc, &net, &Every)))
 }
 
 #[test]
-fn thread_that_is_not_started(rt: HostRuntime) -> Result<(), Fail> {
-    let Some(net) = path(rt.alloc()) else {
-        return Err("not opened".into());
-    };
-    assert_eq!(rt;
-        error(&rt, rt.alloc(), &net, &AllBut(1)),
-        Some(LiveError::NoThread)
-    );
-    assert_eq!(rt;
-        error(&rt, rt.alloc(), &net, &Every),
-        Some(LiveError::Spent)
-    );
-    Ok(())
+fn thread_that_is_not_started(rt: HostRuntime) {
+    let wanted = (Some(LiveError::NoThread), Some(LiveError::Spent));
+    assert!(rt; not_started(&rt, rt.alloc()) == Some(wanted));
 }
 
-#[test]
-fn refusals_with_their_places(rt: HostRuntime) -> Result<(), Fail> {
-    let Some(net) = path(rt.alloc()) else {
-        return Err("not opened".into());
-    };
-    let commands = [
-        Command::Down(0),
-        Command::Install(Kind::Tree, 1),
-        Command::Retire(2),
-        Command::Retire(1),
-        Command::Inject(1, 2),
-        Command::Inject(0, 3),
-        Command::Drain,
-    ];
-    let Some(live) = run(&rt, rt.alloc(), &net, &commands, &Open) else {
-        return Err("no report".into());
-    };
-    let refused = [
-        (1, Refused::Disconnected),
-        (2, Refused::NoEpoch),
-        (3, Refused::Same),
-        (5, Refused::NoNode),
-    ];
-    assert!(rt; live.refusals.as_slice() == refused.as_slice());
-    assert!(rt; live.report.records.len() == 1 && tells(&live, 0, 1, &[1, 2], Fate::Delivered));
-    Ok(())
-}
+/// The edges of two nodes, and of a ring of four, each with the number of nodes.
+const MEETINGS: [(&'static [(&'static str, &'static str)], u32); 2] = [
+    (&[("a", "b")], 2),
+    (&[("a", "b"), ("b", "c"), ("c", "d"), ("d", "a")], 4),
+];
 
-#[test]
-fn newest_epoch_is_learnt_at_once(rt: HostRuntime) -> Result<(), Fail> {
-    let Some(net) = path(rt.alloc()) else {
-        return Err("not opened".into());
-    };
-    let commands = [
-        Command::Install(Kind::Shortest, 0),
-        Command::Inject(2, 0),
-        Command::Drain,
-    ];
-    let Some(live) = run(&rt, rt.alloc(), &net, &commands, &Open) else {
-        return Err("no report".into());
-    };
-    assert!(rt; live.refusals.is_empty());
-    assert!(rt; tells(&live, 0, 2, &[2, 1, 0], Fate::Delivered));
-    Ok(())
-}
-
-// How many nodes met, and whether packet 0 was delivered over these hops.
+// Whether all nodes meet, and a packet is delivered over the first link.
 fn meet<R: Threads + Wait + Sync>(
     rt: &R,
     alloc: Global,
-    net: &Net,
+    edges: &[(&str, &str)],
     nodes: u32,
-    hops: &[u16],
-) -> Option<(u32, bool)> {
+) -> Option<bool> {
+    let net = opened(
+        rt,
+        alloc,
+        network(alloc, edges)?,
+        (Kind::Tree, 0),
+        (16, 64, 0),
+    )
+    .ok()?;
     let gate = Meeting {
         nodes,
         come: AtomicU32::new(0),
         met: AtomicU32::new(0),
     };
-    let live = run(
-        rt,
-        alloc,
-        net,
-        &[Command::Inject(0, 1), Command::Drain],
-        &gate,
-    )?;
-    Some((
-        gate.met.load(Ordering::SeqCst),
-        tells(&live, 0, 1, hops, Fate::Delivered),
-    ))
+    let commands = [Command::Inject(0, 1), Command::Drain];
+    let live = run(rt, alloc, &net, &commands, &gate)?;
+    let first = Became {
+        hops: &[0, 1],
+        ..OVER
+    };
+    Some(gate.met.load(Ordering::SeqCst) == nodes && tells_all(&live.report, &[first]))
 }
 
 #[test]
-fn two_nodes_meet(rt: HostRuntime) -> Result<(), Fail> {
-    let Some(net) = opened(rt.alloc(), &[("a", "b")], 0) else {
-        return Err("not opened".into());
-    };
-    assert_eq!(rt; meet(&rt, rt.alloc(), &net, 2, &[0, 1]), Some((2, true)));
-    Ok(())
-}
-
-#[test]
-fn four_nodes_of_a_ring_meet(rt: HostRuntime) -> Result<(), Fail> {
-    let ring = [("a", "b"), ("b", "c"), ("c", "d"), ("d", "a")];
-    let Some(net) = opened(rt.alloc(), &ring, 0) else {
-        return Err("not opened".into());
-    };
-    assert_eq!(rt; meet(&rt, rt.alloc(), &net, 4, &[0, 1]), Some((4, true)));
+fn nodes_meet(rt: HostRuntime) -> Result<(), Fail> {
+    for (edges, nodes) in &MEETINGS {
+        if meet(&rt, rt.alloc(), edges, *nodes) != Some(true) {
+            return Err("not all nodes met".into());
+        }
+    }
     Ok(())
 }

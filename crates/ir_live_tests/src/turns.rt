@@ -1,10 +1,10 @@
-//! Turns of nodes by hand over the path a, b, c: packets that are delivered, retired, restamped and dropped.
+//! Moves by hand over the path a, b, c: packets that are delivered, retired, restamped and dropped, and what is refused.
 ghost use Rattle.std.specs.Prelude.{◌≡◌, IfSome};
 ghost use Rattle.ir_epochs.specs.Handles.{receipt_board, reader_board, writer_board};
 ghost use Rattle.ir_worker.specs.Same.{IsSameNode};
 
-use crate::by_hand::{Became, ByHand, path, tells, turned};
-use ir_control::{FinishError, InjectError, Report};
+use crate::by_hand::{Became, ByHand, path, tells_all, turned};
+use ir_control::{ChangeError, FinishError, InjectError, InstallError};
 use ir_core::{Fate, Kind, Restamp};
 use ir_epochs::Receipt;
 use ir_worker::{Node, Turn};
@@ -14,39 +14,251 @@ use std::test::Fail;
 use std::thread;
 use std::thread::Threads;
 
-fn opened<R: Wait + Drop>(
-    rt: R,
-    alloc: Global,
+/// What is done by hand, and what it answers.
+#[derive(Clone, Copy)]
+enum Move {
+    Inject(u16, u16, Result<u32, InjectError>),
+    /// A turn of a node.
+    Turn(usize, Turn),
+    /// A link is marked as up, or as down.
+    Mark(u16, bool, Result<u32, ChangeError>),
+    /// An install, and why it is refused.
+    Install(Kind, u16, Option<InstallError>),
+    /// An install of which the injector learns, and its epoch.
+    InstallAndLearn(Kind, u16, u32),
+    /// A retirement, and why it is refused.
+    Retire(u32, Option<ChangeError>),
+    /// Epoch 2 is installed and epoch 1 retired, of which this node learns.
+    Renew(usize),
+}
+
+/// Moves over the path, with this capacity and so many restamps, and what becomes of all packets.
+struct Case {
+    name: &'static str,
     capacity: usize,
     restamps: u8,
-) -> Option<ByHand<R>> {
-    ByHand::of(rt, path(alloc, capacity, restamps)?)
+    moves: &'static [Move],
+    packets: &'static [Became<'static>],
+}
+
+/// A packet that is left at node 0.
+const LEFT: Became<'static> = Became {
+    epoch: 1,
+    hops: &[0],
+    restamps: &[],
+    fate: Fate::Left,
+};
+
+const CASES: [Case; 9] = [
+    Case {
+        name: "delivered by three nodes",
+        capacity: 16,
+        restamps: 0,
+        moves: &[
+            Move::Inject(0, 2, Ok(0)),
+            Move::Turn(0, Turn::Sent(0, 1)),
+            Move::Turn(1, Turn::Idle),
+            Move::Turn(1, Turn::Sent(0, 2)),
+            Move::Turn(2, Turn::Idle),
+            Move::Turn(2, Turn::Settled(0)),
+        ],
+        packets: &[Became {
+            epoch: 1,
+            hops: &[0, 1, 2],
+            restamps: &[],
+            fate: Fate::Delivered,
+        }],
+    },
+    Case {
+        name: "a full channel drops",
+        capacity: 1,
+        restamps: 0,
+        moves: &[
+            Move::Inject(0, 2, Ok(0)),
+            Move::Turn(0, Turn::Sent(0, 1)),
+            Move::Inject(0, 2, Ok(1)),
+            Move::Inject(0, 2, Err(InjectError::InboxFull)),
+            Move::Turn(0, Turn::Idle),
+            Move::Turn(0, Turn::Settled(1)),
+        ],
+        packets: &[
+            LEFT,
+            Became {
+                fate: Fate::Full { link: 0, to: 1 },
+                ..LEFT
+            },
+        ],
+    },
+    Case {
+        name: "retired on its way",
+        capacity: 16,
+        restamps: 0,
+        moves: &[
+            Move::Inject(0, 2, Ok(0)),
+            Move::Turn(0, Turn::Sent(0, 1)),
+            Move::Renew(1),
+            Move::Turn(1, Turn::Idle),
+            Move::Turn(1, Turn::Settled(0)),
+        ],
+        packets: &[Became {
+            fate: Fate::Retired,
+            ..LEFT
+        }],
+    },
+    Case {
+        name: "restamped on its way",
+        capacity: 16,
+        restamps: 1,
+        moves: &[
+            Move::Inject(0, 2, Ok(0)),
+            Move::Turn(0, Turn::Sent(0, 1)),
+            Move::Renew(1),
+            Move::Turn(1, Turn::Idle),
+            Move::Turn(1, Turn::Sent(0, 2)),
+            Move::Turn(2, Turn::Idle),
+            Move::Turn(2, Turn::Settled(0)),
+        ],
+        packets: &[Became {
+            epoch: 1,
+            hops: &[0, 1, 2],
+            restamps: &[Restamp { epoch: 2, from: 1 }],
+            fate: Fate::Delivered,
+        }],
+    },
+    Case {
+        name: "retired at its destination",
+        capacity: 16,
+        restamps: 0,
+        moves: &[
+            Move::Inject(1, 2, Ok(0)),
+            Move::Turn(1, Turn::Sent(0, 2)),
+            Move::Renew(2),
+            Move::Turn(2, Turn::Idle),
+            Move::Turn(2, Turn::Settled(0)),
+        ],
+        packets: &[Became {
+            epoch: 1,
+            hops: &[1],
+            restamps: &[],
+            fate: Fate::Retired,
+        }],
+    },
+    Case {
+        name: "restamped at its destination",
+        capacity: 16,
+        restamps: 1,
+        moves: &[
+            Move::Inject(1, 2, Ok(0)),
+            Move::Turn(1, Turn::Sent(0, 2)),
+            Move::Renew(2),
+            Move::Turn(2, Turn::Idle),
+            Move::Turn(2, Turn::Settled(0)),
+        ],
+        packets: &[Became {
+            epoch: 1,
+            hops: &[1, 2],
+            restamps: &[Restamp { epoch: 2, from: 1 }],
+            fate: Fate::Delivered,
+        }],
+    },
+    Case {
+        name: "restamped at its source",
+        capacity: 16,
+        restamps: 1,
+        moves: &[
+            Move::Renew(1),
+            Move::Inject(1, 2, Ok(0)),
+            Move::Turn(1, Turn::Sent(0, 2)),
+            Move::Turn(2, Turn::Idle),
+            Move::Turn(2, Turn::Settled(0)),
+        ],
+        packets: &[Became {
+            epoch: 1,
+            hops: &[1, 2],
+            restamps: &[Restamp { epoch: 2, from: 0 }],
+            fate: Fate::Delivered,
+        }],
+    },
+    Case {
+        name: "changes are refused",
+        capacity: 16,
+        restamps: 0,
+        moves: &[
+            Move::Inject(0, 3, Err(InjectError::NoNode)),
+            Move::Mark(2, false, Err(ChangeError::NoLink)),
+            Move::Mark(0, false, Ok(1)),
+            Move::Mark(0, false, Err(ChangeError::Same)),
+            Move::Install(Kind::Tree, 1, Some(InstallError::Disconnected)),
+            Move::Mark(0, true, Ok(2)),
+            Move::Retire(2, Some(ChangeError::NoEpoch)),
+            Move::Retire(1, Some(ChangeError::Same)),
+            Move::Install(Kind::Tree, 3, Some(InstallError::NoNode)),
+        ],
+        packets: &[],
+    },
+    Case {
+        name: "packets have the epoch that was learnt",
+        capacity: 16,
+        restamps: 0,
+        moves: &[
+            Move::Install(Kind::Tree, 0, None),
+            Move::Inject(0, 2, Ok(0)),
+            Move::InstallAndLearn(Kind::Shortest, 2, 3),
+            Move::Inject(0, 2, Ok(1)),
+        ],
+        packets: &[LEFT, Became { epoch: 3, ..LEFT }],
+    },
+];
+
+// Installs epoch 2 and retires epoch 1, of which a node learns.
+fn renewed<R: Threads + Wait + Sync>(rt: &R, hands: &mut ByHand<&R>, at: usize) -> Option<()> {
+    let installed = hands.install(rt, Kind::Tree, 1).ok()?;
+    if installed.version() != 1 || installed.stamp()?.epoch() != 2 {
+        return None;
+    }
+    let receipt = hands.retire(2).ok()?;
+    hands.learn(at, &receipt)
+}
+
+// Whether a move answers as is said.
+fn moved<R: Threads + Wait + Sync>(rt: &R, hands: &mut ByHand<&R>, step: Move) -> bool {
+    match step {
+        Move::Inject(source, dest, answer) => hands.inject(rt, source, dest) == answer,
+        Move::Turn(at, turn) => hands.turn(rt, at) == Some(turn),
+        Move::Mark(link, up, answer) => hands.mark(link, up) == answer,
+        Move::Install(kind, root, why) => hands.install(rt, kind, root).err() == why,
+        Move::InstallAndLearn(kind, root, epoch) => {
+            hands.install_and_learn(rt, kind, root) == Ok(Some(epoch))
+        }
+        Move::Retire(floor, why) => hands.retire(floor).err() == why,
+        Move::Renew(at) => renewed(rt, hands, at).is_some(),
+    }
+}
+
+// Whether each of these moves answers as is said.
+fn all_moved<R: Threads + Wait + Sync>(rt: &R, hands: &mut ByHand<&R>, moves: &[Move]) -> bool {
+    for step in moves {
+        if !moved(rt, hands, *step) {
+            return false;
+        }
+    }
+    true
+}
+
+fn is_so<R: Threads + Wait + Sync>(rt: &R, alloc: Global, case: &Case) -> Option<bool> {
+    let mut hands = ByHand::of(rt, path(rt, alloc, case.capacity, case.restamps)?)?;
+    let is_moved = all_moved(rt, &mut hands, case.moves);
+    let report = hands.finish(rt).ok()?;
+    Some(is_moved && tells_all(&report, case.packets))
 }
 
 #[test]
-fn delivered_by_three_nodes(rt: HostRuntime) -> Result<(), Fail> {
-    let Some(mut hands) = opened(&rt, rt.alloc(), 16, 0) else {
-        return Err("not opened".into());
-    };
-    assert_eq!(rt; hands.handed_out(&rt), (3, true));
-    assert_eq!(rt; hands.inject(&rt, 0, 2), Ok(0));
-    let wanted = [
-        (0, Turn::Sent(0, 1)),
-        (1, Turn::Idle),
-        (1, Turn::Sent(0, 2)),
-        (2, Turn::Idle),
-        (2, Turn::Settled(0)),
-    ];
-    assert!(rt; hands.turns(&rt, &wanted));
-    let Ok(report) = hands.finish(&rt) else {
-        return Err("no report".into());
-    };
-    let delivered = Became {
-        hops: &[0, 1, 2],
-        restamps: &[],
-        fate: Fate::Delivered,
-    };
-    assert!(rt; report.records.len() == 1 && tells(&report, 0, delivered));
+fn moves_by_hand(rt: HostRuntime) -> Result<(), Fail> {
+    for case in &CASES {
+        if is_so(&rt, rt.alloc(), case) != Some(true) {
+            return Err(case.name.into());
+        }
+    }
     Ok(())
 }
 
@@ -64,196 +276,29 @@ fn refused_without<R: Wait, B: Wait + Drop>(
     Some((error, hands))
 }
 
-#[test]
-fn a_report_wants_all_nodes(rt: HostRuntime) -> Result<(), Fail> {
-    let Some(mut hands) = opened(&rt, rt.alloc(), 16, 0) else {
-        return Err("not opened".into());
-    };
-    assert_eq!(rt; hands.inject(&rt, 0, 2), Ok(0));
-    let Some((error, hands)) = refused_without(&rt, hands, 1) else {
-        return Err("a report without a node".into());
-    };
-    assert_eq!(rt; error, FinishError::Missing(1));
-    let Ok(report) = hands.finish(&rt) else {
-        return Err("no report".into());
-    };
-    let left = Became {
-        hops: &[0],
-        restamps: &[],
-        fate: Fate::Left,
-    };
-    assert!(rt; report.records.len() == 1 && tells(&report, 0, left));
-    Ok(())
+// Whether a net gives its parts once, and a report wants all three nodes.
+fn wants_all<R: Threads + Wait + Sync>(rt: &R, alloc: Global) -> Option<bool> {
+    let mut hands = ByHand::of(rt, path(rt, alloc, 16, 0)?)?;
+    let once = hands.handed_out(rt) == (3, true) && hands.inject(rt, 0, 2) == Ok(0);
+    let (error, hands) = refused_without(rt, hands, 1)?;
+    let report = hands.finish(rt).ok()?;
+    Some(once && error == FinishError::Missing(1) && tells_all(&report, &[LEFT]))
 }
 
 #[test]
-fn a_full_channel_drops(rt: HostRuntime) -> Result<(), Fail> {
-    let Some(mut hands) = opened(&rt, rt.alloc(), 1, 0) else {
-        return Err("not opened".into());
-    };
-    assert_eq!(rt; hands.inject(&rt, 0, 2), Ok(0));
-    assert_eq!(rt; hands.turn(&rt, 0), Some(Turn::Sent(0, 1)));
-    assert_eq!(rt; hands.inject(&rt, 0, 2), Ok(1));
-    assert_eq!(rt; hands.inject(&rt, 0, 2), Err(InjectError::InboxFull));
-    assert!(rt; hands.turns(&rt, &[(0, Turn::Idle), (0, Turn::Settled(1))]));
-    let Ok(report) = hands.finish(&rt) else {
-        return Err("no report".into());
-    };
-    assert!(rt; report.records.len() == 2);
-    for (id, fate) in [(0, Fate::Left), (1, Fate::Full { link: 0, to: 1 })] {
-        let dropped = Became {
-            hops: &[0],
-            restamps: &[],
-            fate,
-        };
-        assert!(rt; tells(&report, id, dropped), "packet {id}");
-    }
-    Ok(())
+fn a_report_wants_all_nodes(rt: HostRuntime) {
+    assert!(rt; wants_all(&rt, rt.alloc()) == Some(true));
 }
 
-// Installs epoch 2 and retires epoch 1: the receipt of the retirement.
-fn renewed<R: Wait + Drop>(hands: &mut ByHand<R>) -> Option<Receipt>
+// A packet is sent from a to b before its epoch is retired: the receipt of that.
+fn sent_and_retired<R: Threads + Wait + Sync>(rt: &R, hands: &mut ByHand<&R>) -> Option<Receipt>
     ensures { IfSome result (λ t. receipt_board t ≡ writer_board hands.new.parts.controller.writer) }
 {
-    let installed = hands.install(Kind::Tree, 1).ok()?;
-    if installed.version() != 1 || installed.stamp()?.epoch() != 2 {
+    if hands.inject(rt, 0, 2) != Ok(0) || hands.turn(rt, 0) != Some(Turn::Sent(0, 1)) {
         return None;
     }
+    let _installed = hands.install(rt, Kind::Tree, 1).ok()?;
     hands.retire(2).ok()
-}
-
-// A packet that was sent from its source before its epoch was retired.
-fn sent_and_retired<R: Wait, B: Wait + Drop>(
-    rt: &R,
-    mut hands: ByHand<B>,
-    source: u16,
-    to: u16,
-) -> Option<(ByHand<B>, Receipt)>
-    ensures { IfSome result (λ r. receipt_board r.1 ≡ writer_board r.0.parts.controller.writer) }
-{
-    let id = hands.inject(rt, source, 2).ok()?;
-    if hands.turn(rt, usize::from(source)) != Some(Turn::Sent(id, to)) {
-        return None;
-    }
-    let receipt = renewed(&mut hands)?;
-    Some((hands, receipt))
-}
-
-// The report after a node learnt the receipt and nodes turned as is said.
-fn learnt_and_turned<R: Wait, B: Wait + Drop>(
-    rt: &R,
-    mut hands: ByHand<B>,
-    at: usize,
-    receipt: &Receipt,
-    wanted: &[(usize, Turn)],
-) -> Option<Report>
-    requires { receipt_board receipt.now ≡ writer_board hands.parts.controller.writer }
-{
-    hands.learn(at, receipt)?;
-    if !hands.turns(rt, wanted) {
-        return None;
-    }
-    hands.finish(rt).ok()
-}
-
-// A packet from a to c that is at b when its epoch is retired, which b learns.
-fn retired_at_b<R: Wait>(
-    rt: &R,
-    alloc: Global,
-    restamps: u8,
-    wanted: &[(usize, Turn)],
-) -> Option<Report> {
-    let hands = opened(rt, alloc, 16, restamps)?;
-    let (hands, receipt) = sent_and_retired(rt, hands, 0, 1)?;
-    learnt_and_turned(rt, hands, 1, &receipt, wanted)
-}
-
-#[test]
-fn retired_or_restamped_on_its_way(rt: HostRuntime) -> Result<(), Fail> {
-    let dropped = [(1, Turn::Idle), (1, Turn::Settled(0))];
-    let Some(report) = retired_at_b(&rt, rt.alloc(), 0, &dropped) else {
-        return Err("not dropped".into());
-    };
-    let retired = Became {
-        hops: &[0],
-        restamps: &[],
-        fate: Fate::Retired,
-    };
-    assert!(rt; report.records.len() == 1 && tells(&report, 0, retired));
-    let sent = [
-        (1, Turn::Idle),
-        (1, Turn::Sent(0, 2)),
-        (2, Turn::Idle),
-        (2, Turn::Settled(0)),
-    ];
-    let Some(report) = retired_at_b(&rt, rt.alloc(), 1, &sent) else {
-        return Err("not restamped".into());
-    };
-    let delivered = Became {
-        hops: &[0, 1, 2],
-        restamps: &[Restamp { epoch: 2, from: 1 }],
-        fate: Fate::Delivered,
-    };
-    assert!(rt; report.records.len() == 1 && tells(&report, 0, delivered));
-    Ok(())
-}
-
-// A packet from b to c that is at c when its epoch is retired, which c learns.
-fn retired_at_c<R: Wait>(rt: &R, alloc: Global, restamps: u8) -> Option<Report> {
-    let hands = opened(rt, alloc, 16, restamps)?;
-    let (hands, receipt) = sent_and_retired(rt, hands, 1, 2)?;
-    let wanted = [(2, Turn::Idle), (2, Turn::Settled(0))];
-    learnt_and_turned(rt, hands, 2, &receipt, &wanted)
-}
-
-#[test]
-fn retired_or_restamped_at_its_destination(rt: HostRuntime) -> Result<(), Fail> {
-    let Some(report) = retired_at_c(&rt, rt.alloc(), 0) else {
-        return Err("not retired".into());
-    };
-    let retired = Became {
-        hops: &[1],
-        restamps: &[],
-        fate: Fate::Retired,
-    };
-    assert!(rt; tells(&report, 0, retired));
-    let Some(report) = retired_at_c(&rt, rt.alloc(), 1) else {
-        return Err("not restamped".into());
-    };
-    let delivered = Became {
-        hops: &[1, 2],
-        restamps: &[Restamp { epoch: 2, from: 1 }],
-        fate: Fate::Delivered,
-    };
-    assert!(rt; tells(&report, 0, delivered));
-    Ok(())
-}
-
-// A packet from b to c whose epoch was retired before, which b learnt and the injector did not.
-fn retired_before<R: Wait>(rt: &R, alloc: Global) -> Option<Report> {
-    let mut hands = opened(rt, alloc, 16, 1)?;
-    let receipt = renewed(&mut hands)?;
-    let id = hands.inject(rt, 1, 2).ok()?;
-    let wanted = [
-        (1, Turn::Sent(id, 2)),
-        (2, Turn::Idle),
-        (2, Turn::Settled(id)),
-    ];
-    learnt_and_turned(rt, hands, 1, &receipt, &wanted)
-}
-
-#[test]
-fn restamped_at_its_source(rt: HostRuntime) -> Result<(), Fail> {
-    let Some(report) = retired_before(&rt, rt.alloc()) else {
-        return Err("not restamped".into());
-    };
-    let delivered = Became {
-        hops: &[1, 2],
-        restamps: &[Restamp { epoch: 2, from: 0 }],
-        fate: Fate::Delivered,
-    };
-    assert!(rt; tells(&report, 0, delivered));
-    Ok(())
 }
 
 // The node after it learnt a receipt and turned twice, and what it did.
@@ -287,31 +332,33 @@ fn turned_there<R: Threads + Wait + Sync>(
     thread::join(rt, there, || ()).0
 }
 
-// A packet from a to c that is at b when its epoch is retired, which b learns on another thread, where it turns twice.
-fn retired_there<R: Threads + Wait + Sync>(
+// What node b does on another thread, where it learns that the epoch of a packet that is sent to it is retired, and turns
+// twice.
+fn turned_away<R: Threads + Wait + Sync>(
     rt: &R,
-    alloc: Global,
-) -> Option<((Option<Turn>, Option<Turn>), Report)> {
-    let hands = opened(rt, alloc, 16, 0)?;
-    let (mut hands, receipt) = sent_and_retired(rt, hands, 0, 1)?;
+    hands: &mut ByHand<&R>,
+) -> Option<(Option<Turn>, Option<Turn>)> {
+    let receipt = sent_and_retired(rt, hands)?;
     let node = hands.take_away(1)?;
     let (node, turns) = turned_there(rt, node, receipt);
     hands.bring_back(node)?;
+    Some(turns)
+}
+
+// Whether it drops the packet there.
+fn is_retired_there<R: Threads + Wait + Sync>(rt: &R, alloc: Global) -> Option<bool> {
+    let mut hands = ByHand::of(rt, path(rt, alloc, 16, 0)?)?;
+    let turns = turned_away(rt, &mut hands);
     let report = hands.finish(rt).ok()?;
-    Some((turns, report))
+    let is_dropped = turns == Some((Some(Turn::Idle), Some(Turn::Settled(0))));
+    let retired = Became {
+        fate: Fate::Retired,
+        ..LEFT
+    };
+    Some(is_dropped && tells_all(&report, &[retired]))
 }
 
 #[test]
-fn receipt_goes_to_a_node_on_another_thread(rt: HostRuntime) -> Result<(), Fail> {
-    let Some((turns, report)) = retired_there(&rt, rt.alloc()) else {
-        return Err("not dropped".into());
-    };
-    assert_eq!(rt; turns, (Some(Turn::Idle), Some(Turn::Settled(0))));
-    let retired = Became {
-        hops: &[0],
-        restamps: &[],
-        fate: Fate::Retired,
-    };
-    assert!(rt; report.records.len() == 1 && tells(&report, 0, retired));
-    Ok(())
+fn receipt_goes_to_a_node_on_another_thread(rt: HostRuntime) {
+    assert!(rt; is_retired_there(&rt, rt.alloc()) == Some(true));
 }

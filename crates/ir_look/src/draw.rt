@@ -84,7 +84,8 @@ fn goes_by(plan: &Plan, u: u16, link: u16, i: usize) -> bool
     requires scheme { IsScheme plan.now }
     requires node { u < node_count plan.now.network }
     requires place { i < length (row_in plan.now u) }
-    ensures { result ≡ goes_by plan.now.network u link (slice_index_or (intervals_of (row_in plan.now u)) i no_interval) }
+    ensures { result ≡ goes_by plan.now.network u link
+        (slice_index_or (intervals_of (row_in plan.now u)) i no_interval) }
 {
     let port = plan.row(u).port(i);
     let hop = plan.hop(u, port);
@@ -102,7 +103,8 @@ fn push_span(text: &mut String, start: u16, end: u16) -> Result<(), AllocError>
 fn push_interval(text: &mut String, plan: &Plan, u: u16, i: usize) -> Result<(), AllocError>
     requires node { u < node_count plan.now.network }
     requires place { i < length (row_in plan.now u) }
-    ensures { OnOk result (string_bytes text.new ≡ string_bytes text.old ++ interval_text (slice_index_or (intervals_of (row_in plan.now u)) i no_interval)) }
+    ensures { OnOk result (string_bytes text.new ≡ string_bytes text.old
+        ++ interval_text (slice_index_or (intervals_of (row_in plan.now u)) i no_interval)) }
 {
     let row = plan.row(u);
     let start = row.start(i);
@@ -121,7 +123,8 @@ fn push_next_interval(
 ) -> Result<(), AllocError>
     requires node { u < node_count plan.now.network }
     requires place { i < length (row_in plan.now u) }
-    ensures { OnOk result (string_bytes text.new ≡ string_bytes text.old ++ separated first (interval_text (slice_index_or (intervals_of (row_in plan.now u)) i no_interval))) }
+    ensures { OnOk result (string_bytes text.new ≡ string_bytes text.old
+        ++ separated first (interval_text (slice_index_or (intervals_of (row_in plan.now u)) i no_interval))) }
 {
     if !first {
         text.push_str(" ")?;
@@ -219,7 +222,8 @@ fn push_edge(
     requires scheme { IsScheme plan.now }
     requires node { u < length graph.now }
     requires other { hop.node < length graph.now }
-    ensures { OnOk result (string_bytes text.new ≡ string_bytes text.old ++ edge_line (names graph.now) plan.now walk.now u hop) }
+    ensures { OnOk result (string_bytes text.new ≡ string_bytes text.old
+        ++ edge_line (names graph.now) plan.now walk.now u hop) }
 {
     push_ends(text, graph, u, hop.node)?;
     push_labels(text, plan, u, hop)?;
@@ -241,7 +245,8 @@ fn push_later_edge(
     requires scheme { IsScheme plan.now }
     requires node { u < length graph.now }
     requires other { hop.node < length graph.now }
-    ensures { OnOk result (string_bytes text.new ≡ string_bytes text.old ++ (if nat_lt u hop.node then edge_line (names graph.now) plan.now walk.now u hop else [])) }
+    ensures { OnOk result (string_bytes text.new ≡ string_bytes text.old
+        ++ (if nat_lt u hop.node then edge_line (names graph.now) plan.now walk.now u hop else [])) }
 {
     if u < hop.node {
         push_edge(text, graph, plan, walk, u, hop)
@@ -261,7 +266,8 @@ fn push_edges(
     requires nodes { node_count plan.now.network ≡ length graph.now }
     requires scheme { IsScheme plan.now }
     requires node { u < length graph.now }
-    ensures { OnOk result (string_bytes text.new ≡ string_bytes text.old ++ edge_lines (names graph.now) plan.now walk.now u) }
+    ensures { OnOk result (string_bytes text.new ≡ string_bytes text.old
+        ++ edge_lines (names graph.now) plan.now walk.now u) }
 {
     let ports = plan.topology().ports(u as usize);
     for hop in ports {
@@ -273,7 +279,8 @@ fn push_edges(
 /// Writes the lines of all nodes.
 fn push_all_nodes(text: &mut String, graph: &Graph, plan: &Plan) -> Result<(), AllocError>
     requires { node_count plan.now.network ≡ length graph.now }
-    ensures { OnOk result (string_bytes text.new ≡ string_bytes text.old ++ flat_map (node_line (names graph.now) plan.now) (range_with_len 0 (node_count plan.now.network))) }
+    ensures { OnOk result (string_bytes text.new ≡ string_bytes text.old
+        ++ flat_map (node_line (names graph.now) plan.now) (range_with_len 0 (node_count plan.now.network))) }
 {
     for u in 0..plan.nodes() {
         push_node(text, graph, plan, u as u16)?;
@@ -289,7 +296,8 @@ fn push_all_edges(
     walk: &[u16],
 ) -> Result<(), AllocError>
     requires { node_count plan.now.network ≡ length graph.now }
-    ensures { OnOk result (string_bytes text.new ≡ string_bytes text.old ++ flat_map (edge_lines (names graph.now) plan.now walk.now) (range_with_len 0 (node_count plan.now.network))) }
+    ensures { OnOk result (string_bytes text.new ≡ string_bytes text.old
+        ++ flat_map (edge_lines (names graph.now) plan.now walk.now) (range_with_len 0 (node_count plan.now.network))) }
 {
     for u in 0..plan.nodes() {
         push_edges(text, graph, plan, walk, u as u16)?;
@@ -311,7 +319,8 @@ fn bold_walk(alloc: Global, plan: &Plan, ends: Option<(u16, u16)>) -> Result<Vec
 
 /// The drawing of a plan for Graphviz: a `graph` with a statement for each node, with its name and label, and one for each
 /// link, with its weight and at each end the intervals of its port; the links of the walk from the first of the ends to the
-/// second are bold. Condition: the plan is over the graph's network, and the ends are nodes. It is refused for memory alone.
+/// second are bold. Condition: the plan is over the graph's network, and the ends are nodes. It is refused for memory
+/// alone. Takes O(n + m (k + w)), for n nodes and m links, at most k starts in a row, and w nodes on the bold walk.
 pub fn draw_text(
     alloc: Global,
     graph: &Graph,

@@ -36,7 +36,9 @@ fn push_start(
     requires scheme { IsScheme plan.now }
     requires node { u < length graph.now }
     requires place { i < length (row_in plan.now u) }
-    ensures { OnOk result (string_bytes text.new ≡ string_bytes text.old ++ flat_map spaced (start_words (names graph.now) plan.now.network u (slice_index_or (row_in plan.now u) i (record { label = 0; port = 0 })))) }
+    ensures { OnOk result (string_bytes text.new ≡ string_bytes text.old
+        ++ flat_map spaced (start_words (names graph.now) plan.now.network u
+        (slice_index_or (row_in plan.now u) i (record { label = 0; port = 0 })))) }
 {
     let row = plan.row(u);
     push_next_number(text, row.start(i) as usize)?;
@@ -50,7 +52,8 @@ fn push_starts(text: &mut String, graph: &Graph, plan: &Plan, u: u16) -> Result<
     requires nodes { node_count plan.now.network ≡ length graph.now }
     requires scheme { IsScheme plan.now }
     requires node { u < length graph.now }
-    ensures { OnOk result (string_bytes text.new ≡ string_bytes text.old ++ flat_map spaced (flat_map (start_words (names graph.now) plan.now.network u) (row_in plan.now u))) }
+    ensures { OnOk result (string_bytes text.new ≡ string_bytes text.old
+        ++ flat_map spaced (flat_map (start_words (names graph.now) plan.now.network u) (row_in plan.now u))) }
 {
     let count = plan.row(u).len();
     for i in 0..count {
@@ -65,7 +68,8 @@ fn push_node(text: &mut String, graph: &Graph, plan: &Plan, u: u16) -> Result<()
     requires nodes { node_count plan.now.network ≡ length graph.now }
     requires scheme { IsScheme plan.now }
     requires node { u < length graph.now }
-    ensures { OnOk result (string_bytes text.new ≡ string_bytes text.old ++ line_text (node_words (names graph.now) plan.now u)) }
+    ensures { OnOk result (string_bytes text.new ≡ string_bytes text.old
+        ++ line_text (node_words (names graph.now) plan.now u)) }
 {
     text.push_str(name_of(graph, u))?;
     push_next_number(text, plan.label_of(u) as usize)?;
@@ -86,7 +90,7 @@ fn push_head(text: &mut String, plan: &Plan) -> Result<(), AllocError>
     Ok(())
 }
 
-/// The text of a plan over a graph's network.
+/// The text of a plan over a graph's network. Takes O(n + s), for n nodes and s starts.
 pub fn plan_text(alloc: Global, graph: &Graph, plan: &Plan) -> Result<String, AllocError>
     requires { node_count plan.now.network ≡ length graph.now }
     ensures { IfOk result (λ text. string_bytes text ≡ plan_text (names graph.now) plan.now) }

@@ -57,7 +57,8 @@ fn push_node_count(
     count: usize,
 ) -> Result<(), AllocError>
     requires { u < length graph.now }
-    ensures { OnOk result (string_bytes text.new ≡ string_bytes text.old ++ node_line (names graph.now) what.now u count) }
+    ensures { OnOk result (string_bytes text.new ≡ string_bytes text.old
+        ++ node_line (names graph.now) what.now u count) }
 {
     text.push_str(what)?;
     push_name(text, graph, u)?;
@@ -70,7 +71,8 @@ fn push_node_count(
 fn push_greatest(text: &mut String, graph: &Graph, plan: &Plan, u: u16) -> Result<(), AllocError>
     requires nodes { node_count plan.now.network ≡ length graph.now }
     requires node { u < length graph.now }
-    ensures { OnOk result (string_bytes text.new ≡ string_bytes text.old ++ greatest_line (names graph.now) plan.now u) }
+    ensures { OnOk result (string_bytes text.new ≡ string_bytes text.old
+        ++ greatest_line (names graph.now) plan.now u) }
 {
     let count = plan.row(u).len();
     push_node_count(text, graph, "greatest-row", u, count)?;
@@ -98,7 +100,8 @@ fn push_worst(text: &mut String, graph: &Graph, worst: Option<Weighed>) -> Resul
 fn push_rows(text: &mut String, graph: &Graph, plan: &Plan, greatest: u16) -> Result<(), AllocError>
     requires nodes { node_count plan.now.network ≡ length graph.now }
     requires greatest { greatest < length graph.now }
-    ensures { OnOk result (string_bytes text.new ≡ string_bytes text.old ++ rows_text (names graph.now) plan.now greatest) }
+    ensures { OnOk result (string_bytes text.new ≡ string_bytes text.old
+        ++ rows_text (names graph.now) plan.now greatest) }
 {
     let nodes = plan.nodes();
     push_head(text, plan)?;
@@ -112,7 +115,8 @@ fn push_rows(text: &mut String, graph: &Graph, plan: &Plan, greatest: u16) -> Re
 /// Writes the lines that weigh the walks of a plan.
 fn push_weights(text: &mut String, graph: &Graph, figures: &Figures) -> Result<(), AllocError>
     requires { IfSome figures.now.worst (λ p. (p.ends.from < length graph.now) × (p.ends.to < length graph.now)) }
-    ensures { OnOk result (string_bytes text.new ≡ string_bytes text.old ++ figures_text (names graph.now) figures.now) }
+    ensures { OnOk result (string_bytes text.new ≡ string_bytes text.old
+        ++ figures_text (names graph.now) figures.now) }
 {
     push_count(text, "walks", figures.walks as usize)?;
     push_count(text, "distances", figures.distances as usize)?;
@@ -121,6 +125,7 @@ fn push_weights(text: &mut String, graph: &Graph, figures: &Figures) -> Result<(
 }
 
 /// The text of the figures of a plan. Condition: the plan is over the graph's network. It is refused for memory alone.
+/// Takes O(n (n + m) log n), for n nodes and m links.
 pub fn stats_text(alloc: Global, graph: &Graph, plan: &Plan) -> Result<String, AllocError>
     requires { node_count plan.now.network ≡ length graph.now }
     ensures { IfOk result (λ text. IsStatsOf (names graph.now) plan.now (string_bytes text)) }

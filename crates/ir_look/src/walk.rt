@@ -123,7 +123,9 @@ fn push_onward(
     requires scheme { IsScheme plan.now }
     requires end { to < length graph.now }
     requires node { u < length graph.now }
-    ensures { OnOk result (string_bytes text.new ≡ string_bytes text.old ++ flat_map spaced (if u == to then [] else option_map_or (onward_words (names graph.now) plan.now to u) (next_hop plan.now u to) [])) }
+    ensures { OnOk result (string_bytes text.new ≡ string_bytes text.old
+        ++ flat_map spaced (if u == to then [] else option_map_or (onward_words (names graph.now) plan.now to u)
+        (next_hop plan.now u to) [])) }
 {
     if u == to {
         return Ok(());
@@ -150,7 +152,8 @@ fn push_stop(
     requires scheme { IsScheme plan.now }
     requires end { to < length graph.now }
     requires node { u < length graph.now }
-    ensures { OnOk result (string_bytes text.new ≡ string_bytes text.old ++ line_text (stop_words (names graph.now) plan.now to u)) }
+    ensures { OnOk result (string_bytes text.new ≡ string_bytes text.old
+        ++ line_text (stop_words (names graph.now) plan.now to u)) }
 {
     text.push_str(name_of(graph, u))?;
     push_next_number(text, plan.label_of(u) as usize)?;
@@ -171,7 +174,8 @@ fn push_stops(
     requires scheme { IsScheme plan.now }
     requires end { to < length graph.now }
     requires walk { list_all (λ x. nat_lt x (length graph.now)) walk.now ≡ true }
-    ensures { OnOk result (string_bytes text.new ≡ string_bytes text.old ++ flat_map (λ u. line_text (stop_words (names graph.now) plan.now to u)) walk.now) }
+    ensures { OnOk result (string_bytes text.new ≡ string_bytes text.old
+        ++ flat_map (λ u. line_text (stop_words (names graph.now) plan.now to u)) walk.now) }
 {
     for u in walk {
         push_stop(text, graph, plan, to, *u)?;
@@ -191,7 +195,8 @@ fn push_head(
     requires nodes { node_count plan.now.network ≡ length graph.now }
     requires from { from < length graph.now }
     requires to { to < length graph.now }
-    ensures { OnOk result (string_bytes text.new ≡ string_bytes text.old ++ line_text (walk_head (names graph.now) plan.now from to weight)) }
+    ensures { OnOk result (string_bytes text.new ≡ string_bytes text.old
+        ++ line_text (walk_head (names graph.now) plan.now from to weight)) }
 {
     text.push_str("walk")?;
     push_word(text, kind_text(plan.kind()))?;
@@ -204,7 +209,8 @@ fn push_head(
 }
 
 /// The text of the walk that a plan prescribes from one node to another: `walk KIND FROM TO ADDRESS WEIGHT`, and a line
-/// for each node of it. Condition: the plan is over the graph's network, and both are nodes. It is refused for memory alone.
+/// for each node of it. Condition: the plan is over the graph's network, and both are nodes. It is refused for memory
+/// alone. Takes O(w k), for w nodes of the walk and at most k starts in their rows.
 pub fn walk_text(
     alloc: Global,
     graph: &Graph,

@@ -6,9 +6,9 @@ ghost use Rattle.ir_tables.specs.Relaxation.{at, unreached};
 ghost use Rattle.ir_tables.specs.Listed.{IsWay, IsFilled, AreWays};
 ghost use Rattle.ir_look.specs.Figures.{sum_to};
 
-use crate::distances::UNREACHED;
 use crate::walk::hop_towards;
 use ir_plan::Plan;
+use ir_tables::UNREACHED;
 use std::alloc::{AllocError, Global};
 
 /// The weight of the prescribed walk from `u` to `d`, which is followed up to the first node with a known weight.

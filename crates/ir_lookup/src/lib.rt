@@ -18,6 +18,7 @@ pub const WORD_BASE: u32 = 65_536;
 
 /// Whether the label `d` of `n` labels lies in the cyclic interval from `a` up to, and without, `b`: in `a..b` where
 /// `a` is below `b`, and else in `a..n` or `0..b`. So the interval from a label up to itself has all labels.
+/// For users of the library.
 pub fn in_interval(n: u16, a: u16, b: u16, d: u16) -> bool
     requires from { a < n }
     requires to { b < n }

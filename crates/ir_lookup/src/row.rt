@@ -108,7 +108,7 @@ impl Row {
         self.starts.len()
     }
 
-    /// Whether there is no start.
+    /// Whether there is no start. For users of the library.
     pub fn is_empty(&self) -> bool
         ensures { IsTrue result ↔ (length self.now ≡ 0) }
     {
@@ -131,7 +131,8 @@ impl Row {
         self.starts.port(i)
     }
 
-    /// The port of the interval that has the label `d`, of any number of labels above `d`. The row is not empty.
+    /// The port of the interval that has the label `d`, of any number of labels above `d`. The row is not empty. Takes
+    /// O(log k), for k starts.
     pub fn find(&self, d: u16) -> u16
         requires { 0 < length self.now }
         ensures { (n : ℕ) → d < n → HasPort n self.now d result }

@@ -1,3 +1,4 @@
+-- what contracts promise
 pub mod Graph
 pub mod Places
 pub mod Made

@@ -1,7 +1,9 @@
+-- what contracts promise
 pub mod Codes
-pub mod Search
 pub mod Numbers
 pub mod Views
 pub mod Cells
 pub mod Laws
 pub mod Orders
+-- what bodies use
+pub mod Search

@@ -20,7 +20,7 @@ pub enum NumberError {
 }
 
 impl NumberError {
-    /// The number of this refusal: 1 NoNode, 2 Disconnected, 3 NoMemory.
+    /// The number of this refusal: 1 NoNode, 2 Disconnected, 3 NoMemory. For users of the library.
     pub fn code(self) -> u8
         ensures { result ≡ number_code self }
     {

@@ -45,14 +45,17 @@ impl Numbering {
     /// number of the node that was numbered last and still has one.
     ///
     /// NoNode exactly where the root is no node of the topology, then Disconnected where some node has no walk to
-    /// some node; NoMemory where a growth was refused, which may come before Disconnected is known.
+    /// some node; NoMemory where a growth was refused, which may come before Disconnected is known. Takes O(n + q),
+    /// for n nodes and q the sum of the squares of the degrees.
     pub fn depth_first(
         alloc: Global,
         topology: &Topology,
         root: u16,
     ) -> Result<Numbering, NumberError>
         ensures no_node { (result ≡ Err NumberError.NoNode) ↔ (node_count topology.now ≤ root) }
-        ensures depth_first { IfOk result (λ numbers. IsDepthFirst (neighbors_of topology.now) (node_count topology.now) root numbers.order numbers.parents) }
+        ensures depth_first { IfOk result
+            (λ numbers. IsDepthFirst (neighbors_of topology.now)
+            (node_count topology.now) root numbers.order numbers.parents) }
         ensures numbering { IfOk result (λ numbers. IsNumberingOf topology.now numbers) }
         ensures connected { OnOk result (IsConnected topology.now) }
         ensures disconnected { result ≡ Err NumberError.Disconnected → IsDisconnected topology.now }
@@ -84,7 +87,7 @@ impl Numbering {
     }
 
     /// Numbers nodes by a list that has each once. Each node but the first has the first for its parent in the tree of
-    /// the numbering, and none holds a port for it.
+    /// the numbering, and none holds a port for it. Takes O(n), for n nodes.
     pub fn listed(alloc: Global, order: Vec<u16>) -> Result<Numbering, AllocError>
         requires listing { IsListing (length order.items) order.items }
         requires few { length order.items ≤ MAX_NODES }
@@ -106,6 +109,7 @@ impl Numbering {
     ///
     /// The first place of the list that is wrong is told: NoNode where it holds no node, Twice where it holds the node
     /// of an earlier place. Where no place is wrong, Missing where a node has none. NoMemory may come before these.
+    /// Takes O(n), for n nodes. For users of the library.
     pub fn of_order(alloc: Global, nodes: usize, order: Vec<u16>) -> Result<Numbering, OrderError>
         requires few { nodes ≤ MAX_NODES }
         ensures listing { OnOk result (IsListing nodes order.items) }
@@ -145,7 +149,7 @@ impl Numbering {
     }
 
     /// How many nodes are in the subtree of a node, itself included. Their labels follow one another from the
-    /// node's own label on (Santoro and Khatib 1985).
+    /// node's own label on (Santoro and Khatib 1985). Takes O(s), for s of them. For users of the library.
     pub fn subtree(&self, u: u16) -> usize
         requires { u < length self.now.order }
         ensures { IsSubtree (length self.now.order) self.now.parents (slice_index self.now.labels u) result }
@@ -156,7 +160,8 @@ impl Numbering {
 
     /// The ports of a node to all nodes, by label, along the tree of the numbering; none to itself.
     ///
-    /// Condition: the numbering is of the topology. It is refused for want of memory alone.
+    /// Condition: the numbering is of the topology. It is refused for want of memory alone. Takes O(n + d * d), for n
+    /// nodes and d ports of the node.
     pub fn tree_ports(
         &self,
         alloc: Global,
@@ -165,7 +170,8 @@ impl Numbering {
     ) -> Result<Vec<Option<u16>>, AllocError>
         requires numbering { IsNumberingOf topology.now self.now }
         requires node { u < node_count topology.now }
-        ensures { IfOk result (λ ports. AreTreeCells topology.now self.now.order self.now.parents (slice_index self.now.labels u) (node_count topology.now) ports.items) }
+        ensures { IfOk result (λ ports. AreTreeCells topology.now self.now.order self.now.parents
+            (slice_index self.now.labels u) (node_count topology.now) ports.items) }
     {
         ports_by_label(
             alloc,
@@ -181,14 +187,16 @@ impl Numbering {
 /// The tree table of a numbering of this topology: at a node and a destination the port to the second node of the path
 /// between them in the tree of the numbering, and none where they are one node. Its distances weigh these paths.
 ///
-/// Condition: the numbering is of the topology. It is refused for want of memory alone.
+/// Condition: the numbering is of the topology. It is refused for want of memory alone. Takes O(n * n + q), for n
+/// nodes and q the sum of the squares of the degrees. For users of the library.
 pub fn tree_table(
     alloc: Global,
     topology: &Topology,
     numbering: &Numbering,
 ) -> Result<Table, AllocError>
     requires { IsNumberingOf topology.now numbering.now }
-    ensures tree { IfOk result (λ table. IsTreeTable topology.now numbering.now.order numbering.now.parents (port_in table)) }
+    ensures tree { IfOk result (λ table. IsTreeTable topology.now numbering.now.order numbering.now.parents
+        (port_in table)) }
     ensures routed { IfOk result (λ table. IsRouted topology.now table) }
 {
     let ports = tree_ports(

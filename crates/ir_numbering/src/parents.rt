@@ -44,7 +44,8 @@ pub fn parent_ports(
     parents: &[usize],
     labels: &[u16],
 ) -> Result<Vec<Option<u16>>, AllocError>
-    requires order { IsDepthFirst (neighbors_of topology.now) (node_count topology.now) (slice_index order.now 0) order.now parents.now }
+    requires order { IsDepthFirst (neighbors_of topology.now) (node_count topology.now)
+        (slice_index order.now 0) order.now parents.now }
     requires labels { AreLabels (node_count topology.now) order.now labels.now }
     ensures { IfOk result (λ ports. AreParentPorts topology.now order.now parents.now ports.items) }
 {
@@ -63,7 +64,8 @@ fn parent_port(
     labels: &[u16],
     u: usize,
 ) -> Option<u16>
-    requires order { IsDepthFirst (neighbors_of topology.now) (node_count topology.now) (slice_index order.now 0) order.now parents.now }
+    requires order { IsDepthFirst (neighbors_of topology.now) (node_count topology.now)
+        (slice_index order.now 0) order.now parents.now }
     requires labels { AreLabels (node_count topology.now) order.now labels.now }
     requires node { u < node_count topology.now }
     ensures { IsParentPort topology.now order.now parents.now u result }

@@ -17,8 +17,11 @@ pub struct Order {
 /// The nodes that walks from the root lead to, in depth-first order.
 pub fn search(alloc: Global, topology: &Topology, root: u16) -> Result<Order, AllocError>
     requires { root < node_count topology.now }
-    ensures all { IfOk result (λ order. node_count topology.now ≤ length order.nodes.items → IsDepthFirst (neighbors_of topology.now) (node_count topology.now) root order.nodes.items order.parents.items) }
-    ensures some { IfOk result (λ order. length order.nodes.items < node_count topology.now → (v : ℕ) × (v < node_count topology.now) × IsCutOff topology.now root v) }
+    ensures all { IfOk result (λ order. node_count topology.now ≤ length order.nodes.items
+        → IsDepthFirst (neighbors_of topology.now)
+        (node_count topology.now) root order.nodes.items order.parents.items) }
+    ensures some { IfOk result (λ order. length order.nodes.items < node_count topology.now → (v : ℕ)
+        × (v < node_count topology.now) × IsCutOff topology.now root v) }
 {
     let n = topology.nodes();
     let mut marked = vec![in alloc; false; n]?;
@@ -48,7 +51,8 @@ pub fn search(alloc: Global, topology: &Topology, root: u16) -> Result<Order, Al
 fn first_unmarked(ports: &[Hop], marked: &[bool]) -> Option<u16>
     requires { All (λ (hop : Hop). hop.node < length marked.now) ports.now }
     ensures node { IfSome result (λ x. x < length marked.now) }
-    ensures unmarked { MatchOption result (AllMarked marked.now (map (λ (hop : Hop). hop.node) ports.now)) (IsFirstUnmarked marked.now (map (λ (hop : Hop). hop.node) ports.now)) }
+    ensures unmarked { MatchOption result (AllMarked marked.now (map (λ (hop : Hop). hop.node) ports.now))
+        (IsFirstUnmarked marked.now (map (λ (hop : Hop). hop.node) ports.now)) }
 {
     for hop in ports {
         if !marked[hop.node as usize] {

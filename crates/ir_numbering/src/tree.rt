@@ -18,10 +18,12 @@ pub fn tree_ports(
     labels: &[u16],
     ups: &[Option<u16>],
 ) -> Result<Vec<Option<u16>>, AllocError>
-    requires order { IsDepthFirst (neighbors_of topology.now) (node_count topology.now) (slice_index order.now 0) order.now parents.now }
+    requires order { IsDepthFirst (neighbors_of topology.now) (node_count topology.now)
+        (slice_index order.now 0) order.now parents.now }
     requires labels { AreLabels (node_count topology.now) order.now labels.now }
     requires ups { AreParentPorts topology.now order.now parents.now ups.now }
-    ensures { IfOk result (λ ports. AreTreeRows topology.now order.now parents.now labels.now (node_count topology.now) ports.items) }
+    ensures { IfOk result (λ ports. AreTreeRows topology.now order.now parents.now labels.now
+        (node_count topology.now) ports.items) }
 {
     let mut ports = Vec::new(alloc);
     for u in 0..topology.nodes() {
@@ -40,10 +42,12 @@ pub fn ports_by_label(
     up: Option<u16>,
     own: usize,
 ) -> Result<Vec<Option<u16>>, AllocError>
-    requires order { IsDepthFirst (neighbors_of topology.now) (node_count topology.now) (slice_index order.now 0) order.now parents.now }
+    requires order { IsDepthFirst (neighbors_of topology.now) (node_count topology.now)
+        (slice_index order.now 0) order.now parents.now }
     requires own { own < node_count topology.now }
     requires up { IsParentPort topology.now order.now parents.now (slice_index order.now own) up }
-    ensures { IfOk result (λ ports. AreTreeCells topology.now order.now parents.now own (node_count topology.now) ports.items) }
+    ensures { IfOk result (λ ports. AreTreeCells topology.now order.now parents.now own
+        (node_count topology.now) ports.items) }
 {
     let mut ports = Vec::with_capacity(alloc, topology.nodes())?;
     for _place in 0..topology.nodes() {
@@ -62,7 +66,8 @@ fn next_port(
     own: usize,
     before: &[Option<u16>],
 ) -> Option<u16>
-    requires order { IsDepthFirst (neighbors_of topology.now) (node_count topology.now) (slice_index order.now 0) order.now parents.now }
+    requires order { IsDepthFirst (neighbors_of topology.now) (node_count topology.now)
+        (slice_index order.now 0) order.now parents.now }
     requires own { own < node_count topology.now }
     requires up { IsParentPort topology.now order.now parents.now (slice_index order.now own) up }
     requires before { length before.now < node_count topology.now }
@@ -91,7 +96,8 @@ fn push_by_node(
     labels: &[u16],
 ) -> Result<(), AllocError>
     requires { All (λ label. label < length row.now) labels.now }
-    ensures { OnOk result (ports.new.items ≡ ports.old.items ++ map (λ label. slice_index_or row.now label None) labels.now) }
+    ensures { OnOk result (ports.new.items ≡ ports.old.items
+        ++ map (λ label. slice_index_or row.now label None) labels.now) }
 {
     for label in labels {
         ports.push(row[*label as usize])?;

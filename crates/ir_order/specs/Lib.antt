@@ -1,2 +1,4 @@
+-- what contracts promise
 pub mod Order
+-- what bodies use
 pub mod Steps

@@ -64,7 +64,8 @@ fn place(
     ensures free { OnOk result (has_place placed.old.items node ≡ false) }
     ensures order { OnOk result (order.new.items ≡ order.old.items ++ option_to_list node) }
     ensures placed { OnOk result (placed.new.items ≡ with_place placed.old.items node) }
-    ensures twice { IfErr result (λ kind. kind ≢ OrderFaultKind.NoMemory → (kind ≡ OrderFaultKind.Twice) × (has_place placed.old.items node ≡ true)) }
+    ensures twice { IfErr result (λ kind. kind ≢ OrderFaultKind.NoMemory → (kind ≡ OrderFaultKind.Twice)
+        × (has_place placed.old.items node ≡ true)) }
 {
     let Some(u) = node else {
         return Ok(());
@@ -80,7 +81,8 @@ fn place(
 /// The nodes of a graph in the order in which a text names them, a name on each line. Lines, blanks and comments are as in
 /// the texts of a topology; a line with no word is skipped, and counts. The faults of a line, in order: `BadByte`; `BadRow`
 /// where it has more than one word; `UnknownNode`; `Twice`. Where no line has a fault, `Missing` where a node is not named,
-/// with the number of the last line. NoMemory may come before these.
+/// with the number of the last line. NoMemory may come before these. Takes O(n + b) on average, for n nodes and a text
+/// of b bytes.
 pub fn read_order(alloc: Global, graph: &Graph, text: &[u8]) -> Result<Vec<u16>, OrderFault>
     ensures order { IfOk result (λ order. IsOrder (names graph.now) (lines text.now) order.items) }
     ensures listing { IfOk result (λ order. IsListing (length graph.now) order.items) }

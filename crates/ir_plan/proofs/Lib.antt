@@ -6,3 +6,5 @@ pub mod TreeStarts
 pub mod CompactRows
 pub mod CompactPlans
 pub mod NodeRows
+pub mod DepthFirst
+pub mod Lists

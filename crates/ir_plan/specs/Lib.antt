@@ -1,6 +1,9 @@
+-- what contracts promise
 pub mod Refusals
 pub mod Shown
 pub mod Views
 pub mod TreeRows
 pub mod CompactRows
+pub mod Starts
+-- what bodies use
 pub mod NodeRows

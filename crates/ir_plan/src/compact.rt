@@ -27,7 +27,8 @@ pub fn compact_row(
     requires labels { AreLabels (node_count topology.now) numbering.now.order numbering.now.labels }
     requires connected { IsConnected topology.now }
     requires node { u < node_count topology.now }
-    ensures { IfOk result (λ row. IsNodeRow Compact topology.now numbering.now.order numbering.now.parents (slice_index numbering.now.labels u) row) }
+    ensures { IfOk result (λ row. IsNodeRow Compact topology.now numbering.now.order numbering.now.parents
+        (slice_index numbering.now.labels u) row) }
 {
     let nodes = topology.nodes() as u16;
     let ports = chosen_ports(alloc, topology, numbering, u)?;
@@ -44,7 +45,8 @@ fn chosen_ports(
     requires labels { AreLabels (node_count topology.now) numbering.now.order numbering.now.labels }
     requires connected { IsConnected topology.now }
     requires node { u < node_count topology.now }
-    ensures { IfOk result (λ ports. ArePortsOf Compact topology.now numbering.now.order numbering.now.parents (slice_index numbering.now.labels u) ports.items) }
+    ensures { IfOk result (λ ports. ArePortsOf Compact topology.now numbering.now.order numbering.now.parents
+        (slice_index numbering.now.labels u) ports.items) }
 {
     let nodes = topology.nodes() as u16;
     let ways = Outward::from(alloc, topology, u)?;
@@ -75,7 +77,8 @@ fn longest_runs(
     requires distances { AreFrom topology.now u ways.now.weights }
     ensures counts { IfOk result (λ made. length made.0.items ≡ node_count topology.now) }
     ensures ports { IfOk result (λ made. length made.1.items ≡ node_count topology.now) }
-    ensures longest { IfOk result (λ made. AreLongest (node_count topology.now) (slice_index numbering.now.labels u) (MayTake topology.now numbering.now.order (slice_index numbering.now.labels u)) made.0.items made.1.items) }
+    ensures longest { IfOk result (λ made. AreLongest (node_count topology.now) (slice_index numbering.now.labels u)
+        (MayTake topology.now numbering.now.order (slice_index numbering.now.labels u)) made.0.items made.1.items) }
 {
     let nodes = topology.nodes() as u16;
     let own = numbering.label_of(u);

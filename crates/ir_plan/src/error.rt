@@ -25,7 +25,7 @@ pub enum PlanError {
 }
 
 impl PlanError {
-    /// The number of the refusal: 1 NoNode, 2 Empty, 3 Disconnected, 4 NoMemory.
+    /// The number of the refusal: 1 NoNode, 2 Empty, 3 Disconnected, 4 NoMemory. For users of the library.
     pub fn code(self) -> u8
         ensures { result ≡ code_of self }
     {

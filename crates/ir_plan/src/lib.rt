@@ -1,13 +1,26 @@
-//! One epoch's plan: depth-first labels, and each node's row of interval starts in place of a full table.
+//! One epoch's plan: labels by node, depth first or in the order of a tour or by a list, and each node's row of interval
+//! starts in place of a full table. A tour is an order in which neighbours are sent alike by most nodes, so that rows have
+//! few starts.
 #![tactic(auto)]
 
 mod compact;
+mod distances;
 mod error;
+mod nearest;
 mod plan;
 mod rows;
+mod sweeps;
 mod threads;
+mod tour;
 
 pub use error::PlanError;
 pub use ir_model::{Hop, Kind};
 pub use plan::Plan;
 pub use threads::rows_of_a_thread;
+pub use tour::{LabelOrder, plan_in_order, tour_plan};
+
+/// The most nodes of a plan whose labels a tour is sought for.
+pub const MOST_TOUR_NODES: usize = 4_096;
+
+/// The most sweeps that shorten a tour.
+pub const MOST_SWEEPS: usize = 16;

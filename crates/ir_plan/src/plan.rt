@@ -1,6 +1,6 @@
 ghost use Rattle.std.specs.Prelude.{◌-◌, ◌*◌, ◌≡◌, ◌≢◌, ◌↔◌, ◌<◌, ◌≤◌, Some, length, slice_index, sum_by, IfOk, IfErr, OnOk};
 ghost use Rattle.ir_model.specs.Numbering.{IsDepthFirst, neighbors_of};
-ghost use Rattle.ir_model.specs.Network.{IsNetwork, node_count, port_at, ports_of};
+ghost use Rattle.ir_model.specs.Network.{node_count, port_at, ports_of};
 ghost use Rattle.ir_model.specs.Walk.{IsConnected, IsDisconnected};
 ghost use Rattle.ir_model.specs.Scheme.{AreLabels, IsScheme, HasDepthFirst, by_label, label_in, node_in, table_port, row_in};
 ghost use Rattle.ir_model.specs.Row.{intervals_of};
@@ -49,7 +49,9 @@ impl Plan {
     ///
     /// Refused as Empty where the topology has no node, else as NoNode where the root is none of its nodes, else as
     /// Disconnected where some node has no walk to some node; NoMemory may come before Disconnected is known. A refusal
-    /// hands the topology back.
+    /// hands the topology back. Takes O(n (n + m) log n), for n nodes and m links; of kind Tree O(n * n + q), for q
+    /// the sum of the squares of the degrees; of kind Compact also O(m (n + m)), and for each node what
+    /// `ir_compile::ports_of_runs` takes. For users of the library.
     pub fn build(
         alloc: Global,
         topology: Topology,
@@ -63,8 +65,11 @@ impl Plan {
         ensures numbers { IfOk result (λ p. HasDepthFirst p) }
         ensures back { IfErr result (λ e. e.1 ≡ topology) }
         ensures empty { IfErr result (λ e. (e.0 ≡ PlanError.Empty) ↔ (node_count topology ≡ 0)) }
-        ensures no_node { IfErr result (λ e. (e.0 ≡ PlanError.NoNode) ↔ ((0 < node_count topology) × (node_count topology ≤ root))) }
-        ensures disconnected { IfErr result (λ e. e.0 ≡ PlanError.Disconnected → (0 < node_count topology) × (root < node_count topology) × IsDisconnected topology) }
+        ensures no_node { IfErr result
+            (λ e. (e.0 ≡ PlanError.NoNode) ↔ ((0 < node_count topology) × (node_count topology ≤ root))) }
+        ensures disconnected { IfErr result
+            (λ e. e.0 ≡ PlanError.Disconnected → (0 < node_count topology) × (root < node_count topology)
+            × IsDisconnected topology) }
     {
         match numbering_of(alloc, &topology, root) {
             Ok(numbering) => {
@@ -78,7 +83,8 @@ impl Plan {
     /// The plan that `build` makes, its rows made in at most `most` threads, or in as many as suit the processors where it
     /// is None. Where no thread can be started, the rows are made on this one.
     ///
-    /// Refused as `build` is; NoMemory is also where a growth is refused in a thread.
+    /// Refused as `build` is; NoMemory is also where a growth is refused in a thread. All threads together take as
+    /// long as `build`.
     pub fn build_in_threads(
         rt: &(impl Threads + Sync),
         alloc: Global,
@@ -94,8 +100,11 @@ impl Plan {
         ensures numbers { IfOk result (λ p. HasDepthFirst p) }
         ensures back { IfErr result (λ e. e.1 ≡ topology) }
         ensures empty { IfErr result (λ e. (e.0 ≡ PlanError.Empty) ↔ (node_count topology ≡ 0)) }
-        ensures no_node { IfErr result (λ e. (e.0 ≡ PlanError.NoNode) ↔ ((0 < node_count topology) × (node_count topology ≤ root))) }
-        ensures disconnected { IfErr result (λ e. e.0 ≡ PlanError.Disconnected → (0 < node_count topology) × (root < node_count topology) × IsDisconnected topology) }
+        ensures no_node { IfErr result
+            (λ e. (e.0 ≡ PlanError.NoNode) ↔ ((0 < node_count topology) × (node_count topology ≤ root))) }
+        ensures disconnected { IfErr result
+            (λ e. e.0 ≡ PlanError.Disconnected → (0 < node_count topology) × (root < node_count topology)
+            × IsDisconnected topology) }
     {
         match numbering_of(alloc, &topology, root) {
             Ok(numbering) => {
@@ -110,7 +119,8 @@ impl Plan {
     /// first of them is the root. Its rows are made as those of `build`.
     ///
     /// Refused as Empty where the topology has no node, else as Disconnected where some node has no walk to some node;
-    /// NoMemory may come before Disconnected is known. A refusal hands the topology back.
+    /// NoMemory may come before Disconnected is known. A refusal hands the topology back. Takes as long as `build`.
+    /// For users of the library.
     pub fn build_numbered(
         alloc: Global,
         topology: Topology,
@@ -126,7 +136,8 @@ impl Plan {
         ensures back { IfErr result (λ e. e.1 ≡ topology) }
         ensures empty { IfErr result (λ e. (e.0 ≡ PlanError.Empty) ↔ (node_count topology ≡ 0)) }
         ensures no_node { IfErr result (λ e. e.0 ≢ PlanError.NoNode) }
-        ensures disconnected { IfErr result (λ e. e.0 ≡ PlanError.Disconnected → (0 < node_count topology) × IsDisconnected topology) }
+        ensures disconnected { IfErr result
+            (λ e. e.0 ≡ PlanError.Disconnected → (0 < node_count topology) × IsDisconnected topology) }
     {
         if topology.nodes() == 0 {
             return Err((PlanError::Empty, topology));
@@ -143,7 +154,8 @@ impl Plan {
 
     /// The plan that `build_numbered` makes, its rows made in threads as those of `build_in_threads`.
     ///
-    /// Refused as `build_numbered` is; NoMemory is also where a growth is refused in a thread.
+    /// Refused as `build_numbered` is; NoMemory is also where a growth is refused in a thread. All threads together
+    /// take as long as `build`.
     pub fn build_numbered_in_threads(
         rt: &(impl Threads + Sync),
         alloc: Global,
@@ -161,7 +173,8 @@ impl Plan {
         ensures back { IfErr result (λ e. e.1 ≡ topology) }
         ensures empty { IfErr result (λ e. (e.0 ≡ PlanError.Empty) ↔ (node_count topology ≡ 0)) }
         ensures no_node { IfErr result (λ e. e.0 ≢ PlanError.NoNode) }
-        ensures disconnected { IfErr result (λ e. e.0 ≡ PlanError.Disconnected → (0 < node_count topology) × IsDisconnected topology) }
+        ensures disconnected { IfErr result
+            (λ e. e.0 ≡ PlanError.Disconnected → (0 < node_count topology) × IsDisconnected topology) }
     {
         if topology.nodes() == 0 {
             return Err((PlanError::Empty, topology));
@@ -186,10 +199,12 @@ impl Plan {
     ) -> Result<Plan, (PlanError, Topology)>
         requires root { root < node_count topology }
         requires connected { IsConnected topology }
-        requires depth_first { kind ≡ Kind.Tree → IsDepthFirst (neighbors_of topology) (node_count topology) root numbering.order numbering.parents }
+        requires depth_first { kind ≡ Kind.Tree
+            → IsDepthFirst (neighbors_of topology) (node_count topology) root numbering.order numbering.parents }
         requires first { slice_index numbering.order 0 ≡ root }
         requires labels { AreLabels (node_count topology) numbering.order numbering.labels }
-        requires rows { IfOk rows (λ made. StandForTable kind topology numbering.order numbering.parents numbering.labels made.items) }
+        requires rows { IfOk rows (λ made. StandForTable kind topology numbering.order numbering.parents
+            numbering.labels made.items) }
         ensures kind { IfOk result (λ p. p.kind ≡ kind) }
         ensures root { IfOk result (λ p. p.root ≡ root) }
         ensures network { IfOk result (λ p. p.network ≡ topology) }
@@ -262,7 +277,7 @@ impl Plan {
         self.numbering.label_of(u)
     }
 
-    /// The node with a label.
+    /// The node with a label. For users of the library.
     pub fn node_of(&self, label: u16) -> u16
         requires { label < node_count self.now.network }
         ensures { result ≡ node_in self.now label }
@@ -271,6 +286,7 @@ impl Plan {
     }
 
     /// The port of a node to the node with a label, by the node's row: that of the full table. None at the own label.
+    /// Takes O(log k), for k starts of the row.
     pub fn port(&self, u: u16, address: u16) -> Option<u16>
         requires node { u < node_count self.now.network }
         requires label { address < node_count self.now.network }
@@ -299,8 +315,10 @@ impl Plan {
     pub fn row(&self, u: u16) -> &Row
         requires { u < node_count self.now.network }
         ensures row { result.now ≡ row_in self.now u }
-        ensures fits { Fits (node_count self.now.network) (label_in self.now u) (by_label self.now u) (intervals_of result.now) }
-        ensures fewest { IsFewest (node_count self.now.network) (label_in self.now u) (by_label self.now u) (length result.now) }
+        ensures fits { Fits (node_count self.now.network) (label_in self.now u) (by_label self.now u)
+            (intervals_of result.now) }
+        ensures fewest { IsFewest (node_count self.now.network) (label_in self.now u) (by_label self.now u)
+            (length result.now) }
         ensures tree { self.now.kind ≡ Kind.Tree → HasTreeRow self.now u }
         ensures tied { self.now.kind ≡ Kind.Compact → FitsTied self.now u (intervals_of result.now) }
         ensures compact { self.now.kind ≡ Kind.Compact → IsFewestOfTied self.now u (length result.now) }
@@ -308,7 +326,7 @@ impl Plan {
         &self.rows[u as usize]
     }
 
-    /// How many starts all rows have. In a tree plan of n nodes they are 2 (n - 1).
+    /// How many starts all rows have. In a tree plan of n nodes they are 2 (n - 1). Takes O(n).
     pub fn labels(&self) -> usize
         ensures labels { result ≡ sum_by length self.now.rows }
         ensures tree { self.now.kind ≡ Kind.Tree → result ≡ 2 * (node_count self.now.network - 1) }
@@ -324,14 +342,19 @@ impl Plan {
 // The numbers from the root.
 fn numbering_of(alloc: Global, topology: &Topology, root: u16) -> Result<Numbering, PlanError>
     ensures root { OnOk result (root < node_count topology.now) }
-    ensures depth_first { IfOk result (λ numbers. IsDepthFirst (neighbors_of topology.now) (node_count topology.now) root numbers.order numbers.parents) }
+    ensures depth_first { IfOk result
+        (λ numbers. IsDepthFirst (neighbors_of topology.now)
+        (node_count topology.now) root numbers.order numbers.parents) }
     ensures first { IfOk result (λ numbers. slice_index numbers.order 0 ≡ root) }
     ensures labels { IfOk result (λ numbers. AreLabels (node_count topology.now) numbers.order numbers.labels) }
     ensures numbering { IfOk result (λ numbers. IsNumberingOf topology.now numbers) }
     ensures connected { OnOk result (IsConnected topology.now) }
     ensures empty { IfErr result (λ e. (e ≡ PlanError.Empty) ↔ (node_count topology.now ≡ 0)) }
-    ensures no_node { IfErr result (λ e. (e ≡ PlanError.NoNode) ↔ ((0 < node_count topology.now) × (node_count topology.now ≤ root))) }
-    ensures disconnected { IfErr result (λ e. e ≡ PlanError.Disconnected → (0 < node_count topology.now) × (root < node_count topology.now) × IsDisconnected topology.now) }
+    ensures no_node { IfErr result
+        (λ e. (e ≡ PlanError.NoNode) ↔ ((0 < node_count topology.now) × (node_count topology.now ≤ root))) }
+    ensures disconnected { IfErr result
+        (λ e. e ≡ PlanError.Disconnected → (0 < node_count topology.now) × (root < node_count topology.now)
+        × IsDisconnected topology.now) }
 {
     if topology.nodes() == 0 {
         return Err(PlanError::Empty);

@@ -29,7 +29,8 @@ pub fn rows_of(
     requires labels { AreLabels (node_count topology.now) numbering.now.order numbering.now.labels }
     requires tree { kind ≡ Tree → IsNumberingOf topology.now numbering.now }
     requires connected { IsConnected topology.now }
-    ensures { IfOk result (λ rows. StandForTable kind topology.now numbering.now.order numbering.now.parents numbering.now.labels rows.items) }
+    ensures { IfOk result (λ rows. StandForTable kind topology.now numbering.now.order numbering.now.parents
+        numbering.now.labels rows.items) }
 {
     let nodes = topology.nodes() as u16;
     let mut rows = Vec::with_capacity(alloc, nodes as usize)?;
@@ -51,7 +52,8 @@ pub fn row_at(
     requires tree { kind ≡ Tree → IsNumberingOf topology.now numbering.now }
     requires connected { IsConnected topology.now }
     requires node { u < node_count topology.now }
-    ensures { IfOk result (λ row. IsNodeRow kind topology.now numbering.now.order numbering.now.parents (slice_index numbering.now.labels u) row) }
+    ensures { IfOk result (λ row. IsNodeRow kind topology.now numbering.now.order numbering.now.parents
+        (slice_index numbering.now.labels u) row) }
 {
     match kind {
         Kind::Tree => tree_row(alloc, topology, numbering, u),
@@ -69,7 +71,8 @@ fn tree_row(
 ) -> Result<Row, AllocError>
     requires numbering { IsNumberingOf topology.now numbering.now }
     requires node { u < node_count topology.now }
-    ensures { IfOk result (λ row. IsNodeRow Tree topology.now numbering.now.order numbering.now.parents (slice_index numbering.now.labels u) row) }
+    ensures { IfOk result (λ row. IsNodeRow Tree topology.now numbering.now.order numbering.now.parents
+        (slice_index numbering.now.labels u) row) }
 {
     let nodes = topology.nodes() as u16;
     let ports = numbering.tree_ports(alloc, topology, u)?;
@@ -86,7 +89,8 @@ fn shortest_row(
     requires labels { AreLabels (node_count topology.now) numbering.now.order numbering.now.labels }
     requires connected { IsConnected topology.now }
     requires node { u < node_count topology.now }
-    ensures { IfOk result (λ row. IsNodeRow Shortest topology.now numbering.now.order numbering.now.parents (slice_index numbering.now.labels u) row) }
+    ensures { IfOk result (λ row. IsNodeRow Shortest topology.now numbering.now.order numbering.now.parents
+        (slice_index numbering.now.labels u) row) }
 {
     let nodes = topology.nodes() as u16;
     let ways = Outward::from(alloc, topology, u)?;

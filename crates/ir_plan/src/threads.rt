@@ -42,7 +42,8 @@ pub fn rows_in_threads(
     requires labels { AreLabels (node_count topology.now) numbering.now.order numbering.now.labels }
     requires tree { kind ≡ Tree → IsNumberingOf topology.now numbering.now }
     requires connected { IsConnected topology.now }
-    ensures { IfOk result (λ rows. StandForTable kind topology.now numbering.now.order numbering.now.parents numbering.now.labels rows.items) }
+    ensures { IfOk result (λ rows. StandForTable kind topology.now numbering.now.order numbering.now.parents
+        numbering.now.labels rows.items) }
 {
     let nodes = topology.nodes();
     (0..nodes)
@@ -50,8 +51,11 @@ pub fn rows_in_threads(
         .with_min_len(rows_of_a_thread(nodes, most))
         .map(
             |u: usize| -> Result<Row, AllocError>
-                requires { (u < node_count topology.now) × AreLabels (node_count topology.now) numbering.now.order numbering.now.labels × (kind ≡ Tree → IsNumberingOf topology.now numbering.now) × IsConnected topology.now }
-                ensures { IfOk result (λ row. IsNodeRow kind topology.entry.now numbering.entry.now.order numbering.entry.now.parents (slice_index numbering.entry.now.labels u) row) }
+                requires { (u < node_count topology.now)
+                    × AreLabels (node_count topology.now) numbering.now.order numbering.now.labels
+                    × (kind ≡ Tree → IsNumberingOf topology.now numbering.now) × IsConnected topology.now }
+                ensures { IfOk result (λ row. IsNodeRow kind topology.entry.now numbering.entry.now.order
+                    numbering.entry.now.parents (slice_index numbering.entry.now.labels u) row) }
             { row_in_thread(alloc, topology, numbering, kind, u) },
         )
         .collect::<Result<Vec<Row>, AllocError>>(rt, alloc)?
@@ -69,7 +73,8 @@ fn row_in_thread(
     requires tree { kind ≡ Tree → IsNumberingOf topology.now numbering.now }
     requires connected { IsConnected topology.now }
     requires node { u < node_count topology.now }
-    ensures { IfOk result (λ row. IsNodeRow kind topology.now numbering.now.order numbering.now.parents (slice_index numbering.now.labels u) row) }
+    ensures { IfOk result (λ row. IsNodeRow kind topology.now numbering.now.order numbering.now.parents
+        (slice_index numbering.now.labels u) row) }
 {
     let _nodes = topology.nodes();
     row_at(alloc, topology, numbering, kind, u as u16)

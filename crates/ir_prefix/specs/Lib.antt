@@ -1,9 +1,11 @@
+-- what contracts promise
 pub mod Code
+pub mod Longest
+pub mod Forwarding
+-- what bodies use
 pub mod Joined
 pub mod Described
-pub mod Longest
 pub mod Cover
-pub mod Forwarding
 pub mod Extended
 pub mod Runs
 pub mod Nodes

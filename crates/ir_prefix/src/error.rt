@@ -17,7 +17,7 @@ pub enum PrefixError {
 }
 
 impl PrefixError {
-    /// The number of the refusal.
+    /// The number of the refusal. For users of the library.
     pub fn code(self) -> u8
         ensures { result ≡ code_of self }
     {

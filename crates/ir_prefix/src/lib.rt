@@ -34,7 +34,7 @@ pub use tables::{disjoint, forwarding};
 /// their values: while a table is filled in this order, a label finds no match or its port.
 ///
 /// `BadRow` where `ports` does not have one entry for each of the `n` labels, `own` is no label, the own label has a
-/// port, or another label has none; then `NoMemory`.
+/// port, or another label has none; then `NoMemory`. Takes O(n log n). For users of the library.
 pub fn prefixes(
     alloc: Global,
     n: u16,
@@ -47,7 +47,8 @@ pub fn prefixes(
     ensures fits { IfOk result (λ set. (bits : ℕ) → IsWidth n bits → Forwards bits ports.now set.items) }
     ensures loads { IfOk result (λ set. (bits : ℕ) → IsWidth n bits → LoadsInOrder bits ports.now set.items) }
     ensures values { IfOk result (λ set. (bits : ℕ) → IsWidth n bits → AreLeast bits set.items) }
-    ensures fewest { IfOk result (λ set. (bits : ℕ) → IsWidth n bits → IsFewestPrefixes bits ports.now (length set.items)) }
+    ensures fewest { IfOk result (λ set. (bits : ℕ) → IsWidth n bits
+        → IsFewestPrefixes bits ports.now (length set.items)) }
 {
     if !is_destinations(n, own, ports) {
         return Err(PrefixError::BadRow);

@@ -24,7 +24,8 @@ use std::alloc::{AllocError, Global};
 /// opposite one, a number finds no match or that of the whole table.
 ///
 /// `BadRow` where `ports` does not have one entry for each of the `n` labels, `own` is no label, the own label has a
-/// port, or another label has none; then `NoMemory`.
+/// port, or another label has none; then `NoMemory`. Takes O(n (log n + t)), where t ports are tried, from the
+/// greatest number down, for one that the row does not name.
 pub fn forwarding(
     alloc: Global,
     n: u16,
@@ -34,8 +35,10 @@ pub fn forwarding(
     ensures bad_row { (result ≡ Err PrefixError.BadRow) ↔ (IsDestinations n own ports.now → ⊥) }
     ensures destinations { OnOk result (IsDestinations n own ports.now) }
     ensures well { IfOk result (λ table. (bits : ℕ) → IsWidth n bits → IsWellFormed bits table.items) }
-    ensures forwards { IfOk result (λ table. (bits : ℕ) → IsWidth n bits → IsForwardingTable n bits ports.now table.items) }
-    ensures fewest { IfOk result (λ table. (bits : ℕ) → IsWidth n bits → IsFewestLines n bits ports.now (length table.items)) }
+    ensures forwards { IfOk result
+        (λ table. (bits : ℕ) → IsWidth n bits → IsForwardingTable n bits ports.now table.items) }
+    ensures fewest { IfOk result (λ table. (bits : ℕ) → IsWidth n bits
+        → IsFewestLines n bits ports.now (length table.items)) }
     ensures ports { IfOk result (λ table. NamesPorts ports.now table.items) }
     ensures order { IfOk result (λ table. AreLongestFirst table.items) }
     ensures loads { IfOk result (λ table. (bits : ℕ) → KeepsMatches bits table.items) }
@@ -52,7 +55,8 @@ pub fn forwarding(
 /// none is needed: where a line is missing, what it holds is dropped.
 ///
 /// `BadRow` where `ports` does not have one entry for each of the `n` labels, `own` is no label, the own label has a
-/// port, or another label has none; then `NoMemory`.
+/// port, or another label has none; then `NoMemory`. Takes O(n (log n + t)), where t ports are tried, from the
+/// greatest number down, for one that the row does not name.
 pub fn disjoint(
     alloc: Global,
     n: u16,
@@ -62,8 +66,10 @@ pub fn disjoint(
     ensures bad_row { (result ≡ Err PrefixError.BadRow) ↔ (IsDestinations n own ports.now → ⊥) }
     ensures destinations { OnOk result (IsDestinations n own ports.now) }
     ensures well { IfOk result (λ table. (bits : ℕ) → IsWidth n bits → IsWellFormed bits table.items) }
-    ensures disjoint { IfOk result (λ table. (bits : ℕ) → IsWidth n bits → IsDisjointTable n bits ports.now table.items) }
-    ensures fewest { IfOk result (λ table. (bits : ℕ) → IsWidth n bits → IsFewestDisjoint n bits ports.now (length table.items)) }
+    ensures disjoint { IfOk result
+        (λ table. (bits : ℕ) → IsWidth n bits → IsDisjointTable n bits ports.now table.items) }
+    ensures fewest { IfOk result (λ table. (bits : ℕ) → IsWidth n bits
+        → IsFewestDisjoint n bits ports.now (length table.items)) }
     ensures ports { IfOk result (λ table. NamesPorts ports.now table.items) }
     ensures order { IfOk result (λ table. AreLongestFirst table.items) }
 {
@@ -77,8 +83,10 @@ pub fn disjoint(
 fn lines(alloc: Global, n: u16, own: u16, ports: &[Option<u16>]) -> Result<Vec<Line>, AllocError>
     requires { IsDestinations n own ports.now }
     ensures well { IfOk result (λ table. (bits : ℕ) → IsWidth n bits → IsWellFormed bits table.items) }
-    ensures forwards { IfOk result (λ table. (bits : ℕ) → IsWidth n bits → IsForwardingTable n bits ports.now table.items) }
-    ensures fewest { IfOk result (λ table. (bits : ℕ) → IsWidth n bits → IsFewestLines n bits ports.now (length table.items)) }
+    ensures forwards { IfOk result
+        (λ table. (bits : ℕ) → IsWidth n bits → IsForwardingTable n bits ports.now table.items) }
+    ensures fewest { IfOk result (λ table. (bits : ℕ) → IsWidth n bits
+        → IsFewestLines n bits ports.now (length table.items)) }
     ensures ports { IfOk result (λ table. NamesPorts ports.now table.items) }
     ensures order { IfOk result (λ table. AreLongestFirst table.items) }
     ensures loads { IfOk result (λ table. (bits : ℕ) → KeepsMatches bits table.items) }
@@ -99,8 +107,10 @@ fn disjoint_lines(
 ) -> Result<Vec<Line>, AllocError>
     requires { IsDestinations n own ports.now }
     ensures well { IfOk result (λ table. (bits : ℕ) → IsWidth n bits → IsWellFormed bits table.items) }
-    ensures disjoint { IfOk result (λ table. (bits : ℕ) → IsWidth n bits → IsDisjointTable n bits ports.now table.items) }
-    ensures fewest { IfOk result (λ table. (bits : ℕ) → IsWidth n bits → IsFewestDisjoint n bits ports.now (length table.items)) }
+    ensures disjoint { IfOk result
+        (λ table. (bits : ℕ) → IsWidth n bits → IsDisjointTable n bits ports.now table.items) }
+    ensures fewest { IfOk result (λ table. (bits : ℕ) → IsWidth n bits
+        → IsFewestDisjoint n bits ports.now (length table.items)) }
     ensures ports { IfOk result (λ table. NamesPorts ports.now table.items) }
     ensures order { IfOk result (λ table. AreLongestFirst table.items) }
 {
@@ -144,7 +154,8 @@ fn extended(
     requires some { 0 < n }
     requires every { length ports.now ≡ n }
     requires bits { bits ≤ 16 }
-    ensures { IfOk result (λ row. row.items ≡ map (extended_port n unreachable ports.now) (range_with_len 0 (2 ^ bits))) }
+    ensures { IfOk result (λ row. row.items
+        ≡ map (extended_port n unreachable ports.now) (range_with_len 0 (2 ^ bits))) }
 {
     let last = ports[n as usize - 1].unwrap_or(unreachable);
     (0..2usize.pow(bits as u32))

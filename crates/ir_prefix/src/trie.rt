@@ -48,7 +48,8 @@ pub fn push_trie(
     requires runs { AreRuns ports.now runs.now }
     requires inside { (index + 1) * 2 ^ height ≤ 2 ^ 16 }
     ensures grows { OnOk result (Grows nodes.old nodes.new) }
-    ensures stands { IfOk result (λ place. (t : Trie) × Describes ports.now height index t × StandsIn nodes.new place t) }
+    ensures stands { IfOk result (λ place. (t : Trie) × Describes ports.now height index t
+        × StandsIn nodes.new place t) }
 {
     match block_of(ports, runs, height, index) {
         Block::Beyond => push_node(nodes, Node::NoPort),
@@ -118,7 +119,8 @@ fn push_fork(
     requires right { (r : Trie) × StandsIn nodes.old right r }
     ensures grows { OnOk result (Grows nodes.old nodes.new) }
     ensures stands { IfOk result (λ place. (l r : Trie) → StandsIn nodes.old left l
-        → StandsIn nodes.old right r → (IsFree l → IsFree r → ⊥) → (t : Trie) × IsParent l r t × StandsIn nodes.new place t) }
+        → StandsIn nodes.old right r → (IsFree l → IsFree r → ⊥) → (t : Trie) × IsParent l r t
+        × StandsIn nodes.new place t) }
 {
     join(room, names_at(nodes, left), names_at(nodes, right))?;
     let first = nodes.names.len();

@@ -1,3 +1,4 @@
+-- what contracts promise
 pub mod Command
 pub mod Script
 pub mod Within

@@ -119,8 +119,10 @@ fn parse<T: Named>(
     topology: &Topology,
 ) -> Result<Script<T>, ScriptError>
     requires { topology.now ≡ network_of_graph graph.now }
-    ensures parsed { IfOk result (λ s. listing_from T.says (names graph.now) topology.now 1 (lines text.now) ≡ Ok (record { steps = s.steps.items; lines = s.lines.items })) }
-    ensures fault { IfErr result (λ e. ScriptTold e (listing_from T.says (names graph.now) topology.now 1 (lines text.now))) }
+    ensures parsed { IfOk result (λ s. listing_from T.says (names graph.now) topology.now 1 (lines text.now)
+        ≡ Ok (record { steps = s.steps.items; lines = s.lines.items })) }
+    ensures fault { IfErr result (λ e. ScriptTold e
+        (listing_from T.says (names graph.now) topology.now 1 (lines text.now))) }
 {
     let mut steps = Vec::new(alloc);
     let mut numbers = Vec::new(alloc);
@@ -163,7 +165,8 @@ pub fn parse_script(
     topology: &Topology,
 ) -> Result<Script<Step>, ScriptError>
     requires { topology.now ≡ network_of_graph graph.now }
-    ensures parsed { IfOk result (λ s. listing_of (names graph.now) topology.now (lines text.now) ≡ Ok (record { steps = s.steps.items; lines = s.lines.items })) }
+    ensures parsed { IfOk result (λ s. listing_of (names graph.now) topology.now (lines text.now)
+        ≡ Ok (record { steps = s.steps.items; lines = s.lines.items })) }
     ensures within { IfOk result (λ s. list_all (is_within topology.now) s.steps.items ≡ true) }
     ensures fault { IfErr result (λ e. ScriptTold e (listing_of (names graph.now) topology.now (lines text.now))) }
 {
@@ -183,7 +186,8 @@ pub fn parse_live(
     topology: &Topology,
 ) -> Result<Script<Command>, ScriptError>
     requires { topology.now ≡ network_of_graph graph.now }
-    ensures parsed { IfOk result (λ s. live_listing_of (names graph.now) topology.now (lines text.now) ≡ Ok (record { steps = s.steps.items; lines = s.lines.items })) }
+    ensures parsed { IfOk result (λ s. live_listing_of (names graph.now) topology.now (lines text.now)
+        ≡ Ok (record { steps = s.steps.items; lines = s.lines.items })) }
     ensures fault { IfErr result (λ e. ScriptTold e (live_listing_of (names graph.now) topology.now (lines text.now))) }
 {
     parse(alloc, text, graph, topology)

@@ -9,7 +9,7 @@ use Rattle.ir_core.specs.declared.TheConstants.{MAX_NODES, MAX_LINKS, MAX_CAPACI
 use Rattle.ir_core.specs.declared.command.Command.{Command}
 use Rattle.ir_core.specs.declared.command.Command.TheVariants.{Inject, Install, Retire, Down, Up, Drain}
 use Rattle.ir_core.specs.Journey.{Journey}
-use Rattle.ir_core.specs.Opened.{is_small, is_within}
+use Rattle.ir_core.specs.Opened.{open_refused, is_small, is_within}
 use Rattle.ir_epochs.specs.declared.registry.Stamp.{Stamp}
 use Rattle.ir_epochs.specs.Stamps.{knows}
 use Rattle.ir_worker.specs.Account.{Head, head_of}
@@ -17,10 +17,10 @@ use Rattle.ir_worker.specs.declared.parcel.Outcome.{Outcome}
 use Rattle.ir_worker.specs.Seen.{SeenParcel, stamps_of}
 use Rattle.ir_control.specs.declared.injector.Accepted.{Accepted}
 use Rattle.ir_control.specs.declared.injector.InjectError.TheVariants.{NoNode, TooManyPackets}
-use Rattle.ir_control.specs.declared.error.NetError.TheVariants.{Empty, TooLarge}
-use Rattle.ir_control.specs.declared.error.NetError.TheVariants as nets
+use Rattle.ir_core.specs.declared.event.OpenError.TheVariants.{Empty, TooLarge}
+use Rattle.ir_core.specs.declared.event.OpenError.TheVariants as openings
+use Rattle.ir_core.specs.declared.opening.Opening.{Opening}
 use Rattle.ir_control.specs.declared.net.Net.{Net}
-use Rattle.ir_control.specs.Opened.{net_refused}
 use Rattle.ir_control.specs.Heads.{head_at}
 use Rattle.ir_control.specs.Refusals.{inject_refused}
 use Rattle.ir_control.specs.Reports.{IsSoundOutcome}
@@ -125,17 +125,17 @@ live_records was_full net commands live is over ok few opening i r at =
     let of_net = all_at (IsOutcomeIn net.opening) is.report.outcomes i o is.report.of_net there in
     subst (λ (x : Journey). HasSegments over x) found.2 (has_segments over ok net.opening opening (stamps_of o.stamp o.later.items) o.packet few ends.0 ends.1 of_net sound.1)
 
--- a net is opened over a network of few nodes
-pub few_nodes : (net : Network) (root capacity most limit : ℕ) → net_refused net root capacity most limit ≡ None → node_count net ≤ MAX_NODES
-few_nodes net root capacity most limit e = by (node_count net == 0) (nat_le (node_count net) root) (is_small net capacity most limit) refl e
+-- what is opened is a network of few nodes
+pub few_nodes : (opening : Opening) → open_refused opening ≡ None → node_count opening.topology ≤ MAX_NODES
+few_nodes opening e = by (node_count opening.topology == 0) (nat_le (node_count opening.topology) opening.root) (is_small opening) refl e
   where
-    by : (t u v : Bool) → is_small net capacity most limit ≡ v → cond t (Some Empty) (cond u (Some nets.NoNode) (cond (not v) (Some TooLarge) None)) ≡ None → node_count net ≤ MAX_NODES
+    by : (t u v : Bool) → is_small opening ≡ v → cond t (Some Empty) (cond u (Some openings.NoNode) (cond (not v) (Some TooLarge) None)) ≡ None → node_count opening.topology ≤ MAX_NODES
     by true u v s h = absurd (cc h)
     by false true v s h = absurd (cc h)
     by false false false s h = absurd (cc h)
     by false false true s h =
-        let nodes = nat_le (node_count net) MAX_NODES in
-        let links = nat_le (length net.links) MAX_LINKS in
-        let places = is_within capacity MAX_CAPACITY in
-        let packets = is_within most MAX_PACKETS in
-        leb-true (node_count net) MAX_NODES (and_parts nodes links (and_parts (nodes && links) places (and_parts (nodes && links && places) packets (and_parts (nodes && links && places && packets) (nat_le limit MAX_RESTAMPS) s).0).0).0).0
+        let nodes = nat_le (node_count opening.topology) MAX_NODES in
+        let links = nat_le (length opening.topology.links) MAX_LINKS in
+        let places = is_within opening.capacity MAX_CAPACITY in
+        let packets = is_within opening.max_packets MAX_PACKETS in
+        leb-true (node_count opening.topology) MAX_NODES (and_parts nodes links (and_parts (nodes && links) places (and_parts (nodes && links && places) packets (and_parts (nodes && links && places && packets) (nat_le opening.restamps MAX_RESTAMPS) s).0).0).0).0

@@ -1,22 +1,12 @@
 -- A check by the installs of a script.
-use Rattle.std.proofs.Common.{◌≡◌, ◌∙◌, ℕ, zero, suc, List, [], ◌∷◌, length, ap, subst, arith}
-use Rattle.std.proofs.lemmas.Option.{none-some, same_Some}
-use Rattle.ir_model.specs.Network.{Network}
-use Rattle.ir_model.specs.Walk.{IsConnected}
-use Rattle.ir_model.specs.Scheme.{Scheme}
-use Rattle.ir_model.proofs.Restrict.{node_count-restrict}
+use Rattle.std.proofs.Common.{◌≡◌, ℕ, List, [], ◌∷◌, subst}
 use Rattle.ir_core.specs.declared.built.Install.{Install}
-use Rattle.ir_core.specs.Setting.{Setting}
-use Rattle.ir_core.specs.Installed.{IsBuiltFrom, AreBuiltFrom}
 use Rattle.ir_core.specs.Installed as core
 use Rattle.ir_core.specs.declared.event.Step.{Step}
-use Rattle.ir_model.specs.declared.Kind.{Kind}
-use Rattle.ir_core.specs.History.{plans}
 use Rattle.std.specs.Prelude.{Result, Ok, Err, IfOk}
 use Rattle.ir_model.specs.Graph.{Adjacency}
 use Rattle.ir_model.specs.Text.{lines}
 use Rattle.ir_script.specs.Script.{Listing}
-use Rattle.ir_trace.specs.Checked.{IsInstall, AreInstalls}
 use Rattle.ir_words.specs.declared.words.Words.{Words}
 use Rattle.ir_words.specs.declared.reply.Reply.{Reply}
 use Rattle.ir_words.specs.Answer.{Answer, Ran, Found, Refused, NoThread}
@@ -25,29 +15,6 @@ use Rattle.ir_words.specs.Cut.{topology_part, script_part, EndsWith}
 use Rattle.ir_words.specs.Openings.{AnswersTopology}
 use Rattle.ir_shell.specs.Checks.{AreReplayed, AnswersTrace, AnswersCheck, AnswersChecked}
 use Rattle.ir_shell.specs.Asked.{CheckAnswers}
-
-is_install : (o : Setting) (i : Install) (s : Scheme) → IsBuiltFrom o i s → IsInstall o.network i
-is_install o i s built =
-    let made = built.1 in
-    let root = made.1 in
-    let nodes = ap (λ (n : Network). length n.ports) made.2 ∙ node_count-restrict i.up.items o.network in
-    let root_in = made.3.root_in in
-    record {
-      root = omega (arith, root_in, nodes, root);
-      marks = built.0;
-      joined = subst (λ (n : Network). IsConnected n) made.2 made.3.connected;
-    }
-
-each_install : (o : Setting) (installs : List Install) (schemes : List Scheme) → AreBuiltFrom o installs schemes → AreInstalls o.network installs
-each_install o [] [] built i install at = absurd (none-some install at)
-each_install o [] (s ∷ schemes) built i install at = absurd built
-each_install o (x ∷ installs) [] built i install at = absurd built
-each_install o (x ∷ installs) (s ∷ schemes) built zero install at = subst (λ (y : Install). IsInstall o.network y) (same_Some x install at) (is_install o x s built.0)
-each_install o (x ∷ installs) (s ∷ schemes) built (suc i) install at = each_install o installs schemes built.1 i install at
-
-pub replayed : (net : Network) (kind : Kind) (root room most limit : ℕ) (steps : List Step) (installs : List Install) → core.AreInstalls net kind root room most limit steps installs → AreInstalls net installs
-replayed net kind root room most limit steps installs is =
-    subst (λ (n : Network). AreInstalls n installs) is.opened.network (each_install is.setting installs (plans is.setting is.log) is.built)
 
 by_answer : (g : Adjacency) (words : Words) (script : Listing Step) (trace : List ℕ) (root : ℕ) (installs : List Install) → AreReplayed g words script root installs →
     (answer : Answer) → AnswersTrace g trace installs answer → AnswersCheck g words script trace root answer

@@ -6,8 +6,10 @@ use Rattle.ir_worker.specs.Seen.{SeenParcel}
 use Rattle.ir_words.specs.declared.words.Words.{Words}
 use Rattle.ir_words.specs.declared.read.Source.{Source}
 use Rattle.ir_words.specs.declared.read.Source.TheVariants.{Input, Topology, Script, Trace, Numbering}
-use Rattle.ir_shell.specs.declared.run.Task.{Task}
-use Rattle.ir_shell.specs.declared.run.Task.TheVariants.{Sim, Check}
+use Rattle.ir_words.specs.declared.words.Sub.{Sub}
+use Rattle.ir_words.specs.declared.words.Sub.TheVariants.{Plan, Walk, Stats, Draw, Prefixes, Sim, Live, Check}
+use Rattle.ir_shell.specs.declared.look.Look.TheVariants as look
+use Rattle.ir_shell.specs.Looks.{LookAnswers}
 use Rattle.ir_words.specs.Answer.{Answer}
 use Rattle.ir_words.specs.Words.{is_one_input, has_order}
 use Rattle.ir_words.specs.Cut.{topology_part, script_part, EndsWith}
@@ -53,11 +55,31 @@ CheckAnswers words (topology ∷ script ∷ []) answer = ⊥
 CheckAnswers words (topology ∷ script ∷ trace ∷ []) answer = AnswersTopology words.format (lines topology) (AnswersChecked words (lines script) trace) answer
 CheckAnswers words (text ∷ other ∷ third ∷ fourth ∷ texts) answer = ⊥
 
--- the same, by what a run is to do
-abbrev pub sources_of : Task → Words → List Source
-sources_of Sim words = sim_sources words
-sources_of Check words = check_sources words
+-- the same, by the subcommand
+abbrev pub sources_by : Sub → Words → List Source
+sources_by Plan words = look_sources words
+sources_by Walk words = look_sources words
+sources_by Stats words = look_sources words
+sources_by Draw words = look_sources words
+sources_by Prefixes words = look_sources words
+sources_by Sim words = sim_sources words
+sources_by Live words = sim_sources words
+sources_by Check words = check_sources words
 
-abbrev pub Answers : Task → Words → List (List ℕ) → Answer → Type 0
-Answers Sim words texts answer = SimAnswers words texts answer
-Answers Check words texts answer = CheckAnswers words texts answer
+abbrev pub sources_of : Words → List Source
+sources_of words = sources_by words.sub words
+
+module _ (B : Type 0) (was_full : Word SeenParcel) where
+  abbrev pub AnswersBy : Sub → Words → List (List ℕ) → Answer → Type 0
+  AnswersBy Plan words texts answer = LookAnswers look.Plan words texts answer
+  AnswersBy Walk words texts answer = LookAnswers look.Walk words texts answer
+  AnswersBy Stats words texts answer = LookAnswers look.Stats words texts answer
+  AnswersBy Draw words texts answer = LookAnswers look.Draw words texts answer
+  AnswersBy Prefixes words texts answer = LookAnswers look.Prefixes words texts answer
+  AnswersBy Sim words texts answer = SimAnswers words texts answer
+  AnswersBy Live words texts answer = LiveAnswers B was_full words texts answer
+  AnswersBy Check words texts answer = CheckAnswers words texts answer
+
+  -- the answers to the texts of the inputs that the words ask for
+  abbrev pub Answers : Words → List (List ℕ) → Answer → Type 0
+  Answers words texts answer = AnswersBy words.sub words texts answer

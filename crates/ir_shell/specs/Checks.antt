@@ -18,7 +18,7 @@ use Rattle.ir_trace.specs.Sound.{IsSoundTrace}
 use Rattle.ir_words.specs.declared.words.Words.{Words}
 use Rattle.ir_words.specs.Answer.{Answer, Ran, Found, Refused, NoThread}
 use Rattle.ir_words.specs.Lines.{script_line, opening_line, finding_line, ok_line}
-use Rattle.ir_words.specs.Openings.{root_name, AnswersRoot}
+use Rattle.ir_words.specs.Openings.{root_name, opening_by, AnswersRoot}
 
 -- no finding: the text is that of a trace of so many rows, and they are sound by the plans of these installs
 abbrev pub IsClean : Adjacency → List Install → List ℕ → ℕ → Type 0
@@ -39,14 +39,14 @@ AnswersTrace g trace installs NoThread = ⊥
 -- the installs are those of the script's steps, in a world that is opened over the network of the graph as the words say
 abbrev pub AreReplayed : Adjacency → Words → Listing Step → ℕ → List Install → Type 0
 AreReplayed g words script root installs =
-    (open_refused (network_of_graph g) root words.capacity words.packets words.restamps ≡ None)
-    × AreInstalls (network_of_graph g) words.kind root words.capacity words.packets words.restamps script.steps installs
+    (open_refused (opening_by words (network_of_graph g) root) ≡ None)
+    × AreInstalls (opening_by words (network_of_graph g) root) script.steps installs
 
 -- the answer to a graph, a script, a trace and the number of a root: that of the trace by the script's installs, or the
 -- refusal of the opening
 abbrev pub AnswersCheck : Adjacency → Words → Listing Step → List ℕ → ℕ → Answer → Type 0
 AnswersCheck g words script trace root (Refused line) =
-    (e : OpenError) × (e ≢ openings.NoMemory) × IsOpenRefusal (network_of_graph g) root words.capacity words.packets words.restamps e × (line ≡ opening_line e)
+    (e : OpenError) × (e ≢ openings.NoMemory) × IsOpenRefusal (opening_by words (network_of_graph g) root) e × (line ≡ opening_line e)
 AnswersCheck g words script trace root answer = (installs : List Install) × AreReplayed g words script root installs × AnswersTrace g trace installs answer
 
 -- the answer to a graph, the lines of a script and a trace: the script's first fault comes before the refusal of the

@@ -1,3 +1,4 @@
+-- what contracts promise
 pub mod Plans
 pub mod Looks
 pub mod Plays

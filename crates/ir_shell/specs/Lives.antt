@@ -5,12 +5,13 @@ use Rattle.ir_model.specs.Graph.{Adjacency, names}
 use Rattle.ir_model.specs.OfGraph.{network_of_graph}
 use Rattle.ir_core.specs.declared.event.Refused.{Refused as Refusal}
 use Rattle.ir_core.specs.declared.event.Refused.TheVariants as refusals
+use Rattle.ir_core.specs.Opened.{open_refused}
 use Rattle.ir_core.specs.declared.command.Command.{Command}
 use Rattle.ir_control.specs.declared.error.NetError.{NetError}
 use Rattle.ir_control.specs.declared.error.NetError.TheVariants as nets
 use Rattle.ir_control.specs.declared.net.Net.{Net}
 use Rattle.ir_control.specs.Nets.{IsNetFor}
-use Rattle.ir_control.specs.Opened.{net_refused, IsNetRefusal, code_of}
+use Rattle.ir_control.specs.Opened.{IsNetRefusal, code_of}
 use Rattle.ir_links.specs.Ends.{Word}
 use Rattle.ir_worker.specs.Seen.{SeenParcel}
 use Rattle.ir_live.specs.declared.live.Live.{Live}
@@ -19,7 +20,7 @@ use Rattle.ir_script.specs.Script.{Listing, live_listing_of}
 use Rattle.ir_words.specs.declared.words.Words.{Words}
 use Rattle.ir_words.specs.Answer.{Answer, Ran, Found, Refused, NoThread}
 use Rattle.ir_words.specs.Lines.{word_of, opening_words, script_line, refused_line}
-use Rattle.ir_words.specs.Openings.{root_name, AnswersRoot}
+use Rattle.ir_words.specs.Openings.{root_name, opening_by, AnswersRoot}
 use Rattle.ir_shell.specs.Plays.{run_text}
 
 -- want of memory for a command, which stands at a place among the commands
@@ -45,8 +46,8 @@ net_line e = codes "opening " ++ net_error_name e ++ 10 ∷ []
 
 -- A net that is opened over the network of the graph as the words say.
 pub record IsOpenedNet (g : Adjacency) (words : Words) (root : ℕ) (net : Net) : Type 0 where
-  pub accepted : net_refused (network_of_graph g) root words.capacity words.packets words.restamps ≡ None
-  pub opened : IsNetFor (network_of_graph g) words.kind root words.capacity words.packets words.restamps net
+  pub accepted : open_refused (opening_by words (network_of_graph g) root) ≡ None
+  pub opened : IsNetFor (opening_by words (network_of_graph g) root) net
 
 -- The commands of a script are carried out over such a net while its nodes turn on threads of their own, and none of them
 -- wants memory. The word tells of refused pushes. The text is the trace of the records that are reported, each of which is a
@@ -67,7 +68,7 @@ abbrev pub AnswersLive : Type 0 → Word SeenParcel → Adjacency → Words → 
 AnswersLive B was_full g words script root (Ran text refused) = IsLiveRun B was_full g words root script text refused
 AnswersLive B was_full g words script root (Found text) = ⊥
 AnswersLive B was_full g words script root (Refused line) =
-    (e : NetError) × (e ≢ nets.NoMemory) × IsNetRefusal (network_of_graph g) root words.capacity words.packets words.restamps e × (line ≡ net_line e)
+    (e : NetError) × (e ≢ nets.NoMemory) × IsNetRefusal (opening_by words (network_of_graph g) root) e × (line ≡ net_line e)
 AnswersLive B was_full g words script root NoThread = (net : Net) × IsOpenedNet g words root net
 
 -- the answer to a graph and the lines of a script: the script's first fault comes before the refusal of the opening

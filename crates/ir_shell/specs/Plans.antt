@@ -1,67 +1,60 @@
 -- What a graph and labels come to as a text of their plan.
-use Rattle.std.specs.Prelude.{◌≡◌, ◌≢◌, ℕ, ◌<◌, ◌≤◌, ◌⊎◌, List, [], length}
+use Rattle.std.specs.Prelude.{◌≡◌, ◌≢◌, ℕ, ◌<◌, ◌≤◌, List, [], length}
 use Rattle.ir_model.specs.declared.Kind.{Kind}
 use Rattle.ir_model.specs.declared.Kind.TheVariants.{Tree}
 use Rattle.ir_model.specs.Graph.{Adjacency}
 use Rattle.ir_model.specs.Network.{Network, node_count}
 use Rattle.ir_model.specs.OfGraph.{network_of_graph}
 use Rattle.ir_model.specs.Walk.{IsDisconnected}
-use Rattle.ir_model.specs.Scheme.{Scheme, IsScheme, HasDepthFirst}
+use Rattle.ir_model.specs.Scheme.{Scheme, IsScheme}
 use Rattle.ir_numbering.specs.Numbers.{IsListing}
 use Rattle.ir_plan.specs.declared.error.PlanError.{PlanError}
 use Rattle.ir_plan.specs.declared.error.PlanError.TheVariants as plans
 use Rattle.ir_core.specs.declared.event.OpenError.{OpenError}
 use Rattle.ir_core.specs.declared.event.OpenError.TheVariants.{NoNode, Empty, Disconnected, TooLarge, NoMemory}
-use Rattle.ir_tour.specs.Starts.{HasFewerStarts, HasNoMoreStarts}
-use Rattle.ir_words.specs.declared.words.Numbering.{Numbering}
-use Rattle.ir_words.specs.declared.words.Numbering.TheVariants.{DepthFirst, Tour, File}
+use Rattle.ir_plan.specs.declared.tour.LabelOrder.{LabelOrder}
+use Rattle.ir_plan.specs.Starts.{IsLabelledBy}
 use Rattle.ir_shell.specs.declared.plan.Labels.{Labels}
 use Rattle.ir_shell.specs.declared.plan.Labels.TheVariants as own
 use Rattle.ir_words.specs.Answer.{Answer, Ran, Found, Refused, NoThread}
 use Rattle.ir_words.specs.Lines.{opening_line}
 
--- By what nodes are labelled: depth first from a root; by a tour from a root, where that has fewer starts; or by the places
--- of an order.
+-- By what nodes are labelled: depth first or by a tour from a root, or by the places of a list.
 pub data Labelling : Type 0 where
-  FromRoot : ℕ → Labelling
-  ByTour : ℕ → Labelling
-  ByOrder : List ℕ → Labelling
+  FromRoot : LabelOrder → ℕ → Labelling
+  ByList : List ℕ → Labelling
 
 -- the labels may be those of a plan of the kind: the order has each node once, and is of no tree
 abbrev pub MayLabel : Adjacency → Kind → Labelling → Type 0
-MayLabel g kind (FromRoot root) = Unit {0}
-MayLabel g kind (ByTour root) = Unit {0}
-MayLabel g kind (ByOrder order) = (kind ≢ Tree) × IsListing (length g) order
+MayLabel g kind (FromRoot labels root) = Unit {0}
+MayLabel g kind (ByList order) = (kind ≢ Tree) × IsListing (length g) order
 
 -- a plan has these labels
 abbrev pub IsLabelled : Labelling → Scheme → Type 0
-IsLabelled (FromRoot root) s = HasDepthFirst s × (s.root ≡ root)
-IsLabelled (ByTour root) s = (HasDepthFirst s ⊎ HasFewerStarts s) × HasNoMoreStarts s × (s.root ≡ root)
-IsLabelled (ByOrder order) s = s.order ≡ order
+IsLabelled (FromRoot labels root) s = IsLabelledBy labels s × (s.root ≡ root)
+IsLabelled (ByList order) s = s.order ≡ order
 
 -- the root is past the last node; that of an order never is
 abbrev pub HasNoRoot : Network → Labelling → Type 0
-HasNoRoot net (FromRoot root) = node_count net ≤ root
-HasNoRoot net (ByTour root) = node_count net ≤ root
-HasNoRoot net (ByOrder order) = ⊥
+HasNoRoot net (FromRoot labels root) = node_count net ≤ root
+HasNoRoot net (ByList order) = ⊥
 
 abbrev pub HasRoot : Network → Labelling → Type 0
-HasRoot net (FromRoot root) = root < node_count net
-HasRoot net (ByTour root) = root < node_count net
-HasRoot net (ByOrder order) = Unit {0}
+HasRoot net (FromRoot labels root) = root < node_count net
+HasRoot net (ByList order) = Unit {0}
 
 -- the refusals of a plan, in order
 abbrev pub RefusesPlan : Network → Labelling → OpenError → Type 0
-RefusesPlan net labels Empty = node_count net ≡ 0
-RefusesPlan net labels NoNode = (0 < node_count net) × HasNoRoot net labels
-RefusesPlan net labels Disconnected = (0 < node_count net) × HasRoot net labels × IsDisconnected net
-RefusesPlan net labels TooLarge = ⊥
-RefusesPlan net labels NoMemory = ⊥
+RefusesPlan net by Empty = node_count net ≡ 0
+RefusesPlan net by NoNode = (0 < node_count net) × HasNoRoot net by
+RefusesPlan net by Disconnected = (0 < node_count net) × HasRoot net by × IsDisconnected net
+RefusesPlan net by TooLarge = ⊥
+RefusesPlan net by NoMemory = ⊥
 
 -- there is no plan for a refusal, or for want of memory
 abbrev pub RefusesBuild : Network → Labelling → OpenError → Type 0
-RefusesBuild net labels NoMemory = Unit {0}
-RefusesBuild net labels e = RefusesPlan net labels e
+RefusesBuild net by NoMemory = Unit {0}
+RefusesBuild net by e = RefusesPlan net by e
 
 -- The text is what is said of a plan of this kind and these labels over the network of the graph.
 pub record IsTextOfPlan (g : Adjacency) (kind : Kind) (labels : Labelling) (says : Scheme → List ℕ → Type 0) (text : List ℕ) : Type 0 where
@@ -88,12 +81,5 @@ refusal_of plans.NoMemory = NoMemory
 
 -- the program's labels
 abbrev pub labelling_of : Labels → Labelling
-labelling_of (own.DepthFirst root) = FromRoot root
-labelling_of (own.Tour root) = ByTour root
-labelling_of (own.Listed order) = ByOrder order.items
-
--- the labels of a root, by how nodes are numbered; those of a file have no root beside them
-abbrev pub labelling_from : Numbering → ℕ → Labelling
-labelling_from DepthFirst root = FromRoot root
-labelling_from Tour root = ByTour root
-labelling_from (File name) root = FromRoot root
+labelling_of (own.FromRoot labels root) = FromRoot labels root
+labelling_of (own.Listed order) = ByList order.items

@@ -21,7 +21,7 @@ use Rattle.ir_trace.specs.Written.{records_text, segments_text}
 use Rattle.ir_words.specs.declared.words.Words.{Words}
 use Rattle.ir_words.specs.Answer.{Answer, Ran, Found, Refused, NoThread}
 use Rattle.ir_words.specs.Lines.{script_line, opening_line, reply_line}
-use Rattle.ir_words.specs.Openings.{root_name, AnswersRoot}
+use Rattle.ir_words.specs.Openings.{root_name, opening_by, AnswersRoot}
 
 -- the steps or commands of a script, and beside each the number of its line
 abbrev pub listing_in : {A : Type 0} → Script A → Listing A
@@ -47,8 +47,8 @@ pub record IsRun (g : Adjacency) (words : Words) (root : ℕ) (script : Listing 
   pub setting : Setting
   pub replies : List (Result Reply Refusal)
   pub world : State
-  pub accepted : open_refused (network_of_graph g) root words.capacity words.packets words.restamps ≡ None
-  pub opened : IsOpenedWith (network_of_graph g) words.kind root words.capacity words.packets words.restamps setting
+  pub accepted : open_refused (opening_by words (network_of_graph g) root) ≡ None
+  pub opened : IsOpenedWith (opening_by words (network_of_graph g) root) setting
   pub played : IsPlayed setting script.steps replies world
   pub in_memory : list_any wants_memory replies ≡ false
   pub trace : text ≡ run_text words.restamps (names g) (network_of_graph g) world.records
@@ -60,7 +60,7 @@ AnswersRun g words script root (Ran text refused) = IsRun g words root script te
 AnswersRun g words script root (Found text) = ⊥
 AnswersRun g words script root NoThread = ⊥
 AnswersRun g words script root (Refused line) =
-    (e : OpenError) × (e ≢ openings.NoMemory) × IsOpenRefusal (network_of_graph g) root words.capacity words.packets words.restamps e × (line ≡ opening_line e)
+    (e : OpenError) × (e ≢ openings.NoMemory) × IsOpenRefusal (opening_by words (network_of_graph g) root) e × (line ≡ opening_line e)
 
 -- the answer to a graph and the lines of a script: the script's first fault comes before the refusal of the opening
 abbrev pub AnswersScript : Words → List (List ℕ) → Adjacency → Answer → Type 0

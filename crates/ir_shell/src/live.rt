@@ -1,8 +1,7 @@
 //! A live run of a script's commands, from the texts of a topology and a script.
-ghost use Rattle.std.specs.Prelude.{◌≡◌, false, IfOk, slice_index_or, string_bytes};
+ghost use Rattle.std.specs.Prelude.{◌≡◌, length, false, IfOk, slice_index_or, string_bytes};
 ghost use Rattle.std.specs.Borrow.{Bor};
 ghost use Rattle.std.specs.List.{list_any};
-ghost use Rattle.ir_live.specs.Lives.{IsLive};
 ghost use Rattle.ir_model.specs.Graph.{names};
 ghost use Rattle.ir_model.specs.OfGraph.{network_of_graph};
 ghost use Rattle.ir_model.specs.Text.{lines};
@@ -11,6 +10,8 @@ ghost use Rattle.ir_shell.specs.Lives.{is_for_memory, net_line, refusals_text, I
 ghost use Rattle.ir_words.specs.Openings.{root_name, AnswersTopology, AnswersRoot};
 ghost use Rattle.ir_shell.specs.Plays.{listing_in, run_text};
 ghost use Rattle.ir_words.specs.Replies.{answer_of};
+ghost use Rattle.ir_words.specs.Reading.{texts_of};
+ghost use Rattle.ir_shell.specs.Asked.{LiveAnswers, sim_sources};
 
 use crate::play::run_text;
 use ir_control::{Net, NetError};
@@ -21,10 +22,11 @@ use ir_live::{Every, Live, LiveError, run_live};
 use ir_model::Fault;
 use ir_script::{Command, Script, ScriptFault, parse_live};
 use ir_tables::Topology;
+use ir_words::cut::cut;
 use ir_words::lines::{
     OPENINGS, named_opening, opening_line, push_reply_line, script_line, topology_line,
 };
-use ir_words::open::{no_root, read_topology, root_of};
+use ir_words::open::{no_root, opening_of, read_topology, root_of};
 use ir_words::reply::Reply;
 use ir_words::words::Words;
 use ir_worker::{Gate, Parcel};
@@ -84,7 +86,8 @@ fn live_texts(
     requires over { topology.now ≡ network_of_graph graph.now }
     requires records { HaveSegments topology.now live.now.report.records.items }
     ensures in_memory { IfOk result (λ _. list_any is_for_memory live.now.refusals.items ≡ false) }
-    ensures trace { IfOk result (λ texts. string_bytes texts.0 ≡ run_text restamps (names graph.now) topology.now live.now.report.records.items) }
+    ensures trace { IfOk result (λ texts. string_bytes texts.0
+        ≡ run_text restamps (names graph.now) topology.now live.now.report.records.items) }
     ensures told { IfOk result (λ texts. string_bytes texts.1 ≡ refusals_text lines.now live.now.refusals.items) }
 {
     let refusals = live.refusals.as_slice();
@@ -123,7 +126,8 @@ fn answer_net<T: Threads + Moments<Parcel> + Sync>(
 ) -> Result<Reply, AllocError>
     requires over { topology.now ≡ network_of_graph graph.now }
     requires opened { IsOpenedNet graph.now words.now root net.now }
-    ensures { IfOk result (λ reply. AnswersLive (Bor T) T.was_full graph.now words.now (listing_in script.now) root (answer_of reply)) }
+    ensures { IfOk result (λ reply. AnswersLive (Bor T) T.was_full graph.now words.now (listing_in script.now) root
+        (answer_of reply)) }
 {
     let _nodes = topology.nodes();
     match run_live(rt, alloc, net, script.steps(), &Open, &Every) {
@@ -154,18 +158,11 @@ fn answer_live_root<T: Threads + Moments<Parcel> + Sync>(
     root: u16,
 ) -> Result<Reply, AllocError>
     requires { topology.now ≡ network_of_graph graph.now }
-    ensures { IfOk result (λ reply. AnswersLive (Bor T) T.was_full graph.now words.now (listing_in script.now) root (answer_of reply)) }
+    ensures { IfOk result (λ reply. AnswersLive (Bor T) T.was_full graph.now words.now (listing_in script.now) root
+        (answer_of reply)) }
 {
-    let over = topology.try_clone(alloc)?;
-    match Net::new(
-        alloc,
-        over,
-        words.kind,
-        root,
-        words.capacity,
-        words.packets,
-        words.restamps,
-    ) {
+    let opening = opening_of(alloc, words, topology, root)?;
+    match Net::new(rt, alloc, opening) {
         Ok(net) => answer_net(rt, alloc, words, graph, topology, script, root, &net),
         Err(NetError::NoMemory) => Err(AllocError),
         Err(error) => Ok(Reply::Refused(net_line(alloc, error)?)),
@@ -182,7 +179,8 @@ fn answer_commands<T: Threads + Moments<Parcel> + Sync>(
     script: &Script<Command>,
 ) -> Result<Reply, AllocError>
     requires { topology.now ≡ network_of_graph graph.now }
-    ensures { IfOk result (λ reply. AnswersRoot graph.now (root_name words.now) (AnswersLive (Bor T) T.was_full graph.now words.now (listing_in script.now)) (answer_of reply)) }
+    ensures { IfOk result (λ reply. AnswersRoot graph.now (root_name words.now)
+        (AnswersLive (Bor T) T.was_full graph.now words.now (listing_in script.now)) (answer_of reply)) }
 {
     match root_of(graph, &words.root) {
         Some(place) => answer_live_root(rt, alloc, words, graph, topology, script, place),
@@ -198,7 +196,8 @@ fn answer_live_script<T: Threads + Moments<Parcel> + Sync>(
     graph: &Graph,
     text: &[u8],
 ) -> Result<Reply, AllocError>
-    ensures { IfOk result (λ reply. AnswersLiveScript (Bor T) T.was_full words.now (lines text.now) graph.now (answer_of reply)) }
+    ensures { IfOk result (λ reply. AnswersLiveScript (Bor T) T.was_full words.now (lines text.now) graph.now
+        (answer_of reply)) }
 {
     let topology = Topology::of(alloc, graph)?;
     match parse_live(alloc, text, graph, &topology) {
@@ -211,14 +210,15 @@ fn answer_live_script<T: Threads + Moments<Parcel> + Sync>(
 }
 
 /// The answer to the texts of a topology and of a script.
-pub fn answer_live<T: Threads + Moments<Parcel> + Sync>(
+fn answer_live<T: Threads + Moments<Parcel> + Sync>(
     rt: &T,
     alloc: Global,
     words: &Words,
     topology: &[u8],
     script: &[u8],
 ) -> Result<Reply, AllocError>
-    ensures { IfOk result (λ reply. AnswersTopology words.now.format (lines topology.now) (AnswersLiveScript (Bor T) T.was_full words.now (lines script.now)) (answer_of reply)) }
+    ensures { IfOk result (λ reply. AnswersTopology words.now.format (lines topology.now)
+        (AnswersLiveScript (Bor T) T.was_full words.now (lines script.now)) (answer_of reply)) }
 {
     match read_topology(alloc, words.format, topology) {
         Ok(graph) => answer_live_script(rt, alloc, words, &graph, script),
@@ -226,5 +226,23 @@ pub fn answer_live<T: Threads + Moments<Parcel> + Sync>(
             Fault::NoMemory => Err(AllocError),
             kind => Ok(Reply::Refused(topology_line(alloc, error.line, kind)?)),
         },
+    }
+}
+
+/// The answer of `live` to the texts of the inputs.
+pub fn answer_live_texts<T: Threads + Moments<Parcel> + Sync>(
+    rt: &T,
+    alloc: Global,
+    words: &Words,
+    texts: &[Vec<u8>],
+) -> Result<Reply, AllocError>
+    requires { length texts.now ≡ length (sim_sources words.now) }
+    ensures { IfOk result (λ reply. LiveAnswers (Bor T) T.was_full words.now (texts_of texts.now) (answer_of reply)) }
+{
+    if words.is_one_input() {
+        let (topology, script) = cut(texts[0].as_slice());
+        answer_live(rt, alloc, words, topology, script)
+    } else {
+        answer_live(rt, alloc, words, texts[0].as_slice(), texts[1].as_slice())
     }
 }

@@ -1,19 +1,13 @@
 //! What is shown of a topology's plan, from the text of the topology.
-ghost use Rattle.std.specs.Prelude.{◌≡◌, ◌≢◌, ◌<◌, ◌∷◌, [], IfOk, IfSome, length};
+ghost use Rattle.std.specs.Prelude.{◌≡◌, ◌≢◌, ◌<◌, ◌∷◌, [], Some, IfOk, length, string_bytes};
 ghost use Rattle.ir_model.specs.Graph.{names};
 ghost use Rattle.ir_model.specs.Text.{lines};
-ghost use Rattle.ir_look.specs.PlanText.{plan_text};
-ghost use Rattle.ir_look.specs.WalkText.{IsWalkOf};
-ghost use Rattle.ir_figures.specs.FiguresText.{AreFiguresOf};
-ghost use Rattle.ir_look.specs.Drawing.{IsDrawingOf};
-ghost use Rattle.ir_lines.specs.PrefixesText.{IsPrefixesOf};
 ghost use Rattle.ir_shell.specs.Asked.{look_sources};
-ghost use Rattle.ir_shell.specs.Looks.{from_name, to_name, AnswersEnds, AnswersLook, LookAnswers};
-ghost use Rattle.ir_words.specs.Openings.{root_name, AnswersRoot, AnswersOrder};
+ghost use Rattle.ir_shell.specs.Looks.{from_name, to_name, AreAmong, Says, AnswersEnds, AnswersShow, AnswersLook, LookAnswers};
+ghost use Rattle.ir_words.specs.Openings.{root_name, label_order, AnswersRoot, AnswersOrder};
 ghost use Rattle.ir_words.specs.Words.{FitsItsKind};
-ghost use Rattle.ir_model.specs.Graph.{Adjacency};
-ghost use Rattle.ir_model.specs.declared.Kind.{Kind};
-ghost use Rattle.ir_shell.specs.Plans.{ByOrder, MayLabel, labelling_from, labelling_of, AnswersText};
+ghost use Rattle.ir_model.specs.Network.{node_count};
+ghost use Rattle.ir_shell.specs.Plans.{FromRoot, ByList, MayLabel, labelling_of};
 ghost use Rattle.ir_words.specs.Reading.{texts_of};
 ghost use Rattle.ir_words.specs.Replies.{answer_of};
 
@@ -26,14 +20,15 @@ use ir_look::plan_text::plan_text;
 use ir_look::{draw_text, walk_text};
 use ir_model::{Fault, Kind};
 use ir_order::{OrderFaultKind, read_order};
+use ir_plan::Plan;
 use ir_words::lines::{numbering_line, opening_line, topology_line};
-use ir_words::open::{no_root, read_topology, root_of};
+use ir_words::open::{label_order, no_root, read_topology, root_of};
 use ir_words::reply::Reply;
-use ir_words::words::{Numbering, Words};
+use ir_words::words::Words;
 use std::alloc::{AllocError, Global};
 use std::thread::Threads;
 
-/// What of a plan is shown.
+/// What of a plan is asked for.
 #[derive(Clone, Copy, Debug, PartialEq, Eq)]
 pub enum Look {
     /// Its rows.
@@ -48,117 +43,60 @@ pub enum Look {
     Prefixes,
 }
 
-/// The rows of the plan over a graph, by its labels.
-fn answer_plan<T: Threads + Sync>(
+/// What of a plan is shown.
+#[derive(Clone, Copy, Debug, PartialEq, Eq)]
+pub enum Show {
+    Rows,
+    /// The walk from a node to another.
+    Between(u16, u16),
+    Figures,
+    /// A drawing, with the walk between two nodes in bold if there are any.
+    Drawing(Option<(u16, u16)>),
+    /// The forwarding tables, disjoint or not.
+    Tables(bool),
+}
+
+/// What is shown of a plan.
+fn text_of<T: Threads + Sync>(
     rt: &T,
     alloc: Global,
-    words: &Words,
     graph: &Graph,
-    labels: Labels,
-) -> Result<Reply, AllocError>
-    requires labels { MayLabel graph.now words.now.kind (labelling_of labels) }
-    ensures { IfOk result (λ reply. AnswersText graph.now words.now.kind (labelling_of labels) (λ s text. text ≡ plan_text (names graph.now) s) (answer_of reply)) }
+    plan: &Plan,
+    show: Show,
+    most: Option<usize>,
+) -> Result<String, AllocError>
+    requires nodes { node_count plan.now.network ≡ length graph.now }
+    requires ends { AreAmong (length graph.now) show }
+    ensures { IfOk result (λ text. Says show (names graph.now) plan.now (string_bytes text)) }
 {
-    match build_plan(rt, alloc, graph, words.kind, labels, words.threads) {
-        Ok(plan) => {
-            let text = plan_text(alloc, graph, &plan)?;
-            Ok(Reply::Ran(text, String::new(alloc)))
+    match show {
+        Show::Rows => plan_text(alloc, graph, plan),
+        Show::Between(from, to) => walk_text(alloc, graph, plan, from, to),
+        Show::Figures => figures_text(alloc, graph, plan),
+        Show::Drawing(ends) => draw_text(alloc, graph, plan, ends),
+        Show::Tables(is_disjoint) => {
+            prefixes_text_in_threads(rt, alloc, graph, plan, is_disjoint, most)
         }
-        Err(OpenError::NoMemory) => Err(AllocError),
-        Err(error) => Ok(Reply::Refused(opening_line(alloc, error)?)),
     }
 }
 
-/// The figures of the plan over a graph, by its labels.
-fn answer_stats<T: Threads + Sync>(
+/// What is shown of the plan over a graph, by its labels.
+fn answer_show<T: Threads + Sync>(
     rt: &T,
     alloc: Global,
     words: &Words,
     graph: &Graph,
     labels: Labels,
+    show: Show,
 ) -> Result<Reply, AllocError>
     requires labels { MayLabel graph.now words.now.kind (labelling_of labels) }
-    ensures { IfOk result (λ reply. AnswersText graph.now words.now.kind (labelling_of labels) (AreFiguresOf (names graph.now)) (answer_of reply)) }
+    requires ends { 0 < length graph.now → AreAmong (length graph.now) show }
+    ensures { IfOk result (λ reply. AnswersShow words.now graph.now (labelling_of labels) show (answer_of reply)) }
 {
     match build_plan(rt, alloc, graph, words.kind, labels, words.threads) {
         Ok(plan) => {
-            let text = figures_text(alloc, graph, &plan)?;
-            Ok(Reply::Ran(text, String::new(alloc)))
-        }
-        Err(OpenError::NoMemory) => Err(AllocError),
-        Err(error) => Ok(Reply::Refused(opening_line(alloc, error)?)),
-    }
-}
-
-/// The forwarding tables of the plan over a graph, by its labels, disjoint or not.
-fn answer_prefixes<T: Threads + Sync>(
-    rt: &T,
-    alloc: Global,
-    words: &Words,
-    graph: &Graph,
-    labels: Labels,
-) -> Result<Reply, AllocError>
-    requires labels { MayLabel graph.now words.now.kind (labelling_of labels) }
-    ensures { IfOk result (λ reply. AnswersText graph.now words.now.kind (labelling_of labels) (IsPrefixesOf words.now.disjoint (names graph.now)) (answer_of reply)) }
-{
-    match build_plan(rt, alloc, graph, words.kind, labels, words.threads) {
-        Ok(plan) => {
-            let text = prefixes_text_in_threads(
-                rt,
-                alloc,
-                graph,
-                &plan,
-                words.disjoint,
-                words.threads,
-            )?;
-            Ok(Reply::Ran(text, String::new(alloc)))
-        }
-        Err(OpenError::NoMemory) => Err(AllocError),
-        Err(error) => Ok(Reply::Refused(opening_line(alloc, error)?)),
-    }
-}
-
-/// A walk of the plan over a graph, by its labels and the numbers of the ends.
-fn answer_between<T: Threads + Sync>(
-    rt: &T,
-    alloc: Global,
-    words: &Words,
-    graph: &Graph,
-    labels: Labels,
-    from: u16,
-    to: u16,
-) -> Result<Reply, AllocError>
-    requires labels { MayLabel graph.now words.now.kind (labelling_of labels) }
-    requires from { 0 < length graph.now → from < length graph.now }
-    requires to { 0 < length graph.now → to < length graph.now }
-    ensures { IfOk result (λ reply. AnswersText graph.now words.now.kind (labelling_of labels) (λ s text. IsWalkOf (names graph.now) s from to text) (answer_of reply)) }
-{
-    match build_plan(rt, alloc, graph, words.kind, labels, words.threads) {
-        Ok(plan) => {
-            let text = walk_text(alloc, graph, &plan, from, to)?;
-            Ok(Reply::Ran(text, String::new(alloc)))
-        }
-        Err(OpenError::NoMemory) => Err(AllocError),
-        Err(error) => Ok(Reply::Refused(opening_line(alloc, error)?)),
-    }
-}
-
-/// A drawing of the plan over a graph, by its labels and the numbers of the ends of the walk in bold, if there are any.
-fn answer_drawing<T: Threads + Sync>(
-    rt: &T,
-    alloc: Global,
-    words: &Words,
-    graph: &Graph,
-    labels: Labels,
-    ends: Option<(u16, u16)>,
-) -> Result<Reply, AllocError>
-    requires labels { MayLabel graph.now words.now.kind (labelling_of labels) }
-    requires ends { 0 < length graph.now → IfSome ends (λ e. (e.0 < length graph.now) × (e.1 < length graph.now)) }
-    ensures { IfOk result (λ reply. AnswersText graph.now words.now.kind (labelling_of labels) (λ s text. IsDrawingOf (names graph.now) s ends text) (answer_of reply)) }
-{
-    match build_plan(rt, alloc, graph, words.kind, labels, words.threads) {
-        Ok(plan) => {
-            let text = draw_text(alloc, graph, &plan, ends)?;
+            let _nodes = plan.nodes();
+            let text = text_of(rt, alloc, graph, &plan, show, words.threads)?;
             Ok(Reply::Ran(text, String::new(alloc)))
         }
         Err(OpenError::NoMemory) => Err(AllocError),
@@ -181,7 +119,7 @@ fn answer_walk<T: Threads + Sync>(
         return Ok(Reply::Refused(opening_line(alloc, no_root(graph))?));
     };
     match root_of(graph, &words.to) {
-        Some(to) => answer_between(rt, alloc, words, graph, labels, from, to),
+        Some(to) => answer_show(rt, alloc, words, graph, labels, Show::Between(from, to)),
         None => Ok(Reply::Refused(opening_line(alloc, no_root(graph))?)),
     }
 }
@@ -195,13 +133,17 @@ fn answer_bold<T: Threads + Sync>(
     labels: Labels,
 ) -> Result<Reply, AllocError>
     requires labels { MayLabel graph.now words.now.kind (labelling_of labels) }
-    ensures { IfOk result (λ reply. AnswersEnds graph.now (from_name words.now) (to_name words.now) (λ a b. AnswersText graph.now words.now.kind (labelling_of labels) (λ s text. IsDrawingOf (names graph.now) s (Some (a, b)) text)) (answer_of reply)) }
+    ensures { IfOk result (λ reply. AnswersEnds graph.now (from_name words.now) (to_name words.now)
+        (λ a b. AnswersShow words.now graph.now (labelling_of labels) (Show.Drawing (Some (a, b)))) (answer_of reply)) }
 {
     let Some(from) = root_of(graph, &words.from) else {
         return Ok(Reply::Refused(opening_line(alloc, no_root(graph))?));
     };
     match root_of(graph, &words.to) {
-        Some(to) => answer_drawing(rt, alloc, words, graph, labels, Some((from, to))),
+        Some(to) => {
+            let ends = Some((from, to));
+            answer_show(rt, alloc, words, graph, labels, Show::Drawing(ends))
+        }
         None => Ok(Reply::Refused(opening_line(alloc, no_root(graph))?)),
     }
 }
@@ -220,7 +162,7 @@ fn answer_draw<T: Threads + Sync>(
     if words.from.is_some() && words.to.is_some() {
         answer_bold(rt, alloc, words, graph, labels)
     } else {
-        answer_drawing(rt, alloc, words, graph, labels, None)
+        answer_show(rt, alloc, words, graph, labels, Show::Drawing(None))
     }
 }
 
@@ -237,22 +179,14 @@ fn answer_labels<T: Threads + Sync>(
     ensures { IfOk result (λ reply. AnswersLook look words.now graph.now (labelling_of labels) (answer_of reply)) }
 {
     match look {
-        Look::Plan => answer_plan(rt, alloc, words, graph, labels),
+        Look::Plan => answer_show(rt, alloc, words, graph, labels, Show::Rows),
         Look::Walk => answer_walk(rt, alloc, words, graph, labels),
-        Look::Stats => answer_stats(rt, alloc, words, graph, labels),
+        Look::Stats => answer_show(rt, alloc, words, graph, labels, Show::Figures),
         Look::Draw => answer_draw(rt, alloc, words, graph, labels),
-        Look::Prefixes => answer_prefixes(rt, alloc, words, graph, labels),
-    }
-}
-
-/// The labels of a root.
-fn labels_from(words: &Words, root: u16) -> Labels
-    ensures labels { labelling_of result ≡ labelling_from words.now.numbering root }
-    ensures any { (g : Adjacency) (kind : Kind) → MayLabel g kind (labelling_of result) }
-{
-    match words.numbering {
-        Numbering::DepthFirst | Numbering::File(_) => Labels::DepthFirst(root),
-        Numbering::Tour => Labels::Tour(root),
+        Look::Prefixes => {
+            let tables = Show::Tables(words.disjoint);
+            answer_show(rt, alloc, words, graph, labels, tables)
+        }
     }
 }
 
@@ -264,10 +198,15 @@ fn answer_graph<T: Threads + Sync>(
     words: &Words,
     graph: &Graph,
 ) -> Result<Reply, AllocError>
-    ensures { IfOk result (λ reply. AnswersRoot graph.now (root_name words.now) (λ root. AnswersLook look words.now graph.now (labelling_from words.now.numbering root)) (answer_of reply)) }
+    ensures { IfOk result (λ reply. AnswersRoot graph.now (root_name words.now)
+        (λ root. AnswersLook look words.now graph.now (FromRoot (label_order words.now.numbering) root))
+        (answer_of reply)) }
 {
     match root_of(graph, &words.root) {
-        Some(root) => answer_labels(rt, alloc, look, words, graph, labels_from(words, root)),
+        Some(root) => {
+            let labels = Labels::FromRoot(label_order(&words.numbering), root);
+            answer_labels(rt, alloc, look, words, graph, labels)
+        }
         None => Ok(Reply::Refused(opening_line(alloc, no_root(graph))?)),
     }
 }
@@ -282,7 +221,8 @@ fn answer_order<T: Threads + Sync>(
     text: &[u8],
 ) -> Result<Reply, AllocError>
     requires { words.now.kind ≢ Kind.Tree }
-    ensures { IfOk result (λ reply. AnswersOrder graph.now (lines text.now) (λ places. AnswersLook look words.now graph.now (ByOrder places)) (answer_of reply)) }
+    ensures { IfOk result (λ reply. AnswersOrder graph.now (lines text.now)
+        (λ places. AnswersLook look words.now graph.now (ByList places)) (answer_of reply)) }
 {
     match read_order(alloc, graph, text) {
         Ok(order) => answer_labels(rt, alloc, look, words, graph, Labels::Listed(order)),

@@ -3,14 +3,13 @@ ghost use Rattle.std.specs.Prelude.{◌≡◌, ◌≢◌, IfOk, IfErr, length};
 ghost use Rattle.ir_model.specs.OfGraph.{network_of_graph};
 ghost use Rattle.ir_model.specs.Scheme.{IsScheme};
 ghost use Rattle.ir_numbering.specs.Numbers.{IsListing};
-ghost use Rattle.ir_shell.specs.Plans.{FromRoot, ByTour, ByOrder, MayLabel, IsLabelled, labelling_of, refusal_of, RefusesBuild};
+ghost use Rattle.ir_shell.specs.Plans.{FromRoot, ByList, MayLabel, IsLabelled, labelling_of, refusal_of, RefusesBuild};
 
 use ir_core::OpenError;
 use ir_graph::Graph;
 use ir_model::Kind;
-use ir_plan::{Plan, PlanError};
+use ir_plan::{LabelOrder, Plan, PlanError, plan_in_order};
 use ir_tables::Topology;
-use ir_tour::tour_plan;
 use std::alloc::Global;
 use std::thread::Threads;
 
@@ -29,10 +28,8 @@ fn refusal_of(error: PlanError) -> OpenError
 /// By what the nodes of a plan are labelled.
 #[derive(Drop)]
 pub enum Labels {
-    /// Depth first, from a root.
-    DepthFirst(u16),
-    /// In the order of a tour from a root, or depth first, by which has fewer starts.
-    Tour(u16),
+    /// In an order from a root: depth first, or by a tour.
+    FromRoot(LabelOrder, u16),
     /// By the places of a list that has each node once. The first of them is the root.
     Listed(Vec<u16>),
 }
@@ -55,9 +52,8 @@ pub fn build_plan<T: Threads + Sync>(
     ensures refused { IfErr result (RefusesBuild (network_of_graph graph.now) (labelling_of labels)) }
 {
     match labels {
-        Labels::DepthFirst(root) => build_rooted(rt, alloc, graph, kind, root, most),
-        Labels::Tour(root) => build_tour(rt, alloc, graph, kind, root, most),
-        Labels::Listed(order) => build_listed(rt, alloc, graph, kind, order, most),
+        Labels::FromRoot(order, root) => build_rooted(rt, alloc, graph, kind, order, root, most),
+        Labels::Listed(list) => build_listed(rt, alloc, graph, kind, list, most),
     }
 }
 
@@ -67,46 +63,20 @@ fn build_rooted<T: Threads + Sync>(
     alloc: Global,
     graph: &Graph,
     kind: Kind,
+    order: LabelOrder,
     root: u16,
     most: Option<usize>,
 ) -> Result<Plan, OpenError>
     ensures scheme { IfOk result (λ plan. IsScheme plan) }
-    ensures labelled { IfOk result (λ plan. IsLabelled (FromRoot root) plan) }
+    ensures labelled { IfOk result (λ plan. IsLabelled (FromRoot order root) plan) }
     ensures over { IfOk result (λ plan. plan.network ≡ network_of_graph graph.now) }
     ensures kind { IfOk result (λ plan. plan.kind ≡ kind) }
-    ensures refused { IfErr result (RefusesBuild (network_of_graph graph.now) (FromRoot root)) }
+    ensures refused { IfErr result (RefusesBuild (network_of_graph graph.now) (FromRoot order root)) }
 {
     let Ok(topology) = Topology::of(alloc, graph) else {
         return Err(OpenError::NoMemory);
     };
-    match Plan::build_in_threads(rt, alloc, topology, kind, root, most) {
-        Ok(plan) => Ok(plan),
-        Err(refused) => {
-            let (error, _topology) = refused;
-            Err(refusal_of(error))
-        }
-    }
-}
-
-/// The same by a tour from a root.
-fn build_tour<T: Threads + Sync>(
-    rt: &T,
-    alloc: Global,
-    graph: &Graph,
-    kind: Kind,
-    root: u16,
-    most: Option<usize>,
-) -> Result<Plan, OpenError>
-    ensures scheme { IfOk result (λ plan. IsScheme plan) }
-    ensures labelled { IfOk result (λ plan. IsLabelled (ByTour root) plan) }
-    ensures over { IfOk result (λ plan. plan.network ≡ network_of_graph graph.now) }
-    ensures kind { IfOk result (λ plan. plan.kind ≡ kind) }
-    ensures refused { IfErr result (RefusesBuild (network_of_graph graph.now) (ByTour root)) }
-{
-    let Ok(topology) = Topology::of(alloc, graph) else {
-        return Err(OpenError::NoMemory);
-    };
-    match tour_plan(rt, alloc, topology, kind, root, most) {
+    match plan_in_order(rt, alloc, topology, order, kind, root, most) {
         Ok(plan) => Ok(plan),
         Err(refused) => {
             let (error, _topology) = refused;
@@ -121,21 +91,21 @@ fn build_listed<T: Threads + Sync>(
     alloc: Global,
     graph: &Graph,
     kind: Kind,
-    order: Vec<u16>,
+    list: Vec<u16>,
     most: Option<usize>,
 ) -> Result<Plan, OpenError>
     requires kind { kind ≢ Kind.Tree }
-    requires listing { IsListing (length graph.now) order.items }
+    requires listing { IsListing (length graph.now) list.items }
     ensures scheme { IfOk result (λ plan. IsScheme plan) }
-    ensures labelled { IfOk result (λ plan. IsLabelled (ByOrder order.items) plan) }
+    ensures labelled { IfOk result (λ plan. IsLabelled (ByList list.items) plan) }
     ensures over { IfOk result (λ plan. plan.network ≡ network_of_graph graph.now) }
     ensures kind { IfOk result (λ plan. plan.kind ≡ kind) }
-    ensures refused { IfErr result (RefusesBuild (network_of_graph graph.now) (ByOrder order.items)) }
+    ensures refused { IfErr result (RefusesBuild (network_of_graph graph.now) (ByList list.items)) }
 {
     let Ok(topology) = Topology::of(alloc, graph) else {
         return Err(OpenError::NoMemory);
     };
-    match Plan::build_numbered_in_threads(rt, alloc, topology, kind, order, most) {
+    match Plan::build_numbered_in_threads(rt, alloc, topology, kind, list, most) {
         Ok(plan) => Ok(plan),
         Err((PlanError::Empty, _)) => Err(OpenError::Empty),
         Err((PlanError::Disconnected, _)) => Err(OpenError::Disconnected),

@@ -1,2 +1,3 @@
+-- what contracts promise
 pub mod Reading
 pub mod Writing

@@ -20,7 +20,8 @@ pub trait Reader {
     /// Condition: there is room.
     fn get(&mut self, room: &mut [u8]) -> Result<usize, CallError>
         requires { 0 < length room.old }
-        ensures call { MatchResult result (λ n. gave self.old (Ok (take n room.new)) self.new) (λ e. gave self.old (Err e) self.new) }
+        ensures call { MatchResult result (λ n. gave self.old (Ok (take n room.new)) self.new)
+            (λ e. gave self.old (Err e) self.new) }
         ensures bound { ReadsAtMost result room.new }
         ensures bytes { ReadConsumes (remaining self.old) (remaining self.new) result room.new };
 }

@@ -1,9 +1,11 @@
+-- what contracts promise
 pub mod Views
 pub mod Relaxation
-pub mod Frontier
 pub mod Errors
-pub mod Numbered
-pub mod ByPlace
 pub mod Listed
 pub mod FromNode
+-- what bodies use
+pub mod Frontier
+pub mod Numbered
+pub mod ByPlace
 pub mod Keys

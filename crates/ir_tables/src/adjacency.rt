@@ -34,7 +34,8 @@ fn link_between(links: &[Link], from: usize, to: usize, u: u16, v: u16) -> usize
 /// Puts the links from a node to later nodes behind those that are there.
 fn push_links(graph: &Graph, u: usize, links: &mut Vec<Link>) -> Result<(), AllocError>
     requires { u < length graph.now }
-    ensures { OnOk result (links.new.items ≡ links.old.items ++ links_at u (row_numbers graph.now (neighbors_at graph.now u))) }
+    ensures { OnOk result (links.new.items ≡ links.old.items
+        ++ links_at u (row_numbers graph.now (neighbors_at graph.now u))) }
 {
     let _nodes = graph.number_of_nodes();
     for place in 0..graph.neighbor_count(u) {
@@ -78,7 +79,8 @@ pub fn ports_of(
     requires links { links.now ≡ links_from 0 (rows_of graph.now) }
     requires begins { AreBegins (rows_of graph.now) (length graph.now + 1) begins.now }
     requires few { length links.now ≤ MAX_EDGES }
-    ensures { IfOk result (λ ports. ports.items ≡ ports_at links.now u (row_numbers graph.now (neighbors_at graph.now u))) }
+    ensures { IfOk result (λ ports. ports.items
+        ≡ ports_at links.now u (row_numbers graph.now (neighbors_at graph.now u))) }
 {
     let _nodes = graph.number_of_nodes();
     let mut ports = Vec::new(alloc);

@@ -22,8 +22,10 @@ fn offer(
 ) -> Result<(), AllocError>
     requires node { v < node_count topology.now }
     requires weights { length weights.old ≡ node_count topology.now }
-    ensures offered { OnOk result ((d : ℕ) → IsFrontier topology.now d (Only v) weights.old (heap_items frontier.old) → IsFrontier topology.now d NoNode weights.new (heap_items frontier.new)) }
-    ensures falls { OnOk result (2 * sum weights.new + length (heap_items frontier.new) ≤ 2 * sum weights.old + length (heap_items frontier.old)) }
+    ensures offered { OnOk result ((d : ℕ) → IsFrontier topology.now d (Only v) weights.old (heap_items frontier.old)
+        → IsFrontier topology.now d NoNode weights.new (heap_items frontier.new)) }
+    ensures falls { OnOk result (2 * sum weights.new + length (heap_items frontier.new) ≤ 2 * sum weights.old
+        + length (heap_items frontier.old)) }
 {
     let own = weights[v as usize];
     let _nodes = topology.nodes();
@@ -37,7 +39,8 @@ fn offer(
     Ok(())
 }
 
-/// The weights to `d`, by node.
+/// The weights of the lightest walks to `d`, by node, `UNREACHED` where there is none (Dijkstra 1959). O((n + m) log m)
+/// for n nodes and m links.
 pub fn weights_to(alloc: Global, topology: &Topology, d: usize) -> Result<Vec<u32>, AllocError>
     requires { d < node_count topology.now }
     ensures { IfOk result (λ weights. IsRelaxed topology.now d weights.items) }

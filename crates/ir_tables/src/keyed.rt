@@ -44,7 +44,8 @@ fn offer(
     requires node { x < node_count topology.now }
     requires so_far { IsKeying topology.now u (Only x) keys.old (heap_items frontier.old) }
     ensures offered { OnOk result (IsKeying topology.now u NoNode keys.new (heap_items frontier.new)) }
-    ensures falls { OnOk result (2 * sum keys.new + length (heap_items frontier.new) ≤ 2 * sum keys.old + length (heap_items frontier.old)) }
+    ensures falls { OnOk result (2 * sum keys.new + length (heap_items frontier.new) ≤ 2 * sum keys.old
+        + length (heap_items frontier.old)) }
 {
     let own = keys[x as usize];
     let _nodes = topology.nodes();

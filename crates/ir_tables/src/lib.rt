@@ -13,9 +13,10 @@ mod relaxation;
 mod table;
 mod topology;
 
+pub use frontier::weights_to;
 pub use ir_model::{Hop, Link};
 pub use listed::is_port_list;
 pub use outward::Outward;
-pub use relaxation::weights_by_rounds;
+pub use relaxation::{UNREACHED, weights_by_rounds};
 pub use table::{Table, TableError};
 pub use topology::Topology;

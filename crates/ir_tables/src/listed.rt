@@ -91,7 +91,8 @@ pub fn walk_weights(
 ) -> Result<Vec<u32>, AllocError>
     requires list { IsPortList topology.now ports.now }
     requires end { d < node_count topology.now }
-    ensures { IfOk result (λ weights. AreWays topology.now (listed_port (node_count topology.now) ports.now) d weights.items) }
+    ensures { IfOk result (λ weights. AreWays topology.now
+        (listed_port (node_count topology.now) ports.now) d weights.items) }
 {
     let nodes = topology.nodes();
     let mut weights = vec![in alloc; UNREACHED; nodes]?;
@@ -155,7 +156,7 @@ fn all_lead(topology: &Topology, ports: &[Option<u16>], d: usize) -> bool
 
 /// Whether `Table::from_ports` takes the list: it has an entry for each node and destination, none where they are one
 /// node, and from each node its ports lead to each destination. Each walk is followed, so it takes as many steps as all
-/// walks together.
+/// walks together. For users of the library.
 pub fn is_port_list(topology: &Topology, ports: &[Option<u16>]) -> bool
     ensures { IsTrue result ↔ IsPortList topology.now ports.now }
 {

@@ -32,7 +32,7 @@ impl Model for Outward {
 
 impl Outward {
     /// The ways from a node. Condition: it is a node, and each node has a walk to each node. It is refused for
-    /// memory alone.
+    /// memory alone. Takes O((n + m) log n), for n nodes and m links.
     pub fn from(alloc: Global, topology: &Topology, u: u16) -> Result<Outward, AllocError>
         requires node { u < node_count topology.now }
         requires connected { IsConnected topology.now }
@@ -60,6 +60,7 @@ impl Outward {
 
     /// The nodes to which a port of the node leads nearer: a port is held for these, by node, and for no other.
     /// Condition: the distances are those of the topology, and the node has the port. It is refused for memory alone.
+    /// Takes O(n + m), for n nodes and m links.
     pub fn nodes_by(
         &self,
         alloc: Global,
@@ -164,7 +165,8 @@ fn pass_on(
     requires node { x < node_count topology.now }
     requires weights { length weights.now ≡ node_count topology.now }
     requires held { length held.old ≡ node_count topology.now }
-    ensures { OnOk result (IsPassedOn topology.now weights.now port x held.old waiting.old.items held.new waiting.new.items) }
+    ensures { OnOk result (IsPassedOn topology.now weights.now port x held.old waiting.old.items held.new
+        waiting.new.items) }
 {
     let _nodes = topology.nodes();
     for hop in topology.ports(x as usize) {

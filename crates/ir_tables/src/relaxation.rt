@@ -51,7 +51,8 @@ fn relax(topology: &Topology, weights: &mut [u32]) -> bool
 /// The weights of the shortest ways to `d`, by node, and `u32::MAX` where a node has no way to it.
 ///
 /// They are found by rounds of relaxation (Bellman 1958): it is slow and plain, and what tests compare
-/// `Table::shortest` with. It is refused for memory alone.
+/// `Table::shortest` with. It is refused for memory alone. Takes at most n rounds of O(n + m), for n nodes and m
+/// links. For users of the library.
 pub fn weights_by_rounds(
     alloc: Global,
     topology: &Topology,

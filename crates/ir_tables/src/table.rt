@@ -31,7 +31,7 @@ impl TableError {
     ghost use Rattle.std.specs.Prelude.{◌≡◌};
     ghost use Rattle.ir_tables.specs.Errors.{code_of};
 
-    /// The number of the error, from 1 to 3.
+    /// The number of the error, from 1 to 3. For users of the library.
     pub fn code(self) -> u8
         ensures { result ≡ code_of self }
     {
@@ -141,7 +141,8 @@ impl Table {
     /// way goes on shortest, and the distance (van Leeuwen and Tan 1987).
     ///
     /// It is refused as `Empty` without a node, as `Disconnected` where some pair has no walk, and as `NoMemory`,
-    /// which may come before `Disconnected` is known.
+    /// which may come before `Disconnected` is known. Takes O(n (n + m) log n), for n nodes and m links.
+    /// For users of the library.
     pub fn shortest(alloc: Global, topology: &Topology) -> Result<Table, TableError>
         ensures shortest { IfOk result (λ table. IsShortest topology.now table) }
         ensures routed { IfOk result (λ table. IsRouted topology.now table) }
@@ -167,7 +168,8 @@ impl Table {
     /// where there are `n` nodes. Its distances are the weights of the walks that the list prescribes.
     ///
     /// Condition: the list has `n * n` entries, none stands exactly where `u` is `d`, each other entry is a port of `u`,
-    /// and from each node the ports lead to each destination. It is refused for memory alone.
+    /// and from each node the ports lead to each destination. It is refused for memory alone. Takes O(n * n).
+    /// For users of the library.
     pub fn from_ports(
         alloc: Global,
         topology: &Topology,
@@ -186,7 +188,7 @@ impl Table {
     }
 
     /// The port that the table holds at node `u` for the destination `d`, and none where they are one node.
-    /// Condition: both are nodes.
+    /// Condition: both are nodes. For users of the library.
     pub fn next(&self, u: u16, d: u16) -> Option<u16>
         requires u { u < table_size self.now }
         requires d { d < table_size self.now }
@@ -197,7 +199,7 @@ impl Table {
     }
 
     /// The weight of the walk that the table prescribes from node `u` to the destination `d`. Condition: both are
-    /// nodes.
+    /// nodes. For users of the library.
     pub fn distance(&self, u: u16, d: u16) -> u32
         requires u { u < table_size self.now }
         requires d { d < table_size self.now }

@@ -34,7 +34,8 @@ impl Model for Topology {
 impl Topology {
     /// The topology of a graph. Its nodes are places in node order. Its links are the edges that are no self-loops, in
     /// edge order. The ports of a node are its other neighbours, in adjacency order. A graph with no node is accepted;
-    /// it is refused for memory alone.
+    /// it is refused for memory alone. Takes O(n + q) on average, for n nodes and q the sum of the squares of the
+    /// degrees.
     pub fn of(alloc: Global, graph: &Graph) -> Result<Topology, AllocError>
         ensures { IfOk result (λ t. t ≡ network_of_graph graph.now) }
     {
@@ -97,7 +98,8 @@ impl Topology {
         self.ports[u].as_slice()
     }
 
-    /// The first port of a node that leads to another one. Condition: `u` is below `nodes()`.
+    /// The first port of a node that leads to another one. Condition: `u` is below `nodes()`. Takes O(d), for d ports
+    /// of `u`.
     pub fn hop_to(&self, u: u16, v: u16) -> Option<Hop>
         requires { u < node_count self.now }
         ensures first { result ≡ find (λ hop. hop.node == v) (ports_of self.now u) }
@@ -109,7 +111,7 @@ impl Topology {
 
     /// The topology over the links that are marked as up. Nodes and links keep their numbers, and `links()` and `ends`
     /// stay; ports are numbered anew over the links that remain. Condition: one mark for each link. It is refused for
-    /// memory alone.
+    /// memory alone. Takes O(n + m), for n nodes and m links.
     pub fn only(&self, alloc: Global, up: &[bool]) -> Result<Topology, AllocError>
         requires { length up.now ≡ length self.now.links }
         ensures { IfOk result (λ kept. kept ≡ restrict up.now self.now) }
@@ -122,7 +124,8 @@ impl Topology {
         Ok(Topology { links, ports })
     }
 
-    /// A topology with the same nodes, links and ports. It is refused for memory alone.
+    /// A topology with the same nodes, links and ports. It is refused for memory alone. Takes O(n + m), for n nodes
+    /// and m links.
     pub fn try_clone(&self, alloc: Global) -> Result<Topology, AllocError>
         ensures { IfOk result (λ copy. copy ≡ self.now) }
     {

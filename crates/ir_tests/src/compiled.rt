@@ -5,110 +5,115 @@ use ir_lookup::{PlainRow, Row, in_interval};
 use std::alloc::Global;
 use std::test::Fail;
 
-/// The starts of a row, each with its port.
-fn starts_of(alloc: Global, row: &Row) -> Result<Vec<(u16, u16)>, Fail> {
-    let mut starts = Vec::new(alloc);
-    for i in 0..row.len() {
-        starts.push((row.start(i), row.port(i)))?;
-    }
-    Ok(starts)
+/// A node's label, its ports by label, and the starts of its row with their ports.
+struct Case {
+    name: &'static str,
+    own: u16,
+    ports: &'static [Option<u16>],
+    starts: &'static [(u16, u16)],
 }
 
-/// The row of six labels whose ports to 1 .. 5 are 0, 1, 1, 0, 1.
-fn four_starts(alloc: Global) -> Result<Row, Fail> {
-    let Ok(row) = compile(
-        alloc,
-        6,
-        0,
-        &[None, Some(0), Some(1), Some(1), Some(0), Some(1)],
-    ) else {
-        return Err("refused".into());
+const CASES: [Case; 4] = [
+    Case {
+        name: "neighbouring intervals of one port are joined",
+        own: 0,
+        ports: &[None, Some(0), Some(1), Some(1), Some(0), Some(1)],
+        starts: &[(1, 0), (2, 1), (4, 0), (5, 1)],
+    },
+    Case {
+        name: "five starts of eight labels",
+        own: 3,
+        ports: &[
+            Some(2),
+            Some(0),
+            Some(0),
+            None,
+            Some(1),
+            Some(2),
+            Some(2),
+            Some(1),
+        ],
+        starts: &[(0, 2), (1, 0), (4, 1), (5, 2), (7, 1)],
+    },
+    Case {
+        name: "one start where all ports are equal",
+        own: 2,
+        ports: &[Some(0), Some(0), None],
+        starts: &[(0, 0)],
+    },
+    Case {
+        name: "one label has no start",
+        own: 0,
+        ports: &[None],
+        starts: &[],
+    },
+];
+
+/// Whether these are a row's starts, each with its port.
+fn has_starts(row: &Row, starts: &[(u16, u16)]) -> bool {
+    if row.len() != starts.len() {
+        return false;
+    }
+    for (i, start) in starts.iter().enumerate() {
+        if (row.start(i), row.port(i)) != *start {
+            return false;
+        }
+    }
+    true
+}
+
+/// Whether a row, and the same as it is without packing, give each label its port, by at most three comparisons.
+fn finds(row: &Row, plain: &PlainRow, ports: &[Option<u16>]) -> bool {
+    if row.is_empty() || plain.len() == 0 {
+        return row.len() == plain.len();
+    }
+    for (d, port) in ports.iter().enumerate() {
+        let Ok(d) = u16::try_from(d) else {
+            return false;
+        };
+        let (found, compared) = row.find_counted(d);
+        if port.is_some_and(|port| port != found) || compared > 3 {
+            return false;
+        }
+        if found != row.find(d) || found != plain.find(d) {
+            return false;
+        }
+    }
+    true
+}
+
+/// Whether the ports of a case are compiled to its row.
+fn is_compiled(alloc: Global, case: &Case) -> bool {
+    let Ok(n) = u16::try_from(case.ports.len()) else {
+        return false;
     };
-    Ok(row)
+    let Ok(row) = compile(alloc, n, case.own, case.ports) else {
+        return false;
+    };
+    let Ok(plain) = PlainRow::of_row(alloc, &row) else {
+        return false;
+    };
+    has_starts(&row, case.starts) && finds(&row, &plain, case.ports)
+}
+
+#[test]
+fn rows_by_hand(rt: HostRuntime) -> Result<(), Fail> {
+    for case in &CASES {
+        if !is_compiled(rt.alloc(), case) {
+            return Err(case.name.into());
+        }
+    }
+    Ok(())
 }
 
 #[test]
 fn an_interval_wraps(rt: HostRuntime) {
-    assert!(rt; in_interval(6, 4, 1, 5));
-    assert!(rt; !in_interval(6, 4, 1, 1));
-    assert!(rt; in_interval(6, 3, 3, 0));
-}
-
-#[test]
-fn joins_neighbouring_intervals(rt: HostRuntime) -> Result<(), Fail> {
-    let row = four_starts(rt.alloc())?;
-    let starts = starts_of(rt.alloc(), &row)?;
-    assert_eq!(rt;
-        starts.as_slice(),
-        [(1u16, 0u16), (2, 1), (4, 0), (5, 1)].as_slice()
-    );
-    if !row.is_empty() {
-        assert_eq!(rt; row.find(3), 1);
-    }
-    Ok(())
-}
-
-#[test]
-fn compares_at_most_three_starts(rt: HostRuntime) -> Result<(), Fail> {
-    let row = four_starts(rt.alloc())?;
-    if row.is_empty() {
-        return Err("no start".into());
-    }
-    for d in 0..6u16 {
-        let (port, compared) = row.find_counted(d);
-        assert_eq!(rt; port, row.find(d));
-        assert!(rt; compared <= 3);
-    }
-    Ok(())
-}
-
-#[test]
-fn packed_and_plain_rows_agree(rt: HostRuntime) -> Result<(), Fail> {
-    let ports = [
-        Some(2),
-        Some(0),
-        Some(0),
-        None,
-        Some(1),
-        Some(2),
-        Some(2),
-        Some(1),
-    ];
-    let Ok(row) = compile(rt.alloc(), 8, 3, &ports) else {
-        return Err("refused".into());
-    };
-    let plain = PlainRow::of_row(rt.alloc(), &row)?;
-    assert_eq!(rt; plain.len(), row.len());
-    if plain.len() == 0 {
-        return Err("no start".into());
-    }
-    for d in 0..8u16 {
-        assert_eq!(rt; row.find(d), plain.find(d));
-    }
-    Ok(())
+    let wraps = in_interval(6, 4, 1, 5) && !in_interval(6, 4, 1, 1) && in_interval(6, 3, 3, 0);
+    assert!(rt; wraps);
 }
 
 #[test]
 fn refuses_a_port_to_the_own_label(rt: HostRuntime) {
     let answer = compile(rt.alloc(), 3, 1, &[Some(0), Some(0), Some(0)]);
     assert!(rt; matches!(answer, Err(CompileError::BadRow)));
-}
-
-#[test]
-fn one_start_where_all_ports_are_equal(rt: HostRuntime) -> Result<(), Fail> {
-    let Ok(row) = compile(rt.alloc(), 3, 2, &[Some(0), Some(0), None]) else {
-        return Err("refused".into());
-    };
-    let starts = starts_of(rt.alloc(), &row)?;
-    assert_eq!(rt; starts.as_slice(), [(0u16, 0u16)].as_slice());
-    Ok(())
-}
-
-#[test]
-fn one_label_has_no_start(rt: HostRuntime) -> Result<(), Fail> {
-    let Ok(row) = compile(rt.alloc(), 1, 0, &[None]) else {
-        return Err("refused".into());
-    };
-    assert!(rt; row.is_empty());
-    Ok(())
 }

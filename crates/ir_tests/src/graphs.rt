@@ -1,7 +1,6 @@
 //! Graph calls, one after another.
 
 use ir_graph::{Graph, GraphError};
-use std::alloc::Global;
 use std::test::Fail;
 
 /// A call that changes a graph, with its answer.
@@ -51,10 +50,6 @@ fn changed(graph: Graph, changes: &[Change]) -> Result<Graph, Fail> {
     Ok(graph)
 }
 
-fn three_edges(alloc: Global) -> Result<Graph, Fail> {
-    changed(Graph::new(alloc), &THREE_EDGES)
-}
-
 /// Whether these are a graph's nodes, in order.
 fn has_nodes(graph: &Graph, nodes: &[&str]) -> bool {
     for (i, node) in nodes.iter().enumerate() {
@@ -85,34 +80,37 @@ fn has_neighbors(graph: &Graph, u: usize, neighbors: &[(usize, u32)]) -> bool {
     graph.neighbor_count(u) == neighbors.len() && graph.neighbor_at(u, neighbors.len()).is_none()
 }
 
-#[test]
-fn edges_in_order(rt: HostRuntime) -> Result<(), Fail> {
-    let graph = three_edges(rt.alloc())?;
-    assert!(rt; has_nodes(&graph, &["a", "b", "c"]));
-    assert!(rt; has_edges(&graph, &[("a", "b", 5), ("a", "a", 1), ("b", "c", 3)]));
-    assert_eq!(rt; graph.degree("a"), Ok(3));
-    assert_eq!(rt; graph.is_connected(), Ok(true));
-    Ok(())
+/// Whether this is the graph of three edges.
+fn is_first(graph: &Graph) -> bool {
+    has_nodes(graph, &["a", "b", "c"])
+        && has_edges(graph, &[("a", "b", 5), ("a", "a", 1), ("b", "c", 3)])
+        && has_neighbors(graph, 0, &[(1, 5), (0, 1)])
+        && has_neighbors(graph, 1, &[(0, 5), (2, 3)])
+        && graph.is_connected() == Ok(true)
+}
+
+/// Whether it answers by the names of its nodes.
+fn answers_by_name(graph: &Graph) -> bool {
+    graph.degree("a") == Ok(3)
+        && graph.index_of("d").is_none()
+        && graph.neighbor("b", 0) == Some("a")
+        && graph.weight("c", "b") == Some(3)
+}
+
+/// Whether this is what is left of it after the changes.
+fn is_left(graph: &Graph) -> bool {
+    has_nodes(graph, &["a", "c", "d"])
+        && has_edges(graph, &[("a", "a", 1)])
+        && graph.is_connected() == Ok(false)
 }
 
 #[test]
-fn what_is_left(rt: HostRuntime) -> Result<(), Fail> {
-    let graph = changed(three_edges(rt.alloc())?, &REFUSALS)?;
-    assert!(rt; has_nodes(&graph, &["a", "c", "d"]));
-    assert!(rt; has_edges(&graph, &[("a", "a", 1)]));
-    assert_eq!(rt; graph.is_connected(), Ok(false));
+fn graphs_by_hand(rt: HostRuntime) -> Result<(), Fail> {
     let empty = Graph::new(rt.alloc());
-    assert_eq!(rt; empty.is_connected(), Err(GraphError::EmptyGraph));
-    Ok(())
-}
-
-#[test]
-fn neighbors_in_order(rt: HostRuntime) -> Result<(), Fail> {
-    let graph = three_edges(rt.alloc())?;
-    assert!(rt; has_neighbors(&graph, 0, &[(1, 5), (0, 1)]));
-    assert!(rt; has_neighbors(&graph, 1, &[(0, 5), (2, 3)]));
-    assert_eq!(rt; graph.index_of("d"), None);
-    assert_eq!(rt; graph.neighbor("b", 0), Some("a"));
-    assert_eq!(rt; graph.weight("c", "b"), Some(3));
+    assert!(rt; empty.is_connected() == Err(GraphError::EmptyGraph));
+    let graph = changed(empty, &THREE_EDGES)?;
+    assert!(rt; is_first(&graph) && answers_by_name(&graph));
+    let graph = changed(graph, &REFUSALS)?;
+    assert!(rt; is_left(&graph));
     Ok(())
 }

@@ -14,8 +14,6 @@ mod numbers;
 #[cfg(test)]
 mod openings;
 #[cfg(test)]
-mod orders;
-#[cfg(test)]
 mod plans;
 #[cfg(test)]
 mod prefixed;

@@ -1,6 +1,7 @@
 //! Ports told as the fewest prefixes, and as the fewest lines of a forwarding table, longest first.
 
 use ir_prefix::{Line, Prefix, PrefixError, disjoint, forwarding, prefixes, width};
+use std::alloc::Global;
 use std::test::Fail;
 
 /// A row's ports by label, and its prefixes: the value, the length and the port of each.
@@ -58,13 +59,21 @@ fn are(set: &[Prefix], told: &[(u16, u8, u16)]) -> bool {
     true
 }
 
+/// Whether the ports of a case are told by its prefixes.
+fn is_told(alloc: Global, case: &Case) -> bool {
+    let Ok(n) = u16::try_from(case.ports.len()) else {
+        return false;
+    };
+    match prefixes(alloc, n, case.own, case.ports) {
+        Ok(set) => are(set.as_slice(), case.told),
+        Err(_) => false,
+    }
+}
+
 #[test]
 fn rows_are_told_by_the_fewest_prefixes(rt: HostRuntime) -> Result<(), Fail> {
     for case in ROWS.iter() {
-        let Ok(set) = prefixes(rt.alloc(), case.ports.len() as u16, case.own, case.ports) else {
-            return Err(case.name.into());
-        };
-        if !are(set.as_slice(), case.told) {
+        if !is_told(rt.alloc(), case) {
             return Err(case.name.into());
         }
     }
@@ -138,53 +147,63 @@ fn are_lines(table: &[Line], told: &[(u16, u8, Option<u16>)]) -> bool {
     true
 }
 
+/// Whether the ports of a case have its tables.
+fn has_tables(alloc: Global, case: &TableCase) -> bool {
+    let Ok(n) = u16::try_from(case.ports.len()) else {
+        return false;
+    };
+    let Ok(nested) = forwarding(alloc, n, case.own, case.ports) else {
+        return false;
+    };
+    let Ok(apart) = disjoint(alloc, n, case.own, case.ports) else {
+        return false;
+    };
+    are_lines(nested.as_slice(), case.nested) && are_lines(apart.as_slice(), case.disjoint)
+}
+
 #[test]
 fn tables_have_the_fewest_lines(rt: HostRuntime) -> Result<(), Fail> {
     for case in TABLES.iter() {
-        let Ok(table) = forwarding(rt.alloc(), case.ports.len() as u16, case.own, case.ports) else {
-            return Err(case.name.into());
-        };
-        if !are_lines(table.as_slice(), case.nested) {
+        if !has_tables(rt.alloc(), case) {
             return Err(case.name.into());
         }
     }
     Ok(())
 }
 
+/// A label of two, and ports that are none of its row.
+const NO_ROWS: [(u16, [Option<u16>; 2]); 3] = [
+    (0, [Some(1), Some(1)]),
+    (0, [None, None]),
+    (2, [Some(1), Some(1)]),
+];
+
+/// Whether ports have neither prefixes nor tables, for they are no row.
+fn is_no_row(alloc: Global, own: u16, ports: &[Option<u16>]) -> bool {
+    prefixes(alloc, 2, own, ports).err() == Some(PrefixError::BadRow)
+        && forwarding(alloc, 2, own, ports).err() == Some(PrefixError::BadRow)
+        && disjoint(alloc, 2, own, ports).err() == Some(PrefixError::BadRow)
+}
+
 #[test]
-fn disjoint_tables_have_the_fewest_lines(rt: HostRuntime) -> Result<(), Fail> {
-    for case in TABLES.iter() {
-        let Ok(table) = disjoint(rt.alloc(), case.ports.len() as u16, case.own, case.ports) else {
-            return Err(case.name.into());
-        };
-        if !are_lines(table.as_slice(), case.disjoint) {
-            return Err(case.name.into());
+fn rows_that_are_none_have_no_prefixes(rt: HostRuntime) -> Result<(), Fail> {
+    for (own, ports) in &NO_ROWS {
+        if !is_no_row(rt.alloc(), *own, ports) {
+            return Err("no refusal".into());
         }
     }
     Ok(())
 }
 
-#[test]
-fn rows_that_are_none_have_no_prefixes(rt: HostRuntime) {
-    let own = prefixes(rt.alloc(), 2, 0, &[Some(1), Some(1)]);
-    assert!(rt; matches!(own, Err(PrefixError::BadRow)));
-    let none = prefixes(rt.alloc(), 2, 0, &[None, None]);
-    assert!(rt; matches!(none, Err(PrefixError::BadRow)));
-    let beyond = prefixes(rt.alloc(), 2, 2, &[Some(1), Some(1)]);
-    assert!(rt; matches!(beyond, Err(PrefixError::BadRow)));
-}
+/// Numbers of labels, and the bits of a label.
+const WIDTHS: [(u16, u8); 6] = [(1, 0), (2, 1), (14, 4), (16, 4), (17, 5), (65_535, 16)];
 
 #[test]
-fn rows_that_are_none_have_no_tables(rt: HostRuntime) {
-    let own = forwarding(rt.alloc(), 2, 0, &[Some(1), Some(1)]);
-    assert!(rt; matches!(own, Err(PrefixError::BadRow)));
-    let none = disjoint(rt.alloc(), 2, 0, &[None, None]);
-    assert!(rt; matches!(none, Err(PrefixError::BadRow)));
-}
-
-#[test]
-fn widths_of_labels(rt: HostRuntime) {
-    for (n, bits) in [(1u16, 0u8), (2, 1), (14, 4), (16, 4), (17, 5), (65_535, 16)] {
-        assert_eq!(rt; width(n), bits);
+fn widths_of_labels() -> Result<(), Fail> {
+    for (n, bits) in &WIDTHS {
+        if width(*n) != *bits {
+            return Err("another width".into());
+        }
     }
+    Ok(())
 }

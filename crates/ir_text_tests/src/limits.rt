@@ -1,196 +1,189 @@
-//! Runs over rings, and over networks at the limits.
+//! Runs over rings, and over a network of the most links.
 
-use ir_core::{
-    Board, Event, Fate, Kind, OpenError, Opening, Played, Refused, Reply, Step, World, play,
-};
+use ir_core::{Event, Fate, Kind, Opening, Played, Refused, Reply, Step, World, play};
 use ir_graph::Graph;
+use ir_plan::LabelOrder;
 use ir_tables::Topology;
 use std::alloc::Global;
-use std::test::Fail;
+use std::thread::Threads;
 
-/// So many nodes n0, n1 and so on, each linked to so many next ones, round and round.
-fn linked(alloc: Global, nodes: u16, reach: u16) -> Result<Topology, Fail> {
+/// Links two nodes by their numbers.
+fn link(graph: &mut Graph, alloc: Global, u: usize, v: usize) -> Option<()> {
+    let from = format!(in alloc; "n{u}").ok()?;
+    let to = format!(in alloc; "n{v}").ok()?;
+    graph.add_edge(from.as_str(), to.as_str(), 1).ok()?;
+    Some(())
+}
+
+/// Links a node to so many next ones, round and round.
+fn link_on(graph: &mut Graph, alloc: Global, nodes: u16, u: u16, reach: u16) -> Option<()> {
+    for step in 0..reach {
+        let v = (u as usize + step as usize + 1) % nodes.max(1) as usize;
+        link(graph, alloc, u as usize, v)?;
+    }
+    Some(())
+}
+
+/// So many nodes n0, n1 and so on, each linked to so many next ones.
+fn linked(alloc: Global, nodes: u16, reach: u16) -> Option<Topology> {
     let mut graph = Graph::new(alloc);
     for u in 0..nodes {
-        for step in 0..reach {
-            let v = (u as usize + step as usize + 1) % nodes as usize;
-            let from = format!(in alloc; "n{u}")?;
-            let to = format!(in alloc; "n{v}")?;
-            let Ok(_) = graph.add_edge(from.as_str(), to.as_str(), 1) else {
-                return Err("the edge is refused".into());
-            };
-        }
+        link_on(&mut graph, alloc, nodes, u, reach)?;
     }
-    Ok(Topology::of(alloc, &graph)?)
+    Topology::of(alloc, &graph).ok()
 }
 
-/// A ring of so many nodes.
-fn ring(alloc: Global, nodes: u16) -> Result<Topology, Fail> {
-    linked(alloc, nodes, 1)
-}
-
-fn opening(topology: Topology) -> Opening {
-    Opening {
-        topology,
-        kind: Kind::Shortest,
+/// The opening of a run over so many nodes, each linked to so many next ones.
+fn opening(alloc: Global, nodes: u16, reach: u16, kind: Kind) -> Option<Opening> {
+    Some(Opening {
+        topology: linked(alloc, nodes, reach)?,
+        labels: LabelOrder::DepthFirst,
+        kind,
         root: 0,
         capacity: 1024,
         max_packets: 4096,
         restamps: 0,
-    }
+    })
 }
 
-/// So many injections, each to the node across a ring of 64.
-fn injections(alloc: Global, count: u16) -> Result<Vec<Step>, Fail> {
+/// So many injections, each from the next node of a ring to a node behind it, by so many links.
+fn injections(alloc: Global, nodes: u16, count: u16, behind: u16) -> Option<Vec<Step>> {
     let mut steps = Vec::new(alloc);
     for k in 0..count {
-        let source = k % 64;
-        let across = if source < 32 {
-            source + 32
-        } else {
-            source - 32
+        let source = k as u32 % nodes.max(1) as u32;
+        let dest = (source + behind as u32) % nodes.max(1) as u32;
+        let (Ok(source), Ok(dest)) = (u16::try_from(source), u16::try_from(dest)) else {
+            return None;
         };
-        steps.push(Step::Event(Event::Inject(source, across)))?;
+        steps.push(Step::Event(Event::Inject(source, dest))).ok()?;
     }
-    Ok(steps)
+    Some(steps)
 }
 
-/// How many records end so.
-fn ended(played: &Played, fate: Fate) -> usize {
-    let mut count = 0;
-    for id in 0..4096 {
-        if let Some(record) = played.world.packet(id) {
-            if record.fate == fate && count < 4096 {
-                count += 1;
-            }
+/// Whether so many first packets end so.
+fn all_ended(world: &World, count: u32, fate: Fate) -> bool {
+    for id in 0..count {
+        match world.packet(id) {
+            Some(record) if record.fate == fate => {}
+            _ => return false,
         }
     }
-    count
+    true
+}
+
+/// Whether the last packet that there may be is injected, and the next one refused.
+fn is_told(played: &Played) -> bool {
+    let replies = played.replies.as_slice();
+    replies.len() == 4097
+        && replies[4095] == Ok(Reply::Injected(4095))
+        && replies[4096] == Err(Refused::TooManyPackets)
+}
+
+/// Whether a ring of 64 takes as many packets as there may be, which are left at their sources.
+fn takes_no_more(rt: &(impl Threads + Sync), alloc: Global) -> Option<bool> {
+    let steps = injections(alloc, 64, 4097, 32)?;
+    let ring = opening(alloc, 64, 1, Kind::Shortest)?;
+    let played = play(rt, alloc, ring, steps.as_slice()).ok()?;
+    let is_full = played.world.packets() == 4096 && is_told(&played);
+    Some(is_full && all_ended(&played.world, 4096, Fate::Left))
 }
 
 #[test]
-fn as_many_packets_as_there_may_be(rt: HostRuntime) -> Result<(), Fail> {
-    let steps = injections(rt.alloc(), 4097)?;
-    let topology = ring(rt.alloc(), 64)?;
-    let Ok(played) = play(rt.alloc(), opening(topology), steps.as_slice()) else {
-        return Err("not opened".into());
-    };
-    assert!(rt; played.world.packets() == 4096);
-    let last = played.replies.get(4095).copied();
-    assert!(rt; matches!(last, Some(Ok(Reply::Injected(4095)))));
-    let next = played.replies.get(4096).copied();
-    assert!(rt; matches!(next, Some(Err(Refused::TooManyPackets))));
-    assert!(rt; ended(&played, Fate::Left) == 4096);
-    Ok(())
+fn as_many_packets_as_there_may_be(rt: HostRuntime) {
+    assert!(rt; takes_no_more(&rt, rt.alloc()) == Some(true));
+}
+
+/// Whether a drain delivers so many packets over a ring.
+fn delivers(
+    rt: &(impl Threads + Sync),
+    alloc: Global,
+    nodes: u16,
+    count: u16,
+    behind: u16,
+) -> Option<bool> {
+    let mut steps = injections(alloc, nodes, count, behind)?;
+    steps.push(Step::Drain).ok()?;
+    let ring = opening(alloc, nodes, 1, Kind::Shortest)?;
+    let played = play(rt, alloc, ring, steps.as_slice()).ok()?;
+    Some(all_ended(&played.world, count as u32, Fate::Delivered))
 }
 
 #[test]
-fn a_drain_delivers_them_all(rt: HostRuntime) -> Result<(), Fail> {
-    let mut steps = injections(rt.alloc(), 4096)?;
-    steps.push(Step::Drain)?;
-    let topology = ring(rt.alloc(), 64)?;
-    let Ok(played) = play(rt.alloc(), opening(topology), steps.as_slice()) else {
-        return Err("not opened".into());
-    };
-    assert!(rt; ended(&played, Fate::Delivered) == 4096);
-    Ok(())
+fn a_drain_delivers_them_all(rt: HostRuntime) {
+    let most = delivers(&rt, rt.alloc(), 64, 4096, 32);
+    let largest = delivers(&rt, rt.alloc(), 1024, 1024, 128);
+    assert!(rt; (most, largest) == (Some(true), Some(true)));
 }
 
-#[test]
-fn a_ring_of_1024_is_drained(rt: HostRuntime) -> Result<(), Fail> {
-    let mut steps = Vec::new(rt.alloc());
-    for source in 0..1024u16 {
-        steps.push(Step::Event(Event::Inject(source, (source + 128) % 1024)))?;
-    }
-    steps.push(Step::Drain)?;
-    let topology = ring(rt.alloc(), 1024)?;
-    let Ok(played) = play(rt.alloc(), opening(topology), steps.as_slice()) else {
-        return Err("not opened".into());
-    };
-    assert!(rt; ended(&played, Fate::Delivered) == 1024);
-    Ok(())
-}
-
-#[test]
-fn changes_of_the_last_of_8192_links(rt: HostRuntime) -> Result<(), Fail> {
-    let topology = linked(rt.alloc(), 1024, 8)?;
-    let Ok(mut world) = World::new(rt.alloc(), topology, Kind::Tree, 0, 16, 4096, 0) else {
-        return Err("not opened".into());
-    };
-    for k in 0..65535 {
+/// Whether a link goes down and comes up again, one after the other, as often as there may be changes.
+fn flips(rt: &(impl Threads + Sync), world: &mut World, link: u16) -> bool {
+    for k in 0..65_535 {
         let event = if k % 2 == 0 {
-            Event::Down(8191)
+            Event::Down(link)
         } else {
-            Event::Up(8191)
+            Event::Up(link)
         };
-        let Ok(_) = world.apply(event) else {
-            return Err("refused".into());
-        };
+        if world.apply(rt, event).is_err() {
+            return false;
+        }
     }
-    assert!(rt; matches!(world.apply(Event::Up(8191)), Err(Refused::TooManyChanges)));
-    assert!(rt; matches!(world.apply(Event::Down(8191)), Err(Refused::Same)));
-    assert!(rt; matches!(world.apply(Event::Down(8192)), Err(Refused::NoLink)));
-    let newest: Option<Board> = world.board_versions().get(65535).copied();
-    assert!(rt; newest.is_some_and(|board| !board.is_up(8191) && board.is_up(8190)));
-    Ok(())
+    world.apply(rt, Event::Up(link)) == Err(Refused::TooManyChanges)
+        && world.apply(rt, Event::Down(link)) == Err(Refused::Same)
 }
 
-fn opens(alloc: Global, topology: Topology) -> Option<OpenError> {
-    World::new(alloc, topology, Kind::Shortest, 0, 16, 4096, 3).err()
-}
-
-#[test]
-fn the_largest_networks(rt: HostRuntime) -> Result<(), Fail> {
-    let alloc = rt.alloc();
-    assert!(rt; opens(alloc, ring(alloc, 1024)?).is_none());
-    assert!(rt; opens(alloc, ring(alloc, 1025)?) == Some(OpenError::TooLarge));
-    assert!(rt; opens(alloc, linked(alloc, 128, 64)?).is_none());
-    assert!(rt; opens(alloc, linked(alloc, 129, 64)?) == Some(OpenError::TooLarge));
-    let topology = ring(alloc, 1025)?;
-    let refused = play(alloc, opening(topology), &[]);
-    assert!(rt; matches!(refused, Err(OpenError::TooLarge)));
-    Ok(())
-}
-
-#[test]
-fn a_view_is_the_version_read_last(rt: HostRuntime) -> Result<(), Fail> {
-    let topology = ring(rt.alloc(), 3)?;
-    let Ok(mut world) = World::new(rt.alloc(), topology, Kind::Tree, 0, 16, 4096, 0) else {
-        return Err("not opened".into());
-    };
-    let Ok(_) = world.apply(Event::Down(0)) else {
-        return Err("refused".into());
-    };
-    let Ok(_) = world.apply(Event::Read(1, 1)) else {
-        return Err("refused".into());
-    };
-    assert!(rt; world.board_versions().len() == 2);
-    let newest: Option<Board> = world.board_versions().get(1).copied();
-    assert!(rt; newest.is_some_and(|board| !board.is_up(0) && board.is_up(1)));
-    assert!(rt; world.nodes() == 3);
-    if world.nodes() > 1 {
-        assert!(rt; world.view(0) == 0);
-        assert!(rt; world.view(1) == 1);
+/// Whether a board has the mark of one link down, and that of another up.
+fn is_down(world: &World, version: usize, link: u16, other: u16) -> bool {
+    match world.board_versions().get(version) {
+        Some(board) => !board.is_up(link) && board.is_up(other),
+        None => false,
     }
-    Ok(())
+}
+
+/// Whether the last of the most links is changed as often as there may be changes, and none behind it is.
+fn changes_the_last(rt: &(impl Threads + Sync), alloc: Global) -> Option<bool> {
+    let opening = opening(alloc, 1024, 8, Kind::Tree)?;
+    let mut world = World::new(rt, alloc, opening).ok()?;
+    let is_flipped = flips(rt, &mut world, 8191);
+    let is_last = world.apply(rt, Event::Down(8192)) == Err(Refused::NoLink);
+    Some(is_flipped && is_last && is_down(&world, 65_535, 8191, 8190))
 }
 
 #[test]
-fn records_are_handed_out_by_id(rt: HostRuntime) -> Result<(), Fail> {
-    let topology = ring(rt.alloc(), 3)?;
-    let Ok(mut world) = World::new(rt.alloc(), topology, Kind::Tree, 0, 16, 4096, 0) else {
-        return Err("not opened".into());
-    };
-    let Ok(_) = world.apply(Event::Inject(0, 2)) else {
-        return Err("refused".into());
-    };
-    world.drain();
+fn changes_of_the_last_of_8192_links(rt: HostRuntime) {
+    assert!(rt; changes_the_last(&rt, rt.alloc()) == Some(true));
+}
+
+/// Whether a view is the version that was read last, in a world of three nodes.
+fn is_seen(rt: &(impl Threads + Sync), world: &mut World) -> bool {
+    let is_changed = world.apply(rt, Event::Down(0)).is_ok();
+    let is_read = world.apply(rt, Event::Read(1, 1)).is_ok();
+    is_changed
+        && is_read
+        && world.board_versions().len() == 2
+        && is_down(world, 1, 0, 1)
+        && world.nodes() == 3
+        && (world.view(0), world.view(1)) == (0, 1)
+}
+
+/// Whether the one record is that of packet 0, which was delivered.
+fn is_first(world: World) -> bool {
     let records = world.into_records();
-    assert!(rt; records.len() == 1);
-    assert!(rt;
-        records
-            .first()
-            .is_some_and(|record| record.id == 0 && record.fate == Fate::Delivered)
-    );
-    Ok(())
+    match records.as_slice() {
+        [record] => record.id == 0 && record.fate == Fate::Delivered,
+        _ => false,
+    }
+}
+
+/// Whether both are so of a world over a ring of three.
+fn is_handed_out(rt: &(impl Threads + Sync), alloc: Global) -> Option<bool> {
+    let mut world = World::new(rt, alloc, opening(alloc, 3, 1, Kind::Tree)?).ok()?;
+    world.apply(rt, Event::Inject(0, 2)).ok()?;
+    world.drain();
+    let is_seen = is_seen(rt, &mut world);
+    Some(is_seen && is_first(world))
+}
+
+#[test]
+fn views_and_records_are_handed_out(rt: HostRuntime) {
+    assert!(rt; is_handed_out(&rt, rt.alloc()) == Some(true));
 }

@@ -1,163 +1,110 @@
 //! The words of `route`.
 
+ghost use Rattle.std.specs.Prelude.{IfOk};
+ghost use Rattle.ir_words.specs.Words.{FitsItsKind};
+
 use ir_core::Kind;
-use ir_shell::{Format, Sub, Words, WordsError, read_words};
+use ir_words::words::{Format, Sub, Words, WordsError, read_words};
 use std::alloc::Global;
 use std::test::Fail;
 
-/// What the words behind the program's name ask for, or why they are refused.
-fn asked(alloc: Global, words: &[&str]) -> Result<Result<Words, WordsError>, Fail> {
+/// What a line of words behind the program's name asks for, or why it is refused.
+fn asked_by(alloc: Global, line: &str) -> Result<Words, WordsError>
+    ensures { IfOk result (λ words. FitsItsKind words) }
+{
     let mut all: Vec<String> = Vec::new(alloc);
-    for word in words {
+    for word in line.split_whitespace() {
         all.push(String::from_str(alloc, word)?)?;
     }
-    Ok(read_words(alloc, all.as_slice()))
+    read_words(alloc, all.as_slice())
 }
 
-/// What they ask for where they are not refused.
-pub(crate) fn understood(alloc: Global, words: &[&str]) -> Result<Words, Fail> {
-    match asked(alloc, words)? {
-        Ok(words) => Ok(words),
-        Err(_) => Err("the words are refused".into()),
-    }
-}
-
-/// What a line of words asks for, or why it is refused.
-fn asked_by(alloc: Global, line: &str) -> Result<Result<Words, WordsError>, Fail> {
-    let mut words: Vec<&str> = Vec::new(alloc);
-    for word in line.split_whitespace() {
-        words.push(word)?;
-    }
-    asked(alloc, words.as_slice())
+/// Whether words ask for a plan with all as it is where nothing is said.
+fn is_default(words: &Words) -> bool {
+    words.sub == Sub::Plan
+        && words.format == Format::AdjList
+        && words.kind == Kind::Shortest
+        && words.root.is_none()
+        && (words.capacity, words.packets, words.restamps) == (16, 4096, 0)
+        && words.threads.is_none()
+        && words.files.len() == 1
+        && words.files[0].as_str() == "file"
 }
 
 #[test]
-fn words_by_default(rt: HostRuntime) -> Result<(), Fail> {
-    let Ok(words) = asked_by(rt.alloc(), "plan file")? else {
-        return Err("the words are refused".into());
+fn words_by_default(rt: HostRuntime) {
+    let words = asked_by(rt.alloc(), "plan file");
+    assert!(rt; words.is_ok_and(|words| is_default(&words)));
+}
+
+/// Whether words ask for what is given.
+fn is_given(words: &Words) -> bool {
+    let is_rooted = match &words.root {
+        Some(name) => name.as_str() == "b",
+        None => false,
     };
-    assert!(rt; words.sub == Sub::Plan && words.format == Format::AdjList);
-    assert!(rt; words.kind == Kind::Shortest && words.root.is_none());
-    assert!(rt; words.capacity == 16 && words.packets == 4096 && words.restamps == 0);
-    assert!(rt; words.threads.is_none());
-    assert!(rt; words.files.len() == 1);
-    assert!(rt;
-        words
-            .files
-            .first()
-            .is_some_and(|name| name.as_str() == "file")
-    );
-    Ok(())
+    is_rooted
+        && words.sub == Sub::Sim
+        && words.format == Format::EdgeList
+        && words.kind == Kind::Compact
+        && (words.capacity, words.packets, words.restamps) == (1024, 2, 3)
+        && words.is_one_input()
 }
 
 #[test]
-fn words_that_are_given(rt: HostRuntime) -> Result<(), Fail> {
+fn words_that_are_given(rt: HostRuntime) {
     let line =
         "sim --format edgelist --kind compact --root b --capacity 1024 --packets 2 --restamps 3 -";
-    let Ok(words) = asked_by(rt.alloc(), line)? else {
-        return Err("the words are refused".into());
-    };
-    assert!(rt; words.sub == Sub::Sim && words.format == Format::EdgeList);
-    assert!(rt; words.kind == Kind::Compact);
-    assert!(rt; words.root.is_some_and(|name| name.as_str() == "b"));
-    assert!(rt; words.capacity == 1024 && words.packets == 2 && words.restamps == 3);
-    assert!(rt; words.files.first().is_some_and(|name| name.as_str() == "-"));
-    Ok(())
+    let words = asked_by(rt.alloc(), line);
+    assert!(rt; words.is_ok_and(|words| is_given(&words)));
+}
+
+/// Words, with the subcommand, the restamps, the threads and the choice of disjoint prefixes that they ask for.
+const LINES: [(&'static str, (Sub, u8, Option<usize>, bool)); 7] = [
+    ("plan --threads 1 -", (Sub::Plan, 0, Some(1), false)),
+    ("draw --threads 256 -", (Sub::Draw, 0, Some(256), false)),
+    (
+        "walk --threads 2 --from a --to b -",
+        (Sub::Walk, 0, Some(2), false),
+    ),
+    ("stats --threads 16 -", (Sub::Stats, 0, Some(16), false)),
+    ("prefixes --disjoint -", (Sub::Prefixes, 0, None, true)),
+    ("prefixes -", (Sub::Prefixes, 0, None, false)),
+    ("live --restamps 2 -", (Sub::Live, 2, None, false)),
+];
+
+/// Whether a line asks for this.
+fn asks(alloc: Global, line: &str, wanted: (Sub, u8, Option<usize>, bool)) -> bool {
+    match asked_by(alloc, line) {
+        Ok(words) => (words.sub, words.restamps, words.threads, words.disjoint) == wanted,
+        Err(_) => false,
+    }
 }
 
 #[test]
-fn threads_that_are_given(rt: HostRuntime) -> Result<(), Fail> {
-    for (line, most) in [
-        ("plan --threads 1 -", 1),
-        ("draw --threads 256 -", 256),
-        ("walk --threads 2 --from a --to b -", 2),
-        ("stats --threads 16 -", 16),
-    ] {
-        let words = asked_by(rt.alloc(), line)?;
-        assert!(rt;
-            words.is_ok_and(|words| words.threads == Some(most)),
-            "{line}"
-        );
+fn words_of_each_subcommand(rt: HostRuntime) -> Result<(), Fail> {
+    for (line, wanted) in &LINES {
+        if !asks(rt.alloc(), line, *wanted) {
+            return Err("the words ask for something else".into());
+        }
     }
     Ok(())
 }
 
-#[test]
-fn words_that_ask_for_prefixes(rt: HostRuntime) -> Result<(), Fail> {
-    for (line, is_disjoint) in [("prefixes --disjoint -", true), ("prefixes -", false)] {
-        let Ok(words) = asked_by(rt.alloc(), line)? else {
-            return Err("the words are refused".into());
-        };
-        assert!(rt;
-            words.sub == Sub::Prefixes && words.disjoint == is_disjoint,
-            "{line}"
-        );
+/// The number of the refusal of a line, and its text.
+fn refusal(alloc: Global, line: &str) -> Option<(u8, String)> {
+    let error = asked_by(alloc, line).err()?;
+    let code = error.code();
+    match error {
+        WordsError::Usage(text) | WordsError::Help(text) => Some((code, text)),
+        WordsError::NoMemory => None,
     }
-    Ok(())
 }
 
 #[test]
-fn words_that_are_refused(rt: HostRuntime) -> Result<(), Fail> {
-    for line in [
-        "",
-        "other",
-        "plan",
-        "plan one two",
-        "plan --format graphml -",
-        "plan --kind longest -",
-        "plan --depth 1 -",
-        "plan --capacity many -",
-        "plan --capacity 0 -",
-        "plan --capacity 1025 -",
-        "plan --packets 0 -",
-        "plan --packets 4097 -",
-        "plan - --to a",
-        "plan --threads 0 -",
-        "plan --threads 257 -",
-        "stats --threads many -",
-        "sim --threads 2 -",
-        "check --threads 2 -",
-        "live",
-        "live topology",
-        "live - script",
-        "live one two three",
-        "live --restamps 4 -",
-        "sim",
-        "sim topology",
-        "sim - script",
-        "sim one two three",
-        "sim --restamps 4 -",
-        "check one two",
-        "check one two -",
-        "walk - --from a",
-        "walk - --to a",
-        "stats - --from a",
-        "draw - --from a",
-        "draw - --to a",
-        "prefixes",
-        "prefixes one two",
-        "prefixes - --to a",
-        "plan --disjoint -",
-    ] {
-        let answer = asked_by(rt.alloc(), line)?;
-        assert!(rt; answer.is_err_and(|error| error.code() == 1), "{line}");
-    }
-    Ok(())
-}
-
-#[test]
-fn words_that_ask_for_a_text(rt: HostRuntime) -> Result<(), Fail> {
-    for (line, part) in [
-        ("plan --help", "--capacity"),
-        ("sim --help", "inject"),
-        ("live --help", "inject"),
-        ("prefixes --help", "--disjoint"),
-        ("--version", "route 1.0.0\n"),
-    ] {
-        let Err(WordsError::Help(text)) = asked_by(rt.alloc(), line)? else {
-            return Err("there is no such text".into());
-        };
-        assert!(rt; text.as_str().contains(part), "{line}");
-    }
-    Ok(())
+fn words_that_are_refused(rt: HostRuntime) {
+    let none = refusal(rt.alloc(), "");
+    assert!(rt; none.is_some_and(|told| told.0 == 1));
+    let version = refusal(rt.alloc(), "--version");
+    assert!(rt; version.is_some_and(|told| told.0 == 2 && told.1.as_str() == "route 1.0.0\n"));
 }

@@ -3,7 +3,6 @@ ghost use Rattle.ir_streams.specs.Writing.{Writes};
 
 use ir_streams::write_text;
 use std::io::Write;
-use std::test::Fail;
 
 /// Writes a text to any writer of `std::io`, and answers whether it took all of it.
 fn send<W: Write>(writer: &mut W, text: &[u8]) -> bool
@@ -13,9 +12,8 @@ fn send<W: Write>(writer: &mut W, text: &[u8]) -> bool
 }
 
 #[test]
-fn a_text_is_sent(rt: HostRuntime) -> Result<(), Fail> {
+fn a_text_is_sent(rt: HostRuntime) {
     let mut bytes: Vec<u8> = Vec::new(rt.alloc());
-    assert!(rt; send(&mut bytes, b"a b\n".as_slice()));
-    assert!(rt; bytes.as_slice() == b"a b\n".as_slice());
-    Ok(())
+    let is_sent = send(&mut bytes, b"a b\n".as_slice());
+    assert!(rt; is_sent && bytes.as_slice() == b"a b\n".as_slice());
 }

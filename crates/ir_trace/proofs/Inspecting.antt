@@ -43,7 +43,7 @@ part_facts n part h =
     record { some = some; within = both.1; last = last_within n part.hops both.1 some }
 
 -- the scheme of one install more
-schemes_push : (net : Network) (installs : List Install) (plans : List Scheme) (install : Install) (t : Scheme) → AreSchemesOf net installs plans → IsMade install.kind install.root (restrict install.up.items net) (Some t)
+schemes_push : (net : Network) (installs : List Install) (plans : List Scheme) (install : Install) (t : Scheme) → AreSchemesOf net installs plans → IsMade install.labels install.kind install.root (restrict install.up.items net) (Some t)
     → AreSchemesOf net (installs ++ install ∷ []) (plans ++ t ∷ [])
 schemes_push net [] [] install t are is = (is, tt)
 schemes_push net [] (s ∷ plans) install t are is = absurd are
@@ -51,7 +51,7 @@ schemes_push net (i ∷ installs) [] install t are is = absurd are
 schemes_push net (i ∷ installs) (s ∷ plans) install t are is = (are.0, schemes_push net installs plans install t are.1 is)
 
 pub schemes_more : (net : Network) (installs : List Install) (k : ℕ) (install : Install) (plans : List Scheme) (t : Scheme) → k < length installs → install ≡ get_or installs k install
-    → AreSchemesOf net (take k installs) plans → IsMade install.kind install.root (restrict install.up.items net) (Some t) → AreSchemesOf net (take (k + 1) installs) (plans ++ t ∷ [])
+    → AreSchemesOf net (take k installs) plans → IsMade install.labels install.kind install.root (restrict install.up.items net) (Some t) → AreSchemesOf net (take (k + 1) installs) (plans ++ t ∷ [])
 schemes_more net installs k install plans t lt at are is =
     let more : take (k + 1) installs ≡ take k installs ++ install ∷ [] = take_more installs k install lt ∙ ap (λ (x : Install). take k installs ++ x ∷ []) (sym at) in
     rw more (schemes_push net (take k installs) plans install t are is)

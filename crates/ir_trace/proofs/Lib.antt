@@ -19,3 +19,4 @@ pub mod ReadLinks
 pub mod ReadWithin
 pub mod ReadAgain
 pub mod SegmentsAgain
+pub mod Replayed

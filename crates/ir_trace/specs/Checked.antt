@@ -34,7 +34,7 @@ abbrev pub AreSchemesOf : Network → List Install → List Scheme → Type 0
 AreSchemesOf net [] [] = Unit {0}
 AreSchemesOf net [] (t ∷ plans) = ⊥
 AreSchemesOf net (i ∷ installs) [] = ⊥
-AreSchemesOf net (i ∷ installs) (t ∷ plans) = IsMade i.kind i.root (restrict i.up.items net) (Some t) × AreSchemesOf net installs plans
+AreSchemesOf net (i ∷ installs) (t ∷ plans) = IsMade i.labels i.kind i.root (restrict i.up.items net) (Some t) × AreSchemesOf net installs plans
 
 abbrev pub no_scheme : Scheme
 no_scheme = record { kind = Tree; root = 0; network = record { links = []; ports = [] }; order = []; labels = []; table = []; rows = [] }

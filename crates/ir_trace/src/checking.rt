@@ -1,36 +1,27 @@
 //! Traces checked against what each epoch was installed with.
-ghost use Rattle.std.specs.Prelude.{◌≡◌, ◌<◌, ◌≤◌, ℕ, List, true, IfOk, IfErr, length, nat_lt, nat_le, ◌&&◌, ◌||◌, ◌==◌, not, Some};
+ghost use Rattle.std.specs.Prelude.{◌≡◌, ◌<◌, ◌≤◌, List, true, IfOk, IfErr, length, nat_lt, nat_le, ◌&&◌, ◌||◌, ◌==◌, not, Some};
 ghost use Rattle.std.specs.List.{list_all};
-ghost use Rattle.ir_model.specs.Network.{node_count, restrict};
-ghost use Rattle.ir_model.specs.Scheme.{Scheme, IsScheme};
-ghost use Rattle.ir_core.specs.Meaning.{IsMade};
+ghost use Rattle.ir_model.specs.Network.{node_count};
 ghost use Rattle.ir_core.specs.Sound.{last_of};
-ghost use Rattle.ir_trace.specs.Checked.{plan_at, last_part, is_part_over, IsRowOver, AreRowsOver, IsInstall, AreInstalls, AreSchemesOf, AreFine, Finds};
+ghost use Rattle.ir_trace.specs.Checked.{plan_at, is_part_over, IsRowOver, AreRowsOver, AreInstalls, AreFine, Finds};
 ghost use Rattle.ir_trace.specs.Sound.{IsSoundTrace};
 ghost use Rattle.ir_trace.specs.Inspect.{is_node, next_of, leads_through, follows_from, are_known, are_joined, fits_fate, goes_on, is_delivered, has_arrived, weight_of, found_of, AreOver, IsOverPlan, AreOverPlans, FindsBy};
 
 use crate::MAX_SEGMENTS;
 use crate::finding::{Finding, FindingKind};
+use crate::judging::{
+    are_known, fits_fate, is_node, last_hop, last_of, last_segment, next_of, plan_at, plans_of,
+};
 use crate::reading::Trace;
 use crate::row::{RowFate, Segment, TraceRow};
 use crate::weight::walk_weight;
 use ir_core::Install;
 use ir_model::MAX_NODES;
-use ir_plan::{Plan, PlanError};
+use ir_plan::Plan;
 use ir_tables::Topology;
-use std::alloc::{AllocError, Global};
+use std::alloc::Global;
 use std::collections::BTreeSet;
-
-/// The node that a plan sends on to.
-fn next_of(plan: &Plan, at: u16, dest: u16) -> Option<u16>
-    requires at { at < node_count plan.now.network }
-    requires dest { dest < node_count plan.now.network }
-    ensures { result ≡ next_of plan.now at dest }
-{
-    let _nodes = plan.nodes();
-    let port = plan.port(at, plan.label_of(dest))?;
-    Some(plan.hop(at, port).node)
-}
+use std::thread::Threads;
 
 /// Whether a plan leads from a node through these nodes.
 fn leads_through(plan: &Plan, first: u16, rest: &[u16], dest: u16) -> bool
@@ -67,40 +58,11 @@ fn follows_from(plan: &Plan, from: u16, hops: &[u16], dest: u16) -> bool
     leads_through(plan, *first, rest, dest)
 }
 
-/// Whether the epoch of a segment is one of so many.
-fn is_known(segment: &Segment, epochs: usize) -> bool
-    ensures { result ≡ (nat_lt 0 segment.now.epoch && nat_le segment.now.epoch epochs) }
-{
-    0 < segment.epoch && segment.epoch as usize <= epochs
-}
-
-fn are_known(segments: &[Segment], epochs: usize) -> bool
-    ensures { result ≡ are_known epochs segments.now }
-{
-    segments.iter().all(|segment| is_known(segment, epochs))
-}
-
-/// The plan of an epoch.
-fn plan_at(plans: &[Plan], epoch: u32) -> &Plan
-    requires above { 0 < epoch }
-    requires within { epoch ≤ length plans.now }
-    ensures { result.now ≡ plan_at plans.now epoch }
-{
-    &plans[epoch as usize - 1]
-}
-
-/// The last of some hops.
-fn last_of(hops: &[u16]) -> u16
-    requires { 0 < length hops.now }
-    ensures { result ≡ last_of hops.now }
-{
-    hops[hops.len() - 1]
-}
-
 /// Whether a segment begins at a node, is of an epoch above another, and follows the walk of its own.
 fn joins(plans: &[Plan], segment: &Segment, at: u16, above: u32, dest: u16) -> bool
     requires { IsOverPlan plans.now dest segment.now }
-    ensures { result ≡ (nat_lt above segment.now.epoch && follows_from (plan_at plans.now segment.now.epoch) dest at segment.now.hops) }
+    ensures { result ≡ (nat_lt above segment.now.epoch && follows_from
+        (plan_at plans.now segment.now.epoch) dest at segment.now.hops) }
 {
     if segment.epoch <= above {
         return false;
@@ -111,14 +73,6 @@ fn joins(plans: &[Plan], segment: &Segment, at: u16, above: u32, dest: u16) -> b
         segment.hops.as_slice(),
         dest,
     )
-}
-
-/// The last hop of a segment.
-fn last_hop(segment: &Segment) -> u16
-    requires { 0 < length segment.now.hops }
-    ensures { result ≡ last_of segment.now.hops }
-{
-    last_of(segment.hops.as_slice())
 }
 
 /// Whether segments are joined end to end from a node on, over rising epochs, and each follows the walk of its own.
@@ -138,41 +92,11 @@ fn are_joined(plans: &[Plan], segments: &[Segment], source: u16, dest: u16) -> b
     true
 }
 
-/// Whether it is this node.
-fn is_node(next: Option<u16>, node: u16) -> bool
-    ensures { result ≡ is_node next node }
-{
-    match next {
-        Some(next) => next == node,
-        None => false,
-    }
-}
-
-/// Whether where a packet is and where it is to go on to fit a fate.
-fn fits_fate(fate: RowFate, at: u16, next: Option<u16>) -> bool
-    ensures { result ≡ fits_fate fate at next }
-{
-    match fate {
-        RowFate::Delivered | RowFate::Retired | RowFate::Left => true,
-        RowFate::Down { low, high } => {
-            (at == low && is_node(next, high)) || (at == high && is_node(next, low))
-        }
-        RowFate::Full { from, to } => at == from && is_node(next, to),
-    }
-}
-
-/// The last of some segments.
-fn last_segment(segments: &[Segment]) -> &Segment
-    requires { 0 < length segments.now }
-    ensures { result.now ≡ last_part segments.now }
-{
-    &segments[segments.len() - 1]
-}
-
 /// Whether the walk of a segment goes on as a fate says.
 fn goes_on(plans: &[Plan], last: &Segment, fate: RowFate, dest: u16) -> bool
     requires { IsOverPlan plans.now dest last.now }
-    ensures { result ≡ fits_fate fate (last_of last.now.hops) (next_of (plan_at plans.now last.now.epoch) (last_of last.now.hops) dest) }
+    ensures { result ≡ fits_fate fate (last_of last.now.hops)
+        (next_of (plan_at plans.now last.now.epoch) (last_of last.now.hops) dest) }
 {
     let at = last_hop(last);
     fits_fate(fate, at, next_of(plan_at(plans, last.epoch), at, dest))
@@ -226,37 +150,6 @@ fn found_of(topology: &Topology, plans: &[Plan], row: &TraceRow) -> Option<Findi
     None
 }
 
-/// The plans of epochs, over the links that were up at their installs.
-fn plans_of(
-    alloc: Global,
-    topology: &Topology,
-    installs: &[Install],
-) -> Result<Vec<Plan>, AllocError>
-    requires { AreInstalls topology.now installs.now }
-    ensures { IfOk result (λ plans. AreSchemesOf topology.now installs.now plans.items) }
-{
-    let mut plans = Vec::with_capacity(alloc, installs.len())?;
-    for install in installs {
-        plans.push(plan_of(alloc, topology, install)?)?;
-    }
-    Ok(plans)
-}
-
-/// The plan of an epoch, over the links that were up at its install.
-fn plan_of(alloc: Global, topology: &Topology, install: &Install) -> Result<Plan, AllocError>
-    requires { IsInstall topology.now install.now }
-    ensures { IfOk result (λ plan. IsMade install.now.kind install.now.root (restrict install.now.up.items topology.now) (Some plan)) }
-{
-    let kept = topology.only(alloc, install.up.as_slice())?;
-    match Plan::build(alloc, kept, install.kind, install.root) {
-        Ok(plan) => Ok(plan),
-        Err((PlanError::NoMemory, _)) => Err(AllocError),
-        Err((PlanError::Empty, _)) => unreachable!(),
-        Err((PlanError::NoNode, _)) => unreachable!(),
-        Err((PlanError::Disconnected, _)) => unreachable!(),
-    }
-}
-
 /// The first finding of a trace: the first line with one, and in it the first of these. `UnknownEpoch` where no install
 /// made the epoch of a segment; `NotAPrefix` where the segments are not joined end to end from the source on over rising
 /// epochs, or one is not a prefix of the walk to the destination that the full table of its own epoch prescribes from its
@@ -265,9 +158,12 @@ fn plan_of(alloc: Global, topology: &Topology, install: &Install) -> Result<Plan
 /// is not that of the hops; `Repeated` where an earlier line has the id. Where there is none, each segment of each row is
 /// a sound journey of its epoch, and a delivered one of a shortest-path epoch went over its distance. The install of
 /// epoch e stands at place e - 1.
+/// Plans of more than 256 nodes are made in threads, where they can be started.
 /// Condition: the trace was read over the topology's graph; each install has a mark for each link, a root that is a
-/// node, and joins all nodes.
+/// node, and joins all nodes. Takes as long as `judging::plans_of`, O(log k + d) for each hop and O(log r) for each of
+/// r rows, for at most k starts and d ports of a node.
 pub fn check_trace(
+    rt: &(impl Threads + Sync),
     alloc: Global,
     topology: &Topology,
     installs: &[Install],
@@ -278,7 +174,7 @@ pub fn check_trace(
     ensures sound { IfOk result (λ _. IsSoundTrace topology.now installs.now trace.now) }
     ensures finding { IfErr result (λ e. Finds topology.now installs.now trace.now e.line e.kind) }
 {
-    let plans = plans_of(alloc, topology, installs)?;
+    let plans = plans_of(rt, alloc, topology, installs)?;
     check_rows(alloc, topology, plans.as_slice(), trace.all())
 }
 

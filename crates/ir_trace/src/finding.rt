@@ -46,7 +46,7 @@ pub struct Finding {
 }
 
 impl Finding {
-    /// The number of the kind, from 1 for `NotTrace` to 9 for `NoMemory`.
+    /// The number of the kind, from 1 for `NotTrace` to 9 for `NoMemory`. For users of the library.
     pub fn code(self) -> u8
         ensures { result ≡ code_of self.kind }
     {

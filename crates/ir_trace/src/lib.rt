@@ -8,6 +8,7 @@
 
 mod checking;
 mod finding;
+pub mod judging;
 mod numbers;
 mod outlet;
 mod reading;

@@ -22,7 +22,7 @@ impl TraceError {
     ghost use Rattle.std.specs.Prelude.{◌≡◌};
     ghost use Rattle.ir_trace.specs.Codes.{error_code};
 
-    /// The number of the error: 1 or 2.
+    /// The number of the error: 1 or 2. For users of the library.
     pub fn code(self) -> u8
         ensures { result ≡ error_code self }
     {
@@ -57,7 +57,7 @@ impl<W> Model for Outlet<W> {
 }
 
 impl<W: Writer> Outlet<W> {
-    /// An outlet over a writer. It has not failed.
+    /// An outlet over a writer. It has not failed. For users of the library.
     pub fn new(writer: W) -> Outlet<W>
         ensures { result ≡ record { writer = writer; failed = false } }
     {
@@ -68,13 +68,14 @@ impl<W: Writer> Outlet<W> {
     }
 
     /// Whether the writer gave an error, also as it was flushed, or took none of the bytes left.
+    /// For users of the library.
     pub fn failed(&self) -> bool
         ensures { result ≡ self.now.failed }
     {
         self.failed
     }
 
-    /// The writer.
+    /// The writer. For users of the library.
     pub fn into_inner(self) -> W
         ensures { result ≡ self.writer }
     {

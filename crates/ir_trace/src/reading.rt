@@ -134,7 +134,8 @@ fn read_rows(alloc: Global, text: &[u8], graph: &Graph) -> Result<Trace, Finding
 
 /// The trace of either version that a text is over a graph, or its first fault: `NotTrace` in line 1; in a later line
 /// `BadRow`, or else `UnknownNode`; or `NoMemory`. Rows may stand in any order, and an id may be any number that a row
-/// may hold. The trace of records that can be written is read again as their rows.
+/// may hold. The trace of records that can be written is read again as their rows. Takes O(b) on average, for a text
+/// of b bytes.
 pub fn read_trace(alloc: Global, text: &[u8], graph: &Graph) -> Result<Trace, Finding>
     ensures read { IfOk result (λ trace. IsTrace graph.now text.now trace) }
     ensures fault { IfErr result (λ e. Tells graph.now text.now e.line e.kind) }
@@ -143,8 +144,12 @@ pub fn read_trace(alloc: Global, text: &[u8], graph: &Graph) -> Result<Trace, Fi
     ensures within { IfOk result (λ trace. AreRowsOver (node_count (network_of_graph graph.now)) trace) }
 
     // What is written is read again: no fault but want of memory, and the rows of the records.
-    ensures again { (records : List Journey) → IsTraceOf graph.now text.now records → MatchResult result (λ trace. trace ≡ map (row_again (network_of_graph graph.now)) records) (λ e. e.kind ≡ FindingKind.NoMemory) }
-    ensures segments_again { (records : List Journey) → AreSegmentsOf graph.now text.now records → MatchResult result (λ trace. trace ≡ map (segments_again (network_of_graph graph.now)) records) (λ e. e.kind ≡ FindingKind.NoMemory) }
+    ensures again { (records : List Journey) → IsTraceOf graph.now text.now records
+        → MatchResult result (λ trace. trace ≡ map (row_again (network_of_graph graph.now)) records)
+        (λ e. e.kind ≡ FindingKind.NoMemory) }
+    ensures segments_again { (records : List Journey) → AreSegmentsOf graph.now text.now records
+        → MatchResult result (λ trace. trace ≡ map (segments_again (network_of_graph graph.now)) records)
+        (λ e. e.kind ≡ FindingKind.NoMemory) }
 {
     let _nodes = graph.number_of_nodes();
     read_rows(alloc, text, graph)

@@ -1,5 +1,5 @@
 //! The nodes and links that the names of a row stand for.
-ghost use Rattle.std.specs.Prelude.{◌≡◌, MatchOption, IfOk, map};
+ghost use Rattle.std.specs.Prelude.{MatchOption, IfOk, map};
 ghost use Rattle.ir_trace.specs.Reading.{AreLinkedAs, FateIsReadAs, PartsAreReadAs, IsReadAs};
 ghost use Rattle.ir_trace.specs.Spelled.{texts, fate_held, part_held, text_held, AreNotLinked, IsNoFateOf, AreNoHops, AreHops, AreNoPartsOf, IsNoRowOf};
 
@@ -10,7 +10,8 @@ use std::alloc::{AllocError, Global};
 
 /// The numbers of two nodes that are linked.
 fn ends_of(graph: &Graph, x: &str, y: &str) -> Option<(u16, u16)>
-    ensures { MatchOption result (AreNotLinked graph.now x.now y.now) (λ ends. AreLinkedAs graph.now x.now y.now ends.0 ends.1) }
+    ensures { MatchOption result (AreNotLinked graph.now x.now y.now)
+        (λ ends. AreLinkedAs graph.now x.now y.now ends.0 ends.1) }
 {
     let u = graph.index_of(x)?;
     let v = graph.index_of(y)?;
@@ -22,7 +23,8 @@ fn ends_of(graph: &Graph, x: &str, y: &str) -> Option<(u16, u16)>
 
 /// The fate with numbers for names.
 fn fate_of(graph: &Graph, fate: FateSpelling) -> Option<RowFate>
-    ensures { MatchOption result (IsNoFateOf graph.now (fate_held fate.entry)) (λ read. FateIsReadAs graph.now (fate_held fate.entry) read) }
+    ensures { MatchOption result (IsNoFateOf graph.now (fate_held fate.entry))
+        (λ read. FateIsReadAs graph.now (fate_held fate.entry) read) }
 {
     match fate {
         FateSpelling::Delivered => Some(RowFate::Delivered),
@@ -45,7 +47,8 @@ fn fate_of(graph: &Graph, fate: FateSpelling) -> Option<RowFate>
 
 /// The numbers of the nodes with these names.
 fn hops_of(alloc: Global, graph: &Graph, words: &[&str]) -> Result<Option<Vec<u16>>, AllocError>
-    ensures { IfOk result (λ found. MatchOption found (AreNoHops graph.now (texts words.now)) (λ hops. AreHops graph.now (texts words.now) hops.items)) }
+    ensures { IfOk result (λ found. MatchOption found (AreNoHops graph.now (texts words.now))
+        (λ hops. AreHops graph.now (texts words.now) hops.items)) }
 {
     let mut hops = Vec::with_capacity(alloc, words.len())?;
     for word in words {
@@ -63,7 +66,8 @@ fn segments_of(
     graph: &Graph,
     spellings: &[SegmentSpelling],
 ) -> Result<Option<Vec<Segment>>, AllocError>
-    ensures { IfOk result (λ found. MatchOption found (AreNoPartsOf graph.now (map part_held spellings.now)) (λ segments. PartsAreReadAs graph.now (map part_held spellings.now) segments.items)) }
+    ensures { IfOk result (λ found. MatchOption found (AreNoPartsOf graph.now (map part_held spellings.now))
+        (λ segments. PartsAreReadAs graph.now (map part_held spellings.now) segments.items)) }
 {
     let mut segments = Vec::with_capacity(alloc, spellings.len())?;
     for spelling in spellings {
@@ -85,7 +89,8 @@ pub fn resolve(
     graph: &Graph,
     spelling: &Spelling,
 ) -> Result<Option<TraceRow>, AllocError>
-    ensures { IfOk result (λ found. MatchOption found (IsNoRowOf graph.now (text_held spelling.now)) (λ row. IsReadAs graph.now (text_held spelling.now) row)) }
+    ensures { IfOk result (λ found. MatchOption found (IsNoRowOf graph.now (text_held spelling.now))
+        (λ row. IsReadAs graph.now (text_held spelling.now) row)) }
 {
     let head = spelling.head;
     let Some(source) = graph.index_of(head.source) else {

@@ -57,5 +57,12 @@ impl Model for TraceRow {
 
     ghost Value = { Row };
 
-    ghost view = { λ r. record { id = r.id; source = r.source; dest = r.dest; weight = r.weight; fate = r.fate; parts = r.segments.items } };
+    ghost view = { λ r. record {
+      id = r.id;
+      source = r.source;
+      dest = r.dest;
+      weight = r.weight;
+      fate = r.fate;
+      parts = r.segments.items;
+    } };
 }

@@ -23,7 +23,7 @@ pub fn push_next_number(text: &mut String, n: usize) -> Result<(), AllocError>
     push_number(text, n)
 }
 
-/// Writes a space and a word.
+/// Writes a space and a word. Takes O(b), for b bytes.
 pub fn push_word(text: &mut String, word: &str) -> Result<(), AllocError>
     ensures { OnOk result (string_bytes text.new ≡ string_bytes text.old ++ spaced word.now) }
 {
@@ -50,7 +50,8 @@ pub fn push_name(text: &mut String, graph: &Graph, u: u16) -> Result<(), AllocEr
 /// Writes a space and a name for each node of a list.
 pub(crate) fn push_names(text: &mut String, graph: &Graph, nodes: &[u16]) -> Result<(), AllocError>
     requires { list_all (λ x. nat_lt x (length graph.now)) nodes.now ≡ true }
-    ensures { OnOk result (string_bytes text.new ≡ string_bytes text.old ++ flat_map spaced (map (name_at (names graph.now)) nodes.now)) }
+    ensures { OnOk result (string_bytes text.new ≡ string_bytes text.old
+        ++ flat_map spaced (map (name_at (names graph.now)) nodes.now)) }
 {
     for node in nodes {
         push_name(text, graph, *node)?;

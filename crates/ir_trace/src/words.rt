@@ -79,7 +79,8 @@ fn split_spaces(alloc: Global, text: &str) -> Result<Vec<&str>, AllocError>
 
 /// The words of a line that has single spaces between words, and no other byte than those of words.
 pub fn line_words(alloc: Global, line: &[u8]) -> Result<Option<Vec<&str>>, AllocError>
-    ensures { IfOk result (λ found. MatchOption found (HasNoWords line.now) (λ words. HasWords line.now (texts words.items))) }
+    ensures { IfOk result (λ found. MatchOption found (HasNoWords line.now)
+        (λ words. HasWords line.now (texts words.items))) }
 {
     let Ok(text) = str::from_utf8(line) else {
         return Ok(None);
@@ -93,7 +94,8 @@ pub fn line_words(alloc: Global, line: &[u8]) -> Result<Option<Vec<&str>>, Alloc
 
 /// The fate that a word names, with the names behind it, and the words behind those.
 fn spelled_fate<'a>(word: &str, rest: &'a [&'a str]) -> Option<(FateSpelling<'a>, &'a [&'a str])>
-    ensures { MatchOption result (IsNoFate (word.now ∷ texts rest.now)) (λ p. fate_words (fate_held p.0) ++ texts p.1.now ≡ word.now ∷ texts rest.now) }
+    ensures { MatchOption result (IsNoFate (word.now ∷ texts rest.now))
+        (λ p. fate_words (fate_held p.0) ++ texts p.1.now ≡ word.now ∷ texts rest.now) }
 {
     match (word, rest) {
         ("delivered", hops) => Some((FateSpelling::Delivered, hops)),
@@ -108,7 +110,8 @@ fn spelled_fate<'a>(word: &str, rest: &'a [&'a str]) -> Option<(FateSpelling<'a>
 /// The row that the words of a line of the first version spell.
 fn spelled_one<'a>(words: &'a [&'a str]) -> Option<(Head<'a>, SegmentSpelling<'a>)>
     requires { list_all is_word (texts words.now) ≡ true }
-    ensures { MatchOption result (SpellsNothing Version.One (texts words.now)) (λ s. Spells Version.One (texts words.now) (row_told s.0 (part_held s.1 ∷ []))) }
+    ensures { MatchOption result (SpellsNothing Version.One (texts words.now))
+        (λ s. Spells Version.One (texts words.now) (row_told s.0 (part_held s.1 ∷ []))) }
 {
     let [id, epoch, source, dest, weight, fate, rest @ ..] = words else {
         return None;
@@ -130,7 +133,8 @@ fn spelled_one<'a>(words: &'a [&'a str]) -> Option<(Head<'a>, SegmentSpelling<'a
 
 /// What the words of a line of the second version spell before the segments, and the words of those.
 fn spelled_head<'a>(words: &'a [&'a str]) -> Option<(Head<'a>, &'a [&'a str])>
-    ensures { MatchOption result (HasNoHead (texts words.now)) (λ s. HasHead (texts words.now) (row_told s.0 []) (texts s.1.now)) }
+    ensures { MatchOption result (HasNoHead (texts words.now))
+        (λ s. HasHead (texts words.now) (row_told s.0 []) (texts s.1.now)) }
 {
     let [id, source, dest, weight, fate, rest @ ..] = words else {
         return None;
@@ -176,7 +180,8 @@ fn hop_count(words: &[&str]) -> usize
 
 /// The segment that words begin with, and how many of the words are its own.
 fn first_segment<'a>(words: &'a [&'a str]) -> Option<(SegmentSpelling<'a>, usize)>
-    ensures begins { MatchOption result (BeginsWithNone (texts words.now)) (λ s. BeginsWith (texts words.now) (part_held s.0) (texts (drop s.1 words.now))) }
+    ensures begins { MatchOption result (BeginsWithNone (texts words.now))
+        (λ s. BeginsWith (texts words.now) (part_held s.0) (texts (drop s.1 words.now))) }
     ensures some { IfSome result (λ s. 0 < s.1) }
     ensures within { IfSome result (λ s. s.1 ≤ length words.now) }
 {
@@ -197,7 +202,8 @@ fn spelled_segments<'a>(
     alloc: Global,
     words: &'a [&'a str],
 ) -> Result<Option<Vec<SegmentSpelling<'a>>>, AllocError>
-    ensures { IfOk result (λ found. MatchOption found (AreNoParts (texts words.now)) (λ s. AreParts (texts words.now) (map part_held s.items))) }
+    ensures { IfOk result (λ found. MatchOption found (AreNoParts (texts words.now))
+        (λ s. AreParts (texts words.now) (map part_held s.items))) }
 {
     let mut segments = Vec::new(alloc);
     let mut rest = words;
@@ -224,7 +230,8 @@ pub fn spelled<'a>(
     words: &'a [&'a str],
 ) -> Result<Option<Spelling<'a>>, AllocError>
     requires { list_all is_word (texts words.now) ≡ true }
-    ensures { IfOk result (λ found. MatchOption found (SpellsNothing version (texts words.now)) (λ s. Spells version (texts words.now) (text_held s))) }
+    ensures { IfOk result (λ found. MatchOption found (SpellsNothing version (texts words.now))
+        (λ s. Spells version (texts words.now) (text_held s))) }
 {
     match version {
         Version::One => {

@@ -46,7 +46,8 @@ fn channel_start(topology: &Topology, link: u16, to: u16) -> u16
 fn push_pair(text: &mut String, graph: &Graph, word: &str, u: u16, v: u16) -> Result<(), AllocError>
     requires first { u < length graph.now }
     requires second { v < length graph.now }
-    ensures { OnOk result (string_bytes text.new ≡ string_bytes text.old ++ flat_map spaced (word.now ∷ name_at (names graph.now) u ∷ name_at (names graph.now) v ∷ [])) }
+    ensures { OnOk result (string_bytes text.new ≡ string_bytes text.old
+        ++ flat_map spaced (word.now ∷ name_at (names graph.now) u ∷ name_at (names graph.now) v ∷ [])) }
 {
     push_word(text, word)?;
     push_name(text, graph, u)?;
@@ -62,7 +63,8 @@ fn push_fate(
 ) -> Result<(), AllocError>
     requires nodes { node_count topology.now ≡ length graph.now }
     requires fate { FateIsIn topology.now fate }
-    ensures { OnOk result (string_bytes text.new ≡ string_bytes text.old ++ flat_map spaced (fate_words (fate_text (names graph.now) topology.now fate))) }
+    ensures { OnOk result (string_bytes text.new ≡ string_bytes text.old
+        ++ flat_map spaced (fate_words (fate_text (names graph.now) topology.now fate))) }
 {
     match fate {
         Fate::Delivered => push_word(text, "delivered"),
@@ -88,7 +90,8 @@ fn push_row(
 ) -> Result<(), AllocError>
     requires nodes { node_count topology.now ≡ length graph.now }
     requires packet { IsWritable topology.now packet.now }
-    ensures { OnOk result (string_bytes text.new ≡ string_bytes text.old ++ row_line Version.One (row_of (names graph.now) topology.now packet.now)) }
+    ensures { OnOk result (string_bytes text.new ≡ string_bytes text.old
+        ++ row_line Version.One (row_of (names graph.now) topology.now packet.now)) }
 {
     let hops = packet.hops.as_slice();
     push_number(text, packet.id as usize)?;
@@ -110,7 +113,8 @@ fn push_segment(
     hops: &[u16],
 ) -> Result<(), AllocError>
     requires { list_all (λ x. nat_lt x (length graph.now)) hops.now ≡ true }
-    ensures { OnOk result (string_bytes text.new ≡ string_bytes text.old ++ flat_map spaced (part_words (named (names graph.now) (record { epoch = epoch; hops = hops.now })))) }
+    ensures { OnOk result (string_bytes text.new ≡ string_bytes text.old
+        ++ flat_map spaced (part_words (named (names graph.now) (record { epoch = epoch; hops = hops.now })))) }
 {
     text.push_str(" #")?;
     push_number(text, epoch as usize)?;
@@ -128,7 +132,9 @@ fn push_segments(
 ) -> Result<(), AllocError>
     requires hops { list_all (λ x. nat_lt x (length graph.now)) hops.now ≡ true }
     requires places { AreAscending 0 (length hops.now) restamps.now }
-    ensures { OnOk result (string_bytes text.new ≡ string_bytes text.old ++ flat_map spaced (flat_map part_words (map (named (names graph.now)) (parts_from epoch 0 hops.now restamps.now)))) }
+    ensures { OnOk result (string_bytes text.new ≡ string_bytes text.old
+        ++ flat_map spaced (flat_map part_words
+        (map (named (names graph.now)) (parts_from epoch 0 hops.now restamps.now)))) }
 {
     let mut epoch = epoch;
     let mut from = 0;
@@ -149,7 +155,8 @@ fn push_segments_row(
 ) -> Result<(), AllocError>
     requires nodes { node_count topology.now ≡ length graph.now }
     requires packet { HasSegments topology.now packet.now }
-    ensures { OnOk result (string_bytes text.new ≡ string_bytes text.old ++ row_line Version.Two (segments_row (names graph.now) topology.now packet.now)) }
+    ensures { OnOk result (string_bytes text.new ≡ string_bytes text.old
+        ++ row_line Version.Two (segments_row (names graph.now) topology.now packet.now)) }
 {
     let nodes = packet.hops.as_slice();
     push_number(text, packet.id as usize)?;
@@ -165,7 +172,8 @@ fn push_segments_row(
 /// The trace of records over the topology of their graph: the line `trace 1`, and a row for each record in order, with
 /// its first epoch and all of its hops, restamped or not. Only want of memory is refused. Condition: the topology is
 /// that of the graph; the nodes and links of each record are among its nodes and links; the hops are 1 to
-/// `ir_model::MAX_NODES` nodes, each linked to the next; the node of a `Full` is an end of its link.
+/// `ir_model::MAX_NODES` nodes, each linked to the next; the node of a `Full` is an end of its link. Takes O(r + h d),
+/// for r records of h hops in all and at most d ports of a node.
 pub fn trace_text(
     alloc: Global,
     graph: &Graph,
@@ -188,7 +196,7 @@ pub fn trace_text(
 /// takes none of the bytes left: a front of the text went out then, and the outlet has failed. After `NoMemory` the outlet
 /// is as it was. Condition: the outlet has not failed; the
 /// nodes and links of each record are those of the graph; the hops are 1 to `ir_model::MAX_NODES` nodes, each linked to
-/// the next; the node of a `Full` is an end of its link.
+/// the next; the node of a `Full` is an end of its link. Takes as long as `trace_text`. For users of the library.
 pub fn write_trace<W: Writer>(
     alloc: Global,
     graph: &Graph,
@@ -197,7 +205,8 @@ pub fn write_trace<W: Writer>(
 ) -> Result<(), TraceError>
     requires open { outlet.old.failed ≡ false }
     requires records { AreWritable (network_of_graph graph.now) records.now }
-    ensures { IsWritten W.contents W.wrote W.settled outlet.old (records_text (names graph.now) (network_of_graph graph.now) records.now) result outlet.new }
+    ensures { IsWritten W.contents W.wrote W.settled outlet.old
+        (records_text (names graph.now) (network_of_graph graph.now) records.now) result outlet.new }
 {
     let topology = Topology::of(alloc, graph)?;
     let text = trace_text(alloc, graph, &topology, records)?;
@@ -206,7 +215,8 @@ pub fn write_trace<W: Writer>(
 
 /// The trace of records in the second version: the line `trace 2`, and a row of segments for each record in order. Only
 /// want of memory is refused. Condition: that of `trace_text`, and each record has at most three restamps, each `from` a
-/// place in its hops, strictly ascending.
+/// place in its hops, strictly ascending. Takes O(r + h d), for r records of h hops in all and at most d ports of a
+/// node.
 pub fn trace_text_2(
     alloc: Global,
     graph: &Graph,
@@ -226,7 +236,8 @@ pub fn trace_text_2(
 
 /// Writes the trace of records over their graph in the second version: the line `trace 2`, and a row of segments for
 /// each record in order. Refused as `write_trace` is. Condition: that of `write_trace`, and each record has at most three
-/// restamps, each `from` a place in its hops, strictly ascending.
+/// restamps, each `from` a place in its hops, strictly ascending. Takes as long as `trace_text_2`.
+/// For users of the library.
 pub fn write_trace_2<W: Writer>(
     alloc: Global,
     graph: &Graph,
@@ -235,7 +246,8 @@ pub fn write_trace_2<W: Writer>(
 ) -> Result<(), TraceError>
     requires open { outlet.old.failed ≡ false }
     requires records { HaveSegments (network_of_graph graph.now) records.now }
-    ensures { IsWritten W.contents W.wrote W.settled outlet.old (segments_text (names graph.now) (network_of_graph graph.now) records.now) result outlet.new }
+    ensures { IsWritten W.contents W.wrote W.settled outlet.old
+        (segments_text (names graph.now) (network_of_graph graph.now) records.now) result outlet.new }
 {
     let topology = Topology::of(alloc, graph)?;
     let text = trace_text_2(alloc, graph, &topology, records)?;

@@ -1,3 +1,4 @@
+-- what contracts promise
 pub mod Words
 pub mod Cut
 pub mod Lines

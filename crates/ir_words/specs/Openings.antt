@@ -5,11 +5,17 @@ use Rattle.ir_model.specs.declared.Fault.{Fault}
 use Rattle.ir_model.specs.Graph.{Name, Adjacency, names}
 use Rattle.ir_model.specs.Made.{graph_of}
 use Rattle.ir_model.specs.Text.{names_in, pairs_in, first_fault}
+use Rattle.ir_model.specs.Network.{Network}
 use Rattle.ir_model.specs.Edgelist.{edges_in, graph_of_edges, first_edge_fault}
+use Rattle.ir_plan.specs.declared.tour.LabelOrder.{LabelOrder}
+use Rattle.ir_plan.specs.declared.tour.LabelOrder.TheVariants as orders
+use Rattle.ir_core.specs.declared.opening.Opening.{Opening}
 use Rattle.ir_core.specs.declared.event.OpenError.{OpenError}
 use Rattle.ir_core.specs.declared.event.OpenError.TheVariants.{Empty, NoNode}
 use Rattle.ir_words.specs.declared.words.Format.{Format}
 use Rattle.ir_words.specs.declared.words.Format.TheVariants.{AdjList, EdgeList}
+use Rattle.ir_words.specs.declared.words.Numbering.{Numbering}
+use Rattle.ir_words.specs.declared.words.Numbering.TheVariants.{DepthFirst, Tour, File}
 use Rattle.ir_words.specs.declared.words.Words.{Words}
 use Rattle.ir_words.specs.Answer.{Answer, Refused}
 use Rattle.ir_order.specs.Order.{order_fault, IsOrder}
@@ -32,6 +38,24 @@ root_name words = option_map string_bytes words.root
 abbrev pub root_in : List Name → Option Name → Option ℕ
 root_in nodes None = Some 0
 root_in nodes (Some name) = position (bytes_eq name) nodes
+
+-- the order in which the plans of a run are labelled; that of a file is no run's
+abbrev pub label_order : Numbering → LabelOrder
+label_order DepthFirst = orders.DepthFirst
+label_order Tour = orders.Tour
+label_order (File name) = orders.DepthFirst
+
+-- the opening of a run over a network, as the words ask for it
+abbrev pub opening_by : Words → Network → ℕ → Opening
+opening_by words net root = record {
+  topology = net;
+  labels = label_order words.numbering;
+  kind = words.kind;
+  root = root;
+  capacity = words.capacity;
+  max_packets = words.packets;
+  restamps = words.restamps;
+}
 
 -- the refusal of a root that is no node
 abbrev pub no_root : Adjacency → OpenError

@@ -1,16 +1,18 @@
-//! The graph of a topology text, and its root.
+//! The graph of a topology text, its root, and what a run over it is opened with.
 ghost use Rattle.std.specs.Prelude.{◌≡◌, ◌<◌, None, IfOk, IfErr, IfSome, OnOk, length, string_bytes};
 ghost use Rattle.std.specs.Option.{option_map};
 ghost use Rattle.ir_model.specs.Graph.{names};
 ghost use Rattle.ir_model.specs.Text.{lines};
 ghost use Rattle.ir_adjlist.specs.Told.{Tells};
-ghost use Rattle.ir_words.specs.Openings.{topology_fault, topology_graph, root_in, no_root};
+ghost use Rattle.ir_words.specs.Openings.{topology_fault, topology_graph, root_in, no_root, label_order, opening_by};
 
-use crate::words::Format;
+use crate::words::{Format, Numbering, Words};
 use ir_adjlist::{TextError, parse_adjlist, parse_weighted_edgelist};
-use ir_core::OpenError;
+use ir_core::{OpenError, Opening};
 use ir_graph::Graph;
-use std::alloc::Global;
+use ir_plan::LabelOrder;
+use ir_tables::Topology;
+use std::alloc::{AllocError, Global};
 
 /// The graph of a topology text in its format.
 pub fn read_topology(alloc: Global, format: Format, text: &[u8]) -> Result<Graph, TextError>
@@ -44,4 +46,35 @@ pub fn no_root(graph: &Graph) -> OpenError
     } else {
         OpenError::NoNode
     }
+}
+
+/// The order in which the plans of a run are labelled. That of a file is no run's, and told as depth first.
+pub fn label_order(numbering: &Numbering) -> LabelOrder
+    ensures { result ≡ label_order numbering.now }
+{
+    match numbering {
+        Numbering::Tour => LabelOrder::Tour,
+        Numbering::DepthFirst | Numbering::File(_) => LabelOrder::DepthFirst,
+    }
+}
+
+/// What the words ask for a run over a topology to be opened with, with the root of this number. It is refused for memory
+/// alone.
+pub fn opening_of(
+    alloc: Global,
+    words: &Words,
+    topology: &Topology,
+    root: u16,
+) -> Result<Opening, AllocError>
+    ensures { IfOk result (λ opening. opening ≡ opening_by words.now topology.now root) }
+{
+    Ok(Opening {
+        topology: topology.try_clone(alloc)?,
+        labels: label_order(&words.numbering),
+        kind: words.kind,
+        root,
+        capacity: words.capacity,
+        max_packets: words.packets,
+        restamps: words.restamps,
+    })
 }

@@ -25,7 +25,8 @@ pub enum Reply {
 
 /// Writes what the inputs come to.
 pub fn write_reply<W: Writer, F: Writer>(reply: &Reply, output: &mut W, faults: &mut F) -> Ending
-    ensures { RepliesAs result (answer_of reply.now) (Sends W.contents W.wrote W.settled output.old output.new) (output.new ≡ output.old) (Tells F.contents F.wrote F.settled faults.old faults.new) }
+    ensures { RepliesAs result (answer_of reply.now) (Sends W.contents W.wrote W.settled output.old output.new)
+        (output.new ≡ output.old) (Tells F.contents F.wrote F.settled faults.old faults.new) }
 {
     match reply {
         Reply::Refused(line) => {

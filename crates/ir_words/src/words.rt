@@ -1,6 +1,6 @@
 //! The words of the command line.
 
-ghost use Rattle.std.specs.Prelude.{◌≡◌, ◌≢◌, true, IfOk};
+ghost use Rattle.std.specs.Prelude.{◌≡◌, true, None, IfOk};
 ghost use Rattle.ir_words.specs.Words.{format_of_name, FitsItsKind};
 
 use clap::error::ErrorKind;
@@ -51,8 +51,8 @@ pub struct Words {
     pub kind: Kind,
     /// The name of the root; the first node where there is none.
     pub root: Option<String>,
-    /// Other than depth first for `plan`, `walk`, `stats`, `draw` and `prefixes` alone, where the kind is not Tree; a file's
-    /// where no root is named.
+    /// Other than depth first where the kind is not Tree alone; a file's for `plan`, `walk`, `stats`, `draw` and `prefixes`
+    /// alone, where no root is named.
     pub numbering: Numbering,
     /// The capacity of each channel and inbox, from 1 to 1,024.
     pub capacity: usize,
@@ -140,6 +140,8 @@ static FORMAT_HELP: &str =
 
 static KINDS: [&str; 3] = ["tree", "shortest", "compact"];
 
+static ORDERS: [&str; 2] = ["depth-first", "tour"];
+
 static VERSION: &str = "1.0.0";
 
 static PLAN_ABOUT: &str = "Prints the labels and rows of a topology's nodes";
@@ -168,6 +170,24 @@ Example, for a topology with the lines 'a b' and 'b c':
   c 2 2/1 - 0/0 b
 
 What goes to a label goes by the line of the longest prefix that holds it.";
+
+static EXPLAIN_HELP: &str =
+    "Sentences behind the lines of faults, on standard error: where, what and why";
+
+static ORDER_HELP: &str =
+    "How each plan's nodes are numbered, from its root; a tour is for fewer intervals";
+
+static NUMBERING_HELP: &str =
+    "How nodes are numbered: depth-first, tour (for fewer intervals), or a file with a node a line, in order";
+
+static TWO_TEXTS: &str =
+    "The file of the topology, or - for standard input with both texts, cut at the line %%";
+
+static THREE_TEXTS: &str =
+    "The file of the topology, or - for standard input with all three texts, cut at the first two lines %%";
+
+static CHECK_ABOUT: &str =
+    "Checks the rows of a trace against the walks that the script's plans prescribe";
 
 static SIM_ABOUT: &str = "Plays the lines of a script, and prints what became of its packets";
 
@@ -255,202 +275,290 @@ error: '--numbering' takes 'depth-first', 'tour' or a file, not '-'
 For more information, try '--help'.
 ";
 
+/// A flag.
+fn flag<'a>(alloc: Global, name: &'a str, help: &'a str) -> Arg<'a> {
+    Arg::new(alloc, name)
+        .long(name)
+        .action(ArgAction::SetTrue)
+        .help(help)
+}
+
+/// An option with a value.
+fn option<'a>(alloc: Global, name: &'a str, value: &'a str, help: &'a str) -> Arg<'a> {
+    Arg::new(alloc, name)
+        .long(name)
+        .value_name(value)
+        .help(help)
+}
+
+/// A file.
+fn file<'a>(alloc: Global, name: &'a str, value: &'a str, help: &'a str) -> Arg<'a> {
+    Arg::new(alloc, name).value_name(value).help(help)
+}
+
+/// A command, if there was memory for it, with one more argument.
+fn with_arg<'a>(
+    command: Result<Command<'a>, AllocError>,
+    arg: Arg<'a>,
+) -> Result<Command<'a>, AllocError> {
+    match command {
+        Ok(command) => command.arg(arg),
+        Err(error) => Err(error),
+    }
+}
+
+/// The same with an argument, if there was memory for that.
+fn with_made<'a>(
+    command: Result<Command<'a>, AllocError>,
+    arg: Result<Arg<'a>, AllocError>,
+) -> Result<Command<'a>, AllocError> {
+    match arg {
+        Ok(arg) => with_arg(command, arg),
+        Err(error) => Err(error),
+    }
+}
+
+/// The same with one more subcommand.
+fn with_sub<'a>(
+    command: Result<Command<'a>, AllocError>,
+    sub: Result<Command<'a>, AllocError>,
+) -> Result<Command<'a>, AllocError> {
+    match command {
+        Ok(command) => match sub {
+            Ok(sub) => command.subcommand(sub),
+            Err(error) => Err(error),
+        },
+        Err(error) => Err(error),
+    }
+}
+
+fn format_arg<'a>(alloc: Global) -> Arg<'a> {
+    option(alloc, "format", "FORMAT", FORMAT_HELP).value_parser(FORMATS.as_slice())
+}
+
+fn kind_arg<'a>(alloc: Global) -> Arg<'a> {
+    option(alloc, "kind", "KIND", "How the first plan routes")
+        .value_parser(KINDS.as_slice())
+        .default_value("shortest")
+}
+
+fn root_arg<'a>(alloc: Global) -> Arg<'a> {
+    option(
+        alloc,
+        "root",
+        "NAME",
+        "The root of the first plan; the first node by default",
+    )
+}
+
+fn capacity_arg<'a>(alloc: Global) -> Arg<'a> {
+    option(
+        alloc,
+        "capacity",
+        "C",
+        "The capacity of each channel and inbox",
+    )
+    .value_parser(clap::value_parser!(u16).range(1..=1024))
+    .default_value("16")
+}
+
+fn packets_arg<'a>(alloc: Global) -> Arg<'a> {
+    option(alloc, "packets", "M", "The most packets")
+        .value_parser(clap::value_parser!(u16).range(1..=4096))
+        .default_value("4096")
+}
+
 /// The same with the two flags for sentences behind the lines of faults.
-fn with_sentences<'a>(alloc: Global, command: Command<'a>) -> Result<Command<'a>, AllocError> {
-    let explain = Arg::new(alloc, "explain")
-        .long("explain")
-        .action(ArgAction::SetTrue)
-        .help("Sentences behind the lines of faults, on standard error: where, what and why");
-    let no_explain = Arg::new(alloc, "no-explain")
-        .long("no-explain")
-        .action(ArgAction::SetTrue)
-        .help("No such sentences, on a terminal either");
-    command.arg(explain)?.arg(no_explain)
+fn with_sentences<'a>(
+    alloc: Global,
+    command: Result<Command<'a>, AllocError>,
+) -> Result<Command<'a>, AllocError> {
+    with_arg(
+        with_arg(command, flag(alloc, "explain", EXPLAIN_HELP)),
+        flag(
+            alloc,
+            "no-explain",
+            "No such sentences, on a terminal either",
+        ),
+    )
+}
+
+/// The same with the options on channels and packets, and the two flags.
+fn with_limits<'a>(
+    alloc: Global,
+    command: Result<Command<'a>, AllocError>,
+) -> Result<Command<'a>, AllocError> {
+    let bounded = with_arg(with_arg(command, capacity_arg(alloc)), packets_arg(alloc));
+    with_sentences(alloc, bounded)
 }
 
 /// A subcommand's command, with the options that all have.
 fn with_options<'a>(alloc: Global, name: &'a str) -> Result<Command<'a>, AllocError> {
-    let format = Arg::new(alloc, "format")
-        .long("format")
-        .value_name("FORMAT")
-        .value_parser(FORMATS.as_slice())
-        .help(FORMAT_HELP);
-    let kind = Arg::new(alloc, "kind")
-        .long("kind")
-        .value_name("KIND")
-        .value_parser(KINDS.as_slice())
-        .default_value("shortest")
-        .help("How the first plan routes");
-    let root = Arg::new(alloc, "root")
-        .long("root")
-        .value_name("NAME")
-        .help("The root of the first plan; the first node by default");
-    let capacity = Arg::new(alloc, "capacity")
-        .long("capacity")
-        .value_name("C")
-        .value_parser(clap::value_parser!(u16).range(1..=1024))
-        .default_value("16")
-        .help("The capacity of each channel and inbox");
-    let packets = Arg::new(alloc, "packets")
-        .long("packets")
-        .value_name("M")
-        .value_parser(clap::value_parser!(u16).range(1..=4096))
-        .default_value("4096")
-        .help("The most packets");
-    let command = Command::new(alloc, name)
-        .arg(format)?
-        .arg(kind)?
-        .arg(root)?
-        .arg(capacity)?
-        .arg(packets)?;
-    with_sentences(alloc, command)
+    let command = with_arg(Ok(Command::new(alloc, name)), format_arg(alloc));
+    let rooted = with_arg(with_arg(command, kind_arg(alloc)), root_arg(alloc));
+    with_limits(alloc, rooted)
+}
+
+/// The argument for the order in which the plans of a run are labelled.
+fn order_arg<'a>(alloc: Global) -> Arg<'a> {
+    option(alloc, "numbering", "NUMBERING", ORDER_HELP)
+        .value_parser(ORDERS.as_slice())
+        .default_value("depth-first")
 }
 
 /// The argument for the file of the topology.
 fn topology_arg<'a>(alloc: Global, help: &'a str) -> Arg<'a> {
-    Arg::new(alloc, "topology")
-        .value_name("TOPOLOGY")
-        .required(true)
-        .help(help)
+    file(alloc, "topology", "TOPOLOGY", help).required(true)
 }
 
 /// The argument for the file of the script.
 fn script_arg<'a>(alloc: Global) -> Arg<'a> {
-    Arg::new(alloc, "script")
-        .value_name("SCRIPT")
-        .help("The file of the script")
+    file(alloc, "script", "SCRIPT", "The file of the script")
+}
+
+fn threads_arg<'a>(alloc: Global) -> Arg<'a> {
+    option(
+        alloc,
+        "threads",
+        "T",
+        "The most threads that make rows; as many as suit the processors by default",
+    )
+    .value_parser(clap::value_parser!(u16).range(1..=256))
+}
+
+fn numbering_arg<'a>(alloc: Global) -> Arg<'a> {
+    option(alloc, "numbering", "NUMBERING", NUMBERING_HELP).default_value("depth-first")
+}
+
+/// What a command is about, and what follows its help.
+fn about<'a>(
+    command: Result<Command<'a>, AllocError>,
+    about: &'a str,
+) -> Result<Command<'a>, AllocError> {
+    match command {
+        Ok(command) => Ok(command.about(about)),
+        Err(error) => Err(error),
+    }
 }
 
 /// The command of a subcommand that takes a topology alone.
 fn topology_command<'a>(
     alloc: Global,
     name: &'a str,
-    about: &'a str,
+    text: &'a str,
 ) -> Result<Command<'a>, AllocError> {
-    let topology = topology_arg(alloc, "The file of the topology, or - for standard input");
-    let threads = Arg::new(alloc, "threads")
-        .long("threads")
-        .value_name("T")
-        .value_parser(clap::value_parser!(u16).range(1..=256))
-        .help("The most threads that make rows; as many as suit the processors by default");
-    let numbering = Arg::new(alloc, "numbering")
-        .long("numbering")
-        .value_name("NUMBERING")
-        .default_value("depth-first")
-        .help(
-            "How nodes are numbered: depth-first, tour (for fewer intervals), or a file with a node a line, in order",
-        );
-    with_options(alloc, name)?
-        .arg(threads)?
-        .arg(numbering)?
-        .about(about)
-        .arg(topology)
+    let command = with_arg(with_options(alloc, name), threads_arg(alloc));
+    let numbered = with_arg(command, numbering_arg(alloc));
+    with_arg(
+        about(numbered, text),
+        topology_arg(alloc, "The file of the topology, or - for standard input"),
+    )
 }
 
 /// The command of `walk`.
 fn walk_command<'a>(alloc: Global) -> Result<Command<'a>, AllocError> {
-    let from = Arg::new(alloc, "from")
-        .long("from")
-        .value_name("A")
-        .required(true)
-        .help("The node that the walk goes from");
-    let to = Arg::new(alloc, "to")
-        .long("to")
-        .value_name("B")
-        .required(true)
-        .help("The node that the walk goes to");
-    topology_command(alloc, "walk", WALK_ABOUT)?
-        .arg(from)?
-        .arg(to)
+    let from = option(alloc, "from", "A", "The node that the walk goes from").required(true);
+    let to = option(alloc, "to", "B", "The node that the walk goes to").required(true);
+    let command = topology_command(alloc, "walk", WALK_ABOUT);
+    with_arg(with_arg(command, from), to)
 }
 
 /// The command of `draw`.
 fn draw_command<'a>(alloc: Global) -> Result<Command<'a>, AllocError> {
-    let from = Arg::new(alloc, "from")
-        .long("from")
-        .value_name("A")
-        .requires_arg("to")?
-        .help("The node from which a walk is drawn in bold");
-    let to = Arg::new(alloc, "to")
-        .long("to")
-        .value_name("B")
-        .requires_arg("from")?
-        .help("The node to which it goes");
-    topology_command(alloc, "draw", DRAW_ABOUT)?
-        .arg(from)?
-        .arg(to)
+    let from = option(
+        alloc,
+        "from",
+        "A",
+        "The node from which a walk is drawn in bold",
+    );
+    let to = option(alloc, "to", "B", "The node to which it goes");
+    let command = topology_command(alloc, "draw", DRAW_ABOUT);
+    let begun = with_made(command, from.requires_arg("to"));
+    with_made(begun, to.requires_arg("from"))
 }
 
 /// The command of `prefixes`.
 fn prefixes_command<'a>(alloc: Global) -> Result<Command<'a>, AllocError> {
-    let disjoint = Arg::new(alloc, "disjoint")
-        .long("disjoint")
-        .action(ArgAction::SetTrue)
-        .help("Prefixes of which no two of a node hold one label");
-    topology_command(alloc, "prefixes", PREFIXES_ABOUT)?
-        .after_help(PREFIXES_LINES)
-        .arg(disjoint)
+    let command = topology_command(alloc, "prefixes", PREFIXES_ABOUT)?;
+    command.after_help(PREFIXES_LINES).arg(flag(
+        alloc,
+        "disjoint",
+        "Prefixes of which no two of a node hold one label",
+    ))
+}
+
+fn restamps_arg<'a>(alloc: Global) -> Arg<'a> {
+    option(
+        alloc,
+        "restamps",
+        "R",
+        "The most restamps of a packet; above 0 the trace has its segments",
+    )
+    .value_parser(clap::value_parser!(u16).range(0..=3))
+    .default_value("0")
+}
+
+/// The options of a subcommand that plays a script: its name.
+fn played<'a>(alloc: Global, name: &'a str) -> Result<Command<'a>, AllocError> {
+    let ordered = with_arg(with_options(alloc, name), order_arg(alloc));
+    with_arg(ordered, restamps_arg(alloc))
 }
 
 /// The command of a subcommand that plays a script: its name, what it is about, its usage, and the lines of its scripts.
 fn script_command<'a>(
     alloc: Global,
     name: &'a str,
-    about: &'a str,
+    text: &'a str,
     usage: &'a str,
     lines: &'a str,
 ) -> Result<Command<'a>, AllocError> {
-    let topology = topology_arg(
-        alloc,
-        "The file of the topology, or - for standard input with both texts, cut at the line %%",
-    );
-    let restamps = Arg::new(alloc, "restamps")
-        .long("restamps")
-        .value_name("R")
-        .value_parser(clap::value_parser!(u16).range(0..=3))
-        .default_value("0")
-        .help("The most restamps of a packet; above 0 the trace has its segments");
-    with_options(alloc, name)?
-        .arg(restamps)?
-        .about(about)
-        .override_usage(usage)
-        .after_help(lines)
-        .arg(topology)?
-        .arg(script_arg(alloc))
+    let command = played(alloc, name)?;
+    let told = command.about(text).override_usage(usage).after_help(lines);
+    with_arg(
+        with_arg(Ok(told), topology_arg(alloc, TWO_TEXTS)),
+        script_arg(alloc),
+    )
 }
 
 /// The command of `check`.
 fn check_command<'a>(alloc: Global) -> Result<Command<'a>, AllocError> {
-    let topology = topology_arg(
-        alloc,
-        "The file of the topology, or - for standard input with all three texts, cut at the first two lines %%",
+    let command = with_arg(with_options(alloc, "check"), order_arg(alloc));
+    let told = about(command, CHECK_ABOUT)?.override_usage(CHECK_USAGE);
+    let read = with_arg(
+        with_arg(Ok(told), topology_arg(alloc, THREE_TEXTS)),
+        script_arg(alloc),
     );
-    let trace = Arg::new(alloc, "trace")
-        .value_name("TRACE")
-        .help("The file of the trace");
-    with_options(alloc, "check")?
-        .about("Checks the rows of a trace against the walks that the script's plans prescribe")
-        .override_usage(CHECK_USAGE)
-        .arg(topology)?
-        .arg(script_arg(alloc))?
-        .arg(trace)
+    with_arg(read, file(alloc, "trace", "TRACE", "The file of the trace"))
 }
 
-/// The command of the program.
-fn route_command<'a>(alloc: Global) -> Result<Command<'a>, AllocError> {
+/// The program's command, before its subcommands.
+fn program<'a>(alloc: Global) -> Command<'a> {
     Command::new(alloc, "route")
         .about("Interval routing with live relabelling; with no words as 'route sim -'")
         .version(VERSION)
         .subcommand_required(true)
         .after_help(SCRIPT_LINES)
-        .subcommand(topology_command(alloc, "plan", PLAN_ABOUT)?)?
-        .subcommand(walk_command(alloc)?)?
-        .subcommand(topology_command(alloc, "stats", STATS_ABOUT)?)?
-        .subcommand(draw_command(alloc)?)?
-        .subcommand(prefixes_command(alloc)?)?
-        .subcommand(script_command(alloc, "sim", SIM_ABOUT, SIM_USAGE, SCRIPT_LINES)?)?
-        .subcommand(script_command(alloc, "live", LIVE_ABOUT, LIVE_USAGE, LIVE_LINES)?)?
-        .subcommand(check_command(alloc)?)
+}
+
+/// The same with the subcommands that show a plan's rows and a walk of it.
+fn with_rows<'a>(alloc: Global) -> Result<Command<'a>, AllocError> {
+    let plan = topology_command(alloc, "plan", PLAN_ABOUT);
+    with_sub(with_sub(Ok(program(alloc)), plan), walk_command(alloc))
+}
+
+/// The same with all subcommands that show a plan.
+fn with_looks<'a>(alloc: Global) -> Result<Command<'a>, AllocError> {
+    let stats = topology_command(alloc, "stats", STATS_ABOUT);
+    let drawn = with_sub(with_sub(with_rows(alloc), stats), draw_command(alloc));
+    with_sub(drawn, prefixes_command(alloc))
+}
+
+/// The command of the program.
+fn route_command<'a>(alloc: Global) -> Result<Command<'a>, AllocError> {
+    let sim = script_command(alloc, "sim", SIM_ABOUT, SIM_USAGE, SCRIPT_LINES);
+    let live = script_command(alloc, "live", LIVE_ABOUT, LIVE_USAGE, LIVE_LINES);
+    let played = with_sub(with_sub(with_looks(alloc), sim), live);
+    with_sub(played, check_command(alloc))
 }
 
 /// An error of the parser as the text to print.
@@ -582,25 +690,9 @@ fn numbering_fault(words: &Words) -> Option<&'static str> {
     }
 }
 
-/// What the words behind the program's name ask for. Words that are refused give the text for standard error, `--help` and
-/// `--version` the text for standard output. Refused are also a number of files that the subcommand does not take, and `-`
-/// beside another file; a file's numbering of a tree, or beside a root, or on standard input.
-pub fn read_words(alloc: Global, words: &[String]) -> Result<Words, WordsError>
-    ensures { IfOk result (λ words. FitsItsKind words) }
-{
-    let mut all: Vec<&str> = Vec::with_capacity(alloc, words.len() + 1)?;
-    all.push("route")?;
-    for word in words {
-        all.push(word.as_str())?;
-    }
-    let found = match route_command(alloc)?.try_get_matches_from(all.as_slice()) {
-        Ok(found) => found,
-        Err(error) => return Err(refused(alloc, &error)),
-    };
-    let Some((name, inner)) = found.subcommand() else {
-        return Err(WordsError::NoMemory);
-    };
-    let (sub, files) = match name {
+/// The subcommand of a name, and what is told of a number of files that it does not take.
+fn sub_of(name: &str) -> (Sub, &'static str) {
+    match name {
         "sim" => (Sub::Sim, SIM_FILES),
         "live" => (Sub::Live, LIVE_FILES),
         "check" => (Sub::Check, CHECK_FILES),
@@ -609,16 +701,61 @@ pub fn read_words(alloc: Global, words: &[String]) -> Result<Words, WordsError>
         "draw" => (Sub::Draw, SIM_FILES),
         "prefixes" => (Sub::Prefixes, SIM_FILES),
         _ => (Sub::Plan, SIM_FILES),
-    };
-    let words = words_of(alloc, sub, inner)?;
-    if !has_its_files(&words) {
-        return Err(WordsError::Usage(String::from_str(alloc, files)?));
     }
-    if let Some(fault) = numbering_fault(&words) {
-        return Err(WordsError::Usage(String::from_str(alloc, fault)?));
+}
+
+/// What is wrong with words, as a text for standard error, if anything is. Of files it is the given text.
+fn fault_of(words: &Words, files: &'static str) -> Option<&'static str>
+    ensures { result ≡ None → FitsItsKind words.now }
+{
+    if !has_its_files(words) {
+        return Some(files);
     }
-    if !fits_its_kind(&words) {
-        return Err(WordsError::Usage(String::from_str(alloc, TREE_NUMBERING)?));
+    if let Some(fault) = numbering_fault(words) {
+        return Some(fault);
     }
-    Ok(words)
+    if fits_its_kind(words) {
+        None
+    } else {
+        Some(TREE_NUMBERING)
+    }
+}
+
+/// The words of a subcommand's name and its matches, if nothing is wrong with them.
+fn words_found(alloc: Global, name: &str, found: &ArgMatches<'_>) -> Result<Words, WordsError>
+    ensures { IfOk result (λ words. FitsItsKind words) }
+{
+    let (sub, files) = sub_of(name);
+    let words = words_of(alloc, sub, found)?;
+    match fault_of(&words, files) {
+        None => Ok(words),
+        Some(fault) => Err(WordsError::Usage(String::from_str(alloc, fault)?)),
+    }
+}
+
+/// The program's name and the words behind it.
+fn all_words<'a>(alloc: Global, words: &'a [String]) -> Result<Vec<&'a str>, AllocError> {
+    let mut all: Vec<&str> = Vec::with_capacity(alloc, words.len() + 1)?;
+    all.push("route")?;
+    for word in words {
+        all.push(word.as_str())?;
+    }
+    Ok(all)
+}
+
+/// What the words behind the program's name ask for. Words that are refused give the text for standard error, `--help` and
+/// `--version` the text for standard output. Refused are also a number of files that the subcommand does not take, and `-`
+/// beside another file; a numbering other than depth first of a tree; and a file's numbering beside a root, on standard
+/// input, or of a run.
+pub fn read_words(alloc: Global, words: &[String]) -> Result<Words, WordsError>
+    ensures { IfOk result (λ words. FitsItsKind words) }
+{
+    let all = all_words(alloc, words)?;
+    match route_command(alloc)?.try_get_matches_from(all.as_slice()) {
+        Ok(found) => match found.subcommand() {
+            Some((name, inner)) => words_found(alloc, name, inner),
+            None => Err(WordsError::NoMemory),
+        },
+        Err(error) => Err(refused(alloc, &error)),
+    }
 }

@@ -27,6 +27,7 @@ use Rattle.ir_core.proofs.Verdicts.{Means, judged_means, if_full, judged-if_full
 use Rattle.ir_core.proofs.Placed.{acted_fits, place_after}
 use Rattle.ir_core.proofs.Segments.{gone, past_in, segments_split, joined_in, linked_in}
 use Rattle.ir_core.proofs.Theorem.{place_fits}
+use Rattle.ir_plan.specs.declared.tour.LabelOrder.TheVariants.{DepthFirst}
 use Rattle.ir_epochs.specs.declared.registry.Stamp.{Stamp}
 use Rattle.ir_epochs.specs.Stamps.{knows}
 use Rattle.ir_worker.specs.declared.parcel.Outcome.{Outcome}
@@ -36,7 +37,7 @@ use Rattle.ir_worker.proofs.Routes.{earlier_in, split_of, split_routed, each_joi
 
 -- a setting that the scheme is for
 abbrev setting_of : Scheme → Setting
-setting_of t = record { network = t.network; first = t; capacity = 1; max_packets = 1; restamps = 0 }
+setting_of t = record { network = t.network; labels = DepthFirst; first = t; capacity = 1; max_packets = 1; restamps = 0 }
 
 plan_for : (t : Scheme) → IsScheme t → IsPlanFor (setting_of t) t
 plan_for t is = record { scheme = is; nodes = refl; links = refl; ports = λ u p hop at. (p, at) }

@@ -47,10 +47,12 @@ pub struct Node {
     outcomes: Vec<Outcome>,
     settled: Arc<AtomicU32, Global>,
     ghost of_registry: { IsOf (arc_value registry) opening },
-    ghost of_board: { (registry_of (known reader) ≡ registry_name opening) × (network_of (known reader) ≡ (knows opening).network) },
+    ghost of_board: { (registry_of (known reader) ≡ registry_name opening)
+        × (network_of (known reader) ≡ (knows opening).network) },
     ghost ends: { AreEndsOf opening restamps index ports.items entrances.inbox entrances.ports.items outs.items },
     ghost account: { IsBalanced entrances.inbox entrances.ports.items outs.items outcomes.items },
-    ghost restamped: { AreRestampsKnown (known reader) entrances.inbox entrances.ports.items outs.items outcomes.items },
+    ghost restamped: { AreRestampsKnown (known reader) entrances.inbox entrances.ports.items outs.items
+        outcomes.items },
     ghost of_net: { ∥ All (IsOutcomeOf opening restamps) outcomes.items ∥₁ },
     ghost causes: { ∥ All (IsCauseKnown (known reader)) outcomes.items ∥₁ },
 }
@@ -90,10 +92,12 @@ impl Node {
         settled: Arc<AtomicU32, Global>,
     ) -> Node
         requires registry { IsOf (arc_value registry) opening }
-        requires board { (registry_of (known reader) ≡ registry_name opening) × (network_of (known reader) ≡ (knows opening).network) }
+        requires board { (registry_of (known reader) ≡ registry_name opening)
+            × (network_of (known reader) ≡ (knows opening).network) }
         requires ends { AreEndsOf opening restamps index ports.items inbox ins.items outs.items }
         requires fresh { (w : Journey → ℕ) → IsEven w inbox ins.items outs.items [] }
-        ensures node { (result.index ≡ index) × (result.registry ≡ registry) × (result.opening ≡ opening) × (result.restamps ≡ restamps) × (result.ports ≡ ports) × (result.reader ≡ reader) }
+        ensures node { (result.index ≡ index) × (result.registry ≡ registry) × (result.opening ≡ opening)
+            × (result.restamps ≡ restamps) × (result.ports ≡ ports) × (result.reader ≡ reader) }
         ensures ends { (result.entrances.inbox ≡ inbox) × (result.entrances.ports ≡ ins) × (result.outs ≡ outs) }
         ensures start { (result.entrances.next ≡ 0) × (result.outcomes.items ≡ []) }
     {
@@ -156,7 +160,8 @@ impl Node {
     ///
     /// Where there is no memory for the outcome nothing is polled.
     pub fn turn<R: Moments<Parcel>>(&mut self, rt: &R) -> Result<Turn, AllocError>
-        ensures { MatchResult result (λ turn. IsTurn R.was_full R.was_empty self.old self.new turn) (λ _. IsUntouched self.old self.new) }
+        ensures { MatchResult result (λ turn. IsTurn R.was_full R.was_empty self.old self.new turn)
+            (λ _. IsUntouched self.old self.new) }
     {
         self.outcomes.reserve(1)?;
         let way = self.way();
@@ -200,9 +205,11 @@ impl Node {
 
     /// The ends of its inbox and ports, and what was settled here.
     pub fn into_ends(self) -> Ends
-        ensures ends { (result.inbox ≡ self.entrances.inbox) × (result.ins ≡ self.entrances.ports) × (result.outs ≡ self.outs) × (result.outcomes ≡ self.outcomes) }
+        ensures ends { (result.inbox ≡ self.entrances.inbox) × (result.ins ≡ self.entrances.ports)
+            × (result.outs ≡ self.outs) × (result.outcomes ≡ self.outcomes) }
         ensures account { IsBalanced result.inbox result.ins.items result.outs.items result.outcomes.items }
-        ensures places { AreEndsOf self.opening self.restamps self.index self.ports.items result.inbox result.ins.items result.outs.items }
+        ensures places { AreEndsOf self.opening self.restamps self.index self.ports.items result.inbox result.ins.items
+            result.outs.items }
         ensures of_net { ∥ All (IsOutcomeOf self.opening self.restamps) result.outcomes.items ∥₁ }
         ensures causes { ∥ All (IsCauseKnown (known self.reader)) result.outcomes.items ∥₁ }
     {

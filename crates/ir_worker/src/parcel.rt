@@ -55,9 +55,16 @@ impl Model for Parcel {
 
     ghost Value = { SeenParcel };
 
-    ghost view = { λ p. record { journey = p.body.value.packet; first = p.body.value.first; later = p.body.value.later.items; next = p.body.value.next } };
+    ghost view = { λ p. record {
+      journey = p.body.value.packet;
+      first = p.body.value.first;
+      later = p.body.value.later.items;
+      next = p.body.value.next;
+    } };
 
-    ghost invariant = { λ p. IsKept p.body.value.first p.body.value.later.items p.body.value.packet p.body.value.next p.body.value.address × (MAX_RESTAMPS ≤ vec_capacity p.body.value.later) × (length p.body.value.later.items ≡ length p.body.value.packet.restamps) };
+    ghost invariant = { λ p. IsKept p.body.value.first p.body.value.later.items p.body.value.packet p.body.value.next
+        p.body.value.address × (MAX_RESTAMPS ≤ vec_capacity p.body.value.later)
+        × (length p.body.value.later.items ≡ length p.body.value.packet.restamps) };
 }
 
 impl Bound for Parcel {
@@ -102,7 +109,8 @@ impl Parcel {
         requires source { source < node_count (knows stamp).network }
         requires dest { dest < node_count (knows stamp).network }
         requires few { node_count (knows stamp).network ≤ MAX_NODES }
-        ensures { IfOk result (λ p. p ≡ record { journey = fresh id stamp.epoch source dest; first = stamp; later = []; next = source }) }
+        ensures { IfOk result (λ p. p ≡ record
+            { journey = fresh id stamp.epoch source dest; first = stamp; later = []; next = source }) }
     {
         let plan = registry.plan(&stamp);
         let _nodes = plan.nodes();
@@ -202,7 +210,13 @@ impl Parcel {
         requires is_new { IsNew self.journey (InHand at way) }
         requires above { stamp_of self.journey < stamp.epoch }
         requires left { length self.journey.restamps < MAX_RESTAMPS }
-        ensures { result ≡ record { journey = restamped at way stamp.epoch self.journey; first = self.first; later = self.later ++ stamp ∷ []; next = at } }
+        ensures { result ≡ record {
+          journey = restamped at way stamp.epoch self.journey;
+          first = self.first;
+          later =
+              self.later ++ stamp ∷ [];
+          next = at;
+        } }
     {
         let _nodes = plan.nodes();
         let body = &mut *self.body;
@@ -224,7 +238,8 @@ impl Parcel {
         requires plan { plan.now ≡ knows (stamp_now self) }
         requires at_in { at < node_count (knows (stamp_now self)).network }
         requires due { IsDue (knows (stamp_now self)) (present self.journey) at way }
-        ensures acts { MatchResult result (λ r. GoesOnAs board.now way at self r.1 r.0) (λ o. (v : Verdict) × SettlesAs board.now false way at self v o) }
+        ensures acts { MatchResult result (λ r. GoesOnAs board.now way at self r.1 r.0)
+            (λ o. (v : Verdict) × SettlesAs board.now false way at self v o) }
         ensures leads { IfOk result (λ r. LeadsOn (knows (stamp_now self)) (present r.0.journey) r.1.link r.1.node) }
         ensures here { IfOk result (λ r. last_of r.0.journey.hops ≡ at) }
         ensures table { IfOk result (λ r. next_hop (knows (stamp_now self)) at self.journey.dest ≡ Some r.1) }

@@ -90,13 +90,16 @@ pub fn pass_on<R: Moments<Parcel>>(
     requires registry { IsOf registry.now opening.now }
     requires node_in { at < node_count (knows opening.now).network }
     requires ports { ports.now ≡ ports_of (knows opening.now).network at }
-    requires outs { map (λ (s : Out). s.line.place) outs.old.items ≡ map (λ (h : Hop). place_of opening.now restamps at h.node) ports.now }
+    requires outs { map (λ (s : Out). s.line.place) outs.old.items
+        ≡ map (λ (h : Hop). place_of opening.now restamps at h.node) ports.now }
     requires of_net { All (λ s. IsOfNet opening.now s) (stamps_of parcel.first parcel.later) }
     requires few { length parcel.journey.restamps ≤ restamps }
     requires came { CameBy ports.now at way (last_of parcel.journey.hops) parcel.next }
     ensures acts { MatchResult result
-        (λ to. (h : Hop) × (q : SeenParcel) × GoesOnAs board.now way at parcel h q × (h.node ≡ to) × SentOver ports.now outs.old.items outs.new.items h q)
-        (λ o. (refused : Bool) × (v : Verdict) × SettlesAs board.now refused way at parcel v o × (outs.new.items ≡ outs.old.items) × WasFullFor R.was_full ports.now outs.old.items v) }
+        (λ to. (h : Hop) × (q : SeenParcel) × GoesOnAs board.now way at parcel h q × (h.node ≡ to)
+        × SentOver ports.now outs.old.items outs.new.items h q)
+        (λ o. (refused : Bool) × (v : Verdict) × SettlesAs board.now refused way at parcel v o
+        × (outs.new.items ≡ outs.old.items) × WasFullFor R.was_full ports.now outs.old.items v) }
     ensures lines { lines_out outs.new.items ≡ lines_out outs.old.items }
 {
     let plan = registry.plan(parcel.stamp());

@@ -40,7 +40,9 @@ pub fn serve<R: Moments<Parcel>, G: Gate>(
     gate: &G,
     stop: &AtomicBool,
 ) -> (Node, Option<NoMemory>)
-    ensures turns { (turns : List Turn) × MatchOption result.1 (AreTurns R.was_full R.was_empty node turns result.0) (λ _. (m : Node) × AreTurns R.was_full R.was_empty node turns m × IsUntouched m result.0) }
+    ensures turns { (turns : List Turn)
+        × MatchOption result.1 (AreTurns R.was_full R.was_empty node turns result.0)
+        (λ _. (m : Node) × AreTurns R.was_full R.was_empty node turns m × IsUntouched m result.0) }
     ensures same { IsSameNode node result.0 }
 {
     let mut number = 0;

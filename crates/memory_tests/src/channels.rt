@@ -1,5 +1,5 @@
 //! A channel.
-ghost use Rattle.std.specs.Prelude.{◌≡◌, IfOk};
+ghost use Rattle.std.specs.Prelude.{◌≡◌, IfOk, IfSome};
 
 use ir_links::{Bound, Channel, Sender, Taker, settle};
 use std::alloc::Global;
@@ -35,22 +35,33 @@ fn channel(alloc: Global) -> Result<Channel<Letter>, &'static str> {
     }
 }
 
-/// The two ends of a channel; of another one, where there was no memory, since the first then has none left.
+/// The two ends of a channel; none where there was no memory, and then it has none left.
+fn given(channel: &Channel<Letter>) -> Result<Option<(Sender<Letter>, Taker<Letter>)>, &'static str>
+    ensures { IfOk result (λ found. IfSome found (λ ends. ends.0.line ≡ ends.1.line)) }
+{
+    match channel.ends() {
+        Ok(Some(ends)) => return Ok(Some(ends)),
+        Ok(None) => return Err("no ends are given"),
+        Err(_) => {}
+    }
+    match channel.ends() {
+        Ok(None) => Ok(None),
+        _ => Err("ends that were refused are given"),
+    }
+}
+
+/// The two ends of a channel; of another one, where there was no memory.
 fn ends(alloc: Global) -> Result<(Sender<Letter>, Taker<Letter>), &'static str>
     ensures { IfOk result (λ ends. ends.0.line ≡ ends.1.line) }
 {
     let first = channel(alloc)?;
-    match first.ends() {
-        Ok(Some(ends)) => return Ok(ends),
-        Ok(None) => return Err("no ends are given"),
-        Err(_) => {}
+    if let Some(ends) = given(&first)? {
+        return Ok(ends);
     }
-    let Ok(None) = first.ends() else {
-        return Err("ends that were refused are given");
-    };
-    match channel(alloc)?.ends() {
-        Ok(Some(ends)) => Ok(ends),
-        _ => Err("no other ends are given"),
+    let second = channel(alloc)?;
+    match given(&second)? {
+        Some(ends) => Ok(ends),
+        None => Err("no other ends are given"),
     }
 }
 

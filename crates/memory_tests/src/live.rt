@@ -1,7 +1,7 @@
 //! A live run, each node on a thread of its own.
 
 use crate::nets::opened;
-use crate::networks::path;
+use crate::networks::opening;
 use ir_core::{Fate, Refused};
 use ir_live::{Command, Every, Live, LiveError, run_live};
 use ir_worker::Gate;
@@ -20,10 +20,10 @@ impl Gate for Open {
 
 /// A run of two packets over another net, which is then spent.
 fn run<R: Threads + Wait + Sync>(rt: &R, alloc: Global) -> Result<Live, LiveError> {
-    let Ok(topology) = path(alloc) else {
+    let Ok(opening) = opening(alloc, 16) else {
         return Err(LiveError::Spent);
     };
-    let Ok(net) = opened(alloc, &topology, 16) else {
+    let Ok(net) = opened(rt, alloc, &opening) else {
         return Err(LiveError::Spent);
     };
     let commands = [Command::Inject(0, 2), Command::Inject(2, 0), Command::Drain];

@@ -17,9 +17,9 @@ use std::thread::Threads;
 
 /// What is wrong first.
 fn found<R: Threads + Wait + Sync>(rt: &R, alloc: Global) -> Result<(), &'static str> {
-    worlds::try_world(alloc)?;
-    worlds::try_full_inbox(alloc)?;
-    worlds::try_full_channel(alloc)?;
+    for run in &worlds::RUNS {
+        worlds::try_world(rt, alloc, run)?;
+    }
     channels::try_channel(rt, alloc)?;
     epochs::try_epochs(rt, alloc)?;
     nets::try_net(rt, alloc)?;

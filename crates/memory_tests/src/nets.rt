@@ -4,42 +4,46 @@ ghost use Rattle.ir_model.specs.Network.{node_count};
 ghost use Rattle.ir_worker.specs.Same.{IsSameNode};
 ghost use Rattle.ir_control.specs.Parts.{AreFirstNodes, AreFreshParts, AreNodesOf, IsInjectorOf};
 
-use crate::networks::{copy, path};
+use crate::networks::{copy, opening};
 use ir_control::{
     Controller, FinishError, InjectError, Injector, InstallError, Net, NetError, Parts, Report,
     finish,
 };
-use ir_core::Fate;
+use ir_core::{Fate, Opening};
 use ir_epochs::BoardError;
 use ir_plan::Kind;
-use ir_tables::Topology;
 use ir_worker::{Node, Turn};
 use std::alloc::Global;
 use std::sync::Wait;
+use std::thread::Threads;
 
-/// A net over a topology, each channel of this capacity.
-pub fn opened(alloc: Global, topology: &Topology, capacity: usize) -> Result<Net, &'static str> {
-    match Net::new(alloc, copy(alloc, topology)?, Kind::Tree, 1, capacity, 4, 1) {
+/// A net of an opening.
+pub fn opened<R: Threads + Sync>(
+    rt: &R,
+    alloc: Global,
+    opening: &Opening,
+) -> Result<Net, &'static str> {
+    match Net::new(rt, alloc, copy(alloc, opening)?) {
         Ok(net) => return Ok(net),
         Err(NetError::NoMemory) => {}
         Err(_) => return Err("a net is refused"),
     }
-    match Net::new(alloc, copy(alloc, topology)?, Kind::Tree, 1, capacity, 4, 1) {
+    match Net::new(rt, alloc, copy(alloc, opening)?) {
         Ok(net) => Ok(net),
         Err(_) => Err("a net is refused again"),
     }
 }
 
 /// A net and its parts; another one, where there was no memory, since the first then has none left.
-fn parted<'a, R: Wait>(
+fn parted<'a, R: Threads + Wait + Sync>(
     rt: &'a R,
     alloc: Global,
     capacity: usize,
 ) -> Result<(Net, Parts<&'a R>), &'static str>
     ensures { IfOk result (λ p. AreFreshParts p.0 p.1.nodes.items p.1.injector p.1.controller) }
 {
-    let topology = path(alloc)?;
-    let net = opened(alloc, &topology, capacity)?;
+    let opening = opening(alloc, capacity)?;
+    let net = opened(rt, alloc, &opening)?;
     match net.parts(rt) {
         Ok(Some(parts)) => return Ok((net, parts)),
         Ok(None) => return Err("no parts are given"),
@@ -49,7 +53,7 @@ fn parted<'a, R: Wait>(
     let Ok(None) = net.parts(rt) else {
         return Err("parts that were refused are given");
     };
-    let net = opened(alloc, &topology, capacity)?;
+    let net = opened(rt, alloc, &opening)?;
     match net.parts(rt) {
         Ok(Some(parts)) => Ok((net, parts)),
         _ => Err("no other parts are given"),
@@ -84,9 +88,12 @@ fn inject<R: Wait>(
 }
 
 /// An install; again, where there was no memory and the board stands as it was.
-fn install<R: Wait>(controller: &mut Controller<&R>) -> Result<(), &'static str> {
+fn install<R: Threads + Wait + Sync>(
+    rt: &R,
+    controller: &mut Controller<&R>,
+) -> Result<(), &'static str> {
     let before = controller.board().version();
-    match controller.install(Kind::Shortest, 0) {
+    match controller.install(rt, Kind::Shortest, 0) {
         Ok(_) => return Ok(()),
         Err(InstallError::NoMemory) => {}
         Err(_) => return Err("an install is refused"),
@@ -94,7 +101,7 @@ fn install<R: Wait>(controller: &mut Controller<&R>) -> Result<(), &'static str>
     if controller.board().version() != before {
         return Err("a refused install changes the board");
     }
-    match controller.install(Kind::Shortest, 0) {
+    match controller.install(rt, Kind::Shortest, 0) {
         Ok(_) => Ok(()),
         Err(_) => Err("an install is refused again"),
     }
@@ -193,7 +200,7 @@ fn is_report(report: &Report, wanted: [(usize, Fate); 2]) -> Result<(), &'static
 }
 
 /// Two packets over a net whose board changes.
-pub fn try_net<R: Wait>(rt: &R, alloc: Global) -> Result<(), &'static str> {
+pub fn try_net<R: Threads + Wait + Sync>(rt: &R, alloc: Global) -> Result<(), &'static str> {
     let (net, parts) = parted(rt, alloc, 2)?;
     let Parts {
         mut nodes,
@@ -201,7 +208,7 @@ pub fn try_net<R: Wait>(rt: &R, alloc: Global) -> Result<(), &'static str> {
         mut controller,
     } = parts;
     inject(rt, &net, &mut injector, 0, 2)?;
-    install(&mut controller)?;
+    install(rt, &mut controller)?;
     inject(rt, &net, &mut injector, 2, 1)?;
     let wanted = [
         (0, Turn::Sent(0, 1)),
@@ -223,7 +230,10 @@ pub fn try_net<R: Wait>(rt: &R, alloc: Global) -> Result<(), &'static str> {
 }
 
 /// A packet that waits in a channel, and one that finds it full.
-pub fn try_full_channel<R: Wait>(rt: &R, alloc: Global) -> Result<(), &'static str> {
+pub fn try_full_channel<R: Threads + Wait + Sync>(
+    rt: &R,
+    alloc: Global,
+) -> Result<(), &'static str> {
     let (net, parts) = parted(rt, alloc, 1)?;
     let Parts {
         mut nodes,

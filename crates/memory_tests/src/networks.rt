@@ -1,8 +1,7 @@
-//! The path a, b, c of links of weight 1, and its plans.
-ghost use Rattle.std.specs.Prelude.{◌≡◌, IfOk};
-
+//! The path a, b, c of links of weight 1, what is opened over it, and its plans.
+use ir_core::Opening;
 use ir_graph::{Graph, GraphError};
-use ir_plan::{Kind, Plan, PlanError};
+use ir_plan::{Kind, LabelOrder, Plan, PlanError};
 use ir_tables::Topology;
 use std::alloc::Global;
 
@@ -37,14 +36,26 @@ pub fn path(alloc: Global) -> Result<Topology, &'static str> {
     }
 }
 
-/// A copy of a topology.
-pub fn copy(alloc: Global, topology: &Topology) -> Result<Topology, &'static str>
-    ensures { IfOk result (λ copied. copied ≡ topology.now) }
-{
-    if let Ok(copied) = topology.try_clone(alloc) {
+/// What is opened over the path: along its tree from b, each channel of this capacity, with at most four packets and one
+/// restamp of each. Later plans are labelled by a tour.
+pub fn opening(alloc: Global, capacity: usize) -> Result<Opening, &'static str> {
+    Ok(Opening {
+        topology: path(alloc)?,
+        labels: LabelOrder::Tour,
+        kind: Kind::Tree,
+        root: 1,
+        capacity,
+        max_packets: 4,
+        restamps: 1,
+    })
+}
+
+/// A copy of what is opened.
+pub fn copy(alloc: Global, opening: &Opening) -> Result<Opening, &'static str> {
+    if let Ok(copied) = opening.try_clone(alloc) {
         return Ok(copied);
     }
-    match topology.try_clone(alloc) {
+    match opening.try_clone(alloc) {
         Ok(copied) => Ok(copied),
         Err(_) => Err("a copy is refused again"),
     }

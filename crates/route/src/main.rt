@@ -7,7 +7,7 @@
 #![tactic(auto)]
 
 ghost use Rattle.std.specs.Prelude.{◌≡◌, IfOk, length};
-ghost use Rattle.ir_shell.specs.Asked.{check_sources, look_sources, sim_sources};
+ghost use Rattle.ir_shell.specs.Asked.{sources_of};
 ghost use Rattle.ir_words.specs.Words.{FitsItsKind};
 
 mod input;
@@ -16,10 +16,7 @@ mod terminal;
 
 use input::{Input, open};
 use ir_explain::explanation;
-use ir_shell::{
-    Numbering, Sub, Words, WordsError, read_words, run_check, run_draw, run_live_text, run_plan,
-    run_prefixes, run_sim, run_stats, run_walk,
-};
+use ir_shell::{Numbering, Source, Sub, Words, WordsError, read_words, run, sources_of};
 use keeping::Keeping;
 use std::alloc::AllocError;
 use std::cell::Cell;
@@ -58,9 +55,31 @@ fn file(words: &Words, i: usize) -> &str {
     }
 }
 
-/// The input of a name, of which is kept what is read where the words ask for sentences.
-fn input_of(rt: &HostRuntime, words: &Words, name: &str) -> Input {
+/// The input of a text, of which is kept what is read where the words ask for sentences.
+fn input_of(rt: &HostRuntime, words: &Words, source: Source) -> Input {
+    let name = match source {
+        Source::Input => "-",
+        Source::Topology => file(words, 0),
+        Source::Script => file(words, 1),
+        Source::Trace => file(words, 2),
+        Source::Numbering => match &words.numbering {
+            Numbering::File(name) => name.as_str(),
+            Numbering::DepthFirst | Numbering::Tour => "-",
+        },
+    };
     open(rt, name, words.explain)
+}
+
+/// The inputs of all texts, opened in order.
+fn inputs_of(rt: &HostRuntime, words: &Words) -> Result<Vec<Input>, AllocError>
+    ensures { IfOk result (λ inputs. length inputs.items ≡ length (sources_of words.now)) }
+{
+    let sources = sources_of(words);
+    let mut inputs = Vec::with_capacity(rt.alloc(), sources.len())?;
+    for source in sources {
+        inputs.push(input_of(rt, words, *source))?;
+    }
+    Ok(inputs)
 }
 
 /// Standard output; what is written to it is kept where a finding on it is to be explained.
@@ -75,8 +94,9 @@ fn faults_of<'a>(rt: &HostRuntime, words: &Words, is_gone: &'a Cell<bool>) -> Ke
 }
 
 /// The sentences on a run.
-fn sentences(
+fn sentences<T: Threads + Sync>(
     rt: &HostRuntime,
+    threads: &T,
     words: &Words,
     inputs: &[Input],
     output: &Keeping<'_, Stdout>,
@@ -88,12 +108,13 @@ fn sentences(
     }
     let told = faults.kept.whole().ok_or(AllocError)?;
     let found = output.kept.whole().ok_or(AllocError)?;
-    explanation(rt.alloc(), words, given.as_slice(), told, found)
+    explanation(threads, rt.alloc(), words, given.as_slice(), told, found)
 }
 
 /// Prints sentences on a run behind its faults, where the words ask for them and there is memory for all of it.
-fn explain(
+fn explain<T: Threads + Sync>(
     rt: &HostRuntime,
+    threads: &T,
     words: &Words,
     inputs: &[Input],
     output: &Keeping<'_, Stdout>,
@@ -102,132 +123,27 @@ fn explain(
     if !words.explain || output.is_gone.get() {
         return;
     }
-    if let Ok(text) = sentences(rt, words, inputs, output, faults) {
+    if let Ok(text) = sentences(rt, threads, words, inputs, output, faults) {
         let _told = rt.eprint(text);
     }
 }
 
-/// Prints what the words ask for of a topology's plan, whose rows are made in threads, over the inputs.
-fn show_over<T: Threads + Sync>(
+/// Does what the words ask for over the inputs.
+fn run_over<T: Threads + Wait + Sync>(
     rt: &HostRuntime,
     threads: &T,
     words: &Words,
     inputs: &mut [Input],
 ) -> u8
     requires kind { FitsItsKind words.now }
-    requires inputs { length inputs.old ≡ length (look_sources words.now) }
-{
-    let alloc = rt.alloc();
-    let is_gone = Cell::new(false);
-    let mut output = output_of(rt, words, &is_gone);
-    let mut faults = faults_of(rt, words, &is_gone);
-    let status = match words.sub {
-        Sub::Walk => run_walk(threads, alloc, words, inputs, &mut output, &mut faults),
-        Sub::Stats => run_stats(threads, alloc, words, inputs, &mut output, &mut faults),
-        Sub::Draw => run_draw(threads, alloc, words, inputs, &mut output, &mut faults),
-        Sub::Prefixes => run_prefixes(threads, alloc, words, inputs, &mut output, &mut faults),
-        _ => run_plan(threads, alloc, words, inputs, &mut output, &mut faults),
-    };
-    explain(rt, words, inputs, &output, &faults);
-    status
-}
-
-/// Opens the file of the topology, and that of an order where the words have one, and prints what the words ask for.
-fn show<T: Threads + Sync>(rt: &HostRuntime, threads: &T, words: &Words) -> u8
-    requires { FitsItsKind words.now }
-{
-    let topology = input_of(rt, words, file(words, 0));
-    match &words.numbering {
-        Numbering::DepthFirst | Numbering::Tour => {
-            let mut inputs = [topology];
-            show_over(rt, threads, words, &mut inputs)
-        }
-        Numbering::File(name) => {
-            let mut inputs = [topology, input_of(rt, words, name.as_str())];
-            show_over(rt, threads, words, &mut inputs)
-        }
-    }
-}
-
-/// Plays the steps of a script over a topology, and prints the trace.
-fn sim_over(rt: &HostRuntime, words: &Words, inputs: &mut [Input]) -> u8
-    requires { length inputs.old ≡ length (sim_sources words.now) }
+    requires inputs { length inputs.old ≡ length (sources_of words.now) }
 {
     let is_gone = Cell::new(false);
     let mut output = output_of(rt, words, &is_gone);
     let mut faults = faults_of(rt, words, &is_gone);
-    let status = run_sim(rt.alloc(), words, inputs, &mut output, &mut faults);
-    explain(rt, words, inputs, &output, &faults);
+    let status = run(threads, rt.alloc(), words, inputs, &mut output, &mut faults);
+    explain(rt, threads, words, inputs, &output, &faults);
     status
-}
-
-/// Opens the files of a topology and a script, or standard input with both, and plays the steps.
-fn sim(rt: &HostRuntime, words: &Words) -> u8 {
-    let topology = input_of(rt, words, file(words, 0));
-    if words.is_one_input() {
-        let mut inputs = [topology];
-        sim_over(rt, words, &mut inputs)
-    } else {
-        let mut inputs = [topology, input_of(rt, words, file(words, 1))];
-        sim_over(rt, words, &mut inputs)
-    }
-}
-
-/// Carries out the commands of a script over a topology, while each node runs in a thread of its own, and prints the trace.
-fn live_over<T: Threads + Wait + Sync>(
-    rt: &HostRuntime,
-    threads: &T,
-    words: &Words,
-    inputs: &mut [Input],
-) -> u8
-    requires { length inputs.old ≡ length (sim_sources words.now) }
-{
-    let is_gone = Cell::new(false);
-    let mut output = output_of(rt, words, &is_gone);
-    let mut faults = faults_of(rt, words, &is_gone);
-    let status = run_live_text(threads, rt.alloc(), words, inputs, &mut output, &mut faults);
-    explain(rt, words, inputs, &output, &faults);
-    status
-}
-
-/// Opens the files of a topology and a script, or standard input with both, and carries out the commands.
-fn live<T: Threads + Wait + Sync>(rt: &HostRuntime, threads: &T, words: &Words) -> u8 {
-    let topology = input_of(rt, words, file(words, 0));
-    if words.is_one_input() {
-        let mut inputs = [topology];
-        live_over(rt, threads, words, &mut inputs)
-    } else {
-        let mut inputs = [topology, input_of(rt, words, file(words, 1))];
-        live_over(rt, threads, words, &mut inputs)
-    }
-}
-
-/// Checks a trace against a topology and a script.
-fn check_over(rt: &HostRuntime, words: &Words, inputs: &mut [Input]) -> u8
-    requires { length inputs.old ≡ length (check_sources words.now) }
-{
-    let is_gone = Cell::new(false);
-    let mut output = output_of(rt, words, &is_gone);
-    let mut faults = faults_of(rt, words, &is_gone);
-    let status = run_check(rt.alloc(), words, inputs, &mut output, &mut faults);
-    explain(rt, words, inputs, &output, &faults);
-    status
-}
-
-/// Opens the files of a topology, a script and a trace, or standard input with all three, and checks the trace.
-fn check(rt: &HostRuntime, words: &Words) -> u8 {
-    let topology = input_of(rt, words, file(words, 0));
-    if words.is_one_input() {
-        let mut inputs = [topology];
-        check_over(rt, words, &mut inputs)
-    } else {
-        let mut inputs = [
-            topology,
-            input_of(rt, words, file(words, 1)),
-            input_of(rt, words, file(words, 2)),
-        ];
-        check_over(rt, words, &mut inputs)
-    }
 }
 
 /// What the words behind the program's name ask for, with sentences where standard error is a terminal too.
@@ -240,16 +156,18 @@ fn asked(rt: &HostRuntime, given: &[String]) -> Result<Words, WordsError>
     Ok(words)
 }
 
+/// Says that memory was refused, and answers the exit status.
+fn out_of_memory(rt: &HostRuntime) -> u8 {
+    let _told = rt.eprintln("out of memory");
+    3
+}
+
 /// Does what the words ask for.
 fn follow<T: Threads + Wait + Sync>(rt: &HostRuntime, threads: &T, words: &[String]) -> u8 {
     match asked(rt, words) {
-        Ok(words) => match words.sub {
-            Sub::Plan | Sub::Walk | Sub::Stats | Sub::Draw | Sub::Prefixes => show(
-                rt, threads, &words,
-            ),
-            Sub::Sim => sim(rt, &words),
-            Sub::Check => check(rt, &words),
-            Sub::Live => live(rt, threads, &words),
+        Ok(words) => match inputs_of(rt, &words) {
+            Ok(mut inputs) => run_over(rt, threads, &words, inputs.as_mut_slice()),
+            Err(_) => out_of_memory(rt),
         },
         Err(WordsError::Usage(text)) => {
             let _told = rt.eprint(text);
@@ -264,20 +182,14 @@ fn follow<T: Threads + Wait + Sync>(rt: &HostRuntime, threads: &T, words: &[Stri
             }
             1
         }
-        Err(WordsError::NoMemory) => {
-            let _told = rt.eprintln("out of memory");
-            3
-        }
+        Err(WordsError::NoMemory) => out_of_memory(rt),
     }
 }
 
 fn main(rt: HostRuntime) -> ExitCode {
     let status = match words(&rt) {
         Ok(words) => follow(&rt, &rt, words.as_slice()),
-        Err(error) if error.kind() == io::ErrorKind::OutOfMemory => {
-            let _told = rt.eprintln("out of memory");
-            3
-        }
+        Err(error) if error.kind() == io::ErrorKind::OutOfMemory => out_of_memory(&rt),
         Err(_) => {
             let _told = rt.eprintln("route: the words are no text");
             2

@@ -1,21 +1,21 @@
 //! Tests of `route`: each example of `cases.json` has the words behind the program's name, the texts of its inputs, and
 //! what the program prints and ends with. The words are read as `route` reads them, and the run goes over the texts in
-//! memory. Told are the names of the examples that differ, how many examples there are, and how many of them differ.
+//! memory. Told are the names of the examples that differ, how many examples there are, and how many of them differ; and
+//! behind them the stored run under hostile use, where it ends otherwise than it is to.
 #![tactic(auto)]
 
+mod hostile;
+
 ghost use Rattle.std.specs.Prelude.{◌≡◌, length};
-ghost use Rattle.ir_shell.specs.Asked.{look_sources};
 ghost use Rattle.ir_words.specs.Words.{FitsItsKind};
 
 use anyhow::Error;
-use ir_shell::{
-    Sub, Words, read_words, run_check, run_draw, run_plan, run_prefixes, run_sim, run_stats,
-    run_walk,
-};
+use ir_shell::{Words, read_words, run, sources_of};
 use serde::Deserialize;
-use std::alloc::Global;
+use std::alloc::{AllocError, Global};
 use std::fs;
 use std::process::ExitCode;
+use std::sync::Wait;
 use std::thread::Threads;
 
 /// One run of the program: its words, its inputs, and what is wanted of it.
@@ -37,85 +37,21 @@ struct Printed {
     faults: Vec<u8>,
 }
 
-/// The text of an input; none where there is no such input.
-fn input(example: &Example, i: usize) -> &[u8] {
-    match example.inputs.get(i) {
-        Some(text) => text.as_str().as_bytes(),
-        None => b"".as_slice(),
-    }
-}
-
-/// What a run that shows a plan prints.
-fn over_plan<T: Threads + Sync>(
+/// What a run over the texts of an example prints; nothing where they are not as many as its words ask for.
+fn run_over<T: Threads + Wait + Sync>(
     rt: &T,
     alloc: Global,
     words: &Words,
     inputs: &mut [&[u8]],
 ) -> Printed
-    requires kind { FitsItsKind words.now }
-    requires inputs { length inputs.old ≡ length (look_sources words.now) }
+    requires { FitsItsKind words.now }
 {
     let mut output: Vec<u8> = Vec::new(alloc);
     let mut faults: Vec<u8> = Vec::new(alloc);
-    let status = match words.sub {
-        Sub::Plan => run_plan(rt, alloc, words, inputs, &mut output, &mut faults),
-        Sub::Walk => run_walk(rt, alloc, words, inputs, &mut output, &mut faults),
-        Sub::Stats => run_stats(rt, alloc, words, inputs, &mut output, &mut faults),
-        Sub::Draw => run_draw(rt, alloc, words, inputs, &mut output, &mut faults),
-        Sub::Prefixes => run_prefixes(rt, alloc, words, inputs, &mut output, &mut faults),
-        _ => 255,
-    };
-    Printed {
-        status,
-        output,
-        faults,
-    }
-}
-
-/// What a run over one input prints.
-fn over_one(alloc: Global, words: &Words, text: &[u8]) -> Printed {
-    let mut output: Vec<u8> = Vec::new(alloc);
-    let mut faults: Vec<u8> = Vec::new(alloc);
-    let mut inputs = [text];
-    let is_one = words.is_one_input();
-    let status = match words.sub {
-        Sub::Sim if is_one => run_sim(alloc, words, &mut inputs, &mut output, &mut faults),
-        Sub::Check if is_one => run_check(alloc, words, &mut inputs, &mut output, &mut faults),
-        _ => 255,
-    };
-    Printed {
-        status,
-        output,
-        faults,
-    }
-}
-
-/// What a simulation of two inputs prints.
-fn over_two(alloc: Global, words: &Words, topology: &[u8], script: &[u8]) -> Printed {
-    let mut output: Vec<u8> = Vec::new(alloc);
-    let mut faults: Vec<u8> = Vec::new(alloc);
-    let mut inputs = [topology, script];
-    let status = if words.is_one_input() {
-        255
+    let status = if inputs.len() == sources_of(words).len() {
+        run(rt, alloc, words, inputs, &mut output, &mut faults)
     } else {
-        run_sim(alloc, words, &mut inputs, &mut output, &mut faults)
-    };
-    Printed {
-        status,
-        output,
-        faults,
-    }
-}
-
-/// What a check of three inputs prints.
-fn over_three(alloc: Global, words: &Words, texts: [&[u8]; 3]) -> Printed {
-    let mut output: Vec<u8> = Vec::new(alloc);
-    let mut faults: Vec<u8> = Vec::new(alloc);
-    let mut inputs = texts;
-    let status = if words.is_one_input() {
         255
-    } else {
-        run_check(alloc, words, &mut inputs, &mut output, &mut faults)
     };
     Printed {
         status,
@@ -125,33 +61,29 @@ fn over_three(alloc: Global, words: &Words, texts: [&[u8]; 3]) -> Printed {
 }
 
 /// What an example's run prints.
-fn run_of<T: Threads + Sync>(rt: &T, alloc: Global, words: &Words, example: &Example) -> Printed
+fn run_of<T: Threads + Wait + Sync>(
+    rt: &T,
+    alloc: Global,
+    words: &Words,
+    example: &Example,
+) -> Result<Printed, AllocError>
     requires { FitsItsKind words.now }
 {
-    let first = input(example, 0);
-    match words.sub {
-        Sub::Plan | Sub::Walk | Sub::Stats | Sub::Draw | Sub::Prefixes if words.has_order() => {
-            let mut inputs = [first, input(example, 1)];
-            over_plan(rt, alloc, words, &mut inputs)
-        }
-        Sub::Plan | Sub::Walk | Sub::Stats | Sub::Draw | Sub::Prefixes => {
-            let mut inputs = [first];
-            over_plan(rt, alloc, words, &mut inputs)
-        }
-        Sub::Sim if example.inputs.len() == 2 => over_two(alloc, words, first, input(example, 1)),
-        Sub::Check if example.inputs.len() == 3 => {
-            over_three(alloc, words, [first, input(example, 1), input(example, 2)])
-        }
-        _ => over_one(alloc, words, first),
+    let mut inputs: Vec<&[u8]> = Vec::with_capacity(alloc, example.inputs.len())?;
+    for text in &example.inputs {
+        inputs.push(text.as_str().as_bytes())?;
     }
+    Ok(run_over(rt, alloc, words, inputs.as_mut_slice()))
 }
 
 /// Whether a run prints and ends with what an example wants; words that are refused never do.
-fn agrees<T: Threads + Sync>(rt: &T, alloc: Global, example: &Example) -> bool {
+fn agrees<T: Threads + Wait + Sync>(rt: &T, alloc: Global, example: &Example) -> bool {
     let Ok(words) = read_words(alloc, example.words.as_slice()) else {
         return false;
     };
-    let got = run_of(rt, alloc, &words, example);
+    let Ok(got) = run_of(rt, alloc, &words, example) else {
+        return false;
+    };
     got.status == example.status
         && got.output.as_slice() == example.stdout.as_str().as_bytes()
         && got.faults.as_slice() == example.stderr.as_str().as_bytes()
@@ -166,7 +98,7 @@ fn examples(rt: &HostRuntime) -> Result<String, Error> {
 }
 
 /// How many examples differ, each of which is told by its name.
-fn differing<T: Threads + Sync>(
+fn differing<T: Threads + Wait + Sync>(
     rt: &HostRuntime,
     threads: &T,
     examples: &[Example],
@@ -181,18 +113,22 @@ fn differing<T: Threads + Sync>(
     Ok(differ)
 }
 
-/// Runs every example, and tells how many there are and how many differ.
-fn tell<T: Threads + Sync>(rt: &HostRuntime, threads: &T) -> Result<u32, Error> {
+/// Runs every example, tells how many there are and how many differ, and answers whether all is as it is to be.
+fn tell<T: Threads + Wait + Sync>(rt: &HostRuntime, threads: &T) -> Result<bool, Error> {
     let text = examples(rt)?;
     let all: Vec<Example> = serde_json::from_str(rt.alloc(), text.as_str())?;
     let differ = differing(rt, threads, all.as_slice())?;
     rt.println(format!(in rt.alloc(); "{} examples, {differ} differ", all.len())?)?;
-    Ok(differ)
+    let wrong = hostile::wrong(threads, rt.alloc());
+    if let Some(name) = wrong {
+        rt.println(format!(in rt.alloc(); "differs: {name}")?)?;
+    }
+    Ok(differ == 0 && wrong.is_none())
 }
 
 fn main(rt: HostRuntime) -> ExitCode {
     match tell(&rt, &rt) {
-        Ok(0) => ExitCode::SUCCESS,
+        Ok(true) => ExitCode::SUCCESS,
         _ => ExitCode::FAILURE,
     }
 }

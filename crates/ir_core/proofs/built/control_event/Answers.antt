@@ -9,24 +9,24 @@ use Rattle.ir_core.proofs.Controls.{of_installs}
 use Rattle.ir_core.proofs.built.control_event.Goals as goal
 
 pub returns-in-Install : goal.returns-in-Install
-returns-in-Install c =
+returns-in-Install g c =
     let is = c.in-Install.is in
     subst (λ (e : Event). IfOk c.install_next.result (λ _. ControlsOn c.args.world.now (step.Event e) c.args.built.now.items c.install_next.new.world c.install_next.new.built.items)) (sym is) c.install_next.ensures
 
 pub returns-in-Retire : goal.returns-in-Retire
-returns-in-Retire c =
+returns-in-Retire g c =
     let is = c.in-Retire.is in
     subst (λ (e : Event). IfOk c.change.result (λ _. ControlsOn c.args.world.now (step.Event e) c.args.built.now.items c.change.new.world c.args.built.now.items)) (sym is)
     (of_installs c.change.result (λ (installs : List Install). ControlsOn c.args.world.now (step.Event (event.Retire c.in-Retire.floor)) installs c.change.new.world installs) c.change.ensures c.args.built.now.items)
 
 pub returns-in-Down : goal.returns-in-Down
-returns-in-Down c =
+returns-in-Down g c =
     let is = c.in-Down.is in
     subst (λ (e : Event). IfOk c.change-in-Down.result (λ _. ControlsOn c.args.world.now (step.Event e) c.args.built.now.items c.change-in-Down.new.world c.args.built.now.items)) (sym is)
     (of_installs c.change-in-Down.result (λ (installs : List Install). ControlsOn c.args.world.now (step.Event (event.Down c.in-Down.link)) installs c.change-in-Down.new.world installs) c.change-in-Down.ensures c.args.built.now.items)
 
 pub returns-in-Up : goal.returns-in-Up
-returns-in-Up c =
+returns-in-Up g c =
     let is = c.in-Up.is in
     subst (λ (e : Event). IfOk c.change-in-Up.result (λ _. ControlsOn c.args.world.now (step.Event e) c.args.built.now.items c.change-in-Up.new.world c.args.built.now.items)) (sym is)
     (of_installs c.change-in-Up.result (λ (installs : List Install). ControlsOn c.args.world.now (step.Event (event.Up c.in-Up.link)) installs c.change-in-Up.new.world installs) c.change-in-Up.ensures c.args.built.now.items)

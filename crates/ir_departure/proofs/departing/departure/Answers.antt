@@ -5,7 +5,7 @@ use Rattle.ir_trace.proofs.CheckedTrace.{over_from}
 use Rattle.ir_departure.proofs.departing.departure.Goals as goal
 
 pub departure_by-requires : goal.departure_by-requires
-departure_by-requires c = record {
+departure_by-requires g c = record {
   net = c.args.topology.now;
   plans_are = subst (AreOver (node_count c.args.topology.now)) (sym c.as_slice.ensures.value) (over_from c.args.topology.now c.args.installs.now c.in_ok-plans.plans.items c.in_ok-plans.ensures);
   row_is = c.requires.row;

@@ -1,6 +1,6 @@
 use Rattle.std.proofs.Common.{sym, ap}
 use Rattle.ir_script.specs.Command.{node_at}
-use Rattle.ir_script.proofs.Names.{no_node}
+use Rattle.ir_adjlist.proofs.NoNames.{no_node}
 use Rattle.ir_script.proofs.word.node_of.Goals as goal
 
 pub returns-in_default-clause-node : goal.returns-in_default-clause-node

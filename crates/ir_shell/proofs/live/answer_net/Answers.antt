@@ -1,6 +1,8 @@
 use Rattle.std.proofs.Common.{◌≡◌, ◌∙◌, ◌≤◌, sym, ap, subst}
 use Rattle.ir_model.specs.Graph.{names}
 use Rattle.ir_model.specs.Network.{Network, node_count}
+use Rattle.ir_model.specs.OfGraph.{network_of_graph}
+use Rattle.ir_words.specs.Openings.{opening_by}
 use Rattle.ir_core.specs.declared.TheConstants.{MAX_NODES}
 use Rattle.ir_epochs.specs.Stamps.{knows}
 use Rattle.ir_live.specs.Lives.{IsLive}
@@ -11,9 +13,9 @@ use Rattle.ir_shell.proofs.live.answer_net.Goals as goal
 
 pub live_texts-requires-clause-records : goal.live_texts-requires-clause-records
 live_texts-requires-clause-records g c =
-    let over : (knows c.args.net.now.opening).network ≡ c.args.topology.now = c.requires.opened.opened.plan_network ∙ sym c.requires.over in
+    let over : (knows c.args.net.now.opening).network ≡ c.args.topology.now = c.requires.opened.opened.first.2 ∙ sym c.requires.over in
     let w = c.args.words.now in
-    let few : node_count c.args.topology.now ≤ MAX_NODES = subst (λ (n : Network). node_count n ≤ MAX_NODES) (sym c.requires.over) (few_nodes _ c.args.root w.capacity w.packets w.restamps c.requires.opened.accepted) in
+    let few : node_count c.args.topology.now ≤ MAX_NODES = subst (λ (n : Network). node_count n ≤ MAX_NODES) (sym c.requires.over) (few_nodes (opening_by w (network_of_graph c.args.graph.now) c.args.root) c.requires.opened.accepted) in
     live_records g.T.Moments.was_full c.args.net.now c.steps.result.now c.in-Ok.live c.in-Ok.ensures.live c.args.topology.now c.nodes-nodes.ensures.network few over
 
 pub returns-in_ok-trace-in-Ok : goal.returns-in_ok-trace-in-Ok

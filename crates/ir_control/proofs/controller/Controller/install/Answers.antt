@@ -26,13 +26,14 @@ returns-in-Ok-change g c =
       stamp = s;
       epoch = c.in-Ok-register.ensures.1;
       registered = subst (λ (r : Registry). IsOf r s) c.deref.ensures c.in-Ok-register.ensures.0;
-      plan = subst (λ (t : Scheme). IsMade c.args.kind c.args.root (network_up c.args.self.now) (Some t)) (sym c.in-Ok-register.ensures.2) c.in-Ok.ensures;
+      plan = subst (λ (t : Scheme). IsMade c.args.self.now.labels c.args.kind c.args.root (network_up c.args.self.now) (Some t)) (sym c.in-Ok-register.ensures.2) c.in-Ok.ensures;
       publishes = record {
         published_is = c.in-Ok-change.ensures.answer.0;
         told_is = c.in-Ok-change.ensures.answer.1;
         receipt = c.in-Ok-change.ensures.receipt;
         board = c.in-Ok-change.ensures.board;
         opening = c.in-Ok-change.ensures.same.0;
+        labels = c.in-Ok-change.ensures.same.3;
       };
       used = c.in-Ok-change.ensures.same.1;
     }

@@ -40,6 +40,7 @@ returns g c =
       nothing = made.4;
       learnt = made.1;
       controller_opening = control.0;
+      controller_labels = control.4;
       controller_registry = ap arc_value control.1 ∙ c.in_ok-try_clone-2.ensures;
       used = control.3;
       board = ap published control.2 ∙ c.requires.opening;

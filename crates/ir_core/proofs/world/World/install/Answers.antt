@@ -6,20 +6,20 @@ use Rattle.ir_core.proofs.Installing.{refused_here, no_node, epochs_full, change
 use Rattle.ir_core.proofs.world.World.install.Goals as goal
 
 pub returns-then-root-nodes : goal.returns-then-root-nodes
-returns-then-root-nodes c = refused_here (state_of c.self.inside) _ c.self.view_is c.args.kind c.args.root _ (no_node (state_of c.self.inside) c.args.root (omega arith))
+returns-then-root-nodes g c = refused_here (state_of c.self.inside) _ c.self.view_is c.args.kind c.args.root _ (no_node (state_of c.self.inside) c.args.root (omega arith))
 
 pub returns-then-epochs-ge-MAX_EPOCHS : goal.returns-then-epochs-ge-MAX_EPOCHS
-returns-then-epochs-ge-MAX_EPOCHS c =
+returns-then-epochs-ge-MAX_EPOCHS g c =
     refused_here (state_of c.self.inside) _ c.self.view_is c.args.kind c.args.root _ (epochs_full (state_of c.self.inside) c.args.root (omega arith) (omega (arith, c.self.inside.plans.ok.0, c.len-epochs.ensures)))
 
 pub returns-then-version-ge-MAX_CHANGES : goal.returns-then-version-ge-MAX_CHANGES
-returns-then-version-ge-MAX_CHANGES c =
+returns-then-version-ge-MAX_CHANGES g c =
     let n = ap (λ (b : Board). b.version) (newest_known _ _ c.self.view_is c.newest-newest.result c.newest-newest.ensures.value) in
     refused_here (state_of c.self.inside) _ c.self.view_is c.args.kind c.args.root _
     (changes_full (state_of c.self.inside) c.args.root (omega arith) (omega (arith, c.self.inside.plans.ok.0, c.len-epochs.ensures)) (omega (arith, n)))
 
 pub returns-in-Err-Disconnected : goal.returns-in-Err-Disconnected
-returns-in-Err-Disconnected c =
+returns-in-Err-Disconnected g c =
     let n = newest_known _ _ c.self.view_is c.newest-newest.result c.newest-newest.ensures.value in
     let v = ap (λ (b : Board). b.version) n in
     disconnected_here (state_of c.self.inside) _ c.self.view_is c.args.kind c.args.root c.newest-newest.result n
@@ -27,7 +27,7 @@ returns-in-Err-Disconnected c =
     (c.plan_up.ensures.disconnected (cc (c.in-Err-Disconnected.is, c.in-Err-Disconnected.field-0-is)))
 
 pub invariant_of-self-2 : goal.invariant_of-self-2
-invariant_of-self-2 c =
+invariant_of-self-2 g c =
     let n = newest_known _ _ c.self.view_is c.newest-newest.result c.newest-newest.ensures.value in
     record {
       state = installed_at (state_of c.self.inside) c.self.invariant.state refl (c.len-epochs.result + 1) c.newest-newest.result c.installed.result c.in-Ok.plan c.reserve.new.self.items c.push-2.new.self.items c.push.new.self.items
@@ -37,7 +37,7 @@ invariant_of-self-2 c =
     }
 
 pub returns : goal.returns
-returns c =
+returns g c =
     let n = newest_known _ _ c.self.view_is c.newest-newest.result c.newest-newest.ensures.value in
     let v = ap (λ (b : Board). b.version) n in
     installed_here (state_of c.self.inside) _ c.self.view_is c.args.kind c.args.root (c.len-epochs.result + 1) c.newest-newest.result c.in-Ok.plan _ n

@@ -6,10 +6,10 @@ use Rattle.ir_core.specs.Run.{StepsAfter}
 use Rattle.ir_core.proofs.world.World.step.Goals as goal
 
 pub returns-in-Event-clause-history : goal.returns-in-Event-clause-history
-returns-in-Event-clause-history c = λ log k.
+returns-in-Event-clause-history g c = λ log k.
     subst (λ (s : Step). StepsAfter log s c.apply.result c.args.self.now.opening c.apply.new.self) (sym c.in-Event.is) (c.apply.ensures.history log k)
 
 pub returns-in-Drain-clause-history : goal.returns-in-Drain-clause-history
-returns-in-Drain-clause-history c = λ log k.
+returns-in-Drain-clause-history g c = λ log k.
     let d = c.drain.ensures.history log k in
     subst (λ (s : Step). StepsAfter log s (Ok Changed) c.args.self.now.opening c.drain.new.self) (sym c.in-Drain.is) (d.0, (refl, d.1), d.2)

@@ -1,0 +1,72 @@
+//! What a network is opened with, and which openings are refused.
+ghost use Rattle.std.specs.Prelude.{◌≡◌, IfOk};
+ghost use Rattle.ir_core.specs.Opened.{is_small, open_refused};
+
+use crate::event::OpenError;
+use crate::{MAX_CAPACITY, MAX_LINKS, MAX_NODES, MAX_PACKETS, MAX_RESTAMPS};
+use ir_model::Kind;
+use ir_plan::LabelOrder;
+use ir_tables::Topology;
+use std::alloc::{AllocError, Global};
+
+/// What a world or a net is opened with: a topology, the order in which each epoch's plan is labelled, the kind and root of
+/// epoch 1's plan, the capacity of each channel and inbox, from 1 to 1,024 packets, the most packets, from 1 to 4,096, and
+/// the most restamps of a packet, from 0 to 3. The topology has at most 1,024 nodes and 8,192 links.
+#[derive(Drop)]
+pub struct Opening {
+    pub topology: Topology,
+    pub labels: LabelOrder,
+    pub kind: Kind,
+    pub root: u16,
+    pub capacity: usize,
+    pub max_packets: usize,
+    pub restamps: u8,
+}
+
+impl Opening {
+    /// The same once more. It is refused for memory alone. Takes O(n + m), for n nodes and m links.
+    pub fn try_clone(&self, alloc: Global) -> Result<Opening, AllocError>
+        ensures { IfOk result (λ copy. copy ≡ self.now) }
+    {
+        Ok(Opening {
+            topology: self.topology.try_clone(alloc)?,
+            labels: self.labels,
+            kind: self.kind,
+            root: self.root,
+            capacity: self.capacity,
+            max_packets: self.max_packets,
+            restamps: self.restamps,
+        })
+    }
+}
+
+/// Why a network is not opened, before any plan is built: it has no node, the root is no node, or a number is out of its
+/// range, in this order.
+pub fn open_refusal(opening: &Opening) -> Option<OpenError>
+    ensures { result ≡ open_refused opening.now }
+{
+    let nodes = opening.topology.nodes();
+    if nodes == 0 {
+        return Some(OpenError::Empty);
+    }
+    if nodes <= opening.root as usize {
+        return Some(OpenError::NoNode);
+    }
+    if !is_small(opening) {
+        return Some(OpenError::TooLarge);
+    }
+    None
+}
+
+/// Whether the network, the capacity, the number of packets and that of restamps are within the limits.
+fn is_small(opening: &Opening) -> bool
+    ensures { result ≡ is_small opening.now }
+{
+    opening.topology.nodes() <= MAX_NODES
+        && opening.topology.links() <= MAX_LINKS
+        && opening.capacity != 0
+        && opening.capacity <= MAX_CAPACITY
+        && opening.max_packets != 0
+        && opening.max_packets <= MAX_PACKETS
+        && opening.restamps as usize <= MAX_RESTAMPS
+}

@@ -1,0 +1,2 @@
+-- what bodies use
+pub mod Cut

@@ -1,0 +1,103 @@
+//! Lines and words of texts, and what the lines of faults say.
+ghost use Rattle.std.specs.Prelude.{◌≡◌, ◌==◌, IfOk};
+ghost use Rattle.std.specs.List.{count_by};
+ghost use Rattle.ir_model.specs.Text.{words};
+ghost use Rattle.ir_given.specs.Cut.{texts};
+
+use ir_adjlist::digits::all_digits;
+use ir_adjlist::scan;
+use std::alloc::{AllocError, Global};
+
+/// The line with this number, counted from 1; nothing where the text has no such line.
+pub fn line_at(text: &[u8], number: usize) -> &[u8] {
+    let mut rest = text;
+    for _turn in 1..number {
+        if rest.is_empty() {
+            return &[];
+        }
+        let (_line, after) = scan::next_line(rest);
+        rest = after;
+    }
+    if rest.is_empty() {
+        return &[];
+    }
+    let (line, _after) = scan::next_line(rest);
+    line
+}
+
+/// The words of a line, without its comment.
+pub fn words_of<'a>(alloc: Global, line: &'a [u8]) -> Result<Vec<&'a [u8]>, AllocError>
+    ensures { IfOk result (λ found. texts found.items ≡ words line.now) }
+{
+    let mut found = Vec::new(alloc);
+    let mut rest = scan::without_comment(line);
+    while let Some((word, after)) = scan::next_word(rest) {
+        found.push(word)?;
+        rest = after;
+    }
+    Ok(found)
+}
+
+/// The word at a place, from 0; nothing where there is none.
+pub fn word_at<'a>(words: &[&'a [u8]], place: usize) -> &'a [u8] {
+    match words.get(place) {
+        Some(word) => *word,
+        None => &[],
+    }
+}
+
+/// A word as text; nothing where it is none.
+pub fn text_of(word: &[u8]) -> &str {
+    str::from_utf8(word).unwrap_or("")
+}
+
+/// How many lines end in a text.
+pub fn line_ends(text: &[u8]) -> usize
+    ensures { result ≡ count_by (λ b. b == 10) text.now }
+{
+    let mut count = 0;
+    for byte in text {
+        if *byte == b'\n' {
+            count += 1;
+        }
+    }
+    count
+}
+
+/// The number that digits spell, or the greatest one.
+fn number_of(digits: &[u8]) -> usize {
+    let mut value: usize = 0;
+    for digit in digits {
+        let next = usize::from(digit.saturating_sub(b'0'));
+        value = value.saturating_mul(10).saturating_add(next);
+    }
+    value
+}
+
+/// What a line of faults says: of what it speaks, the number of a line, 0 where it has none, and what is wrong.
+#[derive(Clone, Copy)]
+pub struct Told<'a> {
+    pub what: &'a str,
+    pub line: usize,
+    pub kind: &'a str,
+}
+
+/// What a line of faults says.
+pub fn told_of<'a>(alloc: Global, line: &'a [u8]) -> Result<Told<'a>, AllocError> {
+    let words = words_of(alloc, line)?;
+    let what = text_of(word_at(words.as_slice(), 0));
+    let second = word_at(words.as_slice(), 1);
+    if second.is_empty() || !all_digits(second) {
+        let kind = text_of(second);
+        return Ok(Told {
+            what,
+            line: 0,
+            kind,
+        });
+    }
+    Ok(Told {
+        what,
+        line: number_of(second),
+        kind: text_of(word_at(words.as_slice(), 2)),
+    })
+}

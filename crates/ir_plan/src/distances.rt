@@ -1,0 +1,153 @@
+//! How far apart nodes are as destinations: how many nodes send them by different ports.
+ghost use Rattle.std.specs.Prelude.{◌≡◌, ◌<◌, ◌≤◌, All, IfOk, length, vec_len};
+ghost use Rattle.ir_model.specs.Network.{node_count};
+ghost use Rattle.ir_plan.specs.declared.TheConstants.{MOST_TOUR_NODES};
+
+use crate::MOST_TOUR_NODES;
+use crate::plan::Plan;
+use crate::threads::rows_of_a_thread;
+use rayon::prelude::*;
+use std::alloc::{AllocError, Global};
+use std::thread::Threads;
+
+/// What stands for the port of a node to itself. No node has so many ports.
+const NO_PORT: u16 = u16::MAX;
+
+/// The distance of each two nodes: how many nodes send them by different ports in a plan's table (the tours of van Leeuwen
+/// and Tan's labels, 1987, are as long as the rows that these labels give).
+#[derive(Drop)]
+pub struct Distances {
+    nodes: usize,
+    rows: Vec<Vec<u16>>,
+    ghost every: { vec_len rows ≡ nodes },
+    ghost square: { All (λ row. length row.items ≡ nodes) rows.items },
+}
+
+impl Distances {
+    /// The distances of the nodes of a plan, by its rows.
+    pub fn of(
+        rt: &(impl Threads + Sync),
+        alloc: Global,
+        plan: &Plan,
+        most: Option<usize>,
+    ) -> Result<Distances, AllocError>
+        requires { node_count plan.now.network ≤ MOST_TOUR_NODES }
+        ensures { IfOk result (λ far. far.nodes ≡ node_count plan.now.network) }
+    {
+        let nodes = plan.nodes();
+        let columns = columns_of(rt, alloc, plan, most)?;
+        let rows = rows_of(rt, alloc, columns.as_slice(), most)?;
+        Ok(Distances { nodes, rows })
+    }
+
+    /// How many nodes there are.
+    pub fn nodes(&self) -> usize
+        ensures { result ≡ self.now.nodes }
+    {
+        self.nodes
+    }
+
+    /// The distances of a node to each, by number.
+    pub fn from(&self, a: u16) -> &[u16]
+        requires { a < self.now.nodes }
+        ensures { length result.now ≡ self.now.nodes }
+    {
+        self.rows[a as usize].as_slice()
+    }
+
+    /// The distance of two nodes.
+    pub fn between(&self, a: u16, b: u16) -> u16
+        requires from { a < self.now.nodes }
+        requires to { b < self.now.nodes }
+    {
+        self.from(a)[b as usize]
+    }
+}
+
+// The ports of all nodes to each node, by its number.
+fn columns_of(
+    rt: &(impl Threads + Sync),
+    alloc: Global,
+    plan: &Plan,
+    most: Option<usize>,
+) -> Result<Vec<Vec<u16>>, AllocError>
+    ensures every { IfOk result (λ columns. length columns.items ≡ node_count plan.now.network) }
+    ensures each { IfOk result (λ columns.
+        All (λ column. length column.items ≡ node_count plan.now.network) columns.items) }
+{
+    let nodes = plan.nodes();
+    (0..nodes)
+        .into_par_iter()
+        .with_min_len(rows_of_a_thread(nodes, most))
+        .map(
+            |d: usize| -> Result<Vec<u16>, AllocError>
+                requires { d < node_count plan.now.network }
+                ensures { IfOk result (λ column. length column.items ≡ node_count plan.entry.now.network) }
+            { column(alloc, plan, d) },
+        )
+        .collect::<Result<Vec<Vec<u16>>, AllocError>>(rt, alloc)?
+}
+
+// The ports of all nodes to one, by their numbers.
+fn column(alloc: Global, plan: &Plan, d: usize) -> Result<Vec<u16>, AllocError>
+    requires { d < node_count plan.now.network }
+    ensures { IfOk result (λ column. length column.items ≡ node_count plan.now.network) }
+{
+    let nodes = plan.nodes();
+    let label = plan.label_of(d as u16);
+    let mut ports = Vec::with_capacity(alloc, nodes)?;
+    for u in 0..nodes {
+        ports.push(plan.port(u as u16, label).unwrap_or(NO_PORT))?;
+    }
+    Ok(ports)
+}
+
+// The distances of all nodes, by their columns of ports.
+fn rows_of(
+    rt: &(impl Threads + Sync),
+    alloc: Global,
+    columns: &[Vec<u16>],
+    most: Option<usize>,
+) -> Result<Vec<Vec<u16>>, AllocError>
+    requires few { length columns.now ≤ MOST_TOUR_NODES }
+    ensures every { IfOk result (λ rows. length rows.items ≡ length columns.now) }
+    ensures each { IfOk result (λ rows. All (λ row. length row.items ≡ length columns.now) rows.items) }
+{
+    let nodes = columns.len();
+    (0..nodes)
+        .into_par_iter()
+        .with_min_len(rows_of_a_thread(nodes, most))
+        .map(
+            |a: usize| -> Result<Vec<u16>, AllocError>
+                requires { a < length columns.now }
+                ensures { IfOk result (λ row. length row.items ≡ length columns.entry.now) }
+            { row(alloc, columns, a) },
+        )
+        .collect::<Result<Vec<Vec<u16>>, AllocError>>(rt, alloc)?
+}
+
+// The distances of one node to each, by the columns of ports.
+fn row(alloc: Global, columns: &[Vec<u16>], a: usize) -> Result<Vec<u16>, AllocError>
+    requires { a < length columns.now }
+    ensures { IfOk result (λ row. length row.items ≡ length columns.now) }
+{
+    let mut row = Vec::with_capacity(alloc, columns.len())?;
+    for column in columns {
+        row.push(differences(columns[a].as_slice(), column.as_slice()))?;
+    }
+    Ok(row)
+}
+
+// At how many places two columns differ, of the first ones that both have.
+fn differences(column: &[u16], other: &[u16]) -> u16
+    ensures { result ≤ MOST_TOUR_NODES }
+{
+    let places = column.len().min(other.len()).min(MOST_TOUR_NODES);
+    let mut count = 0;
+    for i in 0..places {
+        if column[i] != other[i] {
+            count += 1;
+        }
+    }
+    count
+}

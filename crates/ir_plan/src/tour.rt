@@ -1,0 +1,206 @@
+//! The plan over the order of a tour, where it has fewer starts than the depth-first plan, and the plan of either order.
+ghost use Rattle.std.specs.Prelude.{◌≡◌, ◌≢◌, ◌⊎◌, ◌↔◌, ◌<◌, ◌≤◌, IfOk, IfErr, IfSome, IsTrue, slice_index};
+ghost use Rattle.ir_model.specs.Network.{node_count};
+ghost use Rattle.ir_model.specs.Scheme.{HasDepthFirst, IsScheme};
+ghost use Rattle.ir_model.specs.Walk.{IsDisconnected};
+ghost use Rattle.ir_numbering.specs.Numbers.{IsListing};
+ghost use Rattle.ir_plan.specs.Starts.{HasFewerStarts, HasNoMoreStarts, IsLabelledBy, starts_of};
+
+use crate::MOST_TOUR_NODES;
+use crate::distances::Distances;
+use crate::error::PlanError;
+use crate::nearest::nearest_order;
+use crate::plan::Plan;
+use crate::sweeps::shorten;
+use ir_model::Kind;
+use ir_numbering::{OrderError, check_order};
+use ir_tables::Topology;
+use std::alloc::{AllocError, Global};
+use std::thread::Threads;
+
+/// In which order the nodes of a plan are labelled.
+#[derive(Clone, Copy, Debug, PartialEq, Eq)]
+pub enum LabelOrder {
+    /// Depth first, from the root.
+    DepthFirst,
+    /// In the order of a tour from the root where that has fewer starts, else depth first.
+    Tour,
+}
+
+/// The plan of a kind over a topology, its labels in this order from the root: what `build_in_threads` or `tour_plan` makes.
+///
+/// Refused as these are. Takes as long as these.
+pub fn plan_in_order(
+    rt: &(impl Threads + Sync),
+    alloc: Global,
+    topology: Topology,
+    labels: LabelOrder,
+    kind: Kind,
+    root: u16,
+    most: Option<usize>,
+) -> Result<Plan, (PlanError, Topology)>
+    ensures kind { IfOk result (λ p. p.kind ≡ kind) }
+    ensures root { IfOk result (λ p. p.root ≡ root) }
+    ensures network { IfOk result (λ p. p.network ≡ topology) }
+    ensures scheme { IfOk result (λ p. IsScheme p) }
+    ensures labelled { IfOk result (λ p. IsLabelledBy labels p) }
+    ensures back { IfErr result (λ e. e.1 ≡ topology) }
+    ensures empty { IfErr result (λ e. (e.0 ≡ PlanError.Empty) ↔ (node_count topology ≡ 0)) }
+    ensures no_node { IfErr result
+        (λ e. (e.0 ≡ PlanError.NoNode) ↔ ((0 < node_count topology) × (node_count topology ≤ root))) }
+    ensures disconnected { IfErr result
+        (λ e. e.0 ≡ PlanError.Disconnected → (0 < node_count topology) × (root < node_count topology)
+        × IsDisconnected topology) }
+{
+    match labels {
+        LabelOrder::DepthFirst => Plan::build_in_threads(rt, alloc, topology, kind, root, most),
+        LabelOrder::Tour => tour_plan(rt, alloc, topology, kind, root, most),
+    }
+}
+
+/// The plan of a kind over a topology with the labels of a tour: of the depth-first plan from the root and the plan over
+/// the tour's order, the one with fewer starts, and of two alike the depth-first one. The depth-first plan too where the
+/// kind is Tree, and where there are more than `MOST_TOUR_NODES` nodes.
+///
+/// The tour begins at the root and goes on to the nearest node that it has not visited; `MOST_SWEEPS` sweeps at most then
+/// shorten it (Croes 1958). Two nodes are as far apart as there are nodes that send them by different ports of the
+/// depth-first plan of kind Shortest. The plans and the distances are made in at most `most` threads, or in as many as suit the processors
+/// where it is None.
+///
+/// Refused as `Plan::build_in_threads` is; NoMemory is also where the tour or the plan over it lacks memory. Takes as
+/// long as both plans, and of kind Compact one of kind Shortest, and O(n * n * n) for the tour of n nodes.
+pub fn tour_plan(
+    rt: &(impl Threads + Sync),
+    alloc: Global,
+    topology: Topology,
+    kind: Kind,
+    root: u16,
+    most: Option<usize>,
+) -> Result<Plan, (PlanError, Topology)>
+    ensures kind { IfOk result (λ p. p.kind ≡ kind) }
+    ensures root { IfOk result (λ p. p.root ≡ root) }
+    ensures network { IfOk result (λ p. p.network ≡ topology) }
+    ensures scheme { IfOk result (λ p. IsScheme p) }
+    ensures numbers { IfOk result (λ p. kind ≡ Kind.Tree → HasDepthFirst p) }
+    ensures fewer { IfOk result (λ p. HasNoMoreStarts p) }
+    ensures ties { IfOk result (λ p. HasDepthFirst p ⊎ HasFewerStarts p) }
+    ensures back { IfErr result (λ e. e.1 ≡ topology) }
+    ensures empty { IfErr result (λ e. (e.0 ≡ PlanError.Empty) ↔ (node_count topology ≡ 0)) }
+    ensures no_node { IfErr result
+        (λ e. (e.0 ≡ PlanError.NoNode) ↔ ((0 < node_count topology) × (node_count topology ≤ root))) }
+    ensures disconnected { IfErr result
+        (λ e. e.0 ≡ PlanError.Disconnected → (0 < node_count topology) × (root < node_count topology)
+        × IsDisconnected topology) }
+{
+    match Plan::build_in_threads(rt, alloc, topology, kind, root, most) {
+        Ok(plan) => match plan_with_fewer(rt, alloc, &plan, most) {
+            Ok(Some(tour)) => Ok(tour),
+            Ok(None) => Ok(plan),
+            Err(_) => Err((PlanError::NoMemory, plan.into_topology())),
+        },
+        Err(refusal) => Err(refusal),
+    }
+}
+
+// The plan over a tour's order, where a tour is sought and its plan has fewer starts than this one.
+fn plan_with_fewer(
+    rt: &(impl Threads + Sync),
+    alloc: Global,
+    plan: &Plan,
+    most: Option<usize>,
+) -> Result<Option<Plan>, AllocError>
+    ensures other { IfOk result (λ found. IfSome found (λ _. plan.now.kind ≢ Kind.Tree)) }
+    ensures kind { IfOk result (λ found. IfSome found (λ p. p.kind ≡ plan.now.kind)) }
+    ensures root { IfOk result (λ found. IfSome found (λ p. p.root ≡ plan.now.root)) }
+    ensures network { IfOk result (λ found. IfSome found (λ p. p.network ≡ plan.now.network)) }
+    ensures scheme { IfOk result (λ found. IfSome found (λ p. IsScheme p)) }
+    ensures fewer { IfOk result (λ found. IfSome found (λ p. starts_of p < starts_of plan.now)) }
+{
+    if plan.kind() == Kind::Tree || plan.nodes() > MOST_TOUR_NODES {
+        return Ok(None);
+    }
+    let order = tour(rt, alloc, plan, most)?;
+    if !begins_listing(alloc, plan.nodes(), plan.root(), order.as_slice())? {
+        return Ok(None);
+    }
+    let found = plan_over(rt, alloc, plan, order, most)?;
+    if found.labels() < plan.labels() {
+        Ok(Some(found))
+    } else {
+        Ok(None)
+    }
+}
+
+// The plan of the kind and network of another over an order of all nodes.
+fn plan_over(
+    rt: &(impl Threads + Sync),
+    alloc: Global,
+    plan: &Plan,
+    order: Vec<u16>,
+    most: Option<usize>,
+) -> Result<Plan, AllocError>
+    requires kind { plan.now.kind ≢ Kind.Tree }
+    requires order { IsListing (node_count plan.now.network) order.items }
+    requires root { slice_index order.items 0 ≡ plan.now.root }
+    ensures kind { IfOk result (λ p. p.kind ≡ plan.now.kind) }
+    ensures root { IfOk result (λ p. p.root ≡ plan.now.root) }
+    ensures network { IfOk result (λ p. p.network ≡ plan.now.network) }
+    ensures scheme { IfOk result (λ p. IsScheme p) }
+{
+    let topology = plan.topology().try_clone(alloc)?;
+    match Plan::build_numbered_in_threads(rt, alloc, topology, plan.kind(), order, most) {
+        Ok(found) => Ok(found),
+        Err(_) => Err(AllocError),
+    }
+}
+
+// The nodes of a plan in the order of the tour from its root.
+fn tour(
+    rt: &(impl Threads + Sync),
+    alloc: Global,
+    plan: &Plan,
+    most: Option<usize>,
+) -> Result<Vec<u16>, AllocError>
+    requires { node_count plan.now.network ≤ MOST_TOUR_NODES }
+{
+    let _nodes = plan.nodes();
+    let far = distances(rt, alloc, plan, most)?;
+    let mut order = nearest_order(alloc, &far, plan.root())?;
+    shorten(&far, order.as_mut_slice());
+    Ok(order)
+}
+
+// The distances of the nodes, by the ports of the plan, or of the one of kind Shortest of its root and network.
+fn distances(
+    rt: &(impl Threads + Sync),
+    alloc: Global,
+    plan: &Plan,
+    most: Option<usize>,
+) -> Result<Distances, AllocError>
+    requires { node_count plan.now.network ≤ MOST_TOUR_NODES }
+    ensures { IfOk result (λ far. far.nodes ≡ node_count plan.now.network) }
+{
+    if plan.kind() == Kind::Shortest {
+        return Distances::of(rt, alloc, plan, most);
+    }
+    let topology = plan.topology().try_clone(alloc)?;
+    match Plan::build_in_threads(rt, alloc, topology, Kind::Shortest, plan.root(), most) {
+        Ok(shortest) => Distances::of(rt, alloc, &shortest, most),
+        Err(_) => Err(AllocError),
+    }
+}
+
+// Whether a list has each of so many nodes once, and a root first.
+fn begins_listing(alloc: Global, nodes: usize, root: u16, order: &[u16]) -> Result<bool, AllocError>
+    ensures listing { IfOk result (λ is. IsTrue is → IsListing nodes order.now) }
+    ensures root { IfOk result (λ is. IsTrue is → slice_index order.now 0 ≡ root) }
+{
+    if order.is_empty() || order[0] != root {
+        return Ok(false);
+    }
+    match check_order(alloc, nodes, order) {
+        Ok(()) => Ok(true),
+        Err(OrderError::NoMemory) => Err(AllocError),
+        Err(_) => Ok(false),
+    }
+}

@@ -1,5 +1,0 @@
-use Rattle.std.specs.List.Sorted.{IsPermutation}
-use Rattle.ir_tour.proofs.sweeps.shorten.Given as goal
-
-abbrev pub invariant-loop : goal.invariant-loop
-invariant-loop l = IsPermutation l.fn.order l.order

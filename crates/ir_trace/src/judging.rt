@@ -1,0 +1,133 @@
+//! What a check of a trace and the place where a row leaves its walks are judged by: the plans of epochs, and segments of
+//! rows beside them.
+ghost use Rattle.std.specs.Prelude.{◌≡◌, ◌<◌, ◌≤◌, IfOk, length, nat_lt, nat_le, ◌&&◌, Some};
+ghost use Rattle.ir_model.specs.Network.{node_count, restrict};
+ghost use Rattle.ir_core.specs.Meaning.{IsMade};
+ghost use Rattle.ir_core.specs.Sound.{last_of};
+ghost use Rattle.ir_trace.specs.Checked.{plan_at, last_part, IsInstall, AreInstalls, AreSchemesOf};
+ghost use Rattle.ir_trace.specs.Inspect.{is_node, next_of, are_known, fits_fate};
+
+use crate::row::{RowFate, Segment};
+use ir_core::{BuildError, Install, plan_over};
+use ir_plan::Plan;
+use ir_tables::Topology;
+use std::alloc::{AllocError, Global};
+use std::thread::Threads;
+
+/// The plans of epochs, over the links that were up at their installs, those of more than 256 nodes made in threads.
+/// Refused for memory alone. Takes as long as the plans.
+pub fn plans_of(
+    rt: &(impl Threads + Sync),
+    alloc: Global,
+    topology: &Topology,
+    installs: &[Install],
+) -> Result<Vec<Plan>, AllocError>
+    requires { AreInstalls topology.now installs.now }
+    ensures { IfOk result (λ plans. AreSchemesOf topology.now installs.now plans.items) }
+{
+    let mut plans = Vec::with_capacity(alloc, installs.len())?;
+    for install in installs {
+        plans.push(plan_of(rt, alloc, topology, install)?)?;
+    }
+    Ok(plans)
+}
+
+/// The plan of an epoch, over the links that were up at its install.
+fn plan_of(
+    rt: &(impl Threads + Sync),
+    alloc: Global,
+    topology: &Topology,
+    install: &Install,
+) -> Result<Plan, AllocError>
+    requires { IsInstall topology.now install.now }
+    ensures { IfOk result (λ plan. IsMade install.now.labels install.now.kind install.now.root
+        (restrict install.now.up.items topology.now) (Some plan)) }
+{
+    let kept = topology.only(alloc, install.up.as_slice())?;
+    match plan_over(rt, alloc, kept, install.labels, install.kind, install.root) {
+        Ok(plan) => Ok(plan),
+        Err(BuildError::NoMemory) => Err(AllocError),
+        Err(BuildError::Disconnected) => unreachable!(),
+    }
+}
+
+/// The plan of an epoch, counted from 1.
+pub fn plan_at(plans: &[Plan], epoch: u32) -> &Plan
+    requires above { 0 < epoch }
+    requires within { epoch ≤ length plans.now }
+    ensures { result.now ≡ plan_at plans.now epoch }
+{
+    &plans[epoch as usize - 1]
+}
+
+/// The node that a plan sends on to from a node; none at the destination. Takes O(log k), for k starts of the row.
+pub fn next_of(plan: &Plan, at: u16, dest: u16) -> Option<u16>
+    requires at { at < node_count plan.now.network }
+    requires dest { dest < node_count plan.now.network }
+    ensures { result ≡ next_of plan.now at dest }
+{
+    let _nodes = plan.nodes();
+    let port = plan.port(at, plan.label_of(dest))?;
+    Some(plan.hop(at, port).node)
+}
+
+/// Whether the epoch of a segment is one of so many.
+fn is_known(segment: &Segment, epochs: usize) -> bool
+    ensures { result ≡ (nat_lt 0 segment.now.epoch && nat_le segment.now.epoch epochs) }
+{
+    0 < segment.epoch && segment.epoch as usize <= epochs
+}
+
+/// Whether the epoch of each segment is one of so many.
+pub fn are_known(segments: &[Segment], epochs: usize) -> bool
+    ensures { result ≡ are_known epochs segments.now }
+{
+    segments.iter().all(|segment| is_known(segment, epochs))
+}
+
+/// The last of some hops.
+pub fn last_of(hops: &[u16]) -> u16
+    requires { 0 < length hops.now }
+    ensures { result ≡ last_of hops.now }
+{
+    hops[hops.len() - 1]
+}
+
+/// The last hop of a segment.
+pub fn last_hop(segment: &Segment) -> u16
+    requires { 0 < length segment.now.hops }
+    ensures { result ≡ last_of segment.now.hops }
+{
+    last_of(segment.hops.as_slice())
+}
+
+/// The last of some segments.
+pub fn last_segment(segments: &[Segment]) -> &Segment
+    requires { 0 < length segments.now }
+    ensures { result.now ≡ last_part segments.now }
+{
+    &segments[segments.len() - 1]
+}
+
+/// Whether it is this node.
+pub fn is_node(next: Option<u16>, node: u16) -> bool
+    ensures { result ≡ is_node next node }
+{
+    match next {
+        Some(next) => next == node,
+        None => false,
+    }
+}
+
+/// Whether where a packet is and where it is to go on to fit a fate.
+pub fn fits_fate(fate: RowFate, at: u16, next: Option<u16>) -> bool
+    ensures { result ≡ fits_fate fate at next }
+{
+    match fate {
+        RowFate::Delivered | RowFate::Retired | RowFate::Left => true,
+        RowFate::Down { low, high } => {
+            (at == low && is_node(next, high)) || (at == high && is_node(next, low))
+        }
+        RowFate::Full { from, to } => at == from && is_node(next, to),
+    }
+}
