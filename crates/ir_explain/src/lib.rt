@@ -14,6 +14,7 @@ mod numbering;
 mod opening;
 mod refusal;
 mod script;
+mod table;
 mod topology;
 
 pub use explain::explanation;

@@ -2,6 +2,7 @@
 
 use crate::bytes::push_bad_byte;
 use crate::nearest::{nearest_node, nearest_of, push_near};
+use crate::table::text_for;
 use ir_given::lines::{line_at, text_of, word_at, words_of};
 use ir_given::parts::{Part, Parts};
 use ir_given::sentence::{begin_at, joined, push_file, push_quoted};
@@ -19,22 +20,19 @@ const LIVE_COMMANDS: usize = 6;
 /// The kinds of plans.
 static KINDS: [&str; 3] = ["tree", "shortest", "compact"];
 
-/// How the lines of a command look.
-fn form_of(command: &str) -> Option<&'static str> {
-    match command {
-        "inject" => Some("inject A B"),
-        "drain" => Some("drain"),
-        "down" => Some("down A B"),
-        "up" => Some("up A B"),
-        "install" => Some("install KIND ROOT"),
-        "retire" => Some("retire EPOCH"),
-        "learn" => Some("learn EPOCH"),
-        "take" => Some("take NODE inbox' or 'take NODE from NEIGHBOUR"),
-        "read" => Some("read NODE VERSION"),
-        "act" => Some("act NODE"),
-        _ => None,
-    }
-}
+/// How the lines of commands look.
+static FORMS: [(&str, &str); 10] = [
+    ("inject", "inject A B"),
+    ("drain", "drain"),
+    ("down", "down A B"),
+    ("up", "up A B"),
+    ("install", "install KIND ROOT"),
+    ("retire", "retire EPOCH"),
+    ("learn", "learn EPOCH"),
+    ("take", "take NODE inbox' or 'take NODE from NEIGHBOUR"),
+    ("read", "read NODE VERSION"),
+    ("act", "act NODE"),
+];
 
 /// Whether a command is of a simulation alone.
 fn is_of_simulation(command: &str) -> bool {
@@ -67,7 +65,7 @@ fn push_bad_command(
 ) -> Result<(), AllocError> {
     let command = word_at(words, 0);
     let name = text_of(command);
-    let Some(form) = form_of(name) else {
+    let Some(form) = text_for(FORMS.as_slice(), name) else {
         return push_unknown(alloc, text, command, is_live);
     };
     if is_live && is_of_simulation(name) {

@@ -76,6 +76,33 @@ fn push_start(
     push_node(text, graph, at)
 }
 
+/// Says from which hop to which node the plan of an epoch goes.
+fn push_onward(
+    text: &mut String,
+    graph: &Graph,
+    epoch: u32,
+    hops: &[u16],
+    from: usize,
+    node: u16,
+) -> Result<(), AllocError> {
+    write!(text, ", and the plan of epoch {epoch} goes from ")?;
+    push_hop(text, graph, hops, from)?;
+    text.push_str(" to ")?;
+    push_node(text, graph, node)
+}
+
+/// Says behind which hop, the destination, hops go on.
+fn push_beyond(
+    text: &mut String,
+    graph: &Graph,
+    hops: &[u16],
+    end: usize,
+) -> Result<(), AllocError> {
+    text.push_str(": they go on behind ")?;
+    push_hop(text, graph, hops, end)?;
+    text.push_str(", the destination")
+}
+
 /// Says that a hop of a segment is not the node that the plan goes on to.
 fn push_stray(
     text: &mut String,
@@ -86,21 +113,12 @@ fn push_stray(
     next: Option<u16>,
 ) -> Result<(), AllocError> {
     let (epoch, hops) = (epoch_at(segments, place), hops_at(segments, place));
-    let number = hop.saturating_add(1);
+    let (number, before) = (hop.saturating_add(1), hop.saturating_sub(1));
     write!(text, "node {number} of the hops under epoch {epoch} is ")?;
     push_hop(text, graph, hops, hop)?;
     match next {
-        Some(node) => {
-            write!(text, ", and the plan of epoch {epoch} goes from ")?;
-            push_hop(text, graph, hops, hop.saturating_sub(1))?;
-            text.push_str(" to ")?;
-            push_node(text, graph, node)
-        }
-        None => {
-            text.push_str(": they go on behind ")?;
-            push_hop(text, graph, hops, hop.saturating_sub(1))?;
-            text.push_str(", the destination")
-        }
+        Some(node) => push_onward(text, graph, epoch, hops, before, node),
+        None => push_beyond(text, graph, hops, before),
     }
 }
 

@@ -2,6 +2,7 @@
 //! lines and the endings of its replies.
 #![tactic(auto)]
 
+mod command;
 pub mod cut;
 pub mod ending;
 pub mod lines;

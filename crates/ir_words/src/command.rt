@@ -1,0 +1,450 @@
+//! The command line: its subcommands, and what each of them takes.
+
+use clap::{Arg, ArgAction, Command};
+use std::alloc::{AllocError, Global};
+
+/// What an argument takes.
+#[derive(Clone, Copy)]
+enum Takes {
+    /// Nothing: it is a flag.
+    Nothing,
+    /// Any word.
+    Word,
+    /// One of these words.
+    WordOf(&'static [&'static str]),
+    /// A number from one to another.
+    Number(i64, i64),
+    /// The name of a file, which stands by itself.
+    File,
+}
+
+/// Whether an argument is to be given.
+#[derive(Clone, Copy)]
+enum Need {
+    /// It may be.
+    Free,
+    /// It must be.
+    Must,
+    /// It may be, and else this word stands for it.
+    Else(&'static str),
+    /// It may be, beside the argument of this name.
+    Beside(&'static str),
+}
+
+/// An argument.
+#[derive(Clone, Copy)]
+struct Taken {
+    name: &'static str,
+    value: &'static str,
+    help: &'static str,
+    takes: Takes,
+    need: Need,
+}
+
+/// A subcommand: what stands in its help, and its arguments behind those that all have. A usage that is empty is the one that
+/// follows from the arguments.
+#[derive(Clone, Copy)]
+struct Spelled {
+    name: &'static str,
+    about: &'static str,
+    usage: &'static str,
+    lines: &'static str,
+    args: &'static [Taken],
+    own: &'static [Taken],
+}
+
+static VERSION: &str = "1.0.0";
+
+const PREFIXES_LINES: &str = "\
+Lines that are printed:
+  prefixes KIND N BITS LINES                       The numbers of nodes, of bits of a label, and of lines of tables
+  NODE LABEL [VALUE/LENGTH NEXT]...                The lines of a node; NEXT is a neighbour, or - for unreachable
+
+Example, for a topology with the lines 'a b' and 'b c':
+  $ route prefixes --kind tree --root b TOPOLOGY
+  prefixes tree 3 2 5
+  a 1 0/0 b
+  b 0 2/1 c 0/0 a
+  c 2 2/1 - 0/0 b
+
+What goes to a label goes by the line of the longest prefix that holds it.";
+
+const SCRIPT_LINES: &str = "\
+Lines of a script ('learn', 'take', 'read' and 'act' are lines of 'sim' alone):
+  inject A B          A packet from node A to node B
+  drain               Every packet is carried on, round by round, until none moves
+  down A B            The link between A and B goes down
+  up A B              The link between A and B comes up
+  install tree R      A tree plan from root R over the links that are up becomes the current epoch
+  install shortest R  The same with a plan of shortest ways
+  install compact R   The same with the fewest intervals at each node
+  retire F            The epochs below F are retired
+  learn E             The injector learns epoch E; it stamps each packet with the greatest that it learnt
+  take N inbox        Node N takes the first packet of its inbox into its hand
+  take N from M       Node N takes the first packet of the link from M into its hand
+  read N K            Node N reads version K of the board
+  act N               Node N acts on the packet in its hand: delivers it, sends it on or drops it
+  # TEXT              A comment, behind a line's words too";
+
+const LIVE_LINES: &str = "\
+Lines of a script:
+  inject A B          A packet from node A to node B
+  drain               Waiting, until every packet has come to its end or a node has stopped
+  down A B            The link between A and B goes down
+  up A B              The link between A and B comes up
+  install tree R      A tree plan from root R over the links that are up becomes the current epoch
+  install shortest R  The same with a plan of shortest ways
+  install compact R   The same with the fewest intervals at each node
+  retire F            The epochs below F are retired
+  # TEXT              A comment, behind a line's words too";
+
+/// What every subcommand takes.
+const COMMON: [Taken; 7] = [
+    Taken {
+        name: "format",
+        value: "FORMAT",
+        help: "The format of the topology; edgelist by default for a file that ends in .edgelist or .wel, else adjlist",
+        takes: Takes::WordOf(&["adjlist", "edgelist"]),
+        need: Need::Free,
+    },
+    Taken {
+        name: "kind",
+        value: "KIND",
+        help: "How the first plan routes",
+        takes: Takes::WordOf(&["tree", "shortest", "compact"]),
+        need: Need::Else("shortest"),
+    },
+    Taken {
+        name: "root",
+        value: "NAME",
+        help: "The root of the first plan; the first node by default",
+        takes: Takes::Word,
+        need: Need::Free,
+    },
+    Taken {
+        name: "capacity",
+        value: "C",
+        help: "The capacity of each channel and inbox",
+        takes: Takes::Number(1, 1024),
+        need: Need::Else("16"),
+    },
+    Taken {
+        name: "packets",
+        value: "M",
+        help: "The most packets",
+        takes: Takes::Number(1, 4096),
+        need: Need::Else("4096"),
+    },
+    Taken {
+        name: "explain",
+        value: "",
+        help: "Sentences behind the lines of faults, on standard error: where, what and why",
+        takes: Takes::Nothing,
+        need: Need::Free,
+    },
+    Taken {
+        name: "no-explain",
+        value: "",
+        help: "No such sentences, on a terminal either",
+        takes: Takes::Nothing,
+        need: Need::Free,
+    },
+];
+
+/// What the subcommands take that show a plan.
+const SHOWN: [Taken; 3] = [
+    Taken {
+        name: "threads",
+        value: "T",
+        help: "The most threads that make rows; as many as suit the processors by default",
+        takes: Takes::Number(1, 256),
+        need: Need::Free,
+    },
+    Taken {
+        name: "numbering",
+        value: "NUMBERING",
+        help: "How nodes are numbered: depth-first, tour (for fewer intervals), or a file with a node a line, in order",
+        takes: Takes::Word,
+        need: Need::Else("depth-first"),
+    },
+    Taken {
+        name: "topology",
+        value: "TOPOLOGY",
+        help: "The file of the topology, or - for standard input",
+        takes: Takes::File,
+        need: Need::Must,
+    },
+];
+
+/// The ends of a walk, both of which are wanted.
+const ENDS: [Taken; 2] = [
+    Taken {
+        name: "from",
+        value: "A",
+        help: "The node that the walk goes from",
+        takes: Takes::Word,
+        need: Need::Must,
+    },
+    Taken {
+        name: "to",
+        value: "B",
+        help: "The node that the walk goes to",
+        takes: Takes::Word,
+        need: Need::Must,
+    },
+];
+
+/// The ends of a walk that is drawn, both or none of which are wanted.
+const DRAWN: [Taken; 2] = [
+    Taken {
+        name: "from",
+        value: "A",
+        help: "The node from which a walk is drawn in bold",
+        takes: Takes::Word,
+        need: Need::Beside("to"),
+    },
+    Taken {
+        name: "to",
+        value: "B",
+        help: "The node to which it goes",
+        takes: Takes::Word,
+        need: Need::Beside("from"),
+    },
+];
+
+/// The flag of prefixes.
+const PREFIXED: [Taken; 1] = [Taken {
+    name: "disjoint",
+    value: "",
+    help: "Prefixes of which no two of a node hold one label",
+    takes: Takes::Nothing,
+    need: Need::Free,
+}];
+
+/// What the subcommands take that play a script.
+const PLAYED: [Taken; 4] = [
+    Taken {
+        name: "numbering",
+        value: "NUMBERING",
+        help: "How each plan's nodes are numbered, from its root; a tour is for fewer intervals",
+        takes: Takes::WordOf(&["depth-first", "tour"]),
+        need: Need::Else("depth-first"),
+    },
+    Taken {
+        name: "restamps",
+        value: "R",
+        help: "The most restamps of a packet; above 0 the trace has its segments",
+        takes: Takes::Number(0, 3),
+        need: Need::Else("0"),
+    },
+    Taken {
+        name: "topology",
+        value: "TOPOLOGY",
+        help: "The file of the topology, or - for standard input with both texts, cut at the line %%",
+        takes: Takes::File,
+        need: Need::Must,
+    },
+    Taken {
+        name: "script",
+        value: "SCRIPT",
+        help: "The file of the script",
+        takes: Takes::File,
+        need: Need::Free,
+    },
+];
+
+/// What the check of a trace takes.
+const CHECKED: [Taken; 4] = [
+    Taken {
+        name: "numbering",
+        value: "NUMBERING",
+        help: "How each plan's nodes are numbered, from its root; a tour is for fewer intervals",
+        takes: Takes::WordOf(&["depth-first", "tour"]),
+        need: Need::Else("depth-first"),
+    },
+    Taken {
+        name: "topology",
+        value: "TOPOLOGY",
+        help: "The file of the topology, or - for standard input with all three texts, cut at the first two lines %%",
+        takes: Takes::File,
+        need: Need::Must,
+    },
+    Taken {
+        name: "script",
+        value: "SCRIPT",
+        help: "The file of the script",
+        takes: Takes::File,
+        need: Need::Free,
+    },
+    Taken {
+        name: "trace",
+        value: "TRACE",
+        help: "The file of the trace",
+        takes: Takes::File,
+        need: Need::Free,
+    },
+];
+
+/// The subcommands.
+static SUBCOMMANDS: [Spelled; 8] = [
+    Spelled {
+        name: "plan",
+        about: "Prints the labels and rows of a topology's nodes",
+        usage: "",
+        lines: "",
+        args: &SHOWN,
+        own: &[],
+    },
+    Spelled {
+        name: "walk",
+        about: "Prints the walk from one node to another, and the interval by which each node sends on",
+        usage: "",
+        lines: "",
+        args: &SHOWN,
+        own: &ENDS,
+    },
+    Spelled {
+        name: "stats",
+        about: "Prints the figures of a topology's plan: its starts, its greatest row, its walks",
+        usage: "",
+        lines: "",
+        args: &SHOWN,
+        own: &[],
+    },
+    Spelled {
+        name: "draw",
+        about: "Prints a drawing of a topology's plan for Graphviz",
+        usage: "",
+        lines: "",
+        args: &SHOWN,
+        own: &DRAWN,
+    },
+    Spelled {
+        name: "prefixes",
+        about: "Prints the fewest prefixes of labels by which each node sends on, for longest prefix match",
+        usage: "",
+        lines: PREFIXES_LINES,
+        args: &SHOWN,
+        own: &PREFIXED,
+    },
+    Spelled {
+        name: "sim",
+        about: "Plays the lines of a script, and prints what became of its packets",
+        usage: "route sim [OPTIONS] <TOPOLOGY> <SCRIPT>\n       route sim [OPTIONS] -",
+        lines: SCRIPT_LINES,
+        args: &PLAYED,
+        own: &[],
+    },
+    Spelled {
+        name: "live",
+        about: "Plays the lines of a script while each node runs in a thread of its own, and prints what became of its packets",
+        usage: "route live [OPTIONS] <TOPOLOGY> <SCRIPT>\n       route live [OPTIONS] -",
+        lines: LIVE_LINES,
+        args: &PLAYED,
+        own: &[],
+    },
+    Spelled {
+        name: "check",
+        about: "Checks the rows of a trace against the walks that the script's plans prescribe",
+        usage: "route check [OPTIONS] <TOPOLOGY> <SCRIPT> <TRACE>\n       route check [OPTIONS] -",
+        lines: "",
+        args: &CHECKED,
+        own: &[],
+    },
+];
+
+/// An argument by its name.
+fn named<'a>(alloc: Global, taken: &Taken) -> Arg<'a> {
+    let arg = Arg::new(alloc, taken.name).help(taken.help);
+    match taken.takes {
+        Takes::File => arg.value_name(taken.value),
+        Takes::Nothing => arg.long(taken.name).action(ArgAction::SetTrue),
+        Takes::Word | Takes::WordOf(_) | Takes::Number(_, _) => arg
+            .long(taken.name)
+            .value_name(taken.value),
+    }
+}
+
+/// The same with the values that it takes.
+fn valued<'a>(arg: Arg<'a>, taken: &Taken) -> Arg<'a> {
+    match taken.takes {
+        Takes::WordOf(words) => arg.value_parser(words),
+        Takes::Number(least, most) => arg.value_parser(clap::value_parser!(u16).range(
+            least..=most,
+        )),
+        Takes::Nothing | Takes::Word | Takes::File => arg,
+    }
+}
+
+/// An argument.
+fn arg_of<'a>(alloc: Global, taken: &Taken) -> Result<Arg<'a>, AllocError> {
+    let arg = valued(named(alloc, taken), taken);
+    match taken.need {
+        Need::Free => Ok(arg),
+        Need::Must => Ok(arg.required(true)),
+        Need::Else(word) => Ok(arg.default_value(word)),
+        Need::Beside(other) => arg.requires_arg(other),
+    }
+}
+
+/// A command with further arguments.
+fn with_args<'a>(
+    alloc: Global,
+    command: Command<'a>,
+    all: &[Taken],
+) -> Result<Command<'a>, AllocError> {
+    let mut command = command;
+    for taken in all {
+        command = command.arg(arg_of(alloc, taken)?)?;
+    }
+    Ok(command)
+}
+
+/// A command with a usage of its own, if there is one.
+fn used<'a>(command: Command<'a>, usage: &'static str) -> Command<'a> {
+    if usage.is_empty() {
+        command
+    } else {
+        command.override_usage(usage)
+    }
+}
+
+/// A command with lines behind its help, if there are any.
+fn lined<'a>(command: Command<'a>, lines: &'static str) -> Command<'a> {
+    if lines.is_empty() {
+        command
+    } else {
+        command.after_help(lines)
+    }
+}
+
+/// What stands in the help of a subcommand.
+fn told<'a>(alloc: Global, spelled: &Spelled) -> Command<'a> {
+    let command = Command::new(alloc, spelled.name).about(spelled.about);
+    lined(used(command, spelled.usage), spelled.lines)
+}
+
+/// A subcommand.
+fn subcommand_of<'a>(alloc: Global, spelled: &Spelled) -> Result<Command<'a>, AllocError> {
+    let command = with_args(alloc, told(alloc, spelled), COMMON.as_slice())?;
+    let shared = with_args(alloc, command, spelled.args)?;
+    with_args(alloc, shared, spelled.own)
+}
+
+/// The program's command, before its subcommands.
+fn program<'a>(alloc: Global) -> Command<'a> {
+    Command::new(alloc, "route")
+        .about("Interval routing with live relabelling; with no words as 'route sim -'")
+        .version(VERSION)
+        .subcommand_required(true)
+        .after_help(SCRIPT_LINES)
+}
+
+/// The command of the program.
+pub(crate) fn route_command<'a>(alloc: Global) -> Result<Command<'a>, AllocError> {
+    let mut command = program(alloc);
+    for spelled in &SUBCOMMANDS {
+        command = command.subcommand(subcommand_of(alloc, spelled)?)?;
+    }
+    Ok(command)
+}
