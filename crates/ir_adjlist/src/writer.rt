@@ -42,7 +42,8 @@ fn put_target(
     count: usize,
     target: &str,
 ) -> Result<(), AllocError>
-    ensures { OnOk result (text.new.items ≡ text.old.items ++ spaced (unwritten graph.now count (target.now ∷ []))) }
+    ensures { OnOk result (text.new.items ≡ text.old.items
+        ++ spaced (unwritten graph.now count (target.now ∷ []))) }
 {
     if is_written(graph, count, target) {
         return Ok(());

@@ -48,7 +48,8 @@ fn append_ends(
     ensures senders { senders.new.items ≡ senders.old.items ++ map (λ s. Some s) node.outs.items }
     ensures settled { settled.new.items ≡ settled.old.items ++ node.outcomes ∷ [] }
     ensures room { (vec_capacity inboxes.old ≤ vec_capacity inboxes.new)
-        × (vec_capacity takers.old ≤ vec_capacity takers.new) × (vec_capacity senders.old ≤ vec_capacity senders.new)
+        × (vec_capacity takers.old ≤ vec_capacity takers.new)
+        × (vec_capacity senders.old ≤ vec_capacity senders.new)
         × (vec_capacity settled.old ≤ vec_capacity settled.new) }
 {
     let Ends {

@@ -129,8 +129,8 @@ impl Injector {
         requires few_packets { max_packets ≤ MAX_PACKETS }
         requires ends { AreEntryEnds opening.now restamps (lines_out outs.items) }
         requires fresh { All (λ s. s.sent ≡ []) outs.items }
-        ensures { (result.opening ≡ opening.now) × (result.newest ≡ opening.now) × (result.max_packets ≡ max_packets)
-            × (result.outs ≡ outs) × (result.accepted.items ≡ []) }
+        ensures { (result.opening ≡ opening.now) × (result.newest ≡ opening.now)
+            × (result.max_packets ≡ max_packets) × (result.outs ≡ outs) × (result.accepted.items ≡ []) }
     {
         Injector {
             alloc,

@@ -298,8 +298,8 @@ impl Net {
     ) -> Result<Option<Vec<Node>>, AllocError>
         requires inboxes { AreFreshIns self.now.inboxes.items inboxes.items }
         requires opening { published writer.now ≡ Opened (length self.now.topology.links) self.now.opening ∷ [] }
-        requires readers { All (λ x. (known x ≡ published writer.now) × (reader_board x ≡ writer_board writer.now))
-            readers.items }
+        requires readers { All (λ x. (known x ≡ published writer.now)
+            × (reader_board x ≡ writer_board writer.now)) readers.items }
         ensures nodes { IfOk result (λ given. IfSome given
             (λ nodes. AreFirstNodes self.now (node_count self.now.topology) nodes.items)) }
         ensures boards { IfOk result (λ given. IfSome given

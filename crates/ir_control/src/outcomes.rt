@@ -142,10 +142,11 @@ pub(crate) fn told_in_order(
     stamps: &mut Vec<Stamp>,
     later: &mut Vec<Vec<Stamp>>,
 )
-    requires full { (k : ℕ) → k < length slots.items → (o : Outcome) × (slice_index_or slots.items k None ≡ Some o) }
+    requires full { (k : ℕ) → k < length slots.items
+        → (o : Outcome) × (slice_index_or slots.items k None ≡ Some o) }
     requires start { (records.old.items ≡ []) × (stamps.old.items ≡ []) × (later.old.items ≡ []) }
-    requires room { (length slots.items ≤ vec_capacity records.old) × (length slots.items ≤ vec_capacity stamps.old)
-        × (length slots.items ≤ vec_capacity later.old) }
+    requires room { (length slots.items ≤ vec_capacity records.old)
+        × (length slots.items ≤ vec_capacity stamps.old) × (length slots.items ≤ vec_capacity later.old) }
     ensures { (outcomes : List Outcome) × (slots.items ≡ map (λ o. Some o) outcomes)
         × (records.new.items ≡ map (λ o. o.packet) outcomes) × (stamps.new.items ≡ map (λ o. o.stamp) outcomes)
         × (later.new.items ≡ map (λ o. o.later) outcomes) }

@@ -25,8 +25,8 @@ pub fn place<T: Member>(whole: &T::Whole, item: T, slots: &mut Vec<Option<T>>)
     ensures length { length slots.new.items ≡ length slots.old.items }
     ensures at { AllAt T.key_of slots.new.items }
     ensures all { AllIn (λ x. T.belongs x whole.now) slots.new.items }
-    ensures weighs { (w : T → ℕ) → sum_by (slot_weight w) slots.new.items ≡ sum_by (slot_weight w) slots.old.items
-        + w item }
+    ensures weighs { (w : T → ℕ) → sum_by (slot_weight w) slots.new.items
+        ≡ sum_by (slot_weight w) slots.old.items + w item }
 {
     let _ = whole;
     let key = item.key();
@@ -43,8 +43,8 @@ pub fn place_all<T: Member>(whole: &T::Whole, mut items: Vec<T>, slots: &mut Vec
     ensures length { length slots.new.items ≡ length slots.old.items }
     ensures at { AllAt T.key_of slots.new.items }
     ensures all { AllIn (λ x. T.belongs x whole.now) slots.new.items }
-    ensures weighs { (w : T → ℕ) → sum_by (slot_weight w) slots.new.items ≡ sum_by (slot_weight w) slots.old.items
-        + sum_by w items.items }
+    ensures weighs { (w : T → ℕ) → sum_by (slot_weight w) slots.new.items
+        ≡ sum_by (slot_weight w) slots.old.items + sum_by w items.items }
 {
     while let Some(item) = items.pop() {
         place(whole, item, slots);

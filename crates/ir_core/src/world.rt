@@ -375,7 +375,8 @@ impl World {
         requires { slice_index_or self.now.hands node None ≡ Some held }
         ensures stamp { result.0 ≡ stamp_of (record_at (sight_in self.now) held.id) }
         ensures dest { result.1 ≡ (record_at (sight_in self.now) held.id).dest }
-        ensures left { result.2 ≡ self.now.opening.restamps - length (record_at (sight_in self.now) held.id).restamps }
+        ensures left { result.2 ≡ self.now.opening.restamps
+            - length (record_at (sight_in self.now) held.id).restamps }
         ensures above { 0 < result.0 }
         ensures within { result.0 ≤ length self.now.plans }
         ensures dest_in { result.1 < nodes_of self.now.opening }
@@ -506,7 +507,8 @@ impl World {
 
     /// A mark for each link of the network, up or down, in the newest board.
     pub(crate) fn marks(&self, alloc: Global) -> Result<Vec<bool>, AllocError>
-        ensures marks { IfOk result (λ v. v.items ≡ take (links_of self.now.opening) (newest (sight_in self.now)).up) }
+        ensures marks { IfOk result (λ v. v.items ≡ take (links_of self.now.opening)
+            (newest (sight_in self.now)).up) }
         ensures count { IfOk result (λ v. length v.items ≡ links_of self.now.opening) }
     {
         self.newest().marks(alloc, self.topology.links())

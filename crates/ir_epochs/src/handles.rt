@@ -267,8 +267,10 @@ impl<R: Wait + Drop> BoardWriter<R> {
 
     // A reader that knows the board as it is. Returns `Err` where each place is in use.
     pub(crate) fn reader(&mut self) -> Result<BoardReader, AllocError>
-        ensures same { (published self.new ≡ published self.old) × (writer_board self.new ≡ writer_board self.old) }
-        ensures reader { IfOk result (λ r. (known r ≡ published self.old) × (reader_board r ≡ writer_board self.old)) }
+        ensures same { (published self.new ≡ published self.old)
+            × (writer_board self.new ≡ writer_board self.old) }
+        ensures reader { IfOk result (λ r. (known r ≡ published self.old)
+            × (reader_board r ≡ writer_board self.old)) }
     {
         let mut reader = self.writer.factory().reader()?;
         reader.learn::<Learn>(self.writer.tell::<Tell>());

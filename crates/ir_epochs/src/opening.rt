@@ -17,7 +17,8 @@ fn seats<R: Wait + Drop>(
     writer: &mut BoardWriter<R>,
     readers: u16,
 ) -> Result<Vec<BoardReader>, BoardError>
-    ensures same { (published writer.new ≡ published writer.old) × (writer_board writer.new ≡ writer_board writer.old) }
+    ensures same { (published writer.new ≡ published writer.old)
+        × (writer_board writer.new ≡ writer_board writer.old) }
     ensures count { IfOk result (λ r. length r.items ≡ readers) }
     ensures each { IfOk result (λ r. All
         (λ x. (known x ≡ published writer.old) × (reader_board x ≡ writer_board writer.old)) r.items) }

@@ -61,7 +61,8 @@ impl Registry {
     /// That an empty cell takes the plan is shown by test.
     pub fn register(&self, epoch: u32, plan: Plan) -> Result<Stamp, (RegisterError, Plan)>
         requires { (1 ≤ epoch) × (epoch ≤ MAX_EPOCHS) }
-        ensures { MatchResult result (λ s. IsOf self.now s × (s.epoch ≡ epoch) × (knows s ≡ plan)) (λ e. e.1 ≡ plan) }
+        ensures { MatchResult result (λ s. IsOf self.now s × (s.epoch ≡ epoch) × (knows s ≡ plan))
+            (λ e. e.1 ≡ plan) }
     {
         let _nodes = plan.nodes();
         let boxed = match Box::new(self.alloc, plan) {

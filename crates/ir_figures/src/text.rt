@@ -26,7 +26,8 @@ fn push_most(
 ) -> Result<(), AllocError>
     requires nodes { node_count plan.now.network ≡ length graph.now }
     requires port { IfSome most (λ m. HasPort plan.now m.node m.port) }
-    ensures { OnOk result (string_bytes text.new ≡ string_bytes text.old ++ most_line (names graph.now) plan.now most) }
+    ensures { OnOk result (string_bytes text.new ≡ string_bytes text.old
+        ++ most_line (names graph.now) plan.now most) }
 {
     let Some(most) = most else {
         return Ok(());

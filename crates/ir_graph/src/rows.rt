@@ -61,7 +61,8 @@ pub fn put_neighbor(
     weight: u32,
 ) -> Result<(), AllocError>
     requires { at < length (rows_view rows.old) }
-    ensures ok { OnOk result (rows_view rows.new ≡ change_row (rows_view rows.old) at (λ es. put es name.now weight)) }
+    ensures ok { OnOk result (rows_view rows.new
+        ≡ change_row (rows_view rows.old) at (λ es. put es name.now weight)) }
     ensures err { OnErr result (rows_view rows.new ≡ rows_view rows.old) }
 {
     let key = String::from_str(alloc, name)?;

@@ -12,7 +12,8 @@ ghost use Rattle.ir_model.specs.Scheme.{AreLabels};
 pub fn chosen_ports_are_determined()
     ensures { (n own : ℕ) (allowed : ℕ → ℕ → Bool) (ports others : List (Option ℕ))
         → AreChoices n own (λ d p. allowed d p ≡ true)
-        → AreChosen n own (λ d p. allowed d p ≡ true) ports → AreChosen n own (λ d p. allowed d p ≡ true) others
+        → AreChosen n own (λ d p. allowed d p ≡ true) ports
+        → AreChosen n own (λ d p. allowed d p ≡ true) others
         → ports ≡ others }
 {}
 
@@ -26,8 +27,8 @@ pub fn compact_table_is_determined()
 
 /// What a table of shortest ways prescribes is a walk of the weight of the distance.
 pub fn prescribed_walk_of_a_table_of_shortest_ways()
-    ensures { (net : Network) → IsNetwork net → (table : ℕ → ℕ → Option ℕ) → IsNearerTable net table → (u d : ℕ)
-        → u < node_count net → d < node_count net
+    ensures { (net : Network) → IsNetwork net → (table : ℕ → ℕ → Option ℕ) → IsNearerTable net table
+        → (u d : ℕ) → u < node_count net → d < node_count net
         → (walk : List ℕ) → IsPrescribedWalk net table u d walk → IsWalk net u d walk
         × IsDistance net u d (walk_weight net walk) }
 {}

@@ -11,6 +11,7 @@ pub fn numbering_is_determined()
         → IsDepthFirst (neighbors_of net) (node_count net) root other others → order ≡ other }
     ensures parents { (net : Network) (root : ℕ) (order parents other others : List ℕ)
         → IsDepthFirst (neighbors_of net) (node_count net) root order parents
-        → IsDepthFirst (neighbors_of net) (node_count net) root other others → (i : ℕ) → 0 < i → i < node_count net
+        → IsDepthFirst (neighbors_of net) (node_count net) root other others
+        → (i : ℕ) → 0 < i → i < node_count net
         → slice_index parents i ≡ slice_index others i }
 {}

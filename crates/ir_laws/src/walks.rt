@@ -22,8 +22,8 @@ pub fn distance_is_symmetric()
 
 /// Distances obey the triangle inequality.
 pub fn distances_obey_the_triangle()
-    ensures { (net : Network) → IsNetwork net → (u v w a b c : ℕ) → IsDistance net u v a → IsDistance net v w b
-        → IsDistance net u w c → c ≤ a + b }
+    ensures { (net : Network) → IsNetwork net → (u v w a b c : ℕ) → IsDistance net u v a
+        → IsDistance net v w b → IsDistance net u w c → c ≤ a + b }
 {}
 
 /// A prescribed walk is determined by table, start and end.
@@ -34,7 +34,8 @@ pub fn prescribed_walk_is_determined()
 
 /// What a shortest table prescribes is a walk of the weight of the distance.
 pub fn prescribed_walk_of_a_shortest_table()
-    ensures { (net : Network) → IsNetwork net → (table : ℕ → ℕ → Option ℕ) → IsShortestTable net table → (u d : ℕ)
+    ensures { (net : Network) → IsNetwork net → (table : ℕ → ℕ → Option ℕ) → IsShortestTable net table
+        → (u d : ℕ)
         → u < node_count net → d < node_count net → (walk : List ℕ) → IsPrescribedWalk net table u d walk
         → IsWalk net u d walk × IsDistance net u d (walk_weight net walk) }
 {}

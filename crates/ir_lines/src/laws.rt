@@ -21,7 +21,8 @@ pub fn beginnings_of_lines_keep_to_walks()
 /// prescribed walk to the node with that label.
 pub fn disjoint_lines_keep_to_walks()
     ensures { (s : Scheme) (bits : ℕ) (tables : List (List Line)) (lines : ℕ → List Line) (x : ℕ) → IsScheme s
-        → AreTablesOf true s bits tables → ((u : ℕ) → All (λ m. Contains (slice_index_or tables u []) m) (lines u))
+        → AreTablesOf true s bits tables
+        → ((u : ℕ) → All (λ m. Contains (slice_index_or tables u []) m) (lines u))
         → x < node_count s.network → KeepsToWalk s bits lines x (end_of s x) }
 {}
 

@@ -303,8 +303,8 @@ impl<T: Bound> Remains<T> {
 pub fn settle_into<T: Bound, R: Wait>(rt: &R, sender: Sender<T>, taker: Taker<T>, into: &mut Vec<T>)
     requires one { sender.line ≡ taker.line }
     requires room { vec_len into.old + taker.line.capacity ≤ vec_capacity into.old }
-    ensures left { (left : List T) × (into.new.items ≡ into.old.items ++ left) × (sender.sent ≡ taker.taken ++ left)
-        × All (λ x. T.goes_to x taker.line.place) left }
+    ensures left { (left : List T) × (into.new.items ≡ into.old.items ++ left)
+        × (sender.sent ≡ taker.taken ++ left) × All (λ x. T.goes_to x taker.line.place) left }
     ensures room { (vec_capacity into.new ≡ vec_capacity into.old)
         × (vec_len into.new ≤ vec_len into.old + taker.line.capacity) }
 {

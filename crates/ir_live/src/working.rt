@@ -70,8 +70,8 @@ pub(crate) fn run_nodes<R: Threads + Moments<Parcel> + Sync, G: Gate, S: Starter
         thread::scope_env(),
         rt,
         move |scope| -> Result<Run<B>, NotRun>
-            ensures run { IfOk result (λ run. IsRun R.was_full net.entry.now.opening nodes.items desk commands.entry.now
-                run) }
+            ensures run { IfOk result (λ run. IsRun R.was_full net.entry.now.opening nodes.items
+                desk commands.entry.now run) }
             ensures stopped { IfErr result (λ why. IsStopped S.unstarted starter.entry.now nodes.items why) }
         {
             let mut desk = desk;

@@ -216,7 +216,8 @@ impl<R: Wait + Drop> ByHand<R> {
     /// Takes away the node at this place.
     pub(crate) fn take_away(&mut self, at: usize) -> Option<Node>
         ensures away { IfSome result (λ n. IsAway self.new.net self.new.parts n) }
-        ensures board { writer_board self.new.parts.controller.writer ≡ writer_board self.old.parts.controller.writer }
+        ensures board { writer_board self.new.parts.controller.writer
+            ≡ writer_board self.old.parts.controller.writer }
     {
         if at >= self.parts.nodes.len() {
             return None;

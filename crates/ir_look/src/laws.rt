@@ -15,8 +15,8 @@ pub fn walk_text_is_determined()
 
 /// A plan has one text of its figures.
 pub fn stats_text_is_determined()
-    ensures { (nodes : List Name) (s : Scheme) (text other : List ℕ) → IsStatsOf nodes s text → IsStatsOf nodes s other
-        → text ≡ other }
+    ensures { (nodes : List Name) (s : Scheme) (text other : List ℕ) → IsStatsOf nodes s text
+        → IsStatsOf nodes s other → text ≡ other }
 {}
 
 /// A plan has one drawing for each choice of ends.

@@ -97,7 +97,8 @@ fn push_free(marks: &mut Vec<Mark>) -> Result<u64, AllocError>
 // Adds the mark of a node with one port.
 fn push_one(marks: &mut Vec<Mark>, port: u16) -> Result<u64, AllocError>
     requires { port < 63 }
-    ensures { IfOk result (λ names. (names ≡ 2 ^ port) × (marks.new.items ≡ marks.old.items ++ OnePort port ∷ [])) }
+    ensures { IfOk result (λ names. (names ≡ 2 ^ port)
+        × (marks.new.items ≡ marks.old.items ++ OnePort port ∷ [])) }
 {
     marks.push(Mark::OnePort(port))?;
     Ok(1u64 << port)

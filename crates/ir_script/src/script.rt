@@ -188,7 +188,8 @@ pub fn parse_live(
     requires { topology.now ≡ network_of_graph graph.now }
     ensures parsed { IfOk result (λ s. live_listing_of (names graph.now) topology.now (lines text.now)
         ≡ Ok (record { steps = s.steps.items; lines = s.lines.items })) }
-    ensures fault { IfErr result (λ e. ScriptTold e (live_listing_of (names graph.now) topology.now (lines text.now))) }
+    ensures fault { IfErr result (λ e. ScriptTold e
+        (live_listing_of (names graph.now) topology.now (lines text.now))) }
 {
     parse(alloc, text, graph, topology)
 }

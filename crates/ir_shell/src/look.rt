@@ -113,7 +113,8 @@ fn answer_walk<T: Threads + Sync>(
     labels: Labels,
 ) -> Result<Reply, AllocError>
     requires labels { MayLabel graph.now words.now.kind (labelling_of labels) }
-    ensures { IfOk result (λ reply. AnswersLook Look.Walk words.now graph.now (labelling_of labels) (answer_of reply)) }
+    ensures { IfOk result (λ reply. AnswersLook Look.Walk words.now graph.now
+        (labelling_of labels) (answer_of reply)) }
 {
     let Some(from) = root_of(graph, &words.from) else {
         return Ok(Reply::Refused(opening_line(alloc, no_root(graph))?));
@@ -134,7 +135,8 @@ fn answer_bold<T: Threads + Sync>(
 ) -> Result<Reply, AllocError>
     requires labels { MayLabel graph.now words.now.kind (labelling_of labels) }
     ensures { IfOk result (λ reply. AnswersEnds graph.now (from_name words.now) (to_name words.now)
-        (λ a b. AnswersShow words.now graph.now (labelling_of labels) (Show.Drawing (Some (a, b)))) (answer_of reply)) }
+        (λ a b. AnswersShow words.now graph.now (labelling_of labels) (Show.Drawing (Some (a, b))))
+        (answer_of reply)) }
 {
     let Some(from) = root_of(graph, &words.from) else {
         return Ok(Reply::Refused(opening_line(alloc, no_root(graph))?));
@@ -157,7 +159,8 @@ fn answer_draw<T: Threads + Sync>(
     labels: Labels,
 ) -> Result<Reply, AllocError>
     requires labels { MayLabel graph.now words.now.kind (labelling_of labels) }
-    ensures { IfOk result (λ reply. AnswersLook Look.Draw words.now graph.now (labelling_of labels) (answer_of reply)) }
+    ensures { IfOk result (λ reply. AnswersLook Look.Draw words.now graph.now
+        (labelling_of labels) (answer_of reply)) }
 {
     if words.from.is_some() && words.to.is_some() {
         answer_bold(rt, alloc, words, graph, labels)

@@ -59,7 +59,8 @@ pub fn run_text(
 ) -> Result<String, AllocError>
     requires over { topology.now ≡ network_of_graph graph.now }
     requires records { HaveSegments topology.now records.now }
-    ensures { IfOk result (λ text. string_bytes text ≡ run_text restamps (names graph.now) topology.now records.now) }
+    ensures { IfOk result (λ text. string_bytes text
+        ≡ run_text restamps (names graph.now) topology.now records.now) }
 {
     if restamps == 0 {
         trace_text(alloc, graph, topology, records)

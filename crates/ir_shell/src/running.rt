@@ -87,8 +87,8 @@ fn write_answer<T: Threads + Moments<Parcel> + Sync, W: Writer, F: Writer>(
 ) -> Ending
     requires kind { FitsItsKind words.now }
     requires texts { length texts.now ≡ length (sources_of words.now) }
-    ensures { EndsAs (Answers (Bor T) T.was_full words.now) result (λ read. read ≡ texts_of texts.now) (λ source why. ⊥)
-        (Sends W.contents W.wrote W.settled output.old output.new) (output.new ≡ output.old)
+    ensures { EndsAs (Answers (Bor T) T.was_full words.now) result (λ read. read ≡ texts_of texts.now)
+        (λ source why. ⊥) (Sends W.contents W.wrote W.settled output.old output.new) (output.new ≡ output.old)
         (Tells F.contents F.wrote F.settled faults.old faults.new) }
 {
     match answer(rt, alloc, words, texts) {

@@ -22,8 +22,8 @@ fn offer(
 ) -> Result<(), AllocError>
     requires node { v < node_count topology.now }
     requires weights { length weights.old ≡ node_count topology.now }
-    ensures offered { OnOk result ((d : ℕ) → IsFrontier topology.now d (Only v) weights.old (heap_items frontier.old)
-        → IsFrontier topology.now d NoNode weights.new (heap_items frontier.new)) }
+    ensures offered { OnOk result ((d : ℕ) → IsFrontier topology.now d (Only v) weights.old
+        (heap_items frontier.old) → IsFrontier topology.now d NoNode weights.new (heap_items frontier.new)) }
     ensures falls { OnOk result (2 * sum weights.new + length (heap_items frontier.new) ≤ 2 * sum weights.old
         + length (heap_items frontier.old)) }
 {

@@ -97,7 +97,8 @@ fn shortest_column(
     d: usize,
 ) -> Result<Option<Column>, AllocError>
     requires { d < node_count topology.now }
-    ensures column { IfOk result (λ found. IfSome found (λ c. IsColumn topology.now d c.ports.items c.weights.items)) }
+    ensures column { IfOk result (λ found. IfSome found (λ c. IsColumn topology.now d c.ports.items
+        c.weights.items)) }
     ensures none { IfOk result (λ found. IfNone found (HasNoWalk topology.now d)) }
 {
     let nodes = topology.nodes();

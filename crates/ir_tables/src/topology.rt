@@ -66,7 +66,8 @@ impl Topology {
     /// The two ends of a link, the smaller node first. Condition: the number is below `links()`.
     pub fn ends(&self, l: u16) -> (u16, u16)
         requires { l < length self.now.links }
-        ensures { IsSomeAnd (slice_get self.now.links l) (λ link. (result.0 ≡ link.low) × (result.1 ≡ link.high)) }
+        ensures { IsSomeAnd (slice_get self.now.links l) (λ link. (result.0 ≡ link.low)
+            × (result.1 ≡ link.high)) }
     {
         let link = &self.links[l as usize];
         (link.low, link.high)

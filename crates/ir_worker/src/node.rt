@@ -98,7 +98,8 @@ impl Node {
         requires fresh { (w : Journey → ℕ) → IsEven w inbox ins.items outs.items [] }
         ensures node { (result.index ≡ index) × (result.registry ≡ registry) × (result.opening ≡ opening)
             × (result.restamps ≡ restamps) × (result.ports ≡ ports) × (result.reader ≡ reader) }
-        ensures ends { (result.entrances.inbox ≡ inbox) × (result.entrances.ports ≡ ins) × (result.outs ≡ outs) }
+        ensures ends { (result.entrances.inbox ≡ inbox) × (result.entrances.ports ≡ ins)
+            × (result.outs ≡ outs) }
         ensures start { (result.entrances.next ≡ 0) × (result.outcomes.items ≡ []) }
     {
         Node {

@@ -96,7 +96,7 @@ fn left<R: Wait>(
 }
 
 /// Three items over two places: one is taken, one comes back, and one is left.
-pub fn try_channel<R: Wait>(rt: &R, alloc: Global) -> Result<(), &'static str> {
+pub(crate) fn try_channel<R: Wait>(rt: &R, alloc: Global) -> Result<(), &'static str> {
     let (mut sender, mut taker) = ends(alloc)?;
     let sent = [
         send(rt, &mut sender, 0),

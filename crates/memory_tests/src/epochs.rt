@@ -126,7 +126,7 @@ fn changed_and_read<R: Wait>(
 }
 
 /// A plan of epoch 1, and a board whose changes are read.
-pub fn try_epochs<R: Wait>(rt: &R, alloc: Global) -> Result<(), &'static str> {
+pub(crate) fn try_epochs<R: Wait>(rt: &R, alloc: Global) -> Result<(), &'static str> {
     let registry = Registry::new(alloc);
     let stamp = register(&registry, 1, plan(alloc, path(alloc)?, Kind::Shortest)?)?;
     register_again(&registry, 1, plan(alloc, path(alloc)?, Kind::Tree)?)?;

@@ -50,7 +50,10 @@ fn is_done(live: &Live) -> Result<(), &'static str> {
 }
 
 /// A live run; again, over another net, where there was no memory or a thread was not started.
-pub fn try_live<R: Threads + Wait + Sync>(rt: &R, alloc: Global) -> Result<(), &'static str> {
+pub(crate) fn try_live<R: Threads + Wait + Sync>(
+    rt: &R,
+    alloc: Global,
+) -> Result<(), &'static str> {
     match run(rt, alloc) {
         Ok(live) => return is_done(&live),
         Err(LiveError::NoMemory | LiveError::NoThread) => {}

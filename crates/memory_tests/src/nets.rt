@@ -18,7 +18,7 @@ use std::sync::Wait;
 use std::thread::Threads;
 
 /// A net of an opening.
-pub fn opened<R: Threads + Sync>(
+pub(crate) fn opened<R: Threads + Sync>(
     rt: &R,
     alloc: Global,
     opening: &Opening,
@@ -200,7 +200,7 @@ fn is_report(report: &Report, wanted: [(usize, Fate); 2]) -> Result<(), &'static
 }
 
 /// Two packets over a net whose board changes.
-pub fn try_net<R: Threads + Wait + Sync>(rt: &R, alloc: Global) -> Result<(), &'static str> {
+pub(crate) fn try_net<R: Threads + Wait + Sync>(rt: &R, alloc: Global) -> Result<(), &'static str> {
     let (net, parts) = parted(rt, alloc, 2)?;
     let Parts {
         mut nodes,
@@ -230,7 +230,7 @@ pub fn try_net<R: Threads + Wait + Sync>(rt: &R, alloc: Global) -> Result<(), &'
 }
 
 /// A packet that waits in a channel, and one that finds it full.
-pub fn try_full_channel<R: Threads + Wait + Sync>(
+pub(crate) fn try_full_channel<R: Threads + Wait + Sync>(
     rt: &R,
     alloc: Global,
 ) -> Result<(), &'static str> {

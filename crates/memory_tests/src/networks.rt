@@ -23,7 +23,7 @@ fn add_edge(graph: &mut Graph, u: &str, v: &str) -> Result<(), &'static str> {
 }
 
 /// The network of the path.
-pub fn path(alloc: Global) -> Result<Topology, &'static str> {
+pub(crate) fn path(alloc: Global) -> Result<Topology, &'static str> {
     let mut graph = Graph::new(alloc);
     add_edge(&mut graph, "a", "b")?;
     add_edge(&mut graph, "b", "c")?;
@@ -38,7 +38,7 @@ pub fn path(alloc: Global) -> Result<Topology, &'static str> {
 
 /// What is opened over the path: along its tree from b, each channel of this capacity, with at most four packets and one
 /// restamp of each. Later plans are labelled by a tour.
-pub fn opening(alloc: Global, capacity: usize) -> Result<Opening, &'static str> {
+pub(crate) fn opening(alloc: Global, capacity: usize) -> Result<Opening, &'static str> {
     Ok(Opening {
         topology: path(alloc)?,
         labels: LabelOrder::Tour,
@@ -51,7 +51,7 @@ pub fn opening(alloc: Global, capacity: usize) -> Result<Opening, &'static str> 
 }
 
 /// A copy of what is opened.
-pub fn copy(alloc: Global, opening: &Opening) -> Result<Opening, &'static str> {
+pub(crate) fn copy(alloc: Global, opening: &Opening) -> Result<Opening, &'static str> {
     if let Ok(copied) = opening.try_clone(alloc) {
         return Ok(copied);
     }
@@ -62,7 +62,7 @@ pub fn copy(alloc: Global, opening: &Opening) -> Result<Opening, &'static str> {
 }
 
 /// A plan over a topology, which comes back where there was no memory.
-pub fn plan(alloc: Global, topology: Topology, kind: Kind) -> Result<Plan, &'static str> {
+pub(crate) fn plan(alloc: Global, topology: Topology, kind: Kind) -> Result<Plan, &'static str> {
     let topology = match Plan::build(alloc, topology, kind, 0) {
         Ok(plan) => return Ok(plan),
         Err((PlanError::NoMemory, topology)) => topology,

@@ -193,7 +193,11 @@ fn play_all<R: Threads + Sync>(rt: &R, world: &mut World, run: &Run) -> Result<(
 }
 
 /// A run over a world of its own.
-pub fn try_world<R: Threads + Sync>(rt: &R, alloc: Global, run: &Run) -> Result<(), &'static str> {
+pub(crate) fn try_world<R: Threads + Sync>(
+    rt: &R,
+    alloc: Global,
+    run: &Run,
+) -> Result<(), &'static str> {
     let opening = opening(alloc, run.capacity)?;
     let mut world = opened(rt, alloc, &opening)?;
     play_all(rt, &mut world, run)
