@@ -2,5 +2,6 @@ pub mod Texts
 pub mod Records
 pub mod Replays
 pub mod Runs
+pub mod Answering
 pub mod Reports
 pub mod Lived

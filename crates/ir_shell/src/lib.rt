@@ -1,6 +1,7 @@
 //! The program's shell: what `route` does over readers and writers.
 #![tactic(auto)]
 
+mod asking;
 mod checking;
 mod live;
 mod look;
