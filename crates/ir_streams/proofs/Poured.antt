@@ -1,9 +1,10 @@
 -- A text that is poured piece by piece.
-use Rattle.std.proofs.Common.{◌≡◌, ℕ, List, [], ◌++◌, take, drop, Option, None, Some, Result, refl, sym, ap, subst, ◌∙◌, append_assoc}
+use Rattle.std.proofs.Common.{◌≡◌, ℕ, Bool, true, false, List, [], ◌++◌, take, drop, Option, None, Some, Result, refl, sym, ap, subst, ◌∙◌, append_assoc}
 use Rattle.std.proofs.lemmas.List.{append-nil, take-append-drop}
 use Rattle.ir_streams.specs.declared.call.CallError.{CallError}
-use Rattle.ir_streams.specs.Pouring.{TakesAllBut, Breaks, Pours}
-use Rattle.ir_streams.proofs.Sent.{taken_none, taken_longer, taken_on, breaks_on, breaks_longer}
+use Rattle.ir_streams.specs.Writing.{Writes, Calls}
+use Rattle.ir_streams.specs.Pouring.{TakesAllBut, Breaks, Pours, Finishes}
+use Rattle.ir_streams.proofs.Sent.{takes_on, but_for_all, but_for_front, taken_none, taken_longer, taken_on, breaks_on, breaks_longer, broken}
 
 module _ {W : Type 0} (contents : W → Option (List ℕ)) (wrote : W → List ℕ → Result ℕ CallError → W → Type 0) (settled : W → Result (Unit {0}) CallError → W → Type 0) where
   -- ---- a part
@@ -53,3 +54,24 @@ module _ {W : Type 0} (contents : W → Option (List ℕ)) (wrote : W → List �
   pours_more first (Some kept) xs mid (Some left) ys last (Some after) h k =
       subst (λ (t : List ℕ). TakesAllBut contents wrote settled first t last after) (append_assoc kept xs ys)
       (taken_on contents wrote settled first ((kept ++ xs) ++ ys) mid (left ++ ys) (taken_longer contents wrote settled first (kept ++ xs) mid left h ys) last after k)
+
+  -- ---- a whole text
+
+  whole_sent : (first : W) (text : List ℕ) (mid : W) (kept : List ℕ) (sent : Bool) (last : W) → TakesAllBut contents wrote settled first text mid kept → Calls wrote settled sent mid kept last → Calls wrote settled sent first text last
+  whole_sent first text mid kept true last taken (counts, end, takes, flushed) =
+      (counts ++ taken.counts, end, takes_on contents wrote settled first text taken.counts mid kept counts end [] taken.calls takes, flushed)
+  whole_sent first text mid kept false last taken (counts, end, rest, takes, failed) =
+      (counts ++ taken.counts, end, rest, takes_on contents wrote settled first text taken.counts mid kept counts end rest taken.calls takes, failed)
+
+  whole_written : (first : W) (text : List ℕ) (mid : W) (kept : List ℕ) (sent : Bool) (last : W) → TakesAllBut contents wrote settled first text mid kept → Writes sent (contents mid) (contents last) kept → Writes sent (contents first) (contents last) text
+  whole_written first text mid kept true last taken wrote_it = but_for_all (contents first) (contents mid) (contents last) text kept taken.bytes wrote_it
+  whole_written first text mid kept false last taken wrote_it = but_for_front (contents first) (contents mid) (contents last) text kept taken.bytes wrote_it
+
+  -- from nothing kept back to the end
+  pub poured : (first : W) (text : List ℕ) (mid : W) (after : Option (List ℕ)) (sent : Bool) (last : W) → Pours contents wrote settled first (Some []) text mid after → Finishes contents wrote settled sent mid after last
+      → Calls wrote settled sent first text last × Writes sent (contents first) (contents last) text
+  poured first text mid None sent last broke end =
+      let at_last : Breaks contents wrote settled first text last = subst (λ (w : W). Breaks contents wrote settled first text w) (sym end.1) broke in
+      subst (λ (b : Bool). Calls wrote settled b first text last × Writes b (contents first) (contents last) text) (sym end.0) (broken contents wrote settled first text last at_last)
+  poured first text mid (Some kept) sent last taken end =
+      (whole_sent first text mid kept sent last taken end.0, whole_written first text mid kept sent last taken end.1)

@@ -24,7 +24,23 @@ appends_kept (Some a) None c xs h k = absurd h
 appends_kept (Some a) (Some b) None xs h k = absurd k
 appends_kept (Some a) (Some b) (Some c) xs h k = k ∙ h
 
+pub but_for_some : (old new : Option (List ℕ)) (text rest : List ℕ) → AppendsAllBut old new text rest → AppendsFront old new text
+but_for_some old new text rest is =
+    let front : is.0 ≡ take (length is.0) text = sym (ap (take (length is.0)) is.1 ∙ take_at is.0 rest (length is.0) refl) in
+    (length is.0, subst (λ (t : List ℕ). Appends old new t) front is.2)
+
 module _ (old mid new : Option (List ℕ)) (text rest : List ℕ) (is : AppendsAllBut old mid text rest) where
+  -- and then all that was left
+  pub but_for_all : Appends mid new rest → Appends old new text
+  but_for_all on = subst (λ (t : List ℕ). Appends old new t) (sym is.1) (appends_more old mid new is.0 rest is.2 on)
+
+  -- and then a front of it
+  pub but_for_front : AppendsFront mid new rest → AppendsFront old new text
+  but_for_front on =
+      let n = on.0 in
+      let whole : text ≡ (is.0 ++ take n rest) ++ drop n rest = is.1 ∙ ap (λ t. is.0 ++ t) (sym (take-append-drop n rest)) ∙ sym (append_assoc is.0 (take n rest) (drop n rest)) in
+      but_for_some old new text (drop n rest) (is.0 ++ take n rest, whole, appends_more old mid new is.0 (take n rest) is.2 on.1)
+
   -- of a longer text
   but_for_longer : (more : List ℕ) → AppendsAllBut old mid (text ++ more) (rest ++ more)
   but_for_longer more = (is.0, ap (λ t. t ++ more) is.1 ∙ append_assoc is.0 rest more, is.2)
@@ -40,11 +56,6 @@ module _ (old mid new : Option (List ℕ)) (text rest : List ℕ) (is : AppendsA
 but_for_none : (old new : Option (List ℕ)) (text : List ℕ) → AppendsAllBut old new text [] → Appends old new text
 but_for_none old new text is = subst (λ (t : List ℕ). Appends old new t) (sym (is.1 ∙ append-nil is.0)) is.2
 
-but_for_some : (old new : Option (List ℕ)) (text rest : List ℕ) → AppendsAllBut old new text rest → AppendsFront old new text
-but_for_some old new text rest is =
-    let front : is.0 ≡ take (length is.0) text = sym (ap (take (length is.0)) is.1 ∙ take_at is.0 rest (length is.0) refl) in
-    (length is.0, subst (λ (t : List ℕ). Appends old new t) front is.2)
-
 -- ---- calls
 
 module _ {W : Type 0} (contents : W → Option (List ℕ)) (wrote : W → List ℕ → Result ℕ CallError → W → Type 0) (settled : W → Result (Unit {0}) CallError → W → Type 0) where
@@ -57,7 +68,7 @@ module _ {W : Type 0} (contents : W → Option (List ℕ)) (wrote : W → List �
       let within : n ≤ length left = omega (arith, h.7, ap length h.5, length-append front behind) in
       (h.0, left ++ more, front, behind ++ more, takes_longer first text counts h.0 left more h.4, ap (λ t. t ++ more) h.5 ∙ append_assoc front behind more, h.6, h.7, h.8, ap (λ t. t ++ more) h.9 ∙ sym (drop-append-le n left more within))
 
-  takes_on : (first : W) (text before : List ℕ) (mid : W) (left counts : List ℕ) (last : W) (rest : List ℕ) → Takes wrote settled first text before mid left → Takes wrote settled mid left counts last rest → Takes wrote settled first text (counts ++ before) last rest
+  pub takes_on : (first : W) (text before : List ℕ) (mid : W) (left counts : List ℕ) (last : W) (rest : List ℕ) → Takes wrote settled first text before mid left → Takes wrote settled mid left counts last rest → Takes wrote settled first text (counts ++ before) last rest
   takes_on first text before mid left [] last rest h k =
       let at_last : Takes wrote settled first text before last left = subst (λ (w : W). Takes wrote settled first text before w left) (sym k.0) h in
       subst (λ (t : List ℕ). Takes wrote settled first text before last t) (sym k.1) at_last
