@@ -1,5 +1,5 @@
 -- A text that is poured piece by piece.
-use Rattle.std.proofs.Common.{◌≡◌, ℕ, Bool, true, false, List, [], ◌++◌, take, drop, Option, None, Some, Result, refl, sym, ap, subst, ◌∙◌, append_assoc}
+use Rattle.std.proofs.Common.{◌≡◌, ℕ, Bool, true, false, List, [], ◌++◌, take, drop, Option, None, Some, is_none, Result, refl, sym, ap, subst, ◌∙◌, append_assoc}
 use Rattle.std.proofs.lemmas.List.{append-nil, take-append-drop}
 use Rattle.ir_streams.specs.declared.call.CallError.{CallError}
 use Rattle.ir_streams.specs.Writing.{Writes, Calls}
@@ -35,8 +35,9 @@ module _ {W : Type 0} (contents : W → Option (List ℕ)) (wrote : W → List �
       subst (λ (t : List ℕ). TakesAllBut contents wrote settled first t first kept) (sym (append-nil kept)) (taken_none contents wrote settled first kept)
 
   -- nothing more once a write failed
-  pub pours_in_vain : (last : W) (after : Option (List ℕ)) → after ≡ None → (more : List ℕ) → Pours contents wrote settled last after more last after
-  pours_in_vain last after none more = subst (λ (k : Option (List ℕ)). Pours contents wrote settled last k more last k) (sym none) (refl, refl)
+  pub pours_in_vain : (last : W) (after : Option (List ℕ)) → is_none after ≡ true → (more : List ℕ) → Pours contents wrote settled last after more last after
+  pours_in_vain last None failed more = (refl, refl)
+  pours_in_vain last (Some kept) failed more = absurd (cc failed)
 
   -- one piece, and another
   pub pours_more : (first : W) (kept : Option (List ℕ)) (xs : List ℕ) (mid : W) (left : Option (List ℕ)) (ys : List ℕ) (last : W) (after : Option (List ℕ))
@@ -54,6 +55,12 @@ module _ {W : Type 0} (contents : W → Option (List ℕ)) (wrote : W → List �
   pours_more first (Some kept) xs mid (Some left) ys last (Some after) h k =
       subst (λ (t : List ℕ). TakesAllBut contents wrote settled first t last after) (append_assoc kept xs ys)
       (taken_on contents wrote settled first ((kept ++ xs) ++ ys) mid (left ++ ys) (taken_longer contents wrote settled first (kept ++ xs) mid left h ys) last after k)
+
+  -- the same as the text that they make
+  pub pours_on : (first : W) (kept : Option (List ℕ)) (xs : List ℕ) (mid : W) (left : Option (List ℕ)) (ys : List ℕ) (last : W) (after : Option (List ℕ))
+      → Pours contents wrote settled first kept xs mid left → Pours contents wrote settled mid left ys last after → (text : List ℕ) → xs ++ ys ≡ text → Pours contents wrote settled first kept text last after
+  pours_on first kept xs mid left ys last after h k text e =
+      subst (λ (t : List ℕ). Pours contents wrote settled first kept t last after) e (pours_more first kept xs mid left ys last after h k)
 
   -- ---- a whole text
 
