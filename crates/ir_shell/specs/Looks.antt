@@ -11,7 +11,7 @@ use Rattle.ir_look.specs.Drawing.{IsDrawingOf}
 use Rattle.ir_lines.specs.PrefixesText.{IsPrefixesOf}
 use Rattle.ir_words.specs.declared.words.Words.{Words}
 use Rattle.ir_shell.specs.declared.look.Show.{Show}
-use Rattle.ir_shell.specs.declared.look.Show.TheVariants.{Rows, Between, Figures, Drawing, Tables}
+use Rattle.ir_shell.specs.declared.look.Show.TheVariants.{Between, Figures, Drawing, Tables}
 use Rattle.ir_shell.specs.declared.look.Look.{Look}
 use Rattle.ir_shell.specs.declared.look.Look.TheVariants.{Plan, Walk, Stats, Draw, Prefixes}
 use Rattle.ir_words.specs.Answer.{Answer}
@@ -39,7 +39,6 @@ AnswersBothEnds g (Some from) (Some to) answers = AnswersEnds g (Some from) (Som
 
 -- what a text of a plan says, by what is shown
 abbrev pub Says : Show → List Name → Scheme → List ℕ → Type 0
-Says Rows nodes s text = text ≡ plan_text nodes s
 Says (Between a b) nodes s text = IsWalkOf nodes s a b text
 Says Figures nodes s text = AreFiguresOf nodes s text
 Says (Drawing ends) nodes s text = IsDrawingOf nodes s ends text
@@ -47,7 +46,6 @@ Says (Tables is_disjoint) nodes s text = IsPrefixesOf is_disjoint nodes s text
 
 -- the ends of what is shown, if it has any, are among so many nodes
 abbrev pub AreAmong : ℕ → Show → Type 0
-AreAmong n Rows = Unit {0}
 AreAmong n (Between a b) = (a < n) × (b < n)
 AreAmong n Figures = Unit {0}
 AreAmong n (Drawing ends) = IfSome ends (λ e. (e.0 < n) × (e.1 < n))
@@ -59,7 +57,7 @@ AnswersShow words g labels show = AnswersText g words.kind labels (Says show (na
 
 -- the answer to a graph and labels, by what is asked for
 abbrev pub AnswersLook : Look → Words → Adjacency → Labelling → Answer → Type 0
-AnswersLook Plan words g labels = AnswersShow words g labels Rows
+AnswersLook Plan words g labels = AnswersText g words.kind labels (λ s text. text ≡ plan_text (names g) s)
 AnswersLook Walk words g labels = AnswersEnds g (from_name words) (to_name words) (λ a b. AnswersShow words g labels (Between a b))
 AnswersLook Stats words g labels = AnswersShow words g labels Figures
 AnswersLook Draw words g labels = AnswersBothEnds g (from_name words) (to_name words) (λ ends. AnswersShow words g labels (Drawing ends))

@@ -16,7 +16,7 @@ use ir_core::OpenError;
 use ir_figures::figures_text;
 use ir_graph::Graph;
 use ir_lines::prefixes_text_in_threads;
-use ir_look::plan_text::plan_text;
+use ir_look::plan_text::PlanText;
 use ir_look::{draw_text, walk_text};
 use ir_model::{Fault, Kind};
 use ir_order::{OrderFaultKind, read_order};
@@ -43,10 +43,9 @@ pub enum Look {
     Prefixes,
 }
 
-/// What of a plan is shown.
+/// What of a plan is shown in a text that is made whole.
 #[derive(Clone, Copy, Debug, PartialEq, Eq)]
 pub enum Show {
-    Rows,
     /// The walk from a node to another.
     Between(u16, u16),
     Figures,
@@ -70,7 +69,6 @@ fn text_of<T: Threads + Sync>(
     ensures { IfOk result (λ text. Says show (names graph.now) plan.now (string_bytes text)) }
 {
     match show {
-        Show::Rows => plan_text(alloc, graph, plan),
         Show::Between(from, to) => walk_text(alloc, graph, plan, from, to),
         Show::Figures => figures_text(alloc, graph, plan),
         Show::Drawing(ends) => draw_text(alloc, graph, plan, ends),
@@ -98,6 +96,27 @@ fn answer_show<T: Threads + Sync>(
             let _nodes = plan.nodes();
             let text = text_of(rt, alloc, graph, &plan, show, words.threads)?;
             Ok(Reply::Ran(text, String::new(alloc)))
+        }
+        Err(OpenError::NoMemory) => Err(AllocError),
+        Err(error) => Ok(Reply::Refused(opening_line(alloc, error)?)),
+    }
+}
+
+/// The rows of the plan over a graph, by its labels.
+fn answer_rows<T: Threads + Sync>(
+    rt: &T,
+    alloc: Global,
+    words: &Words,
+    graph: Graph,
+    labels: Labels,
+) -> Result<Reply, AllocError>
+    requires labels { MayLabel graph words.now.kind (labelling_of labels) }
+    ensures { IfOk result (λ reply. AnswersLook Look.Plan words.now graph (labelling_of labels) (answer_of reply)) }
+{
+    match build_plan(rt, alloc, &graph, words.kind, labels, words.threads) {
+        Ok(plan) => {
+            let _nodes = plan.nodes();
+            Ok(Reply::Plan(PlanText::new(alloc, graph, plan)?))
         }
         Err(OpenError::NoMemory) => Err(AllocError),
         Err(error) => Ok(Reply::Refused(opening_line(alloc, error)?)),
@@ -175,20 +194,20 @@ fn answer_labels<T: Threads + Sync>(
     alloc: Global,
     look: Look,
     words: &Words,
-    graph: &Graph,
+    graph: Graph,
     labels: Labels,
 ) -> Result<Reply, AllocError>
-    requires labels { MayLabel graph.now words.now.kind (labelling_of labels) }
-    ensures { IfOk result (λ reply. AnswersLook look words.now graph.now (labelling_of labels) (answer_of reply)) }
+    requires labels { MayLabel graph words.now.kind (labelling_of labels) }
+    ensures { IfOk result (λ reply. AnswersLook look words.now graph (labelling_of labels) (answer_of reply)) }
 {
     match look {
-        Look::Plan => answer_show(rt, alloc, words, graph, labels, Show::Rows),
-        Look::Walk => answer_walk(rt, alloc, words, graph, labels),
-        Look::Stats => answer_show(rt, alloc, words, graph, labels, Show::Figures),
-        Look::Draw => answer_draw(rt, alloc, words, graph, labels),
+        Look::Plan => answer_rows(rt, alloc, words, graph, labels),
+        Look::Walk => answer_walk(rt, alloc, words, &graph, labels),
+        Look::Stats => answer_show(rt, alloc, words, &graph, labels, Show::Figures),
+        Look::Draw => answer_draw(rt, alloc, words, &graph, labels),
         Look::Prefixes => {
             let tables = Show::Tables(words.disjoint);
-            answer_show(rt, alloc, words, graph, labels, tables)
+            answer_show(rt, alloc, words, &graph, labels, tables)
         }
     }
 }
@@ -199,18 +218,18 @@ fn answer_graph<T: Threads + Sync>(
     alloc: Global,
     look: Look,
     words: &Words,
-    graph: &Graph,
+    graph: Graph,
 ) -> Result<Reply, AllocError>
-    ensures { IfOk result (λ reply. AnswersRoot graph.now (root_name words.now)
-        (λ root. AnswersLook look words.now graph.now (FromRoot (label_order words.now.numbering) root))
+    ensures { IfOk result (λ reply. AnswersRoot graph (root_name words.now)
+        (λ root. AnswersLook look words.now graph (FromRoot (label_order words.now.numbering) root))
         (answer_of reply)) }
 {
-    match root_of(graph, &words.root) {
+    match root_of(&graph, &words.root) {
         Some(root) => {
             let labels = Labels::FromRoot(label_order(&words.numbering), root);
             answer_labels(rt, alloc, look, words, graph, labels)
         }
-        None => Ok(Reply::Refused(opening_line(alloc, no_root(graph))?)),
+        None => Ok(Reply::Refused(opening_line(alloc, no_root(&graph))?)),
     }
 }
 
@@ -220,14 +239,14 @@ fn answer_order<T: Threads + Sync>(
     alloc: Global,
     look: Look,
     words: &Words,
-    graph: &Graph,
+    graph: Graph,
     text: &[u8],
 ) -> Result<Reply, AllocError>
     requires { words.now.kind ≢ Kind.Tree }
-    ensures { IfOk result (λ reply. AnswersOrder graph.now (lines text.now)
-        (λ places. AnswersLook look words.now graph.now (ByList places)) (answer_of reply)) }
+    ensures { IfOk result (λ reply. AnswersOrder graph (lines text.now)
+        (λ places. AnswersLook look words.now graph (ByList places)) (answer_of reply)) }
 {
-    match read_order(alloc, graph, text) {
+    match read_order(alloc, &graph, text) {
         Ok(order) => answer_labels(rt, alloc, look, words, graph, Labels::Listed(order)),
         Err(fault) => match fault.kind {
             OrderFaultKind::NoMemory => Err(AllocError),
@@ -247,7 +266,7 @@ fn answer_topology<T: Threads + Sync>(
     ensures { IfOk result (λ reply. LookAnswers look words.now (topology.now ∷ []) (answer_of reply)) }
 {
     match read_topology(alloc, words.format, topology) {
-        Ok(graph) => answer_graph(rt, alloc, look, words, &graph),
+        Ok(graph) => answer_graph(rt, alloc, look, words, graph),
         Err(error) => match error.kind {
             Fault::NoMemory => Err(AllocError),
             kind => Ok(Reply::Refused(topology_line(alloc, error.line, kind)?)),
@@ -268,7 +287,7 @@ fn answer_numbered<T: Threads + Sync>(
     ensures { IfOk result (λ reply. LookAnswers look words.now (topology.now ∷ order.now ∷ []) (answer_of reply)) }
 {
     match read_topology(alloc, words.format, topology) {
-        Ok(graph) => answer_order(rt, alloc, look, words, &graph, order),
+        Ok(graph) => answer_order(rt, alloc, look, words, graph, order),
         Err(error) => match error.kind {
             Fault::NoMemory => Err(AllocError),
             kind => Ok(Reply::Refused(topology_line(alloc, error.line, kind)?)),

@@ -102,7 +102,7 @@ fn write_answer<T: Threads + Moments<Parcel> + Sync, W: Writer, F: Writer>(
         (Tells F.contents F.wrote F.settled faults.old faults.new) }
 {
     match answer(rt, alloc, words, texts) {
-        Ok(reply) => write_reply(&reply, output, faults),
+        Ok(reply) => write_reply(reply, output, faults),
         Err(Stop::Refused(line)) => {
             tell(faults, line.as_bytes());
             Ending::Refused
