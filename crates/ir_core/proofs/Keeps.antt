@@ -6,7 +6,7 @@ use Rattle.ir_model.specs.declared.Hop.{Hop}
 use Rattle.ir_model.specs.Scheme.{Scheme, next_hop, label_in, node_in}
 use Rattle.ir_model.proofs.Graphs.{none_from_is_some}
 use Rattle.std.specs.List.{AllByRecursion}
-use Rattle.ir_core.specs.declared.TheConstants.{MAX_NODES, MAX_CHANGES, MAX_EPOCHS, MAX_RESTAMPS}
+use Rattle.ir_core.specs.declared.TheConstants.{MAX_CHANGES, MAX_EPOCHS, MAX_RESTAMPS}
 use Rattle.ir_core.specs.declared.packet.Fate.TheVariants.{Retired}
 use Rattle.ir_core.specs.declared.event.Ruling.{Ruling}
 use Rattle.ir_core.specs.declared.event.Way.{Way}
@@ -32,7 +32,7 @@ use Rattle.ir_core.proofs.Lists.{or_set}
 use Rattle.ir_core.specs.Sound.{last_of}
 use Rattle.ir_core.proofs.Walks.{next_hop-away, next_hop-none, walk_of, IsBeginning-push, first-push, prefix}
 use Rattle.ir_core.proofs.Verdicts.{Means, judged_means, IsLive, judged_live, if_full, judged-if_full}
-use Rattle.ir_core.proofs.Routed.{RuledBy, present_stretch, ruled_packet, retired_here, here_is, hops_fit}
+use Rattle.ir_core.proofs.Routed.{RuledBy, present_stretch, ruled_packet, retired_here, hops_fit}
 use Rattle.ir_core.proofs.Placed.{moved, place_after, placed_inject, placed_take, ended, sent}
 
 -- what is true of a world, with these places

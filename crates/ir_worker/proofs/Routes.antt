@@ -1,12 +1,12 @@
 -- The segments of a parcel, each with its stamp, when it goes on or is restamped.
-use Rattle.std.proofs.Common.{◌≡◌, ◌≢◌, ℕ, ◌+◌, ◌-◌, ◌*◌, ◌<◌, ◌≤◌, List, [], ◌∷◌, ◌++◌, length, slice_get, Some, refl, sym, ap, ◌∙◌, subst, arith, true, false, Bool, inl, inr}
+use Rattle.std.proofs.Common.{◌≡◌, ◌≢◌, ℕ, ◌+◌, ◌-◌, ◌<◌, ◌≤◌, List, [], ◌∷◌, ◌++◌, length, slice_get, Some, refl, sym, ap, ◌∙◌, subst, arith, true, false, Bool, inl}
 use Rattle.std.specs.Prelude.{reverse}
 use Rattle.std.proofs.lemmas.List.{length-append, length_push, length-drop, length-take-le, length-reverse, reverse-append}
 use Rattle.std.proofs.Math.Logic.{∥∥₁_elim}
 use Rattle.std.proofs.Math.Bridge.{le_prop}
 use Rattle.ir_model.specs.Network.{node_count}
 use Rattle.ir_model.specs.Scheme.{label_in, IsScheme}
-use Rattle.ir_core.specs.declared.TheConstants.{MAX_NODES, MAX_RESTAMPS}
+use Rattle.ir_core.specs.declared.TheConstants.{MAX_RESTAMPS}
 use Rattle.ir_core.specs.declared.event.Way.{Way}
 use Rattle.ir_core.specs.declared.event.Way.TheVariants.{Inbox, Link}
 use Rattle.ir_core.specs.declared.packet.Fate.{Fate}
@@ -22,7 +22,7 @@ use Rattle.ir_core.proofs.Segments.{gone, past_in, present_gone, segments_gone, 
 use Rattle.ir_core.proofs.Routed.{front_of, new_hops, here_is, places_front, restamped_is, most, most_within}
 use Rattle.ir_epochs.specs.declared.registry.Stamp.{Stamp}
 use Rattle.ir_epochs.specs.Stamps.{knows}
-use Rattle.ir_worker.specs.Seen.{SeenParcel, stamp_in, stamps_of, present_stamp, EachBy, IsStretch, IsRouted, AreOverNodes, IsNext, IsKept}
+use Rattle.ir_worker.specs.Seen.{SeenParcel, stamp_in, stamps_of, present_stamp, EachBy, IsStretch, IsRouted, AreOverNodes, IsKept}
 
 -- the stamps before the present one
 abbrev pub earlier_in : List Stamp → Stamp → List Stamp

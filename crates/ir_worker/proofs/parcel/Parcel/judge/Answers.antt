@@ -1,5 +1,5 @@
-use Rattle.std.proofs.Common.{subst, ap, ◌∙◌, false}
-use Rattle.ir_model.specs.Scheme.{IsScheme, node_in}
+use Rattle.std.proofs.Common.{ap, ◌∙◌, false}
+use Rattle.ir_model.specs.Scheme.{node_in}
 use Rattle.ir_core.specs.Entry.{judged}
 use Rattle.ir_core.specs.Journey.{stamp_of}
 use Rattle.ir_worker.specs.declared.parcel.Body.{Body}
