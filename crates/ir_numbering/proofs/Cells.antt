@@ -28,7 +28,8 @@ module _ (net : Network) (ok : IsNetwork net) (order parents : List ℕ)
     father = λ off. absurd (off itself);
   }
 
-  parent_port_to : (up : Option ℕ) → IsParentPort net order parents (slice_index order a) up → 0 < a
+  -- where the port that a place holds for its parent leads
+  pub parent_port_to : (up : Option ℕ) → IsParentPort net order parents (slice_index order a) up → 0 < a
       → (p : ℕ) × (up ≡ Some p) × IsPortTo net (slice_index order a) p (slice_index order (slice_index parents a))
   parent_port_to up port from =
       let every = is.every in

@@ -12,6 +12,7 @@ mod rows;
 mod sweeps;
 mod threads;
 mod tour;
+mod tree;
 
 pub use error::PlanError;
 pub use ir_model::{Hop, Kind};
