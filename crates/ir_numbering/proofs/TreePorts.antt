@@ -1,11 +1,10 @@
 -- What a tree table holds at a node, by label.
 use Rattle.std.proofs.Common.{◌≡◌, ◌≢◌, ℕ, suc, ◌<◌, List, [], ◌∷◌, length, refl, ap, sym, ◌∙◌, subst, inl, inr, arith, map, Option, Some, None}
-use Rattle.std.specs.Prelude.{slice_index, All, unwrap_or}
+use Rattle.std.specs.Prelude.{slice_index, All}
 use Rattle.std.proofs.lemmas.Bool.{cases_eq}
-use Rattle.std.proofs.lemmas.Option.{slice_get_within}
 use Rattle.std.proofs.lemmas.List.{get_or-map, length-map}
 use Rattle.ir_model.specs.declared.Hop.{Hop}
-use Rattle.ir_model.specs.Network.{Network, node_count, ports_of, port_at, IsNetwork}
+use Rattle.ir_model.specs.Network.{Network, node_count, port_at, IsNetwork}
 use Rattle.ir_model.specs.Numbering.{neighbors_of, IsDepthFirst}
 use Rattle.ir_model.specs.Subtree.{IsUnder, itself, child, IsNested, IsTreePorts}
 use Rattle.ir_model.specs.Scheme.{AreLabels}
@@ -13,7 +12,7 @@ use Rattle.ir_model.specs.Compiled.{port_to}
 use Rattle.ir_model.specs.Tree.{IsTreeStep, LeadsInTree, IsTreePath, IsTreeTable}
 use Rattle.ir_numbering.specs.Numbers.{IsPortTo}
 use Rattle.ir_numbering.specs.Cells.{IsTreeCell, AreTreeCells}
-use Rattle.ir_numbering.proofs.Nested.{depth_first_nests, under_above, all_under, parent_under, same_place, same_son}
+use Rattle.ir_numbering.proofs.Nested.{depth_first_nests, under_above, parent_under, same_place, same_son}
 use Rattle.ir_numbering.proofs.Ways.{under_through}
 use Rattle.ir_numbering.proofs.CellPorts.{cell_ports}
 
