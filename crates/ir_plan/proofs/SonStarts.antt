@@ -1,5 +1,5 @@
 -- The row of a node in a tree, made of the starts for its sons and its father, is the canonical one.
-use Rattle.std.proofs.Common.{◌≡◌, ◌≢◌, ◌⊎◌, ℕ, zero, suc, ◌+◌, ◌-◌, ◌<◌, ◌≤◌, List, [], ◌∷◌, ◌++◌, length, get_or, Some, None, refl, ap, sym, ◌∙◌, subst, inl, inr, arith}
+use Rattle.std.proofs.Common.{◌≡◌, ◌≢◌, ◌⊎◌, ℕ, zero, suc, ◌+◌, ◌-◌, ◌<◌, List, [], ◌∷◌, ◌++◌, length, get_or, Some, None, refl, ap, sym, ◌∙◌, subst, inl, inr, arith}
 use Rattle.std.specs.Prelude.{slice_index, slice_index_or, Contains, All}
 use Rattle.std.specs.List.Sorted.{IsStrictlyIncreasing}
 use Rattle.std.proofs.lemmas.Bool.{cases_lt, cases_eq}
@@ -13,11 +13,10 @@ use Rattle.ir_model.specs.Walk.{Linked}
 use Rattle.ir_model.specs.Numbering.{neighbors_of}
 use Rattle.ir_model.specs.Subtree.{IsUnder, itself, child, IsSubtree, IsNested}
 use Rattle.ir_model.specs.Tree.{IsParent}
-use Rattle.ir_model.specs.Row.{Start, labels as start_labels, IsAscending}
-use Rattle.ir_model.specs.Compiled.{port_to, label_after, IsStart, IsCanonical}
+use Rattle.ir_model.specs.Row.{Start, labels as start_labels}
+use Rattle.ir_model.specs.Compiled.{port_to}
 use Rattle.ir_numbering.specs.Numbers.{Numbers, IsPortTo, IsParentPort, IsNumberingOf}
-use Rattle.ir_numbering.specs.Cells.{AreTreeCells}
-use Rattle.ir_numbering.proofs.Nested.{depth_first_nests, same_place}
+use Rattle.ir_numbering.proofs.Nested.{depth_first_nests}
 use Rattle.ir_numbering.proofs.Ways.{parent_linked}
 use Rattle.ir_numbering.proofs.Cells.{parent_port_to, cells_of}
 use Rattle.ir_numbering.proofs.CellPorts.{one_port, one_node, cell_ports}
