@@ -176,7 +176,7 @@ impl Numbering {
     /// The ports of a node to all nodes, by label, along the tree of the numbering; none to itself.
     ///
     /// Condition: the numbering is of the topology. It is refused for want of memory alone. Takes O(n + d * d), for n
-    /// nodes and d ports of the node.
+    /// nodes and d ports of the node. For users of the library.
     pub fn tree_ports(
         &self,
         alloc: Global,
