@@ -27,11 +27,11 @@ pub gives_more : (P Q : Answer → Type 0) → ((answer : Answer) → P answer �
 gives_more P Q more (Ok reply) gives = more (answer_of reply) gives
 gives_more P Q more (Err stop) gives = stops_more (λ line. P (Refused line)) (λ line. Q (Refused line)) (λ line. more (Refused line)) stop gives
 
-option_more : {A : Type 0} {N N' : Type 0} {S S' : A → Type 0} (o : Option A) → (N → N') → ((a : A) → S a → S' a) → MatchOption o N S → MatchOption o N' S'
+pub option_more : {A : Type 0} {N N' : Type 0} {S S' : A → Type 0} (o : Option A) → (N → N') → ((a : A) → S a → S' a) → MatchOption o N S → MatchOption o N' S'
 option_more None none some holds = none holds
 option_more (Some a) none some holds = some a holds
 
-result_more : {A E : Type 0} {O O' : A → Type 0} {F F' : E → Type 0} (r : Result A E) → ((a : A) → O a → O' a) → ((e : E) → F e → F' e) → MatchResult r O F → MatchResult r O' F'
+pub result_more : {A E : Type 0} {O O' : A → Type 0} {F F' : E → Type 0} (r : Result A E) → ((a : A) → O a → O' a) → ((e : E) → F e → F' e) → MatchResult r O F → MatchResult r O' F'
 result_more (Ok a) ok err holds = ok a holds
 result_more (Err e) ok err holds = err e holds
 

@@ -11,9 +11,10 @@ ghost use Rattle.ir_words.specs.Words.{FitsItsKind};
 use crate::asking::{Stop, three_texts, two_texts};
 use crate::checking::check;
 use crate::live::run_commands;
-use crate::look::{Look, answer_look};
+use crate::look::{Look, look_at};
 use crate::play::simulate;
 use ir_links::Moments;
+use ir_plan::Watch;
 use ir_streams::{Reader, Writer};
 use ir_words::ending::{Ending, status_of};
 use ir_words::read::{Source, read_inputs};
@@ -60,17 +61,18 @@ fn answer<T: Threads + Moments<Parcel> + Sync>(
     alloc: Global,
     words: &Words,
     texts: &[Vec<u8>],
+    watch: &(impl Watch + Sync),
 ) -> Result<Reply, Stop>
     requires kind { FitsItsKind words.now }
     requires texts { length texts.now ≡ length (sources_of words.now) }
     ensures { Gives (Answers (Bor T) T.was_full words.now (texts_of texts.now)) result }
 {
     match words.sub {
-        Sub::Plan => Ok(answer_look(rt, alloc, Look::Plan, words, texts)?),
-        Sub::Walk => Ok(answer_look(rt, alloc, Look::Walk, words, texts)?),
-        Sub::Stats => Ok(answer_look(rt, alloc, Look::Stats, words, texts)?),
-        Sub::Draw => Ok(answer_look(rt, alloc, Look::Draw, words, texts)?),
-        Sub::Prefixes => Ok(answer_look(rt, alloc, Look::Prefixes, words, texts)?),
+        Sub::Plan => look_at(rt, alloc, Look::Plan, words, texts, watch),
+        Sub::Walk => look_at(rt, alloc, Look::Walk, words, texts, watch),
+        Sub::Stats => look_at(rt, alloc, Look::Stats, words, texts, watch),
+        Sub::Draw => look_at(rt, alloc, Look::Draw, words, texts, watch),
+        Sub::Prefixes => look_at(rt, alloc, Look::Prefixes, words, texts, watch),
         Sub::Sim => {
             let (topology, script) = two_texts(words, texts);
             simulate(rt, alloc, words, topology, script)
@@ -94,6 +96,7 @@ fn write_answer<T: Threads + Moments<Parcel> + Sync, W: Writer, F: Writer>(
     texts: &[Vec<u8>],
     output: &mut W,
     faults: &mut F,
+    watch: &(impl Watch + Sync),
 ) -> Ending
     requires kind { FitsItsKind words.now }
     requires texts { length texts.now ≡ length (sources_of words.now) }
@@ -101,7 +104,7 @@ fn write_answer<T: Threads + Moments<Parcel> + Sync, W: Writer, F: Writer>(
         (λ source why. ⊥) (Sends W.contents W.wrote W.settled output.old output.new) (output.new ≡ output.old)
         (Tells F.contents F.wrote F.settled faults.old faults.new) }
 {
-    match answer(rt, alloc, words, texts) {
+    match answer(rt, alloc, words, texts, watch) {
         Ok(reply) => write_reply(reply, output, faults),
         Err(Stop::Refused(line)) => {
             tell(faults, line.as_bytes());
@@ -122,7 +125,8 @@ fn write_answer<T: Threads + Moments<Parcel> + Sync, W: Writer, F: Writer>(
 /// packet may be restamped, else of version 2; each step that is refused is a line `refused LINE NAME` of the faults. `live`
 /// carries out the script's commands while each node turns on a thread of its own. `check` reads a trace too, and writes
 /// `ok N` for one of N rows or its first finding: `finding LINE KIND`. Rows of plans are made in as many threads as the
-/// words allow, else as suit the processors; the text is the same for any number.
+/// words allow, else as suit the processors; the text is the same for any number. The watch is told of the rows of the
+/// plan that a subcommand of a plan makes.
 ///
 /// Conditions: an order is of no plan of kind Tree; the inputs are a reader for each text, or for `words.is_one_input()` one
 /// of all texts, which the first lines that are exactly `%%` cut. The status is 0 where all is done; 1 for an input that is
@@ -135,6 +139,7 @@ pub fn run<T: Threads + Moments<Parcel> + Sync, R: Reader, W: Writer, F: Writer>
     inputs: &mut [R],
     output: &mut W,
     faults: &mut F,
+    watch: &(impl Watch + Sync),
 ) -> u8
     requires kind { FitsItsKind words.now }
     requires inputs { length inputs.old ≡ length (sources_of words.now) }
@@ -146,7 +151,7 @@ pub fn run<T: Threads + Moments<Parcel> + Sync, R: Reader, W: Writer, F: Writer>
 {
     match read_inputs(alloc, sources_of(words), inputs) {
         Ok(texts) => {
-            let ending = write_answer(rt, alloc, words, texts.as_slice(), output, faults);
+            let ending = write_answer(rt, alloc, words, texts.as_slice(), output, faults, watch);
             status_of(ending)
         }
         Err(unread) => status_of(tell_unread(faults, unread.source, unread.why)),
