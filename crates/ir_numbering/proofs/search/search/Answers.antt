@@ -1,12 +1,10 @@
-use Rattle.std.proofs.Common.{◌≡◌, ◌<◌, ◌++◌, ℕ, List, [], ◌∷◌, length, arith, rules, subst, sym, ap, ◌∙◌, replicate, true, false}
+use Rattle.std.proofs.Common.{◌≡◌, ◌<◌, ◌++◌, ℕ, [], ◌∷◌, length, arith, rules, ap, ◌∙◌, replicate, true, false}
 use Rattle.std.specs.Prelude.{slice_set}
 use Rattle.std.proofs.lemmas.List.{length_push, nil_from_length}
-use Rattle.ir_model.specs.declared.Hop.{Hop}
 use Rattle.ir_model.specs.Network.{node_count}
 use Rattle.ir_model.specs.Numbering.{neighbors_of}
 use Rattle.ir_numbering.specs.Search.{AllMarked, IsFirstUnmarked}
-use Rattle.ir_numbering.proofs.Neighbors.{ports_below}
-use Rattle.ir_numbering.proofs.Traversal.{begun, passed_none, goes_back, goes_on, marks_one, marks_more, top_below, node_below, walk_is_seen, some_unseen}
+use Rattle.ir_numbering.proofs.Traversal.{begun, passed_none, goes_back, goes_on, marks_one, marks_more, walk_is_seen, some_unseen}
 use Rattle.ir_numbering.proofs.search.search.Goals as goal
 use Rattle.ir_numbering.proofs.search.search.Goals.{else-search-test, then-search-test+in_default}
 
