@@ -47,8 +47,8 @@ impl Numbering {
     /// number of the node that was numbered last and still has one.
     ///
     /// NoNode exactly where the root is no node of the topology, then Disconnected where some node has no walk to
-    /// some node; NoMemory where a growth was refused, which may come before Disconnected is known. Takes O(n + q),
-    /// for n nodes and q the sum of the squares of the degrees.
+    /// some node; NoMemory where a growth was refused, which may come before Disconnected is known. Takes O(n + m),
+    /// for n nodes and m links.
     pub fn depth_first(
         alloc: Global,
         topology: &Topology,

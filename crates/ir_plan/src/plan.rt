@@ -50,9 +50,8 @@ impl Plan {
     ///
     /// Refused as Empty where the topology has no node, else as NoNode where the root is none of its nodes, else as
     /// Disconnected where some node has no walk to some node; NoMemory may come before Disconnected is known. A refusal
-    /// hands the topology back. Takes O(n (n + m) log n), for n nodes and m links; of kind Tree O(n + q), for q the sum
-    /// of the squares of the degrees; of kind Compact also O(m (n + m)), and for each node what
-    /// `ir_compile::ports_of_runs` takes. For users of the library.
+    /// hands the topology back. Takes O(n (n + m) log n), for n nodes and m links; of kind Tree O(n + m); of kind Compact
+    /// also O(m (n + m)), and for each node what `ir_compile::ports_of_runs` takes. For users of the library.
     pub fn build(
         alloc: Global,
         topology: Topology,
