@@ -65,11 +65,11 @@ fn name(alloc: Global, u: usize) -> Result<String, AllocError> {
     format!(in alloc; "{STEM}{u}")
 }
 
-/// Links a node to those behind it.
-fn link_on(graph: &mut Graph, alloc: Global, u: usize) -> Option<()> {
-    let from = name(alloc, u).ok()?;
-    for v in u + 1..NODES {
-        let to = name(alloc, v).ok()?;
+/// Links a node to those before it.
+fn link_back(graph: &mut Graph, alloc: Global, u: usize) -> Option<()> {
+    let to = name(alloc, u).ok()?;
+    for v in 0..u {
+        let from = name(alloc, v).ok()?;
         graph.add_edge(from.as_str(), to.as_str(), 1).ok()?;
     }
     Some(())
@@ -79,7 +79,7 @@ fn link_on(graph: &mut Graph, alloc: Global, u: usize) -> Option<()> {
 fn complete(alloc: Global) -> Option<Graph> {
     let mut graph = Graph::new(alloc);
     for u in 0..NODES {
-        link_on(&mut graph, alloc, u)?;
+        link_back(&mut graph, alloc, u)?;
     }
     Some(graph)
 }
@@ -149,10 +149,10 @@ fn is_given_up(alloc: Global) -> Option<bool> {
     let mut output = Taker::new(alloc, usize::MAX, 2);
     let (ending, faults) = reply(alloc, &mut output)?;
     let text = wanted(alloc).ok()?;
-    let is_told =
-        ending == Ending::Unwritable && faults.as_slice() == b"output unwritable\n".as_slice();
-    let is_front = text.len() > PART_BYTES
-        && output.taken.as_slice() == &text.as_bytes()[..PART_BYTES];
+    let is_told = ending == Ending::Unwritable
+        && faults.as_slice() == b"output unwritable\n".as_slice();
+    let is_front = output.taken.len() == PART_BYTES
+        && text.as_bytes().starts_with(output.taken.as_slice());
     Some(is_told && is_front && (output.calls, output.flushes) == (2, 0))
 }
 
