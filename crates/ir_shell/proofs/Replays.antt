@@ -1,7 +1,6 @@
 -- A check by the installs of a script.
 use Rattle.std.proofs.Common.{◌≡◌, ℕ, List, [], ◌∷◌, subst}
 use Rattle.ir_core.specs.declared.built.Install.{Install}
-use Rattle.ir_core.specs.Installed as core
 use Rattle.ir_core.specs.declared.event.Step.{Step}
 use Rattle.std.specs.Prelude.{Result, Ok, Err, IfOk}
 use Rattle.ir_model.specs.Graph.{Adjacency}
