@@ -2,6 +2,7 @@
 -- tables.
 use Rattle.std.specs.Prelude.{◌≡◌, ◌<◌, ℕ, IfSome, List, [], ◌∷◌, Option, None, Some, string_bytes}
 use Rattle.std.specs.Option.{option_map}
+use Rattle.std.specs.Borrow.{Bor}
 use Rattle.ir_model.specs.Graph.{Name, Adjacency, names}
 use Rattle.ir_model.specs.Text.{lines}
 use Rattle.ir_look.specs.PlanText.{plan_text}
@@ -15,7 +16,7 @@ use Rattle.ir_shell.specs.declared.look.Show.TheVariants.{Rows, Between, Figures
 use Rattle.ir_shell.specs.declared.look.Look.{Look}
 use Rattle.ir_shell.specs.declared.look.Look.TheVariants.{Plan, Walk, Stats, Draw, Prefixes}
 use Rattle.ir_order.specs.Order.{IsOrder}
-use Rattle.ir_words.specs.Answer.{Answer, Refused}
+use Rattle.ir_words.specs.Answer.{Answer, Ran, Found, Refused, NoThread}
 use Rattle.ir_words.specs.Openings.{root_name, root_in, label_order, AnswersTopology, AnswersRoot, AnswersOrder}
 use Rattle.ir_model.specs.Scheme.{Scheme}
 use Rattle.ir_shell.specs.Plans.{Labelling, FromRoot, ByList, AnswersText}
@@ -46,6 +47,13 @@ Says Figures nodes s text = AreFiguresOf nodes s text
 Says (Drawing ends) nodes s text = IsDrawingOf nodes s ends text
 Says (Tables is_disjoint) nodes s text = IsPrefixesOf is_disjoint nodes s text
 
+-- what an answer says of a plan, by what is shown
+abbrev pub Shows : Show → List Name → Scheme → Answer → Type 0
+Shows show nodes s (Ran text refusals) = Says show nodes s text × (refusals ≡ [])
+Shows show nodes s (Found text) = ⊥
+Shows show nodes s (Refused line) = ⊥
+Shows show nodes s NoThread = ⊥
+
 -- the ends of what is shown, if it has any, are among so many nodes
 abbrev pub AreAmong : ℕ → Show → Type 0
 AreAmong n Rows = Unit {0}
@@ -75,6 +83,10 @@ AnswersLook look words g labels = AnswersAsked look words g (AnswersShow words g
 abbrev pub AnswersLabels : Words → Option (List ℕ) → Adjacency → (Labelling → Answer → Type 0) → Answer → Type 0
 AnswersLabels words None g answers = AnswersRoot g (root_name words) (λ root. answers (FromRoot (label_order words.numbering) root))
 AnswersLabels words (Some order) g answers = AnswersOrder g (lines order) (λ places. answers (ByList places))
+
+-- the text of an order, if there is one
+abbrev pub order_in : Option (Bor (List ℕ)) → Option (List ℕ)
+order_in order = option_map (λ (text : Bor (List ℕ)). text.now) order
 
 -- the texts of a topology and, where there is one, of an order
 abbrev pub AreTexts : List (List ℕ) → List ℕ → Option (List ℕ) → Type 0

@@ -1,13 +1,11 @@
 //! What is shown of a topology's plan, from the text of the topology.
-ghost use Rattle.std.specs.Prelude.{◌≡◌, ◌≢◌, ◌<◌, ℕ, List, [], IfOk, IfErr, IsSome, length};
-ghost use Rattle.std.specs.Option.{option_map};
+ghost use Rattle.std.specs.Prelude.{◌≡◌, ◌≢◌, ◌<◌, IfOk, IfErr, IsSome, length, string_bytes};
 ghost use Rattle.ir_model.specs.Graph.{names};
 ghost use Rattle.ir_model.specs.Network.{node_count};
 ghost use Rattle.ir_shell.specs.Asked.{look_sources};
-ghost use Rattle.ir_shell.specs.Looks.{from_name, to_name, AreAmong, AreTexts, Says, IsNode, IsLabelling, IsShow, RefusesLabels, RefusesEnds, RefusesShow, LookAnswers};
+ghost use Rattle.ir_shell.specs.Looks.{from_name, to_name, AreAmong, AreTexts, Says, Shows, order_in, IsNode, IsLabelling, IsShow, RefusesLabels, RefusesEnds, RefusesShow, LookAnswers};
 ghost use Rattle.ir_shell.specs.Plans.{MayLabel, labelling_of};
 ghost use Rattle.ir_shell.specs.Stops.{StopsAs, Gives};
-ghost use Rattle.ir_words.specs.Answer.{Ran};
 ghost use Rattle.ir_words.specs.Reading.{texts_of};
 ghost use Rattle.ir_words.specs.Replies.{answer_of};
 ghost use Rattle.ir_words.specs.Words.{FitsItsKind};
@@ -57,6 +55,31 @@ pub enum Show {
     Tables(bool),
 }
 
+/// What is shown of a plan other than its rows.
+fn text_of<T: Threads + Sync>(
+    rt: &T,
+    alloc: Global,
+    graph: &Graph,
+    plan: &Plan,
+    show: Show,
+    most: Option<usize>,
+) -> Result<String, AllocError>
+    requires nodes { node_count plan.now.network ≡ length graph.now }
+    requires ends { AreAmong (length graph.now) show }
+    requires no_rows { show ≢ Show.Rows }
+    ensures { IfOk result (λ text. Says show (names graph.now) plan.now (string_bytes text)) }
+{
+    match show {
+        Show::Rows => unreachable!(),
+        Show::Between(from, to) => walk_text(alloc, graph, plan, from, to),
+        Show::Figures => figures_text(alloc, graph, plan),
+        Show::Drawing(ends) => draw_text(alloc, graph, plan, ends),
+        Show::Tables(is_disjoint) => {
+            prefixes_text_in_threads(rt, alloc, graph, plan, is_disjoint, most)
+        }
+    }
+}
+
 /// What is shown of a plan. The text of its rows is written as it is made, and each other text is made whole.
 fn reply_of<T: Threads + Sync>(
     rt: &T,
@@ -68,18 +91,12 @@ fn reply_of<T: Threads + Sync>(
 ) -> Result<Reply, AllocError>
     requires nodes { node_count plan.network ≡ length graph }
     requires ends { AreAmong (length graph) show }
-    ensures { IfOk result (λ reply. (text : List ℕ) × (answer_of reply ≡ Ran text [])
-        × Says show (names graph) plan text) }
+    ensures { IfOk result (λ reply. Shows show (names graph) plan (answer_of reply)) }
 {
-    let text = match show {
-        Show::Rows => return Ok(Reply::Plan(PlanText::new(alloc, graph, plan)?)),
-        Show::Between(from, to) => walk_text(alloc, &graph, &plan, from, to)?,
-        Show::Figures => figures_text(alloc, &graph, &plan)?,
-        Show::Drawing(ends) => draw_text(alloc, &graph, &plan, ends)?,
-        Show::Tables(is_disjoint) => {
-            prefixes_text_in_threads(rt, alloc, &graph, &plan, is_disjoint, most)?
-        }
-    };
+    if show == Show::Rows {
+        return Ok(Reply::Plan(PlanText::new(alloc, graph, plan)?));
+    }
+    let text = text_of(rt, alloc, &graph, &plan, show, most)?;
     Ok(Reply::Ran(text, String::new(alloc)))
 }
 
@@ -87,7 +104,7 @@ fn reply_of<T: Threads + Sync>(
 fn look_texts<'a>(words: &Words, texts: &'a [Vec<u8>]) -> (&'a [u8], Option<&'a [u8]>)
     requires kind { FitsItsKind words.now }
     requires texts { length texts.now ≡ length (look_sources words.now) }
-    ensures texts { AreTexts (texts_of texts.now) result.0.now (option_map (λ text. text.now) result.1) }
+    ensures texts { AreTexts (texts_of texts.now) result.0.now (order_in result.1) }
     ensures kind { IsSome result.1 → words.now.kind ≢ Kind.Tree }
 {
     if words.has_order() {
@@ -105,11 +122,11 @@ fn read_labels(
     order: Option<&[u8]>,
 ) -> Result<Labels, Stop>
     requires { IsSome order → words.now.kind ≢ Kind.Tree }
-    ensures labels { IfOk result (λ labels. IsLabelling words.now (option_map (λ text. text.now) order) graph.now
+    ensures labels { IfOk result (λ labels. IsLabelling words.now (order_in order.entry) graph.now
         (labelling_of labels)) }
     ensures may { IfOk result (λ labels. MayLabel graph.now words.now.kind (labelling_of labels)) }
     ensures stop { IfErr result (λ s. StopsAs s
-        (RefusesLabels words.now (option_map (λ text. text.now) order) graph.now)) }
+        (RefusesLabels words.now (order_in order.entry) graph.now)) }
 {
     let Some(text) = order else {
         let root = read_node(alloc, graph, &words.root)?;
