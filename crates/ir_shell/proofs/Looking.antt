@@ -1,23 +1,25 @@
 -- The answers that show a plan, by what was read before it is built.
-use Rattle.std.proofs.Common.{◌≡◌, ◌≢◌, ℕ, List, [], Option, Some, None, Result, Ok, Err, MatchOption, string_bytes, refl, sym, ap, subst}
+use Rattle.std.proofs.Common.{◌≡◌, ◌≢◌, ℕ, List, Option, Some, None, MatchOption, refl, sym, subst}
+use Rattle.ir_model.specs.declared.Kind.{Kind}
 use Rattle.ir_model.specs.Graph.{Name, Adjacency, names}
 use Rattle.ir_model.specs.Network.{Network}
 use Rattle.ir_model.specs.OfGraph.{network_of_graph}
+use Rattle.ir_model.specs.Scheme.{Scheme, IsScheme}
 use Rattle.ir_model.specs.Text.{lines}
 use Rattle.ir_core.specs.declared.event.OpenError.{OpenError}
 use Rattle.ir_core.specs.declared.event.OpenError.TheVariants as errors
 use Rattle.ir_order.specs.Order.{order_fault, IsOrder}
 use Rattle.ir_order.specs.declared.fault.OrderFaultKind.{OrderFaultKind}
 use Rattle.ir_words.specs.declared.words.Words.{Words}
-use Rattle.ir_words.specs.Answer.{Answer, Refused}
-use Rattle.ir_words.specs.Lines.{numbering_line, opening_line}
-use Rattle.ir_words.specs.Openings.{topology_fault, topology_graph, root_name, root_in, label_order, AnswersTopology, AnswersRoot, AnswersOrder}
+use Rattle.ir_words.specs.Answer.{Answer, Ran, Found, Refused, NoThread}
+use Rattle.ir_words.specs.Lines.{numbering_line}
+use Rattle.ir_words.specs.Openings.{topology_fault, topology_graph, root_name, root_in, label_order, AnswersRoot, AnswersOrder}
 use Rattle.ir_shell.specs.declared.look.Look.{Look}
 use Rattle.ir_shell.specs.declared.look.Look.TheVariants.{Plan, Walk, Stats, Draw, Prefixes}
 use Rattle.ir_shell.specs.declared.look.Show.{Show}
 use Rattle.ir_shell.specs.declared.look.Show.TheVariants.{Between, Drawing}
-use Rattle.ir_shell.specs.Looks.{from_name, to_name, AnswersEnds, AnswersBothEnds, AnswersShow, AnswersAsked, AnswersLook, AnswersLabels, AreTexts, LookAnswers, IsNode, IsLabelling, IsDrawn, IsShow, RefusesLabels, RefusesEnds, RefusesShow}
-use Rattle.ir_shell.specs.Plans.{Labelling, FromRoot, ByList, RefusesPlan, RefusesBuild}
+use Rattle.ir_shell.specs.Looks.{from_name, to_name, Says, Shows, AnswersEnds, AnswersBothEnds, AnswersShow, AnswersAsked, AnswersLook, AnswersLabels, AreTexts, LookAnswers, IsNode, IsLabelling, IsDrawn, IsShow, RefusesLabels, RefusesEnds, RefusesShow}
+use Rattle.ir_shell.specs.Plans.{Labelling, FromRoot, ByList, IsLabelled, AnswersText, RefusesPlan, RefusesBuild}
 use Rattle.ir_shell.proofs.Answering.{option_more, of_graph, of_root}
 
 -- ---- labels
@@ -117,3 +119,12 @@ refused_plan net labels errors.Empty other refuses = refuses
 refused_plan net labels errors.Disconnected other refuses = refuses
 refused_plan net labels errors.TooLarge other refuses = refuses
 refused_plan net labels errors.NoMemory other refuses = absurd (other refl)
+
+-- what shows a plan is an answer
+pub shown_plan : (g : Adjacency) (kind : Kind) (labels : Labelling) (show : Show) (s : Scheme) → IsScheme s → IsLabelled labels s → s.network ≡ network_of_graph g → s.kind ≡ kind
+    → (answer : Answer) → Shows show (names g) s answer → AnswersText g kind labels (Says show (names g)) answer
+shown_plan g kind labels show s valid labelled over of_kind (Ran text refusals) shows =
+    (record { scheme = s; valid = valid; labelled = labelled; over = over; of_kind = of_kind; said = shows.0 }, shows.1)
+shown_plan g kind labels show s valid labelled over of_kind (Found text) shows = absurd shows
+shown_plan g kind labels show s valid labelled over of_kind (Refused line) shows = absurd shows
+shown_plan g kind labels show s valid labelled over of_kind NoThread shows = absurd shows

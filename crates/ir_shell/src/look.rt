@@ -3,7 +3,7 @@ ghost use Rattle.std.specs.Prelude.{◌≡◌, ◌≢◌, ◌<◌, IfOk, IfErr, 
 ghost use Rattle.ir_model.specs.Graph.{names};
 ghost use Rattle.ir_model.specs.Network.{node_count};
 ghost use Rattle.ir_shell.specs.Asked.{look_sources};
-ghost use Rattle.ir_shell.specs.Looks.{from_name, to_name, AreAmong, AreTexts, Says, Shows, order_in, IsNode, IsLabelling, IsShow, RefusesLabels, RefusesEnds, RefusesShow, LookAnswers};
+ghost use Rattle.ir_shell.specs.Looks.{from_name, to_name, AnswersShow, AreAmong, AreTexts, Says, Shows, order_in, IsNode, IsLabelling, IsShow, RefusesLabels, RefusesEnds, RefusesShow, LookAnswers};
 ghost use Rattle.ir_shell.specs.Plans.{MayLabel, labelling_of};
 ghost use Rattle.ir_shell.specs.Stops.{StopsAs, Gives};
 ghost use Rattle.ir_words.specs.Reading.{texts_of};
@@ -178,6 +178,29 @@ fn read_show(alloc: Global, look: Look, words: &Words, graph: &Graph) -> Result<
     }
 }
 
+/// The answer that shows a plan, or tells what refuses it.
+fn show_plan<T: Threads + Sync>(
+    rt: &T,
+    alloc: Global,
+    words: &Words,
+    graph: Graph,
+    labels: Labels,
+    show: Show,
+    watch: &(impl Watch + Sync),
+) -> Result<Reply, Stop>
+    requires labels { MayLabel graph words.now.kind (labelling_of labels) }
+    requires ends { 0 < length graph → AreAmong (length graph) show }
+    ensures { Gives (AnswersShow words.now graph (labelling_of labels) show) result }
+{
+    match build_plan(rt, alloc, &graph, words.kind, labels, words.threads, watch) {
+        Ok(plan) => {
+            let _nodes = plan.nodes();
+            Ok(reply_of(rt, alloc, graph, plan, show, words.threads)?)
+        }
+        Err(error) => Err(opening_stop(alloc, error)),
+    }
+}
+
 /// The answer to the text of a topology, and to that of an order where the words have one: what is shown of the plan.
 /// Refused are, in this order, the topology's first fault, the order's or a root that is no node, an end that is none, and
 /// what refuses the plan. The watch is told of the plan's rows.
@@ -196,12 +219,8 @@ pub fn look_at<T: Threads + Sync>(
     let (topology, order) = look_texts(words, texts);
     let graph = read_graph(alloc, words.format, topology)?;
     let labels = read_labels(alloc, words, &graph, order)?;
-    let show = read_show(alloc, look, words, &graph)?;
-    match build_plan(rt, alloc, &graph, words.kind, labels, words.threads, watch) {
-        Ok(plan) => {
-            let _nodes = plan.nodes();
-            Ok(reply_of(rt, alloc, graph, plan, show, words.threads)?)
-        }
-        Err(error) => Err(opening_stop(alloc, error)),
+    match read_show(alloc, look, words, &graph) {
+        Ok(show) => show_plan(rt, alloc, words, graph, labels, show, watch),
+        Err(stop) => Err(stop),
     }
 }
