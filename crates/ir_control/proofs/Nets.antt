@@ -19,7 +19,7 @@ use Rattle.ir_links.specs.Ends.{Sending, Word, WasRefused}
 use Rattle.std.specs.Prelude.{false, All, zero, suc}
 use Rattle.std.proofs.lemmas.List.{set-get_or}
 use Rattle.ir_worker.specs.declared.parcel.Place.{Place}
-use Rattle.ir_worker.specs.Seen.{SeenParcel, IsOfNet, GoesTo, place_of, stamps_of}
+use Rattle.ir_worker.specs.Seen.{SeenParcel, HasRoomOf, IsOfNet, GoesTo, place_of, stamps_of}
 use Rattle.ir_control.specs.Whole.{IsParcelOf}
 use Rattle.ir_worker.specs.Account.{lines_out}
 use Rattle.ir_core.specs.Sound.{last_of}
@@ -47,12 +47,13 @@ pub end_place : (o : Stamp) (restamps : ℕ) (outs : List (Sending Place SeenPar
 end_place o restamps outs u s ends lt read =
     ends.each u s.line (slice_get-map (λ (s : Sending Place SeenParcel). s.line) outs u ∙ ap (option_map (λ (s : Sending Place SeenParcel). s.line)) (slice_get_read outs (length outs) u s refl lt read))
 
-pub goes_in : (o : Stamp) (restamps u : ℕ) (p : SeenParcel) (place : Place) → place ≡ place_of o restamps u u → p.next ≡ u → p.journey.hops ≡ u ∷ [] → IsParcelOf o p → p.journey.restamps ≡ [] → GoesTo p place
-goes_in o restamps u p place at next hops of fresh = subst (λ (place : Place). GoesTo p place) (sym at) (record {
+pub goes_in : (o : Stamp) (restamps u : ℕ) (p : SeenParcel) (place : Place) → place ≡ place_of o restamps u u → p.next ≡ u → p.journey.hops ≡ u ∷ [] → IsParcelOf o p → p.journey.restamps ≡ [] → HasRoomOf o restamps p → GoesTo p place
+goes_in o restamps u p place at next hops of fresh room = subst (λ (place : Place). GoesTo p place) (sym at) (record {
   last = ap last_of hops;
   next = next;
   of_net = of;
   few = (let n = ap length fresh in omega (arith, n));
+  room = room;
   fresh = λ _. fresh;
 })
 

@@ -6,7 +6,7 @@ ghost use Rattle.ir_core.specs.declared.TheConstants.{MAX_NODES, MAX_PACKETS};
 ghost use Rattle.ir_epochs.specs.Stamps.{IsOf, knows, registry_name};
 ghost use Rattle.ir_epochs.specs.Entries.{registry_of, network_of, installed_by};
 ghost use Rattle.ir_epochs.specs.Handles.{told};
-ghost use Rattle.ir_worker.specs.Seen.{IsOfNet};
+ghost use Rattle.ir_worker.specs.Seen.{HasRoomOf, IsOfNet};
 ghost use Rattle.ir_control.specs.Whole.{IsParcelOf};
 ghost use Rattle.ir_worker.specs.Account.{Head, times_sent, weigh_sent, restamps_with, lines_out};
 ghost use Rattle.ir_control.specs.Heads.{times_injected, AreNumbered};
@@ -98,6 +98,7 @@ fn send_to<R: Moments<Parcel>>(
     requires hops { parcel.journey.hops ≡ node ∷ [] }
     requires stamp { IsParcelOf opening.now parcel }
     requires fresh { parcel.journey.restamps ≡ [] }
+    requires room { HasRoomOf opening.now restamps parcel }
     ensures sent { IsSent R.was_full outs.old.items outs.new.items node parcel result }
     ensures lines { lines_out outs.new.items ≡ lines_out outs.old.items }
 {
@@ -203,6 +204,7 @@ impl Injector {
             self.newest.again(),
             source,
             dest,
+            self.restamps,
         ) else {
             return Err(InjectError::NoMemory);
         };

@@ -13,7 +13,7 @@ use Rattle.ir_core.specs.declared.event.Refused.TheVariants.{NoNode, NoLink, NoC
 use Rattle.ir_core.specs.declared.event.Verdict.{Verdict}
 use Rattle.ir_core.specs.declared.event.Verdict.TheVariants.{CameByDown, BelowFloor, Arrives, LeavesByDown, NoRoom, GoesOn}
 use Rattle.ir_core.specs.declared.event.Ruling.{Ruling}
-use Rattle.ir_core.specs.Journey.{Journey}
+use Rattle.ir_core.specs.Journey.{Journey, hop_room}
 use Rattle.ir_core.specs.declared.packet.Held.{Held}
 use Rattle.ir_core.specs.Setting.{nodes_of, channel_of, into}
 use Rattle.ir_core.specs.Board.{marked, retired_below, installed}
@@ -71,8 +71,8 @@ act_fits : (s : State) → IsState s → (u : ℕ) (entry : Entry) (x : Option H
 act_fits s ok u entry None u_in holds e = absurd (not_accepted HandEmpty entry e)
 act_fits s ok u entry (Some held) u_in holds e =
     let id_in = (ok.placed.held u held holds).0 in
-    let r : Journey = slice_index_or s.records held.id (fresh held.id 0 0 0) in
-    let read : r ≡ slice_index_or s.records held.id r = get_or_default s.records held.id (fresh held.id 0 0 0) r id_in in
+    let r : Journey = slice_index_or s.records held.id (fresh held.id 0 0 0 0) in
+    let read : r ≡ slice_index_or s.records held.id r = get_or_default s.records held.id (fresh held.id 0 0 0 0) r id_in in
     let x : Ruling = ruling_on s.opening (sight_in s) u held.way (record_at (sight_in s) held.id) in
     let a = acting_now s s refl ok u held r x holds read u_in refl in
     let made : Fits s (DidAct u held.id held.way x.restamp x.verdict) = (omega (arith, ok.hands), id_in, fits_verdict s x.verdict (leads_in s ok u held r (is_full_towards s.opening (sight_in s)) _ x.restamp x.verdict a), holds) in
@@ -94,8 +94,8 @@ accepted_fits s ok (event.Inject source dest) entry e =
     let q = passed _ TooManyPackets _ entry p.1 in
     let r = passed _ InboxFull _ entry q.1 in
     let s_in = both_within source dest (nodes_of s.opening) p.0 in
-    let made : Fits s (DidInject (length s.records) s.learnt source dest) = (refl, omega (arith, ok.channels)) in
-    subst (λ (k : Entry). Fits s k) (same_entry (DidInject (length s.records) s.learnt source dest) entry r.1) made
+    let made : Fits s (DidInject (length s.records) s.learnt source dest (hop_room s.opening.restamps (nodes_of s.opening))) = (refl, omega (arith, ok.channels)) in
+    subst (λ (k : Entry). Fits s k) (same_entry (DidInject (length s.records) s.learnt source dest (hop_room s.opening.restamps (nodes_of s.opening))) entry r.1) made
 accepted_fits s ok (event.Learn n) entry e =
     let p = passed _ NoEpoch _ entry (sym e) in
     subst (λ (k : Entry). Fits s k) (same_entry (DidLearn n) entry p.1) tt

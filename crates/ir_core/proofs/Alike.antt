@@ -25,6 +25,7 @@ use Rattle.ir_core.specs.declared.event.Refused.TheVariants.{NoNode, NoLink, NoE
 use Rattle.ir_core.specs.declared.event.Way.{Way}
 use Rattle.ir_core.specs.declared.event.Way.TheVariants.{Inbox, Link}
 use Rattle.ir_core.specs.declared.packet.Held.{Held}
+use Rattle.ir_core.specs.Journey.{hop_room}
 use Rattle.ir_core.specs.Setting.{Setting, nodes_of, links_of, channel_of, into}
 use Rattle.ir_core.specs.Opened.{IsOpenedWith}
 use Rattle.ir_core.specs.Entry.{Entry, DidInject, DidLearn, DidTake, DidRead, DidAct, DidChange, DidInstall}
@@ -91,7 +92,7 @@ twins_built o p same order (i ∷ installs) (s ∷ ss) (t ∷ ts) h built =
 -- Entries of the steps that are no controller's change neither boards nor schemes.
 abbrev IsPassed : Result Entry Refused → Type 0
 IsPassed (Err e) = Unit {0}
-IsPassed (Ok (DidInject id e s d)) = Unit {0}
+IsPassed (Ok (DidInject id e s d m)) = Unit {0}
 IsPassed (Ok (DidLearn e)) = Unit {0}
 IsPassed (Ok (DidTake u way id)) = Unit {0}
 IsPassed (Ok (DidRead u k)) = Unit {0}
@@ -105,7 +106,7 @@ record SameEpochs (o : Setting) (log later : List Entry) : Type 0 where
 
 passed_keeps : (o : Setting) (log : List Entry) (w : Result Entry Refused) → IsPassed w → SameEpochs o log (with_entry log w)
 passed_keeps o log (Err e) is = record { boards = refl; plans = refl }
-passed_keeps o log (Ok (DidInject id e s d)) is = record { boards = refl; plans = refl }
+passed_keeps o log (Ok (DidInject id e s d m)) is = record { boards = refl; plans = refl }
 passed_keeps o log (Ok (DidLearn e)) is = record { boards = refl; plans = refl }
 passed_keeps o log (Ok (DidTake u way id)) is = record { boards = refl; plans = refl }
 passed_keeps o log (Ok (DidRead u k)) is = record { boards = refl; plans = refl }
@@ -123,7 +124,7 @@ one_of false w v p q = q
 
 injects_passed : (o : Setting) (s : Sight) (source dest : ℕ) → IsPassed (injects o s source dest)
 injects_passed o s source dest =
-    let did = DidInject s.injected s.learnt source dest in
+    let did = DidInject s.injected s.learnt source dest (hop_room o.restamps (nodes_of o)) in
     let roomy = cond (is_full o s (into o source Inbox)) (Err InboxFull) (Ok did) in
     one_of (not (nat_lt source (nodes_of o) && nat_lt dest (nodes_of o))) (Err NoNode) (cond (nat_le o.max_packets s.injected) (Err TooManyPackets) roomy) tt
     (one_of (nat_le o.max_packets s.injected) (Err TooManyPackets) roomy tt (one_of (is_full o s (into o source Inbox)) (Err InboxFull) (Ok did) tt tt))
@@ -200,7 +201,7 @@ abbrev IsBoardChange : Result Entry Refused → Type 0
 IsBoardChange (Err e) = Unit {0}
 IsBoardChange (Ok (DidChange b)) = Unit {0}
 IsBoardChange (Ok (DidInstall e t b)) = ⊥
-IsBoardChange (Ok (DidInject id e s d)) = ⊥
+IsBoardChange (Ok (DidInject id e s d m)) = ⊥
 IsBoardChange (Ok (DidLearn e)) = ⊥
 IsBoardChange (Ok (DidTake u way id)) = ⊥
 IsBoardChange (Ok (DidRead u k)) = ⊥
@@ -250,7 +251,7 @@ module _ (o p : Setting) (over : o.network ≡ p.network) where
   changed log other is (Err e) h = is
   changed log other is (Ok (DidChange b)) h = record { boards = ap (λ (boards : List Board). boards ++ b ∷ []) is.boards; plans = is.plans }
   changed log other is (Ok (DidInstall e t b)) h = absurd h
-  changed log other is (Ok (DidInject id e s d)) h = absurd h
+  changed log other is (Ok (DidInject id e s d m)) h = absurd h
   changed log other is (Ok (DidLearn e)) h = absurd h
   changed log other is (Ok (DidTake u way id)) h = absurd h
   changed log other is (Ok (DidRead u k)) h = absurd h

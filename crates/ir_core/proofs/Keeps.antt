@@ -6,7 +6,7 @@ use Rattle.ir_model.specs.declared.Hop.{Hop}
 use Rattle.ir_model.specs.Scheme.{Scheme, next_hop, label_in, node_in}
 use Rattle.ir_model.proofs.Graphs.{none_from_is_some}
 use Rattle.std.specs.List.{AllByRecursion}
-use Rattle.ir_core.specs.declared.TheConstants.{MAX_NODES, MAX_CHANGES, MAX_EPOCHS, MAX_RESTAMPS, MAX_HOPS}
+use Rattle.ir_core.specs.declared.TheConstants.{MAX_CHANGES, MAX_EPOCHS, MAX_RESTAMPS}
 use Rattle.ir_core.specs.declared.packet.Fate.TheVariants.{Retired}
 use Rattle.ir_core.specs.declared.event.Ruling.{Ruling}
 use Rattle.ir_core.specs.declared.event.Way.{Way}
@@ -14,10 +14,11 @@ use Rattle.ir_core.specs.declared.event.Way.TheVariants.{Inbox, Link}
 use Rattle.ir_core.specs.declared.event.Verdict.{Verdict}
 use Rattle.ir_core.specs.declared.event.Verdict.TheVariants.{CameByDown, BelowFloor, Arrives, LeavesByDown, NoRoom, GoesOn}
 use Rattle.ir_core.specs.declared.board.Board.{Board}
-use Rattle.ir_core.specs.Journey.{Journey, segments, present, stamp_of}
+use Rattle.ir_core.specs.Journey.{Journey, hop_room, segments, present, stamp_of}
 use Rattle.ir_core.specs.declared.packet.Held.{Held}
 use Rattle.ir_core.specs.Board.{opening_board, installed}
 use Rattle.ir_model.specs.Network.{node_count}
+use Rattle.ir_core.specs.Recorded.{HasRoomHere}
 use Rattle.ir_core.specs.Setting.{Setting, IsPlanFor, channel_of, into, no_scheme, nodes_of}
 use Rattle.ir_core.specs.Entry.{Entry, DidInject, DidAct, DidTake, ruled, restamp_by, fresh, judged, reply_after}
 use Rattle.ir_core.specs.declared.event.Reply.{Reply}
@@ -31,7 +32,7 @@ use Rattle.ir_core.proofs.Lists.{or_set}
 use Rattle.ir_core.specs.Sound.{last_of}
 use Rattle.ir_core.proofs.Walks.{next_hop-away, next_hop-none, walk_of, IsBeginning-push, first-push, prefix}
 use Rattle.ir_core.proofs.Verdicts.{Means, judged_means, IsLive, judged_live, if_full, judged-if_full}
-use Rattle.ir_core.proofs.Routed.{RuledBy, present_stretch, ruled_packet, retired_here, here_is, hops_fit}
+use Rattle.ir_core.proofs.Routed.{RuledBy, present_stretch, ruled_packet, retired_here, hops_fit}
 use Rattle.ir_core.proofs.Placed.{moved, place_after, placed_inject, placed_take, ended, sent}
 
 -- what is true of a world, with these places
@@ -121,7 +122,7 @@ pub keep_take : (s : State) → IsState s → (u : ℕ) (way : Way) (c id : ℕ)
 keep_take s ok u way c id u_in there first empty = (keep_take_place s ok u way c id u_in there first empty).0
 
 pub keep_inject : (s : State) → IsState s → (source dest : ℕ) → source < (nodes_of s.opening) → dest < (nodes_of s.opening) → length s.records < s.opening.max_packets →
-    IsState (record s { channels = put_into s.channels source (length s.records); records = s.records ++ fresh (length s.records) s.learnt source dest ∷ [] })
+    IsState (record s { channels = put_into s.channels source (length s.records); records = s.records ++ fresh (length s.records) s.learnt source dest (hop_room s.opening.restamps (nodes_of s.opening)) ∷ [] })
 keep_inject s ok source dest s_in d_in room = record {
   opening = ok.opening;
   views = ok.views;
@@ -171,9 +172,14 @@ take_done s now e ok u way c id seen was left u_in there read first read_again i
     subst (λ (x : State). IsAnswer x new (takes x.opening (sight_in x) u way) (Ok (Taken id))) e
     (subst (λ (w : Result Entry Refused). IsAnswer s new w (Ok (Taken id))) (sym comes) (refl, to))
 
+-- a new record of this world, from what the code read
+pub fresh_in : (s : State) (id source dest : ℕ) (new : Journey) (room nodes : ℕ) → new ≡ fresh id s.learnt source dest room → room ≡ hop_room s.opening.restamps nodes → nodes ≡ nodes_of s.opening →
+    new ≡ fresh id s.learnt source dest (hop_room s.opening.restamps (nodes_of s.opening))
+fresh_in s id source dest new room nodes made much count = made ∙ ap (fresh id s.learnt source dest) (much ∙ ap (hop_room s.opening.restamps) count)
+
 -- the same as keep_inject, from what the code read
 pub keep_inject_at : (s : State) → IsState s → (source dest id : ℕ) (new : Journey) (was now : List ℕ) (mid records : List Journey) → source < nodes_of s.opening → dest < nodes_of s.opening →
-    length s.records < s.opening.max_packets → id ≡ length s.records → new ≡ fresh id s.learnt source dest → was ≡ slice_index_or s.channels source was → now ≡ was ++ id ∷ [] →
+    length s.records < s.opening.max_packets → id ≡ length s.records → new ≡ fresh id s.learnt source dest (hop_room s.opening.restamps (nodes_of s.opening)) → was ≡ slice_index_or s.channels source was → now ≡ was ++ id ∷ [] →
     mid ≡ s.records → records ≡ mid ++ new ∷ [] → IsState (record s { channels = slice_set s.channels source now; records = records })
 keep_inject_at s ok source dest id new was now mid records s_in d_in room is_id one read put same pushed =
     let lt : source < length s.channels = omega (arith, ok.channels) in
@@ -182,7 +188,7 @@ keep_inject_at s ok source dest id new was now mid records s_in d_in room is_id 
 
 -- what an Inject comes to, from what the code read
 pub inject_done : (s now : State) → s ≡ now → IsState s → (source dest id : ℕ) (new : Journey) (was left : List ℕ) (mid records : List Journey) → source < nodes_of s.opening → dest < nodes_of s.opening →
-    length s.records < s.opening.max_packets → length was < s.opening.capacity → id ≡ length s.records → new ≡ fresh id s.learnt source dest → was ≡ slice_index_or s.channels source was → left ≡ was ++ id ∷ [] →
+    length s.records < s.opening.max_packets → length was < s.opening.capacity → id ≡ length s.records → new ≡ fresh id s.learnt source dest (hop_room s.opening.restamps (nodes_of s.opening)) → was ≡ slice_index_or s.channels source was → left ≡ was ++ id ∷ [] →
     mid ≡ s.records → records ≡ mid ++ new ∷ [] →
     IsAnswer now (record s { channels = slice_set s.channels source left; records = records }) (injects now.opening (sight_in now) source dest) (Ok (Injected id))
 inject_done s now e ok source dest id new was left mid records s_in d_in room spare is_id one read put same pushed =
@@ -193,9 +199,9 @@ inject_done s now e ok source dest id new was left mid records s_in d_in room sp
     let few : nat_le s.opening.max_packets (length s.records) ≡ false = grind (arith, common_steps) in
     let count = ap (λ (l : List ℕ). length l) again in
     let free : nat_le s.opening.capacity (length (slice_index_or s.channels source [])) ≡ false = grind (arith, common_steps) in
-    let comes : injects s.opening (sight_in s) source dest ≡ Ok (DidInject (length s.records) s.learnt source dest) = rw (known, known_too, few, free) refl in
+    let comes : injects s.opening (sight_in s) source dest ≡ Ok (DidInject (length s.records) s.learnt source dest (hop_room s.opening.restamps (nodes_of s.opening))) = rw (known, known_too, few, free) refl in
     let after_it = record s { channels = slice_set s.channels source left; records = records } in
-    let to : after_it ≡ after s (DidInject (length s.records) s.learnt source dest) = rw (pushed, put, again, same, one, is_id) refl in
+    let to : after_it ≡ after s (DidInject (length s.records) s.learnt source dest (hop_room s.opening.restamps (nodes_of s.opening))) = rw (pushed, put, again, same, one, is_id) refl in
     subst (λ (x : State). IsAnswer x after_it (injects x.opening (sight_in x) source dest) (Ok (Injected id))) e
     (subst (λ (w : Result Entry Refused). IsAnswer s after_it w (Ok (Injected id))) (sym comes) (ap (λ (n : ℕ). Ok (Injected n)) is_id, to))
 
@@ -389,21 +395,19 @@ hops_below o t r u l k s_in d_in first from due =
     let lengths = ap length p.1 in
     omega (arith, w.2, k.nodes, length-append (r.hops ++ u ∷ []) p.0, length-append r.hops (u ∷ []), lengths)
 
--- a record's hops leave room for one more
-short_by : (o : Setting) (plans : List Scheme) → ((k : ℕ) → IsPlanFor o (slice_index_or plans k o.first)) → 0 < nodes_of o → nodes_of o ≤ MAX_NODES → o.restamps ≤ 3 → (u : ℕ) (way : Way) (r : Journey) → IsRouted o plans r →
-    IsDue (plan_of o plans (stamp_of r)) (present r) u way → IsNew r (InHand u way) → length r.hops < MAX_HOPS
-short_by o plans each some few limit u Inbox r k due new =
-    let here : r.hops ≡ u ∷ [] = here_is (plan_of o plans (stamp_of r)) u Inbox r due new in
-    rw here (omega arith)
-short_by o plans each some few limit u (Link l) r k due new =
+-- a record has room for one more hop, where the packet came by a link
+short_by : (o : Setting) (plans : List Scheme) → ((k : ℕ) → IsPlanFor o (slice_index_or plans k o.first)) → 0 < nodes_of o → (u : ℕ) (way : Way) (r : Journey) → IsRouted o plans r →
+    IsDue (plan_of o plans (stamp_of r)) (present r) u way → IsNew r (InHand u way) → HasRoomHere way r
+short_by o plans each some u Inbox r k due new = tt
+short_by o plans each some u (Link l) r k due new =
     let more = retired_here o plans each u (Link l) r k due new in
-    let fit = hops_fit o plans each (record r { hops = r.hops ++ u ∷ []; fate = Retired }) some few limit more in
+    let fit = hops_fit o plans each (record r { hops = r.hops ++ u ∷ []; fate = Retired }) some more in
     let longer = length-append r.hops (u ∷ []) in
-    omega arith
+    omega (arith, k.room, fit, longer)
 
-pub short : (s : State) → IsState s → (u : ℕ) (held : Held) (r : Journey) → InHandOf s u held r → length r.hops < MAX_HOPS
+pub short : (s : State) → IsState s → (u : ℕ) (held : Held) (r : Journey) → InHandOf s u held r → HasRoomHere held.way r
 short s ok u held r p =
-    short_by s.opening s.plans ok.plans.each ok.opening.some_nodes ok.opening.few_nodes ok.opening.restamps u held.way r p.packet.routed p.packet.fits.1 p.packet.is_new
+    short_by s.opening s.plans ok.plans.each ok.opening.some_nodes u held.way r p.packet.routed p.packet.fits.1 p.packet.is_new
 
 -- and so do its restamps, where there is another
 pub restamps_short : (s : State) → IsState s → (u : ℕ) (held : Held) (r : Journey) (full : Hop → Bool) (b : Board) (restamp : Option ℕ) (v : Verdict) → Acting s u held r full b restamp v →
@@ -507,7 +511,7 @@ acted_state s u id r channels = record s { hands = slice_set s.hands u None; cha
 acted_is : (s : State) → IsState s → (u : ℕ) (held : Held) (r : Journey) (restamp : Option ℕ) (v : Verdict) (r' : Journey) (channels : List (List ℕ)) → InHandOf s u held r →
     r' ≡ ruled u held.way restamp v r → channels ≡ sent_on s.opening s.channels v held.id → acted_state s u held.id r' channels ≡ after s (DidAct u held.id held.way restamp v)
 acted_is s ok u held r restamp v r' channels p e f =
-    let same : r ≡ slice_index_or s.records held.id (fresh held.id 0 0 0) = sym (get_or_from_slice_get s.records held.id r (fresh held.id 0 0 0) p.is_record) in
+    let same : r ≡ slice_index_or s.records held.id (fresh held.id 0 0 0 0) = sym (get_or_from_slice_get s.records held.id r (fresh held.id 0 0 0 0) p.is_record) in
     rw (e, f) (ap (λ (x : Journey). acted_state s u held.id (ruled u held.way restamp v x) (sent_on s.opening s.channels v held.id)) same)
 
 -- an Act is answered, and the invariant holds after it
@@ -562,7 +566,7 @@ packet_more : (o : Setting) (plans : List Scheme) (t : Scheme) (r : Journey) (pl
 packet_more o plans t r place each p =
     let here = present_stretch o plans each r p.routed in
     record {
-      routed = record { few = p.routed.few; places = p.routed.places; rising = p.routed.rising; each = each_more o plans t (segments r) p.routed.each };
+      routed = record { few = p.routed.few; places = p.routed.places; rising = p.routed.rising; each = each_more o plans t (segments r) p.routed.each; room = p.routed.room };
       fits = subst (λ (x : Scheme). FitsPlace x (present r) place) (sym (table_more o plans t (stamp_of r) here.epoch_above here.epoch_in)) p.fits;
       is_new = p.is_new;
     }

@@ -160,16 +160,16 @@ hops_short s ok u held r floor p l e =
 
 -- an Act on a newest board makes the weight less
 pub act_falls : (s : State) → IsState s → (u : ℕ) (held : Held) (restamp : Option ℕ) (v : Verdict) (full : Hop → Bool) (b : Board) → b.floor ≡ floor_of s → slice_index_or s.hands u None ≡ Some held →
-    Acting s u held (slice_index_or s.records held.id (fresh held.id 0 0 0)) full b restamp v → weight (after s (DidAct u held.id held.way restamp v)) < weight s
+    Acting s u held (slice_index_or s.records held.id (fresh held.id 0 0 0 0)) full b restamp v → weight (after s (DidAct u held.id held.way restamp v)) < weight s
 act_falls s ok u held restamp v full b is_floor holds a =
-    let r = slice_index_or s.records held.id (fresh held.id 0 0 0) in
+    let r = slice_index_or s.records held.id (fresh held.id 0 0 0 0) in
     let n = nodes_of s.opening in
     let u_in = a.node_in in
     let channels = sent_on s.opening s.channels v held.id in
     let hands = slice_set s.hands u None in
     let to = leads_in s ok u held r full b restamp v a in
     let h_in : u < length s.hands = omega (arith, ok.hands) in
-    let sums = sum_by-set (travel n (floor_of s)) s.records held.id (ruled u held.way restamp v r) (fresh held.id 0 0 0) a.hand.id_in in
+    let sums = sum_by-set (travel n (floor_of s)) s.records held.id (ruled u held.way restamp v r) (fresh held.id 0 0 0 0) a.hand.id_in in
     let loads = loads_change s.channels channels s.hands hands u n u_in (λ k k_in ne. same_at k k_in ne to) in
     let chan = ap length (sent_elsewhere s v held.id u to u_in) in
     let none = ap held_load (get_or-set_same s.hands u None None h_in) in
@@ -177,18 +177,18 @@ act_falls s ok u held restamp v full b is_floor holds a =
     let light = lighter in
     omega arith
   where
-    lighter : travel (nodes_of s.opening) (floor_of s) (ruled u held.way restamp v (slice_index_or s.records held.id (fresh held.id 0 0 0))) <
-        travel (nodes_of s.opening) (floor_of s) (slice_index_or s.records held.id (fresh held.id 0 0 0)) + way_load held.way
+    lighter : travel (nodes_of s.opening) (floor_of s) (ruled u held.way restamp v (slice_index_or s.records held.id (fresh held.id 0 0 0 0))) <
+        travel (nodes_of s.opening) (floor_of s) (slice_index_or s.records held.id (fresh held.id 0 0 0 0)) + way_load held.way
     lighter =
-        let r = slice_index_or s.records held.id (fresh held.id 0 0 0) in
+        let r = slice_index_or s.records held.id (fresh held.id 0 0 0 0) in
         let n = nodes_of s.opening in
         let left = travel_left n (floor_of s) r a.hand.packet.fits.0 in
         let fate = ap (λ (f : Fate). hops_left n (made_of (floor_of s) (ruled u held.way restamp v r)) f) (ruled_fate u held.way restamp v r) in
         let less = act_lighter n held.way v (made_of (floor_of s) r) (made_of (floor_of s) (ruled u held.way restamp v r)) (λ l e. hops_short s ok u held r (floor_of s) a.hand l e) (λ h goes. grows_at h goes) in
         omega arith
       where
-        grows_at : (h : Hop) → v ≡ GoesOn h → Grows held.way (made_of (floor_of s) (slice_index_or s.records held.id (fresh held.id 0 0 0))) (made_of (floor_of s) (ruled u held.way restamp v (slice_index_or s.records held.id (fresh held.id 0 0 0))))
-        grows_at h goes = grows_on s ok u held (slice_index_or s.records held.id (fresh held.id 0 0 0)) full b restamp v h is_floor goes a
+        grows_at : (h : Hop) → v ≡ GoesOn h → Grows held.way (made_of (floor_of s) (slice_index_or s.records held.id (fresh held.id 0 0 0 0))) (made_of (floor_of s) (ruled u held.way restamp v (slice_index_or s.records held.id (fresh held.id 0 0 0 0))))
+        grows_at h goes = grows_on s ok u held (slice_index_or s.records held.id (fresh held.id 0 0 0 0)) full b restamp v h is_floor goes a
 
     same_at : (k : ℕ) → k < nodes_of s.opening → k ≢ u → LeadsIn s v → node_load (sent_on s.opening s.channels v held.id) (slice_set s.hands u None) k ≡ node_load s.channels s.hands k
     same_at k k_in ne to =

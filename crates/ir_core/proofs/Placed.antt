@@ -9,7 +9,7 @@ use Rattle.ir_core.specs.declared.event.Way.{Way}
 use Rattle.ir_core.specs.declared.event.Way.TheVariants.{Inbox, Link}
 use Rattle.ir_core.specs.declared.event.Verdict.{Verdict}
 use Rattle.ir_core.specs.declared.event.Verdict.TheVariants.{CameByDown, BelowFloor, Arrives, LeavesByDown, NoRoom, GoesOn}
-use Rattle.ir_core.specs.Journey.{Journey}
+use Rattle.ir_core.specs.Journey.{Journey, hop_room}
 use Rattle.ir_core.specs.declared.packet.Held.{Held}
 use Rattle.ir_core.specs.Setting.{Setting, channel_of, nodes_of}
 use Rattle.ir_core.specs.Entry.{acted, fresh}
@@ -177,7 +177,7 @@ waits_in_hand u v way other e = cc
 -- a new packet in its source's inbox
 pub placed_inject : (o : Setting) (plans : List Scheme) (hands : List (Option Held)) (channels : List (List ℕ)) (records : List Journey) (place : ℕ → Place) (e source dest : ℕ) →
     ArePlaced o plans hands channels records place → source < (nodes_of o) → dest < (nodes_of o) → 0 < e → e ≤ length plans → source < length channels →
-    ArePlaced o plans hands (slice_set channels source (slice_index_or channels source [] ++ length records ∷ [])) (records ++ fresh (length records) e source dest ∷ []) (moved place (length records) (Waits source Inbox))
+    ArePlaced o plans hands (slice_set channels source (slice_index_or channels source [] ++ length records ∷ [])) (records ++ fresh (length records) e source dest (hop_room o.restamps (nodes_of o)) ∷ []) (moved place (length records) (Waits source Inbox))
 placed_inject o plans hands channels records place e source dest p s_in d_in e_above e_in c_in = record {
   each = λ i r eq. each_of i r (get_push records i new r eq);
   waiting = put_waiting o channels records place p.waiting p.once more longer id source source Inbox c_in id_in s_in refl not_there;
@@ -191,33 +191,34 @@ placed_inject o plans hands channels records place e source dest p s_in d_in e_a
     id = length records
 
     new : Journey
-    new = fresh (length records) e source dest
+    new = fresh (length records) e source dest (hop_room o.restamps (nodes_of o))
 
     more : List Journey
-    more = records ++ fresh (length records) e source dest ∷ []
+    more = records ++ fresh (length records) e source dest (hop_room o.restamps (nodes_of o)) ∷ []
 
-    longer : length records ≤ length (records ++ fresh (length records) e source dest ∷ [])
+    longer : length records ≤ length (records ++ fresh (length records) e source dest (hop_room o.restamps (nodes_of o)) ∷ [])
     longer = grind (arith, common_steps)
 
-    id_in : length records < length (records ++ fresh (length records) e source dest ∷ [])
+    id_in : length records < length (records ++ fresh (length records) e source dest (hop_room o.restamps (nodes_of o)) ∷ [])
     id_in = grind (arith, common_steps)
 
     not_there : (c k : ℕ) → slice_get (slice_index_or channels c []) k ≡ Some (length records) → ⊥
     not_there c k q = let lt = (p.waiting c k (length records) q).0 in omega arith
 
-    each_of : (i : ℕ) (r : Journey) → ((i ≡ length records) × (fresh (length records) e source dest ≡ r)) ⊎ ((i < length records) × (slice_get records i ≡ Some r)) → IsPacket o plans r (moved place (length records) (Waits source Inbox) i)
+    each_of : (i : ℕ) (r : Journey) → ((i ≡ length records) × (fresh (length records) e source dest (hop_room o.restamps (nodes_of o)) ≡ r)) ⊎ ((i < length records) × (slice_get records i ≡ Some r)) → IsPacket o plans r (moved place (length records) (Waits source Inbox) i)
     each_of i r (inl q) =
-        let made : IsPacket o plans (fresh (length records) e source dest) (Waits source Inbox) = record {
+        let made : IsPacket o plans (fresh (length records) e source dest (hop_room o.restamps (nodes_of o))) (Waits source Inbox) = record {
           routed = record {
             few = omega arith;
             places = tt;
             rising = tt;
             each = (record { source_in = s_in; dest_in = d_in; epoch_above = e_above; epoch_in = e_in; begins = refl; follows = tt }, tt);
+            room = refl;
           };
           fits = (refl, (refl, refl));
           is_new = refl;
         } in
-        let here = subst (λ (x : Place). IsPacket o plans (fresh (length records) e source dest) x) (sym (moved_same place (length records) (Waits source Inbox) i q.0)) made in
+        let here = subst (λ (x : Place). IsPacket o plans (fresh (length records) e source dest (hop_room o.restamps (nodes_of o))) x) (sym (moved_same place (length records) (Waits source Inbox) i q.0)) made in
         subst (λ (x : Journey). IsPacket o plans x (moved place (length records) (Waits source Inbox) i)) q.1 here
     each_of i r (inr q) =
         let lt = q.0 in let ne : i ≢ length records = omega arith in

@@ -54,8 +54,8 @@ plain_either : (b : Bool) (x y : Option Journey) → IsPlain x → IsPlain y →
 plain_either true x y p q = p
 plain_either false x y p q = q
 
-plain_fresh : (id epoch source dest : ℕ) → IsPlain (Some (fresh id epoch source dest))
-plain_fresh id epoch source dest = record { none = λ r e. ap (λ (x : Journey). x.restamps) (sym (same_Some (fresh id epoch source dest) r e)) }
+plain_fresh : (id epoch source dest room : ℕ) → IsPlain (Some (fresh id epoch source dest room))
+plain_fresh id epoch source dest room = record { none = λ r e. ap (λ (x : Journey). x.restamps) (sym (same_Some (fresh id epoch source dest room) r e)) }
 
 plain_ruled : (u : ℕ) (way : Way) (v : Verdict) (x : Option Journey) → IsPlain x → IsPlain (option_map (ruled u way None v) x)
 plain_ruled u way v None p = record { none = λ r e. absurd (none-some r e) }
@@ -65,7 +65,7 @@ plain_ruled u way v (Some r) p =
 -- the packets of a history without restamps
 packet_plain : (id : ℕ) (log : List Entry) → HasNoRestamp log → IsPlain (history.packet id log)
 packet_plain id [] h = record { none = λ r e. absurd (none-some r e) }
-packet_plain id (DidInject i e s d ∷ log) h = plain_either (eqb i id) (Some (fresh i e s d)) (history.packet id log) (plain_fresh i e s d) (packet_plain id log h)
+packet_plain id (DidInject i e s d m ∷ log) h = plain_either (eqb i id) (Some (fresh i e s d m)) (history.packet id log) (plain_fresh i e s d m) (packet_plain id log h)
 packet_plain id (DidAct u i way restamp v ∷ log) h =
     subst (λ (x : Option ℕ). IsPlain (cond (eqb i id) (option_map (ruled u way x v) (history.packet id log)) (history.packet id log))) (sym h.0)
     (plain_either (eqb i id) (option_map (ruled u way None v) (history.packet id log)) (history.packet id log) (plain_ruled u way v (history.packet id log) (packet_plain id log h.1)) (packet_plain id log h.1))
@@ -75,7 +75,7 @@ packet_plain id (DidRead u k ∷ log) h = packet_plain id log h
 packet_plain id (DidChange b ∷ log) h = packet_plain id log h
 packet_plain id (DidInstall e t b ∷ log) h = packet_plain id log h
 
-plain_or : (id : ℕ) (x : Option Journey) → IsPlain x → (unwrap_or x (fresh id 0 0 0)).restamps ≡ []
+plain_or : (id : ℕ) (x : Option Journey) → IsPlain x → (unwrap_or x (fresh id 0 0 0 0)).restamps ≡ []
 plain_or id None p = refl
 plain_or id (Some r) p = p.none r refl
 
@@ -113,9 +113,9 @@ acted_here id x y p = subst (λ (b : Bool). IsPlain (cond b x y)) (eq-eqb id id 
 
 plain_history : (log : List Entry) → history.NothingAfterTheEnd log → ((id : ℕ) → IsPlain (history.packet id log)) → HasNoRestamp log
 plain_history [] ends all = tt
-plain_history (DidInject i e s d ∷ log) ends all =
+plain_history (DidInject i e s d m ∷ log) ends all =
     plain_history log ends.1
-    (λ id. before_inject (eqb i id) (Some (fresh i e s d)) (history.packet id log) (λ same. (ap (λ (k : ℕ). history.packet k log) (sym (eqb-true i id same)) ∙ ends.0)) (all id))
+    (λ id. before_inject (eqb i id) (Some (fresh i e s d m)) (history.packet id log) (λ same. (ap (λ (k : ℕ). history.packet k log) (sym (eqb-true i id same)) ∙ ends.0)) (all id))
 plain_history (DidAct u i way restamp v ∷ log) ends all =
     let now = history.packet i log in
     let none : restamp ≡ None = act_was_plain u i way restamp v now ends.0.0 ends.0.1 (acted_here i (option_map (ruled u way restamp v) now) now (all i)) in (

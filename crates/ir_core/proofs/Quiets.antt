@@ -137,17 +137,17 @@ act_ahead n u (Link l) (NoRoom h) made after some short grows = let lt = short l
 
 -- the record of what a node holds, and the records after an Act on it
 abbrev held_record : State → Held → Journey
-held_record s held = slice_index_or s.records held.id (fresh held.id 0 0 0)
+held_record s held = slice_index_or s.records held.id (fresh held.id 0 0 0 0)
 
 abbrev acted_records : State → ℕ → Held → Option ℕ → Verdict → List Journey
 acted_records s u held restamp v = slice_set s.records held.id (ruled u held.way restamp v (held_record s held))
 
 -- an Act by the newest board takes one from what its packet has before it, and nothing from the others
 act_few : (s : State) (ok : IsState s) (u : ℕ) (held : Held) (restamp : Option ℕ) (v : Verdict) (full : Hop → Bool) (b : Board) → b.floor ≡ floor_of s → slice_index_or s.hands u None ≡ Some held →
-    Acting s u held (slice_index_or s.records held.id (fresh held.id 0 0 0)) full b restamp v →
+    Acting s u held (slice_index_or s.records held.id (fresh held.id 0 0 0 0)) full b restamp v →
     FewIn s ok (after s (DidAct u held.id held.way restamp v)) (Ok (DidAct u held.id held.way restamp v))
 act_few s ok u held restamp v full b is_floor holds a =
-    let k = keep_act_place s ok u held (slice_index_or s.records held.id (fresh held.id 0 0 0)) full b restamp v holds a in
+    let k = keep_act_place s ok u held (slice_index_or s.records held.id (fresh held.id 0 0 0 0)) full b restamp v holds a in
     (k.0, λ j log. (let e = ap (λ (q : Place). acts_ahead (nodes_of s.opening) q (hops_made (floor_of s) (acted_records s u held restamp v) j)) (k.1 j) in let b = by_id j log (cases_eq j held.id) in omega arith))
   where
     in_hand : ok.place held.id ≡ InHand u held.way
@@ -157,9 +157,9 @@ act_few s ok u held restamp v full b is_floor holds a =
         (if held.id == j then acts_of j log + 1 else acts_of j log) + acts_ahead (nodes_of s.opening) (moved ok.place held.id (place_after v) j) (hops_made (floor_of s) (acted_records s u held restamp v) j) ≤ acts_of j log + before s ok j
     by_id j log (inl e) =
         let test : (held.id == j) ≡ true = grind (arith, common_steps) in
-        let here : slice_index_or (acted_records s u held restamp v) j (fresh j 0 0 0) ≡ ruled u held.way restamp v (held_record s held) = ap (λ (k : ℕ). slice_index_or (acted_records s u held restamp v) k (fresh j 0 0 0)) e ∙ get_or-set_same s.records held.id (ruled u held.way restamp v (held_record s held)) (fresh j 0 0 0) a.hand.id_in in
+        let here : slice_index_or (acted_records s u held restamp v) j (fresh j 0 0 0 0) ≡ ruled u held.way restamp v (held_record s held) = ap (λ (k : ℕ). slice_index_or (acted_records s u held restamp v) k (fresh j 0 0 0 0)) e ∙ get_or-set_same s.records held.id (ruled u held.way restamp v (held_record s held)) (fresh j 0 0 0 0) a.hand.id_in in
         let made = ap (λ (x : Journey). made_of (floor_of s) x) here in
-        let was : slice_index_or s.records j (fresh j 0 0 0) ≡ held_record s held = ap (λ (k : ℕ). slice_index_or s.records k (fresh k 0 0 0)) e in
+        let was : slice_index_or s.records j (fresh j 0 0 0 0) ≡ held_record s held = ap (λ (k : ℕ). slice_index_or s.records k (fresh k 0 0 0 0)) e in
         let had = ap (λ (x : Journey). made_of (floor_of s) x) was in
         let n = nodes_of s.opening in
         let now = ap (λ (q : Place). acts_ahead (nodes_of s.opening) q (hops_made (floor_of s) (acted_records s u held restamp v) j)) (moved_same ok.place held.id (place_after v) j e) in
@@ -173,7 +173,7 @@ act_few s ok u held restamp v full b is_floor holds a =
     by_id j log (inr ne) =
         let differs : held.id ≢ j = λ e. ne (sym e) in
         let test : (held.id == j) ≡ false = grind (arith, common_steps) in
-        let here : slice_index_or (acted_records s u held restamp v) j (fresh j 0 0 0) ≡ slice_index_or s.records j (fresh j 0 0 0) = get_or-set_other s.records held.id j (ruled u held.way restamp v (held_record s held)) (fresh j 0 0 0) ne in
+        let here : slice_index_or (acted_records s u held restamp v) j (fresh j 0 0 0 0) ≡ slice_index_or s.records j (fresh j 0 0 0 0) = get_or-set_other s.records held.id j (ruled u held.way restamp v (held_record s held)) (fresh j 0 0 0 0) ne in
         let made = ap (λ (x : Journey). acts_ahead (nodes_of s.opening) (moved ok.place held.id (place_after v) j) (made_of (floor_of s) x)) here in
         let now = ap (λ (q : Place). acts_ahead (nodes_of s.opening) q (hops_made (floor_of s) s.records j)) (moved_other ok.place held.id (place_after v) j ne) in
         rw test (omega arith)
@@ -285,8 +285,8 @@ act_done_by s new ok u u_in up result answer = by_hand (slice_index_or s.hands u
         let a = subst (λ (w : Result Entry Refused). IsAnswer s new w result) is answer in
         let acted : is_ok result ≡ true = ap (λ (x : Result Reply Refused). is_ok x) a.0 in
         let id_in = (ok.placed.held u held holds).0 in
-        let r = slice_index_or s.records held.id (fresh held.id 0 0 0) in
-        let read : r ≡ slice_index_or s.records held.id r = get_or_default s.records held.id (fresh held.id 0 0 0) r id_in in
+        let r = slice_index_or s.records held.id (fresh held.id 0 0 0 0) in
+        let read : r ≡ slice_index_or s.records held.id r = get_or_default s.records held.id (fresh held.id 0 0 0 0) r id_in in
         let acting = acting_now s s refl ok u held r x holds read u_in refl in
         let less : weight new < weight s = subst (λ (x : State). weight x < weight s) (sym a.1) (act_falls s ok u held x.restamp x.verdict (is_full_towards s.opening (sight_in s)) (board_at (sight_in s) (slice_index s.views u)) (newest_seen s u up) holds acting) in
         let moves = moved_by s new ok (λ _. event.Act u) (λ (x : Sight). acts s.opening x u) (λ x. refl) result answer true
@@ -303,8 +303,8 @@ act_done_by s new ok u u_in up result answer = by_hand (slice_index_or s.hands u
         few_act kept is to =
             let x : Ruling = ruling_on s.opening (sight_in s) u held.way (record_at (sight_in s) held.id) in
             let id_in = (kept.placed.held u held holds).0 in
-            let r = slice_index_or s.records held.id (fresh held.id 0 0 0) in
-            let read : r ≡ slice_index_or s.records held.id r = get_or_default s.records held.id (fresh held.id 0 0 0) r id_in in
+            let r = slice_index_or s.records held.id (fresh held.id 0 0 0 0) in
+            let read : r ≡ slice_index_or s.records held.id r = get_or_default s.records held.id (fresh held.id 0 0 0 0) r id_in in
             let acting = acting_now s s refl kept u held r x holds read u_in refl in
             subst (λ (w : Result Entry Refused). FewIn s kept new w) (sym is)
             (subst (λ (y : State). FewIn s kept y (Ok (DidAct u held.id held.way x.restamp x.verdict))) (sym to)

@@ -3,9 +3,10 @@ use Rattle.std.proofs.Common.{◌≡◌, ◌≢◌, ℕ, ◌+◌, ◌-◌, ◌*�
 use Rattle.std.specs.Prelude.{reverse}
 use Rattle.std.specs.List.{AllByRecursion}
 use Rattle.std.proofs.lemmas.List.{length-append, length_push, length-drop, length-take-le, length-reverse}
+use Rattle.std.proofs.lemmas.Nat.{mul-le}
 use Rattle.ir_model.specs.declared.Hop.{Hop}
 use Rattle.ir_model.specs.Scheme.{Scheme, next_hop}
-use Rattle.ir_core.specs.declared.TheConstants.{MAX_NODES, MAX_HOPS}
+use Rattle.ir_core.specs.declared.TheConstants.{MAX_NODES, MAX_RESTAMPS}
 use Rattle.ir_core.specs.declared.event.Way.{Way}
 use Rattle.ir_core.specs.declared.event.Way.TheVariants.{Inbox, Link}
 use Rattle.ir_core.specs.declared.event.Verdict.{Verdict}
@@ -13,7 +14,7 @@ use Rattle.ir_core.specs.declared.event.Verdict.TheVariants.{CameByDown, BelowFl
 use Rattle.ir_core.specs.declared.packet.Fate.{Fate}
 use Rattle.ir_core.specs.declared.packet.Fate.TheVariants.{Retired}
 use Rattle.ir_core.specs.declared.packet.Restamp.{Restamp}
-use Rattle.ir_core.specs.Journey.{Journey, segments_in, present, present_in, stamp_of, until}
+use Rattle.ir_core.specs.Journey.{Journey, hop_room, segments_in, present, present_in, stamp_of, until}
 use Rattle.ir_core.specs.Setting.{Setting, IsPlanFor, nodes_of}
 use Rattle.ir_core.specs.Entry.{acted, restamped, ruled, hops_here, is_hop, fate_of}
 use Rattle.ir_core.specs.Meaning.{plan_of}
@@ -67,12 +68,17 @@ abbrev pub most : List Restamp → ℕ → ℕ
 most [] m = m
 most (s ∷ older) m = m + most older m
 
-pub most_few : (latest : List Restamp) (m : ℕ) → length latest ≤ 3 → most latest m ≤ 4 * m
-most_few [] m le = omega arith
-most_few (a ∷ []) m le = omega arith
-most_few (a ∷ b ∷ []) m le = omega arith
-most_few (a ∷ b ∷ c ∷ []) m le = omega arith
-most_few (a ∷ b ∷ c ∷ d ∷ rest) m le = absurd (omega arith)
+pub most_is : (latest : List Restamp) (m : ℕ) → most latest m ≡ (length latest + 1) * m
+most_is [] m = omega arith
+most_is (s ∷ older) m = let below = most_is older m in omega (arith, below)
+
+pub most_within : (latest : List Restamp) (restamps m : ℕ) → length latest ≤ restamps → most latest m ≤ (restamps + 1) * m
+most_within latest restamps m le = rw (most_is latest m) (mul-le (length latest + 1) m (restamps + 1) m (omega arith) (omega arith))
+
+-- the room of a packet at the limits
+pub hop_room_most : (restamps nodes : ℕ) → restamps ≤ MAX_RESTAMPS → nodes ≤ MAX_NODES → hop_room restamps nodes ≤ hop_room MAX_RESTAMPS MAX_NODES
+hop_room_most restamps nodes few_restamps few_nodes =
+    let le = mul-le (restamps + 1) (nodes - 1) (MAX_RESTAMPS + 1) (MAX_NODES - 1) (omega arith) (omega arith) in omega (arith, le)
 
 module _ (o : Setting) (plans : List Scheme) (is_plan : (k : ℕ) → IsPlanFor o (slice_index_or plans k o.first)) where
   pub stretch_away : (g : Journey) → IsStretch o plans g → (x : ℕ) (h : Hop) → next_hop (plan_of o plans g.epoch) x g.dest ≡ Some h → x ≢ g.dest
@@ -116,6 +122,7 @@ module _ (o : Setting) (plans : List Scheme) (is_plan : (k : ℕ) → IsPlanFor 
         places = places_more latest (length r.hops) _ (longer b u r.hops) k.places;
         rising = subst AreRising (sym now) (rising_same (present r) (gone b u fate (present r)) (past_in latest r) refl (subst AreRising was k.rising));
         each = subst (AllByRecursion (IsStretch o plans)) (sym now) (stretch_gone b u fate (present r) (present_stretch r k) begins follows, (subst (AllByRecursion (IsStretch o plans)) was k.each).1);
+        room = k.room;
       }
 
   -- an Act without a restamp
@@ -158,6 +165,7 @@ module _ (o : Setting) (plans : List Scheme) (is_plan : (k : ℕ) → IsPlanFor 
         places = subst (λ (l : List Restamp). ArePlaces (length (front_of way r.hops ++ u ∷ [])) l) (sym (reverse_push r.restamps s)) (rw length_push (omega arith), places_front way u r new k.places);
         rising = subst AreRising (sym all) (rising_begun u e r (reverse r.restamps) (record r { hops = front_of way r.hops ++ u ∷ []; fate = Retired }) above ended.rising);
         each = subst (AllByRecursion (IsStretch o plans)) (sym all) (here, ended.each);
+        room = k.room;
       }
 
   -- an Act
@@ -194,11 +202,10 @@ module _ (o : Setting) (plans : List Scheme) (is_plan : (k : ℕ) → IsPlanFor 
       omega arith
 
   -- all hops of a packet have room
-  pub hops_fit : (r : Journey) → 0 < nodes_of o → nodes_of o ≤ MAX_NODES → o.restamps ≤ 3 → IsRouted o plans r → length r.hops ≤ MAX_HOPS
-  hops_fit r some few most_restamps k =
+  pub hops_fit : (r : Journey) → 0 < nodes_of o → IsRouted o plans r → length r.hops ≤ hop_room o.restamps (nodes_of o)
+  hops_fit r some k =
       let n : nodes_of o ≡ (nodes_of o - 1) + 1 = omega arith in
-      let few_segments = k.few in
       let reversed = length-reverse r.restamps in
       let all = few_hops (reverse r.restamps) r (nodes_of o - 1) n k.places k.each in
-      let bound = most_few (reverse r.restamps) (nodes_of o - 1) (omega arith) in
-      omega arith
+      let bound = most_within (reverse r.restamps) o.restamps (nodes_of o - 1) (omega (arith, k.few)) in
+      omega (arith, all, bound)

@@ -29,7 +29,7 @@ present_gone (s ∷ older) true u fate r k =
     let lt = k.0 in
     let hops : drop s.from (r.hops ++ u ∷ []) ≡ drop s.from r.hops ++ u ∷ [] = drop-append-le s.from r.hops (u ∷ []) (omega arith) in
     let origin : slice_index (r.hops ++ u ∷ []) s.from ≡ slice_index r.hops s.from = get_or_append_left r.hops (u ∷ []) 0 s.from lt in
-    λ i. record { id = r.id; epoch = s.epoch; source = origin i; dest = r.dest; hops = hops i; restamps = []; fate = fate }
+    λ i. record { id = r.id; epoch = s.epoch; source = origin i; dest = r.dest; hops = hops i; restamps = []; fate = fate; room = r.room }
 
 pub past_gone : (latest : List Restamp) (b : Bool) (u : ℕ) (fate : Fate) (r : Journey) → ArePlaces (length r.hops) latest → past_in latest (gone b u fate r) ≡ past_in latest r
 past_gone [] b u fate r k = refl
@@ -95,7 +95,7 @@ present_stamped u e front r =
     let s : Restamp = record { epoch = e; from = length front } in
     let back = reverse_push r.restamps s in
     ap (λ (latest : List Restamp). present_in latest (stamped u front s r)) back
-    ∙ (λ i. record { id = r.id; epoch = e; source = last_front front u i; dest = r.dest; hops = drop_front front u i; restamps = []; fate = r.fate })
+    ∙ (λ i. record { id = r.id; epoch = e; source = last_front front u i; dest = r.dest; hops = drop_front front u i; restamps = []; fate = r.fate; room = r.room })
 
 pub segments_stamped : (u e : ℕ) (front : List ℕ) (r : Journey) →
     segments (stamped u front (record { epoch = e; from = length front }) r) ≡ begun u e r ∷ segments (record r { hops = front ++ u ∷ []; fate = Retired })
@@ -103,7 +103,7 @@ segments_stamped u e front r =
     let s : Restamp = record { epoch = e; from = length front } in
     let all : take (length front + 1) (front ++ u ∷ []) ≡ front ++ u ∷ [] = take_all (length front + 1) (front ++ u ∷ []) (rw length_push (omega arith)) in
     ap (λ (latest : List Restamp). segments_in latest (stamped u front s r)) (reverse_push r.restamps s)
-    ∙ (λ i. record { id = r.id; epoch = e; source = last_front front u i; dest = r.dest; hops = drop_front front u i; restamps = []; fate = r.fate } ∷ segments_in (reverse r.restamps) (record r { hops = all i; restamps = []; fate = Retired }))
+    ∙ (λ i. record { id = r.id; epoch = e; source = last_front front u i; dest = r.dest; hops = drop_front front u i; restamps = []; fate = r.fate; room = r.room } ∷ segments_in (reverse r.restamps) (record r { hops = all i; restamps = []; fate = Retired }))
     ∙ ap (λ (gs : List Journey). begun u e r ∷ gs) (segments_forget (reverse r.restamps) [] (record r { hops = front ++ u ∷ []; fate = Retired }))
 
 pub stamp_stamped : (u e : ℕ) (front : List ℕ) (r : Journey) → stamp_of (stamped u front (record { epoch = e; from = length front }) r) ≡ e

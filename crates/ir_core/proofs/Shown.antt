@@ -43,7 +43,7 @@ FitsVerdict s (NoRoom h) = Unit {0}
 
 -- what an entry needs of the world in which it is made
 abbrev pub Fits : State → Entry → Type 0
-Fits s (DidInject id e source dest) = (id ≡ length s.records) × (source < length s.channels)
+Fits s (DidInject id e source dest room) = (id ≡ length s.records) × (source < length s.channels)
 Fits s (DidLearn e) = Unit {0}
 Fits s (DidTake u way id) = (u < length s.hands) × (into s.opening u way < length s.channels) × (slice_get (slice_index_or s.channels (into s.opening u way) []) 0 ≡ Some id)
 Fits s (DidRead u k) = u < length s.views
@@ -57,7 +57,7 @@ IsLeft s id = (r : Journey) × (slice_get s.records id ≡ Some r) × (r.fate �
 
 -- what an entry concerns is under way in this world
 abbrev pub ConcernsLeft : State → Entry → Type 0
-ConcernsLeft s (DidInject id e source dest) = slice_get s.records id ≡ None
+ConcernsLeft s (DidInject id e source dest room) = slice_get s.records id ≡ None
 ConcernsLeft s (DidLearn e) = Unit {0}
 ConcernsLeft s (DidTake u way id) = IsLeft s id
 ConcernsLeft s (DidRead u k) = Unit {0}
@@ -67,12 +67,12 @@ ConcernsLeft s (DidInstall e t b) = Unit {0}
 
 -- what an entry that fits concerns is under way
 pub concerns_left : (s : State) → IsState s → (entry : Entry) → Fits s entry → ConcernsLeft s entry
-concerns_left s ok (DidInject id e source dest) f = let i = f.0 in slice_get_past s.records id (omega arith)
+concerns_left s ok (DidInject id e source dest room) f = let i = f.0 in slice_get_past s.records id (omega arith)
 concerns_left s ok (DidLearn e) f = tt
 concerns_left s ok (DidTake u way id) f =
     let w = ok.placed.waiting (into s.opening u way) 0 id f.2 in
-    let at = slice_get-get_or s.records id (fresh id 0 0 0) w.0 in
-    (slice_index_or s.records id (fresh id 0 0 0), at, waits_left (slice_index_or s.records id (fresh id 0 0 0)) w.1.0 w.1.1 (ok.placed.each id _ at) w.1.3)
+    let at = slice_get-get_or s.records id (fresh id 0 0 0 0) w.0 in
+    (slice_index_or s.records id (fresh id 0 0 0 0), at, waits_left (slice_index_or s.records id (fresh id 0 0 0 0)) w.1.0 w.1.1 (ok.placed.each id _ at) w.1.3)
   where
     waits_left : (r : Journey) (v : ℕ) (by : Way) → IsPacket s.opening s.plans r (ok.place id) → ok.place id ≡ Waits v by → r.fate ≡ Left
     waits_left r v by p e =
@@ -81,8 +81,8 @@ concerns_left s ok (DidTake u way id) f =
 concerns_left s ok (DidRead u k) f = tt
 concerns_left s ok (DidAct u id way restamp v) f =
     let h = ok.placed.held u (record { id = id; way = way }) f.3 in
-    let at = slice_get-get_or s.records id (fresh id 0 0 0) h.0 in
-    (slice_index_or s.records id (fresh id 0 0 0), at, hand_left (slice_index_or s.records id (fresh id 0 0 0)) (ok.placed.each id _ at) h.1)
+    let at = slice_get-get_or s.records id (fresh id 0 0 0 0) h.0 in
+    (slice_index_or s.records id (fresh id 0 0 0 0), at, hand_left (slice_index_or s.records id (fresh id 0 0 0 0)) (ok.placed.each id _ at) h.1)
   where
     hand_left : (r : Journey) → IsPacket s.opening s.plans r (ok.place id) → ok.place id ≡ InHand u way → r.fate ≡ Left
     hand_left r p e =
@@ -93,7 +93,7 @@ concerns_left s ok (DidInstall e t b) f = tt
 
 -- and so it is by the history
 pub concerns_under_way : (log : List Entry) (s : State) → Shows log s → (entry : Entry) → ConcernsLeft s entry → history.ConcernsOneUnderWay entry log
-concerns_under_way log s k (DidInject id e source dest) l = sym (k.packet id) ∙ l
+concerns_under_way log s k (DidInject id e source dest room) l = sym (k.packet id) ∙ l
 concerns_under_way log s k (DidLearn e) l = tt
 concerns_under_way log s k (DidTake u way id) l = (l.0, sym (k.packet id) ∙ l.1, l.2)
 concerns_under_way log s k (DidRead u n) l = tt
@@ -189,9 +189,9 @@ act_waiting s (NoRoom h) id c n xs f e few = (e, few)
 
 -- the world after an entry is that of the history with it
 pub show_after : (log : List Entry) (s : State) → Shows log s → (entry : Entry) → Fits s entry → history.ConcernsOneUnderWay entry log → Shows (entry ∷ log) (after s entry)
-show_after log s k (DidInject id e source dest) f w = record {
+show_after log s k (DidInject id e source dest room) f w = record {
   ends_once = (w, k.ends_once);
-  injected = length_push s.records (fresh id e source dest) ∙ ap (λ (n : ℕ). n + 1) k.injected;
+  injected = length_push s.records (fresh id e source dest room) ∙ ap (λ (n : ℕ). n + 1) k.injected;
   learnt = k.learnt;
   boards = k.boards;
   plans = k.plans;
@@ -199,7 +199,7 @@ show_after log s k (DidInject id e source dest) f w = record {
   hand = k.hand;
   waiting = λ c. put_shows s.channels source id c (history.takes s.opening c log) (history.puts s.opening c log) f.1 (k.waiting c) (k.no_more_takes c);
   no_more_takes = λ c. put_few (source == c) id (history.takes s.opening c log) (history.puts s.opening c log) (k.no_more_takes c);
-  packet = λ j. push_shows s.records (fresh id e source dest) id j (history.packet j log) f.0 (k.packet j);
+  packet = λ j. push_shows s.records (fresh id e source dest room) id j (history.packet j log) f.0 (k.packet j);
 }
 show_after log s k (DidLearn e) f w = record {
   ends_once = (w, k.ends_once);
@@ -239,7 +239,7 @@ show_after log s k (DidRead u n) f w = record {
 }
 show_after log s k (DidAct u id way restamp v) f w = record {
   ends_once = (w, k.ends_once);
-  injected = length-set s.records id (ruled u way restamp v (slice_index_or s.records id (fresh id 0 0 0))) ∙ k.injected;
+  injected = length-set s.records id (ruled u way restamp v (slice_index_or s.records id (fresh id 0 0 0 0))) ∙ k.injected;
   learnt = k.learnt;
   boards = k.boards;
   plans = k.plans;
@@ -247,7 +247,7 @@ show_after log s k (DidAct u id way restamp v) f w = record {
   hand = λ w. set_shows s.hands u w None None (history.hand w log) f.0 (k.hand w);
   waiting = λ c. (act_waiting s v id c (history.takes s.opening c log) (history.puts s.opening c log) f.2 (k.waiting c) (k.no_more_takes c)).0;
   no_more_takes = λ c. (act_waiting s v id c (history.takes s.opening c log) (history.puts s.opening c log) f.2 (k.waiting c) (k.no_more_takes c)).1;
-  packet = λ j. act_shows s.records (ruled u way restamp v) id j (fresh id 0 0 0) (history.packet j log) f.1 (k.packet j);
+  packet = λ j. act_shows s.records (ruled u way restamp v) id j (fresh id 0 0 0 0) (history.packet j log) f.1 (k.packet j);
 }
 show_after log s k (DidChange b) f w = record {
   ends_once = (w, k.ends_once);

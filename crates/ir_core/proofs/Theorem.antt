@@ -188,7 +188,7 @@ all_of_one_epoch o log all none id r e =
     one_epoch o (history.plans o log) r r.restamps refl (omega arith) k.each
 
 after_setting : (s : State) (entry : Entry) → (after s entry).opening ≡ s.opening
-after_setting s (DidInject id e source dest) = refl
+after_setting s (DidInject id e source dest room) = refl
 after_setting s (DidLearn e) = refl
 after_setting s (DidTake u way id) = refl
 after_setting s (DidRead u k) = refl

@@ -88,13 +88,13 @@ ruled u way None v r = acted u way v r
 ruled u way (Some e) v r = acted u Inbox v (restamped u way e r)
 
 -- a packet's record after its injection
-abbrev pub fresh : ℕ → ℕ → ℕ → ℕ → Journey
-fresh id epoch source dest =
-    record { id = id; epoch = epoch; source = source; dest = dest; hops = source ∷ []; restamps = []; fate = Left }
+abbrev pub fresh : ℕ → ℕ → ℕ → ℕ → ℕ → Journey
+fresh id epoch source dest room =
+    record { id = id; epoch = epoch; source = source; dest = dest; hops = source ∷ []; restamps = []; fate = Left; room = room }
 
--- An accepted event, with what came of it.
+-- An accepted event, with what came of it. An injection says the most hops of its packet.
 pub data Entry : Type 0 where
-  DidInject : (id epoch source dest : ℕ) → Entry
+  DidInject : (id epoch source dest room : ℕ) → Entry
   DidLearn : (epoch : ℕ) → Entry
   DidTake : (node : ℕ) → (way : Way) → (id : ℕ) → Entry
   DidRead : (node version : ℕ) → Entry
@@ -111,7 +111,7 @@ reply_after id (LeavesByDown l) = Settled id
 reply_after id (NoRoom h) = Settled id
 
 abbrev pub reply_of : Entry → Reply
-reply_of (DidInject id epoch source dest) = Injected id
+reply_of (DidInject id epoch source dest room) = Injected id
 reply_of (DidLearn epoch) = Learnt
 reply_of (DidTake node way id) = Taken id
 reply_of (DidRead node version) = Viewed

@@ -36,7 +36,7 @@ learnt (_ ∷ log) = learnt log
 -- how many packets were injected
 abbrev pub injected : List Entry → ℕ
 injected [] = 0
-injected (DidInject i e s d ∷ log) = injected log + 1
+injected (DidInject i e s d m ∷ log) = injected log + 1
 injected (_ ∷ log) = injected log
 
 -- the version that a node read last
@@ -64,7 +64,7 @@ is_put_into o c (NoRoom h) = false
 -- the packets that were put into a channel, in order
 abbrev pub puts : Setting → ℕ → List Entry → List ℕ
 puts o c [] = []
-puts o c (DidInject id e s d ∷ log) = if into o s Inbox == c then puts o c log ++ id ∷ [] else puts o c log
+puts o c (DidInject id e s d m ∷ log) = if into o s Inbox == c then puts o c log ++ id ∷ [] else puts o c log
 puts o c (DidAct u id way restamp verdict ∷ log) = if is_put_into o c verdict then puts o c log ++ id ∷ [] else puts o c log
 puts o c (_ ∷ log) = puts o c log
 
@@ -81,7 +81,7 @@ waiting o c log = drop (takes o c log) (puts o c log)
 -- the record of a packet: its injection, and then each Act on it
 abbrev pub packet : ℕ → List Entry → Option Journey
 packet id [] = None
-packet id (DidInject i e s d ∷ log) = if i == id then Some (fresh i e s d) else packet id log
+packet id (DidInject i e s d m ∷ log) = if i == id then Some (fresh i e s d m) else packet id log
 packet id (DidAct u i way restamp verdict ∷ log) = if i == id then option_map (ruled u way restamp verdict) (packet id log) else packet id log
 packet id (_ ∷ log) = packet id log
 
@@ -93,7 +93,7 @@ IsUnderWay id log = (r : Journey) × (packet id log ≡ Some r) × (r.fate ≡ L
 abbrev pub ConcernsOneUnderWay : Entry → List Entry → Type 0
 ConcernsOneUnderWay (DidTake u way id) log = IsUnderWay id log
 ConcernsOneUnderWay (DidAct u id way restamp verdict) log = IsUnderWay id log
-ConcernsOneUnderWay (DidInject id e s d) log = packet id log ≡ None
+ConcernsOneUnderWay (DidInject id e s d m) log = packet id log ≡ None
 ConcernsOneUnderWay (DidLearn e) log = Unit {0}
 ConcernsOneUnderWay (DidRead u k) log = Unit {0}
 ConcernsOneUnderWay (DidChange b) log = Unit {0}

@@ -1,11 +1,17 @@
 -- What a packet's record says, and its segments.
-use Rattle.std.specs.Prelude.{ℕ, ◌+◌, List, [], ◌∷◌, ◌++◌, reverse, take, drop, slice_index}
+use Rattle.std.specs.Prelude.{ℕ, ◌+◌, ◌-◌, ◌*◌, List, [], ◌∷◌, ◌++◌, reverse, take, drop, slice_index}
 use Rattle.ir_core.specs.declared.packet.Fate.{Fate}
 use Rattle.ir_core.specs.declared.packet.Fate.TheVariants.{Retired}
 use Rattle.ir_core.specs.declared.packet.Restamp.{Restamp}
 
--- The packet's number, the epoch that it was stamped with first, its ends, its hops so far, its restamps in order, and
--- what became of it. A restamp has an epoch, and the place in the hops of the node that made it.
+-- The most hops of a packet that may be restamped so often, over so many nodes: a walk of each epoch, each but the first
+-- from the last hop of the one before.
+abbrev pub hop_room : ℕ → ℕ → ℕ
+hop_room restamps nodes = (restamps + 1) * (nodes - 1) + 1
+
+-- The packet's number, the epoch that it was stamped with first, its ends, its hops so far, its restamps in order, what
+-- became of it, and the most hops that its record has room for. A restamp has an epoch, and the place in the hops of the
+-- node that made it.
 pub record Journey : Type 0 where
   pub id : ℕ
   pub epoch : ℕ
@@ -14,6 +20,7 @@ pub record Journey : Type 0 where
   pub hops : List ℕ
   pub restamps : List Restamp
   pub fate : Fate
+  pub room : ℕ
 
 -- Of restamps, the latest first: the epoch, place and node of the latest, or these where there was none.
 abbrev pub stamp_in : List Restamp → ℕ → ℕ
@@ -38,6 +45,7 @@ present_in latest r = record {
   hops = drop (place_in latest) r.hops;
   restamps = [];
   fate = r.fate;
+  room = r.room;
 }
 
 -- what a restamp ended: the journey up to the node of the restamp

@@ -18,7 +18,7 @@ use Rattle.ir_core.specs.declared.board.Board.{Board}
 use Rattle.ir_core.specs.declared.packet.Held.{Held}
 use Rattle.ir_core.specs.declared.event.Verdict.{Verdict}
 use Rattle.ir_core.specs.declared.event.Ruling.{Ruling}
-use Rattle.ir_core.specs.Journey.{Journey, stamp_of}
+use Rattle.ir_core.specs.Journey.{Journey, hop_room, stamp_of}
 use Rattle.ir_core.specs.Board.{opening_board, is_up, marked, retired_below, installed}
 use Rattle.ir_core.specs.Setting.{Setting, nodes_of, links_of, channel_of, into}
 use Rattle.ir_core.specs.Entry.{Entry, DidInject, DidLearn, DidTake, DidRead, DidAct, DidChange, DidInstall, judged, restamp_by, fresh}
@@ -62,7 +62,7 @@ abbrev pub plan_of : Setting → List Scheme → ℕ → Scheme
 plan_of o plans e = slice_index_or plans (e - 1) o.first
 
 abbrev pub record_at : Sight → ℕ → Journey
-record_at s id = unwrap_or (s.packet id) (fresh id 0 0 0)
+record_at s id = unwrap_or (s.packet id) (fresh id 0 0 0 0)
 
 abbrev pub is_full : Setting → Sight → ℕ → Bool
 is_full o s c = nat_le o.capacity (length (s.waiting c))
@@ -94,7 +94,7 @@ injects o s source dest =
     if not (nat_lt source (nodes_of o) && nat_lt dest (nodes_of o)) then Err NoNode
     else if nat_le o.max_packets s.injected then Err TooManyPackets
     else if is_full o s (into o source Inbox) then Err InboxFull
-    else Ok (DidInject s.injected s.learnt source dest)
+    else Ok (DidInject s.injected s.learnt source dest (hop_room o.restamps (nodes_of o)))
 
 abbrev pub learns : Sight → ℕ → Result Entry Refused
 learns s e = if (e == 0) || nat_lt (newest s).current e then Err NoEpoch else Ok (DidLearn e)

@@ -74,7 +74,7 @@ acts_ahead n (InHand u (Link l)) made = n - made
 acts_ahead n Ended made = 0
 
 abbrev pub hops_made : ℕ → List Journey → ℕ → ℕ
-hops_made floor records id = made_of floor (slice_index_or records id (fresh id 0 0 0))
+hops_made floor records id = made_of floor (slice_index_or records id (fresh id 0 0 0 0))
 
 abbrev pub before : (s : State) → IsState s → ℕ → ℕ
 before s ok id = acts_ahead (nodes_of s.opening) (ok.place id) (hops_made (floor_of s) s.records id)

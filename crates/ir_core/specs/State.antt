@@ -9,7 +9,7 @@ use Rattle.ir_core.specs.declared.event.Refused.{Refused}
 use Rattle.ir_core.specs.declared.event.Way.{Way}
 use Rattle.ir_core.specs.declared.event.Way.TheVariants.{Inbox, Link}
 use Rattle.ir_core.specs.declared.board.Board.{Board}
-use Rattle.ir_core.specs.Journey.{Journey, segments, present, stamp_of}
+use Rattle.ir_core.specs.Journey.{Journey, hop_room, segments, present, stamp_of}
 use Rattle.ir_core.specs.declared.packet.Held.{Held}
 use Rattle.ir_core.specs.declared.packet.Fate.{Fate}
 use Rattle.ir_core.specs.declared.packet.Fate.TheVariants.{Delivered, Retired, Down, Full, Left}
@@ -60,8 +60,8 @@ sent_on o channels (NoRoom h) id = channels
 
 -- the world after one more entry
 abbrev pub after : State → Entry → State
-after s (DidInject id e source dest) =
-    record s { channels = put_into s.channels (into s.opening source Inbox) id; records = s.records ++ fresh id e source dest ∷ [] }
+after s (DidInject id e source dest room) =
+    record s { channels = put_into s.channels (into s.opening source Inbox) id; records = s.records ++ fresh id e source dest room ∷ [] }
 after s (DidLearn e) = record s { learnt = max s.learnt e }
 after s (DidTake u way id) =
     record s { channels = taken_from s.channels (into s.opening u way); hands = slice_set s.hands u (Some (record { id = id; way = way })) }
@@ -70,7 +70,7 @@ after s (DidAct u id way restamp v) =
     record s {
       hands = slice_set s.hands u None;
       channels = sent_on s.opening s.channels v id;
-      records = slice_set s.records id (ruled u way restamp v (slice_index_or s.records id (fresh id 0 0 0)));
+      records = slice_set s.records id (ruled u way restamp v (slice_index_or s.records id (fresh id 0 0 0 0)));
     }
 after s (DidChange b) = record s { boards = s.boards ++ b ∷ [] }
 after s (DidInstall e t b) = record s { boards = s.boards ++ b ∷ []; plans = s.plans ++ t ∷ [] }
@@ -126,13 +126,14 @@ IsNew r (InHand u Inbox) = r.restamps ≡ []
 IsNew r (InHand u (Link l)) = Unit {0}
 IsNew r Ended = Unit {0}
 
--- A packet's record is right: its segments follow the tables of their epochs, which rise, and each restamp stands at a
--- place of its own.
+-- A packet's record is right: its segments follow the tables of their epochs, which rise, each restamp stands at a place
+-- of its own, and its room is that of the network and of the restamps that are allowed.
 pub record IsRouted (o : Setting) (plans : List Scheme) (r : Journey) : Type 0 where
   pub few : length r.restamps ≤ o.restamps
   pub places : ArePlaces (length r.hops) (reverse r.restamps)
   pub rising : AreRising (segments r)
   pub each : AllByRecursion (IsStretch o plans) (segments r)
+  pub room : r.room ≡ hop_room o.restamps (nodes_of o)
 
 -- and its present segment fits the place where the packet is
 pub record IsPacket (o : Setting) (plans : List Scheme) (r : Journey) (place : Place) : Type 0 where

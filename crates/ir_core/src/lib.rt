@@ -27,7 +27,7 @@ pub use event::{Action, Event, OpenError, Refused, Reply, Ruling, Step, Verdict,
 pub use ir_model::{Hop, Kind};
 pub use laws::{epochs_of_installs, without_restamps};
 pub use opening::{Opening, open_refusal};
-pub use packet::{Fate, Held, Record, Restamp};
+pub use packet::{Fate, Held, Record, Restamp, hop_room};
 pub use planning::{BuildError, plan_over, plan_up};
 pub use run::{Played, play};
 pub use verdict::{decide, judge};
@@ -41,9 +41,6 @@ pub const MAX_LINKS: usize = 8_192;
 
 /// The most restamps of a packet that a network may allow.
 pub const MAX_RESTAMPS: usize = 3;
-
-/// The most hops of a packet: a walk of each epoch, each but the first from the last hop of the one before.
-pub const MAX_HOPS: usize = (MAX_RESTAMPS + 1) * (MAX_NODES - 1) + 1;
 
 /// The most packets that a channel or an inbox holds.
 pub const MAX_CAPACITY: usize = 1_024;

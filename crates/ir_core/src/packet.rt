@@ -1,7 +1,8 @@
+ghost use Rattle.ir_core.specs.Journey.{hop_room};
 ghost use Rattle.std.specs.Prelude.{◌≡◌, ℕ, ◌<◌, [], ◌∷◌, ◌++◌, length, Some, IfOk};
 
+use crate::MAX_RESTAMPS;
 use crate::event::{Ruling, Verdict, Way};
-use crate::{MAX_HOPS, MAX_RESTAMPS};
 use std::alloc::{AllocError, Global};
 use std::marker::Model;
 
@@ -26,8 +27,16 @@ pub struct Restamp {
     pub from: usize,
 }
 
-/// A packet's record. `epoch` is its first stamp; its hops begin with the source. The hops and the restamps have room for
-/// all that a packet can have.
+/// The most hops of a packet of a network that allows it so many restamps, with so many nodes: a walk of each epoch, each
+/// but the first from the last hop of the one before.
+pub fn hop_room(restamps: u8, nodes: u16) -> usize
+    ensures { result ≡ hop_room restamps nodes }
+{
+    (restamps as usize + 1) * (nodes as usize).saturating_sub(1) + 1
+}
+
+/// A packet's record. `epoch` is its first stamp; its hops begin with the source. There is `room` for so many hops, and for
+/// all restamps that a packet can have.
 #[derive(Drop)]
 pub struct Record {
     pub id: u32,
@@ -37,6 +46,7 @@ pub struct Record {
     pub hops: Vec<u16>,
     pub restamps: Vec<Restamp>,
     pub fate: Fate,
+    pub room: usize,
 }
 
 impl Model for Record {
@@ -59,21 +69,23 @@ pub struct Held {
 }
 
 impl Record {
-    ghost use Rattle.ir_core.specs.declared.TheConstants.{MAX_HOPS, MAX_RESTAMPS};
+    ghost use Rattle.ir_core.specs.declared.TheConstants.{MAX_RESTAMPS};
     ghost use Rattle.ir_core.specs.Journey.{stamp_of};
     ghost use Rattle.ir_core.specs.Entry.{restamped, ruled, fresh};
+    ghost use Rattle.ir_core.specs.Recorded.{HasRoomHere};
 
-    /// The record of a new packet.
+    /// The record of a new packet, with room for so many hops.
     pub fn start(
         alloc: Global,
         id: u32,
         epoch: u32,
         source: u16,
         dest: u16,
+        room: usize,
     ) -> Result<Record, AllocError>
-        ensures { IfOk result (λ r. r ≡ fresh id epoch source dest) }
+        ensures { IfOk result (λ r. r ≡ fresh id epoch source dest room) }
     {
-        let mut hops = Vec::with_capacity(alloc, MAX_HOPS)?;
+        let mut hops = Vec::with_capacity(alloc, room)?;
         let restamps = Vec::with_capacity(alloc, MAX_RESTAMPS)?;
         hops.push(source)?;
         Ok(Record {
@@ -84,6 +96,7 @@ impl Record {
             hops,
             restamps,
             fate: Fate::Left,
+            room,
         })
     }
 
@@ -114,7 +127,7 @@ impl Record {
     /// What an Act of a node leaves in the packet's record: the node as a hop, unless the packet was taken from the inbox
     /// or dropped by the first two lines of the verdict; the restamp, if it was restamped; and the verdict's fate.
     pub fn act(&mut self, node: u16, way: Way, ruling: Ruling)
-        requires hops { length self.old.hops < MAX_HOPS }
+        requires hops { HasRoomHere way self.old }
         requires restamps { (e : ℕ) → ruling.restamp ≡ Some e → length self.old.restamps < MAX_RESTAMPS }
         ensures { self.new ≡ ruled node way ruling.restamp ruling.verdict self.old }
     {
@@ -131,7 +144,7 @@ impl Record {
 
     /// The node as a hop, if the packet came by a link, and a new segment that begins there.
     pub fn restamp(&mut self, node: u16, way: Way, epoch: u32)
-        requires hops { length self.old.hops < MAX_HOPS }
+        requires hops { HasRoomHere way self.old }
         requires restamps { length self.old.restamps < MAX_RESTAMPS }
         ensures { self.new ≡ restamped node way epoch self.old }
     {
@@ -146,7 +159,7 @@ impl Record {
     }
 
     fn visit(&mut self, node: u16)
-        requires { length self.old.hops < MAX_HOPS }
+        requires { length self.old.hops < self.old.room }
         ensures { self.new ≡ record self.old { hops = self.old.hops ++ node ∷ [] } }
     {
         match self.hops.push(node) {

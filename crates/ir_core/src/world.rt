@@ -9,7 +9,7 @@ ghost use Rattle.ir_core.specs.Queue.{ids_of, room_of};
 use crate::board::Board;
 use crate::event::{Event, OpenError, Refused, Reply, Ruling, Step, Verdict, Way};
 use crate::opening::{Opening, open_refusal};
-use crate::packet::{Held, Record};
+use crate::packet::{Held, Record, hop_room};
 use crate::planning::{BuildError, plan_over, plan_up};
 use crate::queue::Queue;
 use crate::verdict::judge;
@@ -290,7 +290,8 @@ impl World {
             return Err(Refused::TooManyPackets);
         }
         let id = self.records.len() as u32;
-        let Ok(record) = Record::start(self.alloc, id, self.learnt, source, dest) else {
+        let room = hop_room(self.restamps, nodes as u16);
+        let Ok(record) = Record::start(self.alloc, id, self.learnt, source, dest, room) else {
             return Err(Refused::NoMemory);
         };
         let Ok(()) = self.records.reserve(1) else {

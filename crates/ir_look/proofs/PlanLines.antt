@@ -1,11 +1,13 @@
 -- The rows of a plan and their text.
-use Rattle.std.proofs.Common.{◌≡◌, ◌≢◌, ℕ, zero, suc, ◌+◌, ◌<◌, List, [], ◌∷◌, ◌++◌, length, take, get_or, Option, Some, None, option_map, slice_index, ⊎_elim, refl, sym, ap, subst, ◌∙◌, arith, append_assoc, flat_map}
+use Rattle.std.proofs.Common.{◌≡◌, ◌≢◌, ℕ, zero, suc, ◌+◌, ◌<◌, List, [], ◌∷◌, ◌++◌, length, take, get_or, Option, Some, None, option_map, decimal, slice_index, ⊎_elim, refl, sym, ap, subst, ◌∙◌, arith, append_assoc, flat_map}
 use Rattle.std.proofs.lemmas.List.{append-nil, length-map, get_or-map, take_more}
 use Rattle.std.proofs.lemmas.Grind.{flat_map-append}
 use Rattle.std.proofs.lemmas.Option.{slice_get_within}
 use Rattle.std.specs.List.{range_with_len}
+use Rattle.std.specs.Option.{option_map_or}
 use Rattle.ir_model.specs.declared.Hop.{Hop}
 use Rattle.ir_model.specs.Network.{Network, node_count, ports_of, port_at}
+use Rattle.ir_model.specs.Graph.{Name}
 use Rattle.ir_model.specs.Table.{IsPrescribedWalk}
 use Rattle.ir_model.specs.Row.{Start, labels}
 use Rattle.ir_model.specs.Compiled.{port_to, IsCanonical, IsStart}
@@ -14,7 +16,10 @@ use Rattle.ir_model.proofs.Walks.{port_facts}
 use Rattle.ir_model.proofs.Rows.{no_start}
 use Rattle.std.proofs.lemmas.List.Elements.{Contains-get_or}
 use Rattle.ir_trace.specs.Rows.{spaced}
+use Rattle.ir_trace.specs.Written.{name_at}
 use Rattle.ir_trace.proofs.WrittenRows.{join_spaced}
+use Rattle.ir_look.specs.PlanText.{node_by, start_words}
+use Rattle.ir_look.specs.Words.{line_text}
 
 -- the hop that an option holds, from its node
 hop_from : (found : Option Hop) (y : ℕ) → option_map (λ hop. hop.node) found ≡ Some y → (hop : Hop) × (found ≡ Some hop)
@@ -72,17 +77,36 @@ leads s is u k u_in k_in =
 -- words one after another, and as a line
 pub ruleset words_of_a_line = (append_assoc, join_spaced)
 
+pieces : (w a b c : List ℕ) → ((w ++ a) ++ b) ++ c ≡ w ++ (a ++ (b ++ (c ++ [])))
+pieces w a b c = simp (append_assoc, append-nil)
+
+-- the words of the first line
+pub head_line : (w a b c : List ℕ) → (((w ++ spaced a) ++ spaced b) ++ spaced c) ++ 10 ∷ [] ≡ line_text (w ∷ a ∷ b ∷ c ∷ [])
+head_line w a b c = ap (λ t. t ++ 10 ∷ []) (pieces w (spaced a) (spaced b) (spaced c) ∙ sym (join_spaced w (a ∷ b ∷ c ∷ [])))
+
+-- the words of a node's line
+pub node_line : (w a : List ℕ) (rest : List (List ℕ)) → ((w ++ spaced a) ++ flat_map spaced rest) ++ 10 ∷ [] ≡ line_text (w ∷ a ∷ rest)
+node_line w a rest = sym (ap (λ t. t ++ 10 ∷ []) (join_spaced w (a ∷ rest)) ∙ ap (λ t. t ++ 10 ∷ []) (sym (append_assoc w (spaced a) (flat_map spaced rest))))
+
+-- the words of a start
+pub start_line : (nodes : List Name) (net : Network) (u : ℕ) (start : Start) (label port : ℕ) (hop : Hop) (name : List ℕ) → label ≡ start.label → port ≡ start.port → port_at net u port ≡ Some hop → name ≡ name_at nodes hop.node
+    → spaced (decimal label) ++ spaced name ≡ flat_map spaced (start_words nodes net u start)
+start_line nodes net u start label port hop name its_label its_port leads_to named =
+    let at : port_at net u start.port ≡ Some hop = subst (λ (p : ℕ). port_at net u p ≡ Some hop) its_port leads_to in
+    let node : node_by net u start.port ≡ hop.node = ap (λ (o : Option Hop). option_map_or (λ h. h.node) o 0) at in
+    ap (λ l. spaced (decimal l) ++ spaced name) its_label
+    ∙ ap (λ t. spaced (decimal start.label) ++ spaced t) (named ∙ ap (name_at nodes) (sym node))
+    ∙ ap (λ t. spaced (decimal start.label) ++ t) (sym (append-nil (spaced (name_at nodes (node_by net u start.port)))))
+
 -- one more start of a row
 pub starts_more : (words : Start → List (List ℕ)) (row : List Start) (i : ℕ) → i < length row
-    → (old : List ℕ) → (old ++ flat_map spaced (flat_map words (take i row))) ++ flat_map spaced (words (get_or row i no_start)) ≡ old ++ flat_map spaced (flat_map words (take (i + 1) row))
-starts_more words row i h old =
-    append_assoc old (flat_map spaced (flat_map words (take i row))) (flat_map spaced (words (get_or row i no_start)))
-    ∙ ap (λ t. old ++ t)
-    (sym (flat_map-append spaced (flat_map words (take i row)) (words (get_or row i no_start)))
+    → flat_map spaced (flat_map words (take i row)) ++ flat_map spaced (words (get_or row i no_start)) ≡ flat_map spaced (flat_map words (take (i + 1) row))
+starts_more words row i h =
+    sym (flat_map-append spaced (flat_map words (take i row)) (words (get_or row i no_start)))
     ∙ ap (flat_map spaced)
     (ap (λ t. flat_map words (take i row) ++ t) (sym (append-nil (words (get_or row i no_start))))
     ∙ sym (flat_map-append words (take i row) (get_or row i no_start ∷ []))
-    ∙ ap (flat_map words) (sym (take_more row i no_start h))))
+    ∙ ap (flat_map words) (sym (take_more row i no_start h)))
 
 pub range_more : (a n : ℕ) → range_with_len a (n + 1) ≡ range_with_len a n ++ (a + n) ∷ []
 range_more a zero = ap (λ (k : ℕ). k ∷ []) (omega arith)

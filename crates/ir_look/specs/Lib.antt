@@ -8,3 +8,4 @@ pub mod Drawing
 -- what bodies use
 pub mod Before
 pub mod Figures
+pub mod Held

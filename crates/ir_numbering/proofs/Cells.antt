@@ -1,10 +1,11 @@
 -- What a tree table holds, place by place.
-use Rattle.std.proofs.Common.{◌≡◌, ◌≢◌, ℕ, ◌+◌, ◌*◌, ◌<◌, List, [], ◌∷◌, ◌++◌, length, get_or, refl, ap, sym, ◌∙◌, subst, inl, inr, arith, map, Option, Some, None}
+use Rattle.std.proofs.Common.{◌≡◌, ◌≢◌, ℕ, zero, suc, ◌+◌, ◌*◌, ◌<◌, ◌≤◌, List, [], ◌∷◌, ◌++◌, length, get_or, refl, ap, sym, ◌∙◌, subst, inl, inr, arith, map, Option, Some, None}
 use Rattle.std.specs.Prelude.{slice_index, slice_index_or, IsSomeAnd}
 use Rattle.std.proofs.lemmas.Bool.{cases_eq}
 use Rattle.std.proofs.lemmas.List.{get_or-map, length-map, get_or_append_left, get_or-append-add, length-append, length_push}
 use Rattle.std.proofs.lemmas.Nat.{mul-add-lt}
 use Rattle.ir_model.specs.Network.{Network, node_count, IsNetwork}
+use Rattle.ir_model.specs.Walk.{Linked}
 use Rattle.ir_model.specs.Numbering.{neighbors_of, IsDepthFirst}
 use Rattle.ir_model.specs.Subtree.{IsUnder, itself, child, IsNested}
 use Rattle.ir_model.specs.Scheme.{AreLabels}
@@ -12,6 +13,7 @@ use Rattle.ir_numbering.specs.Numbers.{IsPortTo, IsParentPort}
 use Rattle.ir_numbering.specs.Cells.{IsTreeCell, AreTreeCells, AreTreeRows}
 use Rattle.ir_numbering.proofs.Lists.{each_push}
 use Rattle.ir_numbering.proofs.Nested.{depth_first_nests, under_above, parent_under, same_place, same_son}
+use Rattle.ir_numbering.proofs.Ways.{parent_linked}
 
 module _ (net : Network) (ok : IsNetwork net) (order parents : List ℕ)
     (is : IsDepthFirst (neighbors_of net) (node_count net) (slice_index order 0) order parents) (a : ℕ) (own : a < node_count net) where
@@ -26,7 +28,8 @@ module _ (net : Network) (ok : IsNetwork net) (order parents : List ℕ)
     father = λ off. absurd (off itself);
   }
 
-  parent_port_to : (up : Option ℕ) → IsParentPort net order parents (slice_index order a) up → 0 < a
+  -- where the port that a place holds for its parent leads
+  pub parent_port_to : (up : Option ℕ) → IsParentPort net order parents (slice_index order a) up → 0 < a
       → (p : ℕ) × (up ≡ Some p) × IsPortTo net (slice_index order a) p (slice_index order (slice_index parents a))
   parent_port_to up port from =
       let every = is.every in
@@ -67,6 +70,33 @@ module _ (net : Network) (ok : IsNetwork net) (order parents : List ℕ)
     son = λ c from' h' e u. cell.son c from' h' e (parent_under (node_count net) parents nest c u (λ f. ne' (subst (λ (x : ℕ). slice_index parents x ≡ a) (sym f) e)));
     father = λ off. cell.father (λ u. off (child i from u));
   }
+
+  -- a place has its cell where those before it have theirs
+  cell_by : (up : Option ℕ) → IsParentPort net order parents (slice_index order a) up → (i : ℕ) → i < node_count net
+      → ((j : ℕ) → j < i → (port : Option ℕ) × IsTreeCell net order parents a j port) → (port : Option ℕ) × IsTreeCell net order parents a i port
+  cell_by up port i h before =
+      elim (cases_eq i a) [
+        | inl e ↦ (None, subst (λ (k : ℕ). IsTreeCell net order parents a k None) (sym e) own_cell)
+        | inr ne ↦
+            elim (cases_eq i 0) [
+              | inl z ↦ (up, subst (λ (k : ℕ). IsTreeCell net order parents a k up) (sym z) (root_cell up port (omega arith)))
+              | inr nz ↦
+                  elim (cases_eq (slice_index parents i) a) [
+                    | inl e ↦
+                        let l : Linked net (slice_index order a) (slice_index order i) =
+                        subst (λ (k : ℕ). Linked net (slice_index order k) (slice_index order i)) e (parent_linked net ok (slice_index order 0) order parents is i (omega arith) h) in
+                        (Some l.0, son_cell i (omega arith) h e (Some l.0) (l.1, l.2, l.3))
+                    | inr ne' ↦
+                        let low = nest.lower i (omega arith) h in
+                        let c = before (slice_index parents i) low in
+                        (c.0, other_cell i (omega arith) h ne ne' c.0 c.1)
+                  ]
+            ]
+      ]
+
+  cell_of : (up : Option ℕ) → IsParentPort net order parents (slice_index order a) up → (fuel i : ℕ) → i < fuel → i < node_count net → (port : Option ℕ) × IsTreeCell net order parents a i port
+  cell_of up port zero i f h = absurd (omega arith)
+  cell_of up port (suc fuel) i f h = cell_by up port i h (λ j lt. cell_of up port fuel j (omega arith) (omega arith))
 
 -- a row by label, node by node
 module _ (net : Network) (order parents labels : List ℕ) (l : AreLabels (node_count net) order labels) where
@@ -109,3 +139,14 @@ cell_added net order parents a i ports port cells cell =
       every = omega arith;
       each = each_push (IsTreeCell net order parents a) ports port None i every cells.each cell;
     }
+
+-- there are ports by place for each node
+pub cells_of : (net : Network) (ok : IsNetwork net) (order parents : List ℕ) → IsDepthFirst (neighbors_of net) (node_count net) (slice_index order 0) order parents
+    → (a : ℕ) → a < node_count net → (up : Option ℕ) → IsParentPort net order parents (slice_index order a) up
+    → (count : ℕ) → count ≤ node_count net → (ports : List (Option ℕ)) × AreTreeCells net order parents a count ports
+cells_of net ok order parents is a own up port zero h = ([], record { every = refl; each = λ i lt. absurd (omega (arith, lt)) })
+cells_of net ok order parents is a own up port (suc count) h =
+    let before = cells_of net ok order parents is a own up port count (omega arith) in
+    let cell = cell_of net ok order parents is a own up port (suc count) count (omega arith) (omega arith) in
+    let e : count + 1 ≡ suc count = omega arith in
+    (before.0 ++ cell.0 ∷ [], subst (λ (k : ℕ). AreTreeCells net order parents a k (before.0 ++ cell.0 ∷ [])) e (cell_added net order parents a count before.0 cell.0 before.1 cell.1))

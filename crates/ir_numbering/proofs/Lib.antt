@@ -6,7 +6,9 @@ pub mod Ways
 pub mod ParentPorts
 pub mod Cells
 pub mod Routes
+pub mod CellPorts
 pub mod TreePorts
 pub mod TreeRow
 pub mod Subtrees
 pub mod Placing
+pub mod Sons

@@ -130,6 +130,14 @@ module _ (n : ℕ) (parents : List ℕ) (nest : IsNested n parents) (a : ℕ) wh
   parent_under itself ne = absurd (ne refl)
   parent_under (child d from u) ne = u
 
+  -- the parents of the places of a subtree, but of the first, stand in it
+  pub parents_inside : (size : ℕ) → IsSubtree n parents a size → (k : ℕ) → a < k → k < a + size → a ≤ slice_index parents k
+  parents_inside size sub k from to =
+      let within = sub.within in
+      let u = (sub.places k (omega arith)).1 (omega arith, to) in
+      let low = nest.lower k (omega arith) (omega arith) in
+      under_above (parent_under u (omega arith)) (omega arith)
+
   pub under_cases : (fuel d : ℕ) → d ≤ fuel → d < n → IsUnder parents a d ⊎ (IsUnder parents a d → ⊥)
   under_cases zero d f h =
       elim (cases_eq d a) [

@@ -10,7 +10,7 @@ use Rattle.ir_model.specs.Network.{Network, node_count, IsNetwork}
 use Rattle.ir_model.specs.Numbering.{neighbors_of, IsFirstOutside, NoneOutside, IsNext}
 use Rattle.ir_model.specs.Walk.{LeadsTo, IsWalk}
 use Rattle.ir_model.specs.Scheme.{AreLabels}
-use Rattle.ir_numbering.specs.Search.{IsFirstUnmarked, AllMarked}
+use Rattle.ir_numbering.specs.Search.{IsFirstUnmarked, AllMarked, ArePassed}
 use Rattle.ir_numbering.specs.Numbers.{IsListing}
 use Rattle.ir_numbering.proofs.Neighbors.{neighbor_at, neighbors_below}
 
@@ -253,6 +253,13 @@ marks_more n order marks m x label =
 
 pub marks_one : (n root : ℕ) → root < n → IsMarked n (root ∷ []) (set (replicate n false) root true)
 marks_one n root label = marks_more n [] (replicate n false) (record { every = length-replicate n false; seen = λ v h is. absurd (false≢true (sym (get_or-replicate n v false false h) ∙ is)); told = λ v w. absurd (omega (arith, w.1)) }) root label
+
+-- a search that begins has passed no port
+pub passed_none : (net : Network) (marks : List Bool) → ArePassed net marks (replicate (node_count net) 0)
+passed_none net marks = record {
+  every = length-replicate (node_count net) 0;
+  each = λ u h k lt. let e : slice_index (replicate (node_count net) 0) u ≡ 0 = get_or-replicate (node_count net) u 0 0 h in absurd (omega arith);
+}
 
 -- the node that was read at the top
 module _ (net : Network) (ok : IsNetwork net) (root : ℕ) (order parents rest : List ℕ) (marks : List Bool) (stack : List ℕ) (top node : ℕ)

@@ -1,20 +1,20 @@
 -- What a tree table holds at a node, by label.
 use Rattle.std.proofs.Common.{◌≡◌, ◌≢◌, ℕ, suc, ◌<◌, List, [], ◌∷◌, length, refl, ap, sym, ◌∙◌, subst, inl, inr, arith, map, Option, Some, None}
-use Rattle.std.specs.Prelude.{slice_index, All, unwrap_or}
+use Rattle.std.specs.Prelude.{slice_index, All}
 use Rattle.std.proofs.lemmas.Bool.{cases_eq}
-use Rattle.std.proofs.lemmas.Option.{slice_get_within}
-use Rattle.std.proofs.lemmas.List.{get_or-map}
+use Rattle.std.proofs.lemmas.List.{get_or-map, length-map}
 use Rattle.ir_model.specs.declared.Hop.{Hop}
-use Rattle.ir_model.specs.Network.{Network, node_count, ports_of, port_at, IsNetwork}
+use Rattle.ir_model.specs.Network.{Network, node_count, port_at, IsNetwork}
 use Rattle.ir_model.specs.Numbering.{neighbors_of, IsDepthFirst}
 use Rattle.ir_model.specs.Subtree.{IsUnder, itself, child, IsNested, IsTreePorts}
 use Rattle.ir_model.specs.Scheme.{AreLabels}
 use Rattle.ir_model.specs.Compiled.{port_to}
 use Rattle.ir_model.specs.Tree.{IsTreeStep, LeadsInTree, IsTreePath, IsTreeTable}
 use Rattle.ir_numbering.specs.Numbers.{IsPortTo}
-use Rattle.ir_numbering.specs.Cells.{IsTreeCell}
-use Rattle.ir_numbering.proofs.Nested.{depth_first_nests, under_above, all_under, parent_under, same_place, same_son}
+use Rattle.ir_numbering.specs.Cells.{IsTreeCell, AreTreeCells}
+use Rattle.ir_numbering.proofs.Nested.{depth_first_nests, under_above, parent_under, same_place, same_son}
 use Rattle.ir_numbering.proofs.Ways.{under_through}
+use Rattle.ir_numbering.proofs.CellPorts.{cell_ports}
 
 module _ (net : Network) (order parents labels : List ℕ) (root : ℕ)
     (is : IsDepthFirst (neighbors_of net) (node_count net) root order parents) (l : AreLabels (node_count net) order labels) where
@@ -155,105 +155,29 @@ module _ (net : Network) (order parents labels : List ℕ) (root : ℕ)
             ]
 
     module _ (ok : IsNetwork net) (u : ℕ) (u_in : u < node_count net) where
-      own_in : slice_index labels u < node_count net
-      own_in = l.label u u_in
-
       -- the port to a label
       pub port_read : (d : ℕ) → d < node_count net → port_to (map (table u) order) d ≡ table u (slice_index order d)
       port_read d h = let every = is.every in get_or-map (table u) order d 0 None (omega arith)
 
-      cell_at : (d : ℕ) → d < node_count net → IsTreeCell net order parents (slice_index labels u) d (table u (slice_index order d))
-      cell_at d h =
-          subst (λ (x : ℕ). IsTreeCell net order parents (slice_index labels u) x (table u (slice_index order d))) (l.back d h)
-          (tree_cell u (slice_index order d) u_in (l.node d h))
-
-      -- two ports of u to one node are one
-      one_port : (p q v w : ℕ) → v ≡ w → IsPortTo net (slice_index order (slice_index labels u)) p v → IsPortTo net (slice_index order (slice_index labels u)) q w → p ≡ q
-      one_port p q v w e a b = ok.single (slice_index order (slice_index labels u)) p q a.0 b.0 a.1 b.1 (a.2 ∙ (e ∙ sym b.2))
-
-      -- one port of u leads to one node
-      one_node : (p q v w : ℕ) → p ≡ q → IsPortTo net (slice_index order (slice_index labels u)) p v → IsPortTo net (slice_index order (slice_index labels u)) q w → v ≡ w
-      one_node p q v w e a b =
-          let there : port_at net (slice_index order (slice_index labels u)) q ≡ Some a.0 = subst (λ (x : ℕ). port_at net (slice_index order (slice_index labels u)) x ≡ Some a.0) e a.1 in
-          let hops : a.0 ≡ b.0 = some_hop a.0 b.0 (sym there ∙ b.1) in
-          sym a.2 ∙ (ap (λ (h : Hop). h.node) hops ∙ b.2)
-        where
-          some_hop : (x y : Hop) → ◌≡◌ {A = Option Hop} (Some x) (Some y) → x ≡ y
-          some_hop x y f = cc
-
-      out : ℕ → ℕ
-      out c = unwrap_or (table u (slice_index order c)) 0
-
-      son_port : (c : ℕ) → 0 < c → c < node_count net → slice_index parents c ≡ slice_index labels u
-          → (table u (slice_index order c) ≡ Some (out c)) × IsPortTo net (slice_index order (slice_index labels u)) (out c) (slice_index order c)
-      unfolding out
-      son_port c from h e =
-          let s = (cell_at c h).son c from h e itself in
-          rw s.1 (refl, s.2)
-
-      to_sons : (c d : ℕ) → 0 < c → slice_index parents c ≡ slice_index labels u → d < node_count net → IsUnder parents c d → port_to (map (table u) order) d ≡ Some (out c)
-      to_sons c d from e h v =
-          let le = under_above (node_count net) parents nest c v h in
-          let h' : c < node_count net = omega arith in
-          let s = (cell_at d h).son c from h' e v in
-          let t = son_port c from h' e in
-          port_read d h ∙ (s.1 ∙ ap Some (one_port s.0 (out c) (slice_index order c) (slice_index order c) refl s.2 t.1))
-
-      sons_apart : (c e : ℕ) → 0 < c → 0 < e → slice_index parents c ≡ slice_index labels u → slice_index parents e ≡ slice_index labels u → c < node_count net → e < node_count net → out c ≡ out e → c ≡ e
-      sons_apart c e from from' p p' h h' eq =
-          let every = is.every in
-          same c e h (omega arith) (one_node (out c) (out e) (slice_index order c) (slice_index order e) eq (son_port c from h p).1 (son_port e from' h' p').1)
-
-      -- the port to the parent, where there is one
-      up_port : 0 < slice_index labels u → (up : ℕ) × IsPortTo net (slice_index order (slice_index labels u)) up (slice_index order (slice_index parents (slice_index labels u)))
-          × ((d : ℕ) → d < node_count net → (IsUnder parents (slice_index labels u) d → ⊥) → port_to (map (table u) order) d ≡ Some up)
-      up_port from =
-          let a = slice_index labels u in
-          let low = nest.lower a from own_in in
-          let outside : IsUnder parents a (slice_index parents a) → ⊥ = λ v. let le = under_above (node_count net) parents nest a v (omega arith) in omega arith in
-          let f = (cell_at (slice_index parents a) (omega (arith, own_in))).father outside in
-          (f.0, f.2, λ d h off. let g = (cell_at d h).father off in port_read d h ∙ (g.1 ∙ ap Some (one_port g.0 f.0 _ _ refl g.2 f.2)))
+      -- the ports of a node by label
+      table_cells : AreTreeCells net order parents (slice_index labels u) (node_count net) (map (table u) order)
+      table_cells = record {
+        every = length-map order (table u) ∙ is.every;
+        each = λ d h.
+            subst (λ (port : Option ℕ). IsTreeCell net order parents (slice_index labels u) d port) (sym (port_read d h))
+            (subst (λ (x : ℕ). IsTreeCell net order parents (slice_index labels u) x (table u (slice_index order d))) (l.back d h)
+            (tree_cell u (slice_index order d) u_in (l.node d h)));
+      }
 
       pub tree_ports : (out : ℕ → ℕ) × (up : ℕ) × IsTreePorts (node_count net) (slice_index labels u) parents (map (table u) order) out up
           × ((c : ℕ) → 0 < c → c < node_count net → slice_index parents c ≡ slice_index labels u → IsPortTo net u (out c) (slice_index order c))
           × (0 < slice_index labels u → IsPortTo net u up (slice_index order (slice_index parents (slice_index labels u))))
       tree_ports =
           let here = l.there u u_in in
-          let sons_to : (c : ℕ) → 0 < c → c < node_count net → slice_index parents c ≡ slice_index labels u → IsPortTo net u (out c) (slice_index order c) = λ c from h e.
-          subst (λ (x : ℕ). IsPortTo net x (out c) (slice_index order c)) here (son_port c from h e).1 in
-          elim (cases_eq (slice_index labels u) 0) [
-            | inl z ↦ (
-              out,
-              length (ports_of net u),
-              record {
-                sons = to_sons;
-                father = λ d h off. absurd (off (all_under (node_count net) parents nest (slice_index labels u) z d d (omega arith) h));
-                apart = sons_apart;
-                not_up = λ c from e h eq.
-                    let s = sons_to c from h e in
-                    let within = slice_get_within (ports_of net u) (out c) s.0 s.1 in
-                    omega arith;
-              },
-              sons_to,
-              λ from. absurd (omega arith),
-            )
-            | inr nz ↦
-                let up = up_port (omega arith) in (
-                  out,
-                  up.0,
-                  record {
-                    sons = to_sons;
-                    father = up.2;
-                    apart = sons_apart;
-                    not_up = λ c from e h eq.
-                        let every = is.every in
-                        let low = nest.lower (slice_index labels u) (omega arith) own_in in
-                        let low' = nest.lower c from h in
-                        let nodes = one_node (out c) up.0 _ _ eq (son_port c from h e).1 up.1 in
-                        let bad = same c (slice_index parents (slice_index labels u)) h (omega arith) nodes in
-                        omega arith;
-                  },
-                  sons_to,
-                  λ from. subst (λ (x : ℕ). IsPortTo net x up.0 (slice_index order (slice_index parents (slice_index labels u)))) here up.1,
-                )
-          ]
+          let ports = cell_ports net ok order parents root is (slice_index labels u) (l.label u u_in) (map (table u) order) table_cells in (
+            ports.0,
+            ports.1,
+            ports.2,
+            λ c from h e. subst (λ (x : ℕ). IsPortTo net x (ports.0 c) (slice_index order c)) here (ports.3 c from h e),
+            λ from. subst (λ (x : ℕ). IsPortTo net x ports.1 (slice_index order (slice_index parents (slice_index labels u)))) here (ports.4 from),
+          )

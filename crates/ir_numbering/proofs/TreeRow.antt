@@ -161,14 +161,25 @@ module _ (n a size : ℕ) (parents : List ℕ) (nest : IsNested n parents) (own 
               ]
         ]
 
+    -- the end of the subtree is a label of those that go to the father
+    pub end_is_out : 0 < a → (label_after n (a + size - 1) < n) × (IsUnder parents a (label_after n (a + size - 1)) → ⊥)
+    end_is_out from =
+        let size1 = own_under in
+        let fits = sub.within in
+        let end : a + size - 1 < n = omega arith in
+        let label : label_after n (a + size - 1) < n = grind (arith, after_cases n (a + size - 1) end) in (
+          label,
+          λ u. let r = (sub.places (label_after n (a + size - 1)) label).0 u in let low = r.0 in let high = r.1 in grind (arith, after_cases n (a + size - 1) end),
+        )
+
     -- so is the end of the subtree, but at the root
     end_starts : (d : ℕ) → 0 < a → d ≡ label_after n (a + size - 1) → IsStart n a ports d
     end_starts d from e =
         let size1 = own_under in
         let fits = sub.within in
         let end : a + size - 1 < n = omega arith in
-        let label : d < n = grind (arith, after_cases n (a + size - 1) end) in
-        let off : IsUnder parents a d → ⊥ = λ u. let r = (sub.places d label).0 u in let low = r.0 in let high = r.1 in grind (arith, after_cases n (a + size - 1) end) in
+        let label : d < n = subst (λ (x : ℕ). x < n) (sym e) (end_is_out from).0 in
+        let off : IsUnder parents a d → ⊥ = subst (λ (x : ℕ). IsUnder parents a x → ⊥) (sym e) (end_is_out from).1 in
         let ne : d ≢ a = λ f. off (subst (IsUnder parents a) (sym f) itself) in
         let p = predecessor n a d in
         let p_label = predecessor_is_label n a d own label in
@@ -196,9 +207,9 @@ module _ (n a size : ℕ) (parents : List ℕ) (nest : IsNested n parents) (own 
         ]
 
     -- the starts of a node's row in a tree: its sons' labels, and the end of its subtree but at the root
+    pub tree_starts : (d : ℕ) → IsStart n a ports d ↔ (((0 < d) × (d < n) × (slice_index parents d ≡ a)) ⊎ ((0 < a) × (d ≡ label_after n (a + size - 1))))
+    tree_starts d = (tree_start_is d, λ s. elim s [ inl son ↦ son_starts d son.0 son.1 son.2 | inr end ↦ end_starts d end.0 end.1 ])
+
     pub tree_row : (row : List Start) → IsCanonical n a ports row → (d : ℕ)
         → Contains (labels row) d ↔ (((0 < d) × (d < n) × (slice_index parents d ≡ a)) ⊎ ((0 < a) × (d ≡ label_after n (a + size - 1))))
-    tree_row row canon d = (
-      λ w. tree_start_is d ((canon.starts d).0 w),
-      λ s. (canon.starts d).1 (elim s [ inl son ↦ son_starts d son.0 son.1 son.2 | inr end ↦ end_starts d end.0 end.1 ]),
-    )
+    tree_row row canon d = (λ w. (tree_starts d).0 ((canon.starts d).0 w), λ s. (canon.starts d).1 ((tree_starts d).1 s))

@@ -7,3 +7,4 @@ pub mod Laws
 pub mod Orders
 -- what bodies use
 pub mod Search
+pub mod Sizes

@@ -1,6 +1,7 @@
 -- What a search tells by its marks.
 use Rattle.std.specs.Prelude.{◌≡◌, ℕ, ◌<◌, List, Bool, true, false, length, slice_index, slice_index_or}
-use Rattle.ir_model.specs.Network.{Network}
+use Rattle.ir_model.specs.Network.{Network, node_count}
+use Rattle.ir_model.specs.Numbering.{neighbors_of}
 use Rattle.ir_model.specs.Walk.{IsWalk}
 
 -- x is the first of these nodes without a mark
@@ -11,9 +12,24 @@ pub record IsFirstUnmarked (marks : List Bool) (nodes : List ℕ) (x : ℕ) : Ty
   pub unmarked : slice_index_or marks x true ≡ false
   pub first : (k : ℕ) → k < port → slice_index_or marks (slice_index nodes k) false ≡ true
 
+-- the first so many of these nodes have marks
+abbrev pub FirstMarked : List Bool → List ℕ → ℕ → Type 0
+FirstMarked marks nodes count = (k : ℕ) → k < count → slice_index_or marks (slice_index nodes k) false ≡ true
+
 -- all these nodes have marks
 abbrev pub AllMarked : List Bool → List ℕ → Type 0
-AllMarked marks nodes = (k : ℕ) → k < length nodes → slice_index_or marks (slice_index nodes k) false ≡ true
+AllMarked marks nodes = FirstMarked marks nodes (length nodes)
+
+-- of these nodes the one at this place is the first without a mark
+pub record IsUnmarkedAt (marks : List Bool) (nodes : List ℕ) (place : ℕ) : Type 0 where
+  pub below : place < length nodes
+  pub unmarked : slice_index_or marks (slice_index nodes place) true ≡ false
+  pub first : FirstMarked marks nodes place
+
+-- of each node the first so many neighbours have marks
+pub record ArePassed (net : Network) (marks : List Bool) (passed : List ℕ) : Type 0 where
+  pub every : length passed ≡ node_count net
+  pub each : (u : ℕ) → u < node_count net → FirstMarked marks (neighbors_of net u) (slice_index passed u)
 
 -- no walk leads from u to v
 abbrev pub IsCutOff : Network → ℕ → ℕ → Type 0

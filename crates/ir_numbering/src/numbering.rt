@@ -1,10 +1,10 @@
-ghost use Rattle.std.specs.Prelude.{◌≡◌, ◌<◌, ◌≤◌, ◌↔◌, None, length, slice_index, slice_index_or, IfOk, OnOk};
+ghost use Rattle.std.specs.Prelude.{◌≡◌, ◌<◌, ◌≤◌, ◌↔◌, None, length, slice_index, slice_index_or, IfOk, IsTrue, OnOk};
 ghost use Rattle.ir_model.specs.Network.{node_count};
 ghost use Rattle.ir_model.specs.Walk.{IsConnected, IsDisconnected};
 ghost use Rattle.ir_model.specs.Numbering.{neighbors_of, IsDepthFirst};
 ghost use Rattle.ir_model.specs.Subtree.{IsSubtree};
 ghost use Rattle.ir_model.specs.Table.{port_in, IsRouted};
-ghost use Rattle.ir_model.specs.Tree.{IsTreeTable};
+ghost use Rattle.ir_model.specs.Tree.{IsParent, IsTreeTable};
 ghost use Rattle.ir_model.specs.Scheme.{AreLabels};
 ghost use Rattle.ir_model.specs.declared.TheConstants.{MAX_NODES};
 ghost use Rattle.ir_numbering.specs.Numbers.{IsListing, IsNumberingOf};
@@ -13,7 +13,7 @@ ghost use Rattle.ir_numbering.specs.Cells.{AreTreeCells};
 
 use crate::error::NumberError;
 use crate::order::{OrderError, check_order};
-use crate::parents::{labels_of, parent_ports, subtree_size};
+use crate::parents::{labels_of, parent_ports, subtree_sizes};
 use crate::search::{Order, search};
 use crate::tree::{ports_by_label, tree_ports};
 use ir_tables::{Table, Topology};
@@ -27,17 +27,19 @@ pub struct Numbering {
     parents: Vec<usize>,
     labels: Vec<u16>,
     ports: Vec<Option<u16>>,
+    sizes: Vec<u16>,
 }
 
 impl Model for Numbering {
     ghost use Rattle.ir_numbering.specs.Numbers.{Numbers, IsSound};
+    ghost use Rattle.ir_numbering.specs.Sizes.{AreSizesFrom};
     ghost use Rattle.ir_numbering.specs.Views.{numbers_of};
 
     ghost Value = { Numbers };
 
     ghost view = { numbers_of };
 
-    ghost invariant = { λ s. IsSound (numbers_of s) };
+    ghost invariant = { λ s. IsSound (numbers_of s) × AreSizesFrom 0 s.parents.items s.sizes.items };
 }
 
 impl Numbering {
@@ -45,8 +47,8 @@ impl Numbering {
     /// number of the node that was numbered last and still has one.
     ///
     /// NoNode exactly where the root is no node of the topology, then Disconnected where some node has no walk to
-    /// some node; NoMemory where a growth was refused, which may come before Disconnected is known. Takes O(n + q),
-    /// for n nodes and q the sum of the squares of the degrees.
+    /// some node; NoMemory where a growth was refused, which may come before Disconnected is known. Takes O(n + m),
+    /// for n nodes and m links.
     pub fn depth_first(
         alloc: Global,
         topology: &Topology,
@@ -78,11 +80,13 @@ impl Numbering {
             parents.as_slice(),
             labels.as_slice(),
         )?;
+        let sizes = subtree_sizes(alloc, parents.as_slice())?;
         Ok(Numbering {
             order,
             parents,
             labels,
             ports,
+            sizes,
         })
     }
 
@@ -97,11 +101,13 @@ impl Numbering {
         let labels = labels_of(alloc, order.as_slice())?;
         let parents = vec![in alloc; 0usize; order.len()]?;
         let ports = vec![in alloc; None; order.len()]?;
+        let sizes = subtree_sizes(alloc, parents.as_slice())?;
         Ok(Numbering {
             order,
             parents,
             labels,
             ports,
+            sizes,
         })
     }
 
@@ -149,19 +155,28 @@ impl Numbering {
     }
 
     /// How many nodes are in the subtree of a node, itself included. Their labels follow one another from the
-    /// node's own label on (Santoro and Khatib 1985). Takes O(s), for s of them. For users of the library.
+    /// node's own label on (Santoro and Khatib 1985).
     pub fn subtree(&self, u: u16) -> usize
         requires { u < length self.now.order }
         ensures { IsSubtree (length self.now.order) self.now.parents (slice_index self.now.labels u) result }
     {
-        let label = self.label_of(u);
-        subtree_size(self.parents.as_slice(), label as usize)
+        self.sizes[self.label_of(u) as usize] as usize
+    }
+
+    /// Whether the first of two nodes has the other for its parent in the tree of the numbering.
+    pub fn has_parent(&self, u: u16, v: u16) -> bool
+        requires node { u < length self.now.order }
+        requires other { v < length self.now.order }
+        ensures { IsTrue result ↔ IsParent self.now.order self.now.parents u v }
+    {
+        let place = self.label_of(u) as usize;
+        place > 0 && self.parents[place] == self.label_of(v) as usize
     }
 
     /// The ports of a node to all nodes, by label, along the tree of the numbering; none to itself.
     ///
     /// Condition: the numbering is of the topology. It is refused for want of memory alone. Takes O(n + d * d), for n
-    /// nodes and d ports of the node.
+    /// nodes and d ports of the node. For users of the library.
     pub fn tree_ports(
         &self,
         alloc: Global,

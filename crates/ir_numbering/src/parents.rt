@@ -1,4 +1,4 @@
-ghost use Rattle.std.specs.Prelude.{◌≡◌, ◌<◌, ◌≤◌, length, IfOk, IsSomeAnd, slice_index};
+ghost use Rattle.std.specs.Prelude.{◌≡◌, ◌+◌, ◌<◌, ◌≤◌, length, IfOk, IsSomeAnd, slice_index};
 ghost use Rattle.ir_model.specs.declared.TheConstants.{MAX_NODES};
 ghost use Rattle.ir_model.specs.Network.{node_count};
 ghost use Rattle.ir_model.specs.Walk.{Linked};
@@ -6,19 +6,36 @@ ghost use Rattle.ir_model.specs.Numbering.{neighbors_of, IsDepthFirst};
 ghost use Rattle.ir_model.specs.Subtree.{IsSubtree, IsNested};
 ghost use Rattle.ir_model.specs.Scheme.{AreLabels};
 ghost use Rattle.ir_numbering.specs.Numbers.{IsListing, IsPortTo, IsParentPort, AreParentPorts};
+ghost use Rattle.ir_numbering.specs.Sizes.{AreSizesFrom};
 
 use ir_tables::Topology;
 use std::alloc::{AllocError, Global};
 
-/// How many places there are in the subtree of a place.
-pub fn subtree_size(parents: &[usize], place: usize) -> usize
+/// How many places there are in the subtree of each place. Takes O(n), for n places: each is come to once as a son.
+pub fn subtree_sizes(alloc: Global, parents: &[usize]) -> Result<Vec<u16>, AllocError>
+    requires nested { IsNested (length parents.now) parents.now }
+    requires few { length parents.now ≤ MAX_NODES }
+    ensures { IfOk result (λ sizes. AreSizesFrom 0 parents.now sizes.items) }
+{
+    let mut sizes = vec![in alloc; 0u16; parents.len()]?;
+    let mut first = parents.len();
+    while first > 0 {
+        first -= 1;
+        sizes[first] = subtree_size(parents, sizes.as_slice(), first) as u16;
+    }
+    Ok(sizes)
+}
+
+// How many places there are in the subtree of a place, by the sizes of those that begin behind it.
+fn subtree_size(parents: &[usize], sizes: &[u16], place: usize) -> usize
     requires nested { IsNested (length parents.now) parents.now }
     requires place { place < length parents.now }
+    requires sizes { AreSizesFrom (place + 1) parents.now sizes.now }
     ensures { IsSubtree (length parents.now) parents.now place result }
 {
     let mut end = place + 1;
     while end < parents.len() && parents[end] >= place {
-        end += 1;
+        end += sizes[end] as usize;
     }
     end - place
 }

@@ -1,8 +1,8 @@
-ghost use Rattle.std.specs.Prelude.{◌≡◌, ◌<◌, ◌≤◌, ℕ, length, All, IfOk, IfSome, MatchOption, List, map};
+ghost use Rattle.std.specs.Prelude.{◌≡◌, ◌<◌, ◌≤◌, ℕ, length, All, IfOk, IfSome, MatchOption, map, slice_set, true};
 ghost use Rattle.ir_model.specs.declared.Hop.{Hop};
 ghost use Rattle.ir_model.specs.Network.{node_count};
 ghost use Rattle.ir_model.specs.Numbering.{neighbors_of, IsDepthFirst};
-ghost use Rattle.ir_numbering.specs.Search.{IsFirstUnmarked, AllMarked, IsCutOff};
+ghost use Rattle.ir_numbering.specs.Search.{IsFirstUnmarked, IsUnmarkedAt, AllMarked, FirstMarked, ArePassed, IsCutOff};
 
 use ir_tables::{Hop, Topology};
 use std::alloc::{AllocError, Global};
@@ -14,7 +14,7 @@ pub struct Order {
     pub parents: Vec<usize>,
 }
 
-/// The nodes that walks from the root lead to, in depth-first order.
+/// The nodes that walks from the root lead to, in depth-first order. Takes O(n + m), for n nodes and m links.
 pub fn search(alloc: Global, topology: &Topology, root: u16) -> Result<Order, AllocError>
     requires { root < node_count topology.now }
     ensures all { IfOk result (λ order. node_count topology.now ≤ length order.nodes.items
@@ -25,6 +25,7 @@ pub fn search(alloc: Global, topology: &Topology, root: u16) -> Result<Order, Al
 {
     let n = topology.nodes();
     let mut marked = vec![in alloc; false; n]?;
+    let mut passed = vec![in alloc; 0usize; n]?;
     let mut nodes = Vec::new(alloc);
     let mut parents = Vec::new(alloc);
     let mut stack = Vec::new(alloc);
@@ -36,8 +37,7 @@ pub fn search(alloc: Global, topology: &Topology, root: u16) -> Result<Order, Al
         let Some(top) = stack.pop() else {
             break;
         };
-        if let Some(next) = first_unmarked(topology.ports(nodes[top] as usize), &marked) {
-            marked[next as usize] = true;
+        if let Some(next) = mark_next(topology, nodes[top], &mut passed, &mut marked) {
             stack.push(top)?;
             stack.push(nodes.len())?;
             parents.push(top)?;
@@ -47,16 +47,47 @@ pub fn search(alloc: Global, topology: &Topology, root: u16) -> Result<Order, Al
     Ok(Order { nodes, parents })
 }
 
-// The first neighbour, in port order, without a mark.
-fn first_unmarked(ports: &[Hop], marked: &[bool]) -> Option<u16>
-    requires { All (λ (hop : Hop). hop.node < length marked.now) ports.now }
-    ensures node { IfSome result (λ x. x < length marked.now) }
-    ensures unmarked { MatchOption result (AllMarked marked.now (map (λ (hop : Hop). hop.node) ports.now))
-        (IsFirstUnmarked marked.now (map (λ (hop : Hop). hop.node) ports.now)) }
+// Marks the first neighbour of a node, in port order, that has no mark. The ports that are known to lead to nodes with
+// marks are passed over, so that each is looked at once, whatever the number of calls.
+fn mark_next(
+    topology: &Topology,
+    u: u16,
+    passed: &mut Vec<usize>,
+    marked: &mut Vec<bool>,
+) -> Option<u16>
+    requires node { u < node_count topology.now }
+    requires marks { length marked.old.items ≡ node_count topology.now }
+    requires passed { ArePassed topology.now marked.old.items passed.old.items }
+    ensures node { IfSome result (λ x. x < node_count topology.now) }
+    ensures first { MatchOption result (AllMarked marked.old.items (neighbors_of topology.now u))
+        (IsFirstUnmarked marked.old.items (neighbors_of topology.now u)) }
+    ensures marks { MatchOption result (marked.new.items ≡ marked.old.items)
+        (λ x. marked.new.items ≡ slice_set marked.old.items x true) }
+    ensures passed { ArePassed topology.now marked.new.items passed.new.items }
 {
-    for hop in ports {
-        if !marked[hop.node as usize] {
-            return Some(hop.node);
+    let _nodes = topology.nodes();
+    let u = u as usize;
+    let ports = topology.ports(u);
+    let Some(port) = first_unmarked(ports, passed[u], marked.as_slice()) else {
+        return None;
+    };
+    let next = ports[port].node;
+    passed[u] = port;
+    marked[next as usize] = true;
+    Some(next)
+}
+
+// The first port, from this one on, that leads to a node without a mark; no port before it does.
+fn first_unmarked(ports: &[Hop], from: usize, marked: &[bool]) -> Option<usize>
+    requires nodes { All (λ (hop : Hop). hop.node < length marked.now) ports.now }
+    requires from { FirstMarked marked.now (map (λ (hop : Hop). hop.node) ports.now) from }
+    ensures port { IfSome result (λ p. p < length ports.now) }
+    ensures unmarked { MatchOption result (AllMarked marked.now (map (λ (hop : Hop). hop.node) ports.now))
+        (IsUnmarkedAt marked.now (map (λ (hop : Hop). hop.node) ports.now)) }
+{
+    for p in from..ports.len() {
+        if !marked[ports[p].node as usize] {
+            return Some(p);
         }
     }
     None

@@ -1,5 +1,5 @@
 -- Depth-first plans of one kind, root and network have as many starts.
-use Rattle.std.proofs.Common.{◌≡◌, ℕ, ◌<◌, ◌-◌, ◌*◌, List, [], ◌∷◌, length, map, get_or, Option, Some, refl, ap, sym, ◌∙◌, subst, inl, inr, arith}
+use Rattle.std.proofs.Common.{◌≡◌, ◌≢◌, ℕ, ◌<◌, ◌-◌, ◌*◌, List, [], ◌∷◌, length, map, get_or, Option, Some, refl, ap, sym, ◌∙◌, subst, inl, inr, arith}
 use Rattle.std.specs.Prelude.{All, slice_index, sum_by}
 use Rattle.std.proofs.lemmas.Bool.{cases_eq}
 use Rattle.std.proofs.lemmas.List.{same_lists, get_or_default}
@@ -17,7 +17,9 @@ use Rattle.ir_laws.proofs.Compact.{compact_same}
 use Rattle.ir_laws.proofs.Ordered.{canonical_same}
 use Rattle.ir_laws.proofs.Ranked.{order_same}
 use Rattle.ir_plan.proofs.TreeStarts.{tree_plan_starts}
-use Rattle.ir_plan.specs.Starts.{starts_of, IsDepthFirstOf, HasNoMoreStarts, HasFewerStarts}
+use Rattle.ir_plan.specs.declared.tour.LabelOrder.{LabelOrder}
+use Rattle.ir_plan.specs.declared.tour.LabelOrder.TheVariants.{DepthFirst, Tour}
+use Rattle.ir_plan.specs.Starts.{IsLabelledBy, starts_of, IsDepthFirstOf, HasNoMoreStarts, HasFewerStarts}
 
 -- a network has one shortest table
 shortest_same : (net : Network) (table other : ℕ → ℕ → Option ℕ) → IsShortestTable net table → IsShortestTable net other → (u d : ℕ) → u < node_count net → d < node_count net → table u d ≡ other u d
@@ -118,7 +120,7 @@ depth_first_moved p s q kind root network other = record {
   network = other.network ∙ sym network;
 }
 
-pub depth_first_has_no_more : (p : Scheme) → IsScheme p → HasDepthFirst p → HasNoMoreStarts p
+depth_first_has_no_more : (p : Scheme) → IsScheme p → HasDepthFirst p → HasNoMoreStarts p
 depth_first_has_no_more p is first q other = omega (arith, depth_first_starts p q is first other)
 
 -- a plan with fewer starts than one depth-first plan of its kind, root and network has fewer than each
@@ -126,5 +128,15 @@ pub fewer_than_one : (p s : Scheme) → IsScheme p → HasDepthFirst p → s.kin
 fewer_than_one p s is first kind root network less q other =
     omega (arith, less, depth_first_starts p q is first (depth_first_moved p s q (sym kind) (sym root) (sym network) other))
 
-pub fewer_has_no_more : (s : Scheme) → HasFewerStarts s → HasNoMoreStarts s
+fewer_has_no_more : (s : Scheme) → HasFewerStarts s → HasNoMoreStarts s
 fewer_has_no_more s fewer q other = omega (arith, fewer q other)
+
+-- a depth-first plan is labelled by each order
+pub depth_first_labelled : (labels : LabelOrder) (p : Scheme) → IsScheme p → HasDepthFirst p → IsLabelledBy labels p
+depth_first_labelled DepthFirst p is numbers = numbers
+depth_first_labelled Tour p is numbers = (inl numbers, depth_first_has_no_more p is numbers)
+
+-- a plan with fewer starts is labelled by a tour
+pub fewer_labelled : (labels : LabelOrder) (p : Scheme) → labels ≢ DepthFirst → HasFewerStarts p → IsLabelledBy labels p
+fewer_labelled DepthFirst p ne fewer = absurd (ne refl)
+fewer_labelled Tour p ne fewer = (inr fewer, fewer_has_no_more p fewer)

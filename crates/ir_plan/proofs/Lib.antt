@@ -8,3 +8,4 @@ pub mod CompactPlans
 pub mod NodeRows
 pub mod DepthFirst
 pub mod Lists
+pub mod SonStarts

@@ -27,7 +27,7 @@ same_start s l p el ep =
     ap (λ (x : ℕ). let t : Start = record { label = x; port = s.port } in t) el ∙ ap (λ (x : ℕ). let t : Start = record { label = l; port = x } in t) ep
 
 -- the start at a label of a row
-start_at : (row : List Start) (d : ℕ) → Contains (start_labels row) d → (s : Start) × Contains row s × (s.label ≡ d)
+pub start_at : (row : List Start) (d : ℕ) → Contains (start_labels row) d → (s : Start) × Contains row s × (s.label ≡ d)
 start_at row d w =
     let len : length (start_labels row) ≡ length row = length-map row (λ (s : Start). s.label) in
     let h : w.0 < length row = omega (arith, w.1) in

@@ -7,3 +7,4 @@ pub mod CompactRows
 pub mod Starts
 -- what bodies use
 pub mod NodeRows
+pub mod SonStarts

@@ -12,12 +12,15 @@ mod rows;
 mod sweeps;
 mod threads;
 mod tour;
+mod tree;
+mod watch;
 
 pub use error::PlanError;
 pub use ir_model::{Hop, Kind};
 pub use plan::Plan;
 pub use threads::rows_of_a_thread;
-pub use tour::{LabelOrder, plan_in_order, tour_plan};
+pub use tour::{LabelOrder, plan_in_order, plan_in_order_watched, tour_plan};
+pub use watch::{Unwatched, Watch};
 
 /// The most nodes of a plan whose labels a tour is sought for.
 pub const MOST_TOUR_NODES: usize = 4_096;

@@ -13,6 +13,7 @@ ghost use Rattle.ir_plan.specs.TreeRows.{HasTreeRow};
 use crate::error::PlanError;
 use crate::rows::rows_of;
 use crate::threads::rows_in_threads;
+use crate::watch::{Unwatched, Watch};
 use ir_lookup::Row;
 use ir_model::{Hop, Kind};
 use ir_numbering::Numbering;
@@ -49,9 +50,8 @@ impl Plan {
     ///
     /// Refused as Empty where the topology has no node, else as NoNode where the root is none of its nodes, else as
     /// Disconnected where some node has no walk to some node; NoMemory may come before Disconnected is known. A refusal
-    /// hands the topology back. Takes O(n (n + m) log n), for n nodes and m links; of kind Tree O(n * n + q), for q
-    /// the sum of the squares of the degrees; of kind Compact also O(m (n + m)), and for each node what
-    /// `ir_compile::ports_of_runs` takes. For users of the library.
+    /// hands the topology back. Takes O(n (n + m) log n), for n nodes and m links; of kind Tree O(n + m); of kind Compact
+    /// also O(m (n + m)), and for each node what `ir_compile::ports_of_runs` takes. For users of the library.
     pub fn build(
         alloc: Global,
         topology: Topology,
@@ -106,9 +106,36 @@ impl Plan {
             (λ e. e.0 ≡ PlanError.Disconnected → (0 < node_count topology) × (root < node_count topology)
             × IsDisconnected topology) }
     {
+        Plan::build_watched(rt, alloc, topology, kind, root, most, &Unwatched)
+    }
+
+    /// The plan that `build_in_threads` makes, and refused as that is. The watch is told of each row once it is made. Takes
+    /// as long as that.
+    pub fn build_watched(
+        rt: &(impl Threads + Sync),
+        alloc: Global,
+        topology: Topology,
+        kind: Kind,
+        root: u16,
+        most: Option<usize>,
+        watch: &(impl Watch + Sync),
+    ) -> Result<Plan, (PlanError, Topology)>
+        ensures kind { IfOk result (λ p. p.kind ≡ kind) }
+        ensures root { IfOk result (λ p. p.root ≡ root) }
+        ensures network { IfOk result (λ p. p.network ≡ topology) }
+        ensures scheme { IfOk result (λ p. IsScheme p) }
+        ensures numbers { IfOk result (λ p. HasDepthFirst p) }
+        ensures back { IfErr result (λ e. e.1 ≡ topology) }
+        ensures empty { IfErr result (λ e. (e.0 ≡ PlanError.Empty) ↔ (node_count topology ≡ 0)) }
+        ensures no_node { IfErr result
+            (λ e. (e.0 ≡ PlanError.NoNode) ↔ ((0 < node_count topology) × (node_count topology ≤ root))) }
+        ensures disconnected { IfErr result
+            (λ e. e.0 ≡ PlanError.Disconnected → (0 < node_count topology) × (root < node_count topology)
+            × IsDisconnected topology) }
+    {
         match numbering_of(alloc, &topology, root) {
             Ok(numbering) => {
-                let rows = rows_in_threads(rt, alloc, &topology, &numbering, kind, most);
+                let rows = rows_in_threads(rt, alloc, &topology, &numbering, kind, most, watch);
                 Plan::of_rows(topology, kind, root, numbering, rows)
             }
             Err(refusal) => Err((refusal, topology)),
@@ -176,13 +203,39 @@ impl Plan {
         ensures disconnected { IfErr result
             (λ e. e.0 ≡ PlanError.Disconnected → (0 < node_count topology) × IsDisconnected topology) }
     {
+        Plan::build_numbered_watched(rt, alloc, topology, kind, order, most, &Unwatched)
+    }
+
+    /// The plan that `build_numbered_in_threads` makes, and refused as that is. The watch is told of each row once it is
+    /// made. Takes as long as that.
+    pub fn build_numbered_watched(
+        rt: &(impl Threads + Sync),
+        alloc: Global,
+        topology: Topology,
+        kind: Kind,
+        order: Vec<u16>,
+        most: Option<usize>,
+        watch: &(impl Watch + Sync),
+    ) -> Result<Plan, (PlanError, Topology)>
+        requires kind { kind ≢ Kind.Tree }
+        requires order { IsListing (node_count topology) order.items }
+        ensures kind { IfOk result (λ p. p.kind ≡ kind) }
+        ensures order { IfOk result (λ p. p.order ≡ order.items) }
+        ensures network { IfOk result (λ p. p.network ≡ topology) }
+        ensures scheme { IfOk result (λ p. IsScheme p) }
+        ensures back { IfErr result (λ e. e.1 ≡ topology) }
+        ensures empty { IfErr result (λ e. (e.0 ≡ PlanError.Empty) ↔ (node_count topology ≡ 0)) }
+        ensures no_node { IfErr result (λ e. e.0 ≢ PlanError.NoNode) }
+        ensures disconnected { IfErr result
+            (λ e. e.0 ≡ PlanError.Disconnected → (0 < node_count topology) × IsDisconnected topology) }
+    {
         if topology.nodes() == 0 {
             return Err((PlanError::Empty, topology));
         }
         let first = order[0];
         match numbering_by(alloc, &topology, order) {
             Ok(numbers) => {
-                let rows = rows_in_threads(rt, alloc, &topology, &numbers, kind, most);
+                let rows = rows_in_threads(rt, alloc, &topology, &numbers, kind, most, watch);
                 Plan::of_rows(topology, kind, first, numbers, rows)
             }
             Err(refused) => Err((refused, topology)),

@@ -12,6 +12,7 @@ ghost use Rattle.ir_plan.specs.Shown.{StandForTable};
 ghost use Rattle.ir_plan.specs.NodeRows.{IsNodeRow};
 
 use crate::compact::compact_row;
+use crate::tree::tree_row;
 use ir_compile::{CompileError, compile};
 use ir_lookup::Row;
 use ir_model::Kind;
@@ -60,23 +61,6 @@ pub fn row_at(
         Kind::Shortest => shortest_row(alloc, topology, numbering, u),
         Kind::Compact => compact_row(alloc, topology, numbering, u),
     }
-}
-
-// The row of a node in the tree table.
-fn tree_row(
-    alloc: Global,
-    topology: &Topology,
-    numbering: &Numbering,
-    u: u16,
-) -> Result<Row, AllocError>
-    requires numbering { IsNumberingOf topology.now numbering.now }
-    requires node { u < node_count topology.now }
-    ensures { IfOk result (λ row. IsNodeRow Tree topology.now numbering.now.order numbering.now.parents
-        (slice_index numbering.now.labels u) row) }
-{
-    let nodes = topology.nodes() as u16;
-    let ports = numbering.tree_ports(alloc, topology, u)?;
-    row_of(alloc, nodes, numbering.label_of(u), ports.as_slice())
 }
 
 // The row of a node in the shortest table.

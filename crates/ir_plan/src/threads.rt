@@ -10,6 +10,7 @@ ghost use Rattle.ir_plan.specs.Shown.{StandForTable};
 ghost use Rattle.ir_plan.specs.NodeRows.{IsNodeRow};
 
 use crate::rows::row_at;
+use crate::watch::Watch;
 use ir_lookup::Row;
 use ir_model::Kind;
 use ir_numbering::Numbering;
@@ -29,8 +30,8 @@ pub fn rows_of_a_thread(rows: usize, most: Option<usize>) -> usize {
     }
 }
 
-/// The row of each node, by number, made in at most so many threads, or in as many as suit the processors. It is refused
-/// where a growth is refused in any of them.
+/// The row of each node, by number, made in at most so many threads, or in as many as suit the processors; the watch is
+/// told of each. It is refused where a growth is refused in any of them.
 pub fn rows_in_threads(
     rt: &(impl Threads + Sync),
     alloc: Global,
@@ -38,6 +39,7 @@ pub fn rows_in_threads(
     numbering: &Numbering,
     kind: Kind,
     most: Option<usize>,
+    watch: &(impl Watch + Sync),
 ) -> Result<Vec<Row>, AllocError>
     requires labels { AreLabels (node_count topology.now) numbering.now.order numbering.now.labels }
     requires tree { kind ≡ Tree → IsNumberingOf topology.now numbering.now }
@@ -56,18 +58,19 @@ pub fn rows_in_threads(
                     × (kind ≡ Tree → IsNumberingOf topology.now numbering.now) × IsConnected topology.now }
                 ensures { IfOk result (λ row. IsNodeRow kind topology.entry.now numbering.entry.now.order
                     numbering.entry.now.parents (slice_index numbering.entry.now.labels u) row) }
-            { row_in_thread(alloc, topology, numbering, kind, u) },
+            { row_in_thread(alloc, topology, numbering, kind, u, watch) },
         )
         .collect::<Result<Vec<Row>, AllocError>>(rt, alloc)?
 }
 
-// The row of a node, by its number as a place.
+// The row of a node, by its number as a place, of which the watch is told.
 fn row_in_thread(
     alloc: Global,
     topology: &Topology,
     numbering: &Numbering,
     kind: Kind,
     u: usize,
+    watch: &impl Watch,
 ) -> Result<Row, AllocError>
     requires labels { AreLabels (node_count topology.now) numbering.now.order numbering.now.labels }
     requires tree { kind ≡ Tree → IsNumberingOf topology.now numbering.now }
@@ -76,6 +79,8 @@ fn row_in_thread(
     ensures { IfOk result (λ row. IsNodeRow kind topology.now numbering.now.order numbering.now.parents
         (slice_index numbering.now.labels u) row) }
 {
-    let _nodes = topology.nodes();
-    row_at(alloc, topology, numbering, kind, u as u16)
+    let nodes = topology.nodes();
+    let row = row_at(alloc, topology, numbering, kind, u as u16)?;
+    watch.row_made(nodes);
+    Ok(row)
 }

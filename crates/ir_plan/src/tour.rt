@@ -12,6 +12,7 @@ use crate::error::PlanError;
 use crate::nearest::nearest_order;
 use crate::plan::Plan;
 use crate::sweeps::shorten;
+use crate::watch::{Unwatched, Watch};
 use ir_model::Kind;
 use ir_numbering::{OrderError, check_order};
 use ir_tables::Topology;
@@ -52,9 +53,45 @@ pub fn plan_in_order(
         (λ e. e.0 ≡ PlanError.Disconnected → (0 < node_count topology) × (root < node_count topology)
         × IsDisconnected topology) }
 {
-    match labels {
-        LabelOrder::DepthFirst => Plan::build_in_threads(rt, alloc, topology, kind, root, most),
-        LabelOrder::Tour => tour_plan(rt, alloc, topology, kind, root, most),
+    plan_in_order_watched(rt, alloc, topology, labels, kind, root, most, &Unwatched)
+}
+
+/// The plan that `plan_in_order` makes, and refused as that is. Takes as long as that.
+///
+/// The watch is told of each row of each plan that is made on the way: of the depth-first plan; where a tour is sought, of
+/// the one of kind Shortest that kind Compact takes its distances from; and of the plan over the tour. Each of them has as
+/// many rows as there are nodes.
+pub fn plan_in_order_watched(
+    rt: &(impl Threads + Sync),
+    alloc: Global,
+    topology: Topology,
+    labels: LabelOrder,
+    kind: Kind,
+    root: u16,
+    most: Option<usize>,
+    watch: &(impl Watch + Sync),
+) -> Result<Plan, (PlanError, Topology)>
+    ensures kind { IfOk result (λ p. p.kind ≡ kind) }
+    ensures root { IfOk result (λ p. p.root ≡ root) }
+    ensures network { IfOk result (λ p. p.network ≡ topology) }
+    ensures scheme { IfOk result (λ p. IsScheme p) }
+    ensures numbers { IfOk result (λ p. kind ≡ Kind.Tree → HasDepthFirst p) }
+    ensures labelled { IfOk result (λ p. IsLabelledBy labels p) }
+    ensures back { IfErr result (λ e. e.1 ≡ topology) }
+    ensures empty { IfErr result (λ e. (e.0 ≡ PlanError.Empty) ↔ (node_count topology ≡ 0)) }
+    ensures no_node { IfErr result
+        (λ e. (e.0 ≡ PlanError.NoNode) ↔ ((0 < node_count topology) × (node_count topology ≤ root))) }
+    ensures disconnected { IfErr result
+        (λ e. e.0 ≡ PlanError.Disconnected → (0 < node_count topology) × (root < node_count topology)
+        × IsDisconnected topology) }
+{
+    match Plan::build_watched(rt, alloc, topology, kind, root, most, watch) {
+        Ok(plan) => match plan_with_fewer(rt, alloc, &plan, labels, most, watch) {
+            Ok(Some(tour)) => Ok(tour),
+            Ok(None) => Ok(plan),
+            Err(_) => Err((PlanError::NoMemory, plan.into_topology())),
+        },
+        Err(refusal) => Err(refusal),
     }
 }
 
@@ -92,14 +129,16 @@ pub fn tour_plan(
         (λ e. e.0 ≡ PlanError.Disconnected → (0 < node_count topology) × (root < node_count topology)
         × IsDisconnected topology) }
 {
-    match Plan::build_in_threads(rt, alloc, topology, kind, root, most) {
-        Ok(plan) => match plan_with_fewer(rt, alloc, &plan, most) {
-            Ok(Some(tour)) => Ok(tour),
-            Ok(None) => Ok(plan),
-            Err(_) => Err((PlanError::NoMemory, plan.into_topology())),
-        },
-        Err(refusal) => Err(refusal),
-    }
+    plan_in_order_watched(
+        rt,
+        alloc,
+        topology,
+        LabelOrder::Tour,
+        kind,
+        root,
+        most,
+        &Unwatched,
+    )
 }
 
 // The plan over a tour's order, where a tour is sought and its plan has fewer starts than this one.
@@ -107,8 +146,11 @@ fn plan_with_fewer(
     rt: &(impl Threads + Sync),
     alloc: Global,
     plan: &Plan,
+    labels: LabelOrder,
     most: Option<usize>,
+    watch: &(impl Watch + Sync),
 ) -> Result<Option<Plan>, AllocError>
+    ensures sought { IfOk result (λ found. IfSome found (λ _. labels ≢ LabelOrder.DepthFirst)) }
     ensures other { IfOk result (λ found. IfSome found (λ _. plan.now.kind ≢ Kind.Tree)) }
     ensures kind { IfOk result (λ found. IfSome found (λ p. p.kind ≡ plan.now.kind)) }
     ensures root { IfOk result (λ found. IfSome found (λ p. p.root ≡ plan.now.root)) }
@@ -116,14 +158,17 @@ fn plan_with_fewer(
     ensures scheme { IfOk result (λ found. IfSome found (λ p. IsScheme p)) }
     ensures fewer { IfOk result (λ found. IfSome found (λ p. starts_of p < starts_of plan.now)) }
 {
+    if labels == LabelOrder::DepthFirst {
+        return Ok(None);
+    }
     if plan.kind() == Kind::Tree || plan.nodes() > MOST_TOUR_NODES {
         return Ok(None);
     }
-    let order = tour(rt, alloc, plan, most)?;
+    let order = tour(rt, alloc, plan, most, watch)?;
     if !begins_listing(alloc, plan.nodes(), plan.root(), order.as_slice())? {
         return Ok(None);
     }
-    let found = plan_over(rt, alloc, plan, order, most)?;
+    let found = plan_over(rt, alloc, plan, order, most, watch)?;
     if found.labels() < plan.labels() {
         Ok(Some(found))
     } else {
@@ -138,6 +183,7 @@ fn plan_over(
     plan: &Plan,
     order: Vec<u16>,
     most: Option<usize>,
+    watch: &(impl Watch + Sync),
 ) -> Result<Plan, AllocError>
     requires kind { plan.now.kind ≢ Kind.Tree }
     requires order { IsListing (node_count plan.now.network) order.items }
@@ -148,7 +194,7 @@ fn plan_over(
     ensures scheme { IfOk result (λ p. IsScheme p) }
 {
     let topology = plan.topology().try_clone(alloc)?;
-    match Plan::build_numbered_in_threads(rt, alloc, topology, plan.kind(), order, most) {
+    match Plan::build_numbered_watched(rt, alloc, topology, plan.kind(), order, most, watch) {
         Ok(found) => Ok(found),
         Err(_) => Err(AllocError),
     }
@@ -160,11 +206,12 @@ fn tour(
     alloc: Global,
     plan: &Plan,
     most: Option<usize>,
+    watch: &(impl Watch + Sync),
 ) -> Result<Vec<u16>, AllocError>
     requires { node_count plan.now.network ≤ MOST_TOUR_NODES }
 {
     let _nodes = plan.nodes();
-    let far = distances(rt, alloc, plan, most)?;
+    let far = distances(rt, alloc, plan, most, watch)?;
     let mut order = nearest_order(alloc, &far, plan.root())?;
     shorten(&far, order.as_mut_slice());
     Ok(order)
@@ -176,6 +223,7 @@ fn distances(
     alloc: Global,
     plan: &Plan,
     most: Option<usize>,
+    watch: &(impl Watch + Sync),
 ) -> Result<Distances, AllocError>
     requires { node_count plan.now.network ≤ MOST_TOUR_NODES }
     ensures { IfOk result (λ far. far.nodes ≡ node_count plan.now.network) }
@@ -184,7 +232,15 @@ fn distances(
         return Distances::of(rt, alloc, plan, most);
     }
     let topology = plan.topology().try_clone(alloc)?;
-    match Plan::build_in_threads(rt, alloc, topology, Kind::Shortest, plan.root(), most) {
+    match Plan::build_watched(
+        rt,
+        alloc,
+        topology,
+        Kind::Shortest,
+        plan.root(),
+        most,
+        watch,
+    ) {
         Ok(shortest) => Distances::of(rt, alloc, &shortest, most),
         Err(_) => Err(AllocError),
     }

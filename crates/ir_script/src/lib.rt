@@ -12,7 +12,7 @@ mod word;
 
 pub use fault::{ScriptError, ScriptFault};
 pub use ir_core::{Command, Step};
-pub use script::{Script, parse_live, parse_script};
+pub use script::{Named, Script, parse, parse_live, parse_script};
 
 /// The most digits of a number.
 pub const MAX_DIGITS: usize = 5;

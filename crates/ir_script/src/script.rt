@@ -54,10 +54,11 @@ impl<T> Script<T> {
 }
 
 /// What a line of a script names: a step of a simulation, or a command of a live run.
-trait Named: Copy {
+pub trait Named: Copy {
     // What a line says of these nodes and links.
     ghost says: { List Name → Network → List ℕ → Result (Option Self) ScriptFault };
 
+    /// What the line names of a graph and its topology: nothing where it has no word.
     fn named(graph: &Graph, topology: &Topology, line: &[u8]) -> Result<Option<Self>, ScriptFault>
         requires { topology.now ≡ network_of_graph graph.now }
         ensures { result ≡ says (names graph.now) topology.now line.now };
@@ -111,8 +112,9 @@ pub fn keep<T: Copy>(
     Ok(())
 }
 
-/// What the lines of a script name, each with the number of its line, or the first faulty line.
-fn parse<T: Named>(
+/// What the lines of a script name, each with the number of its line, or the script's first faulty line: `parse_script`
+/// for steps, `parse_live` for commands. Takes O(b) and for each line what its words take to be looked up, for b bytes.
+pub fn parse<T: Named>(
     alloc: Global,
     text: &[u8],
     graph: &Graph,

@@ -8,12 +8,12 @@ use Rattle.ir_model.specs.Scheme.{Scheme, next_hop}
 use Rattle.ir_core.specs.Journey.{Journey, present, stamp_of}
 use Rattle.ir_core.specs.declared.packet.Fate.{Fate}
 use Rattle.ir_core.specs.declared.packet.Fate.TheVariants.{Delivered, Retired, Down, Full, Left}
-use Rattle.ir_core.specs.Setting.{Setting, IsPlanFor}
+use Rattle.ir_core.specs.Setting.{Setting, IsPlanFor, nodes_of}
 use Rattle.ir_core.specs.Meaning.{plan_of}
 use Rattle.ir_core.specs.Sound.{LeadsOn, last_of}
 use Rattle.ir_core.specs.State.{State, IsState, Place, Waits, InHand, Ended, EndFits, FitsPlace}
 use Rattle.ir_core.proofs.Walks.{port_of}
-use Rattle.ir_core.proofs.Routed.{present_stretch, hops_fit}
+use Rattle.ir_core.proofs.Routed.{present_stretch, hops_fit, hop_room_most}
 use Rattle.ir_core.proofs.Hops.{routed_walk, routed_source}
 use Rattle.ir_trace.specs.Written.{FateIsIn, AreWritable, HaveSegments}
 
@@ -58,7 +58,8 @@ are_writable s ok i r at =
       first = r.source;
       last = last_of r.hops;
       hops = routed_walk s.opening net s.plans ok.plans.each r p.routed;
-      few = let fit = hops_fit s.opening s.plans ok.plans.each r ok.opening.some_nodes ok.opening.few_nodes ok.opening.restamps p.routed in omega arith;
+      few = let fit = hops_fit s.opening s.plans ok.plans.each r ok.opening.some_nodes p.routed in
+          let most = hop_room_most s.opening.restamps (nodes_of s.opening) ok.opening.restamps ok.opening.few_nodes in omega (arith, fit, most);
       fate = fate_in s.opening net t plan (present r) (ok.place i) p.fits;
     }
 

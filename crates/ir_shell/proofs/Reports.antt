@@ -26,7 +26,7 @@ use Rattle.ir_core.specs.Sound.{IsSound, FateFits, LeadsOn, ArePlaces, last_of}
 use Rattle.ir_core.specs.State.{StepsTo}
 use Rattle.ir_core.proofs.Segments.{places_more, last_drop, last_take}
 use Rattle.ir_core.proofs.Hops.{walk_append, walk_tail}
-use Rattle.ir_core.proofs.Routed.{most, most_few}
+use Rattle.ir_core.proofs.Routed.{most, most_within}
 use Rattle.ir_core.proofs.Walks.{IsWalkFrom, walk_of, port_of}
 use Rattle.ir_core.proofs.Walks as table
 use Rattle.ir_epochs.specs.declared.registry.Stamp.{Stamp}
@@ -210,7 +210,7 @@ module _ (net : Network) (ok : IsNetwork net) where
         ∥∥₁_elim of_net ∥∥₁_prop (λ a. ∥∥₁_elim sound ∥∥₁_prop (λ k. ∥∥₁_elim (legs ss (segments r) a k.each) ∥∥₁_prop (λ each. ∣ walk_in latest r (node_count net - 1) n source_in dest_in places each ∣₁))) in
         let short : length r.hops ≤ most latest (node_count net - 1) + 1 = ∥∥₁_elim walks le_prop (λ k. k.1) in
         let reversed = length-reverse r.restamps in
-        let bound = most_few latest (node_count net - 1) (omega arith) in
+        let bound = most_within latest MAX_RESTAMPS (node_count net - 1) (omega arith) in
         record {
           writable = record {
             source = source_in;

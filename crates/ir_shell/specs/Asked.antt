@@ -29,31 +29,38 @@ sim_sources words = if is_one_input words then Input ∷ [] else Topology ∷ Sc
 abbrev pub check_sources : Words → List Source
 check_sources words = if is_one_input words then Input ∷ [] else Topology ∷ Script ∷ Trace ∷ []
 
--- the answers of `sim` to one text that is cut into topology and script, or to the two texts
+-- the texts of a topology and of a script: the parts of one text that is cut, or two texts
+abbrev pub AreTwo : List (List ℕ) → List ℕ → List ℕ → Type 0
+AreTwo [] topology script = ⊥
+AreTwo (input ∷ []) topology script = (lines topology ≡ topology_part (lines input)) × (lines script ≡ script_part (lines input))
+AreTwo (first ∷ second ∷ []) topology script = (topology ≡ first) × (script ≡ second)
+AreTwo (first ∷ second ∷ third ∷ texts) topology script = ⊥
+
+-- the texts of a topology, of a script and of a trace: the parts of one text that is cut, or three texts
+abbrev pub AreThree : List (List ℕ) → List ℕ → List ℕ → List ℕ → Type 0
+AreThree [] topology script trace = ⊥
+AreThree (input ∷ []) topology script trace =
+    (lines topology ≡ topology_part (lines input)) × (lines script ≡ topology_part (script_part (lines input)))
+    × (lines trace ≡ script_part (script_part (lines input))) × EndsWith input trace
+AreThree (first ∷ second ∷ []) topology script trace = ⊥
+AreThree (first ∷ second ∷ third ∷ []) topology script trace = (topology ≡ first) × (script ≡ second) × (trace ≡ third)
+AreThree (first ∷ second ∷ third ∷ fourth ∷ texts) topology script trace = ⊥
+
+-- the answers of `sim`, of `live` and of `check` to the texts of their inputs
 abbrev pub SimAnswers : Words → List (List ℕ) → Answer → Type 0
-SimAnswers words [] answer = ⊥
-SimAnswers words (input ∷ []) answer =
-    AnswersTopology words.format (topology_part (lines input)) (AnswersScript words (script_part (lines input))) answer
-SimAnswers words (topology ∷ script ∷ []) answer = AnswersTopology words.format (lines topology) (AnswersScript words (lines script)) answer
-SimAnswers words (text ∷ other ∷ third ∷ texts) answer = ⊥
+SimAnswers words texts answer =
+    (topology script : List ℕ) × AreTwo texts topology script
+    × AnswersTopology words.format (lines topology) (AnswersScript words (lines script)) answer
 
--- the answers of `live` to the same
 abbrev pub LiveAnswers : Type 0 → Word SeenParcel → Words → List (List ℕ) → Answer → Type 0
-LiveAnswers B was_full words [] answer = ⊥
-LiveAnswers B was_full words (input ∷ []) answer =
-    AnswersTopology words.format (topology_part (lines input)) (AnswersLiveScript B was_full words (script_part (lines input))) answer
-LiveAnswers B was_full words (topology ∷ script ∷ []) answer = AnswersTopology words.format (lines topology) (AnswersLiveScript B was_full words (lines script)) answer
-LiveAnswers B was_full words (text ∷ other ∷ third ∷ texts) answer = ⊥
+LiveAnswers B was_full words texts answer =
+    (topology script : List ℕ) × AreTwo texts topology script
+    × AnswersTopology words.format (lines topology) (AnswersLiveScript B was_full words (lines script)) answer
 
--- the answers of `check` to one text that is cut into topology, script and trace, or to the three texts
 abbrev pub CheckAnswers : Words → List (List ℕ) → Answer → Type 0
-CheckAnswers words [] answer = ⊥
-CheckAnswers words (input ∷ []) answer =
-    (trace : List ℕ) × EndsWith input trace × (lines trace ≡ script_part (script_part (lines input)))
-    × AnswersTopology words.format (topology_part (lines input)) (AnswersChecked words (topology_part (script_part (lines input))) trace) answer
-CheckAnswers words (topology ∷ script ∷ []) answer = ⊥
-CheckAnswers words (topology ∷ script ∷ trace ∷ []) answer = AnswersTopology words.format (lines topology) (AnswersChecked words (lines script) trace) answer
-CheckAnswers words (text ∷ other ∷ third ∷ fourth ∷ texts) answer = ⊥
+CheckAnswers words texts answer =
+    (topology script trace : List ℕ) × AreThree texts topology script trace
+    × AnswersTopology words.format (lines topology) (AnswersChecked words (lines script) trace) answer
 
 -- the same, by the subcommand
 abbrev pub sources_by : Sub → Words → List Source

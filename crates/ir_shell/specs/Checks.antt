@@ -1,6 +1,6 @@
 -- What a graph, a root, a script and a trace come to as a check.
-use Rattle.std.specs.Prelude.{◌≡◌, ◌≢◌, ◌⊎◌, ℕ, List, [], length, None, MatchResult}
-use Rattle.ir_model.specs.Graph.{Adjacency, names}
+use Rattle.std.specs.Prelude.{◌≡◌, ◌≢◌, ◌⊎◌, ℕ, List, [], length, None}
+use Rattle.ir_model.specs.Graph.{Adjacency}
 use Rattle.ir_model.specs.OfGraph.{network_of_graph}
 use Rattle.ir_core.specs.declared.event.OpenError.{OpenError}
 use Rattle.ir_core.specs.declared.event.OpenError.TheVariants as openings
@@ -8,7 +8,8 @@ use Rattle.ir_core.specs.declared.built.Install.{Install}
 use Rattle.ir_core.specs.Opened.{IsOpenRefusal, open_refused}
 use Rattle.ir_core.specs.Installed.{AreInstalls}
 use Rattle.ir_core.specs.declared.event.Step.{Step}
-use Rattle.ir_script.specs.Script.{Listing, listing_of}
+use Rattle.ir_script.specs.Command.{line_step}
+use Rattle.ir_script.specs.Script.{Listing}
 use Rattle.ir_trace.specs.declared.finding.Finding.{Finding}
 use Rattle.ir_trace.specs.declared.finding.FindingKind.TheVariants.{NoMemory}
 use Rattle.ir_trace.specs.Row.{Row}
@@ -17,8 +18,9 @@ use Rattle.ir_trace.specs.Checked.{Finds}
 use Rattle.ir_trace.specs.Sound.{IsSoundTrace}
 use Rattle.ir_words.specs.declared.words.Words.{Words}
 use Rattle.ir_words.specs.Answer.{Answer, Ran, Found, Refused, NoThread}
-use Rattle.ir_words.specs.Lines.{script_line, opening_line, finding_line, ok_line}
-use Rattle.ir_words.specs.Openings.{root_name, opening_by, AnswersRoot}
+use Rattle.ir_words.specs.Lines.{opening_line, finding_line, ok_line}
+use Rattle.ir_words.specs.Openings.{opening_by}
+use Rattle.ir_shell.specs.Stops.{AnswersScripted}
 
 -- no finding: the text is that of a trace of so many rows, and they are sound by the plans of these installs
 abbrev pub IsClean : Adjacency → List Install → List ℕ → ℕ → Type 0
@@ -53,6 +55,4 @@ AnswersCheck g words script trace root answer = (installs : List Install) × Are
 -- opening, and both before the trace's findings
 abbrev pub AnswersChecked : Words → List (List ℕ) → List ℕ → Adjacency → Answer → Type 0
 AnswersChecked words script trace g answer =
-    MatchResult (listing_of (names g) (network_of_graph g) script)
-    (λ listing. AnswersRoot g (root_name words) (AnswersCheck g words listing trace) answer)
-    (λ f. answer ≡ Refused (script_line f))
+    AnswersScripted line_step words script (λ g listing. AnswersCheck g words listing trace) g answer

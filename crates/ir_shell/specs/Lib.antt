@@ -1,6 +1,7 @@
 -- what contracts promise
 pub mod Plans
 pub mod Looks
+pub mod Stops
 pub mod Plays
 pub mod Lives
 pub mod Checks

@@ -1,5 +1,5 @@
 -- What a graph, a root and a script come to as a live run.
-use Rattle.std.specs.Prelude.{◌≡◌, ◌≢◌, ℕ, Bool, true, false, List, [], ◌∷◌, ◌++◌, None, MatchResult, codes, flat_map, slice_index_or}
+use Rattle.std.specs.Prelude.{◌≡◌, ◌≢◌, ℕ, Bool, true, false, List, [], ◌∷◌, ◌++◌, None, codes, flat_map, slice_index_or}
 use Rattle.std.specs.List.{list_any}
 use Rattle.ir_model.specs.Graph.{Adjacency, names}
 use Rattle.ir_model.specs.OfGraph.{network_of_graph}
@@ -16,11 +16,13 @@ use Rattle.ir_links.specs.Ends.{Word}
 use Rattle.ir_worker.specs.Seen.{SeenParcel}
 use Rattle.ir_live.specs.declared.live.Live.{Live}
 use Rattle.ir_live.specs.Lives.{IsLive}
-use Rattle.ir_script.specs.Script.{Listing, live_listing_of}
+use Rattle.ir_script.specs.Command.{line_command}
+use Rattle.ir_script.specs.Script.{Listing}
 use Rattle.ir_words.specs.declared.words.Words.{Words}
 use Rattle.ir_words.specs.Answer.{Answer, Ran, Found, Refused, NoThread}
-use Rattle.ir_words.specs.Lines.{word_of, opening_words, script_line, refused_line}
-use Rattle.ir_words.specs.Openings.{root_name, opening_by, AnswersRoot}
+use Rattle.ir_words.specs.Lines.{word_of, opening_words, refused_line}
+use Rattle.ir_words.specs.Openings.{opening_by}
+use Rattle.ir_shell.specs.Stops.{AnswersScripted}
 use Rattle.ir_shell.specs.Plays.{run_text}
 
 -- want of memory for a command, which stands at a place among the commands
@@ -74,6 +76,4 @@ AnswersLive B was_full g words script root NoThread = (net : Net) × IsOpenedNet
 -- the answer to a graph and the lines of a script: the script's first fault comes before the refusal of the opening
 abbrev pub AnswersLiveScript : Type 0 → Word SeenParcel → Words → List (List ℕ) → Adjacency → Answer → Type 0
 AnswersLiveScript B was_full words script g answer =
-    MatchResult (live_listing_of (names g) (network_of_graph g) script)
-    (λ listing. AnswersRoot g (root_name words) (AnswersLive B was_full g words listing) answer)
-    (λ f. answer ≡ Refused (script_line f))
+    AnswersScripted line_command words script (λ g. AnswersLive B was_full g words) g answer

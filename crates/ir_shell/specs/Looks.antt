@@ -2,6 +2,7 @@
 -- tables.
 use Rattle.std.specs.Prelude.{◌≡◌, ◌<◌, ℕ, IfSome, List, [], ◌∷◌, Option, None, Some, string_bytes}
 use Rattle.std.specs.Option.{option_map}
+use Rattle.std.specs.Borrow.{Bor}
 use Rattle.ir_model.specs.Graph.{Name, Adjacency, names}
 use Rattle.ir_model.specs.Text.{lines}
 use Rattle.ir_look.specs.PlanText.{plan_text}
@@ -14,8 +15,9 @@ use Rattle.ir_shell.specs.declared.look.Show.{Show}
 use Rattle.ir_shell.specs.declared.look.Show.TheVariants.{Rows, Between, Figures, Drawing, Tables}
 use Rattle.ir_shell.specs.declared.look.Look.{Look}
 use Rattle.ir_shell.specs.declared.look.Look.TheVariants.{Plan, Walk, Stats, Draw, Prefixes}
-use Rattle.ir_words.specs.Answer.{Answer}
-use Rattle.ir_words.specs.Openings.{root_name, label_order, AnswersTopology, AnswersRoot, AnswersOrder}
+use Rattle.ir_order.specs.Order.{IsOrder}
+use Rattle.ir_words.specs.Answer.{Answer, Ran, Found, Refused, NoThread}
+use Rattle.ir_words.specs.Openings.{root_name, root_in, label_order, AnswersTopology, AnswersRoot, AnswersOrder}
 use Rattle.ir_model.specs.Scheme.{Scheme}
 use Rattle.ir_shell.specs.Plans.{Labelling, FromRoot, ByList, AnswersText}
 
@@ -45,6 +47,13 @@ Says Figures nodes s text = AreFiguresOf nodes s text
 Says (Drawing ends) nodes s text = IsDrawingOf nodes s ends text
 Says (Tables is_disjoint) nodes s text = IsPrefixesOf is_disjoint nodes s text
 
+-- what an answer says of a plan, by what is shown
+abbrev pub Shows : Show → List Name → Scheme → Answer → Type 0
+Shows show nodes s (Ran text refusals) = Says show nodes s text × (refusals ≡ [])
+Shows show nodes s (Found text) = ⊥
+Shows show nodes s (Refused line) = ⊥
+Shows show nodes s NoThread = ⊥
+
 -- the ends of what is shown, if it has any, are among so many nodes
 abbrev pub AreAmong : ℕ → Show → Type 0
 AreAmong n Rows = Unit {0}
@@ -57,22 +66,74 @@ AreAmong n (Tables is_disjoint) = Unit {0}
 abbrev pub AnswersShow : Words → Adjacency → Labelling → Show → Answer → Type 0
 AnswersShow words g labels show = AnswersText g words.kind labels (Says show (names g))
 
+-- The answer to a graph, by what is asked for: the refusal of an end that is no node, or else an answer to what is to be
+-- shown.
+abbrev pub AnswersAsked : Look → Words → Adjacency → (Show → Answer → Type 0) → Answer → Type 0
+AnswersAsked Plan words g answers = answers Rows
+AnswersAsked Walk words g answers = AnswersEnds g (from_name words) (to_name words) (λ a b. answers (Between a b))
+AnswersAsked Stats words g answers = answers Figures
+AnswersAsked Draw words g answers = AnswersBothEnds g (from_name words) (to_name words) (λ ends. answers (Drawing ends))
+AnswersAsked Prefixes words g answers = answers (Tables words.disjoint)
+
 -- the answer to a graph and labels, by what is asked for
 abbrev pub AnswersLook : Look → Words → Adjacency → Labelling → Answer → Type 0
-AnswersLook Plan words g labels = AnswersShow words g labels Rows
-AnswersLook Walk words g labels = AnswersEnds g (from_name words) (to_name words) (λ a b. AnswersShow words g labels (Between a b))
-AnswersLook Stats words g labels = AnswersShow words g labels Figures
-AnswersLook Draw words g labels = AnswersBothEnds g (from_name words) (to_name words) (λ ends. AnswersShow words g labels (Drawing ends))
-AnswersLook Prefixes words g labels = AnswersShow words g labels (Tables words.disjoint)
+AnswersLook look words g labels = AnswersAsked look words g (AnswersShow words g labels)
 
--- the answers to the text of a topology, or to that text and an order's; the labels are those from the root that the
--- words name, or the places of the order
+-- The answer to a graph: that to its labels from the root that the words name, or by an order where there is one.
+abbrev pub AnswersLabels : Words → Option (List ℕ) → Adjacency → (Labelling → Answer → Type 0) → Answer → Type 0
+AnswersLabels words None g answers = AnswersRoot g (root_name words) (λ root. answers (FromRoot (label_order words.numbering) root))
+AnswersLabels words (Some order) g answers = AnswersOrder g (lines order) (λ places. answers (ByList places))
+
+-- the text of an order, if there is one
+abbrev pub order_in : Option (Bor (List ℕ)) → Option (List ℕ)
+order_in order = option_map (λ (text : Bor (List ℕ)). text.now) order
+
+-- the texts of a topology and, where there is one, of an order
+abbrev pub AreTexts : List (List ℕ) → List ℕ → Option (List ℕ) → Type 0
+AreTexts [] topology order = ⊥
+AreTexts (first ∷ []) topology None = topology ≡ first
+AreTexts (first ∷ []) topology (Some order) = ⊥
+AreTexts (first ∷ second ∷ []) topology None = ⊥
+AreTexts (first ∷ second ∷ []) topology (Some order) = (topology ≡ first) × (order ≡ second)
+AreTexts (first ∷ second ∷ third ∷ texts) topology order = ⊥
+
+-- the answers to the text of a topology, or to that text and an order's
 abbrev pub LookAnswers : Look → Words → List (List ℕ) → Answer → Type 0
-LookAnswers look words [] answer = ⊥
-LookAnswers look words (topology ∷ []) answer =
-    AnswersTopology words.format (lines topology)
-    (λ g. AnswersRoot g (root_name words) (λ root. AnswersLook look words g (FromRoot (label_order words.numbering) root))) answer
-LookAnswers look words (topology ∷ order ∷ []) answer =
-    AnswersTopology words.format (lines topology)
-    (λ g. AnswersOrder g (lines order) (λ places. AnswersLook look words g (ByList places))) answer
-LookAnswers look words (text ∷ other ∷ third ∷ texts) answer = ⊥
+LookAnswers look words texts answer =
+    (topology : List ℕ) × (order : Option (List ℕ)) × AreTexts texts topology order
+    × AnswersTopology words.format (lines topology) (λ g. AnswersLabels words order g (AnswersLook look words g)) answer
+
+-- ---- what is read before a plan is built
+
+-- the number of a node of this name, or of the first where there is no name
+abbrev pub IsNode : Adjacency → Option Name → ℕ → Type 0
+IsNode g name u = root_in (names g) name ≡ Some u
+
+-- the labels that the words ask for
+abbrev pub IsLabelling : Words → Option (List ℕ) → Adjacency → Labelling → Type 0
+IsLabelling words None g labels = (root : ℕ) × IsNode g (root_name words) root × (labels ≡ FromRoot (label_order words.numbering) root)
+IsLabelling words (Some order) g labels = (places : List ℕ) × IsOrder (names g) (lines order) places × (labels ≡ ByList places)
+
+-- what the words ask to be drawn
+abbrev pub IsDrawn : Option Name → Option Name → Adjacency → Show → Type 0
+IsDrawn None to g show = show ≡ Drawing None
+IsDrawn (Some from) None g show = show ≡ Drawing None
+IsDrawn (Some from) (Some to) g show = (a b : ℕ) × IsNode g (Some from) a × IsNode g (Some to) b × (show ≡ Drawing (Some (a, b)))
+
+-- what the words ask to be shown
+abbrev pub IsShow : Look → Words → Adjacency → Show → Type 0
+IsShow Plan words g show = show ≡ Rows
+IsShow Walk words g show = (a b : ℕ) × IsNode g (from_name words) a × IsNode g (to_name words) b × (show ≡ Between a b)
+IsShow Stats words g show = show ≡ Figures
+IsShow Draw words g show = IsDrawn (from_name words) (to_name words) g show
+IsShow Prefixes words g show = show ≡ Tables words.disjoint
+
+-- the line of a refusal that comes before any plan: of the root or the order, of an end
+abbrev pub RefusesLabels : Words → Option (List ℕ) → Adjacency → List ℕ → Type 0
+RefusesLabels words order g line = AnswersLabels words order g (λ labels answer. ⊥) (Refused line)
+
+abbrev pub RefusesEnds : Adjacency → Option Name → Option Name → List ℕ → Type 0
+RefusesEnds g from to line = AnswersEnds g from to (λ a b answer. ⊥) (Refused line)
+
+abbrev pub RefusesShow : Look → Words → Adjacency → List ℕ → Type 0
+RefusesShow look words g line = AnswersAsked look words g (λ show answer. ⊥) (Refused line)

@@ -1,5 +1,5 @@
 -- What a graph, a root and a script come to as a run.
-use Rattle.std.specs.Prelude.{◌≡◌, ◌≢◌, ℕ, ◌==◌, if◌then◌else◌, Bool, true, false, List, None, Result, Ok, Err, MatchResult, flat_map}
+use Rattle.std.specs.Prelude.{◌≡◌, ◌≢◌, ℕ, ◌==◌, if◌then◌else◌, Bool, true, false, List, None, Result, Ok, Err, flat_map}
 use Rattle.std.specs.List.{list_any, zip}
 use Rattle.ir_model.specs.Graph.{Name, Adjacency, names}
 use Rattle.ir_model.specs.Network.{Network}
@@ -16,12 +16,14 @@ use Rattle.ir_core.specs.Opened.{IsOpenedWith, IsOpenRefusal, open_refused}
 use Rattle.ir_core.specs.Run.{IsPlayed}
 use Rattle.ir_script.specs.declared.script.Script.{Script}
 use Rattle.ir_core.specs.declared.event.Step.{Step}
-use Rattle.ir_script.specs.Script.{Listing, listing_of}
+use Rattle.ir_script.specs.Command.{line_step}
+use Rattle.ir_script.specs.Script.{Listing}
 use Rattle.ir_trace.specs.Written.{records_text, segments_text}
 use Rattle.ir_words.specs.declared.words.Words.{Words}
 use Rattle.ir_words.specs.Answer.{Answer, Ran, Found, Refused, NoThread}
-use Rattle.ir_words.specs.Lines.{script_line, opening_line, reply_line}
-use Rattle.ir_words.specs.Openings.{root_name, opening_by, AnswersRoot}
+use Rattle.ir_words.specs.Lines.{opening_line, reply_line}
+use Rattle.ir_words.specs.Openings.{opening_by}
+use Rattle.ir_shell.specs.Stops.{AnswersScripted}
 
 -- the steps or commands of a script, and beside each the number of its line
 abbrev pub listing_in : {A : Type 0} → Script A → Listing A
@@ -64,7 +66,4 @@ AnswersRun g words script root (Refused line) =
 
 -- the answer to a graph and the lines of a script: the script's first fault comes before the refusal of the opening
 abbrev pub AnswersScript : Words → List (List ℕ) → Adjacency → Answer → Type 0
-AnswersScript words script g answer =
-    MatchResult (listing_of (names g) (network_of_graph g) script)
-    (λ listing. AnswersRoot g (root_name words) (AnswersRun g words listing) answer)
-    (λ f. answer ≡ Refused (script_line f))
+AnswersScript words script g answer = AnswersScripted line_step words script (λ g. AnswersRun g words) g answer

@@ -1,6 +1,7 @@
 //! The program's shell: what `route` does over readers and writers.
 #![tactic(auto)]
 
+mod asking;
 mod checking;
 mod live;
 mod look;
@@ -8,6 +9,7 @@ mod plan;
 mod play;
 mod running;
 
+pub use ir_plan::{Unwatched, Watch};
 pub use ir_script::{Command, Script, ScriptError, ScriptFault, parse_live, parse_script};
 pub use ir_words::read::Source;
 pub use ir_words::words::{Format, Numbering, Sub, Words, WordsError, read_words};

@@ -1,32 +1,28 @@
 //! A live run of a script's commands, from the texts of a topology and a script.
-ghost use Rattle.std.specs.Prelude.{◌≡◌, length, false, IfOk, slice_index_or, string_bytes};
+ghost use Rattle.std.specs.Prelude.{◌≡◌, ◌≢◌, false, IfOk, slice_index_or, string_bytes};
 ghost use Rattle.std.specs.Borrow.{Bor};
 ghost use Rattle.std.specs.List.{list_any};
 ghost use Rattle.ir_model.specs.Graph.{names};
 ghost use Rattle.ir_model.specs.OfGraph.{network_of_graph};
 ghost use Rattle.ir_model.specs.Text.{lines};
+ghost use Rattle.ir_control.specs.declared.error.NetError.TheVariants.{NoMemory as NetNoMemory};
 ghost use Rattle.ir_trace.specs.Written.{HaveSegments};
+ghost use Rattle.ir_words.specs.Openings.{AnswersTopology};
 ghost use Rattle.ir_shell.specs.Lives.{is_for_memory, net_line, refusals_text, IsOpenedNet, AnswersLive, AnswersLiveScript};
-ghost use Rattle.ir_words.specs.Openings.{root_name, AnswersTopology, AnswersRoot};
 ghost use Rattle.ir_shell.specs.Plays.{listing_in, run_text};
-ghost use Rattle.ir_words.specs.Replies.{answer_of};
-ghost use Rattle.ir_words.specs.Reading.{texts_of};
-ghost use Rattle.ir_shell.specs.Asked.{LiveAnswers, sim_sources};
+ghost use Rattle.ir_shell.specs.Stops.{StopsAs, Gives};
 
+use crate::asking::{Asked, Stop, read_asked};
 use crate::play::run_text;
 use ir_control::{Net, NetError};
 use ir_core::Refused;
 use ir_graph::Graph;
 use ir_links::Moments;
 use ir_live::{Every, Live, LiveError, run_live};
-use ir_model::Fault;
-use ir_script::{Command, Script, ScriptFault, parse_live};
+use ir_script::Command;
 use ir_tables::Topology;
-use ir_words::cut::cut;
-use ir_words::lines::{
-    OPENINGS, named_opening, opening_line, push_reply_line, script_line, topology_line,
-};
-use ir_words::open::{no_root, opening_of, read_topology, root_of};
+use ir_words::lines::{OPENINGS, named_opening, push_reply_line};
+use ir_words::open::opening_of;
 use ir_words::reply::Reply;
 use ir_words::words::Words;
 use ir_worker::{Gate, Parcel};
@@ -112,137 +108,69 @@ fn net_line(alloc: Global, error: NetError) -> Result<String, AllocError>
     named_opening(alloc, OPENINGS[error.code() as usize - 1])
 }
 
+/// Why there is no net.
+fn net_stop(alloc: Global, error: NetError) -> Stop
+    ensures { StopsAs result (λ line. (error ≢ NetNoMemory) × (line ≡ net_line error)) }
+{
+    if error == NetError::NoMemory {
+        return Stop::NoMemory;
+    }
+    match net_line(alloc, error) {
+        Ok(line) => Stop::Refused(line),
+        Err(_) => Stop::NoMemory,
+    }
+}
+
 /// The answer to a script and a net that was opened for it. Its parts were not handed out before; that they are not handed
 /// out, or that the board has no place for a reader of each node, is told as want of memory.
 fn answer_net<T: Threads + Moments<Parcel> + Sync>(
     rt: &T,
     alloc: Global,
     words: &Words,
-    graph: &Graph,
-    topology: &Topology,
-    script: &Script<Command>,
-    root: u16,
+    asked: &Asked<Command>,
     net: &Net,
-) -> Result<Reply, AllocError>
-    requires over { topology.now ≡ network_of_graph graph.now }
-    requires opened { IsOpenedNet graph.now words.now root net.now }
-    ensures { IfOk result (λ reply. AnswersLive (Bor T) T.was_full graph.now words.now (listing_in script.now) root
-        (answer_of reply)) }
+) -> Result<Reply, Stop>
+    requires over { asked.now.network ≡ network_of_graph asked.now.graph }
+    requires opened { IsOpenedNet asked.now.graph words.now asked.now.root net.now }
+    ensures { Gives (AnswersLive (Bor T) T.was_full asked.now.graph words.now (listing_in asked.now.script)
+        asked.now.root) result }
 {
-    let _nodes = topology.nodes();
-    match run_live(rt, alloc, net, script.steps(), &Open, &Every) {
+    let _nodes = asked.network.nodes();
+    match run_live(rt, alloc, net, asked.script.steps(), &Open, &Every) {
         Ok(live) => {
             let (trace, refused) = live_texts(
                 alloc,
-                graph,
-                topology,
+                &asked.graph,
+                &asked.network,
                 words.restamps,
-                script.lines(),
+                asked.script.lines(),
                 &live,
             )?;
             Ok(Reply::Ran(trace, refused))
         }
         Err(LiveError::NoThread) => Ok(Reply::NoThread),
-        Err(LiveError::Spent | LiveError::NoMemory | LiveError::TooManyReaders) => Err(AllocError),
+        Err(LiveError::Spent | LiveError::NoMemory | LiveError::TooManyReaders) => {
+            Err(Stop::NoMemory)
+        }
     }
 }
 
-/// The answer to a script and the number of a root.
-fn answer_live_root<T: Threads + Moments<Parcel> + Sync>(
-    rt: &T,
-    alloc: Global,
-    words: &Words,
-    graph: &Graph,
-    topology: &Topology,
-    script: &Script<Command>,
-    root: u16,
-) -> Result<Reply, AllocError>
-    requires { topology.now ≡ network_of_graph graph.now }
-    ensures { IfOk result (λ reply. AnswersLive (Bor T) T.was_full graph.now words.now (listing_in script.now) root
-        (answer_of reply)) }
-{
-    let opening = opening_of(alloc, words, topology, root)?;
-    match Net::new(rt, alloc, opening) {
-        Ok(net) => answer_net(rt, alloc, words, graph, topology, script, root, &net),
-        Err(NetError::NoMemory) => Err(AllocError),
-        Err(error) => Ok(Reply::Refused(net_line(alloc, error)?)),
-    }
-}
-
-/// The answer to a script.
-fn answer_commands<T: Threads + Moments<Parcel> + Sync>(
-    rt: &T,
-    alloc: Global,
-    words: &Words,
-    graph: &Graph,
-    topology: &Topology,
-    script: &Script<Command>,
-) -> Result<Reply, AllocError>
-    requires { topology.now ≡ network_of_graph graph.now }
-    ensures { IfOk result (λ reply. AnswersRoot graph.now (root_name words.now)
-        (AnswersLive (Bor T) T.was_full graph.now words.now (listing_in script.now)) (answer_of reply)) }
-{
-    match root_of(graph, &words.root) {
-        Some(place) => answer_live_root(rt, alloc, words, graph, topology, script, place),
-        None => Ok(Reply::Refused(opening_line(alloc, no_root(graph))?)),
-    }
-}
-
-/// The answer to a graph and the text of a script.
-fn answer_live_script<T: Threads + Moments<Parcel> + Sync>(
-    rt: &T,
-    alloc: Global,
-    words: &Words,
-    graph: &Graph,
-    text: &[u8],
-) -> Result<Reply, AllocError>
-    ensures { IfOk result (λ reply. AnswersLiveScript (Bor T) T.was_full words.now (lines text.now) graph.now
-        (answer_of reply)) }
-{
-    let topology = Topology::of(alloc, graph)?;
-    match parse_live(alloc, text, graph, &topology) {
-        Ok(script) => answer_commands(rt, alloc, words, graph, &topology, &script),
-        Err(error) => match error.kind {
-            ScriptFault::NoMemory => Err(AllocError),
-            kind => Ok(Reply::Refused(script_line(alloc, error.line, kind)?)),
-        },
-    }
-}
-
-/// The answer to the texts of a topology and of a script.
-fn answer_live<T: Threads + Moments<Parcel> + Sync>(
+/// The answer of `live` to the texts of a topology and of a script: the trace of the packets, and a line for each command
+/// that was refused.
+pub fn run_commands<T: Threads + Moments<Parcel> + Sync>(
     rt: &T,
     alloc: Global,
     words: &Words,
     topology: &[u8],
     script: &[u8],
-) -> Result<Reply, AllocError>
-    ensures { IfOk result (λ reply. AnswersTopology words.now.format (lines topology.now)
-        (AnswersLiveScript (Bor T) T.was_full words.now (lines script.now)) (answer_of reply)) }
+) -> Result<Reply, Stop>
+    ensures { Gives (AnswersTopology words.now.format (lines topology.now)
+        (AnswersLiveScript (Bor T) T.was_full words.now (lines script.now))) result }
 {
-    match read_topology(alloc, words.format, topology) {
-        Ok(graph) => answer_live_script(rt, alloc, words, &graph, script),
-        Err(error) => match error.kind {
-            Fault::NoMemory => Err(AllocError),
-            kind => Ok(Reply::Refused(topology_line(alloc, error.line, kind)?)),
-        },
-    }
-}
-
-/// The answer of `live` to the texts of the inputs.
-pub fn answer_live_texts<T: Threads + Moments<Parcel> + Sync>(
-    rt: &T,
-    alloc: Global,
-    words: &Words,
-    texts: &[Vec<u8>],
-) -> Result<Reply, AllocError>
-    requires { length texts.now ≡ length (sim_sources words.now) }
-    ensures { IfOk result (λ reply. LiveAnswers (Bor T) T.was_full words.now (texts_of texts.now) (answer_of reply)) }
-{
-    if words.is_one_input() {
-        let (topology, script) = cut(texts[0].as_slice());
-        answer_live(rt, alloc, words, topology, script)
-    } else {
-        answer_live(rt, alloc, words, texts[0].as_slice(), texts[1].as_slice())
+    let asked = read_asked::<Command>(alloc, words, topology, script)?;
+    let opening = opening_of(alloc, words, &asked.network, asked.root)?;
+    match Net::new(rt, alloc, opening) {
+        Ok(net) => answer_net(rt, alloc, words, &asked, &net),
+        Err(error) => Err(net_stop(alloc, error)),
     }
 }

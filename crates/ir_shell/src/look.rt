@@ -1,28 +1,27 @@
 //! What is shown of a topology's plan, from the text of the topology.
-ghost use Rattle.std.specs.Prelude.{◌≡◌, ◌≢◌, ◌<◌, ◌∷◌, [], Some, IfOk, length, string_bytes};
+ghost use Rattle.std.specs.Prelude.{◌≡◌, ◌≢◌, ◌<◌, IfOk, IfErr, IsSome, length, string_bytes};
 ghost use Rattle.ir_model.specs.Graph.{names};
-ghost use Rattle.ir_model.specs.Text.{lines};
-ghost use Rattle.ir_shell.specs.Asked.{look_sources};
-ghost use Rattle.ir_shell.specs.Looks.{from_name, to_name, AreAmong, Says, AnswersEnds, AnswersShow, AnswersLook, LookAnswers};
-ghost use Rattle.ir_words.specs.Openings.{root_name, label_order, AnswersRoot, AnswersOrder};
-ghost use Rattle.ir_words.specs.Words.{FitsItsKind};
 ghost use Rattle.ir_model.specs.Network.{node_count};
-ghost use Rattle.ir_shell.specs.Plans.{FromRoot, ByList, MayLabel, labelling_of};
+ghost use Rattle.ir_shell.specs.Asked.{look_sources};
+ghost use Rattle.ir_shell.specs.Looks.{from_name, to_name, AnswersShow, AreAmong, AreTexts, Says, Shows, order_in, IsNode, IsLabelling, IsShow, RefusesLabels, RefusesEnds, RefusesShow, LookAnswers};
+ghost use Rattle.ir_shell.specs.Plans.{MayLabel, labelling_of};
+ghost use Rattle.ir_shell.specs.Stops.{StopsAs, Gives};
 ghost use Rattle.ir_words.specs.Reading.{texts_of};
 ghost use Rattle.ir_words.specs.Replies.{answer_of};
+ghost use Rattle.ir_words.specs.Words.{FitsItsKind};
 
+use crate::asking::{Stop, opening_stop, read_graph, read_node};
 use crate::plan::{Labels, build_plan};
-use ir_core::OpenError;
 use ir_figures::figures_text;
 use ir_graph::Graph;
 use ir_lines::prefixes_text_in_threads;
-use ir_look::plan_text::plan_text;
+use ir_look::plan_text::PlanText;
 use ir_look::{draw_text, walk_text};
-use ir_model::{Fault, Kind};
+use ir_model::Kind;
 use ir_order::{OrderFaultKind, read_order};
-use ir_plan::Plan;
-use ir_words::lines::{numbering_line, opening_line, topology_line};
-use ir_words::open::{label_order, no_root, read_topology, root_of};
+use ir_plan::{Plan, Watch};
+use ir_words::lines::numbering_line;
+use ir_words::open::label_order;
 use ir_words::reply::Reply;
 use ir_words::words::Words;
 use std::alloc::{AllocError, Global};
@@ -56,7 +55,7 @@ pub enum Show {
     Tables(bool),
 }
 
-/// What is shown of a plan.
+/// What is shown of a plan other than its rows.
 fn text_of<T: Threads + Sync>(
     rt: &T,
     alloc: Global,
@@ -67,10 +66,11 @@ fn text_of<T: Threads + Sync>(
 ) -> Result<String, AllocError>
     requires nodes { node_count plan.now.network ≡ length graph.now }
     requires ends { AreAmong (length graph.now) show }
+    requires no_rows { show ≢ Show.Rows }
     ensures { IfOk result (λ text. Says show (names graph.now) plan.now (string_bytes text)) }
 {
     match show {
-        Show::Rows => plan_text(alloc, graph, plan),
+        Show::Rows => unreachable!(),
         Show::Between(from, to) => walk_text(alloc, graph, plan, from, to),
         Show::Figures => figures_text(alloc, graph, plan),
         Show::Drawing(ends) => draw_text(alloc, graph, plan, ends),
@@ -80,224 +80,147 @@ fn text_of<T: Threads + Sync>(
     }
 }
 
-/// What is shown of the plan over a graph, by its labels.
-fn answer_show<T: Threads + Sync>(
+/// What is shown of a plan. The text of its rows is written as it is made, and each other text is made whole.
+fn reply_of<T: Threads + Sync>(
     rt: &T,
     alloc: Global,
-    words: &Words,
-    graph: &Graph,
-    labels: Labels,
+    graph: Graph,
+    plan: Plan,
     show: Show,
+    most: Option<usize>,
 ) -> Result<Reply, AllocError>
-    requires labels { MayLabel graph.now words.now.kind (labelling_of labels) }
-    requires ends { 0 < length graph.now → AreAmong (length graph.now) show }
-    ensures { IfOk result (λ reply. AnswersShow words.now graph.now (labelling_of labels) show (answer_of reply)) }
+    requires nodes { node_count plan.network ≡ length graph }
+    requires ends { AreAmong (length graph) show }
+    ensures { IfOk result (λ reply. Shows show (names graph) plan (answer_of reply)) }
 {
-    match build_plan(rt, alloc, graph, words.kind, labels, words.threads) {
-        Ok(plan) => {
-            let _nodes = plan.nodes();
-            let text = text_of(rt, alloc, graph, &plan, show, words.threads)?;
-            Ok(Reply::Ran(text, String::new(alloc)))
-        }
-        Err(OpenError::NoMemory) => Err(AllocError),
-        Err(error) => Ok(Reply::Refused(opening_line(alloc, error)?)),
+    if show == Show::Rows {
+        return Ok(Reply::Plan(PlanText::new(alloc, graph, plan)?));
     }
+    let text = text_of(rt, alloc, &graph, &plan, show, most)?;
+    Ok(Reply::Ran(text, String::new(alloc)))
 }
 
-/// The walk between the ends that the words name.
-fn answer_walk<T: Threads + Sync>(
-    rt: &T,
-    alloc: Global,
-    words: &Words,
-    graph: &Graph,
-    labels: Labels,
-) -> Result<Reply, AllocError>
-    requires labels { MayLabel graph.now words.now.kind (labelling_of labels) }
-    ensures { IfOk result (λ reply. AnswersLook Look.Walk words.now graph.now
-        (labelling_of labels) (answer_of reply)) }
+/// The texts of a topology and, where the words have one, of an order.
+fn look_texts<'a>(words: &Words, texts: &'a [Vec<u8>]) -> (&'a [u8], Option<&'a [u8]>)
+    requires kind { FitsItsKind words.now }
+    requires texts { length texts.now ≡ length (look_sources words.now) }
+    ensures texts { AreTexts (texts_of texts.now) result.0.now (order_in result.1) }
+    ensures kind { IsSome result.1 → words.now.kind ≢ Kind.Tree }
 {
-    let Some(from) = root_of(graph, &words.from) else {
-        return Ok(Reply::Refused(opening_line(alloc, no_root(graph))?));
-    };
-    match root_of(graph, &words.to) {
-        Some(to) => answer_show(rt, alloc, words, graph, labels, Show::Between(from, to)),
-        None => Ok(Reply::Refused(opening_line(alloc, no_root(graph))?)),
-    }
-}
-
-/// The drawing with the walk between the ends that the words name in bold.
-fn answer_bold<T: Threads + Sync>(
-    rt: &T,
-    alloc: Global,
-    words: &Words,
-    graph: &Graph,
-    labels: Labels,
-) -> Result<Reply, AllocError>
-    requires labels { MayLabel graph.now words.now.kind (labelling_of labels) }
-    ensures { IfOk result (λ reply. AnswersEnds graph.now (from_name words.now) (to_name words.now)
-        (λ a b. AnswersShow words.now graph.now (labelling_of labels) (Show.Drawing (Some (a, b))))
-        (answer_of reply)) }
-{
-    let Some(from) = root_of(graph, &words.from) else {
-        return Ok(Reply::Refused(opening_line(alloc, no_root(graph))?));
-    };
-    match root_of(graph, &words.to) {
-        Some(to) => {
-            let ends = Some((from, to));
-            answer_show(rt, alloc, words, graph, labels, Show::Drawing(ends))
-        }
-        None => Ok(Reply::Refused(opening_line(alloc, no_root(graph))?)),
-    }
-}
-
-/// The drawing, with a walk in bold if the words name both of its ends.
-fn answer_draw<T: Threads + Sync>(
-    rt: &T,
-    alloc: Global,
-    words: &Words,
-    graph: &Graph,
-    labels: Labels,
-) -> Result<Reply, AllocError>
-    requires labels { MayLabel graph.now words.now.kind (labelling_of labels) }
-    ensures { IfOk result (λ reply. AnswersLook Look.Draw words.now graph.now
-        (labelling_of labels) (answer_of reply)) }
-{
-    if words.from.is_some() && words.to.is_some() {
-        answer_bold(rt, alloc, words, graph, labels)
+    if words.has_order() {
+        (texts[0].as_slice(), Some(texts[1].as_slice()))
     } else {
-        answer_show(rt, alloc, words, graph, labels, Show::Drawing(None))
+        (texts[0].as_slice(), None)
     }
 }
 
-/// The answer to a graph and labels.
-fn answer_labels<T: Threads + Sync>(
-    rt: &T,
+/// By what the words ask the nodes to be labelled: from the root that they name, or by an order where there is one.
+fn read_labels(
     alloc: Global,
-    look: Look,
     words: &Words,
     graph: &Graph,
-    labels: Labels,
-) -> Result<Reply, AllocError>
-    requires labels { MayLabel graph.now words.now.kind (labelling_of labels) }
-    ensures { IfOk result (λ reply. AnswersLook look words.now graph.now (labelling_of labels) (answer_of reply)) }
+    order: Option<&[u8]>,
+) -> Result<Labels, Stop>
+    requires { IsSome order → words.now.kind ≢ Kind.Tree }
+    ensures labels { IfOk result (λ labels. IsLabelling words.now (order_in order.entry) graph.now
+        (labelling_of labels)) }
+    ensures may { IfOk result (λ labels. MayLabel graph.now words.now.kind (labelling_of labels)) }
+    ensures stop { IfErr result (λ s. StopsAs s
+        (RefusesLabels words.now (order_in order.entry) graph.now)) }
+{
+    let Some(text) = order else {
+        let root = read_node(alloc, graph, &words.root)?;
+        return Ok(Labels::FromRoot(label_order(&words.numbering), root));
+    };
+    match read_order(alloc, graph, text) {
+        Ok(order) => Ok(Labels::Listed(order)),
+        Err(fault) => match fault.kind {
+            OrderFaultKind::NoMemory => Err(Stop::NoMemory),
+            kind => Err(Stop::Refused(numbering_line(alloc, fault.line, kind)?)),
+        },
+    }
+}
+
+/// The numbers of the ends that the words name.
+fn read_ends(alloc: Global, words: &Words, graph: &Graph) -> Result<(u16, u16), Stop>
+    ensures from { IfOk result (λ ends. IsNode graph.now (from_name words.now) ends.0) }
+    ensures to { IfOk result (λ ends. IsNode graph.now (to_name words.now) ends.1) }
+    ensures among { IfOk result (λ ends. 0 < length graph.now
+        → (ends.0 < length graph.now) × (ends.1 < length graph.now)) }
+    ensures stop { IfErr result (λ s. StopsAs s (RefusesEnds graph.now (from_name words.now) (to_name words.now))) }
+{
+    let from = read_node(alloc, graph, &words.from)?;
+    let to = read_node(alloc, graph, &words.to)?;
+    Ok((from, to))
+}
+
+/// What of a plan is to be shown, with the ends that the words name. A drawing has ends only where both are named.
+fn read_show(alloc: Global, look: Look, words: &Words, graph: &Graph) -> Result<Show, Stop>
+    ensures show { IfOk result (λ show. IsShow look words.now graph.now show) }
+    ensures among { IfOk result (λ show. 0 < length graph.now → AreAmong (length graph.now) show) }
+    ensures stop { IfErr result (λ s. StopsAs s (RefusesShow look words.now graph.now)) }
 {
     match look {
-        Look::Plan => answer_show(rt, alloc, words, graph, labels, Show::Rows),
-        Look::Walk => answer_walk(rt, alloc, words, graph, labels),
-        Look::Stats => answer_show(rt, alloc, words, graph, labels, Show::Figures),
-        Look::Draw => answer_draw(rt, alloc, words, graph, labels),
-        Look::Prefixes => {
-            let tables = Show::Tables(words.disjoint);
-            answer_show(rt, alloc, words, graph, labels, tables)
+        Look::Plan => Ok(Show::Rows),
+        Look::Stats => Ok(Show::Figures),
+        Look::Prefixes => Ok(Show::Tables(words.disjoint)),
+        Look::Walk => {
+            let (from, to) = read_ends(alloc, words, graph)?;
+            Ok(Show::Between(from, to))
+        }
+        Look::Draw => {
+            if words.from.is_none() || words.to.is_none() {
+                return Ok(Show::Drawing(None));
+            }
+            let ends = read_ends(alloc, words, graph)?;
+            Ok(Show::Drawing(Some(ends)))
         }
     }
 }
 
-/// The answer to a graph, by the root that the words name.
-fn answer_graph<T: Threads + Sync>(
+/// The answer that shows a plan, or tells what refuses it.
+fn show_plan<T: Threads + Sync>(
     rt: &T,
     alloc: Global,
-    look: Look,
     words: &Words,
-    graph: &Graph,
-) -> Result<Reply, AllocError>
-    ensures { IfOk result (λ reply. AnswersRoot graph.now (root_name words.now)
-        (λ root. AnswersLook look words.now graph.now (FromRoot (label_order words.now.numbering) root))
-        (answer_of reply)) }
+    graph: Graph,
+    labels: Labels,
+    show: Show,
+    watch: &(impl Watch + Sync),
+) -> Result<Reply, Stop>
+    requires labels { MayLabel graph words.now.kind (labelling_of labels) }
+    requires ends { 0 < length graph → AreAmong (length graph) show }
+    ensures { Gives (AnswersShow words.now graph (labelling_of labels) show) result }
 {
-    match root_of(graph, &words.root) {
-        Some(root) => {
-            let labels = Labels::FromRoot(label_order(&words.numbering), root);
-            answer_labels(rt, alloc, look, words, graph, labels)
+    match build_plan(rt, alloc, &graph, words.kind, labels, words.threads, watch) {
+        Ok(plan) => {
+            let _nodes = plan.nodes();
+            Ok(reply_of(rt, alloc, graph, plan, show, words.threads)?)
         }
-        None => Ok(Reply::Refused(opening_line(alloc, no_root(graph))?)),
+        Err(error) => Err(opening_stop(alloc, error)),
     }
 }
 
-/// The answer to a graph and the text of an order of its nodes.
-fn answer_order<T: Threads + Sync>(
-    rt: &T,
-    alloc: Global,
-    look: Look,
-    words: &Words,
-    graph: &Graph,
-    text: &[u8],
-) -> Result<Reply, AllocError>
-    requires { words.now.kind ≢ Kind.Tree }
-    ensures { IfOk result (λ reply. AnswersOrder graph.now (lines text.now)
-        (λ places. AnswersLook look words.now graph.now (ByList places)) (answer_of reply)) }
-{
-    match read_order(alloc, graph, text) {
-        Ok(order) => answer_labels(rt, alloc, look, words, graph, Labels::Listed(order)),
-        Err(fault) => match fault.kind {
-            OrderFaultKind::NoMemory => Err(AllocError),
-            kind => Ok(Reply::Refused(numbering_line(alloc, fault.line, kind)?)),
-        },
-    }
-}
-
-/// The answer to the text of a topology, where the numbering is depth first.
-fn answer_topology<T: Threads + Sync>(
-    rt: &T,
-    alloc: Global,
-    look: Look,
-    words: &Words,
-    topology: &[u8],
-) -> Result<Reply, AllocError>
-    ensures { IfOk result (λ reply. LookAnswers look words.now (topology.now ∷ []) (answer_of reply)) }
-{
-    match read_topology(alloc, words.format, topology) {
-        Ok(graph) => answer_graph(rt, alloc, look, words, &graph),
-        Err(error) => match error.kind {
-            Fault::NoMemory => Err(AllocError),
-            kind => Ok(Reply::Refused(topology_line(alloc, error.line, kind)?)),
-        },
-    }
-}
-
-/// The answer to the texts of a topology and of an order.
-fn answer_numbered<T: Threads + Sync>(
-    rt: &T,
-    alloc: Global,
-    look: Look,
-    words: &Words,
-    topology: &[u8],
-    order: &[u8],
-) -> Result<Reply, AllocError>
-    requires { words.now.kind ≢ Kind.Tree }
-    ensures { IfOk result (λ reply. LookAnswers look words.now (topology.now ∷ order.now ∷ []) (answer_of reply)) }
-{
-    match read_topology(alloc, words.format, topology) {
-        Ok(graph) => answer_order(rt, alloc, look, words, &graph, order),
-        Err(error) => match error.kind {
-            Fault::NoMemory => Err(AllocError),
-            kind => Ok(Reply::Refused(topology_line(alloc, error.line, kind)?)),
-        },
-    }
-}
-
-/// The answer to the text of a topology, and to that of an order where the words have one.
-pub fn answer_look<T: Threads + Sync>(
+/// The answer to the text of a topology, and to that of an order where the words have one: what is shown of the plan.
+/// Refused are, in this order, the topology's first fault, the order's or a root that is no node, an end that is none, and
+/// what refuses the plan. The watch is told of the plan's rows.
+pub fn look_at<T: Threads + Sync>(
     rt: &T,
     alloc: Global,
     look: Look,
     words: &Words,
     texts: &[Vec<u8>],
-) -> Result<Reply, AllocError>
+    watch: &(impl Watch + Sync),
+) -> Result<Reply, Stop>
     requires kind { FitsItsKind words.now }
     requires texts { length texts.now ≡ length (look_sources words.now) }
-    ensures { IfOk result (λ reply. LookAnswers look words.now (texts_of texts.now) (answer_of reply)) }
+    ensures { Gives (LookAnswers look words.now (texts_of texts.now)) result }
 {
-    if words.has_order() {
-        answer_numbered(
-            rt,
-            alloc,
-            look,
-            words,
-            texts[0].as_slice(),
-            texts[1].as_slice(),
-        )
-    } else {
-        answer_topology(rt, alloc, look, words, texts[0].as_slice())
+    let (topology, order) = look_texts(words, texts);
+    let graph = read_graph(alloc, words.format, topology)?;
+    let labels = read_labels(alloc, words, &graph, order)?;
+    match read_show(alloc, look, words, &graph) {
+        Ok(show) => show_plan(rt, alloc, words, graph, labels, show, watch),
+        Err(stop) => Err(stop),
     }
 }

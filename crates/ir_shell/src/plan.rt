@@ -8,7 +8,7 @@ ghost use Rattle.ir_shell.specs.Plans.{FromRoot, ByList, MayLabel, IsLabelled, l
 use ir_core::OpenError;
 use ir_graph::Graph;
 use ir_model::Kind;
-use ir_plan::{LabelOrder, Plan, PlanError, plan_in_order};
+use ir_plan::{LabelOrder, Plan, PlanError, Watch, plan_in_order_watched};
 use ir_tables::Topology;
 use std::alloc::Global;
 use std::thread::Threads;
@@ -35,7 +35,7 @@ pub enum Labels {
 }
 
 /// The plan of a kind and these labels over the network of a graph, its rows made in at most so many threads, or in as many
-/// as suit the processors.
+/// as suit the processors. The watch is told of the rows.
 pub fn build_plan<T: Threads + Sync>(
     rt: &T,
     alloc: Global,
@@ -43,6 +43,7 @@ pub fn build_plan<T: Threads + Sync>(
     kind: Kind,
     labels: Labels,
     most: Option<usize>,
+    watch: &(impl Watch + Sync),
 ) -> Result<Plan, OpenError>
     requires { MayLabel graph.now kind (labelling_of labels) }
     ensures scheme { IfOk result (λ plan. IsScheme plan) }
@@ -52,8 +53,10 @@ pub fn build_plan<T: Threads + Sync>(
     ensures refused { IfErr result (RefusesBuild (network_of_graph graph.now) (labelling_of labels)) }
 {
     match labels {
-        Labels::FromRoot(order, root) => build_rooted(rt, alloc, graph, kind, order, root, most),
-        Labels::Listed(list) => build_listed(rt, alloc, graph, kind, list, most),
+        Labels::FromRoot(order, root) => build_rooted(
+            rt, alloc, graph, kind, order, root, most, watch,
+        ),
+        Labels::Listed(list) => build_listed(rt, alloc, graph, kind, list, most, watch),
     }
 }
 
@@ -66,6 +69,7 @@ fn build_rooted<T: Threads + Sync>(
     order: LabelOrder,
     root: u16,
     most: Option<usize>,
+    watch: &(impl Watch + Sync),
 ) -> Result<Plan, OpenError>
     ensures scheme { IfOk result (λ plan. IsScheme plan) }
     ensures labelled { IfOk result (λ plan. IsLabelled (FromRoot order root) plan) }
@@ -76,7 +80,7 @@ fn build_rooted<T: Threads + Sync>(
     let Ok(topology) = Topology::of(alloc, graph) else {
         return Err(OpenError::NoMemory);
     };
-    match plan_in_order(rt, alloc, topology, order, kind, root, most) {
+    match plan_in_order_watched(rt, alloc, topology, order, kind, root, most, watch) {
         Ok(plan) => Ok(plan),
         Err(refused) => {
             let (error, _topology) = refused;
@@ -93,6 +97,7 @@ fn build_listed<T: Threads + Sync>(
     kind: Kind,
     list: Vec<u16>,
     most: Option<usize>,
+    watch: &(impl Watch + Sync),
 ) -> Result<Plan, OpenError>
     requires kind { kind ≢ Kind.Tree }
     requires listing { IsListing (length graph.now) list.items }
@@ -105,7 +110,7 @@ fn build_listed<T: Threads + Sync>(
     let Ok(topology) = Topology::of(alloc, graph) else {
         return Err(OpenError::NoMemory);
     };
-    match Plan::build_numbered_in_threads(rt, alloc, topology, kind, list, most) {
+    match Plan::build_numbered_watched(rt, alloc, topology, kind, list, most, watch) {
         Ok(plan) => Ok(plan),
         Err((PlanError::Empty, _)) => Err(OpenError::Empty),
         Err((PlanError::Disconnected, _)) => Err(OpenError::Disconnected),

@@ -1,25 +1,21 @@
 //! A run of a script's steps, from the texts of a topology and a script.
-ghost use Rattle.std.specs.Prelude.{length, ◌≡◌, false, IfOk, string_bytes};
+ghost use Rattle.std.specs.Prelude.{◌≡◌, false, IfOk, string_bytes};
 ghost use Rattle.std.specs.List.{list_any};
 ghost use Rattle.ir_model.specs.Graph.{names};
 ghost use Rattle.ir_model.specs.OfGraph.{network_of_graph};
 ghost use Rattle.ir_model.specs.Text.{lines};
 ghost use Rattle.ir_trace.specs.Written.{HaveSegments};
-ghost use Rattle.ir_words.specs.Openings.{root_name, AnswersTopology, AnswersRoot};
-ghost use Rattle.ir_shell.specs.Plays.{listing_in, wants_memory, refused_text, run_text, AnswersRun, AnswersScript};
-ghost use Rattle.ir_words.specs.Replies.{answer_of};
-ghost use Rattle.ir_words.specs.Reading.{texts_of};
-ghost use Rattle.ir_shell.specs.Asked.{SimAnswers, sim_sources};
+ghost use Rattle.ir_words.specs.Openings.{AnswersTopology};
+ghost use Rattle.ir_shell.specs.Plays.{wants_memory, refused_text, run_text, AnswersScript};
+ghost use Rattle.ir_shell.specs.Stops.{Gives};
 
-use ir_core::{OpenError, Played, Record, Refused, Reply as Answered, Step, play};
+use crate::asking::{Stop, opening_stop, read_asked};
+use ir_core::{Played, Record, Refused, Reply as Answered, Step, play};
 use ir_graph::Graph;
-use ir_model::Fault;
-use ir_script::{Script, ScriptFault, parse_script};
 use ir_tables::Topology;
 use ir_trace::{trace_text, trace_text_2};
-use ir_words::cut::cut;
-use ir_words::lines::{opening_line, push_reply_line, script_line, topology_line};
-use ir_words::open::{no_root, opening_of, read_topology, root_of};
+use ir_words::lines::push_reply_line;
+use ir_words::open::opening_of;
 use ir_words::reply::Reply;
 use ir_words::words::Words;
 use std::alloc::{AllocError, Global};
@@ -96,110 +92,32 @@ fn run_texts(
     Ok((trace, refused))
 }
 
-/// The answer to a script and the number of a root.
-fn answer_root(
-    rt: &(impl Threads + Sync),
-    alloc: Global,
-    words: &Words,
-    graph: &Graph,
-    topology: &Topology,
-    script: &Script<Step>,
-    root: u16,
-) -> Result<Reply, AllocError>
-    requires { topology.now ≡ network_of_graph graph.now }
-    ensures { IfOk result (λ reply. AnswersRun graph.now words.now (listing_in script.now) root (answer_of reply)) }
-{
-    let opening = opening_of(alloc, words, topology, root)?;
-    match play(rt, alloc, opening, script.steps()) {
-        Ok(played) => {
-            let (trace, refused) = run_texts(
-                alloc,
-                graph,
-                topology,
-                words.restamps,
-                script.lines(),
-                played,
-            )?;
-            Ok(Reply::Ran(trace, refused))
-        }
-        Err(OpenError::NoMemory) => Err(AllocError),
-        Err(error) => Ok(Reply::Refused(opening_line(alloc, error)?)),
-    }
-}
-
-/// The answer to a script.
-fn answer_steps(
-    rt: &(impl Threads + Sync),
-    alloc: Global,
-    words: &Words,
-    graph: &Graph,
-    topology: &Topology,
-    script: &Script<Step>,
-) -> Result<Reply, AllocError>
-    requires { topology.now ≡ network_of_graph graph.now }
-    ensures { IfOk result (λ reply. AnswersRoot graph.now (root_name words.now)
-        (AnswersRun graph.now words.now (listing_in script.now)) (answer_of reply)) }
-{
-    match root_of(graph, &words.root) {
-        Some(place) => answer_root(rt, alloc, words, graph, topology, script, place),
-        None => Ok(Reply::Refused(opening_line(alloc, no_root(graph))?)),
-    }
-}
-
-/// The answer to a graph and the text of a script.
-fn answer_script(
-    rt: &(impl Threads + Sync),
-    alloc: Global,
-    words: &Words,
-    graph: &Graph,
-    text: &[u8],
-) -> Result<Reply, AllocError>
-    ensures { IfOk result (λ reply. AnswersScript words.now (lines text.now) graph.now (answer_of reply)) }
-{
-    let topology = Topology::of(alloc, graph)?;
-    match parse_script(alloc, text, graph, &topology) {
-        Ok(script) => answer_steps(rt, alloc, words, graph, &topology, &script),
-        Err(error) => match error.kind {
-            ScriptFault::NoMemory => Err(AllocError),
-            kind => Ok(Reply::Refused(script_line(alloc, error.line, kind)?)),
-        },
-    }
-}
-
-/// The answer to the texts of a topology and of a script.
-fn answer_sim(
+/// The answer of `sim` to the texts of a topology and of a script: the trace of the packets, and a line for each step that
+/// was refused.
+pub fn simulate(
     rt: &(impl Threads + Sync),
     alloc: Global,
     words: &Words,
     topology: &[u8],
     script: &[u8],
-) -> Result<Reply, AllocError>
-    ensures { IfOk result (λ reply. AnswersTopology words.now.format (lines topology.now)
-        (AnswersScript words.now (lines script.now)) (answer_of reply)) }
+) -> Result<Reply, Stop>
+    ensures { Gives (AnswersTopology words.now.format (lines topology.now)
+        (AnswersScript words.now (lines script.now))) result }
 {
-    match read_topology(alloc, words.format, topology) {
-        Ok(graph) => answer_script(rt, alloc, words, &graph, script),
-        Err(error) => match error.kind {
-            Fault::NoMemory => Err(AllocError),
-            kind => Ok(Reply::Refused(topology_line(alloc, error.line, kind)?)),
-        },
-    }
-}
-
-/// The answer of `sim` to the texts of the inputs.
-pub fn answer_sim_texts(
-    rt: &(impl Threads + Sync),
-    alloc: Global,
-    words: &Words,
-    texts: &[Vec<u8>],
-) -> Result<Reply, AllocError>
-    requires { length texts.now ≡ length (sim_sources words.now) }
-    ensures { IfOk result (λ reply. SimAnswers words.now (texts_of texts.now) (answer_of reply)) }
-{
-    if words.is_one_input() {
-        let (topology, script) = cut(texts[0].as_slice());
-        answer_sim(rt, alloc, words, topology, script)
-    } else {
-        answer_sim(rt, alloc, words, texts[0].as_slice(), texts[1].as_slice())
+    let asked = read_asked::<Step>(alloc, words, topology, script)?;
+    let opening = opening_of(alloc, words, &asked.network, asked.root)?;
+    match play(rt, alloc, opening, asked.script.steps()) {
+        Ok(played) => {
+            let (trace, refused) = run_texts(
+                alloc,
+                &asked.graph,
+                &asked.network,
+                words.restamps,
+                asked.script.lines(),
+                played,
+            )?;
+            Ok(Reply::Ran(trace, refused))
+        }
+        Err(error) => Err(opening_stop(alloc, error)),
     }
 }

@@ -1,18 +1,20 @@
 //! A run of the program, from bytes to bytes.
-ghost use Rattle.std.specs.Prelude.{◌≡◌, IfOk, length};
+ghost use Rattle.std.specs.Prelude.{◌≡◌, length};
 ghost use Rattle.std.specs.Borrow.{Bor};
 ghost use Rattle.ir_shell.specs.Asked.{look_sources, sources_of, Answers};
 ghost use Rattle.ir_words.specs.Ending.{EndsAs, Ends};
 ghost use Rattle.ir_words.specs.Reading.{texts_of, AreRead, IsUnread};
-ghost use Rattle.ir_words.specs.Replies.{answer_of};
 ghost use Rattle.ir_words.specs.Told.{Sends, Tells};
+ghost use Rattle.ir_shell.specs.Stops.{Gives};
 ghost use Rattle.ir_words.specs.Words.{FitsItsKind};
 
-use crate::checking::answer_check_texts;
-use crate::live::answer_live_texts;
-use crate::look::{Look, answer_look};
-use crate::play::answer_sim_texts;
+use crate::asking::{Stop, three_texts, two_texts};
+use crate::checking::check;
+use crate::live::run_commands;
+use crate::look::{Look, look_at};
+use crate::play::simulate;
 use ir_links::Moments;
+use ir_plan::Watch;
 use ir_streams::{Reader, Writer};
 use ir_words::ending::{Ending, status_of};
 use ir_words::read::{Source, read_inputs};
@@ -20,7 +22,7 @@ use ir_words::reply::{Reply, tell_unread, write_reply};
 use ir_words::words::{Sub, Words};
 use ir_words::write::tell;
 use ir_worker::Parcel;
-use std::alloc::{AllocError, Global};
+use std::alloc::Global;
 use std::thread::Threads;
 
 /// Where the texts of a topology and of an order, if there is one, are read.
@@ -59,20 +61,30 @@ fn answer<T: Threads + Moments<Parcel> + Sync>(
     alloc: Global,
     words: &Words,
     texts: &[Vec<u8>],
-) -> Result<Reply, AllocError>
+    watch: &(impl Watch + Sync),
+) -> Result<Reply, Stop>
     requires kind { FitsItsKind words.now }
     requires texts { length texts.now ≡ length (sources_of words.now) }
-    ensures { IfOk result (λ reply. Answers (Bor T) T.was_full words.now (texts_of texts.now) (answer_of reply)) }
+    ensures { Gives (Answers (Bor T) T.was_full words.now (texts_of texts.now)) result }
 {
     match words.sub {
-        Sub::Plan => answer_look(rt, alloc, Look::Plan, words, texts),
-        Sub::Walk => answer_look(rt, alloc, Look::Walk, words, texts),
-        Sub::Stats => answer_look(rt, alloc, Look::Stats, words, texts),
-        Sub::Draw => answer_look(rt, alloc, Look::Draw, words, texts),
-        Sub::Prefixes => answer_look(rt, alloc, Look::Prefixes, words, texts),
-        Sub::Sim => answer_sim_texts(rt, alloc, words, texts),
-        Sub::Live => answer_live_texts(rt, alloc, words, texts),
-        Sub::Check => answer_check_texts(rt, alloc, words, texts),
+        Sub::Plan => look_at(rt, alloc, Look::Plan, words, texts, watch),
+        Sub::Walk => look_at(rt, alloc, Look::Walk, words, texts, watch),
+        Sub::Stats => look_at(rt, alloc, Look::Stats, words, texts, watch),
+        Sub::Draw => look_at(rt, alloc, Look::Draw, words, texts, watch),
+        Sub::Prefixes => look_at(rt, alloc, Look::Prefixes, words, texts, watch),
+        Sub::Sim => {
+            let (topology, script) = two_texts(words, texts);
+            simulate(rt, alloc, words, topology, script)
+        }
+        Sub::Live => {
+            let (topology, script) = two_texts(words, texts);
+            run_commands(rt, alloc, words, topology, script)
+        }
+        Sub::Check => {
+            let (topology, script, trace) = three_texts(words, texts);
+            check(rt, alloc, words, topology, script, trace)
+        }
     }
 }
 
@@ -84,6 +96,7 @@ fn write_answer<T: Threads + Moments<Parcel> + Sync, W: Writer, F: Writer>(
     texts: &[Vec<u8>],
     output: &mut W,
     faults: &mut F,
+    watch: &(impl Watch + Sync),
 ) -> Ending
     requires kind { FitsItsKind words.now }
     requires texts { length texts.now ≡ length (sources_of words.now) }
@@ -91,35 +104,16 @@ fn write_answer<T: Threads + Moments<Parcel> + Sync, W: Writer, F: Writer>(
         (λ source why. ⊥) (Sends W.contents W.wrote W.settled output.old output.new) (output.new ≡ output.old)
         (Tells F.contents F.wrote F.settled faults.old faults.new) }
 {
-    match answer(rt, alloc, words, texts) {
-        Ok(reply) => write_reply(&reply, output, faults),
-        Err(_) => {
+    match answer(rt, alloc, words, texts, watch) {
+        Ok(reply) => write_reply(reply, output, faults),
+        Err(Stop::Refused(line)) => {
+            tell(faults, line.as_bytes());
+            Ending::Refused
+        }
+        Err(Stop::NoMemory) => {
             tell(faults, b"out of memory\n");
             Ending::NoMemory
         }
-    }
-}
-
-/// Reads the inputs, and writes the answer to them.
-fn read_and_write<T: Threads + Moments<Parcel> + Sync, R: Reader, W: Writer, F: Writer>(
-    rt: &T,
-    alloc: Global,
-    words: &Words,
-    inputs: &mut [R],
-    output: &mut W,
-    faults: &mut F,
-) -> Ending
-    requires kind { FitsItsKind words.now }
-    requires inputs { length inputs.old ≡ length (sources_of words.now) }
-    ensures { EndsAs (Answers (Bor T) T.was_full words.now) result
-        (λ texts. AreRead R.remaining R.gave inputs.old texts inputs.new)
-        (IsUnread R.remaining R.gave (sources_of words.now) inputs.old inputs.new)
-        (Sends W.contents W.wrote W.settled output.old output.new) (output.new ≡ output.old)
-        (Tells F.contents F.wrote F.settled faults.old faults.new) }
-{
-    match read_inputs(alloc, sources_of(words), inputs) {
-        Ok(texts) => write_answer(rt, alloc, words, texts.as_slice(), output, faults),
-        Err(unread) => tell_unread(faults, unread.source, unread.why),
     }
 }
 
@@ -131,7 +125,8 @@ fn read_and_write<T: Threads + Moments<Parcel> + Sync, R: Reader, W: Writer, F: 
 /// packet may be restamped, else of version 2; each step that is refused is a line `refused LINE NAME` of the faults. `live`
 /// carries out the script's commands while each node turns on a thread of its own. `check` reads a trace too, and writes
 /// `ok N` for one of N rows or its first finding: `finding LINE KIND`. Rows of plans are made in as many threads as the
-/// words allow, else as suit the processors; the text is the same for any number.
+/// words allow, else as suit the processors; the text is the same for any number. The watch is told of the rows of the
+/// plan that a subcommand of a plan makes.
 ///
 /// Conditions: an order is of no plan of kind Tree; the inputs are a reader for each text, or for `words.is_one_input()` one
 /// of all texts, which the first lines that are exactly `%%` cut. The status is 0 where all is done; 1 for an input that is
@@ -144,6 +139,7 @@ pub fn run<T: Threads + Moments<Parcel> + Sync, R: Reader, W: Writer, F: Writer>
     inputs: &mut [R],
     output: &mut W,
     faults: &mut F,
+    watch: &(impl Watch + Sync),
 ) -> u8
     requires kind { FitsItsKind words.now }
     requires inputs { length inputs.old ≡ length (sources_of words.now) }
@@ -153,5 +149,11 @@ pub fn run<T: Threads + Moments<Parcel> + Sync, R: Reader, W: Writer, F: Writer>
         (Sends W.contents W.wrote W.settled output.old output.new) (output.new ≡ output.old)
         (Tells F.contents F.wrote F.settled faults.old faults.new) }
 {
-    status_of(read_and_write(rt, alloc, words, inputs, output, faults))
+    match read_inputs(alloc, sources_of(words), inputs) {
+        Ok(texts) => {
+            let ending = write_answer(rt, alloc, words, texts.as_slice(), output, faults, watch);
+            status_of(ending)
+        }
+        Err(unread) => status_of(tell_unread(faults, unread.source, unread.why)),
+    }
 }

@@ -1,3 +1,4 @@
 pub mod Given
 pub mod Tried
 pub mod Sent
+pub mod Poured

@@ -1,5 +1,5 @@
 -- What is written by calls of a writer.
-use Rattle.std.specs.Prelude.{◌≡◌, ℕ, zero, suc, ◌+◌, ◌<◌, ◌≤◌, ◌⊎◌, Bool, true, false, List, [], ◌∷◌, length, take, drop, Option, Result, Ok, Err}
+use Rattle.std.specs.Prelude.{◌≡◌, ℕ, zero, suc, ◌+◌, ◌<◌, ◌≤◌, ◌⊎◌, Bool, true, false, List, [], ◌∷◌, ◌++◌, length, take, drop, Option, Result, Ok, Err}
 use Rattle.std.specs.Io.KnownBytes.{Appends}
 use Rattle.ir_streams.specs.declared.TheConstants.{MAX_TRIES}
 use Rattle.ir_streams.specs.declared.call.CallError.{CallError}
@@ -39,17 +39,21 @@ module _ {W : Type 0} (wrote : W → List ℕ → Result ℕ CallError → W →
   abbrev pub Flushes : W → Result (Unit {0}) CallError → W → Type 0
   Flushes first outcome last = ComesTo settled first outcome last
 
-  -- Writes one after another, each of what those before it left of the text, took so many bytes, the latest first, and none
-  -- took nothing. The writer is then this one, and this is left.
+  -- Writes one after another, each of a front of what those before it left of the text, took so many bytes of it, the latest
+  -- first, and none took nothing. The writer is then this one, and this is left.
   abbrev pub Takes : W → List ℕ → List ℕ → W → List ℕ → Type 0
   Takes first text [] last rest = (last ≡ first) × (rest ≡ text)
   Takes first text (n ∷ counts) last rest =
-      (mid : W) × (left : List ℕ) × Takes first text counts mid left × (0 < n) × (n ≤ length left) × PutsSome mid left (Ok n) last × (rest ≡ drop n left)
+      (mid : W) × (left front behind : List ℕ) × Takes first text counts mid left × (left ≡ front ++ behind) × (0 < n) × (n ≤ length front) × PutsSome mid front (Ok n) last × (rest ≡ drop n left)
 
-  -- a write gave an error, or took none of the bytes left; or none was left, and the flush gave an error
+  -- a write of a front of what is left, as it may be all of it, gave an error or took none of the bytes
+  abbrev pub FailsToPut : W → List ℕ → W → Type 0
+  FailsToPut mid left last =
+      (front behind : List ℕ) × (left ≡ front ++ behind) × (0 < length front) × (((e : CallError) × PutsSome mid front (Err e) last) ⊎ PutsSome mid front (Ok 0) last)
+
+  -- such a write failed; or none was left, and the flush gave an error
   abbrev pub FailsAt : W → List ℕ → W → Type 0
-  FailsAt mid rest last =
-      ((0 < length rest) × (((e : CallError) × PutsSome mid rest (Err e) last) ⊎ PutsSome mid rest (Ok 0) last)) ⊎ ((rest ≡ []) × ((e : CallError) × Flushes mid (Err e) last))
+  FailsAt mid rest last = FailsToPut mid rest last ⊎ ((rest ≡ []) × ((e : CallError) × Flushes mid (Err e) last))
 
   -- The writer took all of the text, and was flushed.
   abbrev pub IsSent : W → List ℕ → W → Type 0

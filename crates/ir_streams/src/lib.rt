@@ -6,12 +6,14 @@
 #![tactic(auto)]
 
 mod call;
+mod parts;
 mod reader;
 mod reading;
 mod writer;
 mod writing;
 
 pub use call::CallError;
+pub use parts::Parts;
 pub use reader::Reader;
 pub use reading::{NoInput, read_text};
 pub use writer::Writer;
@@ -25,3 +27,6 @@ pub const MAX_READS: usize = 20_000_000;
 
 /// The most calls of a writer for one write, or for one flush.
 pub const MAX_TRIES: usize = 1_000_000;
+
+/// The most bytes of a part of a text.
+pub const PART_BYTES: usize = 1_048_576;

@@ -1,7 +1,9 @@
 //! All of a text, to a writer.
+ghost use Rattle.std.specs.Prelude.{[]};
 ghost use Rattle.std.specs.Io.{WritesAtMost};
 ghost use Rattle.std.specs.Io.KnownBytes.{Keeps, WriteAppends};
 ghost use Rattle.ir_streams.specs.Writing.{PutsSome, Flushes, Calls, Writes};
+ghost use Rattle.ir_streams.specs.Pouring.{Puts};
 
 use crate::MAX_TRIES;
 use crate::call::CallError;
@@ -39,12 +41,10 @@ fn flush<W: Writer>(writer: &mut W) -> Result<(), CallError>
     writer.settle()
 }
 
-/// Writes all of a text, and answers whether the writer took and flushed it. A call that was interrupted is made again,
-/// `MAX_TRIES` times in a row at most. Nothing is written after a call that failed, and the answer is false only where one
-/// did. What went out is a front of the text.
-pub fn write_text<W: Writer>(writer: &mut W, text: &[u8]) -> bool
-    ensures calls { Calls W.wrote W.settled result writer.old text.now writer.new }
-    ensures bytes { Writes result (W.contents writer.old) (W.contents writer.new) text.now }
+/// Writes all of a text, and answers whether the writer took it. A call that was interrupted is made again. The answer is
+/// false only where a write failed, and none is made then.
+pub(crate) fn put_all<W: Writer>(writer: &mut W, text: &[u8]) -> bool
+    ensures { Puts W.contents W.wrote W.settled result writer.old text.now writer.new [] }
 {
     let mut rest = text;
     while !rest.is_empty() {
@@ -53,6 +53,19 @@ pub fn write_text<W: Writer>(writer: &mut W, text: &[u8]) -> bool
             Ok(n) => rest = &rest[n..],
             Err(_) => return false,
         }
+    }
+    true
+}
+
+/// Writes all of a text, and answers whether the writer took and flushed it. A call that was interrupted is made again,
+/// `MAX_TRIES` times in a row at most. Nothing is written after a call that failed, and the answer is false only where one
+/// did. What went out is a front of the text.
+pub fn write_text<W: Writer>(writer: &mut W, text: &[u8]) -> bool
+    ensures calls { Calls W.wrote W.settled result writer.old text.now writer.new }
+    ensures bytes { Writes result (W.contents writer.old) (W.contents writer.new) text.now }
+{
+    if !put_all(writer, text) {
+        return false;
     }
     flush(writer).is_ok()
 }

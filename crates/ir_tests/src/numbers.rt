@@ -82,20 +82,23 @@ fn numbers_depth_first(rt: HostRuntime) -> Result<(), Fail> {
     Ok(())
 }
 
-/// The way from node 0 to node 2 along the tree of a network of four nodes.
-fn way_along_tree(alloc: Global, topology: &Topology) -> Option<(Option<u16>, u32)> {
+/// The way from node 0 to node 2 along the tree of a network of four nodes: its port, by the table and by the ports of
+/// node 0, and how far it is.
+fn way_along_tree(alloc: Global, topology: &Topology) -> Option<(Option<u16>, Option<u16>, u32)> {
     if topology.nodes() != 4 {
         return None;
     }
     let numbering = Numbering::depth_first(alloc, topology, 0).ok()?;
+    let ports = numbering.tree_ports(alloc, topology, 0).ok()?;
+    let port = ports[numbering.label_of(2) as usize];
     let table = tree_table(alloc, topology, &numbering).ok()?;
-    Some((table.next(0, 2), table.distance(0, 2)))
+    Some((table.next(0, 2), port, table.distance(0, 2)))
 }
 
 #[test]
 fn routes_a_ring_along_its_tree(rt: HostRuntime) -> Result<(), Fail> {
     let topology = topology_of(rt.alloc(), &RING)?;
-    assert!(rt; way_along_tree(rt.alloc(), &topology) == Some((Some(0), 3)));
+    assert!(rt; way_along_tree(rt.alloc(), &topology) == Some((Some(0), Some(0), 3)));
     Ok(())
 }
 

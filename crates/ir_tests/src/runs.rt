@@ -1,6 +1,6 @@
 //! Runs of steps that were played by hand: what each step is told, and what becomes of each packet.
 
-use crate::networks::{HEAVY, PATH};
+use crate::networks::{HEAVY, PATH, RING};
 use crate::openings::{Setting, along_tree};
 use ir_core::Event::{Act, Down, Inject, Install, Learn, Read, Retire, Take, Up};
 use ir_core::Step::{Drain, Event};
@@ -24,7 +24,7 @@ struct Run {
     packets: &'static [Ended],
 }
 
-const RUNS: [Run; 2] = [
+const RUNS: [Run; 3] = [
     Run {
         name: "refusals in order",
         over: (&PATH, 1, 16, 4096, 0),
@@ -87,6 +87,41 @@ const RUNS: [Run; 2] = [
             1,
             &[0, 1, 2, 0, 1, 2, 4],
             &[Restamp { epoch: 2, from: 2 }, Restamp { epoch: 3, from: 3 }],
+            Fate::Delivered,
+        )],
+    },
+    // From a to b the far way round, and from c, the last node before b, all the way back: no packet of four nodes that may
+    // be restamped once has more hops.
+    Run {
+        name: "the longest journey round a ring",
+        over: (&RING, 0, 1, 1, 1),
+        steps: &[
+            Event(Down(0)),
+            Event(Install(Kind::Shortest, 0)),
+            Event(Learn(2)),
+            Event(Inject(0, 1)),
+            Event(Take(0, Way::Inbox)),
+            Event(Act(0)),
+            Event(Take(2, Way::Link(1))),
+            Event(Act(2)),
+            Event(Up(0)),
+            Event(Down(2)),
+            Event(Install(Kind::Shortest, 0)),
+            Event(Retire(3)),
+            Event(Take(3, Way::Link(3))),
+            Event(Read(3, 6)),
+            Event(Act(3)),
+            Drain,
+        ],
+        told: &[
+            (5, Ok(Reply::Sent(0, 2))),
+            (7, Ok(Reply::Sent(0, 3))),
+            (14, Ok(Reply::Sent(0, 2))),
+        ],
+        packets: &[(
+            2,
+            &[0, 2, 3, 2, 0, 1],
+            &[Restamp { epoch: 3, from: 2 }],
             Fate::Delivered,
         )],
     },

@@ -5,6 +5,8 @@
 #[cfg(test)]
 mod limits;
 #[cfg(test)]
+mod poured;
+#[cfg(test)]
 mod programs;
 #[cfg(test)]
 mod streams;

@@ -57,7 +57,7 @@ fn write_lone<W: Write>(
     if topology.nodes() == 0 {
         return Ok(());
     }
-    let Ok(record) = Record::start(alloc, 0, 1, 0, 0) else {
+    let Ok(record) = Record::start(alloc, 0, 1, 0, 0, 1) else {
         return Err(TraceError::NoMemory);
     };
     write_trace(alloc, graph, &[record], outlet)

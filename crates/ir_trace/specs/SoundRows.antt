@@ -1,5 +1,5 @@
 -- A row of which there is no finding, in the words of the packet core: each of its parts is a sound journey of one epoch.
-use Rattle.std.specs.Prelude.{◌≡◌, ℕ, ◌<◌, List, [], ◌∷◌, Some, slice_get}
+use Rattle.std.specs.Prelude.{◌≡◌, ℕ, ◌<◌, List, [], ◌∷◌, Some, length, slice_get}
 use Rattle.ir_model.specs.Network.{Network}
 use Rattle.ir_model.specs.Scheme.{Scheme}
 use Rattle.ir_core.specs.declared.packet.Fate.{Fate}
@@ -18,7 +18,8 @@ first_of (u ∷ rest) = u
 
 -- the journey of a part, with a fate
 abbrev pub segment_of : ℕ → ℕ → ℕ → List ℕ → Fate → Journey
-segment_of id dest epoch hops f = record { id = id; epoch = epoch; source = first_of hops; dest = dest; hops = hops; restamps = []; fate = f }
+segment_of id dest epoch hops f =
+    record { id = id; epoch = epoch; source = first_of hops; dest = dest; hops = hops; restamps = []; fate = f; room = length hops }
 
 -- the ends of a link that was down stand with the smaller first, as in each row that is read
 abbrev pub IsOrdered : RowFate → Type 0

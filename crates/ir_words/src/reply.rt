@@ -8,6 +8,7 @@ use crate::ending::Ending;
 use crate::lines::{too_large_line, unreadable_line};
 use crate::read::Source;
 use crate::write::tell;
+use ir_look::plan_text::PlanText;
 use ir_streams::{NoInput, Writer, write_text};
 
 /// What the inputs come to.
@@ -15,6 +16,8 @@ use ir_streams::{NoInput, Writer, write_text};
 pub enum Reply {
     /// The text for the output, and the lines for the faults.
     Ran(String, String),
+    /// The text of a plan for the output, which is written as it is made.
+    Plan(PlanText),
     /// The line of a finding, for the output.
     Found(String),
     /// The line that tells why an input is refused.
@@ -24,8 +27,8 @@ pub enum Reply {
 }
 
 /// Writes what the inputs come to.
-pub fn write_reply<W: Writer, F: Writer>(reply: &Reply, output: &mut W, faults: &mut F) -> Ending
-    ensures { RepliesAs result (answer_of reply.now) (Sends W.contents W.wrote W.settled output.old output.new)
+pub fn write_reply<W: Writer, F: Writer>(reply: Reply, output: &mut W, faults: &mut F) -> Ending
+    ensures { RepliesAs result (answer_of reply) (Sends W.contents W.wrote W.settled output.old output.new)
         (output.new ≡ output.old) (Tells F.contents F.wrote F.settled faults.old faults.new) }
 {
     match reply {
@@ -45,6 +48,14 @@ pub fn write_reply<W: Writer, F: Writer>(reply: &Reply, output: &mut W, faults: 
                 tell(faults, b"output unwritable\n");
                 Ending::Unwritable
             }
+        }
+        Reply::Plan(text) => {
+            if !text.write(output) {
+                tell(faults, b"output unwritable\n");
+                return Ending::Unwritable;
+            }
+            tell(faults, b"");
+            Ending::Done
         }
         Reply::Ran(text, refusals) => {
             if !write_text(output, text.as_bytes()) {

@@ -150,6 +150,8 @@ module _ (first : Stamp) (later : List Stamp) (is : IsScheme (knows (present_sta
         labelled = k.labelled;
         goes = inr (on.0, on.1, on.3);
         left = ap fate_of g;
+        nodes = k.nodes;
+        room = k.room;
       }
 
   pub acted_last : (h : Hop) → v ≡ GoesOn h → last_of (acted u way v r).hops ≡ u

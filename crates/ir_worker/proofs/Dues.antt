@@ -1,7 +1,9 @@
 -- A parcel that was taken by a way is due there.
-use Rattle.std.proofs.Common.{◌≡◌, ℕ, zero, suc, ◌<◌, List, [], ◌∷◌, ◌++◌, slice_get, Some, refl, sym, ap, ◌∙◌, subst, arith, inl, inr}
+use Rattle.std.proofs.Common.{◌≡◌, ℕ, zero, suc, ◌+◌, ◌-◌, ◌<◌, ◌≤◌, length, List, [], ◌∷◌, ◌++◌, slice_get, Some, None, refl, sym, ap, ◌∙◌, subst, arith, Bool, true, false, cond, nat_lt, inl, inr}
 use Rattle.std.specs.Prelude.{All}
-use Rattle.std.proofs.lemmas.Option.{same_Some}
+use Rattle.std.proofs.lemmas.Option.{same_Some, none-some}
+use Rattle.std.proofs.lemmas.Grind.{common_steps}
+use Rattle.std.proofs.lemmas.Nat.{mul-le}
 use Rattle.std.proofs.Math.Logic.{∥∥₁_elim, ∥∥₁_prop}
 use Rattle.std.proofs.Math.Nat.{ℕ_set}
 use Rattle.ir_model.specs.declared.Link.{Link as Edge}
@@ -11,16 +13,18 @@ use Rattle.ir_model.specs.Scheme.{Scheme, next_hop, IsScheme}
 use Rattle.ir_model.proofs.Restrict.{port_at-restrict}
 use Rattle.ir_core.specs.declared.event.Way.{Way}
 use Rattle.ir_core.specs.declared.event.Way.TheVariants.{Inbox, Link}
-use Rattle.ir_core.specs.Journey.{Journey, present}
+use Rattle.ir_core.specs.declared.event.Verdict.{Verdict}
+use Rattle.ir_core.specs.declared.event.Verdict.TheVariants.{CameByDown, BelowFloor, Arrives, LeavesByDown, NoRoom, GoesOn}
+use Rattle.ir_core.specs.Journey.{Journey, hop_room, present}
 use Rattle.ir_core.specs.Sound.{LeadsOn, last_of}
-use Rattle.ir_core.specs.Entry.{restamped}
+use Rattle.ir_core.specs.Entry.{restamped, restamp_by}
 use Rattle.ir_core.specs.State.{IsDue}
 use Rattle.ir_core.proofs.Walks.{port_of, last_of-push}
 use Rattle.ir_epochs.specs.declared.registry.Stamp.{Stamp}
 use Rattle.ir_epochs.specs.Stamps.{knows}
 use Rattle.ir_epochs.specs.Over.{IsOver}
 use Rattle.ir_epochs.proofs.Overs.{over_nodes}
-use Rattle.ir_worker.specs.Seen.{SeenParcel, IsUnderWay, IsNext, IsOfNet, stamps_of, present_stamp, stamp_now}
+use Rattle.ir_worker.specs.Seen.{SeenParcel, IsUnderWay, IsNext, HasRoomOf, IsOfNet, stamps_of, present_stamp, stamp_now}
 use Rattle.ir_worker.specs.Ends.{CameBy}
 use Rattle.ir_worker.proofs.Routes.{split_of, stamps_push}
 
@@ -110,6 +114,28 @@ elsewhere opening u j ports h all at e =
 -- the nodes of two stamps of one net are as many
 pub same_nodes : (opening s p : Stamp) → IsOfNet opening s → IsOfNet opening p → node_count (knows s).network ≡ node_count (knows p).network
 same_nodes opening s p a b = over_nodes (knows opening).network (knows s).network a.1 ∙ sym (over_nodes (knows opening).network (knows p).network b.1)
+
+-- where there is a restamp, one was left
+some_left : (left current e : ℕ) (v : Verdict) → restamp_by left current v ≡ Some e → 0 < left
+some_left left current e BelowFloor is = by_test (nat_lt 0 left) refl is
+  where
+    by_test : (b : Bool) → nat_lt 0 left ≡ b → cond b (Some current) None ≡ Some e → 0 < left
+    by_test true test is = grind (arith, common_steps)
+    by_test false test is = absurd (none-some e is)
+some_left left current e (CameByDown l) is = absurd (none-some e is)
+some_left left current e Arrives is = absurd (none-some e is)
+some_left left current e (LeavesByDown l) is = absurd (none-some e is)
+some_left left current e (NoRoom h) is = absurd (none-some e is)
+some_left left current e (GoesOn h) is = absurd (none-some e is)
+
+-- and there is room for the hops of one more
+pub room_more : (opening s : Stamp) (restamps allowed had current e : ℕ) (v : Verdict) (p : SeenParcel) → IsOfNet opening s → HasRoomOf opening restamps p →
+    allowed ≡ restamps → had ≡ length p.journey.restamps → restamp_by (allowed - had) current v ≡ Some e → hop_room (length p.journey.restamps + 1) (node_count (knows s).network) ≤ p.journey.room
+room_more opening s restamps allowed had current e v p of roomy all so_far again =
+    let some = some_left (allowed - had) current e v again in
+    let less = node_count (knows opening).network - 1 in
+    let le = mul-le (length p.journey.restamps + 1 + 1) less (restamps + 1) less (omega (arith, some, all, so_far)) (omega arith) in
+    rw (roomy, over_nodes (knows opening).network (knows s).network of.1) (omega (arith, le))
 
 -- a restamped parcel has all stamps of the net, and is at the node
 all_cons : (P : Stamp → Type 0) (s : Stamp) (ss : List Stamp) → P s → All P ss → All P (s ∷ ss)

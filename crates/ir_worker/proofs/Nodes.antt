@@ -14,7 +14,7 @@ use Rattle.ir_links.specs.Ends.{Line}
 use Rattle.ir_epochs.specs.declared.registry.Stamp.{Stamp}
 use Rattle.ir_worker.specs.declared.parcel.Place.{Place}
 use Rattle.ir_worker.specs.declared.parcel.Outcome.{Outcome}
-use Rattle.ir_worker.specs.Seen.{SeenParcel, GoesTo, IsOfNet, place_of, stamps_of}
+use Rattle.ir_worker.specs.Seen.{SeenParcel, GoesTo, HasRoomOf, IsOfNet, place_of, stamps_of}
 use Rattle.ir_core.specs.State.{IsNew, InHand}
 use Rattle.ir_model.specs.Network.{Network}
 use Rattle.ir_core.specs.declared.event.Verdict.{Verdict}
@@ -55,18 +55,19 @@ pub record IsTakenBy (opening : Stamp) (restamps u : ℕ) (ports : List Hop) (wa
   pub came : CameBy ports u way (last_of p.journey.hops) p.next
   pub of_net : All (λ s. IsOfNet opening s) (stamps_of p.first p.later)
   pub few : length p.journey.restamps ≤ restamps
+  pub room : HasRoomOf opening restamps p
   pub is_new : IsNew p.journey (InHand u way)
 
 pub taken_place : (opening : Stamp) (restamps u : ℕ) (ports : List Hop) (inbox : In) (ins : List In) (outs : List Out) → AreEndsOf opening restamps u ports inbox ins outs →
     (inbox' : In) (ins' : List In) (p : SeenParcel) (k : ℕ) → TookAt inbox ins inbox' ins' p k → (way : Way) → IsWayAt ports way k → IsTakenBy opening restamps u ports way p
 taken_place opening restamps u ports inbox ins outs is inbox' ins' p zero took way by =
     let goes : GoesTo p (place_of opening restamps u u) = subst (λ (x : Place). GoesTo p x) is.inbox_place took.2 in
-    subst (λ (w : Way). IsTakenBy opening restamps u ports w p) (sym by) (record { came = (goes.last, goes.next); of_net = goes.of_net; few = goes.few; is_new = goes.fresh refl })
+    subst (λ (w : Way). IsTakenBy opening restamps u ports w p) (sym by) (record { came = (goes.last, goes.next); of_net = goes.of_net; few = goes.few; room = goes.room; is_new = goes.fresh refl })
 taken_place opening restamps u ports inbox ins outs is inbox' ins' p (suc j) took way by =
     let mine = by.0 in
     let here = place_at (λ (t : In). t.line.place) ins (λ (h : Hop). place_of opening restamps h.node u) ports is.in_places j mine by.1 took.1.0 took.1.1 in
     let goes : GoesTo p (place_of opening restamps mine.node u) = subst (λ (x : Place). GoesTo p x) here took.1.3 in
-    subst (λ (w : Way). IsTakenBy opening restamps u ports w p) (sym by.2) (record { came = (goes.next, (j, mine, by.1, refl, goes.last)); of_net = goes.of_net; few = goes.few; is_new = tt })
+    subst (λ (w : Way). IsTakenBy opening restamps u ports w p) (sym by.2) (record { came = (goes.next, (j, mine, by.1, refl, goes.last)); of_net = goes.of_net; few = goes.few; room = goes.room; is_new = tt })
 
 -- outcomes of one net
 abbrev AreOfNet : Stamp → ℕ → List Outcome → Type 0

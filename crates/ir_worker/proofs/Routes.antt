@@ -1,27 +1,28 @@
 -- The segments of a parcel, each with its stamp, when it goes on or is restamped.
-use Rattle.std.proofs.Common.{◌≡◌, ◌≢◌, ℕ, ◌+◌, ◌-◌, ◌*◌, ◌<◌, ◌≤◌, List, [], ◌∷◌, ◌++◌, length, slice_get, Some, refl, sym, ap, ◌∙◌, subst, arith, true, false, Bool, inl, inr}
+use Rattle.std.proofs.Common.{◌≡◌, ◌≢◌, ℕ, ◌+◌, ◌-◌, ◌<◌, ◌≤◌, List, [], ◌∷◌, ◌++◌, length, slice_get, Some, refl, sym, ap, ◌∙◌, subst, arith, true, false, Bool, inl}
 use Rattle.std.specs.Prelude.{reverse}
 use Rattle.std.proofs.lemmas.List.{length-append, length_push, length-drop, length-take-le, length-reverse, reverse-append}
 use Rattle.std.proofs.Math.Logic.{∥∥₁_elim}
 use Rattle.std.proofs.Math.Bridge.{le_prop}
 use Rattle.ir_model.specs.Network.{node_count}
 use Rattle.ir_model.specs.Scheme.{label_in, IsScheme}
-use Rattle.ir_core.specs.declared.TheConstants.{MAX_NODES, MAX_HOPS, MAX_RESTAMPS}
+use Rattle.ir_core.specs.declared.TheConstants.{MAX_RESTAMPS}
 use Rattle.ir_core.specs.declared.event.Way.{Way}
 use Rattle.ir_core.specs.declared.event.Way.TheVariants.{Inbox, Link}
 use Rattle.ir_core.specs.declared.packet.Fate.{Fate}
 use Rattle.ir_core.specs.declared.packet.Fate.TheVariants.{Retired}
 use Rattle.ir_core.specs.declared.packet.Restamp.{Restamp}
-use Rattle.ir_core.specs.Journey.{Journey, segments, segments_in, present, present_in, stamp_of, until}
+use Rattle.ir_core.specs.Journey.{Journey, hop_room, segments, segments_in, present, present_in, stamp_of, until}
+use Rattle.ir_core.specs.Recorded.{HasRoomHere}
 use Rattle.ir_core.specs.Entry.{restamped}
 use Rattle.ir_core.specs.Sound.{AreRising, ArePlaces, last_of}
 use Rattle.ir_core.specs.State.{IsBeginning, IsDue, IsNew, InHand}
 use Rattle.ir_core.proofs.Walks.{IsBeginning-push, first-push, next_hop-away, walk_of, prefix}
 use Rattle.ir_core.proofs.Segments.{gone, past_in, present_gone, segments_gone, segments_split, places_more, longer, rising_same, rising_begun, last_drop, reverse_push, stamped, begun, present_stamped, segments_stamped}
-use Rattle.ir_core.proofs.Routed.{front_of, new_hops, here_is, places_front, restamped_is, most}
+use Rattle.ir_core.proofs.Routed.{front_of, new_hops, here_is, places_front, restamped_is, most, most_within}
 use Rattle.ir_epochs.specs.declared.registry.Stamp.{Stamp}
 use Rattle.ir_epochs.specs.Stamps.{knows}
-use Rattle.ir_worker.specs.Seen.{SeenParcel, stamp_in, stamps_of, present_stamp, EachBy, IsStretch, IsRouted, IsNext, IsKept}
+use Rattle.ir_worker.specs.Seen.{SeenParcel, stamp_in, stamps_of, present_stamp, EachBy, IsStretch, IsRouted, AreOverNodes, IsKept}
 
 -- the stamps before the present one
 abbrev pub earlier_in : List Stamp → Stamp → List Stamp
@@ -130,69 +131,42 @@ module _ (first : Stamp) (later : List Stamp) (s : Stamp) (u : ℕ) (way : Way) 
   restamp_present = ap present same ∙ present_stamped u s.epoch (front_of way r.hops) r
 
 -- a segment has no more hops than there are nodes
-stretch_short : (s : Stamp) (g : Journey) → IsStretch s g → length g.hops ≤ MAX_NODES
+stretch_short : (s : Stamp) (g : Journey) → IsStretch s g → length g.hops ≤ node_count (knows s).network
 stretch_short s g k = ∥∥₁_elim s.sound le_prop (λ is.
     let w = is.walks g.source g.dest k.source_in k.dest_in in
     let walk = walk_of (knows s) g.source g.dest w.0 w.1 in
     let p = prefix (knows s) g.dest g.hops w.0 g.source k.begins walk.begins k.follows walk.steps in
     let lengths = ap length p.1 in
-    let few = k.few in
     omega (arith, w.2, length-append g.hops p.0, lengths))
 
-few_hops : (latest : List Restamp) (r : Journey) (stamps : List Stamp) → ArePlaces (length r.hops) latest → EachBy IsStretch stamps (segments_in latest r) → length r.hops ≤ most latest (MAX_NODES - 1) + 1
-few_hops [] r [] places each = absurd each
-few_hops [] r (s ∷ ss) places each = let short = stretch_short s (present_in [] r) each.0 in omega arith
-few_hops (x ∷ older) r [] places each = absurd each
-few_hops (x ∷ older) r (s ∷ ss) places each =
+few_hops : (nodes : ℕ) (latest : List Restamp) (r : Journey) (stamps : List Stamp) → ArePlaces (length r.hops) latest → EachBy IsStretch stamps (segments_in latest r) → AreOverNodes nodes stamps → length r.hops ≤ most latest (nodes - 1) + 1
+few_hops nodes [] r [] places each over = absurd each
+few_hops nodes [] r (s ∷ ss) places each over = let short = stretch_short s (present_in [] r) each.0 in omega (arith, over.0, short)
+few_hops nodes (x ∷ older) r [] places each over = absurd each
+few_hops nodes (x ∷ older) r (s ∷ ss) places each over =
     let lt = places.0 in
     let short = stretch_short s (present_in (x ∷ older) r) each.0 in
     let here = length-drop x.from r.hops in
     let there = length-take-le (x.from + 1) r.hops (omega arith) in
-    let below = few_hops older (until x r) ss (rw there (places_more older x.from (x.from + 1) (omega arith) places.1)) each.1 in
-    omega arith
+    let below = few_hops nodes older (until x r) ss (rw there (places_more older x.from (x.from + 1) (omega arith) places.1)) each.1 over.1 in
+    omega (arith, over.0, lt, short, here, there, below)
 
--- the hops of a segment under way are fewer than the nodes
-short_on : (s : Stamp) (g : Journey) (next : ℕ) → IsStretch s g → IsNext (knows s) g next → length g.hops < MAX_NODES
-short_on s g next k (inl e) = rw e.0 (omega arith)
-short_on s g next k (inr on) = ∥∥₁_elim s.sound le_prop (λ is.
-    let more = IsBeginning-push (knows s) g.dest g.hops next k.follows (next_hop-away (knows s) is (last_of g.hops) g.dest k.dest_in on.0 on.1) on in
-    let w = is.walks g.source g.dest k.source_in k.dest_in in
-    let walk = walk_of (knows s) g.source g.dest w.0 w.1 in
-    let p = prefix (knows s) g.dest (g.hops ++ next ∷ []) w.0 g.source (first-push g.hops g.source next k.begins) walk.begins more walk.steps in
-    let lengths = ap length p.1 in
-    let few = k.few in
-    omega (arith, w.2, length-append (g.hops ++ next ∷ []) p.0, length-append g.hops (next ∷ []), lengths))
-
-room_in : (latest : List Restamp) (r : Journey) (stamps : List Stamp) → ArePlaces (length r.hops) latest → EachBy IsStretch stamps (segments_in latest r) → length (present_in latest r).hops < MAX_NODES → length latest ≤ 3 → length r.hops < MAX_HOPS
-room_in [] r stamps places each short le = omega arith
-room_in (x ∷ older) r [] places each short le = absurd each
-room_in (x ∷ older) r (s ∷ ss) places each short le =
-    let lt = places.0 in
-    let here = length-drop x.from r.hops in
-    let there = length-take-le (x.from + 1) r.hops (omega arith) in
-    let below = few_hops older (until x r) ss (rw there (places_more older x.from (x.from + 1) (omega arith) places.1)) each.1 in
-    let bound = most_below older (omega arith) in
-    omega arith
-  where
-    most_below : (older : List Restamp) → length older ≤ 2 → most older (MAX_NODES - 1) ≤ 3 * (MAX_NODES - 1)
-    most_below [] le = omega arith
-    most_below (a ∷ []) le = omega arith
-    most_below (a ∷ b ∷ []) le = omega arith
-    most_below (a ∷ b ∷ c ∷ rest) le = absurd (omega arith)
-
--- a parcel's hops leave room for one more
-pub room : (first : Stamp) (later : List Stamp) (r : Journey) (next address : ℕ) → IsKept first later r next address → length r.hops < MAX_HOPS
-room first later r next address k =
-    let st = (split_routed first later r k.routed).0 in
-    let few = k.routed.few in
-    let reversed = length-reverse r.restamps in
-    room_in (reverse r.restamps) r (stamps_of first later) k.routed.places k.routed.each (short_on (present_stamp first later) (present r) next st k.goes) (omega arith)
+-- a parcel that came by a link has room for one more hop
+pub room : (first : Stamp) (later : List Stamp) (r : Journey) (next address u : ℕ) (way : Way) → IsKept first later r next address → IsDue (knows (present_stamp first later)) (present r) u way → HasRoomHere way r
+room first later r next address u Inbox k due = tt
+room first later r next address u (Link l) k due =
+    let nodes = node_count (knows first).network in
+    let more = retired_here first later u (Link l) r (present_stamp first later).sound k.routed due tt in
+    let all = few_hops nodes (reverse r.restamps) (record r { hops = r.hops ++ u ∷ []; fate = Retired }) (stamps_of first later) more.places more.each k.nodes in
+    let bound = most_within (reverse r.restamps) (length r.restamps) (nodes - 1) (omega (arith, length-reverse r.restamps)) in
+    omega (arith, all, bound, length_push r.hops u, k.room)
 
 -- a restamped parcel is kept
 abbrev pub IsRestampable : Stamp → ℕ → Way → SeenParcel → Type 0
 IsRestampable s u way p =
     (node_count (knows s).network ≡ node_count (knows (present_stamp p.first p.later)).network) × IsDue (knows (present_stamp p.first p.later)) (present p.journey) u way
     × IsNew p.journey (InHand u way) × (stamp_of p.journey < s.epoch) × (length p.journey.restamps < MAX_RESTAMPS)
+    × (hop_room (length p.journey.restamps + 1) (node_count (knows s).network) ≤ p.journey.room)
 
 pub restamp_kept : (first : Stamp) (later : List Stamp) (s : Stamp) (u : ℕ) (way : Way) (r : Journey) (next address : ℕ) → IsKept first later r next address → u < node_count (knows s).network →
     (p : SeenParcel) → (let seen : SeenParcel = record { journey = r; first = first; later = later; next = next } in seen) ≡ p → IsRestampable s u way p →
@@ -201,6 +175,8 @@ restamp_kept first later s u way r next address k u_in p view may address' label
     let ok : IsRestampable s u way (record { journey = r; first = first; later = later; next = next }) = subst (λ (x : SeenParcel). IsRestampable s u way x) (sym view) may in
     let is = (present_stamp first later).sound in
     let routed = restamp_routed first later s u way r is k.routed u_in ok.0 ok.1 ok.2 ok.3 ok.4 in
+    let before = subst (AreOverNodes (node_count (knows first).network)) (split_of first later) k.nodes in
+    let over : node_count (knows s).network ≡ node_count (knows first).network = ok.0 ∙ before.0 in
     let now = restamp_present first later s u way r is k.routed u_in ok.0 ok.1 ok.2 ok.3 ok.4 in
     let same = present_push first later s in
     let whole : IsKept first (later ++ s ∷ []) (restamped u way s.epoch r) u address' = record {
@@ -209,5 +185,7 @@ restamp_kept first later s u way r next address k u_in p view may address' label
       labelled = label ∙ ap (λ (x : Stamp). label_in (knows x) r.dest) (sym same);
       goes = inl (ap (λ (g : Journey). g.hops) now ∙ ap (λ (x : ℕ). x ∷ []) (sym (ap (λ (g : Journey). g.source) now)), sym (ap (λ (g : Journey). g.source) now));
       left = k.left;
+      nodes = subst (AreOverNodes (node_count (knows first).network)) (sym (stamps_push first later s)) (over, k.nodes);
+      room = rw length_push (subst (λ (n : ℕ). hop_room (length r.restamps + 1) n ≤ r.room) over ok.5);
     } in
     subst (λ (l : List Stamp). IsKept first l r' u address') (sym grown) (subst (λ (x : Journey). IsKept first (later ++ s ∷ []) x u address') (sym made) whole)

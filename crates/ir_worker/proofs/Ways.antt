@@ -9,7 +9,7 @@ use Rattle.ir_core.specs.Sound.{last_of}
 use Rattle.ir_links.specs.Ends.{WasEmpty, FoundNone, Word}
 use Rattle.ir_epochs.specs.declared.registry.Stamp.{Stamp}
 use Rattle.ir_worker.specs.declared.parcel.Place.{Place}
-use Rattle.ir_worker.specs.Seen.{SeenParcel, GoesTo, IsOfNet, place_of, stamps_of}
+use Rattle.ir_worker.specs.Seen.{SeenParcel, GoesTo, HasRoomOf, IsOfNet, place_of, stamps_of}
 use Rattle.ir_worker.specs.Account.{lines_in, lines_out}
 use Rattle.ir_worker.specs.Wires.{In, Out, WasEmptyAt, after_taking, after_sending, TookAt, SentOver}
 
@@ -61,9 +61,9 @@ sent_over ports outs j h old new q at lt read sent = (j, old, at, slice_get_read
 
 -- what a node sends over a port goes to the port's place
 pub goes_out : (opening : Stamp) (restamps u : ℕ) (ports : List Hop) (outs : List Out) → map (λ (x : Out). x.line.place) outs ≡ map (λ (h : Hop). place_of opening restamps u h.node) ports →
-    (p q : SeenParcel) → All (λ s. IsOfNet opening s) (stamps_of p.first p.later) → length p.journey.restamps ≤ restamps → (h : Hop) (j : ℕ) (out : Out) → (u ≡ h.node → ⊥) →
-    q.first ≡ p.first → q.later ≡ p.later → q.journey.restamps ≡ p.journey.restamps → last_of q.journey.hops ≡ u → q.next ≡ h.node → slice_get ports j ≡ Some h → j < length outs → out ≡ get_or outs j out → GoesTo q out.line.place
-goes_out opening restamps u ports outs places p q of few h j out apart first later same last next at lt read =
+    (p q : SeenParcel) → All (λ s. IsOfNet opening s) (stamps_of p.first p.later) → length p.journey.restamps ≤ restamps → HasRoomOf opening restamps p → (h : Hop) (j : ℕ) (out : Out) → (u ≡ h.node → ⊥) →
+    q.first ≡ p.first → q.later ≡ p.later → q.journey.restamps ≡ p.journey.restamps → q.journey.room ≡ p.journey.room → last_of q.journey.hops ≡ u → q.next ≡ h.node → slice_get ports j ≡ Some h → j < length outs → out ≡ get_or outs j out → GoesTo q out.line.place
+goes_out opening restamps u ports outs places p q of few roomy h j out apart first later same kept last next at lt read =
     let there : slice_get outs j ≡ Some out = slice_get_read outs (length outs) j out refl lt read in
     let here : out.line.place ≡ place_of opening restamps u h.node = place_at (λ (x : Out). x.line.place) outs (λ (h : Hop). place_of opening restamps u h.node) ports places j h at out there in
     let goes : GoesTo q (place_of opening restamps u h.node) = record {
@@ -71,6 +71,7 @@ goes_out opening restamps u ports outs places p q of few h j out apart first lat
       next = next;
       of_net = subst (λ (x : List Stamp). All (λ (s : Stamp). IsOfNet opening s) x) (sym (ap (λ (x : Stamp). stamps_of x q.later) first ∙ ap (λ (x : List Stamp). stamps_of p.first x) later)) of;
       few = let e : length q.journey.restamps ≡ length p.journey.restamps = ap length same in omega arith;
+      room = kept ∙ roomy;
       fresh = λ e. absurd (apart e);
     } in
     subst (λ (place : Place). GoesTo q place) (sym here) goes

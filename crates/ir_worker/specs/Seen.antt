@@ -4,7 +4,8 @@ use Rattle.ir_model.specs.Network.{node_count}
 use Rattle.ir_model.specs.Scheme.{Scheme, label_in}
 use Rattle.ir_core.specs.declared.TheConstants.{MAX_NODES, MAX_RESTAMPS}
 use Rattle.ir_core.specs.declared.packet.Fate.TheVariants.{Left}
-use Rattle.ir_core.specs.Journey.{Journey, segments, joined, present}
+use Rattle.ir_core.specs.Journey.{Journey, hop_room, segments, joined, present}
+use Rattle.std.specs.List.{AllByRecursion}
 use Rattle.ir_core.specs.Sound.{IsSound, AreRising, AreLinked, ArePlaces, last_of}
 use Rattle.ir_core.specs.State.{IsBeginning, StepsTo}
 use Rattle.ir_epochs.specs.declared.registry.Stamp.{Stamp}
@@ -86,25 +87,37 @@ pub record IsUnderWay (t : Scheme) (g : Journey) (next : ℕ) : Type 0 where
   pub goes : IsNext t g next
   pub left : g.fate ≡ Left
 
--- what is true of every parcel
+-- all plans that the stamps know are over so many nodes
+abbrev pub AreOverNodes : ℕ → List Stamp → Type 0
+AreOverNodes nodes stamps = AllByRecursion (λ s. node_count (knows s).network ≡ nodes) stamps
+
+-- What is true of every parcel. Its record has room for the hops of as many restamps as it has had.
 pub record IsKept (first : Stamp) (later : List Stamp) (r : Journey) (next address : ℕ) : Type 0 where
   pub routed : IsRouted (stamps_of first later) r
   pub first_epoch : r.epoch ≡ first.epoch
   pub labelled : address ≡ label_in (knows (present_stamp first later)) r.dest
   pub goes : IsNext (knows (present_stamp first later)) (present r) next
   pub left : r.fate ≡ Left
+  pub nodes : AreOverNodes (node_count (knows first).network) (stamps_of first later)
+  pub room : hop_room (length r.restamps) (node_count (knows first).network) ≤ r.room
 
 -- a stamp of the net of the opening's stamp: of its registry, with a plan over links of its network
 abbrev pub IsOfNet : Stamp → Stamp → Type 0
 IsOfNet opening s = (registry_name s ≡ registry_name opening) × IsOver (knows opening).network (knows s).network
 
+-- the record has the room of a net of the opening's stamp that allows so many restamps
+abbrev pub HasRoomOf : Stamp → ℕ → SeenParcel → Type 0
+HasRoomOf opening restamps p = p.journey.room ≡ hop_room restamps (node_count (knows opening).network)
+
 -- A parcel goes to a place of its net if its last hop is the place's first node and the node that it goes to the
--- second, all its stamps are of the net, and it has had no more restamps than the net allows, and none in an inbox.
+-- second, all its stamps are of the net, its record has the room of the net, and it has had no more restamps than the net
+-- allows, and none in an inbox.
 pub record GoesTo (p : SeenParcel) (place : Place) : Type 0 where
   pub last : last_of p.journey.hops ≡ place.from
   pub next : p.next ≡ place.to
   pub of_net : All (λ s. IsOfNet place.opening s) (stamps_of p.first p.later)
   pub few : length p.journey.restamps ≤ place.restamps
+  pub room : HasRoomOf place.opening place.restamps p
   pub fresh : place.from ≡ place.to → p.journey.restamps ≡ []
 
 -- a place of the net of the opening's stamp, which allows so many restamps

@@ -1,18 +1,18 @@
 //! Parcels, where they go, and what they come to.
-ghost use Rattle.std.specs.Prelude.{◌≡◌, ◌<◌, ◌≤◌, [], ◌∷◌, ◌++◌, length, IfOk, MatchResult, Some, false, vec_capacity};
+ghost use Rattle.std.specs.Prelude.{◌≡◌, ◌+◌, ◌<◌, ◌≤◌, [], ◌∷◌, ◌++◌, length, IfOk, MatchResult, Some, false, vec_capacity};
 ghost use Rattle.ir_model.specs.Network.{node_count};
 ghost use Rattle.ir_model.specs.Scheme.{IsScheme, label_in, next_hop};
 ghost use Rattle.ir_core.specs.declared.TheConstants.{MAX_NODES, MAX_RESTAMPS};
 ghost use Rattle.ir_core.specs.declared.event.Verdict.{Verdict};
 ghost use Rattle.ir_core.specs.declared.packet.Fate.TheVariants.{Full, Left};
-ghost use Rattle.ir_core.specs.Journey.{present, stamp_of};
+ghost use Rattle.ir_core.specs.Journey.{hop_room, present, stamp_of};
 ghost use Rattle.ir_core.specs.Entry.{judged, restamped, fresh};
 ghost use Rattle.ir_core.specs.Sound.{LeadsOn, last_of};
 ghost use Rattle.ir_core.specs.State.{IsDue, IsNew, InHand};
 ghost use Rattle.ir_epochs.specs.Stamps.{IsOf, knows};
 ghost use Rattle.ir_worker.specs.Seen.{IsUnderWay, IsSoundJourney, stamps_of, stamp_now};
 
-use ir_core::{Board, Hop, MAX_RESTAMPS, Record, Ruling, Verdict, Way, judge};
+use ir_core::{Board, Hop, MAX_RESTAMPS, Record, Ruling, Verdict, Way, hop_room, judge};
 use ir_epochs::{Registry, Stamp};
 use ir_links::Bound;
 use ir_plan::Plan;
@@ -96,7 +96,8 @@ pub struct Outcome {
 impl Parcel {
     ghost use Rattle.ir_worker.specs.Acts.{GoesOnAs, SettlesAs, verdict_on};
 
-    /// A new packet at its source. It has room for all hops and restamps that it can have.
+    /// A new packet at its source, of a net that allows so many restamps. It has room for all hops and restamps that it can
+    /// have.
     pub fn start(
         alloc: Global,
         registry: &Registry,
@@ -104,18 +105,24 @@ impl Parcel {
         stamp: Stamp,
         source: u16,
         dest: u16,
+        restamps: u8,
     ) -> Result<Parcel, AllocError>
         requires registry { IsOf registry.now stamp }
         requires source { source < node_count (knows stamp).network }
         requires dest { dest < node_count (knows stamp).network }
         requires few { node_count (knows stamp).network ≤ MAX_NODES }
-        ensures { IfOk result (λ p. p ≡ record
-            { journey = fresh id stamp.epoch source dest; first = stamp; later = []; next = source }) }
+        ensures { IfOk result (λ p. p ≡ record {
+          journey = fresh id stamp.epoch source dest (hop_room restamps (node_count (knows stamp).network));
+          first = stamp;
+          later = [];
+          next = source;
+        }) }
     {
         let plan = registry.plan(&stamp);
-        let _nodes = plan.nodes();
+        let nodes = plan.nodes();
         let address = plan.label_of(dest);
-        let packet = Record::start(alloc, id, stamp.epoch(), source, dest)?;
+        let room = hop_room(restamps, nodes as u16);
+        let packet = Record::start(alloc, id, stamp.epoch(), source, dest, room)?;
         let later = Vec::with_capacity(alloc, MAX_RESTAMPS)?;
         let body = Box::new(
             alloc,
@@ -210,6 +217,8 @@ impl Parcel {
         requires is_new { IsNew self.journey (InHand at way) }
         requires above { stamp_of self.journey < stamp.epoch }
         requires left { length self.journey.restamps < MAX_RESTAMPS }
+        requires room { hop_room (length self.journey.restamps + 1) (node_count (knows stamp).network)
+            ≤ self.journey.room }
         ensures { result ≡ record {
           journey = restamped at way stamp.epoch self.journey;
           first = self.first;

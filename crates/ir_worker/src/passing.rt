@@ -7,7 +7,7 @@ ghost use Rattle.ir_core.specs.declared.TheConstants.{MAX_RESTAMPS};
 ghost use Rattle.ir_core.specs.Sound.{last_of};
 ghost use Rattle.ir_core.specs.State.{IsNew, InHand};
 ghost use Rattle.ir_epochs.specs.Stamps.{IsOf, knows};
-ghost use Rattle.ir_worker.specs.Seen.{SeenParcel, IsOfNet, place_of, stamps_of};
+ghost use Rattle.ir_worker.specs.Seen.{SeenParcel, HasRoomOf, IsOfNet, place_of, stamps_of};
 ghost use Rattle.ir_worker.specs.Account.{lines_out};
 ghost use Rattle.ir_worker.specs.Acts.{restamp_on, with_restamp, way_then, GoesOnAs, SettlesAs};
 ghost use Rattle.ir_worker.specs.Ends.{CameBy};
@@ -53,12 +53,14 @@ pub fn ready(
     requires live { board.now.floor ≤ board.now.current }
     requires of_net { All (λ s. IsOfNet opening.now s) (stamps_of parcel.first parcel.later) }
     requires few { length parcel.journey.restamps ≤ restamps }
+    requires room { HasRoomOf opening.now restamps parcel }
     requires is_new { IsNew parcel.journey (InHand at way) }
     requires came { CameBy ports.now at way (last_of parcel.journey.hops) parcel.next }
     ensures parcel { result.0 ≡ with_restamp (restamp_on restamps parcel board.now way at) current way at parcel }
     ensures way { result.1 ≡ way_then (restamp_on restamps parcel board.now way at) way }
     ensures of_net { All (λ s. IsOfNet opening.now s) (stamps_of result.0.first result.0.later) }
     ensures few { length result.0.journey.restamps ≤ restamps }
+    ensures room { HasRoomOf opening.now restamps result.0 }
     ensures came { CameBy ports.now at result.1 (last_of result.0.journey.hops) result.0.next }
 {
     let plan = registry.plan(parcel.stamp());
@@ -94,6 +96,7 @@ pub fn pass_on<R: Moments<Parcel>>(
         ≡ map (λ (h : Hop). place_of opening.now restamps at h.node) ports.now }
     requires of_net { All (λ s. IsOfNet opening.now s) (stamps_of parcel.first parcel.later) }
     requires few { length parcel.journey.restamps ≤ restamps }
+    requires room { HasRoomOf opening.now restamps parcel }
     requires came { CameBy ports.now at way (last_of parcel.journey.hops) parcel.next }
     ensures acts { MatchResult result
         (λ to. (h : Hop) × (q : SeenParcel) × GoesOnAs board.now way at parcel h q × (h.node ≡ to)

@@ -3,7 +3,7 @@
 //! print; `route plan` prints the labels and rows of a topology's nodes, `route walk` a walk of that plan, `route stats`
 //! its figures, `route draw` a drawing of it, and `route prefixes` its forwarding tables. With no words it does as
 //! `route sim -`, with both texts from standard input. Where standard error is a terminal, sentences for people stand
-//! behind the lines of faults.
+//! behind the lines of faults, and a plan that takes longer than a second says there how far it is.
 #![tactic(auto)]
 
 ghost use Rattle.std.specs.Prelude.{◌≡◌, IfOk, length};
@@ -12,12 +12,14 @@ ghost use Rattle.ir_words.specs.Words.{FitsItsKind};
 
 mod input;
 mod keeping;
+mod progress;
 mod terminal;
 
 use input::{Input, open};
 use ir_explain::explanation;
 use ir_shell::{Numbering, Source, Sub, Words, WordsError, read_words, run, sources_of};
 use keeping::Keeping;
+use progress::Progress;
 use std::alloc::AllocError;
 use std::cell::Cell;
 use std::io::{IsTerminal, Stderr, Stdout};
@@ -141,7 +143,17 @@ fn run_over<T: Threads + Wait + Sync>(
     let is_gone = Cell::new(false);
     let mut output = output_of(rt, words, &is_gone);
     let mut faults = faults_of(rt, words, &is_gone);
-    let status = run(threads, rt.alloc(), words, inputs, &mut output, &mut faults);
+    let progress = Progress::new(rt);
+    let status = run(
+        threads,
+        rt.alloc(),
+        words,
+        inputs,
+        &mut output,
+        &mut faults,
+        &progress,
+    );
+    progress.clear();
     explain(rt, threads, words, inputs, &output, &faults);
     status
 }

@@ -4,7 +4,7 @@
 ghost use Rattle.std.specs.Prelude.{IfOk};
 ghost use Rattle.ir_words.specs.Words.{FitsItsKind};
 
-use ir_shell::{Words, WordsError, read_words, run, sources_of};
+use ir_shell::{Unwatched, Words, WordsError, read_words, run, sources_of};
 use std::alloc::Global;
 use std::io;
 use std::io::{Read, Write};
@@ -180,7 +180,7 @@ fn status<T: Threads + Wait + Sync>(
     if inputs.len() != sources_of(words).len() {
         return 255;
     }
-    run(rt, alloc, words, &mut inputs, output, faults)
+    run(rt, alloc, words, &mut inputs, output, faults, &Unwatched)
 }
 
 /// Whether a run over a text ends with status 0 or 1.

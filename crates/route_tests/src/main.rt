@@ -10,7 +10,7 @@ ghost use Rattle.std.specs.Prelude.{◌≡◌, length};
 ghost use Rattle.ir_words.specs.Words.{FitsItsKind};
 
 use anyhow::Error;
-use ir_shell::{Words, read_words, run, sources_of};
+use ir_shell::{Unwatched, Words, read_words, run, sources_of};
 use serde::Deserialize;
 use std::alloc::{AllocError, Global};
 use std::fs;
@@ -49,7 +49,15 @@ fn run_over<T: Threads + Wait + Sync>(
     let mut output: Vec<u8> = Vec::new(alloc);
     let mut faults: Vec<u8> = Vec::new(alloc);
     let status = if inputs.len() == sources_of(words).len() {
-        run(rt, alloc, words, inputs, &mut output, &mut faults)
+        run(
+            rt,
+            alloc,
+            words,
+            inputs,
+            &mut output,
+            &mut faults,
+            &Unwatched,
+        )
     } else {
         255
     };

@@ -1,12 +1,13 @@
-use Rattle.std.proofs.Common.{arith}
-use Rattle.std.proofs.lemmas.List.{take_rest}
-use Rattle.ir_streams.proofs.Sent.{sent_more, taken_more}
+use Rattle.std.proofs.Common.{Bool, sym, subst}
+use Rattle.ir_streams.specs.Writing.{Writes}
+use Rattle.ir_streams.proofs.Sent.{settles, broken}
 use Rattle.ir_streams.proofs.writing.write_text.Goals as goal
 
-pub loop-rest-preserved : goal.loop-rest-preserved
-loop-rest-preserved g c =
-    let n = c.in-Ok.n in
-    record {
-      sent = sent_more _ _ _ c.args.text.now c.loop-rest.rest.now c.loop-rest.invariant.sent n c.in-Ok.ensures.bytes _ (take_rest _ n);
-      calls = taken_more g.W.Writer.wrote g.W.Writer.settled c.args.writer.now c.args.text.now c.loop-rest.writer c.put_some.new.writer c.loop-rest.rest.now c.loop-rest.invariant.calls n (omega (arith, c.in-Ok.n-test)) c.in-Ok.ensures.bound c.in-Ok.ensures.calls _ (take_rest _ n);
-    }
+pub returns-clause-bytes : goal.returns-clause-bytes
+returns-clause-bytes g c =
+    subst (λ (sent : Bool). Writes sent (g.W.Writer.contents c.args.writer.now) (g.W.Writer.contents c.flush.new.writer) c.args.text.now) (sym c.is_ok.ensures.value)
+    (settles g.W.Writer.contents g.W.Writer.wrote g.W.Writer.settled c.args.writer.now c.args.text.now c.put_all.new.writer c.if-not-put_all.ensures c.flush.new.writer c.flush.ensures.bytes c.flush.result c.flush.ensures.calls).1
+
+pub returns-then-not-put_all-clause-bytes : goal.returns-then-not-put_all-clause-bytes
+returns-then-not-put_all-clause-bytes g c =
+    (broken g.W.Writer.contents g.W.Writer.wrote g.W.Writer.settled c.args.writer.now c.args.text.now c.put_all.new.writer c.if-not-put_all.ensures).1

@@ -34,9 +34,9 @@ send-requires-after_bounds g c κs within =
     let lt = slice_get_within c.args.ports.now c.port_of_hop-port.result c.in-Ok.onward.1 c.port_of_hop-port.ensures in
     let many = as_many (λ (s : Out). s.line.place) c.args.outs.now.items (λ (h : Hop). place_of c.args.opening.now c.args.restamps c.args.at h.node) c.args.ports.now c.requires.outs in
     let on = c.in-Ok.ensures.acts in
-    goes_out c.args.opening.now c.args.restamps c.args.at c.args.ports.now c.args.outs.now.items c.requires.outs c.args.parcel c.in-Ok.onward.0 c.requires.of_net c.requires.few c.in-Ok.onward.1 c.port_of_hop-port.result c.index_mut-out.result.now
+    goes_out c.args.opening.now c.args.restamps c.args.at c.args.ports.now c.args.outs.now.items c.requires.outs c.args.parcel c.in-Ok.onward.0 c.requires.of_net c.requires.few c.requires.room c.in-Ok.onward.1 c.port_of_hop-port.result c.index_mut-out.result.now
     (elsewhere c.args.opening.now c.args.at c.port_of_hop-port.result c.args.ports.now c.in-Ok.onward.1 c.requires.ports c.port_of_hop-port.ensures)
-    on.first on.later (ap (λ (r : Journey). r.restamps) on.journey) c.in-Ok.ensures.here on.next c.port_of_hop-port.ensures (omega arith) c.index_mut-out.ensures.value
+    on.first on.later (ap (λ (r : Journey). r.restamps) on.journey) (ap (λ (r : Journey). r.room) on.journey) c.in-Ok.ensures.here on.next c.port_of_hop-port.ensures (omega arith) c.index_mut-out.ensures.value
 
 pub refused-requires : goal.refused-requires
 refused-requires g c =

@@ -3,7 +3,7 @@ use Rattle.ir_core.specs.Sound.{last_of}
 use Rattle.ir_epochs.specs.Stamps.{knows}
 use Rattle.ir_worker.specs.Seen.{SeenParcel, present_stamp}
 use Rattle.ir_epochs.proofs.Overs.{over_nodes}
-use Rattle.ir_worker.proofs.Dues.{due_at, now_of_net, same_nodes, restamped_of_net, restamped_last}
+use Rattle.ir_worker.proofs.Dues.{due_at, now_of_net, same_nodes, room_more, restamped_of_net, restamped_last}
 use Rattle.ir_worker.proofs.passing.ready.Goals as goal
 
 pub restamp-requires-in-Some-clause-at_in : goal.restamp-requires-in-Some-clause-at_in
@@ -32,3 +32,8 @@ returns-in-Some-clause-came c =
     let p = c.args.parcel in
     let made = c.restamp-in-Some.ensures in
     (ap (λ (x : SeenParcel). last_of x.journey.hops) made ∙ restamped_last c.args.ports.now c.args.at c.args.way c.args.current.epoch p.next p.journey c.requires.came, ap (λ (x : SeenParcel). x.next) made)
+
+pub restamp-requires-in-Some-clause-room : goal.restamp-requires-in-Some-clause-room
+restamp-requires-in-Some-clause-room c =
+    room_more c.args.opening.now c.args.current c.args.restamps c.from.result c.restamped.result c.current.result c.in-Some.field-0 c.judge-verdict.result c.args.parcel c.requires.current c.requires.room
+    c.from.ensures c.restamped.ensures (sym c.restamp.ensures ∙ c.in-Some.is)

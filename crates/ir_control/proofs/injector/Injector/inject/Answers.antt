@@ -4,6 +4,8 @@ use Rattle.ir_epochs.specs.declared.registry.Stamp.{Stamp}
 use Rattle.std.proofs.lemmas.List.{length-map}
 use Rattle.ir_model.specs.Network.{node_count}
 use Rattle.ir_epochs.specs.Stamps.{knows}
+use Rattle.ir_epochs.proofs.Overs.{over_nodes}
+use Rattle.ir_core.specs.Journey.{hop_room}
 use Rattle.ir_core.specs.Entry.{fresh}
 use Rattle.ir_worker.specs.Seen.{SeenParcel}
 use Rattle.ir_worker.specs.Account.{head_of, times_sent, weigh_sent, restamps_with}
@@ -17,12 +19,19 @@ use Rattle.ir_control.proofs.injector.Injector.inject.Goals as goal
 abbrev entry : ℕ → ℕ → ℕ → ℕ → Accepted
 entry id epoch source dest = record { id = id; epoch = epoch; source = source; dest = dest }
 
-abbrev parcel_of : ℕ → Stamp → ℕ → ℕ → SeenParcel
-parcel_of id s source dest = record { journey = fresh id s.epoch source dest; first = s; later = []; next = source }
+abbrev parcel_of : ℕ → ℕ → ℕ → Stamp → ℕ → ℕ → SeenParcel
+parcel_of nodes restamps id s source dest = record { journey = fresh id s.epoch source dest (hop_room restamps nodes); first = s; later = []; next = source }
 
 pub send_to-requires-clause-stamp : goal.send_to-requires-clause-stamp
 send_to-requires-clause-stamp g c =
     parcel_of_net c.args.self.now.opening c.in-Ok.parcel c.args.self.now.newest (ap (λ (p : SeenParcel). p.first) c.in-Ok.ensures ∙ c.again.ensures) (ap (λ (p : SeenParcel). p.later) c.in-Ok.ensures) c.args.self.now.newest_of
+
+pub send_to-requires-clause-room : goal.send_to-requires-clause-room
+send_to-requires-clause-room g c =
+    let n = c.args.self.now in
+    ap (λ (p : SeenParcel). p.journey.room) c.in-Ok.ensures
+    ∙ ap (λ (s : Stamp). hop_room n.restamps (node_count (knows s).network)) c.again.ensures
+    ∙ ap (λ (k : ℕ). hop_room n.restamps k) (over_nodes (knows n.opening).network (knows n.newest).network n.newest_of.1)
 
 pub invariant_of-self-2-clause-account : goal.invariant_of-self-2-clause-account
 invariant_of-self-2-clause-account g c =
@@ -64,6 +73,8 @@ returns-clause-answer g c =
         accepted = c.push_reserved.ensures.items ∙ ap (λ (xs : List Accepted). xs ++ a ∷ []) c.reserve.ensures.items
             ∙ ap (λ (e : ℕ). c.args.self.now.accepted.items ++ entry c.len-count.result e c.args.source c.args.dest ∷ []) c.epoch-epoch.ensures.value;
         sent = subst (λ (x : SeenParcel). SentTo c.args.self.now.outs.items c.send_to.new.outs.items c.args.source x)
-            (c.in-Ok.ensures ∙ ap (λ (s : Stamp). parcel_of c.len-count.result s c.args.source c.args.dest) c.again.ensures) c.if-not-send_to.ensures.sent;
+            (c.in-Ok.ensures ∙ ap (λ (s : Stamp). parcel_of (node_count (knows s).network) c.args.self.now.restamps c.len-count.result s c.args.source c.args.dest) c.again.ensures
+            ∙ ap (λ (k : ℕ). parcel_of k c.args.self.now.restamps c.len-count.result c.args.self.now.newest c.args.source c.args.dest)
+            (over_nodes (knows c.args.self.now.opening).network (knows c.args.self.now.newest).network c.args.self.now.newest_of.1)) c.if-not-send_to.ensures.sent;
       },
     )

@@ -1,8 +1,7 @@
-use Rattle.std.specs.Prelude.{◌∷◌, [], ℕ, List, All}
+use Rattle.std.specs.Prelude.{List, All}
 use Rattle.ir_epochs.specs.declared.entry.Entry.{Entry}
 use Rattle.ir_control.specs.Parts.{IsFreshNode}
 use Rattle.ir_epochs.specs.Handles.{published, writer_board}
-use Rattle.ir_epochs.specs.declared.entry.Entry.TheVariants.{Opened}
 use Rattle.std.proofs.Common.{sym, ap, ◌∙◌, subst}
 use Rattle.std.specs.Arc.{arc_value}
 use Rattle.ir_worker.specs.Account.{lines_out}

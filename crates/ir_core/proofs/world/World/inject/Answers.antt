@@ -5,7 +5,7 @@ use Rattle.ir_core.specs.Inside.{state_of}
 use Rattle.ir_core.specs.State.{IsState, IsAnswer, sight_in}
 use Rattle.ir_core.specs.Meaning.{injects}
 use Rattle.ir_core.specs.declared.event.Reply.TheVariants.{Injected}
-use Rattle.ir_core.proofs.Keeps.{keep_inject_at, inject_done}
+use Rattle.ir_core.proofs.Keeps.{fresh_in, keep_inject_at, inject_done}
 use Rattle.ir_core.proofs.Rooms.{ids_read, ids_set, read_twice, room_set}
 use Rattle.ir_core.proofs.world.World.inject.Goals as goal
 
@@ -18,7 +18,7 @@ invariant_of-self-2 c =
       state = subst (λ (channels : List (List ℕ)). IsState (record (state_of c.self.inside) { channels = channels; records = c.push.new.self.items })) (sym (ids_set queues c.args.source c.push-2.new.self))
           (keep_inject_at (state_of c.self.inside) c.self.invariant.state c.args.source c.args.dest c.len-id.result c.in-Ok.record (ids_of q) (ids_of c.push-2.new.self) c.reserve.new.self.items c.push.new.self.items
           (omega arith) (omega arith) (omega (arith, c.self.inside.records.ok.0, c.len.ensures)) (omega (arith, c.len-id.ensures, c.reserve.ensures.len, c.self.inside.records.ok.0))
-          c.in-Ok.ensures (ids_read queues c.args.source q read) c.push-2.ensures.ids c.reserve.ensures.items c.in-Ok-push.ensures.items);
+          (fresh_in (state_of c.self.inside) c.len-id.result c.args.source c.args.dest c.in-Ok.record _ c.nodes-nodes.result c.in-Ok.ensures c.hop_room-room.ensures c.nodes-nodes.ensures.count) (ids_read queues c.args.source q read) c.push-2.ensures.ids c.reserve.ensures.items c.in-Ok-push.ensures.items);
       room = room_set c.self.inside.capacity queues c.args.source q c.push-2.new.self c.self.invariant.room read c.push-2.ensures.room;
     }
 
@@ -33,4 +33,4 @@ returns c =
     (sym (ids_set queues c.args.source c.push-2.new.self))
     (inject_done (state_of c.self.inside) _ c.self.view_is c.self.invariant.state c.args.source c.args.dest c.len-id.result c.in-Ok.record (ids_of q) (ids_of c.push-2.new.self) c.reserve.new.self.items c.push.new.self.items
     (omega arith) (omega arith) (omega (arith, c.self.inside.records.ok.0, c.len.ensures)) (omega (arith, same)) (omega (arith, c.len-id.ensures, c.reserve.ensures.len, c.self.inside.records.ok.0))
-    c.in-Ok.ensures (ids_read queues c.args.source q c.index_mut.ensures.value) c.push-2.ensures.ids c.reserve.ensures.items c.in-Ok-push.ensures.items))
+    (fresh_in (state_of c.self.inside) c.len-id.result c.args.source c.args.dest c.in-Ok.record _ c.nodes-nodes.result c.in-Ok.ensures c.hop_room-room.ensures c.nodes-nodes.ensures.count) (ids_read queues c.args.source q c.index_mut.ensures.value) c.push-2.ensures.ids c.reserve.ensures.items c.in-Ok-push.ensures.items))

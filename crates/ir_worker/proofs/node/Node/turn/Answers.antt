@@ -51,6 +51,11 @@ ready-parcel-requires-clause-few g c =
     let n = c.args.self.now in
     (taken_place n.opening n.restamps n.index n.ports.items n.entrances.inbox n.entrances.ports.items n.outs.items n.ends c.poll.new.self.inbox c.poll.new.self.ports.items c.in-Some.parcel n.entrances.next c.in-Some.ensures.took c.way-way.result c.way-way.ensures).few
 
+pub ready-parcel-requires-clause-room : goal.ready-parcel-requires-clause-room
+ready-parcel-requires-clause-room g c =
+    let n = c.args.self.now in
+    (taken_place n.opening n.restamps n.index n.ports.items n.entrances.inbox n.entrances.ports.items n.outs.items n.ends c.poll.new.self.inbox c.poll.new.self.ports.items c.in-Some.parcel n.entrances.next c.in-Some.ensures.took c.way-way.result c.way-way.ensures).room
+
 pub ready-parcel-requires-clause-is_new : goal.ready-parcel-requires-clause-is_new
 ready-parcel-requires-clause-is_new g c =
     let n = c.args.self.now in

@@ -10,7 +10,7 @@ use Rattle.ir_worker.proofs.parcel.Parcel.act.Goals as goal
 pub act-requires-clause-hops : goal.act-requires-clause-hops
 act-requires-clause-hops c =
     let i = c.deref_mut-body.result.now in
-    body_room c.args.self i (body_again c.args.self c.self.inside.body.value i c.deref_mut-body.ensures.value (c.self.view_is, c.self.invariant))
+    body_room c.args.self i c.args.at c.args.way (body_again c.args.self c.self.inside.body.value i c.deref_mut-body.ensures.value (c.self.view_is, c.self.invariant)) c.requires.due
 
 pub invariant_of-self : goal.invariant_of-self
 invariant_of-self c =

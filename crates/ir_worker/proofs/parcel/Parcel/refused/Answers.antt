@@ -4,13 +4,8 @@ use Rattle.ir_core.specs.Sound.{LeadsOn}
 use Rattle.ir_epochs.specs.Stamps.{knows}
 use Rattle.ir_worker.specs.Seen.{SeenParcel, stamp_now}
 use Rattle.ir_worker.proofs.Acts.{refused_sound}
-use Rattle.ir_worker.proofs.Bodies.{body_again, body_room}
+use Rattle.ir_worker.proofs.Bodies.{body_again}
 use Rattle.ir_worker.proofs.parcel.Parcel.refused.Goals as goal
-
-pub act-requires-clause-hops : goal.act-requires-clause-hops
-act-requires-clause-hops c =
-    let i = c.into_inner-packet.result in
-    body_room c.args.self i (body_again c.args.self c.self.inside.body.value i c.into_inner-packet.ensures (c.self.view_is, c.self.invariant))
 
 pub invariant_of-result : goal.invariant_of-result
 invariant_of-result c =

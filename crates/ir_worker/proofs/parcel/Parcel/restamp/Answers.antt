@@ -19,13 +19,13 @@ one_more later later' s marks marks' m same a b =
 pub restamp-requires-clause-hops : goal.restamp-requires-clause-hops
 restamp-requires-clause-hops c =
     let i = c.deref_mut-body.result.now in
-    body_room c.args.self i (body_again c.args.self c.self.inside.body.value i c.deref_mut-body.ensures.value (c.self.view_is, c.self.invariant))
+    body_room c.args.self i c.args.at c.args.way (body_again c.args.self c.self.inside.body.value i c.deref_mut-body.ensures.value (c.self.view_is, c.self.invariant)) c.requires.due
 
 pub invariant_of-self : goal.invariant_of-self
 invariant_of-self c =
     let i = c.deref_mut-body.result.now in
     let is = body_again c.args.self c.self.inside.body.value i c.deref_mut-body.ensures.value (c.self.view_is, c.self.invariant) in
-    let may : IsRestampable c.args.stamp c.args.at c.args.way c.args.self = (c.requires.nodes, c.requires.due, c.requires.is_new, c.requires.above, c.requires.left) in
+    let may : IsRestampable c.args.stamp c.args.at c.args.way c.args.self = (c.requires.nodes, c.requires.due, c.requires.is_new, c.requires.above, c.requires.left, c.requires.room) in
     let made : c.restamp.new.self ≡ restamped c.args.at c.args.way c.args.stamp.epoch i.packet =
     c.restamp.ensures ∙ ap (λ (e : ℕ). restamped c.args.at c.args.way e i.packet) c.epoch.ensures.value in
     let label : c.label_of-body.result ≡ label_in (knows c.args.stamp) i.packet.dest =

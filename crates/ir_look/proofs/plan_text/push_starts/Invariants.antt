@@ -1,9 +1,0 @@
-use Rattle.std.proofs.Common.{◌≡◌, ◌++◌, take, string_bytes, flat_map}
-use Rattle.ir_model.specs.Graph.{names}
-use Rattle.ir_model.specs.Scheme.{row_in}
-use Rattle.ir_trace.specs.Rows.{spaced}
-use Rattle.ir_look.specs.PlanText.{start_words}
-use Rattle.ir_look.proofs.plan_text.push_starts.Given as goal
-
-abbrev pub invariant-loop-i : goal.invariant-loop-i
-invariant-loop-i l = string_bytes l.text ≡ string_bytes l.fn.text ++ flat_map spaced (flat_map (start_words (names l.graph) l.plan.network l.u) (take l.i (row_in l.plan l.u)))

@@ -1,0 +1,13 @@
+use Rattle.ir_model.specs.Text.{lines}
+use Rattle.ir_script.specs.Command.{line_command}
+use Rattle.ir_shell.specs.Lives.{AnswersLive}
+use Rattle.ir_shell.specs.Plays.{listing_in}
+use Rattle.ir_shell.proofs.Answering.{gives_asked}
+use Rattle.ir_shell.proofs.live.run_commands.Goals as goal
+
+pub returns-in-Ok : goal.returns-in-Ok
+returns-in-Ok g c =
+    let w = c.args.words.now in
+    let asked = c.in_ok-asked.asked in
+    gives_asked line_command w (lines c.args.topology.now) (lines c.args.script.now) (λ h. AnswersLive _ g.T.Moments.was_full h w)
+    asked.graph asked.network (listing_in asked.script) asked.root c.in_ok-asked.ensures.asked c.answer_net.result c.answer_net.ensures
