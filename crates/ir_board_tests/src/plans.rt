@@ -29,7 +29,7 @@ pub(crate) fn chain(alloc: Global, nodes: u16) -> Option<Topology> {
 
 /// Whether the rows of two plans give each address the same port.
 pub(crate) fn agree(plan: &Plan, other: &Plan) -> bool {
-    if plan.nodes() != other.nodes() || plan.labels() != other.labels() {
+    if plan.nodes() != other.nodes() || plan.starts() != other.starts() {
         return false;
     }
     let nodes = plan.nodes() as u16;

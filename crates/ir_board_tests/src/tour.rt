@@ -102,7 +102,7 @@ fn network(alloc: Global, over: Over) -> Option<Topology> {
 
 // Whether these two plans are those of a case.
 fn are_those(plan: &Plan, tour: &Plan, case: &Case) -> bool {
-    let starts = (plan.labels(), tour.labels());
+    let starts = (plan.starts(), tour.starts());
     case.starts.unwrap_or(starts) == starts
         && plan.nodes() == tour.nodes()
         && (tour.root(), tour.kind()) == (case.root, case.kind)

@@ -47,6 +47,6 @@ pub fn play(
             return Err(OpenError::NoMemory);
         };
     }
-    world.check();
+    world.records_are_sound();
     Ok(Played { world, replies })
 }

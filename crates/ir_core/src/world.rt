@@ -540,7 +540,7 @@ impl World {
     }
 
     /// Says what is true of every world: each record is sound.
-    pub fn check(&self)
+    pub fn records_are_sound(&self)
         ensures { (log : List Entry) → Shows log self.now → AllSound self.now.opening log }
     {
         let _ = &self.learnt;

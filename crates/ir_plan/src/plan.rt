@@ -380,15 +380,15 @@ impl Plan {
     }
 
     /// How many starts all rows have. In a tree plan of n nodes they are 2 (n - 1). Takes O(n).
-    pub fn labels(&self) -> usize
-        ensures labels { result ≡ sum_by length self.now.rows }
+    pub fn starts(&self) -> usize
+        ensures starts { result ≡ sum_by length self.now.rows }
         ensures tree { self.now.kind ≡ Kind.Tree → result ≡ 2 * (node_count self.now.network - 1) }
     {
-        let mut labels = 0;
+        let mut starts = 0;
         for row in &self.rows {
-            labels += row.len();
+            starts += row.len();
         }
-        labels
+        starts
     }
 }
 

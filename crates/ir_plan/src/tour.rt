@@ -169,7 +169,7 @@ fn plan_with_fewer(
         return Ok(None);
     }
     let found = plan_over(rt, alloc, plan, order, most, watch)?;
-    if found.labels() < plan.labels() {
+    if found.starts() < plan.starts() {
         Ok(Some(found))
     } else {
         Ok(None)

@@ -201,7 +201,7 @@ impl Table {
 
     /// The weight of the walk that the table prescribes from node `u` to the destination `d`. Condition: both are
     /// nodes. For users of the library.
-    pub fn distance(&self, u: u16, d: u16) -> u32
+    pub fn weight(&self, u: u16, d: u16) -> u32
         requires u { u < table_size self.now }
         requires d { d < table_size self.now }
         ensures { result ≡ weight_in self.now u d }

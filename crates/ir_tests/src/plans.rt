@@ -122,14 +122,14 @@ const AROUND: [(u16, &'static [(u16, u16)]); 6] = [
 
 /// Whether a plan has these rows and no more.
 fn has_rows(plan: &Plan, rows: &[(u16, &[(u16, u16)])]) -> bool {
-    let mut labels = 0usize;
+    let mut starts = 0usize;
     for (u, row) in rows.iter().enumerate() {
         if u >= plan.nodes() || !shows(plan, u as u16, row.0, row.1) {
             return false;
         }
-        labels = labels.saturating_add(row.1.len());
+        starts = starts.saturating_add(row.1.len());
     }
-    plan.nodes() == rows.len() && plan.labels() == labels
+    plan.nodes() == rows.len() && plan.starts() == starts
 }
 
 /// Whether the plan of a case over its topology is as it is to be.

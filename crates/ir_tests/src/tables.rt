@@ -117,7 +117,7 @@ fn has_ways(topology: &Topology, table: &Table, ways: &[Way]) -> bool
         if *u as usize >= topology.nodes() || *d as usize >= topology.nodes() {
             return false;
         }
-        if table.next(*u, *d) != *port || table.distance(*u, *d) != *distance {
+        if table.next(*u, *d) != *port || table.weight(*u, *d) != *distance {
             return false;
         }
     }
@@ -135,7 +135,7 @@ fn agrees(alloc: Global, topology: &Topology, table: &Table, d: u16) -> bool
         return false;
     };
     for (u, weight) in weights.iter().enumerate() {
-        if u >= topology.nodes() || table.distance(u as u16, d) != *weight {
+        if u >= topology.nodes() || table.weight(u as u16, d) != *weight {
             return false;
         }
     }

@@ -19,4 +19,4 @@ pub returns-clause-played : goal.returns-clause-played
 returns-clause-played g c =
     let all : take c.loop-step.step-index c.args.steps.now ≡ c.args.steps.now = take_all c.loop-step.step-index c.args.steps.now (omega arith) in
     rw all at (ran_played c.args.opening (take c.loop-step.step-index c.args.steps.now) c.loop-step.replies.items
-    c.loop-step.world c.loop-step.invariant c.check.ensures)
+    c.loop-step.world c.loop-step.invariant c.records_are_sound.ensures)

@@ -9,10 +9,10 @@ use Rattle.ir_model.specs.Row.{Start}
 use Rattle.ir_plan.proofs.Standing.{few_starts}
 use Rattle.ir_plan.proofs.TreeStarts.{tree_plan_starts}
 use Rattle.ir_plan.specs.Views.{scheme_of}
-use Rattle.ir_plan.proofs.plan.Plan.labels.Goals as goal
+use Rattle.ir_plan.proofs.plan.Plan.starts.Goals as goal
 
-pub overflow_add-labels : goal.overflow_add-labels
-overflow_add-labels c =
+pub overflow_add-starts : goal.overflow_add-starts
+overflow_add-starts c =
     let n = node_count c.self.inside.topology in
     let small : n ≤ MAX_NODES = c.self.invariant.network.few_nodes in
     let square : n * n ≤ MAX_NODES * MAX_NODES = grind (arith, mul-le-mul_left n small, mul-le-mul_right MAX_NODES small) in
@@ -26,6 +26,6 @@ pub returns-clause-tree : goal.returns-clause-tree
 returns-clause-tree c tree =
     let kind = ap (λ (s : Scheme). s.kind) c.self.view_is ∙ tree in
     let all = take_all c.loop-row.row-index c.deref-row-items.result.now c.loop-row-test.false in
-    let counted : c.loop-row.labels ≡ sum_by length c.self.inside.rows.items =
+    let counted : c.loop-row.starts ≡ sum_by length c.self.inside.rows.items =
     c.loop-row.invariant ∙ ap (λ (rows : List (List Start)). sum_by length rows) (all ∙ c.deref-row-items.ensures.value) in
     counted ∙ tree_plan_starts (scheme_of c.self.inside) c.self.invariant kind ∙ ap (λ (s : Scheme). 2 * (node_count s.network - 1)) c.self.view_is

@@ -2,7 +2,7 @@ use Rattle.std.proofs.Common.{◌≡◌, ◌<◌, List, length, arith, sym, ap, 
 use Rattle.ir_model.specs.Table.{table_size}
 use Rattle.ir_tables.specs.declared.table.Column.{Column}
 use Rattle.ir_tables.proofs.Columns.{of_columns, size_of_columns, weight_row}
-use Rattle.ir_tables.proofs.table.Table.distance.Goals as goal
+use Rattle.ir_tables.proofs.table.Table.weight.Goals as goal
 
 pub index-requires : goal.index-requires
 index-requires c =
