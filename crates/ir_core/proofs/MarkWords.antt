@@ -1,14 +1,14 @@
 -- Marks of links in words: the mark that a shifted word tells, and what a changed word leaves.
-use Rattle.std.proofs.Common.{◌≡◌, ◌≢◌, ℕ, ◌-◌, ◌*◌, ◌/◌, ◌%◌, ◌^◌, ◌<◌, Bool, true, false, eqb, List, length, get_or, set, replicate, sym, ap, subst, ◌∙◌, arith, lit<, ◌⊎◌, inl, inr}
+use Rattle.std.proofs.Common.{◌≡◌, ◌≢◌, ℕ, ◌-◌, ◌*◌, ◌/◌, ◌%◌, ◌^◌, ◌<◌, ◌≤◌, Bool, true, false, eqb, List, length, get_or, set, replicate, refl, sym, ap, subst, ◌∙◌, arith, lit<, ◌⊎◌, inl, inr}
 use Rattle.std.specs.Prelude.{bit_and, bit_or}
 use Rattle.std.specs.Int.{w64, bit_at, bit_not}
 use Rattle.std.proofs.lemmas.Bool.{cases_eq, cases_lt}
-use Rattle.std.proofs.lemmas.List.{ext_get_or, get_or_past, length-set, length-replicate, get_or-replicate, get_or-set_same, get_or-set_other}
+use Rattle.std.proofs.lemmas.List.{ext_get_or, get_or_past, length-set, length-replicate, get_or-replicate, get_or-set_same, get_or-set_other, length-append, get_or_append_left, get_or-append_right}
 use Rattle.std.proofs.lemmas.Nat.Bits.{shr_and_one, bit_at_ones, bit_at_set_same, bit_at_set_other, bit_at_clear_same, bit_at_clear_other}
 use Rattle.std.proofs.lemmas.Nat.{or_lt, and_le_l}
 use Rattle.ir_core.specs.declared.TheConstants.{MAX_LINKS}
 use Rattle.ir_core.specs.declared.marks.TheConstants.{WORD_LINKS, MARK_WORDS}
-use Rattle.ir_core.specs.Marks.{mark_in, marks_in, AreWords}
+use Rattle.ir_core.specs.Marks.{mark_in, marks_in, word_up, with_rest_up, AreWords}
 use Rattle.ir_core.specs.MarkLaws.{length-marks_in, get_or-marks_in}
 
 -- words of ones mark all links up
@@ -66,14 +66,27 @@ marked_words words l word' up h lt is =
           ∙ sym (get_or-set_other (marks_in words) l k up true ne)
     ])
 
-pub ones_are_words : AreWords (replicate MARK_WORDS (2 ^ WORD_LINKS - 1))
-ones_are_words = (
-  length-replicate MARK_WORDS (2 ^ WORD_LINKS - 1),
-  λ k. elim (cases_lt k MARK_WORDS) [
-    | inl lt ↦ rw (get_or-replicate MARK_WORDS k (2 ^ WORD_LINKS - 1) 0 lt) (lit< tt)
-    | inr ge ↦ rw (get_or_past (replicate MARK_WORDS (2 ^ WORD_LINKS - 1)) k 0 (omega (arith, length-replicate MARK_WORDS (2 ^ WORD_LINKS - 1)))) (lit< tt)
+ones_fit : (n k : ℕ) → get_or (replicate n word_up) k 0 < 2 ^ WORD_LINKS
+ones_fit n k = elim (cases_lt k n) [
+  | inl lt ↦ rw (get_or-replicate n k word_up 0 lt) (lit< tt)
+  | inr ge ↦ rw (get_or_past (replicate n word_up) k 0 (omega (arith, length-replicate n word_up))) (lit< tt)
+]
+
+pub ones_are_words : AreWords (replicate MARK_WORDS word_up)
+ones_are_words = (length-replicate MARK_WORDS word_up, ones_fit MARK_WORDS)
+
+-- words whose rest is up
+pub rest_up_words : (words : List ℕ) → length words ≤ MARK_WORDS → ((k : ℕ) → get_or words k 0 < 2 ^ WORD_LINKS) → AreWords (with_rest_up words)
+rest_up_words words few fit = (
+  (let n = length-append words rest in let m = length-replicate (MARK_WORDS - length words) word_up in omega (arith, n, m)),
+  λ k. elim (cases_lt k (length words)) [
+    | inl lt ↦ rw (get_or_append_left words rest 0 k lt) (fit k)
+    | inr ge ↦ rw (get_or-append_right words rest (length words) k 0 refl ge) (ones_fit (MARK_WORDS - length words) (k - length words))
   ],
 )
+  where
+    rest : List ℕ
+    rest = replicate (MARK_WORDS - length words) word_up
 
 -- a word is replaced by one that fits
 still_words : (words : List ℕ) (i word : ℕ) → AreWords words → i < MARK_WORDS → word < 2 ^ WORD_LINKS → AreWords (set words i word)

@@ -2,6 +2,7 @@ ghost use Rattle.std.specs.Prelude.{◌≡◌, ◌<◌, ◌≤◌, IfOk, length,
 
 use crate::marks::Marks;
 use std::alloc::{AllocError, Global};
+use std::marker::Model;
 
 /// The published board of one version: which epochs are live, and which links are up.
 #[derive(Clone, Copy, Debug, PartialEq, Eq)]
@@ -97,5 +98,60 @@ impl Board {
         next.version += 1;
         next.floor = floor;
         next
+    }
+}
+
+/// A board as a world keeps it: its marks take words up to the last link that is down, and no more.
+#[derive(Drop)]
+pub struct KeptBoard {
+    version: u32,
+    epoch: u32,
+    floor: u32,
+    words: Vec<u64>,
+}
+
+impl Model for KeptBoard {
+    ghost use Rattle.ir_core.specs.declared.board.Board.{Board};
+
+    ghost Value = { Board };
+
+    ghost use Rattle.ir_core.specs.Kept.{board_of, IsKeptBoard};
+
+    ghost view = { board_of };
+
+    ghost invariant = { IsKeptBoard };
+}
+
+impl KeptBoard {
+    /// Keeps a board. It is refused for memory alone.
+    pub(crate) fn new(alloc: Global, board: &Board) -> Result<KeptBoard, AllocError>
+        ensures { IfOk result (λ kept. kept ≡ board.now) }
+    {
+        let words = board.up.to_words(alloc)?;
+        Ok(KeptBoard {
+            version: board.version,
+            epoch: board.current,
+            floor: board.floor,
+            words,
+        })
+    }
+
+    /// The board.
+    pub fn board(&self) -> Board
+        ensures { result ≡ self.now }
+    {
+        Board {
+            version: self.version,
+            current: self.epoch,
+            floor: self.floor,
+            up: Marks::from_words(self.words.as_slice()),
+        }
+    }
+
+    /// The board's current epoch.
+    pub(crate) fn current(&self) -> u32
+        ensures { result ≡ self.now.current }
+    {
+        self.epoch
     }
 }

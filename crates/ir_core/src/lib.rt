@@ -20,7 +20,7 @@ mod run;
 mod verdict;
 mod world;
 
-pub use board::Board;
+pub use board::{Board, KeptBoard};
 pub use built::{Install, installs};
 pub use command::Command;
 pub use event::{Action, Event, OpenError, Refused, Reply, Ruling, Step, Verdict, Way};

@@ -1,5 +1,6 @@
-ghost use Rattle.std.specs.Prelude.{◌≡◌, ◌<◌, ◌≤◌, true, get_or, length, replicate, slice_set, take, IfOk};
+ghost use Rattle.std.specs.Prelude.{◌≡◌, ◌-◌, ◌<◌, ◌≤◌, true, get_or, length, replicate, slice_set, drop, take, IfOk};
 ghost use Rattle.ir_core.specs.declared.TheConstants.{MAX_LINKS};
+ghost use Rattle.ir_core.specs.Marks.{EndsDown, marks_in, word_up, with_rest_up};
 
 use crate::MAX_LINKS;
 use std::alloc::{AllocError, Global};
@@ -79,4 +80,39 @@ impl Marks {
         }
         Ok(marks)
     }
+
+    /// The words up to the last one with a link that is down.
+    pub fn to_words(&self, alloc: Global) -> Result<Vec<u64>, AllocError>
+        ensures marks { IfOk result (λ v. marks_in (with_rest_up v.items) ≡ self.now) }
+        ensures count { IfOk result (λ v. length v.items ≤ MARK_WORDS) }
+        ensures last { IfOk result (λ v. EndsDown v.items) }
+    {
+        let count = words_with_down(&self.words);
+        self.words[..count].to_vec(alloc)
+    }
+
+    /// The marks in these words, where the links behind them are up.
+    pub fn from_words(words: &[u64]) -> Marks
+        requires { length words.now ≤ MARK_WORDS }
+        ensures { result ≡ marks_in (with_rest_up words.now) }
+    {
+        let mut all = [u64::MAX; MARK_WORDS];
+        all[..words.len()].copy_from_slice(words);
+        Marks { words: all }
+    }
+}
+
+/// How many words there are up to the last one with a link that is down.
+fn words_with_down(words: &[u64; MARK_WORDS]) -> usize
+    ensures count { result ≤ MARK_WORDS }
+    ensures rest { drop result words.now ≡ replicate (MARK_WORDS - result) word_up }
+    ensures last { EndsDown (take result words.now) }
+{
+    let mut count = 0;
+    for (k, word) in words.iter().enumerate() {
+        if *word != u64::MAX {
+            count = k + 1;
+        }
+    }
+    count
 }

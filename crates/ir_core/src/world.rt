@@ -1,4 +1,4 @@
-ghost use Rattle.std.specs.Prelude.{◌≡◌, ℕ, ◌+◌, ◌-◌, ◌<◌, ◌≤◌, List, [], length, map, All, replicate, IfOk, IfErr, take, slice_get, slice_index, slice_index_or, unwrap_or, option_copied, Some, None};
+ghost use Rattle.std.specs.Prelude.{◌≡◌, ℕ, ◌+◌, ◌-◌, ◌<◌, ◌≤◌, List, [], length, map, All, replicate, IfOk, IfErr, take, ◌++◌, ◌∷◌, slice_get, slice_index, slice_index_or, unwrap_or, option_copied, Some, None};
 ghost use Rattle.ir_model.specs.Network.{ports_of};
 ghost use Rattle.ir_core.specs.declared.TheConstants.{MAX_LINKS, MAX_CHANGES};
 ghost use Rattle.ir_core.specs.declared.event.Way.TheVariants.{Link as WayLink};
@@ -6,7 +6,7 @@ ghost use Rattle.ir_core.specs.Opened.{open_refused};
 ghost use Rattle.ir_core.specs.Setting.{channel_in, channel_of};
 ghost use Rattle.ir_core.specs.Queue.{ids_of, room_of};
 
-use crate::board::Board;
+use crate::board::{Board, KeptBoard};
 use crate::event::{Event, OpenError, Refused, Reply, Ruling, Step, Verdict, Way};
 use crate::opening::{Opening, open_refusal};
 use crate::packet::{Held, Record, hop_room};
@@ -31,7 +31,7 @@ pub struct World {
     capacity: usize,
     max_packets: usize,
     restamps: u8,
-    boards: Vec<Board>,
+    boards: Vec<KeptBoard>,
     plans: Vec<Plan>,
     learnt: u32,
     views: Vec<usize>,
@@ -114,7 +114,7 @@ impl World {
         let nodes = topology.nodes();
         let links = topology.links();
         let mut boards = Vec::with_capacity(alloc, 1)?;
-        boards.push(Board::opening())?;
+        keep(alloc, &mut boards, &Board::opening())?;
         let mut plans = Vec::with_capacity(alloc, 1)?;
         plans.push(plan)?;
         let views = vec![in alloc; 0usize; nodes]?;
@@ -172,7 +172,7 @@ impl World {
         ensures value { result ≡ newest (sight_in self.now) }
         ensures few { result.version ≤ MAX_CHANGES }
     {
-        self.boards[self.boards.len() - 1]
+        self.boards[self.boards.len() - 1].board()
     }
 
     pub(crate) fn take(&mut self, node: u16, way: Way) -> Result<Reply, Refused>
@@ -227,14 +227,17 @@ impl World {
             Err(BuildError::Disconnected) => return Err(Refused::Disconnected),
             Err(BuildError::NoMemory) => return Err(Refused::NoMemory),
         };
+        let epoch = epochs as u32 + 1;
+        let Ok(board) = KeptBoard::new(self.alloc, &newest.installed(epoch)) else {
+            return Err(Refused::NoMemory);
+        };
         let Ok(()) = self.boards.reserve(1) else {
             return Err(Refused::NoMemory);
         };
         let Ok(()) = self.plans.push(plan) else {
             return Err(Refused::NoMemory);
         };
-        let epoch = epochs as u32 + 1;
-        match self.boards.push(newest.installed(epoch)) {
+        match self.boards.push(board) {
             Ok(()) => {}
             Err(_) => unreachable!(),
         }
@@ -254,7 +257,7 @@ impl World {
         if newest.version() >= MAX_CHANGES {
             return Err(Refused::TooManyChanges);
         }
-        let Ok(()) = self.boards.push(newest.retired_below(floor)) else {
+        let Ok(()) = keep(self.alloc, &mut self.boards, &newest.retired_below(floor)) else {
             return Err(Refused::NoMemory);
         };
         Ok(Reply::Changed)
@@ -273,7 +276,7 @@ impl World {
         if newest.version() >= MAX_CHANGES {
             return Err(Refused::TooManyChanges);
         }
-        let Ok(()) = self.boards.push(newest.marked(link, up)) else {
+        let Ok(()) = keep(self.alloc, &mut self.boards, &newest.marked(link, up)) else {
             return Err(Refused::NoMemory);
         };
         Ok(Reply::Changed)
@@ -320,11 +323,11 @@ impl World {
         let board = self.seen(node);
         let plan = self.plan_of(stamp);
         let address = plan.label_of(dest);
-        judge(plan, board, way, node, stamp, address)
+        judge(plan, &board.board(), way, node, stamp, address)
     }
 
     /// The board of a node's view.
-    fn seen(&self, node: u16) -> &Board
+    fn seen(&self, node: u16) -> &KeptBoard
         requires { node < nodes_of self.now.opening }
         ensures value { result.now ≡ board_at (sight_in self.now) (slice_index self.now.views node) }
         ensures board { IsBoard (length self.now.plans) result.now }
@@ -493,7 +496,7 @@ impl World {
     }
 
     /// The boards so far; the place is the version.
-    pub fn board_versions(&self) -> &[Board]
+    pub fn board_versions(&self) -> &[KeptBoard]
         ensures { result.now ≡ self.now.boards }
     {
         self.boards.as_slice()
@@ -577,6 +580,15 @@ fn channel_into(topology: &Topology, hop: Hop) -> usize
     ensures { result ≡ unwrap_or (channel_in topology.now hop.node (WayLink hop.link)) 0 }
 {
     channel_of(topology, hop.node, Way::Link(hop.link)).unwrap_or(0)
+}
+
+/// One version more.
+fn keep(alloc: Global, boards: &mut Vec<KeptBoard>, board: &Board) -> Result<(), AllocError>
+    ensures kept { IfOk result (λ _. boards.new.items ≡ boards.old.items ++ board.now ∷ []) }
+    ensures same { IfErr result (λ _. boards.new.items ≡ boards.old.items) }
+{
+    boards.push(KeptBoard::new(alloc, board)?)?;
+    Ok(())
 }
 
 fn empty_channels(alloc: Global, count: usize, room: usize) -> Result<Vec<Queue>, AllocError>

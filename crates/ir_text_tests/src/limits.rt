@@ -134,7 +134,10 @@ fn flips(rt: &(impl Threads + Sync), world: &mut World, link: u16) -> bool {
 /// Whether a board has the mark of one link down, and that of another up.
 fn is_down(world: &World, version: usize, link: u16, other: u16) -> bool {
     match world.board_versions().get(version) {
-        Some(board) => !board.is_up(link) && board.is_up(other),
+        Some(kept) => {
+            let board = kept.board();
+            board.version() as usize == version && !board.is_up(link) && board.is_up(other)
+        }
         None => false,
     }
 }

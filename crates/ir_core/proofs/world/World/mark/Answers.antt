@@ -13,7 +13,7 @@ invariant_of-self-2 c =
     let epochs = c.self.invariant.state.boards.current in
     let live = c.self.invariant.state.boards.floor in
     record {
-      state = rw (c.in-Ok.ensures.items, c.marked.ensures)
+      state = rw (c.in-Ok.ensures.kept, c.marked.ensures)
           (keep_change (state_of c.self.inside) c.self.invariant.state _ (omega (arith, version)) (omega (arith, version)) current (omega (arith, current, floor, epochs, live)));
       room = c.self.invariant.room;
     }

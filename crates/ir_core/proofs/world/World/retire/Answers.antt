@@ -10,6 +10,6 @@ invariant_of-self-2 c =
     let version = ap (λ (b : Board). b.version) n in
     let current = ap (λ (b : Board). b.current) n in
     record {
-      state = rw (c.in-Ok.ensures.items, c.retired_below.ensures) (keep_change (state_of c.self.inside) c.self.invariant.state _ (omega (arith, version)) (omega (arith, version)) current (omega arith));
+      state = rw (c.in-Ok.ensures.kept, c.retired_below.ensures) (keep_change (state_of c.self.inside) c.self.invariant.state _ (omega (arith, version)) (omega (arith, version)) current (omega arith));
       room = c.self.invariant.room;
     }
