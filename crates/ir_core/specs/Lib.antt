@@ -2,6 +2,7 @@
 pub mod Codes
 pub mod Marks
 pub mod Board
+pub mod Refusals
 pub mod Queue
 pub mod Journey
 pub mod Recorded
