@@ -1,5 +1,5 @@
 use Rattle.std.proofs.Common.{◌≡◌, ℕ, ◌+◌, ◌<◌, [], length, slice_get, slice_index_or, Option, Some, None, refl, sym, ap, ◌∙◌, subst, arith, true, false, not, Bool, nat_lt, cond}
-use Rattle.std.specs.Prelude.{Result, Ok, Err, ◌&&◌, is_some}
+use Rattle.std.specs.Prelude.{Result, Ok, Err, is_some}
 use Rattle.std.proofs.lemmas.Grind.{common_steps}
 use Rattle.std.proofs.lemmas.List.{get_or_default}
 use Rattle.ir_model.specs.declared.Kind.{Kind}
@@ -9,17 +9,20 @@ use Rattle.ir_core.specs.declared.event.Way.TheVariants.{Link}
 use Rattle.ir_core.specs.declared.event.Event.{Event}
 use Rattle.ir_core.specs.declared.event.Event.TheVariants as event
 use Rattle.ir_core.specs.declared.event.Refused.{Refused}
-use Rattle.ir_core.specs.declared.event.Refused.TheVariants.{NoNode, NoLink, NoChannel, NoEpoch, HandFull, HandEmpty, Empty, BadView, Same, Disconnected, TooManyPackets, InboxFull, TooManyChanges}
+use Rattle.ir_core.specs.declared.event.Refused.TheVariants.{NoNode, NoChannel, NoEpoch, HandFull, HandEmpty, Empty, BadView, Disconnected, InboxFull}
 use Rattle.ir_core.specs.declared.event.Verdict.{Verdict}
 use Rattle.ir_core.specs.declared.event.Verdict.TheVariants.{CameByDown, BelowFloor, Arrives, LeavesByDown, NoRoom, GoesOn}
 use Rattle.ir_core.specs.declared.event.Ruling.{Ruling}
 use Rattle.ir_core.specs.Journey.{Journey, hop_room}
 use Rattle.ir_core.specs.declared.packet.Held.{Held}
-use Rattle.ir_core.specs.Setting.{nodes_of, channel_of, into}
+use Rattle.ir_core.specs.Setting.{nodes_of, links_of, channel_of, into}
+use Rattle.ir_core.specs.declared.board.Board.{Board}
 use Rattle.ir_core.specs.Board.{marked, retired_below, installed}
+use Rattle.ir_core.specs.Refusals.{retire_refused, mark_refused}
 use Rattle.ir_core.specs.Entry.{Entry, DidInject, DidLearn, DidTake, DidRead, DidAct, DidChange, DidInstall, fresh}
-use Rattle.ir_core.specs.Meaning.{newest, takes_from, takes_first, acts_on, installs_made, install_refused, InstallsUnless, ComesTo, record_at, ruling_on, is_full_towards}
+use Rattle.ir_core.specs.Meaning.{newest, takes_from, takes_first, acts_on, installs_made, unless, install_refusal, InstallsUnless, ComesTo, record_at, ruling_on, is_full_towards}
 use Rattle.ir_core.specs.State.{State, IsState, sight_in, LeadsIn}
+use Rattle.ir_core.proofs.Refusals.{source_in}
 use Rattle.ir_core.proofs.Channels.{channel_within, into_is}
 use Rattle.ir_core.proofs.Keeps.{acting_now, leads_in}
 use Rattle.ir_core.proofs.Shown.{Fits, FitsVerdict}
@@ -41,8 +44,10 @@ not_accepted x y e = cc
 within : (u n : ℕ) → not (nat_lt u n) ≡ false → u < n
 within u n e = grind (arith, common_steps)
 
-both_within : (u d n : ℕ) → not (nat_lt u n && nat_lt d n) ≡ false → u < n
-both_within u d n e = grind (arith, common_steps)
+-- nor was it refused
+let_through : (x : Option Refused) (w : Result Entry Refused) (y : Entry) → unless x w ≡ Ok y → (x ≡ None) × (w ≡ Ok y)
+let_through (Some e) w y is = absurd (not_accepted e y is)
+let_through None w y is = (refl, is)
 
 fits_verdict : (s : State) (v : Verdict) → LeadsIn s v → FitsVerdict s v
 fits_verdict s (GoesOn h) k = let e = into_is s.opening h.node (Link h.link) k.0 k.1 in let w = k.2 in omega arith
@@ -87,13 +92,15 @@ install_fits : (s : State) (kind : Kind) (root : ℕ) (entry : Entry) (x : Optio
 install_fits s kind root entry (Some refused) e = absurd (not_accepted refused entry (sym e))
 install_fits s kind root entry None e = made_fits s entry e.0 e.2
 
+change_fits : (s : State) (x : Option Refused) (b : Board) (entry : Entry) → Ok entry ≡ unless x (Ok (DidChange b)) → Fits s entry
+change_fits s x b entry e = subst (λ (k : Entry). Fits s k) (same_entry (DidChange b) entry (let_through x (Ok (DidChange b)) entry (sym e)).1) tt
+
 -- what is accepted fits the world
 pub accepted_fits : (s : State) → IsState s → (e : Event) (entry : Entry) → ComesTo s.opening (sight_in s) e (Ok entry) → Fits s entry
 accepted_fits s ok (event.Inject source dest) entry e =
-    let p = passed _ NoNode _ entry (sym e) in
-    let q = passed _ TooManyPackets _ entry p.1 in
-    let r = passed _ InboxFull _ entry q.1 in
-    let s_in = both_within source dest (nodes_of s.opening) p.0 in
+    let p = let_through _ _ entry (sym e) in
+    let r = passed _ InboxFull _ entry p.1 in
+    let s_in = source_in (nodes_of s.opening) s.opening.max_packets (length s.records) source dest p.0 in
     let made : Fits s (DidInject (length s.records) s.learnt source dest (hop_room s.opening.restamps (nodes_of s.opening))) = (refl, omega (arith, ok.channels)) in
     subst (λ (k : Entry). Fits s k) (same_entry (DidInject (length s.records) s.learnt source dest (hop_room s.opening.restamps (nodes_of s.opening))) entry r.1) made
 accepted_fits s ok (event.Learn n) entry e =
@@ -112,19 +119,7 @@ accepted_fits s ok (event.Read u n) entry e =
 accepted_fits s ok (event.Act u) entry e =
     let p = passed _ NoNode _ entry (sym e) in
     act_fits s ok u entry (slice_index_or s.hands u None) (within u (nodes_of s.opening) p.0) refl p.1
-accepted_fits s ok (event.Retire f) entry e =
-    let p = passed _ NoEpoch _ entry (sym e) in
-    let q = passed _ Same _ entry p.1 in
-    let r = passed _ TooManyChanges _ entry q.1 in
-    subst (λ (k : Entry). Fits s k) (same_entry (DidChange (retired_below (newest (sight_in s)) f)) entry r.1) tt
-accepted_fits s ok (event.Down l) entry e =
-    let p = passed _ NoLink _ entry (sym e) in
-    let q = passed _ Same _ entry p.1 in
-    let r = passed _ TooManyChanges _ entry q.1 in
-    subst (λ (k : Entry). Fits s k) (same_entry (DidChange (marked (newest (sight_in s)) l false)) entry r.1) tt
-accepted_fits s ok (event.Up l) entry e =
-    let p = passed _ NoLink _ entry (sym e) in
-    let q = passed _ Same _ entry p.1 in
-    let r = passed _ TooManyChanges _ entry q.1 in
-    subst (λ (k : Entry). Fits s k) (same_entry (DidChange (marked (newest (sight_in s)) l true)) entry r.1) tt
-accepted_fits s ok (event.Install kind root) entry e = install_fits s kind root entry (install_refused s.opening (sight_in s) root) e
+accepted_fits s ok (event.Retire f) entry e = change_fits s (retire_refused (newest (sight_in s)) f) (retired_below (newest (sight_in s)) f) entry e
+accepted_fits s ok (event.Down l) entry e = change_fits s (mark_refused (links_of s.opening) (newest (sight_in s)) l false) (marked (newest (sight_in s)) l false) entry e
+accepted_fits s ok (event.Up l) entry e = change_fits s (mark_refused (links_of s.opening) (newest (sight_in s)) l true) (marked (newest (sight_in s)) l true) entry e
+accepted_fits s ok (event.Install kind root) entry e = install_fits s kind root entry (install_refusal s.opening (sight_in s) root) e

@@ -1,6 +1,6 @@
 -- The epochs of a run, and those of its controller's steps alone: they are built alike.
 use Rattle.std.proofs.Common.{◌≡◌, ◌≢◌, ℕ, zero, suc, ◌+◌, ◌-◌, List, [], ◌∷◌, ◌++◌, length, take, Option, Some, None, Bool, true, false, cond, refl, sym, ap, ◌∙◌, subst, inl, inr}
-use Rattle.std.specs.Prelude.{Result, Ok, Err, not, ◌&&◌, ◌||◌, ◌==◌, nat_lt, nat_le, is_some, slice_get}
+use Rattle.std.specs.Prelude.{Result, Ok, Err, not, ◌||◌, ◌==◌, nat_lt, nat_le, is_some, slice_get}
 use Rattle.std.proofs.lemmas.Option.{none-some}
 use Rattle.std.proofs.lemmas.List.Elements.{All-head, All-tail}
 use Rattle.ir_model.specs.declared.Hop.{Hop}
@@ -11,9 +11,9 @@ use Rattle.ir_model.specs.Scheme.{Scheme, IsScheme}
 use Rattle.ir_plan.specs.declared.tour.LabelOrder.{LabelOrder}
 use Rattle.ir_plan.specs.Starts.{IsLabelledBy}
 use Rattle.ir_core.specs.declared.opening.Opening.{Opening}
-use Rattle.ir_core.specs.declared.TheConstants.{MAX_CHANGES, MAX_EPOCHS}
 use Rattle.ir_core.specs.declared.board.Board.{Board}
-use Rattle.ir_core.specs.Board.{is_up, marked, retired_below, installed}
+use Rattle.ir_core.specs.Board.{marked, retired_below, installed}
+use Rattle.ir_core.specs.Refusals.{inject_refused, retire_refused, mark_refused, install_refused}
 use Rattle.ir_core.specs.declared.built.Install.{Install}
 use Rattle.ir_core.specs.declared.event.Event.{Event}
 use Rattle.ir_core.specs.declared.event.Event.TheVariants as event
@@ -21,7 +21,7 @@ use Rattle.ir_core.specs.declared.event.Step.{Step}
 use Rattle.ir_core.specs.declared.event.Step.TheVariants as step
 use Rattle.ir_core.specs.declared.event.Reply.{Reply}
 use Rattle.ir_core.specs.declared.event.Refused.{Refused}
-use Rattle.ir_core.specs.declared.event.Refused.TheVariants.{NoNode, NoLink, NoEpoch, TooManyPackets, InboxFull, HandFull, BadView, Same, EpochsFull, TooManyChanges, NoMemory}
+use Rattle.ir_core.specs.declared.event.Refused.TheVariants.{NoNode, NoEpoch, InboxFull, HandFull, BadView, NoMemory}
 use Rattle.ir_core.specs.declared.event.Way.{Way}
 use Rattle.ir_core.specs.declared.event.Way.TheVariants.{Inbox, Link}
 use Rattle.ir_core.specs.declared.packet.Held.{Held}
@@ -30,7 +30,7 @@ use Rattle.ir_core.specs.Setting.{Setting, nodes_of, links_of, channel_of, into}
 use Rattle.ir_core.specs.Opened.{IsOpenedWith}
 use Rattle.ir_core.specs.Entry.{Entry, DidInject, DidLearn, DidTake, DidRead, DidAct, DidChange, DidInstall}
 use Rattle.ir_core.specs.History as history
-use Rattle.ir_core.specs.Meaning.{Sight, IsMade, ComesTo, InstallsUnless, install_refused, installs_made, network_up, newest, newest_of, is_full, sight_after, with_entry, injects, learns, takes, takes_from, takes_first, reads, acts, acts_on, retires, marks}
+use Rattle.ir_core.specs.Meaning.{Sight, IsMade, ComesTo, InstallsUnless, unless, install_refusal, installs_made, network_up, newest, newest_of, is_full, sight_after, with_entry, injects, learns, takes, takes_from, takes_first, reads, acts, acts_on, retires, marks}
 use Rattle.ir_core.specs.State.{State}
 use Rattle.ir_core.specs.Shows.{IsAnswered}
 use Rattle.ir_core.specs.Run.{IsStepAnswered, IsRun}
@@ -122,12 +122,15 @@ one_of : (a : Bool) (w v : Result Entry Refused) → IsPassed w → IsPassed v �
 one_of true w v p q = p
 one_of false w v p q = q
 
+unless_passed : (x : Option Refused) (w : Result Entry Refused) → IsPassed w → IsPassed (unless x w)
+unless_passed (Some e) w p = tt
+unless_passed None w p = p
+
 injects_passed : (o : Setting) (s : Sight) (source dest : ℕ) → IsPassed (injects o s source dest)
 injects_passed o s source dest =
     let did = DidInject s.injected s.learnt source dest (hop_room o.restamps (nodes_of o)) in
-    let roomy = cond (is_full o s (into o source Inbox)) (Err InboxFull) (Ok did) in
-    one_of (not (nat_lt source (nodes_of o) && nat_lt dest (nodes_of o))) (Err NoNode) (cond (nat_le o.max_packets s.injected) (Err TooManyPackets) roomy) tt
-    (one_of (nat_le o.max_packets s.injected) (Err TooManyPackets) roomy tt (one_of (is_full o s (into o source Inbox)) (Err InboxFull) (Ok did) tt tt))
+    unless_passed (inject_refused (nodes_of o) o.max_packets s.injected source dest) (cond (is_full o s (into o source Inbox)) (Err InboxFull) (Ok did))
+    (one_of (is_full o s (into o source Inbox)) (Err InboxFull) (Ok did) tt tt)
 
 learns_passed : (s : Sight) (e : ℕ) → IsPassed (learns s e)
 learns_passed s e = one_of ((e == 0) || nat_lt (newest s).current e) (Err NoEpoch) (Ok (DidLearn e)) tt tt
@@ -207,22 +210,14 @@ IsBoardChange (Ok (DidTake u way id)) = ⊥
 IsBoardChange (Ok (DidRead u k)) = ⊥
 IsBoardChange (Ok (DidAct u id way restamp v)) = ⊥
 
-change_or : (a b c : Bool) (x y z : Refused) (board : Board) → IsBoardChange (cond a (Err x) (cond b (Err y) (cond c (Err z) (Ok (DidChange board)))))
-change_or true b c x y z board = tt
-change_or false true c x y z board = tt
-change_or false false true x y z board = tt
-change_or false false false x y z board = tt
-
-mark_or : (o : Setting) (s : Sight) (l : ℕ) (up : Bool) → IsBoardChange (marks o s l up)
-mark_or o s l true = change_or (not (nat_lt l (links_of o))) (is_up (newest s) l) (nat_le MAX_CHANGES (newest s).version) NoLink Same TooManyChanges (marked (newest s) l true)
-mark_or o s l false = change_or (not (nat_lt l (links_of o))) (not (is_up (newest s) l)) (nat_le MAX_CHANGES (newest s).version) NoLink Same TooManyChanges (marked (newest s) l false)
+change_or : (x : Option Refused) (board : Board) → IsBoardChange (unless x (Ok (DidChange board)))
+change_or (Some e) board = tt
+change_or None board = tt
 
 change_comes : (o : Setting) (s : Sight) (e : Event) → IsChange e → (w : Result Entry Refused) → ComesTo o s e w → IsBoardChange w
-change_comes o s (event.Retire f) is w comes =
-    subst (λ (x : Result Entry Refused). IsBoardChange x) (sym comes)
-    (change_or (nat_lt (newest s).current f) (nat_le f (newest s).floor) (nat_le MAX_CHANGES (newest s).version) NoEpoch Same TooManyChanges (retired_below (newest s) f))
-change_comes o s (event.Down l) is w comes = subst (λ (x : Result Entry Refused). IsBoardChange x) (sym comes) (mark_or o s l false)
-change_comes o s (event.Up l) is w comes = subst (λ (x : Result Entry Refused). IsBoardChange x) (sym comes) (mark_or o s l true)
+change_comes o s (event.Retire f) is w comes = subst IsBoardChange (sym comes) (change_or (retire_refused (newest s) f) (retired_below (newest s) f))
+change_comes o s (event.Down l) is w comes = subst IsBoardChange (sym comes) (change_or (mark_refused (links_of o) (newest s) l false) (marked (newest s) l false))
+change_comes o s (event.Up l) is w comes = subst IsBoardChange (sym comes) (change_or (mark_refused (links_of o) (newest s) l true) (marked (newest s) l true))
 change_comes o s (event.Install kind root) is w comes = absurd is
 change_comes o s (event.Inject source dest) is w comes = absurd is
 change_comes o s (event.Learn e) is w comes = absurd is
@@ -269,11 +264,11 @@ module _ (o p : Setting) (over : o.network ≡ p.network) where
       ap (λ (boards : List Board). restrict (take (links_of o) (newest_of boards).up) o.network) is.boards
       ∙ ap (λ (net : Network). restrict (take (length net.links) (newest_of (history.boards other)).up) net) over
 
-  refused_same : (log other : List Entry) → AreAlike o p log other → (root : ℕ) → install_refused o (sight_after o log) root ≡ install_refused p (sight_after p other) root
+  refused_same : (log other : List Entry) → AreAlike o p log other → (root : ℕ) → install_refusal o (sight_after o log) root ≡ install_refusal p (sight_after p other) root
   refused_same log other is root =
-      ap (λ (boards : List Board). install_refused o (record (sight_after o log) { boards = boards }) root) is.boards
-      ∙ ap (λ (n : ℕ). cond (not (nat_lt root (nodes_of o))) (Some NoNode) (cond (nat_le MAX_EPOCHS n) (Some EpochsFull) (cond (nat_le MAX_CHANGES (newest_of (history.boards other)).version) (Some TooManyChanges) None))) (twins-length _ _ _ is.plans)
-      ∙ ap (λ (net : Network). install_refused (record p { network = net }) (sight_after p other) root) over
+      ap (λ (boards : List Board). install_refused (nodes_of o) (length (history.plans o log)) (newest_of boards) root) is.boards
+      ∙ ap (λ (n : ℕ). install_refused (nodes_of o) n (newest_of (history.boards other)) root) (twins-length _ _ _ is.plans)
+      ∙ ap (λ (net : Network). install_refusal (record p { network = net }) (sight_after p other) root) over
 
   not_both : (labels : LabelOrder) (kind : Kind) (root : ℕ) (net : Network) (t : Scheme) → IsMade labels kind root net (Some t) → IsDisconnected net → ⊥
   not_both labels kind root net t made apart =
@@ -321,7 +316,7 @@ module _ (o p : Setting) (over : o.network ≡ p.network) where
   event_alike : (log other later next : List Entry) → AreAlike o p log other → (e : Event) (w : Result Entry Refused) → ComesTo o (sight_after o log) e w → later ≡ with_entry log w → IsControlled p other (step.Event e) next → AreAlike o p later next
   event_alike log other later next is (event.Install kind root) w comes went t =
       taken log other later next w t.0 went t.2
-      (install_alike log other is kind root w t.0 (install_refused o (sight_after o log) root) (install_refused p (sight_after p other) root) (refused_same log other is root) comes t.1)
+      (install_alike log other is kind root w t.0 (install_refusal o (sight_after o log) root) (install_refusal p (sight_after p other) root) (refused_same log other is root) comes t.1)
   event_alike log other later next is (event.Retire f) w comes went t = taken log other later next w t.0 went t.2 (change_alike log other is (event.Retire f) tt w t.0 comes t.1)
   event_alike log other later next is (event.Down l) w comes went t = taken log other later next w t.0 went t.2 (change_alike log other is (event.Down l) tt w t.0 comes t.1)
   event_alike log other later next is (event.Up l) w comes went t = taken log other later next w t.0 went t.2 (change_alike log other is (event.Up l) tt w t.0 comes t.1)

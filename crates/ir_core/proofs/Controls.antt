@@ -1,13 +1,13 @@
 -- What the controller's steps of a list install.
-use Rattle.std.proofs.Common.{◌≡◌, ◌≢◌, ℕ, zero, suc, ◌<◌, ◌≤◌, List, [], ◌∷◌, ◌++◌, length, take, replicate, slice_index_or, Option, Some, None, refl, sym, ap, ◌∙◌, subst, arith, true, false, Bool, cond, inl, inr}
-use Rattle.std.specs.Prelude.{Result, Ok, Err, is_ok, IfOk, not, nat_lt, nat_le}
+use Rattle.std.proofs.Common.{◌≡◌, ◌≢◌, ℕ, zero, suc, ◌<◌, ◌≤◌, List, [], ◌∷◌, ◌++◌, length, take, replicate, slice_index_or, Option, Some, None, refl, sym, ap, ◌∙◌, subst, arith, true, false, Bool, inl, inr}
+use Rattle.std.specs.Prelude.{Result, Ok, Err, is_ok, IfOk}
 use Rattle.std.proofs.lemmas.Option.{slice_get_within}
 use Rattle.ir_model.specs.declared.Hop.{Hop}
 use Rattle.ir_model.specs.declared.Kind.{Kind}
 use Rattle.ir_model.specs.Network.{Network, IsNetwork, is_up, restrict}
 use Rattle.ir_model.specs.Scheme.{Scheme}
 use Rattle.ir_model.proofs.Restrict.{rows_all}
-use Rattle.ir_core.specs.declared.TheConstants.{MAX_LINKS, MAX_CHANGES}
+use Rattle.ir_core.specs.declared.TheConstants.{MAX_LINKS}
 use Rattle.ir_core.specs.declared.board.Board.{Board}
 use Rattle.ir_plan.specs.declared.tour.LabelOrder.{LabelOrder}
 use Rattle.ir_core.specs.declared.opening.Opening.{Opening}
@@ -18,14 +18,14 @@ use Rattle.ir_core.specs.declared.event.Step.{Step}
 use Rattle.ir_core.specs.declared.event.Step.TheVariants as step
 use Rattle.ir_core.specs.declared.event.Reply.{Reply}
 use Rattle.ir_core.specs.declared.event.Refused.{Refused}
-use Rattle.ir_core.specs.declared.event.Refused.TheVariants.{NoMemory, Disconnected, NoEpoch, NoLink, Same, TooManyChanges}
+use Rattle.ir_core.specs.declared.event.Refused.TheVariants.{NoMemory, Disconnected}
 use Rattle.ir_core.specs.Board.{marked, retired_below}
-use Rattle.ir_core.specs.Board.{is_up as up_on}
+use Rattle.ir_core.specs.Refusals.{retire_refused, mark_refused}
 use Rattle.ir_core.specs.Setting.{Setting, links_of}
 use Rattle.ir_core.specs.Opened.{IsOpenedWith}
 use Rattle.ir_core.specs.Entry.{Entry, DidChange}
 use Rattle.ir_core.specs.History as history
-use Rattle.ir_core.specs.Meaning.{IsMade, ComesTo, InstallsUnless, install_refused, installs_made, newest, newest_of, sight_after, with_entry}
+use Rattle.ir_core.specs.Meaning.{IsMade, ComesTo, InstallsUnless, unless, install_refusal, installs_made, newest, newest_of, sight_after, with_entry}
 use Rattle.ir_core.specs.State.{State, IsState, sight_in}
 use Rattle.ir_core.specs.Shows.{Shows, AnswersAfter, IsAnswered, reply_to}
 use Rattle.ir_core.proofs.Accepted.{same_entry, not_accepted}
@@ -38,26 +38,20 @@ built_push o (x ∷ installs) [] i t b is = absurd b
 built_push o (x ∷ installs) (s ∷ schemes) i t b is = (b.0, built_push o installs schemes i t b.1 is)
 
 -- the plans after a change of the board
-plans_kept : (o : Setting) (log : List Entry) (a b c : Bool) (x y z : Refused) (board : Board) →
-    history.plans o (with_entry log (cond a (Err x) (cond b (Err y) (cond c (Err z) (Ok (DidChange board)))))) ≡ history.plans o log
-plans_kept o log true b c x y z board = refl
-plans_kept o log false true c x y z board = refl
-plans_kept o log false false true x y z board = refl
-plans_kept o log false false false x y z board = refl
+plans_kept : (o : Setting) (log : List Entry) (x : Option Refused) (board : Board) → history.plans o (with_entry log (unless x (Ok (DidChange board)))) ≡ history.plans o log
+plans_kept o log (Some e) board = refl
+plans_kept o log None board = refl
 
 change_plans : (o : Setting) (log : List Entry) (e : Event) → IsChange e → (wanted : Result Entry Refused) → ComesTo o (sight_after o log) e wanted → history.plans o (with_entry log wanted) ≡ history.plans o log
 change_plans o log (event.Retire f) is wanted comes =
-    let x = sight_after o log in
-    ap (λ (w : Result Entry Refused). history.plans o (with_entry log w)) comes
-    ∙ plans_kept o log (nat_lt (newest x).current f) (nat_le f (newest x).floor) (nat_le MAX_CHANGES (newest x).version) NoEpoch Same TooManyChanges (retired_below (newest x) f)
+    let b = newest (sight_after o log) in
+    ap (λ (w : Result Entry Refused). history.plans o (with_entry log w)) comes ∙ plans_kept o log (retire_refused b f) (retired_below b f)
 change_plans o log (event.Down l) is wanted comes =
-    let x = sight_after o log in
-    ap (λ (w : Result Entry Refused). history.plans o (with_entry log w)) comes
-    ∙ plans_kept o log (not (nat_lt l (links_of o))) (not (up_on (newest x) l)) (nat_le MAX_CHANGES (newest x).version) NoLink Same TooManyChanges (marked (newest x) l false)
+    let b = newest (sight_after o log) in
+    ap (λ (w : Result Entry Refused). history.plans o (with_entry log w)) comes ∙ plans_kept o log (mark_refused (links_of o) b l false) (marked b l false)
 change_plans o log (event.Up l) is wanted comes =
-    let x = sight_after o log in
-    ap (λ (w : Result Entry Refused). history.plans o (with_entry log w)) comes
-    ∙ plans_kept o log (not (nat_lt l (links_of o))) (up_on (newest x) l) (nat_le MAX_CHANGES (newest x).version) NoLink Same TooManyChanges (marked (newest x) l true)
+    let b = newest (sight_after o log) in
+    ap (λ (w : Result Entry Refused). history.plans o (with_entry log w)) comes ∙ plans_kept o log (mark_refused (links_of o) b l true) (marked b l true)
 change_plans o log (event.Install kind root) is wanted comes = absurd is
 change_plans o log (event.Inject source dest) is wanted comes = absurd is
 change_plans o log (event.Learn e) is wanted comes = absurd is
@@ -130,7 +124,7 @@ module _ (s new : State) (kind : Kind) (root : ℕ) (reply : Result Reply Refuse
             later,
             (a.0, a.1, a.3),
             shows,
-            built_by log later installs i a.0 (install_refused s.opening (sight_after s.opening log) root) (sym (ap (λ (r : Result Reply Refused). is_ok r) a.2) ∙ did) a.3 a.1
+            built_by log later installs i a.0 (install_refusal s.opening (sight_after s.opening log) root) (sym (ap (λ (r : Result Reply Refused). is_ok r) a.2) ∙ did) a.3 a.1
                 (λ t m. (marks, subst (λ (n : LabelOrder). IsMade n i.kind i.root (restrict i.up.items s.opening.network) (Some t)) (sym same_labels) (subst (λ (k : Kind). IsMade s.opening.labels k i.root (restrict i.up.items s.opening.network) (Some t)) (sym same_kind) (subst (λ (n : ℕ). IsMade s.opening.labels kind n (restrict i.up.items s.opening.network) (Some t)) (sym same_root) (subst (λ (xs : List Bool). IsMade s.opening.labels kind root (restrict xs s.opening.network) (Some t)) (sym here) m))), same_labels)) built,
           )
       by_answer log k built later (inr a) shows = absurd (memory a.1)

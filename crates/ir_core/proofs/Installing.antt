@@ -1,58 +1,39 @@
-use Rattle.std.proofs.Common.{◌≡◌, ℕ, ◌+◌, ◌<◌, ◌≤◌, List, [], ◌∷◌, ◌++◌, length, take, slice_index_or, Option, Some, None, refl, sym, ap, ◌∙◌, subst, arith, true, false, Bool, nat_lt, inl}
-use Rattle.std.specs.Prelude.{Ok, Err, nat_le}
-use Rattle.std.proofs.lemmas.Grind.{common_steps}
+use Rattle.std.proofs.Common.{◌≡◌, ℕ, ◌+◌, ◌<◌, List, [], ◌∷◌, ◌++◌, length, take, slice_index_or, Option, Some, None, refl, sym, ap, ◌∙◌, subst, Bool, inl}
+use Rattle.std.specs.Prelude.{Ok, Err}
 use Rattle.ir_model.specs.declared.Kind.{Kind}
 use Rattle.ir_model.specs.Network.{Network, port_at, restrict}
 use Rattle.ir_model.specs.Scheme.{Scheme, IsScheme}
 use Rattle.ir_model.proofs.Restrict.{node_count-restrict, port_at-restrict}
-use Rattle.ir_core.specs.declared.TheConstants.{MAX_CHANGES, MAX_EPOCHS}
 use Rattle.ir_core.specs.declared.board.Board.{Board}
 use Rattle.ir_core.specs.declared.event.Reply.TheVariants.{Installed}
 use Rattle.ir_core.specs.declared.event.Refused.{Refused}
-use Rattle.ir_core.specs.declared.event.Refused.TheVariants.{NoNode, EpochsFull, TooManyChanges, Disconnected}
+use Rattle.ir_core.specs.declared.event.Refused.TheVariants.{Disconnected}
 use Rattle.ir_core.specs.Setting.{Setting, IsPlanFor, nodes_of, links_of, no_scheme}
 use Rattle.ir_core.specs.Board.{installed}
+use Rattle.ir_core.specs.Refusals.{install_refused}
 use Rattle.ir_core.specs.Entry.{Entry, DidInstall}
-use Rattle.ir_core.specs.Meaning.{newest_of, newest, network_up, IsMade, InstallsUnless, Installs, install_refused}
+use Rattle.ir_core.specs.Meaning.{newest_of, newest, network_up, IsMade, InstallsUnless, Installs, install_refusal}
 use Rattle.ir_core.specs.State.{State, sight_in, after}
 use Rattle.ir_core.specs.Handled.{IsInstallAnswer}
 use Rattle.ir_core.proofs.Keeps.{first_same}
 
 -- an install that is refused before any scheme is made
-pub refused_here : (s now : State) → s ≡ now → (kind : Kind) (root : ℕ) (e : Refused) → install_refused s.opening (sight_in s) root ≡ Some e → IsInstallAnswer now now kind root (Err e)
+pub refused_here : (s now : State) → s ≡ now → (kind : Kind) (root : ℕ) (e : Refused) → install_refusal s.opening (sight_in s) root ≡ Some e → IsInstallAnswer now now kind root (Err e)
 refused_here s now same kind root e is =
     let comes : Installs s.opening (sight_in s) kind root (Err e) = subst (λ (x : Option Refused). InstallsUnless s.opening (sight_in s) kind root (Err e) x) (sym is) refl in
     subst (λ (x : State). IsInstallAnswer x x kind root (Err e)) same (inl (Err e, comes, (refl, refl)))
 
-pub no_node : (s : State) (root : ℕ) → nodes_of s.opening ≤ root → install_refused s.opening (sight_in s) root ≡ Some NoNode
-no_node s root h = let t : nat_lt root (nodes_of s.opening) ≡ false = grind (arith, common_steps) in rw t refl
-
-pub epochs_full : (s : State) (root : ℕ) → root < nodes_of s.opening → MAX_EPOCHS ≤ length s.plans → install_refused s.opening (sight_in s) root ≡ Some EpochsFull
-epochs_full s root root_in full =
-    let t : nat_lt root (nodes_of s.opening) ≡ true = grind (arith, common_steps) in
-    let f : nat_le MAX_EPOCHS (length s.plans) ≡ true = grind (arith, common_steps) in
-    rw (t, f) refl
-
-pub changes_full : (s : State) (root : ℕ) → root < nodes_of s.opening → length s.plans < MAX_EPOCHS → MAX_CHANGES ≤ (newest_of s.boards).version → install_refused s.opening (sight_in s) root ≡ Some TooManyChanges
-changes_full s root root_in few full =
-    let t : nat_lt root (nodes_of s.opening) ≡ true = grind (arith, common_steps) in
-    let f : nat_le MAX_EPOCHS (length s.plans) ≡ false = grind (arith, common_steps) in
-    let g : nat_le MAX_CHANGES (newest_of s.boards).version ≡ true = grind (arith, common_steps) in
-    rw (t, f, g) refl
-
-pub not_refused : (s : State) (root : ℕ) → root < nodes_of s.opening → length s.plans < MAX_EPOCHS → (newest_of s.boards).version < MAX_CHANGES → install_refused s.opening (sight_in s) root ≡ None
-not_refused s root root_in few room =
-    let t : nat_lt root (nodes_of s.opening) ≡ true = grind (arith, common_steps) in
-    let f : nat_le MAX_EPOCHS (length s.plans) ≡ false = grind (arith, common_steps) in
-    let g : nat_le MAX_CHANGES (newest_of s.boards).version ≡ false = grind (arith, common_steps) in
-    rw (t, f, g) refl
+-- what the newest board was asked
+pub asked_here : (s : State) (nodes epochs : ℕ) (b : Board) (root : ℕ) (x : Option Refused) → nodes ≡ nodes_of s.opening → epochs ≡ length s.plans → b ≡ newest_of s.boards → x ≡ install_refused nodes epochs b root →
+    install_refusal s.opening (sight_in s) root ≡ x
+asked_here s nodes epochs b root x n e is told = sym (told ∙ rw (n, e, is) refl)
 
 -- the network over the links that are up in a board
 abbrev pub up_in : Setting → Board → Network
 up_in o b = restrict (take (links_of o) b.up) o.network
 
 -- an install over a disconnected network
-pub disconnected_here : (s now : State) → s ≡ now → (kind : Kind) (root : ℕ) (b : Board) → b ≡ newest_of s.boards → install_refused s.opening (sight_in s) root ≡ None →
+pub disconnected_here : (s now : State) → s ≡ now → (kind : Kind) (root : ℕ) (b : Board) → b ≡ newest_of s.boards → install_refusal s.opening (sight_in s) root ≡ None →
     IsMade s.opening.labels kind root (up_in s.opening b) None → IsInstallAnswer now now kind root (Err Disconnected)
 disconnected_here s now same kind root b is none apart =
     let made : IsMade s.opening.labels kind root (network_up s.opening (sight_in s)) None = subst (λ (x : Board). IsMade s.opening.labels kind root (up_in s.opening x) None) is apart in
@@ -79,7 +60,7 @@ whole_plan o t is same = record {
 }
 
 -- an install that is accepted
-pub installed_here : (s now : State) → s ≡ now → (kind : Kind) (root epoch : ℕ) (b : Board) (t : Scheme) (new : State) → b ≡ newest_of s.boards → install_refused s.opening (sight_in s) root ≡ None →
+pub installed_here : (s now : State) → s ≡ now → (kind : Kind) (root epoch : ℕ) (b : Board) (t : Scheme) (new : State) → b ≡ newest_of s.boards → install_refusal s.opening (sight_in s) root ≡ None →
     IsMade s.opening.labels kind root (up_in s.opening b) (Some t) → epoch ≡ length s.plans + 1 → new ≡ record s { boards = s.boards ++ installed b epoch ∷ []; plans = s.plans ++ t ∷ [] } → IsInstallAnswer now new kind root (Ok (Installed epoch))
 installed_here s now same kind root epoch b t new is none made is_epoch to =
     let made' : IsMade s.opening.labels kind root (network_up s.opening (sight_in s)) (Some t) = subst (λ (x : Board). IsMade s.opening.labels kind root (up_in s.opening x) (Some t)) is made in

@@ -10,6 +10,7 @@ pub mod Keeps
 pub mod Rooms
 pub mod Installing
 pub mod Shown
+pub mod Refusals
 pub mod Accepted
 pub mod Theorem
 pub mod Plains

@@ -6,7 +6,7 @@ use Rattle.ir_core.specs.declared.event.Reply.{Reply}
 use Rattle.ir_core.specs.declared.event.Refused.{Refused}
 use Rattle.ir_core.specs.declared.event.Refused.TheVariants.{NoMemory}
 use Rattle.ir_core.specs.Entry.{Entry}
-use Rattle.ir_core.specs.Meaning.{ComesTo, Installs, install_refused}
+use Rattle.ir_core.specs.Meaning.{ComesTo, Installs, install_refusal}
 use Rattle.ir_core.specs.State.{State, sight_in, IsAnswer}
 use Rattle.ir_core.specs.Shows.{AsksForMemory, MayWantMemory}
 
@@ -19,7 +19,7 @@ IsAnswerOr wanted old new result =
 abbrev pub IsInstallAnswer : State → State → Kind → ℕ → Result Reply Refused → Type 0
 IsInstallAnswer old new kind root result =
     ((wanted : Result Entry Refused) × Installs old.opening (sight_in old) kind root wanted × IsAnswer old new wanted result)
-    ⊎ ((install_refused old.opening (sight_in old) root ≡ None) × (result ≡ Err NoMemory) × (new ≡ old))
+    ⊎ ((install_refusal old.opening (sight_in old) root ≡ None) × (result ≡ Err NoMemory) × (new ≡ old))
 
 -- an answer to any event
 abbrev pub IsAnswerTo : Event → State → State → Result Reply Refused → Type 0

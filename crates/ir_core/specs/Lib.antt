@@ -3,6 +3,7 @@ pub mod Codes
 pub mod Marks
 pub mod Board
 pub mod Kept
+pub mod Refusals
 pub mod Queue
 pub mod Journey
 pub mod Recorded

@@ -1,5 +1,5 @@
 -- What an event comes to, or its first refusal.
-use Rattle.std.specs.Prelude.{◌≡◌, ℕ, ◌+◌, ◌-◌, Bool, true, false, not, ◌&&◌, ◌||◌, nat_lt, nat_le, Option, Some, None, Result, Ok, Err, unwrap_or, is_some, List, ◌∷◌, length, take, slice_get, slice_index_or, if◌then◌else◌, ◌==◌}
+use Rattle.std.specs.Prelude.{◌≡◌, ℕ, ◌+◌, ◌-◌, Bool, true, false, not, ◌||◌, nat_lt, nat_le, Option, Some, None, Result, Ok, Err, unwrap_or, is_some, List, ◌∷◌, length, take, slice_get, slice_index_or, if◌then◌else◌, ◌==◌}
 use Rattle.ir_model.specs.declared.Hop.{Hop}
 use Rattle.ir_model.specs.declared.Kind.{Kind}
 use Rattle.ir_model.specs.Network.{Network, restrict}
@@ -7,19 +7,19 @@ use Rattle.ir_model.specs.Walk.{IsDisconnected}
 use Rattle.ir_model.specs.Scheme.{Scheme, IsScheme}
 use Rattle.ir_plan.specs.declared.tour.LabelOrder.{LabelOrder}
 use Rattle.ir_plan.specs.Starts.{IsLabelledBy}
-use Rattle.ir_core.specs.declared.TheConstants.{MAX_EPOCHS, MAX_CHANGES}
 use Rattle.ir_core.specs.declared.event.Way.{Way}
 use Rattle.ir_core.specs.declared.event.Way.TheVariants.{Inbox, Link}
 use Rattle.ir_core.specs.declared.event.Event.{Event}
 use Rattle.ir_core.specs.declared.event.Event.TheVariants as event
 use Rattle.ir_core.specs.declared.event.Refused.{Refused}
-use Rattle.ir_core.specs.declared.event.Refused.TheVariants.{NoNode, NoLink, NoChannel, NoEpoch, HandFull, HandEmpty, Empty, BadView, Same, EpochsFull, Disconnected, TooManyPackets, InboxFull, TooManyChanges}
+use Rattle.ir_core.specs.declared.event.Refused.TheVariants.{NoNode, NoChannel, NoEpoch, HandFull, HandEmpty, Empty, BadView, Disconnected, InboxFull}
 use Rattle.ir_core.specs.declared.board.Board.{Board}
 use Rattle.ir_core.specs.declared.packet.Held.{Held}
 use Rattle.ir_core.specs.declared.event.Verdict.{Verdict}
 use Rattle.ir_core.specs.declared.event.Ruling.{Ruling}
 use Rattle.ir_core.specs.Journey.{Journey, hop_room, stamp_of}
-use Rattle.ir_core.specs.Board.{opening_board, is_up, marked, retired_below, installed}
+use Rattle.ir_core.specs.Board.{opening_board, marked, retired_below, installed}
+use Rattle.ir_core.specs.Refusals.{inject_refused, retire_refused, mark_refused, install_refused}
 use Rattle.ir_core.specs.Setting.{Setting, nodes_of, links_of, channel_of, into}
 use Rattle.ir_core.specs.Entry.{Entry, DidInject, DidLearn, DidTake, DidRead, DidAct, DidChange, DidInstall, judged, restamp_by, fresh}
 use Rattle.ir_core.specs.History as history
@@ -88,13 +88,16 @@ ruling_on o s u way r =
     let v = verdict_on o s u way (stamp_of r) r.dest in
     ruling_by o s u r.dest v (restamp_by (o.restamps - length r.restamps) (board_at s (s.view u)).current v)
 
+-- the refusal, or else this
+abbrev pub unless : Option Refused → Result Entry Refused → Result Entry Refused
+unless (Some e) r = Err e
+unless None r = r
+
 -- what an event comes to, or its first refusal
 abbrev pub injects : Setting → Sight → ℕ → ℕ → Result Entry Refused
 injects o s source dest =
-    if not (nat_lt source (nodes_of o) && nat_lt dest (nodes_of o)) then Err NoNode
-    else if nat_le o.max_packets s.injected then Err TooManyPackets
-    else if is_full o s (into o source Inbox) then Err InboxFull
-    else Ok (DidInject s.injected s.learnt source dest (hop_room o.restamps (nodes_of o)))
+    unless (inject_refused (nodes_of o) o.max_packets s.injected source dest)
+    (if is_full o s (into o source Inbox) then Err InboxFull else Ok (DidInject s.injected s.learnt source dest (hop_room o.restamps (nodes_of o))))
 
 abbrev pub learns : Sight → ℕ → Result Entry Refused
 learns s e = if (e == 0) || nat_lt (newest s).current e then Err NoEpoch else Ok (DidLearn e)
@@ -127,18 +130,10 @@ abbrev pub acts : Setting → Sight → ℕ → Result Entry Refused
 acts o s u = if not (nat_lt u (nodes_of o)) then Err NoNode else acts_on o s u (s.hand u)
 
 abbrev pub retires : Sight → ℕ → Result Entry Refused
-retires s f =
-    if nat_lt (newest s).current f then Err NoEpoch
-    else if nat_le f (newest s).floor then Err Same
-    else if nat_le MAX_CHANGES (newest s).version then Err TooManyChanges
-    else Ok (DidChange (retired_below (newest s) f))
+retires s f = unless (retire_refused (newest s) f) (Ok (DidChange (retired_below (newest s) f)))
 
 abbrev pub marks : Setting → Sight → ℕ → Bool → Result Entry Refused
-marks o s l up =
-    if not (nat_lt l (links_of o)) then Err NoLink
-    else if (if up then is_up (newest s) l else not (is_up (newest s) l)) then Err Same
-    else if nat_le MAX_CHANGES (newest s).version then Err TooManyChanges
-    else Ok (DidChange (marked (newest s) l up))
+marks o s l up = unless (mark_refused (links_of o) (newest s) l up) (Ok (DidChange (marked (newest s) l up)))
 
 -- the network over the links that are up in the newest version
 abbrev pub network_up : Setting → Sight → Network
@@ -156,19 +151,15 @@ installs_made s None = Err Disconnected
 installs_made s (Some t) = Ok (DidInstall (length s.plans + 1) t (installed (newest s) (length s.plans + 1)))
 
 -- why an install is refused before any scheme is made
-abbrev pub install_refused : Setting → Sight → ℕ → Option Refused
-install_refused o s root =
-    if not (nat_lt root (nodes_of o)) then Some NoNode
-    else if nat_le MAX_EPOCHS (length s.plans) then Some EpochsFull
-    else if nat_le MAX_CHANGES (newest s).version then Some TooManyChanges
-    else None
+abbrev pub install_refusal : Setting → Sight → ℕ → Option Refused
+install_refusal o s root = install_refused (nodes_of o) (length s.plans) (newest s) root
 
 abbrev pub InstallsUnless : Setting → Sight → Kind → ℕ → Result Entry Refused → Option Refused → Type 0
 InstallsUnless o s kind root wanted (Some e) = wanted ≡ Err e
 InstallsUnless o s kind root wanted None = (made : Option Scheme) × IsMade o.labels kind root (network_up o s) made × (wanted ≡ installs_made s made)
 
 abbrev pub Installs : Setting → Sight → Kind → ℕ → Result Entry Refused → Type 0
-Installs o s kind root wanted = InstallsUnless o s kind root wanted (install_refused o s root)
+Installs o s kind root wanted = InstallsUnless o s kind root wanted (install_refusal o s root)
 
 -- What an event comes to: its entry, or its first refusal. Of an install it says which scheme is made, and the scheme
 -- is any of that kind and root over the links that are up, labelled in the order of the setting.

@@ -7,7 +7,7 @@ use Rattle.ir_core.specs.declared.event.Refused.{Refused}
 use Rattle.ir_core.specs.declared.event.Refused.TheVariants.{InboxFull, NoMemory}
 use Rattle.ir_core.specs.Setting.{Setting}
 use Rattle.ir_core.specs.Entry.{Entry, reply_of}
-use Rattle.ir_core.specs.Meaning.{Sight, sight_after, ComesTo, with_entry, injects, retires, marks, install_refused}
+use Rattle.ir_core.specs.Meaning.{Sight, sight_after, ComesTo, with_entry, injects, retires, marks, install_refusal}
 use Rattle.ir_core.specs.History as history
 use Rattle.ir_core.specs.State.{State}
 
@@ -37,7 +37,7 @@ AsksForMemory (Err e) = e ≡ InboxFull
 -- The events that may want memory, and where.
 abbrev pub MayWantMemory : Setting → Sight → Event → Type 0
 MayWantMemory o s (event.Inject source dest) = AsksForMemory (injects o s source dest)
-MayWantMemory o s (event.Install kind root) = install_refused o s root ≡ None
+MayWantMemory o s (event.Install kind root) = install_refusal o s root ≡ None
 MayWantMemory o s (event.Retire f) = AsksForMemory (retires s f)
 MayWantMemory o s (event.Down l) = AsksForMemory (marks o s l false)
 MayWantMemory o s (event.Up l) = AsksForMemory (marks o s l true)

@@ -1,6 +1,8 @@
 ghost use Rattle.std.specs.Prelude.{◌≡◌, ◌<◌, ◌≤◌, IfOk, length, take};
 
+use crate::event::Refused;
 use crate::marks::Marks;
+use crate::{MAX_CHANGES, MAX_EPOCHS};
 use std::alloc::{AllocError, Global};
 use std::marker::Model;
 
@@ -16,6 +18,7 @@ pub struct Board {
 impl Board {
     ghost use Rattle.ir_core.specs.declared.TheConstants.{MAX_LINKS, MAX_CHANGES};
     ghost use Rattle.ir_core.specs.Board.{opening_board, is_up, marked, retired_below, installed};
+    ghost use Rattle.ir_core.specs.Refusals.{change_refused, retire_refused, mark_refused, install_refused};
 
     /// The board before any change: version 0, epoch 1 current and live, all links up.
     pub fn opening() -> Board
@@ -98,6 +101,57 @@ impl Board {
         next.version += 1;
         next.floor = floor;
         next
+    }
+
+    /// Why a floor is refused: it is above the current epoch (`NoEpoch`), it is not above the present floor (`Same`), or
+    /// the change is one too many, in this order.
+    pub fn retire_refusal(&self, floor: u32) -> Option<Refused>
+        ensures { result ≡ retire_refused self.now floor }
+    {
+        if self.current < floor {
+            return Some(Refused::NoEpoch);
+        }
+        if floor <= self.floor {
+            return Some(Refused::Same);
+        }
+        self.change_refusal()
+    }
+
+    /// Why a mark of one of so many links is refused: the number is no link, the link is marked so already (`Same`), or
+    /// the change is one too many, in this order.
+    pub fn mark_refusal(&self, links: usize, link: u16, up: bool) -> Option<Refused>
+        ensures { result ≡ mark_refused links self.now link up }
+    {
+        if link as usize >= links {
+            return Some(Refused::NoLink);
+        }
+        if self.is_up(link) == up {
+            return Some(Refused::Same);
+        }
+        self.change_refusal()
+    }
+
+    /// Why an install over so many nodes, where so many epochs are used up, is refused before any plan is made: the root
+    /// is no node, no epoch is left, or the change is one too many, in this order.
+    pub fn install_refusal(&self, nodes: usize, epochs: usize, root: u16) -> Option<Refused>
+        ensures { result ≡ install_refused nodes epochs self.now root }
+    {
+        if root as usize >= nodes {
+            return Some(Refused::NoNode);
+        }
+        if epochs >= MAX_EPOCHS {
+            return Some(Refused::EpochsFull);
+        }
+        self.change_refusal()
+    }
+
+    fn change_refusal(&self) -> Option<Refused>
+        ensures { result ≡ change_refused self.now }
+    {
+        if self.version >= MAX_CHANGES {
+            return Some(Refused::TooManyChanges);
+        }
+        None
     }
 }
 

@@ -13,7 +13,6 @@ use crate::packet::{Held, Record, hop_room};
 use crate::planning::{BuildError, plan_over, plan_up};
 use crate::queue::Queue;
 use crate::verdict::judge;
-use crate::{MAX_CHANGES, MAX_EPOCHS, MAX_LINKS};
 use ir_model::{Hop, Kind};
 use ir_plan::{LabelOrder, Plan};
 use ir_tables::Topology;
@@ -203,16 +202,10 @@ impl World {
     ) -> Result<Reply, Refused>
         ensures { IsInstallAnswer self.old self.new kind root result }
     {
-        if root as usize >= self.topology.nodes() {
-            return Err(Refused::NoNode);
-        }
         let epochs = self.plans.len();
-        if epochs >= MAX_EPOCHS {
-            return Err(Refused::EpochsFull);
-        }
         let newest = self.newest();
-        if newest.version() >= MAX_CHANGES {
-            return Err(Refused::TooManyChanges);
+        if let Some(error) = newest.install_refusal(self.topology.nodes(), epochs, root) {
+            return Err(error);
         }
         let plan = match plan_up(
             rt,
@@ -248,14 +241,8 @@ impl World {
         ensures { IsAnswerOr (retires (sight_in self.old) floor) self.old self.new result }
     {
         let newest = self.newest();
-        if newest.current() < floor {
-            return Err(Refused::NoEpoch);
-        }
-        if floor <= newest.floor() {
-            return Err(Refused::Same);
-        }
-        if newest.version() >= MAX_CHANGES {
-            return Err(Refused::TooManyChanges);
+        if let Some(error) = newest.retire_refusal(floor) {
+            return Err(error);
         }
         let Ok(()) = keep(self.alloc, &mut self.boards, &newest.retired_below(floor)) else {
             return Err(Refused::NoMemory);
@@ -266,15 +253,9 @@ impl World {
     fn mark(&mut self, link: u16, up: bool) -> Result<Reply, Refused>
         ensures { IsAnswerOr (marks self.old.opening (sight_in self.old) link up) self.old self.new result }
     {
-        if link as usize >= self.topology.links() {
-            return Err(Refused::NoLink);
-        }
         let newest = self.newest();
-        if newest.is_up(link) == up {
-            return Err(Refused::Same);
-        }
-        if newest.version() >= MAX_CHANGES {
-            return Err(Refused::TooManyChanges);
+        if let Some(error) = newest.mark_refusal(self.topology.links(), link, up) {
+            return Err(error);
         }
         let Ok(()) = keep(self.alloc, &mut self.boards, &newest.marked(link, up)) else {
             return Err(Refused::NoMemory);
@@ -320,10 +301,10 @@ impl World {
         ensures leads { LeadsIn self.now result }
     {
         let _nodes = self.nodes();
-        let board = self.seen(node);
+        let board = self.seen(node).board();
         let plan = self.plan_of(stamp);
         let address = plan.label_of(dest);
-        judge(plan, &board.board(), way, node, stamp, address)
+        judge(plan, &board, way, node, stamp, address)
     }
 
     /// The board of a node's view.

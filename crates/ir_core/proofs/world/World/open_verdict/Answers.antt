@@ -1,4 +1,4 @@
-use Rattle.std.proofs.Common.{arith, refl}
+use Rattle.std.proofs.Common.{arith, refl, ◌∙◌}
 use Rattle.ir_core.proofs.Keeps.{plan_known, label_back, open_read, open_leads}
 use Rattle.ir_core.proofs.world.World.open_verdict.Goals as goal
 
@@ -19,8 +19,8 @@ judge-requires-clause-address_in c =
 
 pub returns-clause-value : goal.returns-clause-value
 returns-clause-value c =
-    open_read c.args.self.now _ refl c.nodes-nodes.ensures.state c.args.node c.args.way c.args.stamp c.args.dest c.plan_of-plan.result.now c.seen-board.result.now c.judge.result c.label_of-address.result
-    c.requires.dest_in c.plan_of-plan.ensures c.seen-board.ensures.value c.label_of-address.ensures c.judge.ensures
+    open_read c.args.self.now _ refl c.nodes-nodes.ensures.state c.args.node c.args.way c.args.stamp c.args.dest c.plan_of-plan.result.now c.board-board.result c.judge.result c.label_of-address.result
+    c.requires.dest_in c.plan_of-plan.ensures (c.board-board.ensures ∙ c.seen.ensures.value) c.label_of-address.ensures c.judge.ensures
 
 pub returns-clause-leads : goal.returns-clause-leads
 returns-clause-leads c =
