@@ -1,4 +1,5 @@
-use Rattle.std.proofs.Common.{arith, refl, sym, length, take, ◌+◌, ◌∙◌}
+use Rattle.std.proofs.Common.{arith, refl, sym, ap, length, take, [], ◌∷◌, ◌++◌, ◌+◌, ◌∙◌}
+use Rattle.ir_core.specs.declared.board.Board.{Board}
 use Rattle.ir_core.specs.Inside.{state_of}
 use Rattle.ir_core.proofs.Keeps.{newest_known, installed_at}
 use Rattle.ir_core.proofs.Refusals.{none_there, install_free}
@@ -25,7 +26,7 @@ invariant_of-self-2 g c =
     record {
       state = installed_at (state_of c.self.inside) c.self.invariant.state refl (c.len-epochs.result + 1) c.newest-newest.result c.installed.result c.in-Ok.plan c.reserve.new.self.items c.push-2.new.self.items c.push.new.self.items
           n (omega (arith, c.self.inside.plans.ok.0, c.len-epochs.ensures, free.1)) free.2 (omega (arith, c.self.inside.plans.ok.0, c.len-epochs.ensures))
-          (made_plan _ c.args.kind c.args.root (take (length c.self.inside.topology.links) c.newest-newest.result.up) c.in-Ok.plan c.in-Ok.ensures.made) c.installed.ensures c.reserve.ensures.items c.in-Ok-push-2.ensures.items c.in-Ok-push.ensures.items;
+          (made_plan _ c.args.kind c.args.root (take (length c.self.inside.topology.links) c.newest-newest.result.up) c.in-Ok.plan c.in-Ok.ensures.made) c.installed.ensures c.reserve.ensures.items (c.in-Ok-push-2.ensures.items ∙ ap (λ (b : Board). c.reserve.new.self.items ++ b ∷ []) c.in-Ok-new.ensures) c.in-Ok-push.ensures.items;
       room = c.self.invariant.room;
     }
 
@@ -37,4 +38,4 @@ returns g c =
     (asked ∙ none_there c.install_refusal.result c.in_default.not-Some)
     c.in-Ok.ensures.made (omega (arith, c.self.inside.plans.ok.0, c.len-epochs.ensures))
     (installed_state (state_of c.self.inside) c.self.invariant.state.plans.some refl (c.len-epochs.result + 1) c.newest-newest.result c.installed.result c.in-Ok.plan c.reserve.new.self.items c.push-2.new.self.items c.push.new.self.items
-    c.installed.ensures c.reserve.ensures.items c.in-Ok-push-2.ensures.items c.in-Ok-push.ensures.items)
+    c.installed.ensures c.reserve.ensures.items (c.in-Ok-push-2.ensures.items ∙ ap (λ (b : Board). c.reserve.new.self.items ++ b ∷ []) c.in-Ok-new.ensures) c.in-Ok-push.ensures.items)
