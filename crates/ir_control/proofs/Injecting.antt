@@ -16,7 +16,7 @@ use Rattle.ir_control.specs.Heads.{head_at, times_injected, AreNumbered}
 use Rattle.ir_control.specs.Outs.{SentTo}
 use Rattle.std.specs.Prelude.{None}
 use Rattle.std.proofs.lemmas.Bool.Decides.{nat_tests}
-use Rattle.ir_control.specs.Refusals.{inject_refused}
+use Rattle.ir_core.specs.Refusals.{inject_refused}
 
 pub numbered_more : (xs ys : List Accepted) (a : Accepted) → ys ≡ xs ++ a ∷ [] → a.id ≡ length xs → AreNumbered xs → AreNumbered ys
 numbered_more xs ys a e id_is numbered = λ k b got.

@@ -12,7 +12,7 @@ ghost use Rattle.ir_core.specs.declared.TheConstants.{MAX_CHANGES};
 ghost use Rattle.ir_epochs.specs.Handles.{published, known, writer_board, reader_board, told, receipt_board};
 ghost use mathlib.Core.List.{IsPrefix};
 
-use ir_core::{Board, BuildError, MAX_CHANGES, MAX_EPOCHS, plan_up};
+use ir_core::{Board, BuildError, Refused, plan_up};
 use ir_epochs::{BoardWriter, Change, Receipt, RegisterError, Registry, Stamp};
 use ir_model::Kind;
 use ir_plan::{LabelOrder, Plan};
@@ -20,81 +20,6 @@ use ir_worker::Node;
 use std::alloc::Global;
 use std::sync::{Arc, Wait};
 use std::thread::Threads;
-use thiserror::Error;
-
-/// Why no epoch was installed.
-#[derive(Clone, Copy, PartialEq, Eq, Debug, Error)]
-pub enum InstallError {
-    /// The root is no node.
-    #[error("no such node")]
-    NoNode,
-    /// Each cell of the registry is used.
-    #[error("no epoch is left")]
-    EpochsFull,
-    /// Over the links that are up some node has no walk to some node.
-    #[error("some node has no walk to some node")]
-    Disconnected,
-    /// A growth was refused.
-    #[error("out of memory")]
-    NoMemory,
-    #[error("too many changes of the board")]
-    TooManyChanges,
-    /// A fresh cell of the registry refused its plan.
-    #[error("a fresh cell refused its plan")]
-    Used,
-}
-
-/// Why the board was not changed.
-#[derive(Clone, Copy, PartialEq, Eq, Debug, Error)]
-pub enum ChangeError {
-    /// No such epoch was installed.
-    #[error("no such epoch")]
-    NoEpoch,
-    /// The topology has no such link.
-    #[error("no such link")]
-    NoLink,
-    #[error("the board says so already")]
-    Same,
-    /// A growth was refused.
-    #[error("out of memory")]
-    NoMemory,
-    #[error("too many changes of the board")]
-    TooManyChanges,
-}
-
-impl InstallError {
-    ghost use Rattle.ir_control.specs.Changes.{install_code};
-
-    /// Its number: 1 NoNode, 2 EpochsFull, 3 Disconnected, 4 NoMemory, 5 TooManyChanges, 6 Used.
-    pub fn code(self) -> u8
-        ensures { result ≡ install_code self }
-    {
-        match self {
-            InstallError::NoNode => 1,
-            InstallError::EpochsFull => 2,
-            InstallError::Disconnected => 3,
-            InstallError::NoMemory => 4,
-            InstallError::TooManyChanges => 5,
-            InstallError::Used => 6,
-        }
-    }
-}
-
-impl ChangeError {
-    ghost use Rattle.ir_control.specs.Changes.{change_code};
-
-    /// Its number: 1 NoEpoch or NoLink, 2 Same, 3 NoMemory, 4 TooManyChanges.
-    pub fn code(self) -> u8
-        ensures { result ≡ change_code self }
-    {
-        match self {
-            ChangeError::NoEpoch | ChangeError::NoLink => 1,
-            ChangeError::Same => 2,
-            ChangeError::NoMemory => 3,
-            ChangeError::TooManyChanges => 4,
-        }
-    }
-}
 
 /// The one that changes the board of a net, and registers the plans of its epochs. `used` is how many cells of the
 /// registry are used up: an epoch whose plan was registered and not published stays left out.
@@ -115,7 +40,8 @@ pub struct Controller<R: Wait + Drop> {
 }
 
 impl<R: Wait + Drop> Controller<R> {
-    ghost use Rattle.ir_control.specs.Changes.{retire_refused, mark_refused, install_refusal, network_up, IsChangeAnswer, IsInstallAnswer};
+    ghost use Rattle.ir_core.specs.Refusals.{retire_refused, mark_refused};
+    ghost use Rattle.ir_control.specs.Changes.{install_refusal, network_up, IsChangeAnswer, IsInstallAnswer};
     ghost use Rattle.ir_epochs.specs.declared.entry.Change.TheVariants.{Retire, Down, Up};
     ghost use Rattle.std.specs.Prelude.{true, false};
 
@@ -159,14 +85,14 @@ impl<R: Wait + Drop> Controller<R> {
     }
 
     /// Publishes one change, for which there is room.
-    fn change(&mut self, change: Change) -> Result<Receipt, ChangeError>
+    fn change(&mut self, change: Change) -> Result<Receipt, Refused>
         requires version { (board_of (published self.old.writer)).version < MAX_CHANGES }
         requires fits { Fits (published self.old.writer) change }
         requires epochs { (changed (board_of (published self.old.writer)) change).current ≤ self.old.used }
         ensures answer { MatchResult result
             (λ t. (published self.new.writer ≡ published self.old.writer ++ Changed change ∷ [])
             × (told t ≡ published self.new.writer))
-            (λ e. (published self.new.writer ≡ published self.old.writer) × (e ≡ ChangeError.NoMemory)) }
+            (λ e. (published self.new.writer ≡ published self.old.writer) × (e ≡ Refused.NoMemory)) }
         ensures same { (self.new.opening ≡ self.old.opening) × (self.new.used ≡ self.old.used)
             × (self.new.registry ≡ self.old.registry) × (self.new.labels ≡ self.old.labels) }
         ensures board { writer_board self.new.writer ≡ writer_board self.old.writer }
@@ -174,32 +100,25 @@ impl<R: Wait + Drop> Controller<R> {
     {
         match self.writer.change(change) {
             Ok(receipt) => Ok(receipt),
-            Err(_) => Err(ChangeError::NoMemory),
+            Err(_) => Err(Refused::NoMemory),
         }
     }
 
     /// Retires the epochs below a floor. Refused are, in this order: a floor above the current epoch (`NoEpoch`), one
     /// that is not above the present floor (`Same`), a change too many, want of memory.
-    pub fn retire(&mut self, floor: u32) -> Result<Receipt, ChangeError>
+    pub fn retire(&mut self, floor: u32) -> Result<Receipt, Refused>
         ensures { IsChangeAnswer (retire_refused (board_of (published self.old.writer)) floor)
             (Retire floor) self.old self.new result }
     {
-        let board = self.writer.board();
-        if board.current() < floor {
-            return Err(ChangeError::NoEpoch);
-        }
-        if floor <= board.floor() {
-            return Err(ChangeError::Same);
-        }
-        if board.version() >= MAX_CHANGES {
-            return Err(ChangeError::TooManyChanges);
+        if let Some(error) = self.writer.board().retire_refusal(floor) {
+            return Err(error);
         }
         self.change(Change::Retire(floor))
     }
 
     /// Marks a link as down. Refused are, in this order: a number that is no link, a link that is down, a change too
     /// many, want of memory.
-    pub fn down(&mut self, link: u16) -> Result<Receipt, ChangeError>
+    pub fn down(&mut self, link: u16) -> Result<Receipt, Refused>
         ensures { IsChangeAnswer (mark_refused (length (knows self.old.opening).network.links)
             (board_of (published self.old.writer)) link false) (Down link) self.old self.new result }
     {
@@ -211,7 +130,7 @@ impl<R: Wait + Drop> Controller<R> {
 
     /// Marks a link as up. Refused are, in this order: a number that is no link, a link that is up, a change too many,
     /// want of memory.
-    pub fn up(&mut self, link: u16) -> Result<Receipt, ChangeError>
+    pub fn up(&mut self, link: u16) -> Result<Receipt, Refused>
         ensures { IsChangeAnswer (mark_refused (length (knows self.old.opening).network.links)
             (board_of (published self.old.writer)) link true) (Up link) self.old self.new result }
     {
@@ -222,56 +141,38 @@ impl<R: Wait + Drop> Controller<R> {
     }
 
     // Why a link is not marked.
-    fn mark_refusal(&self, link: u16, up: bool) -> Option<ChangeError>
+    fn mark_refusal(&self, link: u16, up: bool) -> Option<Refused>
         ensures { result ≡ mark_refused (length (knows self.now.opening).network.links)
             (board_of (published self.now.writer)) link up }
     {
         let topology = self.registry.plan(&self.opening).topology();
-        if link as usize >= topology.links() {
-            return Some(ChangeError::NoLink);
-        }
-        let board = self.writer.board();
-        if board.is_up(link) == up {
-            return Some(ChangeError::Same);
-        }
-        if board.version() >= MAX_CHANGES {
-            return Some(ChangeError::TooManyChanges);
-        }
-        None
+        self.writer.board().mark_refusal(topology.links(), link, up)
     }
 
     // Why an epoch is not installed, before any plan is built.
-    fn install_refusal(&self, root: u16) -> Option<InstallError>
+    fn install_refusal(&self, root: u16) -> Option<Refused>
         ensures { result ≡ install_refusal self.now root }
     {
         let topology = self.registry.plan(&self.opening).topology();
-        if root as usize >= topology.nodes() {
-            return Some(InstallError::NoNode);
-        }
-        if self.used as usize >= MAX_EPOCHS {
-            return Some(InstallError::EpochsFull);
-        }
-        let board = self.writer.board();
-        if board.version() >= MAX_CHANGES {
-            return Some(InstallError::TooManyChanges);
-        }
-        None
+        self.writer
+            .board()
+            .install_refusal(topology.nodes(), self.used as usize, root)
     }
 
     // The plan of this kind and root over the links that are up.
-    fn plan(&self, rt: &(impl Threads + Sync), kind: Kind, root: u16) -> Result<Plan, InstallError>
+    fn plan(&self, rt: &(impl Threads + Sync), kind: Kind, root: u16) -> Result<Plan, Refused>
         requires { root < node_count (knows self.now.opening).network }
         ensures { MatchResult result
             (λ p. IsMade self.now.labels kind root (network_up self.now) (Some p))
-            (λ e. ((e ≡ InstallError.Disconnected) × IsDisconnected (network_up self.now))
-            ⊎ (e ≡ InstallError.NoMemory)) }
+            (λ e. ((e ≡ Refused.Disconnected) × IsDisconnected (network_up self.now))
+            ⊎ (e ≡ Refused.NoMemory)) }
     {
         let topology = self.registry.plan(&self.opening).topology();
         let board = self.writer.board();
         match plan_up(rt, self.alloc, topology, &board, self.labels, kind, root) {
             Ok(plan) => Ok(plan),
-            Err(BuildError::Disconnected) => Err(InstallError::Disconnected),
-            Err(BuildError::NoMemory) => Err(InstallError::NoMemory),
+            Err(BuildError::Disconnected) => Err(Refused::Disconnected),
+            Err(BuildError::NoMemory) => Err(Refused::NoMemory),
         }
     }
 
@@ -286,7 +187,7 @@ impl<R: Wait + Drop> Controller<R> {
         rt: &(impl Threads + Sync),
         kind: Kind,
         root: u16,
-    ) -> Result<Receipt, InstallError>
+    ) -> Result<Receipt, Refused>
         ensures { IsInstallAnswer kind root self.old self.new result }
     {
         match self.install_refusal(root) {
@@ -301,7 +202,7 @@ impl<R: Wait + Drop> Controller<R> {
         let stamp = match register(&self.registry, epoch, plan) {
             Ok(stamp) => stamp,
             Err(error) => {
-                if error == InstallError::Used {
+                if error == Refused::Used {
                     self.used = epoch;
                 }
                 return Err(error);
@@ -310,21 +211,21 @@ impl<R: Wait + Drop> Controller<R> {
         self.used = epoch;
         match self.change(Change::Install(stamp)) {
             Ok(receipt) => Ok(receipt),
-            Err(_) => Err(InstallError::NoMemory),
+            Err(_) => Err(Refused::NoMemory),
         }
     }
 }
 
 // Sets the cell of an epoch.
-fn register(registry: &Registry, epoch: u32, plan: Plan) -> Result<Stamp, InstallError>
+fn register(registry: &Registry, epoch: u32, plan: Plan) -> Result<Stamp, Refused>
     requires { (1 ≤ epoch) × (epoch ≤ MAX_EPOCHS) }
     ensures { MatchResult result
         (λ s. IsOf registry.now s × (s.epoch ≡ epoch) × (knows s ≡ plan))
-        (λ e. (e ≡ InstallError.NoMemory) ⊎ (e ≡ InstallError.Used)) }
+        (λ e. (e ≡ Refused.NoMemory) ⊎ (e ≡ Refused.Used)) }
 {
     match registry.register(epoch, plan) {
         Ok(stamp) => Ok(stamp),
-        Err((RegisterError::NoMemory, _)) => Err(InstallError::NoMemory),
-        Err((RegisterError::Used, _)) => Err(InstallError::Used),
+        Err((RegisterError::NoMemory, _)) => Err(Refused::NoMemory),
+        Err((RegisterError::Used, _)) => Err(Refused::Used),
     }
 }

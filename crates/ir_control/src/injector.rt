@@ -12,12 +12,12 @@ ghost use Rattle.ir_worker.specs.Account.{Head, times_sent, weigh_sent, restamps
 ghost use Rattle.ir_control.specs.Heads.{times_injected, AreNumbered};
 ghost use Rattle.ir_control.specs.Outs.{AreEntryEnds, IsSent};
 
+use ir_core::Refused;
 use ir_epochs::{Receipt, Registry, Stamp};
 use ir_links::{Moments, Sender};
 use ir_worker::Parcel;
 use std::alloc::Global;
 use std::sync::Arc;
-use thiserror::Error;
 
 /// A packet that was accepted: its number, the epoch that it was stamped with, and its ends.
 #[derive(Clone, Copy, PartialEq, Eq, Debug)]
@@ -26,38 +26,6 @@ pub struct Accepted {
     pub epoch: u32,
     pub source: u16,
     pub dest: u16,
-}
-
-/// Why a packet was not accepted.
-#[derive(Clone, Copy, PartialEq, Eq, Debug, Error)]
-pub enum InjectError {
-    /// The source or the destination is no node.
-    #[error("no such node")]
-    NoNode,
-    #[error("too many packets")]
-    TooManyPackets,
-    /// A growth was refused.
-    #[error("out of memory")]
-    NoMemory,
-    /// The inbox of the source had no room: the push was refused.
-    #[error("the inbox is full")]
-    InboxFull,
-}
-
-impl InjectError {
-    ghost use Rattle.ir_control.specs.Refusals.{inject_code};
-
-    /// Its number: 1 NoNode, 2 TooManyPackets, 3 NoMemory, 4 InboxFull.
-    pub fn code(self) -> u8
-        ensures { result ≡ inject_code self }
-    {
-        match self {
-            InjectError::NoNode => 1,
-            InjectError::TooManyPackets => 2,
-            InjectError::NoMemory => 3,
-            InjectError::InboxFull => 4,
-        }
-    }
 }
 
 /// The injector of a net. It stamps each packet with the greatest epoch whose receipt it learnt, epoch 1 at first, and
@@ -114,7 +82,8 @@ fn send_to<R: Moments<Parcel>>(
 
 impl Injector {
     ghost use Rattle.ir_control.specs.Accepted.{IsInjected, stamp_after_learning};
-    ghost use Rattle.ir_control.specs.Refusals.{inject_refused, IsInjectRefusal};
+    ghost use Rattle.ir_core.specs.Refusals.{inject_refused};
+    ghost use Rattle.ir_control.specs.Refusals.{IsInjectRefusal};
 
     // An injector that accepted nothing, and learnt epoch 1.
     pub(crate) fn new(
@@ -177,7 +146,7 @@ impl Injector {
         rt: &R,
         source: u16,
         dest: u16,
-    ) -> Result<u32, InjectError>
+    ) -> Result<u32, Refused>
         ensures answer { MatchResult result
             (λ id. (inject_refused (node_count (knows self.old.opening).network) self.old.max_packets
             (length self.old.accepted.items) source dest ≡ None) × IsInjected self.old self.new id source dest)
@@ -189,11 +158,11 @@ impl Injector {
     {
         let nodes = self.outs.len();
         if source as usize >= nodes || dest as usize >= nodes {
-            return Err(InjectError::NoNode);
+            return Err(Refused::NoNode);
         }
         let count = self.accepted.len();
         if count >= self.max_packets {
-            return Err(InjectError::TooManyPackets);
+            return Err(Refused::TooManyPackets);
         }
         let id = count as u32;
         let epoch = self.newest.epoch();
@@ -206,10 +175,10 @@ impl Injector {
             dest,
             self.restamps,
         ) else {
-            return Err(InjectError::NoMemory);
+            return Err(Refused::NoMemory);
         };
         let Ok(()) = self.accepted.reserve(1) else {
-            return Err(InjectError::NoMemory);
+            return Err(Refused::NoMemory);
         };
         if !send_to(
             rt,
@@ -219,7 +188,7 @@ impl Injector {
             source as usize,
             parcel,
         ) {
-            return Err(InjectError::InboxFull);
+            return Err(Refused::InboxFull);
         }
         self.accepted.push_reserved(Accepted {
             id,

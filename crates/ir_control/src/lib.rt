@@ -4,7 +4,6 @@
 mod channels;
 mod controller;
 mod ends;
-mod error;
 mod gathering;
 mod injector;
 mod leaving;
@@ -17,9 +16,8 @@ mod report;
 mod reporting;
 mod settling;
 
-pub use controller::{ChangeError, Controller, InstallError};
-pub use error::NetError;
-pub use injector::{Accepted, InjectError, Injector};
+pub use controller::Controller;
+pub use injector::{Accepted, Injector};
 pub use net::{Net, Parts};
 pub use report::{FinishError, Report};
 pub use reporting::finish;

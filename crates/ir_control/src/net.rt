@@ -8,12 +8,11 @@ ghost use Rattle.ir_core.specs.declared.TheConstants.{MAX_PACKETS, MAX_RESTAMPS}
 ghost use Rattle.ir_control.specs.Places.{offset};
 ghost use Rattle.ir_epochs.specs.Stamps.{IsOf, knows};
 ghost use Rattle.ir_core.specs.Opened.{open_refused};
-ghost use Rattle.ir_control.specs.Opened.{net_error, IsNetRefusal};
+ghost use Rattle.ir_control.specs.Opened.{IsNetRefusal};
 ghost use Rattle.ir_control.specs.Wired.{AreInboxes, AreWays, AreEntries, AreOffsets, IsOpening};
 
 use crate::channels::{inboxes_of, ways_of};
 use crate::controller::Controller;
-use crate::error::NetError;
 use crate::injector::Injector;
 use crate::parts::{all_ends, ins_of, outs_of};
 use crate::peers::peers_of;
@@ -57,45 +56,32 @@ pub struct Net {
     ghost few_restamps: { restamps ≤ MAX_RESTAMPS },
 }
 
-// A refusal of an opening, as one of a net.
-fn net_error(error: OpenError) -> NetError
-    ensures { result ≡ net_error error }
-{
-    match error {
-        OpenError::NoNode => NetError::NoNode,
-        OpenError::Empty => NetError::Empty,
-        OpenError::Disconnected => NetError::Disconnected,
-        OpenError::TooLarge => NetError::TooLarge,
-        OpenError::NoMemory => NetError::NoMemory,
-    }
-}
-
 // A registry whose cell 1 has a plan of the opening's kind and root over all links.
 fn registered(
     rt: &(impl Threads + Sync),
     alloc: Global,
     opening: &Opening,
-) -> Result<(Registry, Stamp), NetError>
+) -> Result<(Registry, Stamp), OpenError>
     requires { opening.now.root < node_count opening.now.topology }
     ensures made { IfOk result (λ r. IsOf r.0 r.1 × (r.1.epoch ≡ 1)
         × IsMade opening.now.labels opening.now.kind opening.now.root opening.now.topology (Some (knows r.1))) }
     ensures refused { IfErr result
-        (λ e. ((e ≡ NetError.Disconnected) × IsDisconnected opening.now.topology)
-        ⊎ ((e ≡ NetError.NoMemory) ⊎ (e ≡ NetError.Used))) }
+        (λ e. ((e ≡ OpenError.Disconnected) × IsDisconnected opening.now.topology)
+        ⊎ ((e ≡ OpenError.NoMemory) ⊎ (e ≡ OpenError.Used))) }
 {
     let Ok(over) = opening.topology.try_clone(alloc) else {
-        return Err(NetError::NoMemory);
+        return Err(OpenError::NoMemory);
     };
     let plan = match plan_over(rt, alloc, over, opening.labels, opening.kind, opening.root) {
         Ok(plan) => plan,
-        Err(BuildError::Disconnected) => return Err(NetError::Disconnected),
-        Err(BuildError::NoMemory) => return Err(NetError::NoMemory),
+        Err(BuildError::Disconnected) => return Err(OpenError::Disconnected),
+        Err(BuildError::NoMemory) => return Err(OpenError::NoMemory),
     };
     let registry = Registry::new(alloc);
     match registry.register(1, plan) {
         Ok(stamp) => Ok((registry, stamp)),
-        Err((RegisterError::Used, _)) => Err(NetError::Used),
-        Err((RegisterError::NoMemory, _)) => Err(NetError::NoMemory),
+        Err((RegisterError::Used, _)) => Err(OpenError::Used),
+        Err((RegisterError::NoMemory, _)) => Err(OpenError::NoMemory),
     }
 }
 
@@ -118,18 +104,22 @@ impl Net {
     /// Refused are, in this order: no node (`Empty`), a root that is no node, more than 1,024 nodes or 8,192 links or another
     /// number out of its range (`TooLarge`), some node without a walk to some node, want of memory. `Used` would say
     /// that a fresh cell of the registry refused its plan.
-    pub fn new(rt: &(impl Threads + Sync), alloc: Global, opening: Opening) -> Result<Net, NetError>
+    pub fn new(
+        rt: &(impl Threads + Sync),
+        alloc: Global,
+        opening: Opening,
+    ) -> Result<Net, OpenError>
         ensures opened { IfOk result (λ net. IsNetFor opening net) }
         ensures accepted { IfOk result (λ _. open_refused opening ≡ None) }
         ensures refused { IfErr result (λ e. IsNetRefusal opening e) }
     {
         if let Some(error) = open_refusal(&opening) {
-            return Err(net_error(error));
+            return Err(error);
         }
         let (registry, first) = registered(rt, alloc, &opening)?;
         match Net::wired(alloc, registry, first, opening) {
             Ok(net) => Ok(net),
-            Err(_) => Err(NetError::NoMemory),
+            Err(_) => Err(OpenError::NoMemory),
         }
     }
 

@@ -29,3 +29,4 @@ open_code open_error.Empty = 2
 open_code open_error.Disconnected = 3
 open_code open_error.TooLarge = 4
 open_code open_error.NoMemory = 5
+open_code open_error.Used = 6

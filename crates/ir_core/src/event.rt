@@ -121,7 +121,7 @@ impl Refused {
     }
 }
 
-/// Why no world was opened.
+/// Why no world or net was opened.
 #[derive(Clone, Copy, Debug, PartialEq, Eq, Error)]
 pub enum OpenError {
     /// The root is no node.
@@ -139,6 +139,9 @@ pub enum OpenError {
     /// A growth was refused.
     #[error("out of memory")]
     NoMemory,
+    /// From a live run alone: a fresh cell of the registry refused its plan.
+    #[error("a fresh cell refused its plan")]
+    Used,
 }
 
 impl OpenError {
@@ -155,6 +158,7 @@ impl OpenError {
             OpenError::Disconnected => 3,
             OpenError::TooLarge => 4,
             OpenError::NoMemory => 5,
+            OpenError::Used => 6,
         }
     }
 }
