@@ -1,6 +1,7 @@
 -- What commands keep of an injector, and the packets that they put in.
 use Rattle.std.specs.Prelude.{◌≡◌, ℕ, ◌+◌, List, [], ◌∷◌, ◌++◌, Bool, true, false, Option, Some, None, Ok, Err, length, nat_lt, cond}
 use Rattle.std.proofs.Common.{refl, sym, ap, ◌∙◌, subst, append-nil, append_assoc, length-append}
+use Rattle.ir_core.specs.declared.event.Refused.{Refused}
 use Rattle.ir_core.specs.declared.command.Command.{Command}
 use Rattle.ir_core.specs.declared.command.Command.TheVariants.{Inject, Install, Retire, Down, Up, Drain}
 use Rattle.ir_epochs.specs.declared.registry.Stamp.{Stamp}
@@ -11,7 +12,6 @@ use Rattle.ir_worker.specs.Seen.{SeenParcel}
 use Rattle.ir_control.specs.declared.net.Net.{Net}
 use Rattle.ir_control.specs.declared.injector.Injector.{Injector}
 use Rattle.ir_control.specs.declared.injector.Accepted.{Accepted}
-use Rattle.ir_control.specs.declared.controller.ChangeError.{ChangeError}
 use Rattle.ir_control.specs.Accepted.{stamp_after_learning}
 use Rattle.ir_control.specs.Parts.{IsInjectorOf}
 use Rattle.ir_live.specs.declared.desk.Desk.{Desk}
@@ -62,7 +62,7 @@ pub injector_kept : (net : Net) (a b : Injector) → IsInjectorOf net a → IsSa
 injector_kept net a b is same = record { opening = same.opening ∙ is.opening; ends = same.lines ∙ is.ends; most = same.most ∙ is.most }
 
 module _ {B : Type 0} where
-  changed : (refused : Option ChangeError) (c : Change) (before after : Desk B) (answer : Answer) → IsChangedAs refused c before answer after → Kept before.injector after.injector [] (epoch_after before.injector.newest.epoch answer)
+  changed : (refused : Option Refused) (c : Change) (before after : Desk B) (answer : Answer) → IsChangedAs refused c before answer after → Kept before.injector after.injector [] (epoch_after before.injector.newest.epoch answer)
   changed refused c before after (Ok (Some s)) is = absurd is
   changed refused c before after (Ok None) is = unchanged before.injector after.injector is.0
   changed refused c before after (Err why) is = unchanged before.injector after.injector is.0

@@ -1,7 +1,7 @@
 -- What commands make of the board and of the epochs.
-use Rattle.std.specs.Prelude.{◌≡◌, ◌⊎◌, ℕ, zero, suc, ◌+◌, ◌<◌, ◌≤◌, Bool, true, false, not, nat_lt, nat_le, cond, List, [], ◌∷◌, ◌++◌, All, Option, Some, None, Ok, Err, length, take, replicate, slice_set}
+use Rattle.std.specs.Prelude.{◌≡◌, ◌⊎◌, ℕ, zero, suc, ◌+◌, ◌<◌, ◌≤◌, Bool, true, false, nat_lt, nat_le, cond, List, [], ◌∷◌, ◌++◌, All, Option, Some, None, Ok, Err, length, take, replicate, slice_set}
 use Rattle.std.proofs.Common.{refl, sym, ap, ◌∙◌, subst, arith, inl, inr}
-use Rattle.std.proofs.lemmas.Bool.{ltb-true, leb-true}
+use Rattle.std.proofs.lemmas.Bool.{leb-true}
 use Rattle.std.proofs.lemmas.Grind.{common_steps}
 use Rattle.std.proofs.lemmas.List.{take-replicate, take-append-le, take_all, length-append}
 use Rattle.std.proofs.lemmas.List.Elements.{All-nil, All-push, All-append}
@@ -25,6 +25,8 @@ use Rattle.ir_epochs.proofs.Rising.{board_last}
 use Rattle.ir_links.specs.Ends.{Word}
 use Rattle.ir_worker.specs.declared.node.Node.{Node}
 use Rattle.ir_core.specs.declared.event.Refused.{Refused}
+use Rattle.ir_core.specs.declared.event.Refused.TheVariants.{NoLink}
+use Rattle.ir_core.specs.Refusals.{mark_refused}
 use Rattle.ir_core.specs.declared.command.Command.{Command}
 use Rattle.ir_core.specs.declared.command.Command.TheVariants.{Inject, Install, Retire, Down, Up, Drain}
 use Rattle.std.specs.List.{AllByRecursion}
@@ -33,9 +35,7 @@ use Rattle.ir_worker.specs.Seen.{SeenParcel}
 use Rattle.ir_worker.proofs.Restamps.{never_now}
 use Rattle.ir_control.specs.declared.net.Net.{Net}
 use Rattle.ir_control.specs.declared.controller.Controller.{Controller}
-use Rattle.ir_control.specs.declared.controller.ChangeError.{ChangeError}
-use Rattle.ir_control.specs.declared.controller.ChangeError.TheVariants as refused
-use Rattle.ir_control.specs.Changes.{mark_refused, network_up, Publishes, PublishesNothing}
+use Rattle.ir_control.specs.Changes.{network_up, Publishes, PublishesNothing}
 use Rattle.ir_control.specs.Parts.{AreFreshParts}
 use Rattle.ir_live.specs.declared.desk.Desk.{Desk}
 use Rattle.ir_live.specs.Agreed.{AreOfOne}
@@ -45,11 +45,11 @@ use Rattle.ir_live.specs.Carried.{IsChangedAs, InstallsAndLearns, IsCarriedOut, 
 
 -- a mark that is not refused is that of a link
 link_in : (links : ℕ) (b : Board) (l : ℕ) (up : Bool) → mark_refused links b l up ≡ None → l < links
-link_in links b l up e = by (nat_lt l links) _ refl e
+link_in links b l up e = by (nat_le links l) _ refl e
   where
-    by : (t : Bool) (rest : Option ChangeError) → nat_lt l links ≡ t → cond (not t) (Some refused.NoLink) rest ≡ None → l < links
-    by true rest is e = ltb-true l links is
-    by false rest is e = absurd (cc e)
+    by : (t : Bool) (rest : Option Refused) → nat_le links l ≡ t → cond t (Some NoLink) rest ≡ None → l < links
+    by true rest is e = absurd (cc e)
+    by false rest is e = grind (arith, common_steps)
 
 no_stamp : (P : Stamp → Type 0) (x : Answer) → stamp_by x ≡ [] → All P (stamp_by x)
 no_stamp P x none = subst (All P) (sym none) (All-nil P)
@@ -126,13 +126,13 @@ module _ {B : Type 0} (net : Net) (origin : Controller B) where
   }
 
   -- a change that installs nothing
-  accepted : (why_not : Option ChangeError) (c : Change) (up up' : List Bool) (last : ℕ) (a b : Desk B) → IsChangedAs why_not c a (Ok None) b → Stands up last a.controller
+  accepted : (why_not : Option Refused) (c : Change) (up up' : List Bool) (last : ℕ) (a b : Desk B) → IsChangedAs why_not c a (Ok None) b → Stands up last a.controller
       → (why_not ≡ None → take links (changed (board_of (published a.controller.writer)) c).up ≡ up') → Stands up' last b.controller
   accepted why_not c up up' last a b done is marks =
       one_more up up' last last a.controller b.controller c done.1.0 done.1.1.1.1 (marks done.1.1.1.0) (let u = is.used in let same = done.1.1.0 in omega (arith, u, same)) is
 
-  rejected : (why_not : Option ChangeError) (c : Change) (up : List Bool) (last : ℕ) (a b : Desk B) (why : Refused) → IsChangedAs why_not c a (Err why) b → Stands up last a.controller → Stands up last b.controller
-  rejected why_not c up last a b why done is = nothing up last a.controller b.controller done.1.2.1.1 (let same = done.1.2.0 in omega (arith, same)) is
+  rejected : (why_not : Option Refused) (c : Change) (up : List Bool) (last : ℕ) (a b : Desk B) (why : Refused) → IsChangedAs why_not c a (Err why) b → Stands up last a.controller → Stands up last b.controller
+  rejected why_not c up last a b why done is = nothing up last a.controller b.controller done.1.1.1 (let same = done.1.0 in omega (arith, same)) is
 
   marked_up : (up : List Bool) (last : ℕ) (c : Controller B) (l : ℕ) (v : Bool) → Stands up last c → mark_refused (length (knows c.opening).network.links) (board_of (published c.writer)) l v ≡ None
       → (w : Bool) → take links (slice_set (board_of (published c.writer)).up l w) ≡ slice_set up l w
@@ -169,7 +169,7 @@ module _ {B : Type 0} (net : Net) (origin : Controller B) where
     step (Inject source dest) up last a b (Err why) done is = (refl, unmoved up last a.controller b.controller done.3 is)
     step (Install kind root) up last a b (Ok None) done is = absurd done
     step (Install kind root) up last a b (Ok (Some s)) done is = installed kind root up last a b s done is
-    step (Install kind root) up last a b (Err why) done is = (tt, nothing up last a.controller b.controller done.1.2.nothing (used_le a.controller.used b.controller.used done.1.2.used) is)
+    step (Install kind root) up last a b (Err why) done is = (tt, nothing up last a.controller b.controller done.1.nothing (used_le a.controller.used b.controller.used done.1.used) is)
     step (Retire floor) up last a b (Ok None) done is = (refl, accepted _ (change.Retire floor) up up last a b done is (λ allowed. is.ups))
     step (Retire floor) up last a b (Ok (Some s)) done is = absurd done
     step (Retire floor) up last a b (Err why) done is = (refl, rejected _ (change.Retire floor) up last a b why done is)
@@ -226,12 +226,12 @@ split_all p (Err why) answers all = (tt, all)
 
 -- an epoch that was current on the board is that of the opening or one of those that were installed
 module _ {B : Type 0} (was_full : Word SeenParcel) (p : ℕ → Bool) where
-  changed_never : (why_not : Option ChangeError) (c : Change) (a b : Desk B) (x : Answer) → IsChangedAs why_not c a x b → ((board : Board) → (changed board c).current ≡ board.current)
+  changed_never : (why_not : Option Refused) (c : Change) (a b : Desk B) (x : Answer) → IsChangedAs why_not c a x b → ((board : Board) → (changed board c).current ≡ board.current)
       → NeverCurrent p (published a.controller.writer) → NeverCurrent p (published b.controller.writer)
   changed_never why_not c a b (Ok (Some s)) done keeps never = absurd done
   changed_never why_not c a b (Ok None) done keeps never =
       kept_never p _ _ done.1.1.1.1.published_is (never_more p (published a.controller.writer) c never (ap p (keeps (board_of (published a.controller.writer))) ∙ never_now p (published a.controller.writer) never))
-  changed_never why_not c a b (Err why) done keeps never = kept_never p _ _ done.1.2.1.1.published_is never
+  changed_never why_not c a b (Err why) done keeps never = kept_never p _ _ done.1.1.1.published_is never
 
   moved_never : (a b : Desk B) → b.controller ≡ a.controller → NeverCurrent p (published a.controller.writer) → NeverCurrent p (published b.controller.writer)
   moved_never a b same never = kept_never p _ _ (ap (λ (c : Controller B). published c.writer) same) never
@@ -242,7 +242,7 @@ module _ {B : Type 0} (was_full : Word SeenParcel) (p : ℕ → Bool) where
   step_never (Install kind root) a b (Ok (Some s)) done none never =
       let i = done.installs in
       kept_never p _ _ i.publishes.published_is (never_more p (published a.controller.writer) (change.Install i.stamp) never (ap (λ (x : Stamp). p x.epoch) done.stamp_is ∙ none.0))
-  step_never (Install kind root) a b (Err why) done none never = kept_never p _ _ done.1.2.nothing.published_is never
+  step_never (Install kind root) a b (Err why) done none never = kept_never p _ _ done.1.nothing.published_is never
   step_never (Retire floor) a b x done none never = changed_never _ (change.Retire floor) a b x done (λ board. refl) never
   step_never (Down l) a b x done none never = changed_never _ (change.Down l) a b x done (λ board. refl) never
   step_never (Up l) a b x done none never = changed_never _ (change.Up l) a b x done (λ board. refl) never

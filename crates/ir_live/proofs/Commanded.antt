@@ -1,5 +1,6 @@
 -- Answers of commands, and one more of them.
 use Rattle.std.specs.Prelude.{◌≡◌, ℕ, suc, ◌+◌, ◌<◌, List, [], ◌∷◌, ◌++◌, Option, Result, Ok, Err, length, take}
+use Rattle.std.specs.Result.{result_err}
 use Rattle.std.proofs.lemmas.List.{take_more, length-take-le}
 use Rattle.std.proofs.Common.{get_or, refl, arith, sym, ap, ◌∙◌, subst, append-nil, append_assoc}
 use Rattle.ir_core.specs.declared.event.Refused.{Refused}
@@ -9,21 +10,19 @@ use Rattle.ir_epochs.specs.declared.handles.Receipt.{Receipt}
 use Rattle.ir_epochs.specs.declared.entry.Change.{Change}
 use Rattle.ir_links.specs.Ends.{Word}
 use Rattle.ir_worker.specs.Seen.{SeenParcel}
-use Rattle.ir_control.specs.declared.controller.ChangeError.{ChangeError}
 use Rattle.ir_control.specs.Changes.{IsChangeAnswer}
 use Rattle.ir_live.specs.declared.desk.Desk.{Desk}
 use Rattle.ir_live.specs.Answers.{Answer, answer_of, refusal_in, refusal_at, refusals_from}
 use Rattle.ir_live.specs.Planned.{stamp_by, stamps_in}
 use Rattle.ir_live.specs.Carried.{IsCarriedOut, IsChangedAs, AreCarriedOut}
-use Rattle.ir_live.specs.Words.{change_refusal}
 
 module _ {B : Type 0} where
-  pub changed_as : (refused : Option ChangeError) (c : Change) (before after : Desk B) (result : Result Receipt ChangeError) (r : Option Refused) → r ≡ change_refusal result →
+  pub changed_as : (refused : Option Refused) (c : Change) (before after : Desk B) (result : Result Receipt Refused) (r : Option Refused) → r ≡ result_err result →
       after.injector ≡ before.injector → IsChangeAnswer refused c before.controller after.controller result → IsChangedAs refused c before (answer_of r) after
   changed_as refused c before after result r told same is = subst (λ (o : Option Refused). IsChangedAs refused c before (answer_of o) after) (sym told) (by_case result is) where
-    by_case : (result : Result Receipt ChangeError) → IsChangeAnswer refused c before.controller after.controller result → IsChangedAs refused c before (answer_of (change_refusal result)) after
+    by_case : (result : Result Receipt Refused) → IsChangeAnswer refused c before.controller after.controller result → IsChangedAs refused c before (answer_of (result_err result)) after
     by_case (Ok t) is = (same, (t, is))
-    by_case (Err e) is = (same, (e, refl, is))
+    by_case (Err e) is = (same, is)
 
 module _ (was_full : Word SeenParcel) {B : Type 0} where
   -- one more command, with its answer

@@ -2,8 +2,10 @@
 use Rattle.std.specs.Prelude.{◌≡◌, ℕ, ◌∷◌, [], true, false, List, Option, Some, None, Ok, Err, length}
 use Rattle.ir_model.specs.declared.Kind.{Kind}
 use Rattle.ir_model.specs.Network.{node_count}
+use Rattle.ir_core.specs.declared.event.Refused.{Refused}
 use Rattle.ir_core.specs.declared.command.Command.{Command}
 use Rattle.ir_core.specs.declared.command.Command.TheVariants.{Inject, Install, Retire, Down, Up, Drain}
+use Rattle.ir_core.specs.Refusals.{inject_refused, retire_refused, mark_refused}
 use Rattle.ir_epochs.specs.declared.handles.Receipt.{Receipt}
 use Rattle.ir_epochs.specs.declared.entry.Change.{Change}
 use Rattle.ir_epochs.specs.declared.entry.Change.TheVariants as change
@@ -15,15 +17,11 @@ use Rattle.ir_links.specs.Ends.{Word}
 use Rattle.ir_worker.specs.Account.{lines_out}
 use Rattle.ir_worker.specs.Seen.{SeenParcel}
 use Rattle.ir_control.specs.declared.injector.Injector.{Injector}
-use Rattle.ir_control.specs.declared.injector.InjectError.{InjectError}
-use Rattle.ir_control.specs.declared.controller.InstallError.{InstallError}
-use Rattle.ir_control.specs.declared.controller.ChangeError.{ChangeError}
 use Rattle.ir_control.specs.Accepted.{IsInjected, stamp_after_learning}
-use Rattle.ir_control.specs.Refusals.{inject_refused, IsInjectRefusal}
-use Rattle.ir_control.specs.Changes.{retire_refused, mark_refused, Installs, IsNoInstall, IsChangeAnswer}
+use Rattle.ir_control.specs.Refusals.{IsInjectRefusal}
+use Rattle.ir_control.specs.Changes.{Installs, IsNoInstall, IsChangeAnswer}
 use Rattle.ir_live.specs.declared.desk.Desk.{Desk}
 use Rattle.ir_live.specs.Answers.{Answer}
-use Rattle.ir_live.specs.Words.{inject_word, install_word, change_word}
 
 -- the same injector, of the same inboxes and with the same limit
 pub record IsSameInjector (before after : Injector) : Type 0 where
@@ -43,7 +41,7 @@ IsInjectAnswer was_full source dest before (Ok None) after =
     (inject_refused (node_count (knows before.opening).network) before.max_packets (length before.accepted.items) source dest ≡ None)
     × ((id : ℕ) × IsInjected before after id source dest)
 IsInjectAnswer was_full source dest before (Err why) after =
-    ((e : InjectError) × (why ≡ inject_word e) × IsInjectRefusal was_full before source dest e) × InjectsNothing before after
+    IsInjectRefusal was_full before source dest why × InjectsNothing before after
 
 -- The injector has learnt of an epoch that was installed: it stamps with that epoch, if it is a later one. Nothing else
 -- changed.
@@ -63,12 +61,12 @@ module _ {B : Type 0} where
     pub learnt : HasLearnt before.injector after.injector s
 
   -- what a controller answers to a command that changes the board and installs nothing
-  abbrev pub IsChangedAs : Option ChangeError → Change → Desk B → Answer → Desk B → Type 0
+  abbrev pub IsChangedAs : Option Refused → Change → Desk B → Answer → Desk B → Type 0
   IsChangedAs refused c before (Ok (Some s)) after = ⊥
   IsChangedAs refused c before (Ok None) after =
       (after.injector ≡ before.injector) × ((t : Receipt) × IsChangeAnswer refused c before.controller after.controller (Ok t))
   IsChangedAs refused c before (Err why) after =
-      (after.injector ≡ before.injector) × ((e : ChangeError) × (why ≡ change_word e) × IsChangeAnswer refused c before.controller after.controller (Err e))
+      (after.injector ≡ before.injector) × IsChangeAnswer refused c before.controller after.controller (Err why)
 
   -- how many links the net of a desk has
   abbrev pub desk_links : Desk B → ℕ
@@ -79,7 +77,7 @@ module _ {B : Type 0} where
   IsInstalledAs kind root before (Ok None) after = ⊥
   IsInstalledAs kind root before (Ok (Some s)) after = InstallsAndLearns before after kind root s
   IsInstalledAs kind root before (Err why) after =
-      (after.injector ≡ before.injector) × ((e : InstallError) × (why ≡ install_word e) × IsNoInstall root before.controller after.controller e)
+      (after.injector ≡ before.injector) × IsNoInstall root before.controller after.controller why
 
   -- what comes of a retirement, and of a mark of a link
   abbrev pub IsRetiredAs : ℕ → Desk B → Answer → Desk B → Type 0

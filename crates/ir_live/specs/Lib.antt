@@ -1,5 +1,5 @@
 -- what contracts promise
-pub mod Words
+pub mod Codes
 pub mod Answers
 pub mod Planned
 pub mod Carried

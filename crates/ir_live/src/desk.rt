@@ -1,12 +1,10 @@
 //! The desk where commands are carried out.
 ghost use Rattle.std.specs.Prelude.{◌≡◌};
 ghost use Rattle.ir_live.specs.Answers.{answer_of};
-ghost use Rattle.ir_live.specs.Words.{change_refusal};
 
-use crate::words::{change_word, inject_word, install_word};
-use ir_control::{ChangeError, Controller, Injector, Net};
+use ir_control::{Controller, Injector, Net};
 use ir_core::{Command, Refused};
-use ir_epochs::{Receipt, Stamp};
+use ir_epochs::Stamp;
 use ir_links::Moments;
 use ir_model::Kind;
 use ir_worker::Parcel;
@@ -21,16 +19,6 @@ pub struct Desk<B: Wait + Drop> {
     pub(crate) injector: Injector,
     pub(crate) controller: Controller<B>,
     ghost of_one_net: { controller.opening ≡ injector.opening },
-}
-
-// Why the board was not changed, if it was not.
-fn refusal_of(answer: Result<Receipt, ChangeError>) -> Option<Refused>
-    ensures { result ≡ change_refusal answer }
-{
-    match answer {
-        Ok(_) => None,
-        Err(error) => Some(change_word(error)),
-    }
 }
 
 // The answer of a command that installs nothing.
@@ -61,10 +49,7 @@ impl<B: Wait + Drop> Desk<B> {
     fn inject<R: Moments<Parcel>>(&mut self, rt: &R, source: u16, dest: u16) -> Option<Refused>
         ensures { IsCarriedOut R.was_full (Inject source dest) self.old (answer_of result) self.new }
     {
-        match self.injector.inject(rt, source, dest) {
-            Ok(_) => None,
-            Err(error) => Some(inject_word(error)),
-        }
+        self.injector.inject(rt, source, dest).err()
     }
 
     // Installs an epoch, of which the injector learns at once.
@@ -84,7 +69,7 @@ impl<B: Wait + Drop> Desk<B> {
                     None => unreachable!(),
                 }
             }
-            Err(error) => Err(install_word(error)),
+            Err(error) => Err(error),
         }
     }
 
@@ -92,21 +77,21 @@ impl<B: Wait + Drop> Desk<B> {
     fn retire(&mut self, floor: u32) -> Option<Refused>
         ensures { IsRetiredAs floor self.old (answer_of result) self.new }
     {
-        refusal_of(self.controller.retire(floor))
+        self.controller.retire(floor).err()
     }
 
     // Marks a link as down.
     fn down(&mut self, link: u16) -> Option<Refused>
         ensures { IsDownAs link self.old (answer_of result) self.new }
     {
-        refusal_of(self.controller.down(link))
+        self.controller.down(link).err()
     }
 
     // Marks a link as up.
     fn up(&mut self, link: u16) -> Option<Refused>
         ensures { IsUpAs link self.old (answer_of result) self.new }
     {
-        refusal_of(self.controller.up(link))
+        self.controller.up(link).err()
     }
 
     // Carries out a command, and answers it.

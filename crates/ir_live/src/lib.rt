@@ -7,7 +7,6 @@ mod desk;
 mod live;
 mod running;
 mod starter;
-mod words;
 mod working;
 
 pub use ir_core::Command;

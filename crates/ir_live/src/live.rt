@@ -1,6 +1,6 @@
 //! What a live run answers.
 ghost use Rattle.std.specs.Prelude.{◌≡◌};
-ghost use Rattle.ir_live.specs.Words.{live_code};
+ghost use Rattle.ir_live.specs.Codes.{live_code};
 
 use ir_control::Report;
 use ir_core::Refused;

@@ -4,4 +4,4 @@ use Rattle.ir_live.proofs.Commanded.{changed_as}
 use Rattle.ir_live.proofs.desk.Desk.down.Goals as goal
 
 pub returns : goal.returns
-returns g c = changed_as _ (Down c.args.link) c.args.self.now _ c.down.result c.refusal_of.result c.refusal_of.ensures refl c.down.ensures
+returns g c = changed_as _ (Down c.args.link) c.args.self.now _ c.down.result c.err.result c.err.ensures.value refl c.down.ensures

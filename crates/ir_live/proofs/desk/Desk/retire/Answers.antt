@@ -4,4 +4,4 @@ use Rattle.ir_live.proofs.Commanded.{changed_as}
 use Rattle.ir_live.proofs.desk.Desk.retire.Goals as goal
 
 pub returns : goal.returns
-returns g c = changed_as _ (Retire c.args.floor) c.args.self.now _ c.retire.result c.refusal_of.result c.refusal_of.ensures refl c.retire.ensures
+returns g c = changed_as _ (Retire c.args.floor) c.args.self.now _ c.retire.result c.err.result c.err.ensures.value refl c.retire.ensures

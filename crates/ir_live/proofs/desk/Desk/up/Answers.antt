@@ -4,4 +4,4 @@ use Rattle.ir_live.proofs.Commanded.{changed_as}
 use Rattle.ir_live.proofs.desk.Desk.up.Goals as goal
 
 pub returns : goal.returns
-returns g c = changed_as _ (Up c.args.link) c.args.self.now _ c.up.result c.refusal_of.result c.refusal_of.ensures refl c.up.ensures
+returns g c = changed_as _ (Up c.args.link) c.args.self.now _ c.up.result c.err.result c.err.ensures.value refl c.up.ensures
