@@ -201,7 +201,6 @@ pub(crate) fn explain_opening(
         "Empty" => push_empty(text, words.format, topology)?,
         "Disconnected" => push_disconnected(alloc, text, graph, words)?,
         "TooLarge" => push_too_large(text, graph)?,
-        "TooManyReaders" => text.push_str("no place is left for a reader of the board")?,
         "Used" => text.push_str("a fresh cell of the registry refused its plan")?,
         _ => text.push_str("memory was refused while the network was opened")?,
     }

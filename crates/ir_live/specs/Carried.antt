@@ -2,6 +2,7 @@
 use Rattle.std.specs.Prelude.{◌≡◌, ℕ, ◌∷◌, [], true, false, List, Option, Some, None, Ok, Err, length}
 use Rattle.ir_model.specs.declared.Kind.{Kind}
 use Rattle.ir_model.specs.Network.{node_count}
+use Rattle.ir_core.specs.declared.board.Board.{Board}
 use Rattle.ir_core.specs.declared.event.Refused.{Refused}
 use Rattle.ir_core.specs.declared.command.Command.{Command}
 use Rattle.ir_core.specs.declared.command.Command.TheVariants.{Inject, Install, Retire, Down, Up, Drain}
@@ -68,9 +69,12 @@ module _ {B : Type 0} where
   IsChangedAs refused c before (Err why) after =
       (after.injector ≡ before.injector) × IsChangeAnswer refused c before.controller after.controller (Err why)
 
-  -- how many links the net of a desk has
+  -- how many links the net of a desk has, and its newest board
   abbrev pub desk_links : Desk B → ℕ
   desk_links d = length (knows d.controller.opening).network.links
+
+  abbrev pub desk_board : Desk B → Board
+  desk_board d = board_of (published d.controller.writer)
 
   -- what comes of an install
   abbrev pub IsInstalledAs : Kind → ℕ → Desk B → Answer → Desk B → Type 0
@@ -79,25 +83,15 @@ module _ {B : Type 0} where
   IsInstalledAs kind root before (Err why) after =
       (after.injector ≡ before.injector) × IsNoInstall root before.controller after.controller why
 
-  -- what comes of a retirement, and of a mark of a link
-  abbrev pub IsRetiredAs : ℕ → Desk B → Answer → Desk B → Type 0
-  IsRetiredAs floor before answer after = IsChangedAs (retire_refused (board_of (published before.controller.writer)) floor) (change.Retire floor) before answer after
-
-  abbrev pub IsDownAs : ℕ → Desk B → Answer → Desk B → Type 0
-  IsDownAs link before answer after = IsChangedAs (mark_refused (desk_links before) (board_of (published before.controller.writer)) link false) (change.Down link) before answer after
-
-  abbrev pub IsUpAs : ℕ → Desk B → Answer → Desk B → Type 0
-  IsUpAs link before answer after = IsChangedAs (mark_refused (desk_links before) (board_of (published before.controller.writer)) link true) (change.Up link) before answer after
-
 module _ (was_full : Word SeenParcel) {B : Type 0} where
   -- what comes of a command: the injector and the controller before it, the answer, and both after it
   abbrev pub IsCarriedOut : Command → Desk B → Answer → Desk B → Type 0
   IsCarriedOut (Inject source dest) before answer after =
       IsInjectAnswer was_full source dest before.injector answer after.injector × IsSameInjector before.injector after.injector × (after.injector.newest ≡ before.injector.newest) × (after.controller ≡ before.controller)
   IsCarriedOut (Install kind root) before answer after = IsInstalledAs kind root before answer after
-  IsCarriedOut (Retire floor) before answer after = IsRetiredAs floor before answer after
-  IsCarriedOut (Down link) before answer after = IsDownAs link before answer after
-  IsCarriedOut (Up link) before answer after = IsUpAs link before answer after
+  IsCarriedOut (Retire floor) before answer after = IsChangedAs (retire_refused (desk_board before) floor) (change.Retire floor) before answer after
+  IsCarriedOut (Down link) before answer after = IsChangedAs (mark_refused (desk_links before) (desk_board before) link false) (change.Down link) before answer after
+  IsCarriedOut (Up link) before answer after = IsChangedAs (mark_refused (desk_links before) (desk_board before) link true) (change.Up link) before answer after
   IsCarriedOut Drain before answer after =
       (answer ≡ Ok None) × (after.injector ≡ before.injector) × (after.controller ≡ before.controller)
 

@@ -42,15 +42,7 @@ fn drain<R: Wait>(rt: &R, net: &Net, count: u32, ended: &AtomicBool) {
 }
 
 impl<B: Wait + Drop> Desk<B> {
-    ghost use Rattle.ir_live.specs.Carried.{IsInstalledAs, IsRetiredAs, IsDownAs, IsUpAs, IsCarriedOut};
-    ghost use Rattle.ir_core.specs.declared.command.Command.TheVariants.{Inject};
-
-    // Puts a packet in.
-    fn inject<R: Moments<Parcel>>(&mut self, rt: &R, source: u16, dest: u16) -> Option<Refused>
-        ensures { IsCarriedOut R.was_full (Inject source dest) self.old (answer_of result) self.new }
-    {
-        self.injector.inject(rt, source, dest).err()
-    }
+    ghost use Rattle.ir_live.specs.Carried.{IsInstalledAs, IsCarriedOut};
 
     // Installs an epoch, of which the injector learns at once.
     fn install<R: Threads + Sync>(
@@ -73,27 +65,6 @@ impl<B: Wait + Drop> Desk<B> {
         }
     }
 
-    // Retires epochs.
-    fn retire(&mut self, floor: u32) -> Option<Refused>
-        ensures { IsRetiredAs floor self.old (answer_of result) self.new }
-    {
-        self.controller.retire(floor).err()
-    }
-
-    // Marks a link as down.
-    fn down(&mut self, link: u16) -> Option<Refused>
-        ensures { IsDownAs link self.old (answer_of result) self.new }
-    {
-        self.controller.down(link).err()
-    }
-
-    // Marks a link as up.
-    fn up(&mut self, link: u16) -> Option<Refused>
-        ensures { IsUpAs link self.old (answer_of result) self.new }
-    {
-        self.controller.up(link).err()
-    }
-
     // Carries out a command, and answers it.
     pub(crate) fn carry_out<R: Threads + Moments<Parcel> + Sync>(
         &mut self,
@@ -105,11 +76,11 @@ impl<B: Wait + Drop> Desk<B> {
         ensures { IsCarriedOut R.was_full command self.old result self.new }
     {
         match command {
-            Command::Inject(source, dest) => answered(self.inject(rt, source, dest)),
+            Command::Inject(source, dest) => answered(self.injector.inject(rt, source, dest).err()),
             Command::Install(kind, root) => self.install(rt, kind, root),
-            Command::Retire(floor) => answered(self.retire(floor)),
-            Command::Down(link) => answered(self.down(link)),
-            Command::Up(link) => answered(self.up(link)),
+            Command::Retire(floor) => answered(self.controller.retire(floor).err()),
+            Command::Down(link) => answered(self.controller.down(link).err()),
+            Command::Up(link) => answered(self.controller.up(link).err()),
             Command::Drain => {
                 drain(rt, net, self.injector.count(), ended);
                 Ok(None)

@@ -52,11 +52,11 @@ order_fault_words =
 abbrev pub order_fault_name : OrderFaultKind → List ℕ
 order_fault_name kind = word_of order_fault_words (order_fault_code kind)
 
--- those of the refusals of an opening: the first five are of a simulation and of a net, the last two of a net alone
+-- those of the refusals of an opening
 abbrev pub opening_words : List (List ℕ)
 opening_words =
     codes "NoNode" ∷ codes "Empty" ∷ codes "Disconnected" ∷ codes "TooLarge" ∷ codes "NoMemory"
-    ∷ codes "TooManyReaders" ∷ codes "Used" ∷ []
+    ∷ codes "Used" ∷ []
 
 abbrev pub open_error_name : OpenError → List ℕ
 open_error_name error = word_of opening_words (open_code error)

@@ -42,15 +42,13 @@ static ORDER_FAULTS: [&str; 6] = [
     "NoMemory",
 ];
 
-/// The words of the refusals of an opening, in the order of their numbers, which are counted from 1: the first five are of a
-/// simulation and of a net, the last two of a net alone.
-pub static OPENINGS: [&str; 7] = [
+/// Those of the refusals of an opening.
+static OPENINGS: [&str; 6] = [
     "NoNode",
     "Empty",
     "Disconnected",
     "TooLarge",
     "NoMemory",
-    "TooManyReaders",
     "Used",
 ];
 
@@ -184,18 +182,12 @@ pub fn numbering_line(
     Ok(text)
 }
 
-/// The line of a refused opening, by its word.
-pub fn named_opening(alloc: Global, name: &str) -> Result<String, AllocError>
-    ensures { IfOk result (λ text. string_bytes text ≡ codes "opening " ++ name.now ++ 10 ∷ []) }
-{
-    format!(in alloc; "opening {name}\n")
-}
-
 /// The line of a refused opening.
 pub fn opening_line(alloc: Global, error: OpenError) -> Result<String, AllocError>
     ensures { IfOk result (λ text. string_bytes text ≡ opening_line error) }
 {
-    named_opening(alloc, OPENINGS[error.code() as usize - 1])
+    let name = OPENINGS[error.code() as usize - 1];
+    format!(in alloc; "opening {name}\n")
 }
 
 /// Writes the line of a step that was refused, and nothing for another.
