@@ -16,13 +16,13 @@ use Rattle.ir_worker.specs.Account.{Head, head_of}
 use Rattle.ir_worker.specs.declared.parcel.Outcome.{Outcome}
 use Rattle.ir_worker.specs.Seen.{SeenParcel, stamps_of}
 use Rattle.ir_control.specs.declared.injector.Accepted.{Accepted}
-use Rattle.ir_control.specs.declared.injector.InjectError.TheVariants.{NoNode, TooManyPackets}
+use Rattle.ir_core.specs.declared.event.Refused.TheVariants.{NoNode, TooManyPackets}
+use Rattle.ir_core.specs.Refusals.{inject_refused}
 use Rattle.ir_core.specs.declared.event.OpenError.TheVariants.{Empty, TooLarge}
 use Rattle.ir_core.specs.declared.event.OpenError.TheVariants as openings
 use Rattle.ir_core.specs.declared.opening.Opening.{Opening}
 use Rattle.ir_control.specs.declared.net.Net.{Net}
 use Rattle.ir_control.specs.Heads.{head_at}
-use Rattle.ir_control.specs.Refusals.{inject_refused}
 use Rattle.ir_control.specs.Reports.{IsSoundOutcome}
 use Rattle.ir_control.specs.Told.{IsOutcomeIn}
 use Rattle.ir_links.specs.Ends.{Word}

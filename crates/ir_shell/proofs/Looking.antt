@@ -118,6 +118,7 @@ refused_plan net labels errors.NoNode other refuses = refuses
 refused_plan net labels errors.Empty other refuses = refuses
 refused_plan net labels errors.Disconnected other refuses = refuses
 refused_plan net labels errors.TooLarge other refuses = refuses
+refused_plan net labels errors.Used other refuses = refuses
 refused_plan net labels errors.NoMemory other refuses = absurd (other refl)
 
 -- what shows a plan is an answer

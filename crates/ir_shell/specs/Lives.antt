@@ -1,17 +1,17 @@
 -- What a graph, a root and a script come to as a live run.
-use Rattle.std.specs.Prelude.{◌≡◌, ◌≢◌, ℕ, Bool, true, false, List, [], ◌∷◌, ◌++◌, None, codes, flat_map, slice_index_or}
+use Rattle.std.specs.Prelude.{◌≡◌, ◌≢◌, ℕ, Bool, true, false, List, None, flat_map, slice_index_or}
 use Rattle.std.specs.List.{list_any}
 use Rattle.ir_model.specs.Graph.{Adjacency, names}
 use Rattle.ir_model.specs.OfGraph.{network_of_graph}
 use Rattle.ir_core.specs.declared.event.Refused.{Refused as Refusal}
 use Rattle.ir_core.specs.declared.event.Refused.TheVariants as refusals
+use Rattle.ir_core.specs.declared.event.OpenError.{OpenError}
+use Rattle.ir_core.specs.declared.event.OpenError.TheVariants as openings
 use Rattle.ir_core.specs.Opened.{open_refused}
 use Rattle.ir_core.specs.declared.command.Command.{Command}
-use Rattle.ir_control.specs.declared.error.NetError.{NetError}
-use Rattle.ir_control.specs.declared.error.NetError.TheVariants as nets
 use Rattle.ir_control.specs.declared.net.Net.{Net}
 use Rattle.ir_control.specs.Nets.{IsNetFor}
-use Rattle.ir_control.specs.Opened.{IsNetRefusal, code_of}
+use Rattle.ir_control.specs.Opened.{IsNetRefusal}
 use Rattle.ir_links.specs.Ends.{Word}
 use Rattle.ir_worker.specs.Seen.{SeenParcel}
 use Rattle.ir_live.specs.declared.live.Live.{Live}
@@ -20,7 +20,7 @@ use Rattle.ir_script.specs.Command.{line_command}
 use Rattle.ir_script.specs.Script.{Listing}
 use Rattle.ir_words.specs.declared.words.Words.{Words}
 use Rattle.ir_words.specs.Answer.{Answer, Ran, Found, Refused, NoThread}
-use Rattle.ir_words.specs.Lines.{word_of, opening_words, refused_line}
+use Rattle.ir_words.specs.Lines.{opening_line, refused_line}
 use Rattle.ir_words.specs.Openings.{opening_by}
 use Rattle.ir_shell.specs.Stops.{AnswersScripted}
 use Rattle.ir_shell.specs.Plays.{run_text}
@@ -37,14 +37,6 @@ refusal_line lines refusal = refused_line (slice_index_or lines refusal.0 0) ref
 -- a line for each command that was refused, in order
 abbrev pub refusals_text : List ℕ → List (ℕ × Refusal) → List ℕ
 refusals_text lines refusals = flat_map (refusal_line lines) refusals
-
--- the word of the refusal of a net's opening
-abbrev pub net_error_name : NetError → List ℕ
-net_error_name error = word_of opening_words (code_of error)
-
--- `opening NAME`, of a net
-abbrev pub net_line : NetError → List ℕ
-net_line e = codes "opening " ++ net_error_name e ++ 10 ∷ []
 
 -- A net that is opened over the network of the graph as the words say.
 pub record IsOpenedNet (g : Adjacency) (words : Words) (root : ℕ) (net : Net) : Type 0 where
@@ -70,7 +62,7 @@ abbrev pub AnswersLive : Type 0 → Word SeenParcel → Adjacency → Words → 
 AnswersLive B was_full g words script root (Ran text refused) = IsLiveRun B was_full g words root script text refused
 AnswersLive B was_full g words script root (Found text) = ⊥
 AnswersLive B was_full g words script root (Refused line) =
-    (e : NetError) × (e ≢ nets.NoMemory) × IsNetRefusal (opening_by words (network_of_graph g) root) e × (line ≡ net_line e)
+    (e : OpenError) × (e ≢ openings.NoMemory) × IsNetRefusal (opening_by words (network_of_graph g) root) e × (line ≡ opening_line e)
 AnswersLive B was_full g words script root NoThread = (net : Net) × IsOpenedNet g words root net
 
 -- the answer to a graph and the lines of a script: the script's first fault comes before the refusal of the opening

@@ -11,7 +11,7 @@ use Rattle.ir_numbering.specs.Numbers.{IsListing}
 use Rattle.ir_plan.specs.declared.error.PlanError.{PlanError}
 use Rattle.ir_plan.specs.declared.error.PlanError.TheVariants as plans
 use Rattle.ir_core.specs.declared.event.OpenError.{OpenError}
-use Rattle.ir_core.specs.declared.event.OpenError.TheVariants.{NoNode, Empty, Disconnected, TooLarge, NoMemory}
+use Rattle.ir_core.specs.declared.event.OpenError.TheVariants.{NoNode, Empty, Disconnected, TooLarge, NoMemory, Used}
 use Rattle.ir_plan.specs.declared.tour.LabelOrder.{LabelOrder}
 use Rattle.ir_plan.specs.Starts.{IsLabelledBy}
 use Rattle.ir_shell.specs.declared.plan.Labels.{Labels}
@@ -50,6 +50,7 @@ RefusesPlan net by NoNode = (0 < node_count net) × HasNoRoot net by
 RefusesPlan net by Disconnected = (0 < node_count net) × HasRoot net by × IsDisconnected net
 RefusesPlan net by TooLarge = ⊥
 RefusesPlan net by NoMemory = ⊥
+RefusesPlan net by Used = ⊥
 
 -- there is no plan for a refusal, or for want of memory
 abbrev pub RefusesBuild : Network → Labelling → OpenError → Type 0

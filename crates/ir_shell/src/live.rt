@@ -5,23 +5,22 @@ ghost use Rattle.std.specs.List.{list_any};
 ghost use Rattle.ir_model.specs.Graph.{names};
 ghost use Rattle.ir_model.specs.OfGraph.{network_of_graph};
 ghost use Rattle.ir_model.specs.Text.{lines};
-ghost use Rattle.ir_control.specs.declared.error.NetError.TheVariants.{NoMemory as NetNoMemory};
 ghost use Rattle.ir_trace.specs.Written.{HaveSegments};
 ghost use Rattle.ir_words.specs.Openings.{AnswersTopology};
-ghost use Rattle.ir_shell.specs.Lives.{is_for_memory, net_line, refusals_text, IsOpenedNet, AnswersLive, AnswersLiveScript};
+ghost use Rattle.ir_shell.specs.Lives.{is_for_memory, refusals_text, IsOpenedNet, AnswersLive, AnswersLiveScript};
 ghost use Rattle.ir_shell.specs.Plays.{listing_in, run_text};
 ghost use Rattle.ir_shell.specs.Stops.{StopsAs, Gives};
 
-use crate::asking::{Asked, Stop, read_asked};
+use crate::asking::{Asked, Stop, opening_stop, read_asked};
 use crate::play::run_text;
-use ir_control::{Net, NetError};
+use ir_control::Net;
 use ir_core::Refused;
 use ir_graph::Graph;
 use ir_links::Moments;
 use ir_live::{Every, Live, LiveError, run_live};
 use ir_script::Command;
 use ir_tables::Topology;
-use ir_words::lines::{OPENINGS, named_opening, push_reply_line};
+use ir_words::lines::push_reply_line;
 use ir_words::open::opening_of;
 use ir_words::reply::Reply;
 use ir_words::words::Words;
@@ -101,26 +100,6 @@ fn live_texts(
     Ok((trace, refused))
 }
 
-/// The line of a refused opening of a net.
-fn net_line(alloc: Global, error: NetError) -> Result<String, AllocError>
-    ensures { IfOk result (λ text. string_bytes text ≡ net_line error) }
-{
-    named_opening(alloc, OPENINGS[error.code() as usize - 1])
-}
-
-/// Why there is no net.
-fn net_stop(alloc: Global, error: NetError) -> Stop
-    ensures { StopsAs result (λ line. (error ≢ NetNoMemory) × (line ≡ net_line error)) }
-{
-    if error == NetError::NoMemory {
-        return Stop::NoMemory;
-    }
-    match net_line(alloc, error) {
-        Ok(line) => Stop::Refused(line),
-        Err(_) => Stop::NoMemory,
-    }
-}
-
 /// The answer to a script and a net that was opened for it. Its parts were not handed out before; that they are not handed
 /// out, or that the board has no place for a reader of each node, is told as want of memory.
 fn answer_net<T: Threads + Moments<Parcel> + Sync>(
@@ -171,6 +150,6 @@ pub fn run_commands<T: Threads + Moments<Parcel> + Sync>(
     let opening = opening_of(alloc, words, &asked.network, asked.root)?;
     match Net::new(rt, alloc, opening) {
         Ok(net) => answer_net(rt, alloc, words, &asked, &net),
-        Err(error) => Err(net_stop(alloc, error)),
+        Err(error) => Err(opening_stop(alloc, error)),
     }
 }
