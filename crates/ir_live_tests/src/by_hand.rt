@@ -4,10 +4,8 @@ ghost use Rattle.ir_epochs.specs.Handles.{receipt_board, reader_board, writer_bo
 ghost use Rattle.ir_worker.specs.Same.{IsSameNode};
 ghost use Rattle.ir_live_tests.specs.ByHand.{ArePartsOf, IsAway};
 
-use ir_control::{
-    ChangeError, FinishError, InjectError, InstallError, Net, NetError, Parts, Report, finish,
-};
-use ir_core::{Fate, Opening, Restamp};
+use ir_control::{FinishError, Net, Parts, Report, finish};
+use ir_core::{Fate, OpenError, Opening, Refused, Restamp};
 use ir_epochs::Receipt;
 use ir_graph::Graph;
 use ir_model::Kind;
@@ -45,7 +43,7 @@ pub(crate) fn opened(
     topology: Topology,
     tree: (Kind, u16),
     limits: (usize, usize, u8),
-) -> Result<Net, NetError> {
+) -> Result<Net, OpenError> {
     let (kind, root) = tree;
     let (capacity, max_packets, restamps) = limits;
     let opening = Opening {
@@ -141,19 +139,14 @@ impl<R: Wait + Drop> ByHand<R> {
         turned(rt, node)
     }
 
-    pub(crate) fn inject<B: Wait>(
-        &mut self,
-        rt: &B,
-        source: u16,
-        dest: u16,
-    ) -> Result<u32, InjectError>
+    pub(crate) fn inject<B: Wait>(&mut self, rt: &B, source: u16, dest: u16) -> Result<u32, Refused>
         ensures { writer_board self.new.parts.controller.writer ≡ writer_board self.old.parts.controller.writer }
     {
         self.parts.injector.inject(rt, source, dest)
     }
 
     /// The version after a link was marked.
-    pub(crate) fn mark(&mut self, link: u16, up: bool) -> Result<u32, ChangeError> {
+    pub(crate) fn mark(&mut self, link: u16, up: bool) -> Result<u32, Refused> {
         let answer = if up {
             self.parts.controller.up(link)
         } else {
@@ -170,13 +163,13 @@ impl<R: Wait + Drop> ByHand<R> {
         rt: &(impl Threads + Sync),
         kind: Kind,
         root: u16,
-    ) -> Result<Receipt, InstallError>
+    ) -> Result<Receipt, Refused>
         ensures { IfOk result (λ t. receipt_board t ≡ writer_board self.new.parts.controller.writer) }
     {
         self.parts.controller.install(rt, kind, root)
     }
 
-    pub(crate) fn retire(&mut self, floor: u32) -> Result<Receipt, ChangeError>
+    pub(crate) fn retire(&mut self, floor: u32) -> Result<Receipt, Refused>
         ensures { IfOk result (λ t. receipt_board t ≡ writer_board self.new.parts.controller.writer) }
     {
         self.parts.controller.retire(floor)
@@ -188,7 +181,7 @@ impl<R: Wait + Drop> ByHand<R> {
         rt: &(impl Threads + Sync),
         kind: Kind,
         root: u16,
-    ) -> Result<Option<u32>, InstallError> {
+    ) -> Result<Option<u32>, Refused> {
         let receipt = match self.parts.controller.install(rt, kind, root) {
             Ok(receipt) => receipt,
             Err(error) => return Err(error),

@@ -1,8 +1,8 @@
 //! Nets that are refused, and a ring at the limits.
 
 use crate::by_hand::{Became, ByHand, network, opened, tells};
-use ir_control::{InjectError, InstallError, Net, NetError, Report};
-use ir_core::{Fate, Kind};
+use ir_control::{Net, Report};
+use ir_core::{Fate, Kind, OpenError, Refused};
 use ir_graph::Graph;
 use ir_tables::Topology;
 use std::alloc::Global;
@@ -16,28 +16,28 @@ type Case = (
     &'static [(&'static str, &'static str)],
     u16,
     (usize, usize, u8),
-    NetError,
+    OpenError,
 );
 
 const PATH: &[(&str, &str)] = &[("a", "b"), ("b", "c")];
 
 const CASES: [Case; 8] = [
-    (PATH, 3, (0, 0, 0), NetError::NoNode),
-    (PATH, 2, (0, 1, 0), NetError::TooLarge),
-    (PATH, 2, (1_025, 1, 0), NetError::TooLarge),
-    (PATH, 2, (1, 0, 0), NetError::TooLarge),
-    (PATH, 2, (1, 4_097, 0), NetError::TooLarge),
-    (PATH, 2, (1, 1, 4), NetError::TooLarge),
-    (&[], 0, (0, 1, 0), NetError::Empty),
+    (PATH, 3, (0, 0, 0), OpenError::NoNode),
+    (PATH, 2, (0, 1, 0), OpenError::TooLarge),
+    (PATH, 2, (1_025, 1, 0), OpenError::TooLarge),
+    (PATH, 2, (1, 0, 0), OpenError::TooLarge),
+    (PATH, 2, (1, 4_097, 0), OpenError::TooLarge),
+    (PATH, 2, (1, 1, 4), OpenError::TooLarge),
+    (&[], 0, (0, 1, 0), OpenError::Empty),
     (
         &[("a", "b"), ("c", "d")],
         0,
         (1, 1, 3),
-        NetError::Disconnected,
+        OpenError::Disconnected,
     ),
 ];
 
-fn refused(rt: &(impl Threads + Sync), alloc: Global, case: &Case) -> Option<NetError> {
+fn refused(rt: &(impl Threads + Sync), alloc: Global, case: &Case) -> Option<OpenError> {
     let topology = network(alloc, case.0)?;
     opened(rt, alloc, topology, (Kind::Shortest, case.1), case.2).err()
 }
@@ -122,9 +122,9 @@ fn all_left(report: &Report) -> bool {
 fn takes_all<R: Threads + Wait + Sync>(rt: &R, alloc: Global) -> Option<bool> {
     let mut hands = ByHand::of(rt, over_ring(rt, alloc)?)?;
     let is_full = fill(rt, &mut hands)
-        && hands.inject(rt, 0, 1) == Err(InjectError::TooManyPackets)
+        && hands.inject(rt, 0, 1) == Err(Refused::TooManyPackets)
         && install_all(rt, &mut hands)
-        && hands.install_and_learn(rt, Kind::Shortest, 0) == Err(InstallError::EpochsFull);
+        && hands.install_and_learn(rt, Kind::Shortest, 0) == Err(Refused::EpochsFull);
     let report = hands.finish(rt).ok()?;
     Some(is_full && all_left(&report))
 }

@@ -4,8 +4,8 @@ ghost use Rattle.ir_epochs.specs.Handles.{receipt_board, reader_board, writer_bo
 ghost use Rattle.ir_worker.specs.Same.{IsSameNode};
 
 use crate::by_hand::{Became, ByHand, path, tells_all, turned};
-use ir_control::{ChangeError, FinishError, InjectError, InstallError};
-use ir_core::{Fate, Kind, Restamp};
+use ir_control::FinishError;
+use ir_core::{Fate, Kind, Refused, Restamp};
 use ir_epochs::Receipt;
 use ir_worker::{Node, Turn};
 use std::alloc::Global;
@@ -17,17 +17,17 @@ use std::thread::Threads;
 /// What is done by hand, and what it answers.
 #[derive(Clone, Copy)]
 enum Move {
-    Inject(u16, u16, Result<u32, InjectError>),
+    Inject(u16, u16, Result<u32, Refused>),
     /// A turn of a node.
     Turn(usize, Turn),
     /// A link is marked as up, or as down.
-    Mark(u16, bool, Result<u32, ChangeError>),
+    Mark(u16, bool, Result<u32, Refused>),
     /// An install, and why it is refused.
-    Install(Kind, u16, Option<InstallError>),
+    Install(Kind, u16, Option<Refused>),
     /// An install of which the injector learns, and its epoch.
     InstallAndLearn(Kind, u16, u32),
     /// A retirement, and why it is refused.
-    Retire(u32, Option<ChangeError>),
+    Retire(u32, Option<Refused>),
     /// Epoch 2 is installed and epoch 1 retired, of which this node learns.
     Renew(usize),
 }
@@ -77,7 +77,7 @@ const CASES: [Case; 9] = [
             Move::Inject(0, 2, Ok(0)),
             Move::Turn(0, Turn::Sent(0, 1)),
             Move::Inject(0, 2, Ok(1)),
-            Move::Inject(0, 2, Err(InjectError::InboxFull)),
+            Move::Inject(0, 2, Err(Refused::InboxFull)),
             Move::Turn(0, Turn::Idle),
             Move::Turn(0, Turn::Settled(1)),
         ],
@@ -184,15 +184,15 @@ const CASES: [Case; 9] = [
         capacity: 16,
         restamps: 0,
         moves: &[
-            Move::Inject(0, 3, Err(InjectError::NoNode)),
-            Move::Mark(2, false, Err(ChangeError::NoLink)),
+            Move::Inject(0, 3, Err(Refused::NoNode)),
+            Move::Mark(2, false, Err(Refused::NoLink)),
             Move::Mark(0, false, Ok(1)),
-            Move::Mark(0, false, Err(ChangeError::Same)),
-            Move::Install(Kind::Tree, 1, Some(InstallError::Disconnected)),
+            Move::Mark(0, false, Err(Refused::Same)),
+            Move::Install(Kind::Tree, 1, Some(Refused::Disconnected)),
             Move::Mark(0, true, Ok(2)),
-            Move::Retire(2, Some(ChangeError::NoEpoch)),
-            Move::Retire(1, Some(ChangeError::Same)),
-            Move::Install(Kind::Tree, 3, Some(InstallError::NoNode)),
+            Move::Retire(2, Some(Refused::NoEpoch)),
+            Move::Retire(1, Some(Refused::Same)),
+            Move::Install(Kind::Tree, 3, Some(Refused::NoNode)),
         ],
         packets: &[],
     },

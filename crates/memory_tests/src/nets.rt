@@ -5,11 +5,8 @@ ghost use Rattle.ir_worker.specs.Same.{IsSameNode};
 ghost use Rattle.ir_control.specs.Parts.{AreFirstNodes, AreFreshParts, AreNodesOf, IsInjectorOf};
 
 use crate::networks::{copy, opening};
-use ir_control::{
-    Controller, FinishError, InjectError, Injector, InstallError, Net, NetError, Parts, Report,
-    finish,
-};
-use ir_core::{Fate, Opening};
+use ir_control::{Controller, FinishError, Injector, Net, Parts, Report, finish};
+use ir_core::{Fate, OpenError, Opening, Refused};
 use ir_epochs::BoardError;
 use ir_plan::Kind;
 use ir_worker::{Node, Turn};
@@ -25,7 +22,7 @@ pub(crate) fn opened<R: Threads + Sync>(
 ) -> Result<Net, &'static str> {
     match Net::new(rt, alloc, copy(alloc, opening)?) {
         Ok(net) => return Ok(net),
-        Err(NetError::NoMemory) => {}
+        Err(OpenError::NoMemory) => {}
         Err(_) => return Err("a net is refused"),
     }
     match Net::new(rt, alloc, copy(alloc, opening)?) {
@@ -75,7 +72,7 @@ fn inject<R: Wait>(
     let before = injector.count();
     match injector.inject(rt, source, dest) {
         Ok(_) => return Ok(()),
-        Err(InjectError::NoMemory) => {}
+        Err(Refused::NoMemory) => {}
         Err(_) => return Err("a packet is refused"),
     }
     if injector.count() != before {
@@ -95,7 +92,7 @@ fn install<R: Threads + Wait + Sync>(
     let before = controller.board().version();
     match controller.install(rt, Kind::Shortest, 0) {
         Ok(_) => return Ok(()),
-        Err(InstallError::NoMemory) => {}
+        Err(Refused::NoMemory) => {}
         Err(_) => return Err("an install is refused"),
     }
     if controller.board().version() != before {
