@@ -8,5 +8,3 @@ mod epochs;
 mod links;
 #[cfg(test)]
 mod plans;
-#[cfg(test)]
-mod tour;

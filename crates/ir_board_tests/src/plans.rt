@@ -1,11 +1,12 @@
-//! Plans whose rows are made in several threads.
+//! Plans whose rows are made in several threads: by depth-first numbers, by those of a tour, and over a given order. That
+//! these are the rows which one thread makes, and what they are, `tests/program` shows of texts of plans.
 
 use ir_graph::Graph;
 use ir_model::Kind;
-use ir_plan::{Plan, PlanError};
+use ir_numbering::check_order;
+use ir_plan::{Plan, PlanError, tour_plan};
 use ir_tables::Topology;
 use std::alloc::Global;
-use std::test::Fail;
 use std::thread::Threads;
 
 // Links two nodes by their numbers, with a weight from 1 to 7.
@@ -17,7 +18,7 @@ fn link(graph: &mut Graph, alloc: Global, u: u32, v: u32) -> Option<()> {
 }
 
 /// So many nodes, n0 to the last, of which each is linked to the next one and to the third one behind it.
-pub(crate) fn chain(alloc: Global, nodes: u16) -> Option<Topology> {
+fn chain(alloc: Global, nodes: u16) -> Option<Topology> {
     let mut graph = Graph::new(alloc);
     for u in 0..nodes {
         let u = u as u32;
@@ -27,67 +28,85 @@ pub(crate) fn chain(alloc: Global, nodes: u16) -> Option<Topology> {
     Topology::of(alloc, &graph).ok()
 }
 
-/// Whether the rows of two plans give each address the same port.
-pub(crate) fn agree(plan: &Plan, other: &Plan) -> bool {
-    if plan.nodes() != other.nodes() || plan.starts() != other.starts() {
-        return false;
-    }
-    let nodes = plan.nodes() as u16;
-    for u in 0..nodes {
-        if plan.label_of(u) != other.label_of(u) || plan.row(u).len() != other.row(u).len() {
-            return false;
-        }
-        for address in 0..nodes {
-            if plan.port(u, address) != other.port(u, address) {
-                return false;
-            }
-        }
-    }
-    true
-}
-
-/// Kinds, and how many threads make the rows.
-const CASES: [(Kind, Option<usize>); 4] = [
-    (Kind::Tree, None),
-    (Kind::Shortest, Some(1)),
-    (Kind::Compact, Some(2)),
-    (Kind::Shortest, Some(256)),
-];
-
-// Whether the rows of a chain that are made in threads are those that are made one by one.
-fn alike(
+/// How many starts a plan of a chain has by depth-first numbers, and by a tour; both made in at most so many threads. A
+/// plain program in another language counted the same.
+fn starts(
     rt: &(impl Threads + Sync),
     alloc: Global,
-    kind: Kind,
+    nodes: u16,
     most: Option<usize>,
-) -> Option<bool> {
-    let plan = Plan::build(alloc, chain(alloc, 60)?, kind, 5).ok()?;
-    let other = Plan::build_in_threads(rt, alloc, chain(alloc, 60)?, kind, 5, most).ok()?;
-    Some(agree(&plan, &other))
+) -> Option<(usize, usize)> {
+    let (first, second) = (chain(alloc, nodes)?, chain(alloc, nodes)?);
+    let plan = Plan::build_in_threads(rt, alloc, first, Kind::Shortest, 5, most).ok()?;
+    let tour = tour_plan(rt, alloc, second, Kind::Shortest, 5, most).ok()?;
+    Some((plan.starts(), tour.starts()))
 }
 
 #[test]
-fn rows_made_in_threads_are_those_made_one_by_one(rt: HostRuntime) -> Result<(), Fail> {
-    for (kind, most) in &CASES {
-        if alike(&rt, rt.alloc(), *kind, *most) != Some(true) {
-            return Err("other rows".into());
-        }
-    }
-    Ok(())
+fn tours_of_chains_have_fewer_starts(rt: HostRuntime) {
+    let small = starts(&rt, rt.alloc(), 20, Some(1));
+    let large = starts(&rt, rt.alloc(), 60, Some(2));
+    assert!(rt; (small, large) == (Some((118, 82)), Some((354, 238))));
 }
 
-// Whether a plan in threads is refused where the root is no node, and the topology comes back.
-fn comes_back(rt: &(impl Threads + Sync), alloc: Global) -> Option<bool> {
+/// Whether a plan in threads, or one by a tour, is refused where the root is no node, and the topology comes back.
+fn comes_back(rt: &(impl Threads + Sync), alloc: Global, is_tour: bool) -> Option<bool> {
     let topology = chain(alloc, 20)?;
     let nodes = topology.nodes();
     let root = nodes as u16;
-    match Plan::build_in_threads(rt, alloc, topology, Kind::Shortest, root, None) {
+    let made = if is_tour {
+        tour_plan(rt, alloc, topology, Kind::Shortest, root, None)
+    } else {
+        Plan::build_in_threads(rt, alloc, topology, Kind::Shortest, root, None)
+    };
+    match made {
         Err((PlanError::NoNode, back)) => Some(back.nodes() == nodes),
         _ => None,
     }
 }
 
 #[test]
-fn refusals_in_threads_are_those_of_build(rt: HostRuntime) {
-    assert!(rt; comes_back(&rt, rt.alloc()) == Some(true));
+fn a_refusal_hands_the_topology_back(rt: HostRuntime) {
+    let answers = (
+        comes_back(&rt, rt.alloc(), false),
+        comes_back(&rt, rt.alloc(), true),
+    );
+    assert!(rt; answers == (Some(true), Some(true)));
+}
+
+// So many nodes, the last first.
+fn backwards(alloc: Global, nodes: usize) -> Option<Vec<u16>> {
+    let mut order = Vec::new(alloc);
+    for u in 0..nodes.min(60) {
+        order.insert(0, u as u16).ok()?;
+    }
+    Some(order)
+}
+
+// The plan of a chain over its nodes from the last on, its rows made one by one, or in two threads.
+fn over_an_order(rt: &(impl Threads + Sync), alloc: Global, is_in_threads: bool) -> Option<Plan> {
+    let topology = chain(alloc, 40)?;
+    let order = backwards(alloc, topology.nodes())?;
+    let Ok(()) = check_order(alloc, topology.nodes(), order.as_slice()) else {
+        return None;
+    };
+    if is_in_threads {
+        Plan::build_numbered_in_threads(rt, alloc, topology, Kind::Compact, order, Some(2)).ok()
+    } else {
+        Plan::build_numbered(alloc, topology, Kind::Compact, order).ok()
+    }
+}
+
+// Whether the plans over an order have as many starts by both ways; and the topology is that of the plan.
+fn are_alike(rt: &(impl Threads + Sync), alloc: Global) -> Option<bool> {
+    let plan = over_an_order(rt, alloc, false)?;
+    let other = over_an_order(rt, alloc, true)?;
+    let is_same = plan.starts() == other.starts();
+    let links = plan.topology().links();
+    Some(is_same && plan.into_topology().links() == links)
+}
+
+#[test]
+fn plans_over_an_order_are_alike(rt: HostRuntime) {
+    assert!(rt; are_alike(&rt, rt.alloc()) == Some(true));
 }

@@ -1,10 +1,12 @@
 //! Live runs whose nodes a gate stops early.
 
-use crate::by_hand::{ByHand, path};
+use crate::by_hand::{ByHand, opened, path};
 use crate::live;
-use crate::nets::over_ring;
-use ir_core::{Fate, Record};
+use ir_control::Net;
+use ir_core::{Fate, Kind, Record};
+use ir_graph::Graph;
 use ir_live::Command;
+use ir_tables::Topology;
 use ir_worker::{Gate, Node, serve};
 use std::alloc::Global;
 use std::sync::Wait;
@@ -20,6 +22,24 @@ impl Gate for AtMost {
     fn pass(&self, _node: u16, turn: u64) -> bool {
         turn < self.0
     }
+}
+
+// Links two nodes by their numbers.
+fn link(graph: &mut Graph, alloc: Global, u: u16, v: u16) -> Option<()> {
+    let from = format!(in alloc; "n{u}").ok()?;
+    let to = format!(in alloc; "n{v}").ok()?;
+    graph.add_edge(from.as_str(), to.as_str(), 1).ok()?;
+    Some(())
+}
+
+// A net of the shortest ways over a ring of 64 nodes, n0 to the last, of the greatest capacity.
+fn over_ring(rt: &(impl Threads + Sync), alloc: Global) -> Option<Net> {
+    let mut graph = Graph::new(alloc);
+    for u in 0..64 {
+        link(&mut graph, alloc, u, (u + 1) % 64)?;
+    }
+    let ring = Topology::of(alloc, &graph).ok()?;
+    opened(rt, alloc, ring, (Kind::Shortest, 0), (1_024, 4_096, 0)).ok()
 }
 
 // 64 packets from each of 64 nodes of a ring, each to the 31st node behind its source, and a drain.

@@ -10,6 +10,4 @@ mod gates;
 #[cfg(test)]
 mod live;
 #[cfg(test)]
-mod nets;
-#[cfg(test)]
 mod turns;

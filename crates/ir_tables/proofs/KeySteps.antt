@@ -1,10 +1,10 @@
 -- The steps of the search for the least keys.
-use Rattle.std.proofs.Common.{◌≡◌, ◌≢◌, ℕ, ◌+◌, ◌*◌, ◌/◌, ◌%◌, ◌<◌, ◌≤◌, inl, inr, List, [], ◌∷◌, length, set, replicate, Some, refl, ap, sym, subst, ◌∙◌, arith, suc, sum, ⊎_elim, length-set, get_or-set_same, get_or-set_other}
+use Rattle.std.proofs.Common.{◌≡◌, ◌≢◌, ℕ, ◌+◌, ◌*◌, ◌/◌, ◌%◌, ◌<◌, ◌≤◌, inl, inr, List, [], ◌∷◌, length, set, replicate, Some, refl, ap, sym, subst, ◌∙◌, arith, sum, ⊎_elim, length-set, get_or-set_same, get_or-set_other}
 use Rattle.std.specs.Prelude.{Contains, IsPermutation}
 use Rattle.std.proofs.lemmas.Bool.{cases_eq, cases_lt}
 use Rattle.std.proofs.lemmas.List.{get_or-replicate, get_or_past, length-replicate}
 use Rattle.std.proofs.lemmas.List.Sums.{sum_by-set}
-use Rattle.std.proofs.lemmas.List.Sorted.{All-permutation, Contains-permutation, length_permutation}
+use Rattle.std.proofs.lemmas.List.Sorted.{All-permutation, Contains-permutation}
 use Rattle.ir_model.specs.declared.Hop.{Hop}
 use Rattle.ir_model.specs.Network.{Network, node_count, port_at, port_back, IsNetwork}
 use Rattle.ir_model.specs.Walk.{link_weight}
@@ -71,11 +71,11 @@ reached_lower net ok u x p hop added port step keys key is less so_far =
         (cases_eq x u)
 
 -- the first i ports of x are offered
-pub record IsOffering (net : Network) (u x own : ℕ) (old : List ℕ) (old_entries : List Entry) (keys : List ℕ) (entries : List Entry) (i : ℕ) : Type 0 where
+pub record IsOffering (net : Network) (u x own : ℕ) (old : List ℕ) (old_load : ℕ) (keys : List ℕ) (entries : List Entry) (load i : ℕ) : Type 0 where
   pub but : IsKeying net u (Only x) keys entries
   pub kept : at keys x ≡ own
   pub spent : (p : ℕ) (hop : Hop) (added : ℕ) → p < i → port_at net x p ≡ Some hop → IsStepKey u x p hop.weight added → at keys hop.node ≤ own + added
-  pub falls : 2 * sum keys + length entries ≤ 2 * sum old + length old_entries
+  pub falls : 3 * sum keys + load ≤ 3 * sum old + old_load
 
 step_unique : (u x p weight a b : ℕ) → IsStepKey u x p weight a → IsStepKey u x p weight b → a ≡ b
 step_unique u x p weight a b one other =
@@ -98,18 +98,17 @@ spent_more net u x own i hop added old keys port step le here before p h a lt at
     subst S e (omega (arith, here, one)))
     (cases_lt p i)
 
-pub offering_lower : (net : Network) → IsNetwork net → (u x own : ℕ) (old : List ℕ) (old_entries : List Entry) (keys : List ℕ) (entries entries' : List Entry) (i key added : ℕ) (hop : Hop)
+pub offering_lower : (net : Network) → IsNetwork net → (u x own : ℕ) (old : List ℕ) (old_load : ℕ) (keys : List ℕ) (entries entries' : List Entry) (load load' i key added : ℕ) (hop : Hop)
     → port_at net x i ≡ Some hop → IsStepKey u x i hop.weight added → key ≡ own + added → key < at keys hop.node
-    → IsPermutation (entry key hop.node ∷ entries) entries'
-    → IsOffering net u x own old old_entries keys entries i → IsOffering net u x own old old_entries (set keys hop.node key) entries' (i + 1)
-offering_lower net ok u x own old old_entries keys entries entries' i key added hop port step is less moved so_far =
+    → IsPermutation (entry key hop.node ∷ entries) entries' → load' ≤ load + 2
+    → IsOffering net u x own old old_load keys entries load i → IsOffering net u x own old old_load (set keys hop.node key) entries' load' (i + 1)
+offering_lower net ok u x own old old_load keys entries entries' load load' i key added hop port step is less moved loaded so_far =
     let facts : PortFacts net x hop = port_facts net ok x i hop port in
     let y : ℕ = hop.node in
     let ways = so_far.but.ways in
     let y_in : y < length keys = omega (arith, facts.to, ways.every) in
     let exact : key ≡ at keys x + added = omega (arith, is, so_far.kept) in
     let lower : sum (set keys y key) + at keys y ≡ sum keys + key = sum_by-set (λ k. k) keys y key 0 y_in in
-    let longer : length entries' ≡ length entries + 1 = (let l : length entries' ≡ suc (length entries) = length_permutation (entry key y ∷ entries) entries' moved in omega (arith, l)) in
     let written : at (set keys y key) y ≡ key = get_or-set_same keys y key 0 y_in in
     let falls_to : (v : ℕ) → at (set keys y key) v ≤ at keys v = λ v. set_le keys y key v y_in (omega (arith, less)) in
     let head : Contains entries' (entry key y) = Contains-permutation (entry key y ∷ entries) entries' (entry key y) moved (contains_head Entry (entry key y) entries) in
@@ -130,13 +129,13 @@ offering_lower net ok u x own old old_entries keys entries entries' i key added 
       };
       kept = get_or-set_other keys y x key 0 (λ e. facts.other (sym e)) ∙ so_far.kept;
       spent = spent_more net u x own i hop added keys (set keys y key) port step falls_to (omega (arith, written, is)) so_far.spent;
-      falls = omega (arith, so_far.falls, lower, longer, less);
+      falls = omega (arith, so_far.falls, lower, loaded, less);
     }
 
-pub offering_keep : (net : Network) (u x own : ℕ) (old : List ℕ) (old_entries : List Entry) (keys : List ℕ) (entries : List Entry) (i added : ℕ) (hop : Hop)
+pub offering_keep : (net : Network) (u x own : ℕ) (old : List ℕ) (old_load : ℕ) (keys : List ℕ) (entries : List Entry) (load i added : ℕ) (hop : Hop)
     → port_at net x i ≡ Some hop → IsStepKey u x i hop.weight added → at keys hop.node ≤ own + added
-    → IsOffering net u x own old old_entries keys entries i → IsOffering net u x own old old_entries keys entries (i + 1)
-offering_keep net u x own old old_entries keys entries i added hop port step le so_far = record {
+    → IsOffering net u x own old old_load keys entries load i → IsOffering net u x own old old_load keys entries load (i + 1)
+offering_keep net u x own old old_load keys entries load i added hop port step le so_far = record {
   but = so_far.but;
   kept = so_far.kept;
   spent = spent_more net u x own i hop added keys keys port step (λ v. omega arith) le so_far.spent;
@@ -144,9 +143,9 @@ offering_keep net u x own old old_entries keys entries i added hop port step le 
 }
 
 -- once all ports of x are offered, x is spent
-pub offering_done : (net : Network) (u x own : ℕ) (old : List ℕ) (old_entries : List Entry) (keys : List ℕ) (entries : List Entry) (i : ℕ)
-    → IsOffering net u x own old old_entries keys entries i → ((p : ℕ) (hop : Hop) → port_at net x p ≡ Some hop → p < i) → IsKeying net u NoNode keys entries
-offering_done net u x own old old_entries keys entries i so_far all = record {
+pub offering_done : (net : Network) (u x own : ℕ) (old : List ℕ) (old_load : ℕ) (keys : List ℕ) (entries : List Entry) (load i : ℕ)
+    → IsOffering net u x own old old_load keys entries load i → ((p : ℕ) (hop : Hop) → port_at net x p ≡ Some hop → p < i) → IsKeying net u NoNode keys entries
+offering_done net u x own old old_load keys entries load i so_far all = record {
   ways = so_far.but.ways;
   nodes = so_far.but.nodes;
   pending = λ v v_in out. ⊎_elim

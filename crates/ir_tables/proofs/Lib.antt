@@ -10,4 +10,5 @@ pub mod Leading
 pub mod Flooding
 pub mod Spreading
 pub mod KeySteps
+pub mod Waiting
 pub mod KeysOut

@@ -1,9 +1,11 @@
 -- Keys of the nodes: how far each is from a node, and by which of its ports.
-use Rattle.std.specs.Prelude.{◌≡◌, ◌≢◌, ◌⊎◌, ℕ, ◌+◌, ◌*◌, ◌/◌, ◌%◌, ◌<◌, ◌≤◌, Option, Some, None, List, length, slice_index_or, All, Contains}
+use Rattle.std.specs.Prelude.{◌≡◌, ◌≢◌, ◌⊎◌, ℕ, ◌+◌, ◌*◌, ◌/◌, ◌%◌, ◌<◌, ◌≤◌, ◌++◌, Option, Some, None, List, length, slice_get, slice_index_or, All, Contains}
+use Rattle.std.specs.BinaryHeap.{heap_items}
 use Rattle.std.specs.declared.cmp.Reverse.{Reverse}
 use Rattle.ir_model.specs.declared.Hop.{Hop}
 use Rattle.ir_model.specs.Network.{Network, node_count, port_at}
 use Rattle.ir_model.specs.Walk.{LeadsTo, weight_from}
+use Rattle.ir_tables.specs.declared.keyed.Frontier.{Frontier}
 use Rattle.ir_tables.specs.Relaxation.{at}
 
 -- a key: a weight, and behind it a port
@@ -55,6 +57,23 @@ entry key v = record { 0 = key_of key v }
 -- an entry of a node
 abbrev pub IsEntry : Network → Reverse ℕ → Type 0
 IsEntry net e = (key : ℕ) × (v : ℕ) × (v < node_count net) × (e.0 ≡ key_of key v)
+
+-- the node of an entry has the key that it entered with
+abbrev pub IsFresh : List ℕ → Reverse ℕ → Type 0
+IsFresh keys e = slice_get keys (e.0 % 65536) ≡ Some (e.0 / 65536)
+
+-- nothing new waits, and what is fresh waits on
+pub record KeepsFresh (keys : List ℕ) (before after : List (Reverse ℕ)) : Type 0 where
+  pub nodes : (net : Network) → All (IsEntry net) before → All (IsEntry net) after
+  pub fresh : (e : Reverse ℕ) → IsFresh keys e → Contains before e → Contains after e
+
+-- what waits in a frontier, near and far
+abbrev pub waiting : Frontier → List (Reverse ℕ)
+waiting f = heap_items f.near ++ f.far.items
+
+-- how often what waits can still move: a far entry comes near, and a near one leaves
+abbrev pub load : Frontier → ℕ
+load f = length (heap_items f.near) + 2 * length f.far.items
 
 -- no node is left out
 abbrev pub NoNode : ℕ → Type 0

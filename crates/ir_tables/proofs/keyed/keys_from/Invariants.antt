@@ -1,10 +1,9 @@
-use Rattle.std.proofs.Common.{◌+◌, ◌*◌, length, sum}
-use Rattle.std.specs.BinaryHeap.{heap_items}
-use Rattle.ir_tables.specs.Keys.{IsKeying, NoNode}
+use Rattle.std.proofs.Common.{◌+◌, ◌*◌, sum}
+use Rattle.ir_tables.specs.Keys.{IsKeying, NoNode, load, waiting}
 use Rattle.ir_tables.proofs.keyed.keys_from.Given as goal
 
-abbrev pub invariant-loop-waiting : goal.invariant-loop-waiting
-invariant-loop-waiting l = IsKeying l.topology l.u NoNode l.keys.items (heap_items l.frontier)
+abbrev pub invariant-loop-frontier : goal.invariant-loop-frontier
+invariant-loop-frontier l = IsKeying l.topology l.u NoNode l.keys.items (waiting l.frontier)
 
-abbrev pub decreases-loop-waiting : goal.decreases-loop-waiting
-decreases-loop-waiting l = 2 * sum l.keys.items + length (heap_items l.frontier)
+abbrev pub decreases-loop-frontier : goal.decreases-loop-frontier
+decreases-loop-frontier l = 3 * sum l.keys.items + load l.frontier

@@ -1,9 +1,9 @@
 use Rattle.std.proofs.Common.{◌≡◌, ◌+◌, ◌<◌, ℕ, List, Some, refl, length, arith, ap, subst, slice_get, slice_index_or, get_or}
 use Rattle.std.proofs.lemmas.Option.{slice_get_within, slice_get-get_or}
-use Rattle.std.specs.BinaryHeap.{heap_items}
 use Rattle.ir_model.specs.declared.Hop.{Hop}
 use Rattle.ir_model.specs.Network.{Network, ports_of, port_at}
 use Rattle.ir_model.proofs.Walks.{port_facts}
+use Rattle.ir_tables.specs.Keys.{load, waiting}
 use Rattle.ir_tables.proofs.Rounds.{past}
 use Rattle.ir_tables.proofs.KeySteps.{offering_lower, offering_keep, offering_done}
 use Rattle.ir_tables.proofs.KeysOut.{port_small}
@@ -43,16 +43,16 @@ loop-p-preserved c =
     let own : ℕ = get_or c.args.keys.now c.args.x 0 in
     elim c.if-through-keys.branch [
       | then-through-keys+in_ok-push w ↦
-          rw (w.keys-is, w.frontier-is) (offering_lower net c.nodes-nodes.ensures.network c.args.u c.args.x own c.args.keys.now (heap_items c.args.frontier.now) c.loop-p.keys (heap_items c.loop-p.frontier) (heap_items w.push.new.self) i
-          (own + c.step_key.result) c.step_key.result hop port c.step_key.ensures refl w.if-through-keys.true w.in_ok-push.ensures.permutation c.loop-p.invariant)
+          rw (w.keys-is, w.frontier-is) (offering_lower net c.nodes-nodes.ensures.network c.args.u c.args.x own c.args.keys.now (load c.args.frontier.now) c.loop-p.keys (waiting c.loop-p.frontier) (waiting w.push.new.self) (load c.loop-p.frontier) (load w.push.new.self) i
+          (own + c.step_key.result) c.step_key.result hop port c.step_key.ensures refl w.if-through-keys.true w.in_ok-push.ensures.waits w.in_ok-push.ensures.load c.loop-p.invariant)
       | else-through-keys w ↦
-          rw (w.keys-is, w.frontier-is) (offering_keep net c.args.u c.args.x own c.args.keys.now (heap_items c.args.frontier.now) c.loop-p.keys (heap_items c.loop-p.frontier) i
+          rw (w.keys-is, w.frontier-is) (offering_keep net c.args.u c.args.x own c.args.keys.now (load c.args.frontier.now) c.loop-p.keys (waiting c.loop-p.frontier) (load c.loop-p.frontier) i
           c.step_key.result hop port c.step_key.ensures w.if-through-keys.false c.loop-p.invariant)
     ]
 
 pub returns-clause-offered : goal.returns-clause-offered
 returns-clause-offered c =
-    offering_done c.args.topology.now c.args.u c.args.x (get_or c.args.keys.now c.args.x 0) c.args.keys.now (heap_items c.args.frontier.now) c.loop-p.keys (heap_items c.loop-p.frontier) c.loop-p.p c.loop-p.invariant
+    offering_done c.args.topology.now c.args.u c.args.x (get_or c.args.keys.now c.args.x 0) c.args.keys.now (load c.args.frontier.now) c.loop-p.keys (waiting c.loop-p.frontier) (load c.loop-p.frontier) c.loop-p.p c.loop-p.invariant
     (λ p hop port. let lt : p < length (ports_of c.args.topology.now c.args.x) = slice_get_within (ports_of c.args.topology.now c.args.x) p hop port in
     omega (arith, lt, ap length c.ports-hop-items.ensures, c.loop-p-test.false))
 

@@ -1,0 +1,71 @@
+-- What waits in a frontier: it is pushed, comes near, leaves, or is gone.
+use Rattle.std.proofs.Common.{◌≡◌, ℕ, ◌/◌, ◌%◌, ◌<◌, ◌≤◌, inl, inr, List, [], ◌∷◌, ◌++◌, Some, ap, sym, subst, ◌∙◌, arith, slice_get, ⊎_elim}
+use Rattle.std.specs.Prelude.{Contains, IsPermutation}
+use Rattle.std.proofs.lemmas.List.{append_assoc}
+use Rattle.std.proofs.lemmas.List.Sorted.{All-permutation, Contains-permutation, IsPermutation-append_left, IsPermutation-append_right, IsPermutation-middle, IsPermutation-sym, IsPermutation-to_front, IsPermutation-trans}
+use Rattle.std.proofs.lemmas.Option.{slice_get-get_or}
+use Rattle.ir_model.specs.Network.{Network, node_count, IsNetwork}
+use Rattle.ir_tables.specs.Relaxation.{at}
+use Rattle.ir_tables.specs.Keys.{Entry, entry, key_of, IsEntry, IsFresh, KeepsFresh, IsSpent, NoNode, IsKeying}
+use Rattle.ir_tables.proofs.Offering.{all_tail, contains_tail}
+
+-- an entry is pushed to the near ones
+pub pushed_near : (e : Entry) (near near' far : List Entry) → IsPermutation (e ∷ near) near' → IsPermutation (e ∷ (near ++ far)) (near' ++ far)
+pushed_near e near near' far moved = IsPermutation-append_left far (e ∷ near) near' moved
+
+-- an entry is pushed to the far ones
+pub pushed_far : (e : Entry) (near far : List Entry) → IsPermutation (e ∷ (near ++ far)) (near ++ (far ++ (e ∷ [])))
+pushed_far e near far =
+    let P : List Entry → Type 0 = λ es. IsPermutation (e ∷ (near ++ far)) es in
+    subst P (append_assoc near far (e ∷ [])) (IsPermutation-sym ((near ++ far) ++ (e ∷ [])) (e ∷ (near ++ far)) (IsPermutation-to_front (near ++ far) e))
+
+-- an entry leaves the near ones
+pub left_near : (e : Entry) (near near' far : List Entry) → IsPermutation near (e ∷ near') → IsPermutation (near ++ far) (e ∷ (near' ++ far))
+left_near e near near' far moved = IsPermutation-append_left far near (e ∷ near') moved
+
+-- an entry leaves the far ones
+pub left_far : (e : Entry) (near far far' : List Entry) → IsPermutation far (e ∷ far') → IsPermutation (near ++ far) (e ∷ (near ++ far'))
+left_far e near far far' moved =
+    IsPermutation-trans (near ++ far) (near ++ (e ∷ far')) (e ∷ (near ++ far')) (IsPermutation-append_right near far (e ∷ far') moved) (IsPermutation-middle near e far')
+
+-- an entry comes near, or is gone where it is not fresh
+pub come_near : (keys : List ℕ) (e : Entry) (near near' far far' : List Entry) → IsPermutation far (e ∷ far') → IsPermutation (e ∷ near) near' → KeepsFresh keys (near ++ far) (near' ++ far')
+come_near keys e near near' far far' left pushed =
+    let moved : IsPermutation (near ++ far) (near' ++ far') = IsPermutation-trans (near ++ far) (e ∷ (near ++ far')) (near' ++ far') (left_far e near far far' left) (pushed_near e near near' far' pushed) in
+    record {
+      nodes = λ net all. All-permutation (IsEntry net) (near ++ far) (near' ++ far') moved all;
+      fresh = λ z fresh has. Contains-permutation (near ++ far) (near' ++ far') z moved has;
+    }
+
+pub gone : (keys : List ℕ) (e : Entry) (near far far' : List Entry) → IsPermutation far (e ∷ far') → (IsFresh keys e → ⊥) → KeepsFresh keys (near ++ far) (near ++ far')
+gone keys e near far far' left stale =
+    let moved : IsPermutation (near ++ far) (e ∷ (near ++ far')) = left_far e near far far' left in
+    record {
+      nodes = λ net all. all_tail Entry (IsEntry net) e (near ++ far') (All-permutation (IsEntry net) (near ++ far) (e ∷ (near ++ far')) moved all);
+      fresh = λ z fresh has. contains_tail Entry e z (near ++ far') (Contains-permutation (near ++ far) (e ∷ (near ++ far')) z moved has)
+          (λ same. let P : Entry → Type 0 = λ k. IsFresh keys k in stale (subst P same fresh));
+    }
+
+pub keeps_more : (keys : List ℕ) (first second third : List Entry) → KeepsFresh keys first second → KeepsFresh keys second third → KeepsFresh keys first third
+keeps_more keys first second third one other = record {
+  nodes = λ net all. other.nodes net (one.nodes net all);
+  fresh = λ z fresh has. other.fresh z fresh (one.fresh z fresh has);
+}
+
+-- the search goes on over what is kept
+pub keying_kept : (net : Network) → IsNetwork net → (u : ℕ) (keys : List ℕ) (before after : List Entry) → KeepsFresh keys before after → IsKeying net u NoNode keys before → IsKeying net u NoNode keys after
+keying_kept net ok u keys before after kept so_far = record {
+  ways = so_far.ways;
+  nodes = kept.nodes net so_far.nodes;
+  pending = λ v v_in out. ⊎_elim (λ (spent : IsSpent net u keys v). inl spent)
+      (λ (waits : Contains before (entry (at keys v) v)). inr (kept.fresh (entry (at keys v) v) (is_fresh v v_in) waits))
+      (so_far.pending v v_in out);
+}
+  where
+    is_fresh : (v : ℕ) → v < node_count net → IsFresh keys (entry (at keys v) v)
+    is_fresh v v_in =
+        let few : node_count net ≤ 16384 = ok.few_nodes in
+        let node : key_of (at keys v) v % 65536 ≡ v = omega (arith, few, v_in) in
+        let key : key_of (at keys v) v / 65536 ≡ at keys v = omega (arith, few, v_in) in
+        let P : ℕ → Type 0 = λ k. slice_get keys k ≡ Some (key_of (at keys v) v / 65536) in
+        subst P (sym node) (slice_get-get_or keys v 0 (omega (arith, v_in, so_far.ways.every)) ∙ ap Some (sym key))
