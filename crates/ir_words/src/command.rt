@@ -1,6 +1,7 @@
 //! The command line: its subcommands, and what each of them takes.
 
 use clap::{Arg, ArgAction, Command};
+use ir_core::{MAX_CAPACITY, MAX_PACKETS, MAX_RESTAMPS};
 use std::alloc::{AllocError, Global};
 
 /// What an argument takes.
@@ -13,7 +14,7 @@ enum Takes {
     /// One of these words.
     WordOf(&'static [&'static str]),
     /// A number from one to another.
-    Number(i64, i64),
+    Number(u16, u16),
     /// The name of a file, which stands by itself.
     File,
 }
@@ -54,6 +55,9 @@ struct Spelled {
 }
 
 static VERSION: &str = "1.0.0";
+
+/// The most threads that make the rows of a plan.
+const MAX_THREADS: u16 = 256;
 
 const PREFIXES_LINES: &str = "\
 Lines that are printed:
@@ -125,14 +129,14 @@ const COMMON: [Taken; 7] = [
         name: "capacity",
         value: "C",
         help: "The capacity of each channel and inbox",
-        takes: Takes::Number(1, 1024),
+        takes: Takes::Number(1, MAX_CAPACITY as u16),
         need: Need::Else("16"),
     },
     Taken {
         name: "packets",
         value: "M",
         help: "The most packets",
-        takes: Takes::Number(1, 4096),
+        takes: Takes::Number(1, MAX_PACKETS as u16),
         need: Need::Else("4096"),
     },
     Taken {
@@ -157,7 +161,7 @@ const SHOWN: [Taken; 3] = [
         name: "threads",
         value: "T",
         help: "The most threads that make rows; as many as suit the processors by default",
-        takes: Takes::Number(1, 256),
+        takes: Takes::Number(1, MAX_THREADS),
         need: Need::Free,
     },
     Taken {
@@ -221,20 +225,32 @@ const PREFIXED: [Taken; 1] = [Taken {
     need: Need::Free,
 }];
 
+/// How the nodes of the plans of a run are numbered.
+const RUN_NUMBERING: Taken = Taken {
+    name: "numbering",
+    value: "NUMBERING",
+    help: "How each plan's nodes are numbered, from its root; a tour is for fewer intervals",
+    takes: Takes::WordOf(&["depth-first", "tour"]),
+    need: Need::Else("depth-first"),
+};
+
+/// The script of a run.
+const SCRIPT: Taken = Taken {
+    name: "script",
+    value: "SCRIPT",
+    help: "The file of the script",
+    takes: Takes::File,
+    need: Need::Free,
+};
+
 /// What the subcommands take that play a script.
 const PLAYED: [Taken; 4] = [
-    Taken {
-        name: "numbering",
-        value: "NUMBERING",
-        help: "How each plan's nodes are numbered, from its root; a tour is for fewer intervals",
-        takes: Takes::WordOf(&["depth-first", "tour"]),
-        need: Need::Else("depth-first"),
-    },
+    RUN_NUMBERING,
     Taken {
         name: "restamps",
         value: "R",
         help: "The most restamps of a packet; above 0 the trace has its segments",
-        takes: Takes::Number(0, 3),
+        takes: Takes::Number(0, MAX_RESTAMPS as u16),
         need: Need::Else("0"),
     },
     Taken {
@@ -244,24 +260,12 @@ const PLAYED: [Taken; 4] = [
         takes: Takes::File,
         need: Need::Must,
     },
-    Taken {
-        name: "script",
-        value: "SCRIPT",
-        help: "The file of the script",
-        takes: Takes::File,
-        need: Need::Free,
-    },
+    SCRIPT,
 ];
 
 /// What the check of a trace takes.
 const CHECKED: [Taken; 4] = [
-    Taken {
-        name: "numbering",
-        value: "NUMBERING",
-        help: "How each plan's nodes are numbered, from its root; a tour is for fewer intervals",
-        takes: Takes::WordOf(&["depth-first", "tour"]),
-        need: Need::Else("depth-first"),
-    },
+    RUN_NUMBERING,
     Taken {
         name: "topology",
         value: "TOPOLOGY",
@@ -269,13 +273,7 @@ const CHECKED: [Taken; 4] = [
         takes: Takes::File,
         need: Need::Must,
     },
-    Taken {
-        name: "script",
-        value: "SCRIPT",
-        help: "The file of the script",
-        takes: Takes::File,
-        need: Need::Free,
-    },
+    SCRIPT,
     Taken {
         name: "trace",
         value: "TRACE",
@@ -370,7 +368,7 @@ fn valued<'a>(arg: Arg<'a>, taken: &Taken) -> Arg<'a> {
     match taken.takes {
         Takes::WordOf(words) => arg.value_parser(words),
         Takes::Number(least, most) => arg.value_parser(clap::value_parser!(u16).range(
-            least..=most,
+            least as i64..=most as i64,
         )),
         Takes::Nothing | Takes::Word | Takes::File => arg,
     }
