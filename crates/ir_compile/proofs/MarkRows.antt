@@ -4,9 +4,10 @@ use Rattle.std.specs.Global.{Vec}
 use Rattle.std.specs.Prelude.{All, slice_index_or, slice_index}
 use Rattle.std.proofs.lemmas.Bool.{cases_lt}
 use Rattle.std.proofs.lemmas.List.{length-map, get_or-map, get_or_default, get_or_past}
-use Rattle.ir_model.proofs.Best.{IsRowRun, IsBetter, IsBestBelow, best_more, best_all}
+use Rattle.ir_model.proofs.Best.{IsBestBelow, best_more, best_all}
 use Rattle.ir_model.proofs.Steps.{AreLongest}
 use Rattle.ir_compile.specs.Allowed.{rows_of, Allows}
+use Rattle.ir_compile.specs.Runs.{IsRunKept}
 
 pub rows_len : (choices : List (Vec Bool)) → length (rows_of choices) ≡ length choices
 rows_len choices = length-map choices (λ row. row.items)
@@ -39,17 +40,17 @@ allowed_within choices d p may =
 
 -- the best of the ports below p and of the next one
 pub next_best : (n own : ℕ) (choices : List (Vec Bool)) (p : ℕ) (row : Vec Bool) → p < length choices → row ≡ get_or choices p row
-    → (runs old_counts old_ports counts ports : List ℕ)
-    → ((a : ℕ) → a < n → IsRowRun n own row.items a (slice_index runs a))
-    → ((a : ℕ) → a < n → IsBetter (slice_index runs a) p (slice_index old_counts a) (slice_index old_ports a) (slice_index counts a) (slice_index ports a))
+    → (old_counts old_ports counts ports : List ℕ)
+    → ((a : ℕ) → a < n → IsRunKept n own row.items p a (slice_index old_counts a) (slice_index old_ports a) (slice_index counts a) (slice_index ports a))
     → ((a : ℕ) → a < n → IsBestBelow n own (Allows (rows_of choices)) p a (slice_index old_counts a) (slice_index old_ports a))
     → (a : ℕ) → a < n → IsBestBelow n own (Allows (rows_of choices)) (p + 1) a (slice_index counts a) (slice_index ports a)
-next_best n own choices p row h is runs old_counts old_ports counts ports run better best a l =
+next_best n own choices p row h is old_counts old_ports counts ports kept best a l =
     let at = row_at choices p row h is in
-    best_more n own (Allows (rows_of choices)) p a (slice_index old_counts a) (slice_index old_ports a) (slice_index runs a) (slice_index counts a) (slice_index ports a) row.items
-    (best a l) (run a l)
+    let k = kept a l in
+    best_more n own (Allows (rows_of choices)) p a (slice_index old_counts a) (slice_index old_ports a) k.run (slice_index counts a) (slice_index ports a) row.items
+    (best a l) k.longest
     (λ d. (λ m. subst (λ (r : List Bool). slice_index_or r d false ≡ true) at m, λ m. subst (λ (r : List Bool). slice_index_or r d false ≡ true) (sym at) m))
-    (better a l)
+    k.better
 
 -- with all ports the runs are the longest
 pub all_best : (n own : ℕ) (choices : List (Vec Bool)) (counts ports : List ℕ)

@@ -1,3 +1,4 @@
 -- what contracts promise
 pub mod Code
 pub mod Allowed
+pub mod Runs

@@ -9,7 +9,7 @@ ghost use Rattle.ir_compile.specs.Allowed.{rows_of, Allows, IsChoiceTable};
 
 use crate::error::CompileError;
 use crate::round::{first_near, label_at, round_ports};
-use crate::runs::{keep_longer, row_runs};
+use crate::runs::keep_longer;
 use crate::{MAX_PORTS, canonical_row};
 use ir_lookup::Row;
 use std::alloc::{AllocError, Global};
@@ -126,8 +126,15 @@ fn longest_runs(
     let mut counts = vec![in alloc; 0u16; n as usize]?;
     let mut ports = vec![in alloc; 0u16; n as usize]?;
     for p in 0..choices.len() {
-        let runs = row_runs(alloc, n, own, choices[p].as_slice())?;
-        keep_longer(runs.as_slice(), p as u16, &mut counts, &mut ports);
+        let marks = choices[p].as_slice();
+        keep_longer(
+            n,
+            own,
+            marks,
+            p as u16,
+            counts.as_mut_slice(),
+            ports.as_mut_slice(),
+        );
     }
     Ok((counts, ports))
 }

@@ -15,7 +15,7 @@ mod runs;
 pub use choices::{choose, compile_choices, ports_of_runs};
 pub use error::CompileError;
 use ir_lookup::{Row, WORD_BASE};
-pub use runs::{keep_longer, row_runs};
+pub use runs::keep_longer;
 use std::alloc::{AllocError, Global};
 
 /// The most ports of a node.

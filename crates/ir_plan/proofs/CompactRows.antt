@@ -1,8 +1,9 @@
 -- The tied ports of a node, and the marks that tell them.
-use Rattle.std.proofs.Common.{◌≡◌, ◌≢◌, ◌↔◌, ℕ, ◌<◌, ◌≤◌, None, Bool, true, false, List, [], ◌∷◌, length, Option, refl, ap, sym, ◌∙◌, subst, inl, inr, arith}
+use Rattle.std.proofs.Common.{◌≡◌, ◌≢◌, ◌↔◌, ℕ, ◌+◌, ◌<◌, ◌≤◌, None, Bool, true, false, List, [], ◌∷◌, length, replicate, set, Option, refl, ap, sym, ◌∙◌, subst, inl, inr, arith, get_or-set_same, get_or-set_other, length-set}
 use Rattle.std.specs.Prelude.{slice_index, slice_index_or}
-use Rattle.std.proofs.lemmas.Bool.{cases_lt}
-use Rattle.std.proofs.lemmas.List.{get_or_past}
+use Rattle.std.proofs.lemmas.Bool.{cases_eq, cases_lt}
+use Rattle.std.proofs.lemmas.List.{get_or_past, get_or-replicate, length-replicate}
+use Rattle.std.proofs.lemmas.Grind.{get_or_default_zero}
 use Rattle.ir_model.specs.Network.{Network, IsNetwork, node_count, ports_of}
 use Rattle.ir_model.specs.Table.{LeadsNearer}
 use Rattle.ir_model.specs.Choices.{AreChoices, AreChosen}
@@ -10,9 +11,9 @@ use Rattle.ir_model.specs.Compact.{IsTied}
 use Rattle.ir_model.specs.Scheme.{AreLabels}
 use Rattle.ir_model.proofs.Chosen.{choices_same}
 use Rattle.std.proofs.lemmas.Option.{slice_get_within}
-use Rattle.ir_model.proofs.Best.{Marks}
-use Rattle.ir_plan.specs.CompactRows.{AreTiedMarks, MayTake}
-use Rattle.ir_tables.specs.FromNode.{AreFrom}
+use Rattle.ir_model.proofs.Best.{Marks, IsBestBelow}
+use Rattle.ir_plan.specs.CompactRows.{AreMarksOf, AreTiedMarks, MayTake}
+use Rattle.ir_tables.specs.FromNode.{AreFrom, AreLedBy}
 use Rattle.ir_tables.proofs.Leading.{some_nearer}
 
 -- each label but that of u has a tied port
@@ -42,6 +43,12 @@ module _ (net : Network) (ok : IsNetwork net) (order labels : List ℕ) (named :
             ]),
       )
 
+  -- a port that leads nearer to no node can be taken by no label
+  pub none_may : (p : ℕ) (nodes : List ℕ) → AreLedBy net u p nodes → length nodes ≡ 0 → (d : ℕ) → MayTake net order (slice_index labels u) d p → ⊥
+  none_may p nodes led none d may =
+      let has = (led.each (slice_index order d)).1 (subst (λ (x : ℕ). LeadsNearer net x (slice_index order d) p) (named.there u hu) may.1) in
+      omega (arith, has.1, none)
+
   -- what a label may take is a port of u
   pub no_port_past : (d q : ℕ) → length (ports_of net u) ≤ q → MayTake net order (slice_index labels u) d q → ⊥
   no_port_past d q past may =
@@ -60,6 +67,88 @@ module _ (net : Network) (ok : IsNetwork net) (order labels : List ℕ) (named :
   chosen_of_may ports chosen =
       choices_same (node_count net) (slice_index labels u) (MayTake net order (slice_index labels u)) (IsTied net order (slice_index labels u)) (named.label u hu)
       (λ d p hd ne. ((λ may. may.1), (λ tied. (hd, tied)))) ports chosen
+
+-- the marks of the nodes to which a port leads nearer
+pub marks_led : (net : Network) (order : List ℕ) (u p : ℕ) (nodes : List ℕ) (row : List Bool) → AreLedBy net u p nodes → AreMarksOf (node_count net) order nodes row → AreTiedMarks net order u p row
+marks_led net order u p nodes row led are = record {
+  every = are.every;
+  marks = λ d hd.
+      let m = are.marks d hd in
+      let e = led.each (slice_index order d) in
+      ((λ is. e.0 (m.0 is)), (λ near. m.1 (e.1 near)));
+}
+
+-- the first i of some nodes have marks, by label
+pub record AreMarkedBelow (n : ℕ) (order nodes : List ℕ) (i : ℕ) (row : List Bool) : Type 0 where
+  pub every : length row ≡ n
+  pub has : (d : ℕ) → d < n → slice_index_or row d false ≡ true → (k : ℕ) × (k < i) × (slice_index_or nodes k 0 ≡ slice_index order d)
+  pub marks : (d k : ℕ) → d < n → k < i → slice_index_or nodes k 0 ≡ slice_index order d → slice_index_or row d false ≡ true
+
+module _ (n : ℕ) (order labels : List ℕ) (named : AreLabels n order labels) (nodes : List ℕ) where
+  pub marked_none : AreMarkedBelow n order nodes 0 (replicate n false)
+  marked_none = record {
+    every = length-replicate n false;
+    has = λ d hd m. absurd (let bare : slice_index_or (replicate n false) d false ≡ false = get_or-replicate n d false false hd in let f : false ≡ true = sym bare ∙ m in cc f);
+    marks = λ d k hd lk e. absurd (omega (arith, lk));
+  }
+
+  pub marked_next : (i v : ℕ) (row : List Bool) → i < length nodes → v ≡ slice_index_or nodes i 0 → v < n → AreMarkedBelow n order nodes i row
+      → AreMarkedBelow n order nodes (i + 1) (set row (slice_index labels v) true)
+  marked_next i v row l is v_in so_far =
+      let at : ℕ = slice_index labels v in
+      let inside : at < length row = let place = named.label v v_in in let every = so_far.every in omega (arith, place, every) in
+      let here : slice_index_or (set row at true) at false ≡ true = get_or-set_same row at true false inside in
+      let away : (d : ℕ) → d ≢ at → slice_index_or (set row at true) d false ≡ slice_index_or row d false = λ d ne. get_or-set_other row at d true false ne in
+      record {
+        every = length-set row at true ∙ so_far.every;
+        has = λ d hd m.
+            elim (cases_eq d at) [
+              | inl e ↦ (i, omega arith, sym is ∙ sym (named.there v v_in) ∙ ap (slice_index order) (sym e))
+              | inr ne ↦ let w = so_far.has d hd (sym (away d ne) ∙ m) in (w.0, omega (arith, w.1), w.2)
+            ];
+        marks = λ d k hd lk e.
+            elim (cases_eq d at) [
+              | inl same ↦ ap (λ (x : ℕ). slice_index_or (set row at true) x false) same ∙ here
+              | inr ne ↦
+                  elim (cases_lt k i) [
+                    | inl below ↦ away d ne ∙ so_far.marks d k hd below e
+                    | inr last ↦
+                        let k_is : k ≡ i = omega (arith, lk, last) in
+                        let v_is : v ≡ slice_index order d = is ∙ ap (λ (x : ℕ). slice_index_or nodes x 0) (sym k_is) ∙ e in
+                        absurd (ne (sym (ap (slice_index labels) v_is ∙ named.back d hd)))
+                  ]
+            ];
+      }
+
+  pub marked_all : (i : ℕ) (row : List Bool) → i ≡ length nodes → AreMarkedBelow n order nodes i row → AreMarksOf n order nodes row
+  marked_all i row all so_far = record {
+    every = so_far.every;
+    marks = λ d hd. (
+      (λ m.
+          let w = so_far.has d hd m in
+          let inside : w.0 < length nodes = omega (arith, w.1, all) in
+          (w.0, inside, get_or_default_zero nodes w.0 (slice_index order d) inside ∙ w.2)),
+      (λ has. so_far.marks d has.0 hd (omega (arith, has.1, all)) (sym (get_or_default_zero nodes has.0 (slice_index order d) has.1) ∙ has.2)),
+    );
+  }
+
+-- a port that no label may take is no better than those before it
+pub best_same : (n own : ℕ) (may : ℕ → ℕ → Type 0) (m a c p : ℕ) → a ≢ own → ((d : ℕ) → may d m → ⊥) → IsBestBelow n own may m a c p → IsBestBelow n own may (m + 1) a c p
+best_same n own may m a c p off none best =
+    let low = best.low in
+    record {
+      within = best.within;
+      serves = best.serves;
+      longest = λ q t l h s.
+          elim (cases_lt q m) [
+            | inl below ↦ best.longest q t below h s
+            | inr last ↦
+                let e : q ≡ m = omega (arith, l, last) in
+                elim (cases_lt 0 t) [ inl some ↦ absurd (none a (subst (λ (x : ℕ). may a x) e (s 0 some off))) | inr zero ↦ omega arith ]
+          ];
+      least = λ q l s. elim (cases_lt q m) [ inl below ↦ best.least q below s | inr last ↦ omega (arith, low, last) ];
+      low = omega (arith, low);
+    }
 
 -- one label alone chooses nothing
 pub one_label : (n own : ℕ) (may : ℕ → ℕ → Type 0) (ports : List (Option ℕ)) → n ≡ 1 → own < n → ports ≡ None ∷ [] → AreChosen n own may ports

@@ -1,5 +1,5 @@
 -- The marks of the tied ports that the rows of a compact plan are chosen from, and what the rows are.
-use Rattle.std.specs.Prelude.{◌≡◌, ◌↔◌, ℕ, ◌<◌, Bool, true, false, List, length, slice_index, slice_index_or}
+use Rattle.std.specs.Prelude.{◌≡◌, ◌↔◌, ℕ, ◌<◌, Bool, true, false, Contains, List, length, slice_index, slice_index_or}
 use Rattle.ir_model.specs.Network.{Network, node_count}
 use Rattle.ir_model.specs.Interval.{PortInterval}
 use Rattle.ir_model.specs.Choices.{FitsChoices, IsFewestOfChoices}
@@ -19,6 +19,11 @@ IsFewestOfTied s u count = IsFewestOfChoices (node_count s.network) (label_in s 
 pub record AreTiedMarks (net : Network) (order : List ℕ) (u p : ℕ) (row : List Bool) : Type 0 where
   pub every : length row ≡ node_count net
   pub marks : (d : ℕ) → d < node_count net → (slice_index_or row d false ≡ true) ↔ LeadsNearer net u (slice_index order d) p
+
+-- the marks of some nodes, by label
+pub record AreMarksOf (n : ℕ) (order nodes : List ℕ) (row : List Bool) : Type 0 where
+  pub every : length row ≡ n
+  pub marks : (d : ℕ) → d < n → (slice_index_or row d false ≡ true) ↔ Contains nodes (slice_index order d)
 
 -- the label d is that of a node, and the port p of the node with the label a leads nearer to it
 abbrev pub MayTake : Network → List ℕ → ℕ → ℕ → ℕ → Type 0

@@ -1,6 +1,6 @@
 //! The row of a node in a compact plan: the fewest intervals over all choices of ports that lead nearer.
 
-ghost use Rattle.std.specs.Prelude.{◌≡◌, ◌<◌, IfOk, length, slice_index};
+ghost use Rattle.std.specs.Prelude.{◌≡◌, ◌<◌, ℕ, Contains, IfOk, length, slice_index};
 ghost use Rattle.ir_model.specs.declared.Kind.TheVariants.{Compact};
 ghost use Rattle.ir_model.specs.Network.{node_count, ports_of};
 ghost use Rattle.ir_model.specs.Walk.{IsConnected};
@@ -8,10 +8,10 @@ ghost use Rattle.ir_model.proofs.Steps.{AreLongest};
 ghost use Rattle.ir_model.specs.Scheme.{AreLabels};
 ghost use Rattle.ir_tables.specs.FromNode.{AreFrom};
 ghost use Rattle.ir_plan.specs.NodeRows.{IsNodeRow, ArePortsOf};
-ghost use Rattle.ir_plan.specs.CompactRows.{AreTiedMarks, MayTake};
+ghost use Rattle.ir_plan.specs.CompactRows.{AreMarksOf, MayTake};
 
 use crate::rows::row_of;
-use ir_compile::{keep_longer, ports_of_runs, row_runs};
+use ir_compile::{keep_longer, ports_of_runs};
 use ir_lookup::Row;
 use ir_numbering::Numbering;
 use ir_tables::{Outward, Topology};
@@ -64,7 +64,7 @@ fn chosen_ports(
 }
 
 // For each label how many labels the longest run of one port from it on has, and the least such port. The marks of one
-// port are held at a time.
+// port are held at a time, and a port that leads nearer to no node is passed over.
 fn longest_runs(
     alloc: Global,
     topology: &Topology,
@@ -85,31 +85,36 @@ fn longest_runs(
     let mut counts = vec![in alloc; 0u16; nodes as usize]?;
     let mut ports = vec![in alloc; 0u16; nodes as usize]?;
     for p in 0..topology.degree(u) {
-        let marks = marks_of_port(alloc, topology, numbering, ways, p)?;
-        let runs = row_runs(alloc, nodes, own, marks.as_slice())?;
-        keep_longer(runs.as_slice(), p as u16, &mut counts, &mut ports);
+        let led = ways.nodes_by(alloc, topology, p)?;
+        if !led.is_empty() {
+            let marks = marks_of(alloc, nodes, numbering, led.as_slice())?;
+            keep_longer(
+                nodes,
+                own,
+                marks.as_slice(),
+                p as u16,
+                counts.as_mut_slice(),
+                ports.as_mut_slice(),
+            );
+        }
     }
     Ok((counts, ports))
 }
 
-// The marks of a port, by label: where it leads nearer.
-fn marks_of_port(
+// The marks of some nodes, by label.
+fn marks_of(
     alloc: Global,
-    topology: &Topology,
+    nodes: u16,
     numbering: &Numbering,
-    ways: &Outward,
-    p: usize,
+    led: &[u16],
 ) -> Result<Vec<bool>, AllocError>
-    requires labels { AreLabels (node_count topology.now) numbering.now.order numbering.now.labels }
-    requires distances { AreFrom topology.now ways.now.source ways.now.weights }
-    requires port { p < length (ports_of topology.now ways.now.source) }
-    ensures { IfOk result (λ row. AreTiedMarks topology.now numbering.now.order ways.now.source p row.items) }
+    requires labels { AreLabels nodes numbering.now.order numbering.now.labels }
+    requires nodes { (d : ℕ) → Contains led.now d → d < nodes }
+    ensures { IfOk result (λ row. AreMarksOf nodes numbering.now.order led.now row.items) }
 {
-    let nodes = topology.nodes() as u16;
-    let held = ways.nodes_by(alloc, topology, p)?;
-    let mut row = Vec::with_capacity(alloc, nodes as usize)?;
-    for label in 0..nodes {
-        row.push(held[numbering.node_of(label) as usize].is_some())?;
+    let mut row = vec![in alloc; false; nodes as usize]?;
+    for node in led {
+        row[numbering.label_of(*node) as usize] = true;
     }
     Ok(row)
 }

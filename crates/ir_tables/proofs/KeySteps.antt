@@ -177,21 +177,6 @@ popped_fresh net ok u keys old entries e moved so_far = record {
       (so_far.pending v v_in (λ none. none));
 }
 
--- an entry leaves with another key
-pub popped_stale : (net : Network) → IsNetwork net → (u : ℕ) (keys : List ℕ) (old entries : List Entry) (e : Entry) → e.0 / 65536 ≢ at keys (e.0 % 65536) → IsPermutation old (e ∷ entries)
-    → IsKeying net u NoNode keys old → IsKeying net u NoNode keys entries
-popped_stale net ok u keys old entries e stale moved so_far = record {
-  ways = so_far.ways;
-  nodes = all_tail Entry (IsEntry net) e entries (All-permutation (IsEntry net) old (e ∷ entries) moved so_far.nodes);
-  pending = λ v v_in out. ⊎_elim (λ spent. inl spent)
-      (λ waits. inr (contains_tail Entry e (entry (at keys v) v) entries (Contains-permutation old (e ∷ entries) (entry (at keys v) v) moved waits)
-      (λ same. stale (let few : node_count net ≤ 16384 = ok.few_nodes in let is : key_of (at keys v) v ≡ e.0 = ap (λ (k : Entry). k.0) same in
-      let node : e.0 % 65536 ≡ v = omega (arith, few, v_in, is) in
-      let key : e.0 / 65536 ≡ at keys v = omega (arith, few, v_in, is) in
-      key ∙ sym (ap (at keys) node)))))
-      (so_far.pending v v_in (λ none. none));
-}
-
 -- where nothing waits, the keys are the least
 pub keying_empty : (net : Network) → IsNetwork net → (u : ℕ) (keys : List ℕ) (entries : List Entry) → length entries ≡ 0 → IsKeying net u NoNode keys entries → AreKeys net u keys
 keying_empty net ok u keys entries none so_far = record {

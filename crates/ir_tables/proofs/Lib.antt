@@ -8,7 +8,6 @@ pub mod Ways
 pub mod Runs
 pub mod Leading
 pub mod Flooding
-pub mod Spreading
 pub mod KeySteps
 pub mod Waiting
 pub mod KeysOut

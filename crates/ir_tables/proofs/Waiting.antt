@@ -3,7 +3,7 @@ use Rattle.std.proofs.Common.{◌≡◌, ℕ, ◌/◌, ◌%◌, ◌<◌, ◌≤�
 use Rattle.std.specs.Prelude.{Contains, IsPermutation}
 use Rattle.std.proofs.lemmas.List.{append_assoc}
 use Rattle.std.proofs.lemmas.List.Sorted.{All-permutation, Contains-permutation, IsPermutation-append_left, IsPermutation-append_right, IsPermutation-middle, IsPermutation-sym, IsPermutation-to_front, IsPermutation-trans}
-use Rattle.std.proofs.lemmas.Option.{slice_get-get_or}
+use Rattle.std.proofs.lemmas.Option.{get_or_from_slice_get, slice_get-get_or}
 use Rattle.ir_model.specs.Network.{Network, node_count, IsNetwork}
 use Rattle.ir_tables.specs.Relaxation.{at}
 use Rattle.ir_tables.specs.Keys.{Entry, entry, key_of, IsEntry, IsFresh, KeepsFresh, IsSpent, NoNode, IsKeying}
@@ -37,14 +37,16 @@ come_near keys e near near' far far' left pushed =
       fresh = λ z fresh has. Contains-permutation (near ++ far) (near' ++ far') z moved has;
     }
 
-pub gone : (keys : List ℕ) (e : Entry) (near far far' : List Entry) → IsPermutation far (e ∷ far') → (IsFresh keys e → ⊥) → KeepsFresh keys (near ++ far) (near ++ far')
-gone keys e near far far' left stale =
-    let moved : IsPermutation (near ++ far) (e ∷ (near ++ far')) = left_far e near far far' left in
-    record {
-      nodes = λ net all. all_tail Entry (IsEntry net) e (near ++ far') (All-permutation (IsEntry net) (near ++ far) (e ∷ (near ++ far')) moved all);
-      fresh = λ z fresh has. contains_tail Entry e z (near ++ far') (Contains-permutation (near ++ far) (e ∷ (near ++ far')) z moved has)
-          (λ same. let P : Entry → Type 0 = λ k. IsFresh keys k in stale (subst P same fresh));
-    }
+pub gone : (keys : List ℕ) (e : Entry) (before after : List Entry) → IsPermutation before (e ∷ after) → (IsFresh keys e → ⊥) → KeepsFresh keys before after
+gone keys e before after moved stale = record {
+  nodes = λ net all. all_tail Entry (IsEntry net) e after (All-permutation (IsEntry net) before (e ∷ after) moved all);
+  fresh = λ z fresh has. contains_tail Entry e z after (Contains-permutation before (e ∷ after) z moved has)
+      (λ same. let P : Entry → Type 0 = λ k. IsFresh keys k in stale (subst P same fresh));
+}
+
+-- an entry whose node has another key by now
+pub stale_key : (keys : List ℕ) (e : Entry) → (e.0 / 65536 ≡ at keys (e.0 % 65536) → ⊥) → IsFresh keys e → ⊥
+stale_key keys e other fresh = other (sym (get_or_from_slice_get keys (e.0 % 65536) (e.0 / 65536) 0 fresh))
 
 pub keeps_more : (keys : List ℕ) (first second third : List Entry) → KeepsFresh keys first second → KeepsFresh keys second third → KeepsFresh keys first third
 keeps_more keys first second third one other = record {

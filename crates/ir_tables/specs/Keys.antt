@@ -62,7 +62,7 @@ IsEntry net e = (key : ℕ) × (v : ℕ) × (v < node_count net) × (e.0 ≡ key
 abbrev pub IsFresh : List ℕ → Reverse ℕ → Type 0
 IsFresh keys e = slice_get keys (e.0 % 65536) ≡ Some (e.0 / 65536)
 
--- nothing new waits, and what is fresh waits on
+-- what waits is still entries of nodes, and what was fresh still waits
 pub record KeepsFresh (keys : List ℕ) (before after : List (Reverse ℕ)) : Type 0 where
   pub nodes : (net : Network) → All (IsEntry net) before → All (IsEntry net) after
   pub fresh : (e : Reverse ℕ) → IsFresh keys e → Contains before e → Contains after e

@@ -10,15 +10,13 @@ use std::alloc::{AllocError, Global};
 use std::cmp::Reverse;
 use std::collections::BinaryHeap;
 
-/// Nodes that wait, each with the weight that it had, the least first.
-type Frontier = BinaryHeap<Reverse<(u32, u16)>>;
-
-/// Offers the weight of `v` through its ports. Each neighbour that takes less enters the frontier.
+/// Offers the weight of `v` through its ports. Each neighbour that takes less enters the frontier, where nodes wait with
+/// the weights that they had, the least first.
 fn offer(
     topology: &Topology,
     v: u16,
     weights: &mut [u32],
-    frontier: &mut Frontier,
+    frontier: &mut BinaryHeap<Reverse<(u32, u16)>>,
 ) -> Result<(), AllocError>
     requires node { v < node_count topology.now }
     requires weights { length weights.old ≡ node_count topology.now }

@@ -6,7 +6,7 @@ ghost use Rattle.ir_model.specs.Walk.{IsConnected};
 ghost use Rattle.ir_model.specs.Table.{LeadsNearer};
 ghost use Rattle.ir_tables.specs.Relaxation.{at};
 ghost use Rattle.ir_tables.specs.Keys.{no_key, AreWeightsIn, ArePortsIn};
-ghost use Rattle.ir_tables.specs.FromNode.{AreFrom, AreLeastPorts, AreLedBy, IsClosed, IsFlooded, IsPassedOn};
+ghost use Rattle.ir_tables.specs.FromNode.{AreFrom, AreLeastPorts, AreLedBy, AreListed, IsPassedOn};
 
 use crate::keyed::{UNIT, keys_from};
 use crate::topology::Topology;
@@ -58,30 +58,20 @@ impl Outward {
         self.ports.as_slice()
     }
 
-    /// The nodes to which a port of the node leads nearer: a port is held for these, by node, and for no other.
-    /// Condition: the distances are those of the topology, and the node has the port. It is refused for memory alone.
-    /// Takes O(n + m), for n nodes and m links.
+    /// The nodes to which a port of the node leads nearer, and no others. Condition: the distances are those of the
+    /// topology, and the node has the port. It is refused for memory alone. Takes O(n + l), for n nodes and l links of
+    /// the nodes that it gives; O(1) where it gives none.
     pub fn nodes_by(
         &self,
         alloc: Global,
         topology: &Topology,
         p: usize,
-    ) -> Result<Vec<Option<u16>>, AllocError>
+    ) -> Result<Vec<u16>, AllocError>
         requires distances { AreFrom topology.now self.now.source self.now.weights }
         requires port { p < length (ports_of topology.now self.now.source) }
-        ensures { IfOk result (λ held. AreLedBy topology.now self.now.source p held.items) }
+        ensures { IfOk result (λ nodes. AreLedBy topology.now self.now.source p nodes.items) }
     {
-        let weights = self.weights.as_slice();
-        let mut held = vec![in alloc; None; topology.nodes()]?;
-        flood(
-            alloc,
-            topology,
-            weights,
-            self.source,
-            p,
-            held.as_mut_slice(),
-        )?;
-        Ok(held)
+        flood(alloc, topology, self.weights.as_slice(), self.source, p)
     }
 }
 
@@ -113,67 +103,68 @@ fn ports_in(alloc: Global, u: u16, keys: &[u64]) -> Result<Vec<Option<u16>>, All
     Ok(ports)
 }
 
-// Whether a step from `x` to `y` goes as far as the weights do.
-fn is_tight(weights: &[u32], x: usize, weight: u32, y: usize) -> bool
-    requires from { x < length weights.now }
-    requires to { y < length weights.now }
-    ensures { IsTrue result ↔ (at weights.now y ≡ at weights.now x + weight) }
+// Whether a step to `y`, from a node with the weight `own`, goes as far as the weights do.
+fn is_tight(weights: &[u32], own: u32, weight: u32, y: usize) -> bool
+    requires { y < length weights.now }
+    ensures { IsTrue result ↔ (at weights.now y ≡ own + weight) }
 {
-    weights[y] as u64 == weights[x] as u64 + weight as u64
+    weights[y] as u64 == own as u64 + weight as u64
 }
 
-// Writes the port `p` of `u` for each node to which it leads nearer and for which no port is held yet.
+// The nodes to which the port `p` of `u` leads nearer. Each passes it on along its tight steps, in the order in which they
+// got it.
 fn flood(
     alloc: Global,
     topology: &Topology,
     weights: &[u32],
     u: u16,
     p: usize,
-    held: &mut [Option<u16>],
-) -> Result<(), AllocError>
+) -> Result<Vec<u16>, AllocError>
     requires distances { AreFrom topology.now u weights.now }
     requires port { p < length (ports_of topology.now u) }
-    requires held { length held.old ≡ node_count topology.now }
-    requires closed { IsClosed topology.now weights.now held.old }
-    ensures { OnOk result (IsFlooded topology.now u p held.old held.new) }
+    ensures { IfOk result (λ nodes. AreLedBy topology.now u p nodes.items) }
 {
-    let _nodes = topology.nodes();
-    let port = p as u16;
-    let first = topology.port(u, port);
+    let nodes = topology.nodes();
+    let first = topology.port(u, p as u16);
     let start = first.node as usize;
-    if held[start].is_some() || !is_tight(weights, u as usize, first.weight, start) {
-        return Ok(());
+    let mut led = Vec::new(alloc);
+    if !is_tight(weights, weights[u as usize], first.weight, start) {
+        return Ok(led);
     }
-    held[start] = Some(port);
-    let mut waiting = Vec::new(alloc);
-    waiting.push(first.node)?;
-    while let Some(x) = waiting.pop() {
-        pass_on(topology, weights, port, x, held, &mut waiting)?;
+    let mut marks = vec![in alloc; false; nodes]?;
+    marks[start] = true;
+    led.push(first.node)?;
+    let mut passed = 0;
+    while passed < led.len() {
+        let x = led[passed];
+        pass_on(topology, weights, x, &mut marks, &mut led)?;
+        passed += 1;
     }
-    Ok(())
+    Ok(led)
 }
 
-// Writes a port for each node that a tight step from `x` leads to and for which none is held yet; these nodes wait.
+// Marks the nodes that a tight step from `x` leads to, and puts those that had no mark into the list.
 fn pass_on(
     topology: &Topology,
     weights: &[u32],
-    port: u16,
     x: u16,
-    held: &mut [Option<u16>],
-    waiting: &mut Vec<u16>,
+    marks: &mut Vec<bool>,
+    led: &mut Vec<u16>,
 ) -> Result<(), AllocError>
     requires node { x < node_count topology.now }
     requires weights { length weights.now ≡ node_count topology.now }
-    requires held { length held.old ≡ node_count topology.now }
-    ensures { OnOk result (IsPassedOn topology.now weights.now port x held.old waiting.old.items held.new
-        waiting.new.items) }
+    requires marks { length marks.old.items ≡ node_count topology.now }
+    requires listed { AreListed marks.old.items led.old.items }
+    ensures { OnOk result (IsPassedOn topology.now weights.now x marks.old.items led.old.items marks.new.items
+        led.new.items) }
 {
     let _nodes = topology.nodes();
+    let own = weights[x as usize];
     for hop in topology.ports(x as usize) {
         let y = hop.node as usize;
-        if held[y].is_none() && is_tight(weights, x as usize, hop.weight, y) {
-            held[y] = Some(port);
-            waiting.push(hop.node)?;
+        if is_tight(weights, own, hop.weight, y) && !marks[y] {
+            marks[y] = true;
+            led.push(hop.node)?;
         }
     }
     Ok(())

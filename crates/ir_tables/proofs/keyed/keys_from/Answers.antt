@@ -5,8 +5,8 @@ use Rattle.std.specs.BinaryHeap.{heap_items}
 use Rattle.ir_model.specs.Network.{node_count}
 use Rattle.ir_tables.specs.Relaxation.{at}
 use Rattle.ir_tables.specs.Keys.{Entry, IsKeying, KeepsFresh, Only, waiting}
-use Rattle.ir_tables.proofs.KeySteps.{Popped, popped, popped_fresh, popped_stale, keying_start, keying_empty}
-use Rattle.ir_tables.proofs.Waiting.{left_near, keying_kept}
+use Rattle.ir_tables.proofs.KeySteps.{Popped, popped, popped_fresh, keying_start, keying_empty}
+use Rattle.ir_tables.proofs.Waiting.{gone, left_near, keying_kept, stale_key}
 use Rattle.ir_tables.proofs.keyed.keys_from.Goals as goal
 
 pub loop-frontier-init : goal.loop-frontier-init
@@ -61,7 +61,8 @@ loop-frontier-preserved c =
     let moved : IsPermutation (waiting c.loop-frontier.frontier) (e ∷ (near ++ far)) = left_near e (heap_items c.loop-frontier.frontier.near) near far c.in-Some.ensures.permutation in
     let is : Popped c.args.topology.now e.0 = popped c.args.topology.now c.nodes.ensures.network c.args.u ks (waiting c.loop-frontier.frontier) (near ++ far) e moved c.loop-frontier.invariant in
     let read : c.index.result.now ≡ at ks (e.0 % 65536) = get_or_read ks (e.0 % 65536) c.index.result.now (omega (arith, is.node_in, c.loop-frontier.invariant.ways.every)) c.index.ensures 0 in
-    popped_stale c.args.topology.now c.nodes.ensures.network c.args.u ks (waiting c.loop-frontier.frontier) (near ++ far) e (λ same. c.if-waiting-index.false (same ∙ sym read)) moved c.loop-frontier.invariant
+    keying_kept c.args.topology.now c.nodes.ensures.network c.args.u ks (waiting c.loop-frontier.frontier) (near ++ far)
+    (gone ks e (waiting c.loop-frontier.frontier) (near ++ far) moved (stale_key ks e (λ same. c.if-waiting-index.false (same ∙ sym read)))) c.loop-frontier.invariant
 
 pub returns : goal.returns
 returns c =

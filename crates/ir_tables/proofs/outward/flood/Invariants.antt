@@ -1,10 +1,10 @@
-use Rattle.std.proofs.Common.{◌+◌, ◌*◌, length}
-use Rattle.ir_tables.specs.FromNode.{unheld}
+use Rattle.std.proofs.Common.{◌-◌}
+use Rattle.ir_model.specs.Network.{node_count}
 use Rattle.ir_tables.proofs.Flooding.{IsFlooding}
 use Rattle.ir_tables.proofs.outward.flood.Given as goal
 
-abbrev pub invariant-loop-x : goal.invariant-loop-x
-invariant-loop-x l = IsFlooding l.topology l.u l.weights l.p l.start l.fn.held l.held l.waiting.items
+abbrev pub invariant-loop-passed : goal.invariant-loop-passed
+invariant-loop-passed l = IsFlooding l.topology l.u l.weights l.p l.start l.passed l.marks.items l.led.items
 
-abbrev pub decreases-loop-x : goal.decreases-loop-x
-decreases-loop-x l = 2 * unheld l.held + length l.waiting.items
+abbrev pub decreases-loop-passed : goal.decreases-loop-passed
+decreases-loop-passed l = node_count l.topology - l.passed
