@@ -6,6 +6,7 @@ ghost use Rattle.ir_model.specs.Compiled.{IsCanonical};
 ghost use Rattle.ir_model.specs.Choices.{FitsChoices, IsFewestOfChoices, AreChosen};
 ghost use Rattle.ir_model.proofs.Steps.{AreLongest, AreSteps, HaveRoundPorts};
 ghost use Rattle.ir_compile.specs.Allowed.{rows_of, Allows, IsChoiceTable};
+ghost use Rattle.ir_compile.specs.Runs.{HasLabels};
 
 use crate::error::CompileError;
 use crate::round::{first_near, label_at, round_ports};
@@ -125,18 +126,30 @@ fn longest_runs(
 {
     let mut counts = vec![in alloc; 0u16; n as usize]?;
     let mut ports = vec![in alloc; 0u16; n as usize]?;
+    let labels = labels_to(alloc, n)?;
     for p in 0..choices.len() {
-        let marks = choices[p].as_slice();
         keep_longer(
             n,
             own,
-            marks,
+            choices[p].as_slice(),
+            labels.as_slice(),
             p as u16,
             counts.as_mut_slice(),
             ports.as_mut_slice(),
         );
     }
     Ok((counts, ports))
+}
+
+// All labels, in order.
+fn labels_to(alloc: Global, n: u16) -> Result<Vec<u16>, AllocError>
+    ensures { IfOk result (λ labels. HasLabels n labels.items) }
+{
+    let mut labels = Vec::with_capacity(alloc, n as usize)?;
+    for label in 0..n {
+        labels.push(label)?;
+    }
+    Ok(labels)
 }
 
 // Whether each port has a mark for each label, and each label but the own has a port.

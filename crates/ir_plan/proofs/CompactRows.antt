@@ -1,9 +1,10 @@
 -- The tied ports of a node, and the marks that tell them.
 use Rattle.std.proofs.Common.{◌≡◌, ◌≢◌, ◌↔◌, ℕ, ◌+◌, ◌<◌, ◌≤◌, None, Bool, true, false, List, [], ◌∷◌, length, replicate, set, Option, refl, ap, sym, ◌∙◌, subst, inl, inr, arith, get_or-set_same, get_or-set_other, length-set}
-use Rattle.std.specs.Prelude.{slice_index, slice_index_or}
+use Rattle.std.specs.Prelude.{Contains, slice_index, slice_index_or}
 use Rattle.std.proofs.lemmas.Bool.{cases_eq, cases_lt}
 use Rattle.std.proofs.lemmas.List.{get_or_past, get_or-replicate, length-replicate}
 use Rattle.std.proofs.lemmas.Grind.{get_or_default_zero}
+use Rattle.std.proofs.lemmas.List.Elements.{Contains-get_or}
 use Rattle.ir_model.specs.Network.{Network, IsNetwork, node_count, ports_of}
 use Rattle.ir_model.specs.Table.{LeadsNearer}
 use Rattle.ir_model.specs.Choices.{AreChoices, AreChosen}
@@ -14,6 +15,7 @@ use Rattle.std.proofs.lemmas.Option.{slice_get_within}
 use Rattle.ir_model.proofs.Best.{Marks, IsBestBelow}
 use Rattle.ir_plan.specs.CompactRows.{AreMarksOf, AreTiedMarks, MayTake}
 use Rattle.ir_tables.specs.FromNode.{AreFrom, AreLedBy}
+use Rattle.ir_compile.specs.Runs.{HasMarked}
 use Rattle.ir_tables.proofs.Leading.{some_nearer}
 
 -- each label but that of u has a tied port
@@ -84,6 +86,12 @@ pub record AreMarkedBelow (n : ℕ) (order nodes : List ℕ) (i : ℕ) (row : Li
   pub has : (d : ℕ) → d < n → slice_index_or row d false ≡ true → (k : ℕ) × (k < i) × (slice_index_or nodes k 0 ≡ slice_index order d)
   pub marks : (d k : ℕ) → d < n → k < i → slice_index_or nodes k 0 ≡ slice_index order d → slice_index_or row d false ≡ true
 
+-- the first i of some nodes stand as their labels
+pub record AreRelabelled (labels nodes : List ℕ) (i : ℕ) (now : List ℕ) : Type 0 where
+  pub every : length now ≡ length nodes
+  pub done : (k : ℕ) → k < i → slice_index_or now k 0 ≡ slice_index labels (slice_index_or nodes k 0)
+  pub left : (k : ℕ) → i ≤ k → slice_index_or now k 0 ≡ slice_index_or nodes k 0
+
 module _ (n : ℕ) (order labels : List ℕ) (named : AreLabels n order labels) (nodes : List ℕ) where
   pub marked_none : AreMarkedBelow n order nodes 0 (replicate n false)
   marked_none = record {
@@ -130,6 +138,43 @@ module _ (n : ℕ) (order labels : List ℕ) (named : AreLabels n order labels) 
           (w.0, inside, get_or_default_zero nodes w.0 (slice_index order d) inside ∙ w.2)),
       (λ has. so_far.marks d has.0 hd (omega (arith, has.1, all)) (sym (get_or_default_zero nodes has.0 (slice_index order d) has.1) ∙ has.2)),
     );
+  }
+
+  pub relabelled_next : (i : ℕ) (now : List ℕ) → i < length nodes → AreRelabelled labels nodes i now → AreRelabelled labels nodes (i + 1) (set now i (slice_index labels (slice_index_or now i 0)))
+  relabelled_next i now l so_far =
+      let here : slice_index_or now i 0 ≡ slice_index_or nodes i 0 = so_far.left i (omega arith) in
+      let label : ℕ = slice_index labels (slice_index_or now i 0) in
+      record {
+        every = length-set now i label ∙ so_far.every;
+        done = λ k lk.
+            elim (cases_eq k i) [
+              | inl e ↦
+                  let set_here : slice_index_or (set now i label) i 0 ≡ label = get_or-set_same now i label 0 (omega (arith, l, so_far.every)) in
+                  ap (λ (x : ℕ). slice_index_or (set now i label) x 0) e ∙ set_here ∙ ap (slice_index labels) (here ∙ ap (λ (x : ℕ). slice_index_or nodes x 0) (sym e))
+              | inr ne ↦ get_or-set_other now i k label 0 ne ∙ so_far.done k (omega (arith, lk, ne))
+            ];
+        left = λ k lk. get_or-set_other now i k label 0 (λ e. omega (arith, lk, e)) ∙ so_far.left k (omega (arith, lk));
+      }
+
+  -- what stands at the next place is a node still
+  pub next_node : (i x : ℕ) (now : List ℕ) → i < length nodes → ((d : ℕ) → Contains nodes d → d < n) → AreRelabelled labels nodes i now → x ≡ slice_index_or now i x → x < n
+  next_node i x now l inside are is =
+      let now_in : i < length now = omega (arith, l, are.every) in
+      let x_is : x ≡ slice_index_or nodes i 0 = is ∙ get_or_default_zero now i x now_in ∙ are.left i (omega arith) in
+      let node = inside (slice_index_or nodes i 0) (Contains-get_or nodes i 0 l) in
+      omega (arith, x_is, node)
+
+  pub relabelled_all : (i : ℕ) (row : List Bool) (now : List ℕ) → i ≡ length nodes → ((d : ℕ) → Contains nodes d → d < n) → AreMarkedBelow n order nodes i row → AreRelabelled labels nodes i now → HasMarked n row now
+  relabelled_all i row now all inside marked are = record {
+    label = λ d has.
+        let k_in : has.0 < length nodes = omega (arith, has.1, are.every) in
+        let d_is : d ≡ slice_index labels (slice_index_or nodes has.0 0) = sym (sym (get_or_default_zero now has.0 d has.1) ∙ has.2) ∙ are.done has.0 (omega (arith, k_in, all)) in
+        let l = named.label (slice_index_or nodes has.0 0) (inside (slice_index_or nodes has.0 0) (Contains-get_or nodes has.0 0 k_in)) in
+        omega (arith, d_is, l);
+    every = λ d hd m.
+        let w = marked.has d hd m in
+        let k_in : w.0 < length now = omega (arith, w.1, all, are.every) in
+        (w.0, k_in, get_or_default_zero now w.0 d k_in ∙ are.done w.0 w.1 ∙ ap (slice_index labels) w.2 ∙ named.back d hd);
   }
 
 -- a port that no label may take is no better than those before it

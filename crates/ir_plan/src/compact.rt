@@ -7,6 +7,7 @@ ghost use Rattle.ir_model.specs.Walk.{IsConnected};
 ghost use Rattle.ir_model.proofs.Steps.{AreLongest};
 ghost use Rattle.ir_model.specs.Scheme.{AreLabels};
 ghost use Rattle.ir_tables.specs.FromNode.{AreFrom};
+ghost use Rattle.ir_compile.specs.Runs.{HasMarked};
 ghost use Rattle.ir_plan.specs.NodeRows.{IsNodeRow, ArePortsOf};
 ghost use Rattle.ir_plan.specs.CompactRows.{AreMarksOf, MayTake};
 
@@ -85,13 +86,14 @@ fn longest_runs(
     let mut counts = vec![in alloc; 0u16; nodes as usize]?;
     let mut ports = vec![in alloc; 0u16; nodes as usize]?;
     for p in 0..topology.degree(u) {
-        let led = ways.nodes_by(alloc, topology, p)?;
+        let mut led = ways.nodes_by(alloc, topology, p)?;
         if !led.is_empty() {
-            let marks = marks_of(alloc, nodes, numbering, led.as_slice())?;
+            let marks = marks_of(alloc, nodes, numbering, &mut led)?;
             keep_longer(
                 nodes,
                 own,
                 marks.as_slice(),
+                led.as_slice(),
                 p as u16,
                 counts.as_mut_slice(),
                 ports.as_mut_slice(),
@@ -101,20 +103,23 @@ fn longest_runs(
     Ok((counts, ports))
 }
 
-// The marks of some nodes, by label.
+// The marks of some nodes, by label; in place of each node stands its label then.
 fn marks_of(
     alloc: Global,
     nodes: u16,
     numbering: &Numbering,
-    led: &[u16],
+    led: &mut Vec<u16>,
 ) -> Result<Vec<bool>, AllocError>
     requires labels { AreLabels nodes numbering.now.order numbering.now.labels }
-    requires nodes { (d : ℕ) → Contains led.now d → d < nodes }
-    ensures { IfOk result (λ row. AreMarksOf nodes numbering.now.order led.now row.items) }
+    requires nodes { (d : ℕ) → Contains led.old.items d → d < nodes }
+    ensures marks { IfOk result (λ row. AreMarksOf nodes numbering.now.order led.old.items row.items) }
+    ensures marked { IfOk result (λ row. HasMarked nodes row.items led.new.items) }
 {
     let mut row = vec![in alloc; false; nodes as usize]?;
-    for node in led {
-        row[numbering.label_of(*node) as usize] = true;
+    for i in 0..led.len() {
+        let label = numbering.label_of(led[i]);
+        row[label as usize] = true;
+        led[i] = label;
     }
     Ok(row)
 }

@@ -127,10 +127,10 @@ fn flood(
     let nodes = topology.nodes();
     let first = topology.port(u, p as u16);
     let start = first.node as usize;
-    let mut led = Vec::new(alloc);
     if !is_tight(weights, weights[u as usize], first.weight, start) {
-        return Ok(led);
+        return Ok(Vec::new(alloc));
     }
+    let mut led = Vec::with_capacity(alloc, nodes)?;
     let mut marks = vec![in alloc; false; nodes]?;
     marks[start] = true;
     led.push(first.node)?;

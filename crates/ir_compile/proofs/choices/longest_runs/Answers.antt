@@ -3,12 +3,16 @@ use Rattle.std.proofs.lemmas.List.{take_at}
 use Rattle.std.specs.Prelude.{slice_index}
 use Rattle.ir_model.proofs.Best.{IsBestBelow}
 use Rattle.ir_compile.specs.Allowed.{rows_of, Allows}
+use Rattle.ir_compile.proofs.Blocks.{all_marked}
 use Rattle.ir_compile.proofs.MarkRows.{row_len, next_best, all_best}
 use Rattle.ir_compile.proofs.choices.longest_runs.Goals as goal
 
 pub keep_longer-requires-clause-every : goal.keep_longer-requires-clause-every
 keep_longer-requires-clause-every c =
-    rw c.as_slice-marks.ensures.value (row_len c.args.n c.args.choices.now c.loop-p.p c.index-choices-p.result c.requires.every c.loop-p-test.true c.index-choices-p.is)
+    rw c.as_slice.ensures.value (row_len c.args.n c.args.choices.now c.loop-p.p c.index-choices-p.result c.requires.every c.loop-p-test.true c.index-choices-p.is)
+
+pub keep_longer-requires-clause-marked : goal.keep_longer-requires-clause-marked
+keep_longer-requires-clause-marked c = rw c.as_slice-in-loop-p.ensures.value (all_marked c.args.n c.as_slice.result.now c.in_ok-labels.labels.items c.in_ok-labels.ensures)
 
 pub loop-p-preserved : goal.loop-p-preserved
 loop-p-preserved c =
@@ -25,7 +29,7 @@ loop-p-preserved c =
       ports_len = ports_len;
       best = next_best c.args.n c.args.own c.args.choices.now c.loop-p.p c.index-choices-p.result c.loop-p-test.true c.index-choices-p.is
           c.loop-p.counts.items c.loop-p.ports.items counts ports
-          (rw (c.as_slice-marks.ensures.value, c.as_mut_slice.ensures.value, c.as_mut_slice-in-loop-p.ensures.value) at c.keep_longer.ensures.longer)
+          (rw (c.as_slice.ensures.value, c.as_mut_slice.ensures.value, c.as_mut_slice-in-loop-p.ensures.value) at c.keep_longer.ensures.longer)
           v.best;
     })
 

@@ -20,7 +20,7 @@ overflow_cast-p c =
     omega arith
 
 pub marks_of-requires-clause-nodes : goal.marks_of-requires-clause-nodes
-marks_of-requires-clause-nodes c = rw (c.nodes-nodes.ensures.count, c.as_slice.ensures.value) c.in_ok-led.ensures.node
+marks_of-requires-clause-nodes c = rw c.nodes-nodes.ensures.count c.in_ok-led.ensures.node
 
 pub loop-p-preserved : goal.loop-p-preserved
 loop-p-preserved c =
@@ -45,9 +45,9 @@ loop-p-preserved c =
           let ports_len = w.keep_longer.ensures.ports ∙ c.nodes-nodes.ensures.count in
           let counts_back = take_at counts (drop (length counts) c.loop-p.counts.items) c.loop-p.counts.len (omega (arith, counts_len, v.counts_len, c.loop-p.counts.ok.0)) in
           let ports_back = take_at ports (drop (length ports) c.loop-p.ports.items) c.loop-p.ports.len (omega (arith, ports_len, v.ports_len, c.loop-p.ports.ok.0)) in
-          let of_led = rw (c.nodes-nodes.ensures.count, w.as_slice.ensures.value) at w.in_ok-marks.ensures in
+          let of_led = rw c.nodes-nodes.ensures.count at w.in_ok-marks.ensures.marks in
           let tied = marks_led net numbers.order u p led marks by of_led in
-          let longer = rw (c.nodes-nodes.ensures.count, c.label_of-own.ensures, w.as_slice-then-not-is_empty.ensures.value, w.as_mut_slice.ensures.value, w.as_mut_slice-then-not-is_empty.ensures.value) at w.keep_longer.ensures.longer in
+          let longer = rw (c.nodes-nodes.ensures.count, c.label_of-own.ensures, w.as_slice.ensures.value, w.as_mut_slice.ensures.value, w.as_mut_slice-then-not-is_empty.ensures.value) at w.keep_longer.ensures.longer in
           rw (w.counts-is, w.ports-is, counts_back, ports_back)
           (record {
             counts_len = counts_len;

@@ -15,14 +15,14 @@ overflow_cast-p c =
 
 pub returns-then-not-is_tight : goal.returns-then-not-is_tight
 returns-then-not-is_tight c =
-    rw c.new-led.ensures.items
+    rw c.new.ensures.items
     (nothing_led c.args.topology.now c.nodes-nodes.ensures.network c.args.u c.args.weights.now c.requires.distances c.args.p c.port-first.result c.port-first.ensures
     (λ tight. let t = c.is_tight.ensures.1 tight in cc (t, c.if-not-is_tight.true)))
 
 pub loop-passed-init : goal.loop-passed-init
 loop-passed-init c =
     let bare = c.in_ok-marks.ensures.items_if_clones_equal (λ y e. e) ∙ ap no_marks c.nodes-nodes.ensures.count in
-    rw (c.in_ok-push.ensures.items, c.new-led.ensures.items, bare)
+    rw (c.in_ok-push.ensures.items, c.in_ok-led.ensures.items, bare)
     (flooding_start c.args.topology.now c.nodes-nodes.ensures.network c.args.u c.args.weights.now c.requires.distances c.args.p c.port-first.result c.port-first.ensures
     (c.is_tight.ensures.0 c.if-not-is_tight.false))
 
