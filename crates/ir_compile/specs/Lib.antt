@@ -1,4 +1,5 @@
 -- what contracts promise
 pub mod Code
 pub mod Allowed
+-- what bodies use
 pub mod Runs
