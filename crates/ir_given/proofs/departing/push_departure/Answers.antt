@@ -1,5 +1,4 @@
 use Rattle.std.proofs.Common.{◌-◌, sym, subst}
-use Rattle.std.specs.Prelude.{IfSome}
 use Rattle.ir_model.specs.Network.{Network, node_count}
 use Rattle.ir_model.specs.OfGraph.{network_of_graph}
 use Rattle.ir_trace.specs.Checked.{IsRowOver, AreRowsOver}
