@@ -5,6 +5,7 @@ pub mod Errors
 pub mod Listed
 pub mod FromNode
 -- what bodies use
+pub mod Rows
 pub mod Frontier
 pub mod Numbered
 pub mod ByPlace

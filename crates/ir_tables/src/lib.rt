@@ -9,6 +9,7 @@ mod frontier;
 mod keyed;
 mod listed;
 mod outward;
+mod port_rows;
 mod relaxation;
 mod table;
 mod topology;

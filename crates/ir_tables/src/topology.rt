@@ -5,6 +5,7 @@ ghost use Rattle.ir_model.specs.OfGraph.{network_of_graph};
 ghost use Rattle.ir_model.specs.declared.TheConstants.{MAX_WEIGHT};
 
 use crate::adjacency::{links_of, ports_of};
+use crate::port_rows::PortRows;
 use ir_graph::Graph;
 use ir_model::{Hop, Link};
 use std::alloc::{AllocError, Global};
@@ -15,7 +16,7 @@ use std::marker::Model;
 #[derive(Drop)]
 pub struct Topology {
     links: Vec<Link>,
-    ports: Vec<Vec<Hop>>,
+    ports: PortRows,
 }
 
 impl Model for Topology {
@@ -41,9 +42,10 @@ impl Topology {
     {
         let nodes = graph.number_of_nodes();
         let (links, begins) = links_of(alloc, graph)?;
-        let mut ports = Vec::with_capacity(alloc, nodes)?;
+        let mut ports = PortRows::new(alloc)?;
         for u in 0..nodes {
-            ports.push(ports_of(alloc, graph, links.as_slice(), begins.as_slice(), u)?)?;
+            let row = ports_of(alloc, graph, links.as_slice(), begins.as_slice(), u)?;
+            ports = ports.with(row.as_slice())?;
         }
         Ok(Topology { links, ports })
     }
@@ -78,7 +80,7 @@ impl Topology {
         requires { u < node_count self.now }
         ensures { result ≡ length (ports_of self.now u) }
     {
-        self.ports[u as usize].len()
+        self.ports.row(u as usize).len()
     }
 
     /// Where port `p` of node `u` leads: the neighbour, the link and its weight. Condition: `u` is below `nodes()` and
@@ -88,7 +90,7 @@ impl Topology {
         requires port { p < length (ports_of self.now u) }
         ensures { port_at self.now u p ≡ Some result }
     {
-        self.ports[u as usize][p as usize]
+        self.ports.row(u as usize)[p as usize]
     }
 
     /// The ports of a node, in order. Condition: the number is below `nodes()`.
@@ -96,7 +98,7 @@ impl Topology {
         requires { u < node_count self.now }
         ensures { result.now ≡ ports_of self.now u }
     {
-        self.ports[u].as_slice()
+        self.ports.row(u)
     }
 
     /// The first port of a node that leads to another one. Condition: `u` is below `nodes()`. Takes O(d), for d ports
@@ -118,9 +120,10 @@ impl Topology {
         ensures { IfOk result (λ kept. kept ≡ restrict up.now self.now) }
     {
         let links = Vec::from_slice(alloc, self.links.as_slice())?;
-        let mut ports = Vec::with_capacity(alloc, self.ports.len())?;
+        let mut ports = PortRows::new(alloc)?;
         for u in 0..self.nodes() {
-            ports.push(ports_up(alloc, self.ports(u), up)?)?;
+            let row = ports_up(alloc, self.ports(u), up)?;
+            ports = ports.with(row.as_slice())?;
         }
         Ok(Topology { links, ports })
     }
@@ -131,10 +134,7 @@ impl Topology {
         ensures { IfOk result (λ copy. copy ≡ self.now) }
     {
         let links = Vec::from_slice(alloc, self.links.as_slice())?;
-        let mut ports = Vec::with_capacity(alloc, self.ports.len())?;
-        for u in 0..self.nodes() {
-            ports.push(Vec::from_slice(alloc, self.ports(u))?)?;
-        }
+        let ports = self.ports.try_clone(alloc)?;
         Ok(Topology { links, ports })
     }
 }

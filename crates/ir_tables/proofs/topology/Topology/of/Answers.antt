@@ -1,5 +1,4 @@
-use Rattle.std.proofs.Common.{◌≡◌, ◌++◌, ◌∷◌, [], ℕ, List, Vec, Global, length, map, sym, ap, subst, ◌∙◌, arith, take}
-use Rattle.std.proofs.lemmas.List.{map-append}
+use Rattle.std.proofs.Common.{◌≡◌, ◌++◌, ◌∷◌, [], ℕ, List, length, sym, ap, subst, ◌∙◌, arith, take}
 use Rattle.ir_model.specs.declared.Link.{Link}
 use Rattle.ir_model.specs.declared.Hop.{Hop}
 use Rattle.ir_model.specs.Graph.{Adjacency}
@@ -19,12 +18,12 @@ loop-u-preserved c =
     let g : Adjacency = c.args.graph.now in
     let u : ℕ = c.loop-u.u in
     let links : List Link = c.in_ok-links.links.items in
-    let row : Vec Hop Global = c.in_ok-ports_of.field-0 in
+    let row : List Hop = c.in_ok-row.row.items in
     let step = ports_step g links u (omega (arith, c.number_of_nodes-nodes.ensures.len)) in
-    let here : row.items ≡ ports_at links u (row_numbers g (neighbors_at g u)) = c.in_ok-ports_of.ensures ∙ ap (λ ls. ports_at ls u (row_numbers g (neighbors_at g u))) c.as_slice.ensures.value in
-    ap (map (λ (v : Vec Hop Global). v.items)) c.in_ok-push.ensures.items
-    ∙ map-append (λ (v : Vec Hop Global). v.items) c.loop-u.ports.items (row ∷ [])
-    ∙ ap (λ xs. xs ++ row.items ∷ []) c.loop-u.invariant
+    let here : row ≡ ports_at links u (row_numbers g (neighbors_at g u)) = c.in_ok-row.ensures ∙ ap (λ ls. ports_at ls u (row_numbers g (neighbors_at g u))) c.as_slice.ensures.value in
+    c.in_ok-ports-2.ensures
+    ∙ ap (λ x. c.loop-u.ports ++ x ∷ []) c.as_slice-in-loop-u-2.ensures.value
+    ∙ ap (λ xs. xs ++ row ∷ []) c.loop-u.invariant
     ∙ ap (λ x. take u (ports_from links 0 (rows_of g)) ++ x ∷ []) here
     ∙ sym step
 
@@ -33,7 +32,7 @@ invariant_of-result c =
     let g : Adjacency = c.args.graph.now in
     let links : List Link = c.in_ok-links.links.items in
     let ports = c.loop-u.invariant ∙ ports_whole g links c.loop-u.u (omega (arith, c.number_of_nodes-nodes.ensures.len)) in
-    let made = graph_made g c.number_of_nodes-nodes.ensures.graph links (map (λ (v : Vec Hop Global). v.items) c.loop-u.ports.items) c.in_ok-links.ensures.links ports in
+    let made = graph_made g c.number_of_nodes-nodes.ensures.graph links c.loop-u.ports c.in_ok-links.ensures.links ports in
     let P : Network → Type 0 = λ net. IsNetwork net in
     subst P (sym made) (graph_network g c.number_of_nodes-nodes.ensures.graph)
 
@@ -42,4 +41,4 @@ returns c =
     let g : Adjacency = c.args.graph.now in
     let links : List Link = c.in_ok-links.links.items in
     let ports = c.loop-u.invariant ∙ ports_whole g links c.loop-u.u (omega (arith, c.number_of_nodes-nodes.ensures.len)) in
-    graph_made g c.number_of_nodes-nodes.ensures.graph links (map (λ (v : Vec Hop Global). v.items) c.loop-u.ports.items) c.in_ok-links.ensures.links ports
+    graph_made g c.number_of_nodes-nodes.ensures.graph links c.loop-u.ports c.in_ok-links.ensures.links ports

@@ -9,5 +9,5 @@ invariant_of-result c =
     let net : Network = c.args.self.now in
     let links : c.in_ok-links.links.items ≡ net.links = c.in_ok-links.ensures.items ∙ (c.as_slice.ensures.value ∙ ap (λ (n : Network). n.links) c.self.view_is) in
     let whole : take c.loop-u.u net.ports ≡ net.ports = take_all c.loop-u.u net.ports (omega (arith, c.nodes-u-end.ensures.count, c.loop-u-test.false)) in
-    let ports : map (λ row. row.items) c.loop-u.ports.items ≡ map (filter (is_up c.args.up.now)) net.ports = c.loop-u.invariant ∙ ap (map (filter (is_up c.args.up.now))) whole in
+    let ports : c.loop-u.ports ≡ map (filter (is_up c.args.up.now)) net.ports = c.loop-u.invariant ∙ ap (map (filter (is_up c.args.up.now))) whole in
     rw (links, ports) (restrict_network c.args.up.now net c.nodes-u-end.ensures.network)

@@ -3,4 +3,4 @@ use Rattle.ir_model.specs.Network.{is_up}
 use Rattle.ir_tables.proofs.topology.Topology.only.Given as goal
 
 abbrev pub invariant-loop-u : goal.invariant-loop-u
-invariant-loop-u l = map (λ row. row.items) l.ports.items ≡ map (filter (is_up l.up)) (take l.u l.self.ports)
+invariant-loop-u l = l.ports ≡ map (filter (is_up l.up)) (take l.u l.self.ports)
