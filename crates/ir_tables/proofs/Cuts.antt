@@ -1,6 +1,6 @@
 -- Rows that lie one behind the other: a row is read, and a row is put behind the others.
 use Rattle.std.proofs.Common.{◌≡◌, ℕ, zero, suc, ◌+◌, ◌-◌, ◌<◌, ◌≤◌, List, [], ◌∷◌, ◌++◌, length, take, drop, refl, ap, sym, ◌∙◌, get_or, arith}
-use Rattle.std.proofs.lemmas.List.{take-append-le, drop-append-le, length-append, length-drop, take_all}
+use Rattle.std.proofs.lemmas.List.{take-append-le, drop-append-le, length-append, length-drop, take_all, get_or_read}
 use Rattle.std.proofs.Math.Seq.{drop-append_seam}
 use Rattle.ir_model.specs.declared.Hop.{Hop}
 use Rattle.ir_tables.specs.Rows.{rows_by, rows_in, IsCut, AreCuts}
@@ -57,3 +57,17 @@ row_at [] hops u l is = absurd is
 row_at (begin ∷ ends) hops u l is =
     let e : u + 1 ≡ suc u = omega arith in
     rw e (row_by begin ends hops u (omega (arith, l)) is)
+
+-- there is a place behind that of a row
+pub place_behind : (begins : List ℕ) (hops : List Hop) (rows : List (List Hop)) (u : ℕ) → AreCuts begins hops → rows_in begins hops ≡ rows → u < length rows → u + 1 < length begins
+place_behind begins hops rows u are is l = let few = cuts_length begins hops are in let e = ap (λ (xs : List (List Hop)). length xs) is in omega (arith, few, e, l)
+
+-- the row between two places that are read
+pub row_read : (begins : List ℕ) (hops : List Hop) (rows : List (List Hop)) (u from to : ℕ) → AreCuts begins hops → rows_in begins hops ≡ rows → u < length rows
+    → from ≡ get_or begins u from → to ≡ get_or begins (u + 1) to → (from ≤ to) × (to ≤ length hops) × (take (to - from) (drop from hops) ≡ get_or rows u [])
+row_read begins hops rows u from to are is l at_from at_to =
+    let behind = place_behind begins hops rows u are is l in
+    let r = row_at begins hops u behind are in
+    let f : from ≡ get_or begins u 0 = get_or_read begins u from (omega (arith, behind)) at_from 0 in
+    let t : to ≡ get_or begins (u + 1) 0 = get_or_read begins (u + 1) to behind at_to 0 in
+    rw (f, t) (r.0, r.1, sym r.2 ∙ ap (λ (xs : List (List Hop)). get_or xs u []) is)
