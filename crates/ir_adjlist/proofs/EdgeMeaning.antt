@@ -14,7 +14,7 @@ use Rattle.ir_model.proofs.Names.{bytes_eq-same}
 use Rattle.ir_model.specs.Graph.{linked}
 use Rattle.ir_model.proofs.Graphs.{each_row}
 use Rattle.ir_model.proofs.MadeLemmas.{Covered, Covered-push, among-pushed, with_node-known, with_node-graph_of, with_edge-graph_of}
-use Rattle.ir_model.specs.Edgelist.{weight_in, weighted, row_edges, edges_in, ends_of, graph_of_edges, limit_fault, weight_fault, ending_fault, edge_row_fault, edge_line_fault, first_edge_fault}
+use Rattle.ir_model.specs.Edgelist.{spelled_weight, weighted, row_edges, edges_in, ends_of, graph_of_edges, limit_fault, weight_fault, ending_fault, edge_row_fault, edge_line_fault, first_edge_fault}
 use Rattle.ir_adjlist.specs.Steps.{edge_run, weight_run, ending_run, edge_row_run, edge_line_run, text_run, Fails}
 use Rattle.ir_adjlist.specs.Told.{Tells, told_at}
 use Rattle.ir_adjlist.proofs.Reading.{or_graph, or_graph-cond, or_graph-ok, length-graph_of, lines_mean, told_by}
@@ -69,7 +69,7 @@ module _ (pairs : List Pair) (u v : Name) where
 
   ending_means : (ws : List Name) → ending_run (graph_of_edges pairs) u v ws ≡ or_graph (ending_fault pairs u v ws) (graph_of_edges (pairs ++ row_edges (u ∷ v ∷ ws)))
   ending_means [] = refl
-  ending_means (word ∷ []) = weight_means (weight_in word)
+  ending_means (word ∷ []) = weight_means (spelled_weight word)
   ending_means (word ∷ more ∷ ws) = refl
 
 row_means : (pairs : List Pair) (ws : List Name) → edge_row_run (graph_of_edges pairs) ws ≡ or_graph (edge_row_fault pairs ws) (graph_of_edges (pairs ++ row_edges ws))

@@ -10,7 +10,7 @@ use Rattle.ir_model.specs.Made.{Pair}
 use Rattle.ir_model.specs.Text.{lines, words, or_later, edges_pass}
 use Rattle.ir_model.specs.declared.Fault.TheVariants.{BadByte, BadName, TooManyNodes, TooManyEdges}
 use Rattle.ir_graph.proofs.Joined.{has_node-weight_of}
-use Rattle.ir_model.specs.Edgelist.{weight_in, weighted, row_edges, edges_in, ends_of, graph_of_edges, limit_fault, weight_fault, edge_row_fault, edge_line_fault, first_fault_by}
+use Rattle.ir_model.specs.Edgelist.{spelled_weight, weighted, row_edges, edges_in, ends_of, graph_of_edges, limit_fault, weight_fault, edge_row_fault, edge_line_fault, first_fault_by}
 use Rattle.ir_adjlist.specs.Written.{row_text, edgelist_text}
 use Rattle.ir_adjlist.specs.RoundTrip.{IsReadAsEdgelist}
 use Rattle.ir_adjlist.proofs.EdgeMeaning.{edges_in-push, Covered-ends}
@@ -62,7 +62,7 @@ module _ (g : Adjacency) (kept : IsGraph g) where
   words_at : (e : Pair) → is_sound g e ≡ true → words (line_at e) ≡ e.0 ∷ e.1 ∷ decimal e.2 ∷ []
   words_at e h = let n = and_parts (is_name e.0) (list_all is_name (e.1 ∷ decimal e.2 ∷ [])) (row_named e h) in row_words e.0 (e.1 ∷ decimal e.2 ∷ []) n.0 n.1
 
-  weight_at : (e : Pair) → is_sound g e ≡ true → weight_in (decimal e.2) ≡ Some e.2
+  weight_at : (e : Pair) → is_sound g e ≡ true → spelled_weight (decimal e.2) ≡ Some e.2
   weight_at e h = weight_in-decimal e.2 (and_parts (has_node g e.0 && has_node g e.1) (is_weight e.2) h).1
 
   edge_at : (e : Pair) → is_sound g e ≡ true → row_edges (words (line_at e)) ≡ e ∷ []
@@ -95,7 +95,7 @@ module _ (g : Adjacency) (kept : IsGraph g) where
       let pushed : list_all (is_sound g) (edges_in before ++ e ∷ []) ≡ true = list_all-append (is_sound g) (edges_in before) (e ∷ []) ∙ and_from _ _ hb (and_from _ _ h refl) in
       ap (λ b. cond (not b) (Some BadByte) (edge_row_fault (edges_in before) (words (line_at e)))) (row_plain e.0 (e.1 ∷ decimal e.2 ∷ []) n.0 n.1)
       ∙ ap (edge_row_fault (edges_in before)) (words_at e h)
-      ∙ ap (λ b. cond (not b) (Some BadName) (weight_fault (edges_in before) e.0 e.1 (weight_in (decimal e.2)))) (and_from _ _ (name_len e.0 n.0) (name_len e.1 m.0))
+      ∙ ap (λ b. cond (not b) (Some BadName) (weight_fault (edges_in before) e.0 e.1 (spelled_weight (decimal e.2)))) (and_from _ _ (name_len e.0 n.0) (name_len e.1 m.0))
       ∙ ap (weight_fault (edges_in before) e.0 e.1) (weight_at e h)
       ∙ limits_fit (edges_in before ++ e ∷ []) pushed (omega (arith, length-append (edges_in before) (e ∷ [])))
 

@@ -10,9 +10,9 @@ use Rattle.std.proofs.lemmas.Fmt.{digits_decimal, digits_value-decimal, decimal_
 use Rattle.ir_model.specs.declared.TheConstants.{MAX_NAME_BYTES, MAX_WEIGHT}
 use Rattle.ir_model.specs.Graph.{Name, is_name, is_name_byte, is_weight}
 use Rattle.ir_model.specs.Text.{lines, pieces, onto_first, is_blank, is_plain, is_empty, content, words_of, words}
-use Rattle.ir_model.specs.Edgelist.{is_digit, value_of, is_zero_fraction, whole, fraction, weight_in}
+use Rattle.ir_model.specs.Edgelist.{is_digit, value_of, is_zero_fraction, whole, fraction, spelled_weight}
 use Rattle.ir_adjlist.specs.Written.{row_text}
-use Rattle.ir_adjlist.specs.Writing.{spaced}
+use Rattle.ir_adjlist.specs.Writing.{spaced_words}
 use Rattle.ir_adjlist.proofs.Names.{list_all-imp}
 use Rattle.ir_model.proofs.Pieces.{not-false-true}
 
@@ -71,7 +71,7 @@ filled : (ds : List ℕ) → 0 < length ds → not (is_empty ds) ≡ true
 filled [] h = absurd (omega arith)
 filled (d ∷ ds) h = refl
 
-weight_in-digits : (ds : List ℕ) → list_all is_digit ds ≡ true → 0 < length ds → is_weight (value_of ds) ≡ true → weight_in ds ≡ Some (value_of ds)
+weight_in-digits : (ds : List ℕ) → list_all is_digit ds ≡ true → 0 < length ds → is_weight (value_of ds) ≡ true → spelled_weight ds ≡ Some (value_of ds)
 weight_in-digits ds digits some weight =
     let pure : list_all (λ b. not (b == 46)) ds ≡ true = list_all-imp is_digit (λ b. not (b == 46)) digit_no_point ds digits in
     ap (λ w. cond (not (is_empty w) && list_all is_digit w && is_zero_fraction (fraction ds) && is_weight (value_of w)) (Some (value_of w)) None) (whole_is ds pure)
@@ -89,7 +89,7 @@ module _ (w : ℕ) (h : is_weight w ≡ true) where
   digits_of_weight = digits_decimal numerals w wide
 
   -- a weight that is written is read again
-  pub weight_in-decimal : weight_in (decimal w) ≡ Some w
+  pub weight_in-decimal : spelled_weight (decimal w) ≡ Some w
   weight_in-decimal =
       let value : value_of (decimal w) ≡ w = digits_value-decimal numerals w wide in
       weight_in-digits (decimal w) digits_of_weight (decimal_nonempty w wide) (ap is_weight value ∙ h) ∙ ap (λ v. Some v) value
@@ -128,35 +128,35 @@ name_filled (b ∷ x) h = refl
 no_blank : (x : Name) → is_name x ≡ true → list_all (λ b. not (is_blank b)) x ≡ true
 no_blank x h = list_all-imp is_name_byte (λ b. not (is_blank b)) name_byte_no_blank x (name_bytes x h)
 
-pieces_row : (x : Name) (ys : List Name) → is_name x ≡ true → list_all is_name ys ≡ true → pieces is_blank (x ++ spaced ys) ≡ x ∷ ys
+pieces_row : (x : Name) (ys : List Name) → is_name x ≡ true → list_all is_name ys ≡ true → pieces is_blank (x ++ spaced_words ys) ≡ x ∷ ys
 pieces_row x [] hx hs = ap (pieces is_blank) (append-nil x) ∙ pieces_last x (no_blank x hx)
 pieces_row x (y ∷ ys) hx hs =
     let a = and_parts (is_name y) (list_all is_name ys) hs in
-    pieces_word x (y ++ spaced ys) (no_blank x hx) ∙ ap (λ t. x ∷ t) (pieces_row y ys a.0 a.1)
+    pieces_word x (y ++ spaced_words ys) (no_blank x hx) ∙ ap (λ t. x ∷ t) (pieces_row y ys a.0 a.1)
 
 -- a row's bytes
 name_row : (x : Name) → is_name x ≡ true → list_all is_row_byte x ≡ true
 name_row x h = list_all-imp is_name_byte is_row_byte name_row_byte x (name_bytes x h)
 
-spaced_row : (ys : List Name) → list_all is_name ys ≡ true → list_all is_row_byte (spaced ys) ≡ true
+spaced_row : (ys : List Name) → list_all is_name ys ≡ true → list_all is_row_byte (spaced_words ys) ≡ true
 spaced_row [] h = refl
 spaced_row (y ∷ ys) h =
     let a = and_parts (is_name y) (list_all is_name ys) h in
-    list_all-append is_row_byte y (spaced ys) ∙ and_from _ _ (name_row y a.0) (spaced_row ys a.1)
+    list_all-append is_row_byte y (spaced_words ys) ∙ and_from _ _ (name_row y a.0) (spaced_row ys a.1)
 
 module _ (x : Name) (ys : List Name) (hx : is_name x ≡ true) (hs : list_all is_name ys ≡ true) where
-  row_bytes : list_all is_row_byte (x ++ spaced ys) ≡ true
-  row_bytes = list_all-append is_row_byte x (spaced ys) ∙ and_from _ _ (name_row x hx) (spaced_row ys hs)
+  row_bytes : list_all is_row_byte (x ++ spaced_words ys) ≡ true
+  row_bytes = list_all-append is_row_byte x (spaced_words ys) ∙ and_from _ _ (name_row x hx) (spaced_row ys hs)
 
-  row_content : content (x ++ spaced ys) ≡ x ++ spaced ys
+  row_content : content (x ++ spaced_words ys) ≡ x ++ spaced_words ys
   row_content =
-      ap (λ n. take n (x ++ spaced ys)) (prefix_all (λ b. not (b == 35)) (x ++ spaced ys) (list_all-imp is_row_byte (λ b. not (b == 35)) row_byte_no_comment (x ++ spaced ys) row_bytes))
-      ∙ take_all (length (x ++ spaced ys)) (x ++ spaced ys) (omega arith)
+      ap (λ n. take n (x ++ spaced_words ys)) (prefix_all (λ b. not (b == 35)) (x ++ spaced_words ys) (list_all-imp is_row_byte (λ b. not (b == 35)) row_byte_no_comment (x ++ spaced_words ys) row_bytes))
+      ∙ take_all (length (x ++ spaced_words ys)) (x ++ spaced_words ys) (omega arith)
 
-  pub row_plain : list_all is_plain (content (x ++ spaced ys)) ≡ true
-  row_plain = ap (list_all is_plain) row_content ∙ list_all-imp is_row_byte is_plain row_byte_plain (x ++ spaced ys) row_bytes
+  pub row_plain : list_all is_plain (content (x ++ spaced_words ys)) ≡ true
+  row_plain = ap (list_all is_plain) row_content ∙ list_all-imp is_row_byte is_plain row_byte_plain (x ++ spaced_words ys) row_bytes
 
-  pub row_words : words (x ++ spaced ys) ≡ x ∷ ys
+  pub row_words : words (x ++ spaced_words ys) ≡ x ∷ ys
   row_words =
       ap words_of row_content ∙ ap (filter (λ w. not (is_empty w))) (pieces_row x ys hx hs)
       ∙ filter_all (λ w. not (is_empty w)) (x ∷ ys) (and_from _ _ (name_filled x hx) (list_all-imp is_name (λ w. not (is_empty w)) name_filled ys hs))
@@ -171,7 +171,7 @@ abbrev pub is_row_of_names : Row → Bool
 is_row_of_names r = is_name r.0 && list_all is_name r.1
 
 abbrev pub line_of : Row → List ℕ
-line_of r = r.0 ++ spaced r.1
+line_of r = r.0 ++ spaced_words r.1
 
 abbrev pub text_of : List Row → List ℕ
 text_of rows = flat_map (λ r. row_text r.0 r.1) rows

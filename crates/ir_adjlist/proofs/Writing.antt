@@ -19,7 +19,7 @@ use Rattle.std.proofs.lemmas.Grind.{flat_map-append}
 use Rattle.ir_model.specs.Graph.{Name, Neighbors, Adjacency, among, names, neighbors, weight_of, edges_after}
 use Rattle.ir_model.specs.Made.{Pair}
 use Rattle.ir_adjlist.specs.Written.{row_text, adjlist_behind, targets_behind, edge_text}
-use Rattle.ir_adjlist.specs.Writing.{spaced, unwritten, node_row, unwritten_links, node_edges}
+use Rattle.ir_adjlist.specs.Writing.{spaced_words, unwritten, node_row, unwritten_links, node_edges}
 
 module _ {X : Type 0} where
   take_next : (xs : List X) (n : ℕ) → take (suc n) xs ≡ take n xs ++ option_to_list (slice_get xs n)
@@ -75,10 +75,10 @@ no_place_among_first ks x n e = by (among (take n ks) x) refl
 
 -- ---- one element more behind a text
 
-pub spaced-one : (g : Adjacency) (count : ℕ) (ks : List Name) (n : ℕ) → spaced (unwritten g count (take (n + 1) ks)) ≡ spaced (unwritten g count (take n ks)) ++ spaced (unwritten g count (option_to_list (slice_get ks n)))
+pub spaced-one : (g : Adjacency) (count : ℕ) (ks : List Name) (n : ℕ) → spaced_words (unwritten g count (take (n + 1) ks)) ≡ spaced_words (unwritten g count (take n ks)) ++ spaced_words (unwritten g count (option_to_list (slice_get ks n)))
 spaced-one g count ks n =
-    ap (λ xs. spaced (unwritten g count xs)) (take_one ks n)
-    ∙ ap spaced (filter-append (λ y. not (among (take count (names g)) y)) (take n ks) (option_to_list (slice_get ks n)))
+    ap (λ xs. spaced_words (unwritten g count xs)) (take_one ks n)
+    ∙ ap spaced_words (filter-append (λ y. not (among (take count (names g)) y)) (take n ks) (option_to_list (slice_get ks n)))
     ∙ flat_map-append (λ (word : Name). 32 ∷ word) (unwritten g count (take n ks)) (unwritten g count (option_to_list (slice_get ks n)))
 
 pub node_edges-one : (g : Adjacency) (count : ℕ) (x : Name) (es : Neighbors) (n : ℕ) → node_edges g count x (take (n + 1) es) ≡ node_edges g count x (take n es) ++ node_edges g count x (option_to_list (slice_get es n))

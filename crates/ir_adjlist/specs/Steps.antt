@@ -4,7 +4,7 @@ use Rattle.std.specs.List.{list_all}
 use Rattle.ir_model.specs.declared.TheConstants.{MAX_NODES, MAX_EDGES, MAX_NAME_BYTES}
 use Rattle.ir_model.specs.Graph.{Name, Adjacency, edges, with_node, with_edge}
 use Rattle.ir_model.specs.Text.{content, words, is_plain}
-use Rattle.ir_model.specs.Edgelist.{weight_in}
+use Rattle.ir_model.specs.Edgelist.{spelled_weight}
 use Rattle.ir_graph.specs.declared.error.GraphError.{GraphError}
 use Rattle.ir_graph.specs.declared.error.GraphError.TheVariants as errors
 use Rattle.ir_model.specs.declared.Fault.{Fault}
@@ -52,7 +52,7 @@ weight_run g u v None = Err BadWeight
 weight_run g u v (Some w) = edge_run g u v w
 
 abbrev pub ending_run : Adjacency → Name → Name → List Name → Result Adjacency Fault
-ending_run g u v (word ∷ []) = weight_run g u v (weight_in word)
+ending_run g u v (word ∷ []) = weight_run g u v (spelled_weight word)
 ending_run g u v words = Err BadRow
 
 abbrev pub edge_row_run : Adjacency → List Name → Result Adjacency Fault

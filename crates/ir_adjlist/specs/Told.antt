@@ -18,11 +18,11 @@ told_at line NoMemory = record { line = 0; kind = NoMemory }
 told_at line kind = record { line = line; kind = kind }
 
 -- the number of a kind
-abbrev pub code_of : Fault → ℕ
-code_of BadByte = 1
-code_of BadName = 2
-code_of BadRow = 3
-code_of BadWeight = 4
-code_of TooManyNodes = 5
-code_of TooManyEdges = 6
-code_of NoMemory = 7
+abbrev pub text_code : Fault → ℕ
+text_code BadByte = 1
+text_code BadName = 2
+text_code BadRow = 3
+text_code BadWeight = 4
+text_code TooManyNodes = 5
+text_code TooManyEdges = 6
+text_code NoMemory = 7

@@ -5,8 +5,8 @@ use Rattle.ir_model.specs.Graph.{Name, Neighbors, Adjacency, among, names, neigh
 use Rattle.ir_adjlist.specs.Written.{row_text, edge_text}
 
 -- each word behind a space
-abbrev pub spaced : List Name → List ℕ
-spaced words = flat_map (λ word. 32 ∷ word) words
+abbrev pub spaced_words : List Name → List ℕ
+spaced_words words = flat_map (λ word. 32 ∷ word) words
 
 -- those that are none of the first nodes
 abbrev pub unwritten : Adjacency → ℕ → List Name → List Name

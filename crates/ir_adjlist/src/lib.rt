@@ -34,11 +34,11 @@ pub struct TextError {
 }
 
 impl TextError {
-    ghost use Rattle.ir_adjlist.specs.Told.{code_of};
+    ghost use Rattle.ir_adjlist.specs.Told.{text_code};
 
     /// The number of the kind, from 1 for `BadByte` to 7 for `NoMemory`. For users of the library.
     pub fn code(self) -> u8
-        ensures { result ≡ code_of self.kind }
+        ensures { result ≡ text_code self.kind }
     {
         self.kind as u8
     }

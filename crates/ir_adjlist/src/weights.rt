@@ -2,7 +2,7 @@
 ghost use Rattle.std.specs.Prelude.{◌≡◌, ◌+◌, ◌==◌, min};
 ghost use Rattle.std.specs.List.{list_all};
 ghost use Rattle.ir_model.specs.declared.TheConstants.{MAX_WEIGHT};
-ghost use Rattle.ir_model.specs.Edgelist.{value_of, is_zero_fraction, whole, is_decimal, weight_in};
+ghost use Rattle.ir_model.specs.Edgelist.{value_of, is_zero_fraction, whole, is_decimal, spelled_weight};
 
 use crate::digits::{all_digits, capped_value};
 use crate::scan;
@@ -38,7 +38,7 @@ fn capped_whole(word: &[u8]) -> u32
 
 /// The weight that the word spells, from 1 to 65,535, where it spells one.
 pub fn read_weight(word: &[u8]) -> Option<u32>
-    ensures { result ≡ weight_in word.now }
+    ensures { result ≡ spelled_weight word.now }
 {
     if !is_decimal(word) {
         return None;

@@ -5,7 +5,7 @@ ghost use Rattle.std.specs.Map.{keys_of};
 ghost use Rattle.std.specs.Option.{option_to_list};
 ghost use Rattle.ir_model.specs.Graph.{Name, among, names, neighbors, weight_of};
 ghost use Rattle.ir_adjlist.specs.Written.{row_text, edge_text};
-ghost use Rattle.ir_adjlist.specs.Writing.{spaced, unwritten, node_row, unwritten_links, node_edges};
+ghost use Rattle.ir_adjlist.specs.Writing.{spaced_words, unwritten, node_row, unwritten_links, node_edges};
 
 use ir_graph::Graph;
 use std::alloc::{AllocError, Global};
@@ -43,7 +43,7 @@ fn put_target(
     target: &str,
 ) -> Result<(), AllocError>
     ensures { OnOk result (text.new.items ≡ text.old.items
-        ++ spaced (unwritten graph.now count (target.now ∷ []))) }
+        ++ spaced_words (unwritten graph.now count (target.now ∷ []))) }
 {
     if is_written(graph, count, target) {
         return Ok(());
@@ -60,7 +60,7 @@ fn put_target_at(
     place: usize,
 ) -> Result<(), AllocError>
     ensures { OnOk result (text.new.items ≡ text.old.items
-        ++ spaced (unwritten graph.now count
+        ++ spaced_words (unwritten graph.now count
         (option_to_list (slice_get (keys_of (neighbors graph.now source.now)) place)))) }
 {
     match graph.neighbor(source, place) {
@@ -77,7 +77,7 @@ fn put_targets(
     source: &str,
 ) -> Result<(), AllocError>
     ensures { OnOk result (text.new.items ≡ text.old.items
-        ++ spaced (unwritten graph.now count (keys_of (neighbors graph.now source.now)))) }
+        ++ spaced_words (unwritten graph.now count (keys_of (neighbors graph.now source.now)))) }
 {
     for place in 0..most_neighbors(graph, source) {
         put_target_at(text, graph, count, source, place)?;

@@ -1,6 +1,6 @@
 //! The registry and the board over the path a, b, c, whose two links have weight 1.
 ghost use Rattle.std.specs.Prelude.{◌≡◌, ◌≤◌, ◌<◌, length, All, IfOk, IfSome};
-ghost use Rattle.ir_epochs.specs.Entries.{links_of, network_of, registry_of, IsSameOpening};
+ghost use Rattle.ir_epochs.specs.Entries.{opening_links, topology_of, registry_of, IsSameOpening};
 ghost use Rattle.ir_epochs.specs.Handles.{published, writer_board, reader_board, receipt_board};
 ghost use Rattle.ir_epochs.specs.Over.{IsOver};
 ghost use Rattle.ir_epochs.specs.Stamps.{IsOf, knows, registry_name};
@@ -105,7 +105,7 @@ fn two_threads_see_one_plan(rt: HostRuntime) {
 
 // Marks a link of the path, if its mark changes.
 fn mark<R: Wait + Drop>(writer: &mut BoardWriter<R>, link: u16, up: bool) -> Option<Receipt>
-    requires { links_of (published writer.old) ≡ 2 }
+    requires { opening_links (published writer.old) ≡ 2 }
     ensures opening { IsSameOpening (published writer.old) (published writer.new) }
     ensures same { writer_board writer.new ≡ writer_board writer.old }
     ensures receipt { IfSome result (λ t. receipt_board t ≡ writer_board writer.old) }
@@ -124,15 +124,15 @@ fn mark<R: Wait + Drop>(writer: &mut BoardWriter<R>, link: u16, up: bool) -> Opt
 
 // What is over links of the opening's network is over links of the board's.
 fn over_board<R: Wait + Drop>(writer: &BoardWriter<R>, opening: &Stamp, stamp: &Stamp)
-    requires network { network_of (published writer.now) ≡ (knows opening.now).network }
-    requires over { IsOver (knows opening.now).network (knows stamp.now).network }
-    ensures { IsOver (network_of (published writer.now)) (knows stamp.now).network }
+    requires topology { topology_of (published writer.now) ≡ (knows opening.now).topology }
+    requires over { IsOver (knows opening.now).topology (knows stamp.now).topology }
+    ensures { IsOver (topology_of (published writer.now)) (knows stamp.now).topology }
 {}
 
 // Installs an epoch over all links, if it is a new one.
 fn install<R: Wait + Drop>(writer: &mut BoardWriter<R>, stamp: Stamp) -> Option<Receipt>
     requires registry { registry_name stamp ≡ registry_of (published writer.old) }
-    requires over { IsOver (network_of (published writer.old)) (knows stamp).network }
+    requires over { IsOver (topology_of (published writer.old)) (knows stamp).topology }
     ensures same { writer_board writer.new ≡ writer_board writer.old }
     ensures receipt { IfSome result (λ t. receipt_board t ≡ writer_board writer.old) }
 {
@@ -148,7 +148,7 @@ fn later(registry: &Registry, alloc: Global, opening: &Stamp, epoch: u32) -> Opt
     requires opening { IsOf registry.now opening.now }
     requires epoch { (1 ≤ epoch) × (epoch ≤ 64) }
     ensures registered { IfSome result (λ s. IsOf registry.now s × (s.epoch ≡ epoch)) }
-    ensures over { IfSome result (λ s. IsOver (knows opening.now).network (knows s).network) }
+    ensures over { IfSome result (λ s. IsOver (knows opening.now).topology (knows s).topology) }
 {
     let whole = registry.plan(opening).topology();
     if whole.links() != 2 {
@@ -173,8 +173,8 @@ fn opened_for<R: Wait + Drop>(
 ) -> Option<(BoardWriter<R>, Vec<BoardReader>)>
     requires of { IsOf registry.now opening.now }
     requires epoch { opening.now.epoch ≡ 1 }
-    ensures links { IfSome result (λ b. links_of (published b.0) ≡ 2) }
-    ensures network { IfSome result (λ b. network_of (published b.0) ≡ (knows opening.now).network) }
+    ensures links { IfSome result (λ b. opening_links (published b.0) ≡ 2) }
+    ensures topology { IfSome result (λ b. topology_of (published b.0) ≡ (knows opening.now).topology) }
     ensures registry { IfSome result (λ b. registry_of (published b.0) ≡ registry_name opening.now) }
     ensures boards { IfSome result (λ b. All (λ x. reader_board x ≡ writer_board b.0) b.1.items) }
 {
@@ -200,8 +200,8 @@ fn opened_for_two<R: Wait + Drop>(
 ) -> Option<(BoardWriter<R>, BoardReader, BoardReader)>
     requires of { IsOf registry.now opening.now }
     requires epoch { opening.now.epoch ≡ 1 }
-    ensures links { IfSome result (λ b. links_of (published b.0) ≡ 2) }
-    ensures network { IfSome result (λ b. network_of (published b.0) ≡ (knows opening.now).network) }
+    ensures links { IfSome result (λ b. opening_links (published b.0) ≡ 2) }
+    ensures topology { IfSome result (λ b. topology_of (published b.0) ≡ (knows opening.now).topology) }
     ensures registry { IfSome result (λ b. registry_of (published b.0) ≡ registry_name opening.now) }
     ensures board { IfSome result (λ b. reader_board b.1 ≡ writer_board b.0) }
 {
@@ -223,7 +223,7 @@ fn marked_for_two<R: Wait + Drop>(
     link: u16,
     up: bool,
 ) -> Option<[Board; 3]>
-    requires links { links_of (published writer.old) ≡ 2 }
+    requires links { opening_links (published writer.old) ≡ 2 }
     requires told { reader_board told.old ≡ writer_board writer.old }
     ensures opening { IsSameOpening (published writer.old) (published writer.new) }
     ensures writer { writer_board writer.new ≡ writer_board writer.old }
@@ -242,7 +242,7 @@ fn reads_each<R: Wait + Drop>(
     untold: &mut BoardReader,
     changes: u32,
 ) -> bool
-    requires links { links_of (published writer.old) ≡ 2 }
+    requires links { opening_links (published writer.old) ≡ 2 }
     requires told { reader_board told.old ≡ writer_board writer.old }
 {
     for k in 0..changes {
@@ -369,7 +369,7 @@ fn a_board_that_nobody_reads_is_changed(rt: HostRuntime) {
 
 // The first link goes down.
 fn cut<R: Wait + Drop>(mut writer: BoardWriter<R>) -> (BoardWriter<R>, Option<Receipt>)
-    requires { links_of (published writer) ≡ 2 }
+    requires { opening_links (published writer) ≡ 2 }
 {
     let receipt = mark(&mut writer, 0, false);
     (writer, receipt)
@@ -389,7 +389,7 @@ fn read_beside_a_change<R: Threads + Wait + Sync>(rt: &R, alloc: Global) -> Opti
     let reader = readers.pop()?;
     let there = move || read_twice(reader);
     let here = move || -> (BoardWriter<&R>, Option<Receipt>)
-        requires { links_of (published writer) ≡ 2 }
+        requires { opening_links (published writer) ≡ 2 }
     { cut(writer) };
     let ((mut reader, one, two), (_writer, receipt)) = thread::join(rt, there, here);
     let _changed = receipt?;

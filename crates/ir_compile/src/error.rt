@@ -1,5 +1,5 @@
 ghost use Rattle.std.specs.Prelude.{◌≡◌};
-ghost use Rattle.ir_compile.specs.Code.{code_of};
+ghost use Rattle.ir_compile.specs.Code.{compile_code};
 ghost use Rattle.ir_compile.specs.declared.error.CompileError.TheVariants.{NoMemory};
 
 use std::alloc::AllocError;
@@ -19,7 +19,7 @@ pub enum CompileError {
 impl CompileError {
     /// The number of the refusal. For users of the library.
     pub fn code(self) -> u8
-        ensures { result ≡ code_of self }
+        ensures { result ≡ compile_code self }
     {
         self as u8
     }

@@ -8,7 +8,7 @@ use Rattle.std.proofs.lemmas.List.Sums.{sum_by-cons, get_or-le-sum_by}
 use Rattle.ir_worker.specs.declared.node.Node.{Node}
 use Rattle.ir_worker.specs.declared.parcel.Outcome.{Outcome}
 use Rattle.ir_worker.specs.Account.{Head, head_of, one}
-use Rattle.ir_worker.specs.Seen.{SeenParcel}
+use Rattle.ir_worker.specs.Seen.{Parcel}
 use Rattle.ir_worker.specs.Wires.{Out}
 use Rattle.ir_control.specs.declared.injector.Accepted.{Accepted}
 use Rattle.ir_control.specs.declared.injector.Injector.{Injector}
@@ -22,7 +22,7 @@ use Rattle.ir_control.proofs.Once.{injected_once}
 use Rattle.ir_control.proofs.Slotted.{full_at}
 use Rattle.ir_control.proofs.Wiring.{sum_nothing, map_eq}
 
-abbrev pub head_weight : (Head → Bool) → SeenParcel → ℕ
+abbrev pub head_weight : (Head → Bool) → Parcel → ℕ
 head_weight p x = one p (head_of x.journey)
 
 abbrev pub outcome_weight : (Head → Bool) → Outcome → ℕ
@@ -35,7 +35,7 @@ nodes_balanced p (n ∷ ns) =
     let rest = nodes_balanced p ns in
     omega (arith, here, rest, sum_by-cons (node_taken (head_weight p)) n ns, sum_by-cons (node_sent (head_weight p)) n ns, sum_by-cons (node_settled (outcome_weight p)) n ns)
 
-module _ (nodes : List Node) (injector : Injector) (outs : List Out) (outs_are : outs ≡ injector.outs.items) (settled : (Outcome → ℕ) → ℕ) (left : List SeenParcel) (gathered : IsGathered nodes outs settled left) where
+module _ (nodes : List Node) (injector : Injector) (outs : List Out) (outs_are : outs ≡ injector.outs.items) (settled : (Outcome → ℕ) → ℕ) (left : List Parcel) (gathered : IsGathered nodes outs settled left) where
   pub conserved : (p : Head → Bool) → settled (outcome_weight p) + sum_by (head_weight p) left ≡ times_injected p injector.accepted.items
   conserved p =
       let a = gathered.settlings (outcome_weight p) in
@@ -45,7 +45,7 @@ module _ (nodes : List Node) (injector : Injector) (outs : List Out) (outs_are :
       omega (arith, a, b, balanced, sent)
 
   -- each number below the count was settled once or is left once
-  pub once_each : (i : ℕ) → settled (hit outcome_number i) + sum_by (hit (λ (x : SeenParcel). x.journey.id) i) left ≡ once (length injector.accepted.items) i
+  pub once_each : (i : ℕ) → settled (hit outcome_number i) + sum_by (hit (λ (x : Parcel). x.journey.id) i) left ≡ once (length injector.accepted.items) i
   once_each i = conserved (λ h. h.id == i) ∙ injected_once injector.accepted.items injector.numbered i
 
 module _ (accepted : List Accepted) (numbered : AreNumbered accepted) (os : List Outcome) (counts : (p : Head → Bool) → sum_by (outcome_weight p) os ≡ times_injected p accepted) where

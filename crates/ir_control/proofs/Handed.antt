@@ -5,103 +5,103 @@ use Rattle.std.proofs.lemmas.Bool.{eqb-true, eqb-false}
 use Rattle.std.proofs.lemmas.Option.{same_Some, none-some, slice_get_within, slice_get_read}
 use Rattle.std.proofs.lemmas.List.{length_push, take_more}
 use Rattle.ir_core.proofs.Lists.{get_push, get_push_here, get_push_before, get_set_same, get_set_other}
-use Rattle.ir_links.specs.Ends.{Line, Sending, Taking}
+use Rattle.ir_links.specs.Ends.{Channel, Sender, Taker}
 use Rattle.ir_control.specs.Fresh.{AreFreshOuts, AreFreshIns, AreOutsAt, AreInsAt}
 
 take_longer : {X : Type 0} (xs : List X) (k : ℕ) (x : X) → k < length xs → x ≡ get_or xs k x → take (k + 1) xs ≡ take k xs ++ x ∷ []
 take_longer xs k x lt read = take_more xs k x lt ∙ ap (λ y. take k xs ++ y ∷ []) (sym read)
 
 module _ {P T : Type 0} where
-  outs_push : (lines : List (Line P)) (slots : List (Option (Sending P T))) (line : Line P) (s : Sending P T) → AreFreshOuts lines slots → s.line ≡ line → s.sent ≡ []
+  outs_push : (lines : List (Channel P)) (slots : List (Option (Sender P T))) (line : Channel P) (s : Sender P T) → AreFreshOuts lines slots → s.line ≡ line → s.sent ≡ []
       → AreFreshOuts (lines ++ line ∷ []) (slots ++ Some s ∷ [])
   outs_push lines slots line s fresh is none = record {
     count = (let a = length_push lines line in let b = length_push slots (Some s) in let n = fresh.count in omega (arith, a, b, n));
     each = λ k x got. elim (get_push slots k (Some s) (Some x) got) [
       | inl e ↦
           (let same : s ≡ x = same_Some s x e.1 in
-          (ap (slice_get (lines ++ line ∷ [])) (e.0 ∙ fresh.count) ∙ get_push_here lines line ∙ ap Some (sym is ∙ ap (λ (y : Sending P T). y.line) same), ap (λ (y : Sending P T). y.sent) (sym same) ∙ none))
+          (ap (slice_get (lines ++ line ∷ [])) (e.0 ∙ fresh.count) ∙ get_push_here lines line ∙ ap Some (sym is ∙ ap (λ (y : Sender P T). y.line) same), ap (λ (y : Sender P T). y.sent) (sym same) ∙ none))
       | inr e ↦
           (let was = fresh.each k x e.1 in
           (get_push_before lines k line (slice_get_within lines k x.line was.0) ∙ was.0, was.1))
     ];
   }
 
-  ins_push : (lines : List (Line P)) (slots : List (Option (Taking P T))) (line : Line P) (t : Taking P T) → AreFreshIns lines slots → t.line ≡ line → t.taken ≡ []
+  ins_push : (lines : List (Channel P)) (slots : List (Option (Taker P T))) (line : Channel P) (t : Taker P T) → AreFreshIns lines slots → t.line ≡ line → t.taken ≡ []
       → AreFreshIns (lines ++ line ∷ []) (slots ++ Some t ∷ [])
   ins_push lines slots line t fresh is none = record {
     count = (let a = length_push lines line in let b = length_push slots (Some t) in let n = fresh.count in omega (arith, a, b, n));
     each = λ k x got. elim (get_push slots k (Some t) (Some x) got) [
       | inl e ↦
           (let same : t ≡ x = same_Some t x e.1 in
-          (ap (slice_get (lines ++ line ∷ [])) (e.0 ∙ fresh.count) ∙ get_push_here lines line ∙ ap Some (sym is ∙ ap (λ (y : Taking P T). y.line) same), ap (λ (y : Taking P T). y.taken) (sym same) ∙ none))
+          (ap (slice_get (lines ++ line ∷ [])) (e.0 ∙ fresh.count) ∙ get_push_here lines line ∙ ap Some (sym is ∙ ap (λ (y : Taker P T). y.line) same), ap (λ (y : Taker P T). y.taken) (sym same) ∙ none))
       | inr e ↦
           (let was = fresh.each k x e.1 in
           (get_push_before lines k line (slice_get_within lines k x.line was.0) ∙ was.0, was.1))
     ];
   }
 
-  pub outs_more : (lines : List (Line P)) (k : ℕ) (line : Line P) (slots after : List (Option (Sending P T))) (s : Sending P T) → AreFreshOuts (take k lines) slots → k < length lines → line ≡ get_or lines k line
+  pub outs_more : (lines : List (Channel P)) (k : ℕ) (line : Channel P) (slots after : List (Option (Sender P T))) (s : Sender P T) → AreFreshOuts (take k lines) slots → k < length lines → line ≡ get_or lines k line
       → s ≡ record { line = line; sent = [] } → after ≡ slots ++ Some s ∷ [] → AreFreshOuts (take (k + 1) lines) after
   outs_more lines k line slots after s fresh lt read is e =
-      subst (λ (after : List (Option (Sending P T))). AreFreshOuts (take (k + 1) lines) after) (sym e)
-      (subst (λ (ls : List (Line P)). AreFreshOuts ls (slots ++ Some s ∷ [])) (sym (take_longer lines k line lt read))
-      (outs_push (take k lines) slots line s fresh (ap (λ (y : Sending P T). y.line) is) (ap (λ (y : Sending P T). y.sent) is)))
+      subst (λ (after : List (Option (Sender P T))). AreFreshOuts (take (k + 1) lines) after) (sym e)
+      (subst (λ (ls : List (Channel P)). AreFreshOuts ls (slots ++ Some s ∷ [])) (sym (take_longer lines k line lt read))
+      (outs_push (take k lines) slots line s fresh (ap (λ (y : Sender P T). y.line) is) (ap (λ (y : Sender P T). y.sent) is)))
 
-  pub ins_more : (lines : List (Line P)) (k : ℕ) (line : Line P) (slots after : List (Option (Taking P T))) (t : Taking P T) → AreFreshIns (take k lines) slots → k < length lines → line ≡ get_or lines k line
+  pub ins_more : (lines : List (Channel P)) (k : ℕ) (line : Channel P) (slots after : List (Option (Taker P T))) (t : Taker P T) → AreFreshIns (take k lines) slots → k < length lines → line ≡ get_or lines k line
       → t ≡ record { line = line; taken = [] } → after ≡ slots ++ Some t ∷ [] → AreFreshIns (take (k + 1) lines) after
   ins_more lines k line slots after t fresh lt read is e =
-      subst (λ (after : List (Option (Taking P T))). AreFreshIns (take (k + 1) lines) after) (sym e)
-      (subst (λ (ls : List (Line P)). AreFreshIns ls (slots ++ Some t ∷ [])) (sym (take_longer lines k line lt read))
-      (ins_push (take k lines) slots line t fresh (ap (λ (y : Taking P T). y.line) is) (ap (λ (y : Taking P T). y.taken) is)))
+      subst (λ (after : List (Option (Taker P T))). AreFreshIns (take (k + 1) lines) after) (sym e)
+      (subst (λ (ls : List (Channel P)). AreFreshIns ls (slots ++ Some t ∷ [])) (sym (take_longer lines k line lt read))
+      (ins_push (take k lines) slots line t fresh (ap (λ (y : Taker P T). y.line) is) (ap (λ (y : Taker P T). y.taken) is)))
 
-  pub outs_taken : (lines : List (Line P)) (slots : List (Option (Sending P T))) (i : ℕ) (new : Option (Sending P T)) → i < length slots → new ≡ None → AreFreshOuts lines slots → AreFreshOuts lines (slice_set slots i new)
+  pub outs_taken : (lines : List (Channel P)) (slots : List (Option (Sender P T))) (i : ℕ) (new : Option (Sender P T)) → i < length slots → new ≡ None → AreFreshOuts lines slots → AreFreshOuts lines (slice_set slots i new)
   outs_taken lines slots i new lt none fresh = record {
     count = length-set slots i new ∙ fresh.count;
     each = λ k s got. go k s got (eqb k i) refl;
   } where
-    go : (k : ℕ) (s : Sending P T) → slice_get (slice_set slots i new) k ≡ Some (Some s) → (b : Bool) → eqb k i ≡ b → (slice_get lines k ≡ Some s.line) × (s.sent ≡ [])
+    go : (k : ℕ) (s : Sender P T) → slice_get (slice_set slots i new) k ≡ Some (Some s) → (b : Bool) → eqb k i ≡ b → (slice_get lines k ≡ Some s.line) × (s.sent ≡ [])
     go k s got true e =
         let there : slice_get (slice_set slots i new) k ≡ Some new = ap (slice_get (slice_set slots i new)) (eqb-true k i e) ∙ get_set_same slots i new lt in
         absurd (none-some s (sym none ∙ same_Some new (Some s) (sym there ∙ got)))
     go k s got false e = fresh.each k s (sym (get_set_other slots i k new (eqb-false k i e)) ∙ got)
 
-  pub ins_taken : (lines : List (Line P)) (slots : List (Option (Taking P T))) (i : ℕ) (new : Option (Taking P T)) → i < length slots → new ≡ None → AreFreshIns lines slots → AreFreshIns lines (slice_set slots i new)
+  pub ins_taken : (lines : List (Channel P)) (slots : List (Option (Taker P T))) (i : ℕ) (new : Option (Taker P T)) → i < length slots → new ≡ None → AreFreshIns lines slots → AreFreshIns lines (slice_set slots i new)
   ins_taken lines slots i new lt none fresh = record {
     count = length-set slots i new ∙ fresh.count;
     each = λ k s got. go k s got (eqb k i) refl;
   } where
-    go : (k : ℕ) (s : Taking P T) → slice_get (slice_set slots i new) k ≡ Some (Some s) → (b : Bool) → eqb k i ≡ b → (slice_get lines k ≡ Some s.line) × (s.taken ≡ [])
+    go : (k : ℕ) (s : Taker P T) → slice_get (slice_set slots i new) k ≡ Some (Some s) → (b : Bool) → eqb k i ≡ b → (slice_get lines k ≡ Some s.line) × (s.taken ≡ [])
     go k s got true e =
         let there : slice_get (slice_set slots i new) k ≡ Some new = ap (slice_get (slice_set slots i new)) (eqb-true k i e) ∙ get_set_same slots i new lt in
         absurd (none-some s (sym none ∙ same_Some new (Some s) (sym there ∙ got)))
     go k s got false e = fresh.each k s (sym (get_set_other slots i k new (eqb-false k i e)) ∙ got)
 
-  module _ (lines : List (Line P)) (slots : List (Option (Sending P T))) (i : ℕ) (x : Option (Sending P T)) (s : Sending P T) (fresh : AreFreshOuts lines slots) (lt : i < length slots) (read : x ≡ get_or slots i x) (is : Some s ≡ x) where
+  module _ (lines : List (Channel P)) (slots : List (Option (Sender P T))) (i : ℕ) (x : Option (Sender P T)) (s : Sender P T) (fresh : AreFreshOuts lines slots) (lt : i < length slots) (read : x ≡ get_or slots i x) (is : Some s ≡ x) where
     pub out_there : (slice_get lines i ≡ Some s.line) × (s.sent ≡ [])
     out_there = fresh.each i s (slice_get_read slots (length slots) i x refl lt read ∙ ap Some (sym is))
 
-    pub outs_at_more : (first p : ℕ) (outs after : List (Sending P T)) → i ≡ first + p → AreOutsAt lines first p outs → after ≡ outs ++ s ∷ [] → AreOutsAt lines first (p + 1) after
-    outs_at_more first p outs after i_is at e = subst (λ (after : List (Sending P T)). AreOutsAt lines first (p + 1) after) (sym e) (record {
+    pub outs_at_more : (first p : ℕ) (outs after : List (Sender P T)) → i ≡ first + p → AreOutsAt lines first p outs → after ≡ outs ++ s ∷ [] → AreOutsAt lines first (p + 1) after
+    outs_at_more first p outs after i_is at e = subst (λ (after : List (Sender P T)). AreOutsAt lines first (p + 1) after) (sym e) (record {
       count = (let n = length_push outs s in let m = at.count in omega (arith, n, m));
       each = λ q y got. elim (get_push outs q s y got) [
         | inl h ↦
             (let place : i ≡ first + q = (let a = h.0 in let b = at.count in omega (arith, i_is, a, b)) in
-            (ap (slice_get lines) (sym place) ∙ out_there.0 ∙ ap (λ (z : Sending P T). Some z.line) h.1, ap (λ (z : Sending P T). z.sent) (sym h.1) ∙ out_there.1))
+            (ap (slice_get lines) (sym place) ∙ out_there.0 ∙ ap (λ (z : Sender P T). Some z.line) h.1, ap (λ (z : Sender P T). z.sent) (sym h.1) ∙ out_there.1))
         | inr h ↦ at.each q y h.1
       ];
     })
 
-  module _ (lines : List (Line P)) (slots : List (Option (Taking P T))) (i : ℕ) (x : Option (Taking P T)) (t : Taking P T) (fresh : AreFreshIns lines slots) (lt : i < length slots) (read : x ≡ get_or slots i x) (is : Some t ≡ x) where
+  module _ (lines : List (Channel P)) (slots : List (Option (Taker P T))) (i : ℕ) (x : Option (Taker P T)) (t : Taker P T) (fresh : AreFreshIns lines slots) (lt : i < length slots) (read : x ≡ get_or slots i x) (is : Some t ≡ x) where
     pub in_there : (slice_get lines i ≡ Some t.line) × (t.taken ≡ [])
     in_there = fresh.each i t (slice_get_read slots (length slots) i x refl lt read ∙ ap Some (sym is))
 
-    pub ins_at_more : (peers : List ℕ) (first p : ℕ) (ins after : List (Taking P T)) → i ≡ slice_index peers (first + p) → AreInsAt lines peers first p ins → after ≡ ins ++ t ∷ [] → AreInsAt lines peers first (p + 1) after
-    ins_at_more peers first p ins after i_is at e = subst (λ (after : List (Taking P T)). AreInsAt lines peers first (p + 1) after) (sym e) (record {
+    pub ins_at_more : (peers : List ℕ) (first p : ℕ) (ins after : List (Taker P T)) → i ≡ slice_index peers (first + p) → AreInsAt lines peers first p ins → after ≡ ins ++ t ∷ [] → AreInsAt lines peers first (p + 1) after
+    ins_at_more peers first p ins after i_is at e = subst (λ (after : List (Taker P T)). AreInsAt lines peers first (p + 1) after) (sym e) (record {
       count = (let n = length_push ins t in let m = at.count in omega (arith, n, m));
       each = λ q y got. elim (get_push ins q t y got) [
         | inl h ↦
             (let place : i ≡ slice_index peers (first + q) = i_is ∙ ap (λ k. slice_index peers (first + k)) (sym (h.0 ∙ at.count)) in
-            (ap (slice_get lines) (sym place) ∙ in_there.0 ∙ ap (λ (z : Taking P T). Some z.line) h.1, ap (λ (z : Taking P T). z.taken) (sym h.1) ∙ in_there.1))
+            (ap (slice_get lines) (sym place) ∙ in_there.0 ∙ ap (λ (z : Taker P T). Some z.line) h.1, ap (λ (z : Taker P T). z.taken) (sym h.1) ∙ in_there.1))
         | inr h ↦ at.each q y h.1
       ];
     })

@@ -4,11 +4,11 @@ use Rattle.std.proofs.Common.{arith, sym, ap, ◌∙◌, inl, inr}
 use Rattle.std.proofs.lemmas.List.Sums.{sum_by_push, sum_by-set}
 use Rattle.std.proofs.lemmas.Option.{get_or_from_slice_get, slice_get_within}
 use Rattle.ir_core.proofs.Lists.{get_push}
-use Rattle.ir_links.specs.Ends.{Sending}
+use Rattle.ir_links.specs.Ends.{Sender}
 use Rattle.ir_worker.specs.declared.parcel.Place.{Place}
-use Rattle.ir_worker.specs.Seen.{SeenParcel}
+use Rattle.ir_worker.specs.Seen.{Parcel}
 use Rattle.ir_core.specs.declared.packet.Restamp.{Restamp}
-use Rattle.ir_core.specs.Journey.{Journey}
+use Rattle.ir_core.specs.Record.{Record}
 use Rattle.ir_worker.specs.Account.{Head, one, weigh, weigh_sent, times_sent, restamps_with, head_of}
 use Rattle.ir_worker.proofs.Counts.{head_weighs}
 use Rattle.ir_control.specs.declared.injector.Accepted.{Accepted}
@@ -26,18 +26,18 @@ numbered_more xs ys a e id_is numbered = λ k b got.
     ]
 
 -- a parcel that was sent weighs with those that were
-sent_more : (before after : List (Sending Place SeenParcel)) (u : ℕ) (x : SeenParcel) → SentTo before after u x → (w : Journey → ℕ) → weigh_sent w after ≡ weigh_sent w before + w x.journey
+sent_more : (before after : List (Sender Place Parcel)) (u : ℕ) (x : Parcel) → SentTo before after u x → (w : Record → ℕ) → weigh_sent w after ≡ weigh_sent w before + w x.journey
 sent_more before after u x sent w =
     let s = sent.0 in
-    let new : Sending Place SeenParcel = record s { sent = s.sent ++ x ∷ [] } in
+    let new : Sender Place Parcel = record s { sent = s.sent ++ x ∷ [] } in
     let within = slice_get_within before u s sent.1 in
-    let set = sum_by-set (λ (s : Sending Place SeenParcel). weigh w s.sent) before u new s within in
-    let read = ap (λ (s : Sending Place SeenParcel). weigh w s.sent) (get_or_from_slice_get before u s s sent.1) in
+    let set = sum_by-set (λ (s : Sender Place Parcel). weigh w s.sent) before u new s within in
+    let read = ap (λ (s : Sender Place Parcel). weigh w s.sent) (get_or_from_slice_get before u s s sent.1) in
     let after_is = ap (weigh_sent w) sent.2 in
-    let more = sum_by_push (λ (x : SeenParcel). w x.journey) s.sent x in
+    let more = sum_by_push (λ (x : Parcel). w x.journey) s.sent x in
     omega (arith, set, read, after_is, more)
 
-pub account_more : (before after : List (Sending Place SeenParcel)) (u : ℕ) (x : SeenParcel) (xs ys : List Accepted) (a : Accepted)
+pub account_more : (before after : List (Sender Place Parcel)) (u : ℕ) (x : Parcel) (xs ys : List Accepted) (a : Accepted)
     → SentTo before after u x → ys ≡ xs ++ a ∷ [] → head_of x.journey ≡ head_at a → ((p : Head → Bool) → times_sent p before ≡ times_injected p xs)
     → (p : Head → Bool) → times_sent p after ≡ times_injected p ys
 account_more before after u x xs ys a sent e same account p =
@@ -48,7 +48,7 @@ account_more before after u x xs ys a sent e same account p =
     omega (arith, more, injected, heads, was)
 
 -- a parcel that had no restamp adds none
-pub fresh_more : (before after : List (Sending Place SeenParcel)) (u : ℕ) (x : SeenParcel) → SentTo before after u x → x.journey.restamps ≡ []
+pub fresh_more : (before after : List (Sender Place Parcel)) (u : ℕ) (x : Parcel) → SentTo before after u x → x.journey.restamps ≡ []
     → ((p : ℕ → Bool) → weigh_sent (restamps_with p) before ≡ 0) → (p : ℕ → Bool) → weigh_sent (restamps_with p) after ≡ 0
 fresh_more before after u x sent none fresh p =
     let more = sent_more before after u x sent (restamps_with p) in

@@ -4,8 +4,8 @@ use Rattle.std.proofs.Common.{refl, arith, sym, ap, ◌∙◌, subst}
 use Rattle.std.proofs.lemmas.Bool.{ltb-false}
 use Rattle.std.proofs.lemmas.Option.{none-some, slice_get-get_or, get_or_from_slice_get, slice_get_within}
 use Rattle.std.proofs.lemmas.List.{length-map}
-use Rattle.ir_model.specs.Network.{node_count}
-use Rattle.ir_links.specs.Ends.{Line, Sending, Taking}
+use Rattle.ir_model.specs.Topology.{node_count}
+use Rattle.ir_links.specs.Ends.{Channel, Sender, Taker}
 use Rattle.ir_worker.specs.declared.node.Node.{Node}
 use Rattle.ir_worker.specs.declared.parcel.Place.{Place}
 use Rattle.ir_worker.specs.Account.{lines_out}
@@ -15,7 +15,7 @@ use Rattle.ir_control.specs.Pairs.{ArePeers, ArePaired, slot_line, line_at}
 use Rattle.ir_control.specs.Parts.{IsNodeOf, AreNodesOf, node_number}
 use Rattle.ir_control.specs.Places.{offset, way_count}
 use Rattle.ir_control.specs.Reported.{AreAllThere}
-use Rattle.ir_control.specs.Rowed.{AllGet, AreRows, AreSlotsFrom}
+use Rattle.ir_control.specs.Rowed.{AllGet, AreEndRows, AreSlotsFrom}
 use Rattle.ir_control.specs.Slots.{slot_weight, hit, once, AllAt, AllIn}
 use Rattle.ir_control.specs.Wired.{AreEntries}
 use Rattle.ir_control.proofs.Rows.{offset_all, place_of}
@@ -59,13 +59,13 @@ all_slots net nodes slots all len at kind weighs = record {
 }
 
 module _ {P T : Type 0} where
-  line_of : (takers : List (Taking P T)) (k : ℕ) → k < length takers → (t : Taking P T) × (slice_get takers k ≡ Some t) × (line_at takers k ≡ Some t.line)
+  line_of : (takers : List (Taker P T)) (k : ℕ) → k < length takers → (t : Taker P T) × (slice_get takers k ≡ Some t) × (line_at takers k ≡ Some t.line)
   line_of [] k lt = absurd (omega (arith, lt))
   line_of (t ∷ ts) zero lt = (t, refl, refl)
   line_of (t ∷ ts) (suc k) lt = line_of ts k (omega (arith, lt))
 
   -- rows whose ends are of the channels of their places are paired
-  pub paired_at : (peers : List ℕ) (ways : List (Line P)) (slots : List (Option (Sending P T))) (takers : List (Taking P T)) → ArePeers peers → length slots ≡ length peers → length takers ≡ length peers
+  pub paired_at : (peers : List ℕ) (ways : List (Channel P)) (slots : List (Option (Sender P T))) (takers : List (Taker P T)) → ArePeers peers → length slots ≡ length peers → length takers ≡ length peers
       → AllGet (λ k slot. slice_get ways k ≡ slot_line slot) slots → AllGet (λ k t. slice_get ways (slice_index peers k) ≡ Some t.line) takers → ArePaired peers slots takers
   paired_at peers ways slots takers are outs ins out_lines in_lines = record {
     peers_are = are;
@@ -83,7 +83,7 @@ entries_paired n entries are = record {
   back = λ k lt. (let e = are.each k (let c = are.count in omega (arith, c, lt)) in ap (slice_index entries) e ∙ e);
 }
 
-pub lines_there : (inboxes : List (Line Place)) (outs : List Out) → lines_out outs ≡ inboxes → AllGet (λ k (slot : Option Out). slice_get inboxes k ≡ slot_line slot) (map (λ s. Some s) outs)
+pub lines_there : (inboxes : List (Channel Place)) (outs : List Out) → lines_out outs ≡ inboxes → AllGet (λ k (slot : Option Out). slice_get inboxes k ≡ slot_line slot) (map (λ s. Some s) outs)
 lines_there inboxes outs e = λ k slot got.
     (let s = slot_get (λ (s : Out). Some s) outs k slot got in
     ap (λ ls. slice_get ls k) (sym e) ∙ there outs k s.0 s.1 ∙ ap slot_line s.2) where
@@ -92,7 +92,7 @@ lines_there inboxes outs e = λ k slot got.
       there (x ∷ xs) zero s got = ap (λ (slot : Option Out). slot_line slot) got
       there (x ∷ xs) (suc k) s got = there xs k s got
 
-pub inboxes_paired : (net : Net) (outs : List Out) (inboxes takers : List In) (senders : List (Option Out)) → lines_out outs ≡ net.inboxes.items → AreRows net (node_count net.topology) inboxes takers senders
+pub inboxes_paired : (net : Net) (outs : List Out) (inboxes takers : List In) (senders : List (Option Out)) → lines_out outs ≡ net.inboxes.items → AreEndRows net (node_count net.topology) inboxes takers senders
     → ArePaired net.entries.items (map (λ s. Some s) outs) inboxes
 inboxes_paired net outs inboxes takers senders lines rows =
     let n = net.inboxes_are.count in
@@ -105,7 +105,7 @@ inboxes_paired net outs inboxes takers senders lines rows =
     (lines_there net.inboxes.items outs lines)
     (λ k t got. (let lt = slice_get_within inboxes k t got in ap (slice_get net.inboxes.items) (net.entries_are.each k (omega (arith, lt, q))) ∙ rows.inbox_lines k t got))
 
-pub ways_paired : (net : Net) (inboxes takers : List In) (senders : List (Option Out)) → AreRows net (node_count net.topology) inboxes takers senders → ArePaired net.peers.items senders takers
+pub ways_paired : (net : Net) (inboxes takers : List In) (senders : List (Option Out)) → AreEndRows net (node_count net.topology) inboxes takers senders → ArePaired net.peers.items senders takers
 ways_paired net inboxes takers senders rows =
     let all = offset_all net.topology in
     let n = net.ways_are.peer_count in
@@ -114,7 +114,7 @@ ways_paired net inboxes takers senders rows =
     paired_at net.peers.items net.ways.items senders takers net.ways_are.peers_are (omega (arith, all, n, a)) (omega (arith, all, n, b)) rows.out_lines rows.in_lines
 
 -- a way of a net is of the net
-way_is : (net : Net) (k : ℕ) (line : Line Place) → slice_get net.ways.items k ≡ Some line → (line.place.opening ≡ net.opening) × (line.place.restamps ≡ net.restamps)
+way_is : (net : Net) (k : ℕ) (line : Channel Place) → slice_get net.ways.items k ≡ Some line → (line.place.opening ≡ net.opening) × (line.place.restamps ≡ net.restamps)
 way_is net k line got =
     let lt = slice_get_within net.ways.items k line got in
     let n = net.ways_are.count in
@@ -122,7 +122,7 @@ way_is net k line got =
     let is = net.ways_are.out at.0 at.1 at.2 line at.3 (ap (slice_get net.ways.items) (sym at.4) ∙ got) in
     (ap (λ (p : Place). p.opening) is.place, ap (λ (p : Place). p.restamps) is.place)
 
-module _ (net : Net) (n : ℕ) (inboxes takers : List In) (senders : List (Option Out)) (rows : AreRows net n inboxes takers senders) where
+module _ (net : Net) (n : ℕ) (inboxes takers : List In) (senders : List (Option Out)) (rows : AreEndRows net n inboxes takers senders) where
   pub inboxes_placed : All (λ (t : In). t.line.place.opening ≡ net.opening) inboxes
   inboxes_placed = all_of_get (λ (t : In). t.line.place.opening ≡ net.opening) inboxes (λ k t got. ap (λ (p : Place). p.opening) (net.inboxes_are.each k t.line (rows.inbox_lines k t got)).place)
 

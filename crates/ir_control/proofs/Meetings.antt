@@ -5,42 +5,42 @@ use Rattle.std.proofs.lemmas.List.{append-nil}
 use Rattle.std.proofs.lemmas.Bool.{eqb-true, eqb-false}
 use Rattle.std.proofs.lemmas.List.{length-set, get_or-set_same, get_or-set_other, length_push, get_or_read}
 use Rattle.std.proofs.lemmas.List.Sums.{sum_by_push, sum_by-append, sum_by-set}
-use Rattle.ir_links.specs.Ends.{Line, Sending, Taking, Remaining}
+use Rattle.ir_links.specs.Ends.{Channel, Sender, Taker, Remains}
 use Rattle.ir_control.specs.Slots.{slot_sent, times_in_slots, weight_taken, left_in}
 use Rattle.ir_control.specs.Pairs.{ArePaired, slot_line, line_at}
 use Rattle.ir_control.proofs.Sums.{sum_of_none}
 
 module _ {P : Type 0} where
-  abbrev IsNothing : Option (Line P) → Type 0
+  abbrev IsNothing : Option (Channel P) → Type 0
   IsNothing None = Unit {0}
   IsNothing (Some l) = ⊥
 
 module _ {P T : Type 0} where
-  pub record IsSettling (slots_0 : List (Option (Sending P T))) (takers_0 : List (Taking P T)) (left_0 : List T)
-      (peers : List ℕ) (slots : List (Option (Sending P T))) (takers : List (Taking P T)) (left : List T) : Type 0 where
+  pub record IsSettling (slots_0 : List (Option (Sender P T))) (takers_0 : List (Taker P T)) (left_0 : List T)
+      (peers : List ℕ) (slots : List (Option (Sender P T))) (takers : List (Taker P T)) (left : List T) : Type 0 where
     pub paired : ArePaired peers slots takers
     pub account : (w : T → ℕ) → (times_in_slots w slots + sum_by w left) + weight_taken w takers_0 ≡ (times_in_slots w slots_0 + sum_by w left_0) + weight_taken w takers
 
-  line_at_push : (ts : List (Taking P T)) (t : Taking P T) → line_at (ts ++ t ∷ []) (length ts) ≡ Some t.line
+  line_at_push : (ts : List (Taker P T)) (t : Taker P T) → line_at (ts ++ t ∷ []) (length ts) ≡ Some t.line
   line_at_push [] t = refl
   line_at_push (x ∷ ts) t = line_at_push ts t
 
-  line_at_before : (ts : List (Taking P T)) (t : Taking P T) (k : ℕ) → k < length ts → line_at (ts ++ t ∷ []) k ≡ line_at ts k
+  line_at_before : (ts : List (Taker P T)) (t : Taker P T) (k : ℕ) → k < length ts → line_at (ts ++ t ∷ []) k ≡ line_at ts k
   line_at_before [] t k lt = absurd (omega (arith, lt))
   line_at_before (x ∷ ts) t zero lt = refl
   line_at_before (x ∷ ts) t (suc k) lt = line_at_before ts t k (omega (arith, lt))
 
-  holds_line : (slot : Option (Sending P T)) (line : Line P) → slot_line slot ≡ Some line → (s : Sending P T) → slot ≡ Some s → s.line ≡ line
+  holds_line : (slot : Option (Sender P T)) (line : Channel P) → slot_line slot ≡ Some line → (s : Sender P T) → slot ≡ Some s → s.line ≡ line
   holds_line slot line h s e = some_same (sym (ap slot_line e) ∙ h) where
     some_same : Some s.line ≡ Some line → s.line ≡ line
-    some_same e = ap (λ (o : Option (Line P)). elim o [ None ↦ line | Some l ↦ l ]) e
+    some_same e = ap (λ (o : Option (Channel P)). elim o [ None ↦ line | Some l ↦ l ]) e
 
-  holds_some : (slot : Option (Sending P T)) (line : Line P) → slot_line slot ≡ Some line → slot ≡ None → ⊥
+  holds_some : (slot : Option (Sender P T)) (line : Channel P) → slot_line slot ≡ Some line → slot ≡ None → ⊥
   holds_some slot line h e = differ (sym (ap slot_line e) ∙ h) where
     differ : None ≡ Some line → ⊥
-    differ e = subst (λ (o : Option (Line P)). IsNothing o) e tt
+    differ e = subst (λ (o : Option (Channel P)). IsNothing o) e tt
 
-  module _ (peers : List ℕ) (slots : List (Option (Sending P T))) (rest : List (Taking P T)) (t : Taking P T) (paired : ArePaired peers slots (rest ++ t ∷ [])) where
+  module _ (peers : List ℕ) (slots : List (Option (Sender P T))) (rest : List (Taker P T)) (t : Taker P T) (paired : ArePaired peers slots (rest ++ t ∷ [])) where
     pub last_below : length rest < length peers
     last_below = let len = length_push rest t in let most = paired.takers_len in omega (arith, len, most)
 
@@ -88,23 +88,23 @@ module _ {P T : Type 0} where
     }
 
   -- what a step of the loop reads: the slot x at the place of the last taker
-  module _ (slots_0 : List (Option (Sending P T))) (takers_0 : List (Taking P T)) (left_0 : List T)
-      (peers : List ℕ) (slots : List (Option (Sending P T))) (rest : List (Taking P T)) (t : Taking P T) (left : List T)
+  module _ (slots_0 : List (Option (Sender P T))) (takers_0 : List (Taker P T)) (left_0 : List T)
+      (peers : List ℕ) (slots : List (Option (Sender P T))) (rest : List (Taker P T)) (t : Taker P T) (left : List T)
       (settling : IsSettling slots_0 takers_0 left_0 peers slots (rest ++ t ∷ []) left)
-      (x : Option (Sending P T)) (read : x ≡ get_or slots (slice_index peers (length rest)) x) where
+      (x : Option (Sender P T)) (read : x ≡ get_or slots (slice_index peers (length rest)) x) where
     read_none : x ≡ slice_index_or slots (slice_index peers (length rest)) None
     read_none = get_or_read slots (slice_index peers (length rest)) x (place_below peers slots rest t settling.paired) read None
 
     line_of_x : slot_line x ≡ Some t.line
     line_of_x = ap slot_line read_none ∙ at_place peers slots rest t settling.paired
 
-    pub one_channel : (s : Sending P T) → x ≡ Some s → s.line ≡ t.line
+    pub one_channel : (s : Sender P T) → x ≡ Some s → s.line ≡ t.line
     one_channel = holds_line x t.line line_of_x
 
     pub never_empty : x ≡ None → ⊥
     never_empty = holds_some x t.line line_of_x
 
-    pub settled_one : (s : Sending P T) → x ≡ Some s → (more left_1 : List T) → s.sent ≡ t.taken ++ more → left_1 ≡ left ++ more
+    pub settled_one : (s : Sender P T) → x ≡ Some s → (more left_1 : List T) → s.sent ≡ t.taken ++ more → left_1 ≡ left ++ more
         → IsSettling slots_0 takers_0 left_0 peers (slice_set slots (slice_index peers (length rest)) None) rest left_1
     settled_one s is more left_1 sent appended = record {
       paired = paired_after peers slots rest t settling.paired;
@@ -114,12 +114,12 @@ module _ {P T : Type 0} where
           let was : slot_sent w (slice_index_or slots (slice_index peers (length rest)) None) ≡ sum_by w s.sent = ap (slot_sent w) (sym read_none ∙ is) in
           let split : sum_by w s.sent ≡ sum_by w t.taken + sum_by w more = ap (sum_by w) sent ∙ sum_by-append w t.taken more in
           let grown : sum_by w left_1 ≡ sum_by w left + sum_by w more = ap (sum_by w) appended ∙ sum_by-append w left more in
-          let pushed = sum_by_push (λ (t : Taking P T). sum_by w t.taken) rest t in
+          let pushed = sum_by_push (λ (t : Taker P T). sum_by w t.taken) rest t in
           omega (arith, before, put, was, split, grown, pushed));
     }
 
-  pub all_settled : (slots_0 : List (Option (Sending P T))) (takers_0 : List (Taking P T)) (left_0 : List T)
-      (peers : List ℕ) (slots : List (Option (Sending P T))) (left : List T)
+  pub all_settled : (slots_0 : List (Option (Sender P T))) (takers_0 : List (Taker P T)) (left_0 : List T)
+      (peers : List ℕ) (slots : List (Option (Sender P T))) (left : List T)
       → IsSettling slots_0 takers_0 left_0 peers slots [] left
       → (w : T → ℕ) → times_in_slots w slots_0 + sum_by w left_0 ≡ weight_taken w takers_0 + sum_by w left
   all_settled slots_0 takers_0 left_0 peers slots left settling w =
@@ -129,37 +129,37 @@ module _ {P T : Type 0} where
       omega (arith, account, none)
 
   -- the same, as the code reads it
-  module _ (slots_0 : List (Option (Sending P T))) (takers_0 : List (Taking P T)) (left_0 : List T)
-      (peers : List ℕ) (slots : List (Option (Sending P T))) (takers rest : List (Taking P T)) (t : Taking P T) (left : List T)
+  module _ (slots_0 : List (Option (Sender P T))) (takers_0 : List (Taker P T)) (left_0 : List T)
+      (peers : List ℕ) (slots : List (Option (Sender P T))) (takers rest : List (Taker P T)) (t : Taker P T) (left : List T)
       (settling : IsSettling slots_0 takers_0 left_0 peers slots takers left) (popped : takers ≡ rest ++ t ∷ [])
       (q : ℕ) (q_is : q ≡ length rest)
-      (x : Option (Sending P T)) (read : x ≡ get_or slots (slice_index peers q) x) where
+      (x : Option (Sender P T)) (read : x ≡ get_or slots (slice_index peers q) x) where
     settling_at : IsSettling slots_0 takers_0 left_0 peers slots (rest ++ t ∷ []) left
-    settling_at = subst (λ (ts : List (Taking P T)). IsSettling slots_0 takers_0 left_0 peers slots ts left) popped settling
+    settling_at = subst (λ (ts : List (Taker P T)). IsSettling slots_0 takers_0 left_0 peers slots ts left) popped settling
 
     read_at : x ≡ get_or slots (slice_index peers (length rest)) x
     read_at = subst (λ (k : ℕ). x ≡ get_or slots (slice_index peers k) x) q_is read
 
-    pub one_channel_at : (s : Sending P T) → Some s ≡ x → s.line ≡ t.line
+    pub one_channel_at : (s : Sender P T) → Some s ≡ x → s.line ≡ t.line
     one_channel_at s is = one_channel slots_0 takers_0 left_0 peers slots rest t left settling_at x read_at s (sym is)
 
     pub never_empty_at : x ≡ None → ⊥
     never_empty_at = never_empty slots_0 takers_0 left_0 peers slots rest t left settling_at x read_at
 
-    pub settled_at : (s : Sending P T) → Some s ≡ x → (more left_1 : List T) → s.sent ≡ t.taken ++ more → left_1 ≡ left ++ more
-        → (new : Option (Sending P T)) → new ≡ None
+    pub settled_at : (s : Sender P T) → Some s ≡ x → (more left_1 : List T) → s.sent ≡ t.taken ++ more → left_1 ≡ left ++ more
+        → (new : Option (Sender P T)) → new ≡ None
         → IsSettling slots_0 takers_0 left_0 peers (slice_set slots (slice_index peers q) new) rest left_1
     settled_at s is more left_1 sent appended new new_is =
-        subst (λ (slot : Option (Sending P T)). IsSettling slots_0 takers_0 left_0 peers (slice_set slots (slice_index peers q) slot) rest left_1) (sym new_is)
+        subst (λ (slot : Option (Sender P T)). IsSettling slots_0 takers_0 left_0 peers (slice_set slots (slice_index peers q) slot) rest left_1) (sym new_is)
         (subst (λ (k : ℕ). IsSettling slots_0 takers_0 left_0 peers (slice_set slots (slice_index peers k) None) rest left_1) (sym q_is)
         (settled_one slots_0 takers_0 left_0 peers slots rest t left settling_at x read_at s (sym is) more left_1 sent appended))
 
   -- one channel more, and one taker less
-  pub room_after : (takers rest : List (Taking P T)) (t : Taking P T) (len len_1 room : ℕ) → takers ≡ rest ++ t ∷ [] → len + length takers ≤ room → len_1 ≡ len + 1 → len_1 + length rest ≤ room
+  pub room_after : (takers rest : List (Taker P T)) (t : Taker P T) (len len_1 room : ℕ) → takers ≡ rest ++ t ∷ [] → len + length takers ≤ room → len_1 ≡ len + 1 → len_1 + length rest ≤ room
   room_after takers rest t len len_1 room popped fits grown =
       let lengths : length takers ≡ length rest + 1 = ap length popped ∙ length_push rest t in
       omega (arith, lengths, fits, grown)
 
-  pub left_push : (channels : List (Remaining P T)) (r : Remaining P T) → left_in (channels ++ r ∷ []) ≡ left_in channels ++ r.left
+  pub left_push : (channels : List (Remains P T)) (r : Remains P T) → left_in (channels ++ r ∷ []) ≡ left_in channels ++ r.left
   left_push [] r = append-nil r.left
   left_push (c ∷ cs) r = ap (λ (l : List T). c.left ++ l) (left_push cs r) ∙ sym (append_assoc c.left (left_in cs) r.left)

@@ -3,7 +3,7 @@ use Rattle.std.specs.Prelude.{◌≡◌, ℕ, ◌+◌, ◌<◌, ◌≤◌, Bool,
 use Rattle.std.proofs.Common.{refl, arith, sym, ap, ◌∙◌, subst, length-set, get_or, length-take-le}
 use Rattle.std.proofs.lemmas.List.{length-replicate}
 use Rattle.std.proofs.lemmas.Option.{slice_get-map, slice_get_read}
-use Rattle.ir_model.specs.Network.{Network, restrict}
+use Rattle.ir_model.specs.Topology.{Topology, restrict}
 use Rattle.ir_core.specs.declared.TheConstants.{MAX_LINKS}
 use Rattle.ir_core.specs.declared.board.Board.{Board}
 use Rattle.ir_core.specs.Board.{opening_board}
@@ -12,14 +12,14 @@ use Rattle.ir_epochs.specs.declared.entry.Change.{Change}
 use Rattle.ir_epochs.specs.declared.entry.Change.TheVariants.{Install, Retire, Down, Up}
 use Rattle.ir_epochs.specs.declared.entry.Entry.{Entry}
 use Rattle.ir_epochs.specs.declared.entry.Entry.TheVariants.{Opened, Changed}
-use Rattle.ir_epochs.specs.Entries.{registry_of, network_of, board_of, entered, changed, Fits}
+use Rattle.ir_epochs.specs.Entries.{registry_of, topology_of, board_of, entered, changed, MayComeNext}
 use Rattle.ir_epochs.specs.Over.{IsOver}
 use Rattle.ir_epochs.specs.Stamps.{knows, registry_name}
-use Rattle.ir_links.specs.Ends.{Sending, Word, WasRefused}
+use Rattle.ir_links.specs.Ends.{Sender, Word, WasRefused}
 use Rattle.std.specs.Prelude.{false, All, zero, suc}
 use Rattle.std.proofs.lemmas.List.{set-get_or}
 use Rattle.ir_worker.specs.declared.parcel.Place.{Place}
-use Rattle.ir_worker.specs.Seen.{SeenParcel, HasRoomOf, IsOfNet, GoesTo, place_of, stamps_of}
+use Rattle.ir_worker.specs.Seen.{Parcel, HasRoomOf, IsOfNet, GoesTo, net_place, stamps_of}
 use Rattle.ir_control.specs.Whole.{IsParcelOf}
 use Rattle.ir_worker.specs.Account.{lines_out}
 use Rattle.ir_core.specs.Sound.{last_of}
@@ -42,12 +42,12 @@ pub marks_len : (entries : List Entry) → length (board_of entries).up ≡ MAX_
 marks_len entries = marks_from opening_board entries (length-replicate {A = Bool} MAX_LINKS true)
 
 -- an end that stands at a place is of that place's line
-pub end_place : (o : Stamp) (restamps : ℕ) (outs : List (Sending Place SeenParcel)) (u : ℕ) (s : Sending Place SeenParcel) → AreEntryEnds o restamps (lines_out outs) → u < length outs → s ≡ get_or outs u s
-    → s.line.place ≡ place_of o restamps u u
+pub end_place : (o : Stamp) (restamps : ℕ) (outs : List (Sender Place Parcel)) (u : ℕ) (s : Sender Place Parcel) → AreEntryEnds o restamps (lines_out outs) → u < length outs → s ≡ get_or outs u s
+    → s.line.place ≡ net_place o restamps u u
 end_place o restamps outs u s ends lt read =
-    ends.each u s.line (slice_get-map (λ (s : Sending Place SeenParcel). s.line) outs u ∙ ap (option_map (λ (s : Sending Place SeenParcel). s.line)) (slice_get_read outs (length outs) u s refl lt read))
+    ends.each u s.line (slice_get-map (λ (s : Sender Place Parcel). s.line) outs u ∙ ap (option_map (λ (s : Sender Place Parcel). s.line)) (slice_get_read outs (length outs) u s refl lt read))
 
-pub goes_in : (o : Stamp) (restamps u : ℕ) (p : SeenParcel) (place : Place) → place ≡ place_of o restamps u u → p.next ≡ u → p.journey.hops ≡ u ∷ [] → IsParcelOf o p → p.journey.restamps ≡ [] → HasRoomOf o restamps p → GoesTo p place
+pub goes_in : (o : Stamp) (restamps u : ℕ) (p : Parcel) (place : Place) → place ≡ net_place o restamps u u → p.next ≡ u → p.journey.hops ≡ u ∷ [] → IsParcelOf o p → p.journey.restamps ≡ [] → HasRoomOf o restamps p → GoesTo p place
 goes_in o restamps u p place at next hops of fresh room = subst (λ (place : Place). GoesTo p place) (sym at) (record {
   last = ap last_of hops;
   next = next;
@@ -57,7 +57,7 @@ goes_in o restamps u p place at next hops of fresh room = subst (λ (place : Pla
   fresh = λ _. fresh;
 })
 
-pub parcel_of_net : (o : Stamp) (p : SeenParcel) (s : Stamp) → p.first ≡ s → p.later ≡ [] → IsOfNet o s → IsParcelOf o p
+pub parcel_of_net : (o : Stamp) (p : Parcel) (s : Stamp) → p.first ≡ s → p.later ≡ [] → IsOfNet o s → IsParcelOf o p
 parcel_of_net o p s first later of =
     subst (λ (t : Stamp). All (λ s. IsOfNet o s) (stamps_of t p.later)) (sym first)
     (subst (λ (l : List Stamp). All (λ s. IsOfNet o s) (stamps_of s l)) (sym later) (single of)) where
@@ -68,33 +68,33 @@ parcel_of_net o p s first later of =
           go zero d lt = of
           go (suc k) d lt = absurd (omega (arith, lt))
 
-pub lines_kept : (outs : List (Sending Place SeenParcel)) (i : ℕ) (new old : Sending Place SeenParcel) → old ≡ get_or outs i old → new.line ≡ old.line
+pub lines_kept : (outs : List (Sender Place Parcel)) (i : ℕ) (new old : Sender Place Parcel) → old ≡ get_or outs i old → new.line ≡ old.line
     → lines_out (slice_set outs i new) ≡ lines_out outs
-lines_kept outs i new old read same = map-set_same (λ (s : Sending Place SeenParcel). s.line) outs i new old (same ∙ ap (λ (s : Sending Place SeenParcel). s.line) read)
+lines_kept outs i new old read same = map-set_same (λ (s : Sender Place Parcel). s.line) outs i new old (same ∙ ap (λ (s : Sender Place Parcel). s.line) read)
 
-pub sent_by : (outs : List (Sending Place SeenParcel)) (u : ℕ) (s new : Sending Place SeenParcel) (x : SeenParcel) → u < length outs → s ≡ get_or outs u s
+pub sent_by : (outs : List (Sender Place Parcel)) (u : ℕ) (s new : Sender Place Parcel) (x : Parcel) → u < length outs → s ≡ get_or outs u s
     → new ≡ record s { sent = s.sent ++ x ∷ [] } → SentTo outs (slice_set outs u new) u x
 sent_by outs u s new x lt read e = (s, slice_get_read outs (length outs) u s refl lt read, ap (slice_set outs u) e)
 
 -- the links that are up are some of the links
-pub over_up : (net : Network) (up : List Bool) → length net.links ≤ length up → IsOver net (restrict (take (length net.links) up) net)
+pub over_up : (net : Topology) (up : List Bool) → length net.links ≤ length up → IsOver net (restrict (take (length net.links) up) net)
 over_up net up h = ∣ (take (length net.links) up, length-take-le (length net.links) up h, refl) ∣₁
 
 -- an install fits
 pub fits_install : (o s : Stamp) (entries : List Entry) (used : ℕ) → (board_of entries).current ≤ used → s.epoch ≡ used + 1 → registry_name s ≡ registry_name o → registry_of entries ≡ registry_name o
-    → network_of entries ≡ (knows o).network → length (knows o).network.links ≤ MAX_LINKS
-    → (knows s).network ≡ restrict (take (length (knows o).network.links) (board_of entries).up) (knows o).network
-    → Fits entries (Install s)
-fits_install o s entries used below epoch registry same network few made = (
+    → topology_of entries ≡ (knows o).topology → length (knows o).topology.links ≤ MAX_LINKS
+    → (knows s).topology ≡ restrict (take (length (knows o).topology.links) (board_of entries).up) (knows o).topology
+    → MayComeNext entries (Install s)
+fits_install o s entries used below epoch registry same topology few made = (
   (let e = epoch in omega (arith, below, e)),
   registry ∙ sym same,
-  subst (λ (net : Network). IsOver net (knows s).network) (sym network)
-      (subst (λ (net : Network). IsOver (knows o).network net) (sym made)
-      (over_up (knows o).network (board_of entries).up (let n = marks_len entries in omega (arith, few, n)))),
+  subst (λ (net : Topology). IsOver net (knows s).topology) (sym topology)
+      (subst (λ (net : Topology). IsOver (knows o).topology net) (sym made)
+      (over_up (knows o).topology (board_of entries).up (let n = marks_len entries in omega (arith, few, n)))),
 )
 
 -- an end whose push was refused is as it was
-pub not_sent_by : (was_full : Word SeenParcel) (outs : List (Sending Place SeenParcel)) (u : ℕ) (s new : Sending Place SeenParcel) (x : SeenParcel) → u < length outs → s ≡ get_or outs u s
+pub not_sent_by : (was_full : Word Parcel) (outs : List (Sender Place Parcel)) (u : ℕ) (s new : Sender Place Parcel) (x : Parcel) → u < length outs → s ≡ get_or outs u s
     → new ≡ s → WasRefused was_full GoesTo s → IsSent was_full outs (slice_set outs u new) u x false
 not_sent_by was_full outs u s new x lt read e full =
     (ap (slice_set outs u) (e ∙ read) ∙ set-get_or outs u s, (s, slice_get_read outs (length outs) u s refl lt read, full))

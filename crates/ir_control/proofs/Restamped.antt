@@ -8,7 +8,7 @@ use Rattle.ir_epochs.specs.Handles.{known}
 use Rattle.ir_worker.specs.declared.node.Node.{Node}
 use Rattle.ir_worker.specs.declared.parcel.Outcome.{Outcome}
 use Rattle.ir_worker.specs.Account.{restamps_with, NeverCurrent}
-use Rattle.ir_worker.specs.Seen.{SeenParcel}
+use Rattle.ir_worker.specs.Seen.{Parcel}
 use Rattle.ir_worker.specs.Wires.{Out}
 use Rattle.ir_control.specs.declared.injector.Injector.{Injector}
 use Rattle.ir_control.specs.declared.net.Net.{Net}
@@ -28,7 +28,7 @@ not_passed true e = absurd (cc e)
 not_passed false e = refl
 
 module _ (p : ℕ → Bool) where
-  abbrev of_parcel : SeenParcel → ℕ
+  abbrev of_parcel : Parcel → ℕ
   of_parcel x = restamps_with p x.journey
 
   abbrev of_outcome : Outcome → ℕ

@@ -5,7 +5,7 @@ use Rattle.std.proofs.lemmas.Bool.{eqb-true, eqb-false}
 use Rattle.std.proofs.lemmas.Option.{same_Some, none-some}
 use Rattle.std.proofs.lemmas.List.{get_or_default, length-append, length_push, length-map, length-set, get_or-set_same, get_or-set_other}
 use Rattle.std.proofs.lemmas.List.Sums.{sum_by-append, sum_by_push, sum_by-cons, sum_by-set}
-use Rattle.ir_model.specs.Network.{node_count, ports_of}
+use Rattle.ir_model.specs.Topology.{node_count, ports_of}
 use Rattle.ir_worker.specs.declared.node.Node.{Node}
 use Rattle.ir_worker.specs.declared.parcel.Outcome.{Outcome}
 use Rattle.ir_worker.specs.Wires.{In, Out}
@@ -14,7 +14,7 @@ use Rattle.ir_control.specs.Places.{offset, way_count}
 use Rattle.ir_control.specs.Pairs.{slot_line}
 use Rattle.ir_control.specs.Parts.{IsNodeOf}
 use Rattle.ir_control.specs.Slots.{slot_weight, slot_sent, times_in_slots, weight_taken}
-use Rattle.ir_control.specs.Rowed.{AllGet, node_settled, node_taken, node_sent, AreRows, AreSlotsFrom, AreWeighed}
+use Rattle.ir_control.specs.Rowed.{AllGet, node_settled, node_taken, node_sent, AreEndRows, AreSlotsFrom, AreWeighed}
 use Rattle.std.proofs.Math.Logic.{∥∥₁_elim, ∥∥₁_prop}
 use Rattle.ir_epochs.specs.declared.registry.Stamp.{Stamp}
 use Rattle.ir_control.specs.Told.{IsOutcomeIn}
@@ -56,7 +56,7 @@ slots_weigh {A} g (x ∷ xs) =
     let rest = slots_weigh g xs in
     omega (arith, rest, sum_by-cons g (Some x) (map (λ (x : A). Some x) xs), sum_by-cons (λ (x : A). g (Some x)) x xs)
 
-pub rows_none : (net : Net) (inboxes takers : List In) (senders : List (Option Out)) → inboxes ≡ [] → takers ≡ [] → senders ≡ [] → AreRows net 0 inboxes takers senders
+pub rows_none : (net : Net) (inboxes takers : List In) (senders : List (Option Out)) → inboxes ≡ [] → takers ≡ [] → senders ≡ [] → AreEndRows net 0 inboxes takers senders
 rows_none net inboxes takers senders a b c = record {
   inbox_count = ap length a;
   inbox_lines = all_get_none _ inboxes a;
@@ -66,8 +66,8 @@ rows_none net inboxes takers senders a b c = record {
   out_lines = all_get_none _ senders c;
 }
 
-pub rows_more : (net : Net) (u : ℕ) (n : Node) (inboxes inboxes_1 takers takers_1 : List In) (senders senders_1 : List (Option Out)) → AreRows net u inboxes takers senders → n.index ≡ u → IsNodeOf net n
-    → inboxes_1 ≡ inboxes ++ n.entrances.inbox ∷ [] → takers_1 ≡ takers ++ n.entrances.ports.items → senders_1 ≡ senders ++ map (λ s. Some s) n.outs.items → AreRows net (u + 1) inboxes_1 takers_1 senders_1
+pub rows_more : (net : Net) (u : ℕ) (n : Node) (inboxes inboxes_1 takers takers_1 : List In) (senders senders_1 : List (Option Out)) → AreEndRows net u inboxes takers senders → n.index ≡ u → IsNodeOf net n
+    → inboxes_1 ≡ inboxes ++ n.entrances.inbox ∷ [] → takers_1 ≡ takers ++ n.entrances.ports.items → senders_1 ≡ senders ++ map (λ s. Some s) n.outs.items → AreEndRows net (u + 1) inboxes_1 takers_1 senders_1
 rows_more net u n inboxes inboxes_1 takers takers_1 senders senders_1 rows at is a b c =
     let here : u < node_count net.topology = (let lt = is.index_in in omega (arith, lt, at)) in
     let next = offset_next net.topology u here in

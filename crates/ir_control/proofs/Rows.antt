@@ -6,20 +6,20 @@ use Rattle.std.proofs.lemmas.Bool.{ltb-true, ltb-false}
 use Rattle.std.proofs.lemmas.List.{length_push}
 use Rattle.std.proofs.lemmas.List.Sums.{sum_by-cons, sum_by_more, sum_by-take-le}
 use Rattle.ir_model.specs.declared.Hop.{Hop}
-use Rattle.ir_model.specs.Network.{Network, node_count, port_at, port_back, ports_of, IsNetwork}
+use Rattle.ir_model.specs.Topology.{Topology, node_count, port_at, port_back, ports_of, IsTopology}
 use Rattle.ir_core.proofs.Lists.{get_push}
 use Rattle.ir_control.specs.Places.{offset, way_count, IsFilledTo, IsFilled, IsPeer}
 use Rattle.ir_control.specs.Pairs.{ArePeers}
-use Rattle.ir_links.specs.Ends.{Line}
+use Rattle.ir_links.specs.Ends.{Channel}
 use Rattle.ir_epochs.specs.declared.registry.Stamp.{Stamp}
 use Rattle.ir_worker.specs.declared.parcel.Place.{Place}
-use Rattle.ir_control.specs.Wired.{IsWay, AreWays}
+use Rattle.ir_control.specs.Wired.{IsNetChannel, AreWiredWays}
 
-pub offset_zero : (net : Network) → offset net 0 ≡ 0
+pub offset_zero : (net : Topology) → offset net 0 ≡ 0
 unfolding offset
 offset_zero net = refl
 
-pub offset_next : (net : Network) (u : ℕ) → u < node_count net → offset net (u + 1) ≡ offset net u + length (ports_of net u)
+pub offset_next : (net : Topology) (u : ℕ) → u < node_count net → offset net (u + 1) ≡ offset net u + length (ports_of net u)
 unfolding offset
 offset_next net u lt = sum_by_more length net.ports u [] lt
 
@@ -27,11 +27,11 @@ take_whole : {A : Type 0} (xs : List A) → take (length xs) xs ≡ xs
 take_whole [] = refl
 take_whole (x ∷ xs) = ap (λ ys. x ∷ ys) (take_whole xs)
 
-pub offset_all : (net : Network) → offset net (node_count net) ≡ way_count net
+pub offset_all : (net : Topology) → offset net (node_count net) ≡ way_count net
 unfolding offset way_count
 offset_all net = ap (sum_by length) (take_whole net.ports)
 
-pub offset_le : (net : Network) (u : ℕ) → offset net u ≤ way_count net
+pub offset_le : (net : Topology) (u : ℕ) → offset net u ≤ way_count net
 unfolding offset way_count
 offset_le net u = sum_by-take-le length net.ports u
 
@@ -46,7 +46,7 @@ take_mono (row ∷ rows) (suc a) (suc b) h =
     let rest = take_mono rows a b (omega (arith, h)) in
     omega (arith, rest, sum_by-cons length row (take a rows), sum_by-cons length row (take b rows))
 
-pub offset_mono : (net : Network) (a b : ℕ) → a ≤ b → offset net a ≤ offset net b
+pub offset_mono : (net : Topology) (a b : ℕ) → a ≤ b → offset net a ≤ offset net b
 unfolding offset
 offset_mono net a b h = take_mono net.ports a b h
 
@@ -56,11 +56,11 @@ row_within (row ∷ rows) zero j hop e = omega arith
 row_within (row ∷ rows) (suc v) j hop e = let rest = row_within rows v j hop e in omega (arith, rest)
 
 -- who has a port is a node
-pub port_node : (net : Network) (v j : ℕ) (hop : Hop) → port_at net v j ≡ Some hop → v < node_count net
+pub port_node : (net : Topology) (v j : ℕ) (hop : Hop) → port_at net v j ≡ Some hop → v < node_count net
 port_node net v j hop e = row_within net.ports v j hop e
 
 -- the place of a port is before those of later nodes
-pub place_before : (net : Network) (v j u : ℕ) (hop : Hop) → port_at net v j ≡ Some hop → v < u → offset net v + j < offset net u
+pub place_before : (net : Topology) (v j u : ℕ) (hop : Hop) → port_at net v j ≡ Some hop → v < u → offset net v + j < offset net u
 place_before net v j u hop at lt =
     let node = port_node net v j hop at in
     let within : j < length (ports_of net v) = slice_get_within (ports_of net v) j hop at in
@@ -68,14 +68,14 @@ place_before net v j u hop at lt =
     let most = offset_mono net (v + 1) u (omega (arith, lt)) in
     omega (arith, within, next, most)
 
-pub place_within : (net : Network) (v j : ℕ) (hop : Hop) → port_at net v j ≡ Some hop → offset net v + j < way_count net
+pub place_within : (net : Topology) (v j : ℕ) (hop : Hop) → port_at net v j ≡ Some hop → offset net v + j < way_count net
 place_within net v j hop at =
     let node = port_node net v j hop at in
     let lt = place_before net v j (node_count net) hop at node in
     let all = offset_all net in
     omega (arith, lt, all)
 
-module _ {X : Type 0} (net : Network) (Q : ℕ → Hop → X → Type 0) where
+module _ {X : Type 0} (net : Topology) (Q : ℕ → Hop → X → Type 0) where
   pub filled_none : (xs : List X) → xs ≡ [] → IsFilledTo net Q 0 0 xs
   filled_none xs e = record {
     len = (let n = ap length e in let z = offset_zero net in omega (arith, n, z));
@@ -152,11 +152,11 @@ split_place : (rows : List (List Hop)) (k : ℕ) → k < sum_by length rows → 
 split_place [] k lt = absurd (omega (arith, lt))
 split_place (row ∷ rows) k lt = split_row row rows k lt (λ j less. split_place rows j less) (ltb k (length row)) refl
 
-pub place_of : (net : Network) (k : ℕ) → k < way_count net → (u : ℕ) × (p : ℕ) × (hop : Hop) × (port_at net u p ≡ Some hop) × (k ≡ offset net u + p)
+pub place_of : (net : Topology) (k : ℕ) → k < way_count net → (u : ℕ) × (p : ℕ) × (hop : Hop) × (port_at net u p ≡ Some hop) × (k ≡ offset net u + p)
 unfolding offset way_count
 place_of net k lt = split_place net.ports k lt
 
-module _ (net : Network) (is : IsNetwork net) (peers : List ℕ) (filled : IsFilled net (IsPeer net) peers) where
+module _ (net : Topology) (is : IsTopology net) (peers : List ℕ) (filled : IsFilled net (IsPeer net) peers) where
   -- the peer of a port's place
   pub peer_at : (u p : ℕ) (hop : Hop) → port_at net u p ≡ Some hop → IsPeer net u hop (slice_index peers (offset net u + p))
   peer_at u p hop at =
@@ -187,7 +187,7 @@ module _ (net : Network) (is : IsNetwork net) (peers : List ℕ) (filled : IsFil
   peers_are = record { within = peer_within; back = peer_back }
 
 -- the same, as the code reads it
-module _ {X : Type 0} (net : Network) (Q : ℕ → Hop → X → Type 0) (u p : ℕ) (ports : List Hop) (is : ports ≡ ports_of net u) where
+module _ {X : Type 0} (net : Topology) (Q : ℕ → Hop → X → Type 0) (u p : ℕ) (ports : List Hop) (is : ports ≡ ports_of net u) where
   port_read : p < length ports → (d : Hop) → port_at net u p ≡ Some (get_or ports p d)
   port_read lt d = ap (λ (row : List Hop). slice_get row p) (sym is) ∙ slice_get-get_or ports p d lt
 
@@ -199,28 +199,28 @@ module _ {X : Type 0} (net : Network) (Q : ℕ → Hop → X → Type 0) (u p : 
   pub row_done : (xs : List X) → IsFilledTo net Q u p xs → u < node_count net → length ports ≤ p → p ≤ length ports → IsFilledTo net Q (u + 1) 0 xs
   row_done xs filled node most least = filled_next net Q u p xs node (let same = ap length is in omega (arith, most, least, same)) filled
 
-pub peer_there : (net : Network) (u p : ℕ) (ports : List Hop) → ports ≡ ports_of net u → p < length ports → (d : Hop) (offsets : List ℕ) (q : ℕ)
+pub peer_there : (net : Topology) (u p : ℕ) (ports : List Hop) → ports ≡ ports_of net u → p < length ports → (d : Hop) (offsets : List ℕ) (q : ℕ)
     → ((v : ℕ) → v < node_count net → get_or offsets v 0 ≡ offset net v) → port_at net (get_or ports p d).node q ≡ Some (port_back u (get_or ports p d))
     → IsPeer net u (get_or ports p d) (get_or offsets (get_or ports p d).node 0 + q)
 peer_there net u p ports is lt d offsets q at back =
     let hop = get_or ports p d in
     (q, back, ap (λ k. k + q) (at hop.node (port_node net hop.node q (port_back u hop) back)))
 
-pub peer_fits : (net : Network) (u : ℕ) (hop : Hop) (k : ℕ) → IsPeer net u hop k → k < way_count net
+pub peer_fits : (net : Topology) (u : ℕ) (hop : Hop) (k : ℕ) → IsPeer net u hop k → k < way_count net
 peer_fits net u hop k peer =
     let within = place_within net hop.node peer.0 (port_back u hop) peer.1 in
     let is = peer.2 in
     omega (arith, within, is)
 
-module _ (net : Network) (opening : Stamp) (restamps capacity : ℕ) (ways : List (Line Place)) (peers : List ℕ) (is : IsNetwork net)
-    (ways_are : IsFilled net (λ v hop line. IsWay opening restamps capacity v hop.node line) ways) (peers_filled : IsFilled net (IsPeer net) peers) where
-  way_in : (u p : ℕ) (hop : Hop) (line : Line Place) → port_at net u p ≡ Some hop → slice_get ways (slice_index peers (offset net u + p)) ≡ Some line
-      → IsWay opening restamps capacity hop.node u line
+module _ (net : Topology) (opening : Stamp) (restamps capacity : ℕ) (ways : List (Channel Place)) (peers : List ℕ) (is : IsTopology net)
+    (ways_are : IsFilled net (λ v hop line. IsNetChannel opening restamps capacity v hop.node line) ways) (peers_filled : IsFilled net (IsPeer net) peers) where
+  way_in : (u p : ℕ) (hop : Hop) (line : Channel Place) → port_at net u p ≡ Some hop → slice_get ways (slice_index peers (offset net u + p)) ≡ Some line
+      → IsNetChannel opening restamps capacity hop.node u line
   way_in u p hop line at got =
       let peer = peer_at net is peers peers_filled u p hop at in
       ways_are.each hop.node peer.0 (port_back u hop) line peer.1 (ap (slice_get ways) (sym peer.2) ∙ got)
 
-  pub wired : AreWays net opening restamps capacity ways peers
+  pub wired : AreWiredWays net opening restamps capacity ways peers
   wired = record {
     count = ways_are.len;
     peer_count = peers_filled.len;

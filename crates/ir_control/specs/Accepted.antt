@@ -2,10 +2,10 @@
 use Rattle.std.specs.Prelude.{◌≡◌, ℕ, [], ◌∷◌, ◌++◌, Option, Some, None, length, nat_lt, cond}
 use Rattle.ir_epochs.specs.declared.registry.Stamp.{Stamp}
 use Rattle.ir_epochs.specs.Stamps.{knows}
-use Rattle.ir_model.specs.Network.{node_count}
-use Rattle.ir_core.specs.Journey.{hop_room}
+use Rattle.ir_model.specs.Topology.{node_count}
+use Rattle.ir_core.specs.Record.{hop_room}
 use Rattle.ir_core.specs.Entry.{fresh}
-use Rattle.ir_worker.specs.Seen.{SeenParcel}
+use Rattle.ir_worker.specs.Seen.{Parcel}
 use Rattle.ir_control.specs.declared.injector.Injector.{Injector}
 use Rattle.ir_control.specs.Outs.{SentTo}
 
@@ -15,9 +15,9 @@ stamp_after_learning s None = s
 stamp_after_learning s (Some t) = cond (nat_lt s.epoch t.epoch) t s
 
 -- a new parcel of a net of the opening's stamp, which allows so many restamps
-abbrev pub new_parcel : Stamp → ℕ → ℕ → Stamp → ℕ → ℕ → SeenParcel
+abbrev pub new_parcel : Stamp → ℕ → ℕ → Stamp → ℕ → ℕ → Parcel
 new_parcel opening restamps id s source dest = record {
-  journey = fresh id s.epoch source dest (hop_room restamps (node_count (knows opening).network));
+  journey = fresh id s.epoch source dest (hop_room restamps (node_count (knows opening).topology));
   first = s;
   later = [];
   next = source;

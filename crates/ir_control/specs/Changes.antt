@@ -2,7 +2,7 @@
 use Rattle.std.specs.Prelude.{◌≡◌, ◌⊎◌, ℕ, ◌+◌, ◌∷◌, ◌++◌, [], length, take, Option, Some, None, Result, MatchResult}
 use Rattle.std.specs.Arc.{arc_value}
 use Rattle.ir_model.specs.declared.Kind.{Kind}
-use Rattle.ir_model.specs.Network.{Network, node_count, restrict}
+use Rattle.ir_model.specs.Topology.{Topology, node_count, restrict}
 use Rattle.ir_model.specs.Walk.{IsDisconnected}
 use Rattle.ir_core.specs.declared.event.Refused.{Refused}
 use Rattle.ir_core.specs.declared.event.Refused.TheVariants.{Disconnected, NoMemory, Used}
@@ -46,15 +46,15 @@ module _ {R : Type 0} where
       (λ e. IsRefusedBy e refused × PublishesNothing before after)
 
   -- the network over the links that are up in the controller's board
-  abbrev pub network_up : Controller R → Network
-  network_up c = restrict (take (length (knows c.opening).network.links) (board_of (published c.writer)).up) (knows c.opening).network
+  abbrev pub topology_up : Controller R → Topology
+  topology_up c = restrict (take (length (knows c.opening).topology.links) (board_of (published c.writer)).up) (knows c.opening).topology
 
   abbrev pub install_refusal : Controller R → ℕ → Option Refused
-  install_refusal c root = install_refused (node_count (knows c.opening).network) c.used (board_of (published c.writer)) root
+  install_refusal c root = install_refused (node_count (knows c.opening).topology) c.used (board_of (published c.writer)) root
 
   abbrev pub IsInstallRefusedBy : Controller R → Refused → Option Refused → Type 0
   IsInstallRefusedBy c error (Some e) = error ≡ e
-  IsInstallRefusedBy c error None = ((error ≡ Disconnected) × IsDisconnected (network_up c)) ⊎ ((error ≡ NoMemory) ⊎ (error ≡ Used))
+  IsInstallRefusedBy c error None = ((error ≡ Disconnected) × IsDisconnected (topology_up c)) ⊎ ((error ≡ NoMemory) ⊎ (error ≡ Used))
 
   -- The stamp of the next cell, which knows a plan of this kind and root over the links that were up, labelled in the
   -- controller's order, was installed.
@@ -63,7 +63,7 @@ module _ {R : Type 0} where
     pub stamp : Stamp
     pub epoch : stamp.epoch ≡ before.used + 1
     pub registered : IsOf (arc_value before.registry) stamp
-    pub plan : IsMade before.labels kind root (network_up before) (Some (knows stamp))
+    pub plan : IsMade before.labels kind root (topology_up before) (Some (knows stamp))
     pub publishes : Publishes before after (Install stamp) t
     pub used : after.used ≡ before.used + 1
 

@@ -1,23 +1,23 @@
 -- Ends of channels that were just handed out.
 use Rattle.std.specs.Prelude.{◌≡◌, ℕ, ◌+◌, List, [], Option, Some, length, slice_get, slice_index}
-use Rattle.ir_links.specs.Ends.{Line, Sending, Taking}
+use Rattle.ir_links.specs.Ends.{Channel, Sender, Taker}
 
 module _ {P T : Type 0} where
   -- a slot for each channel, which is empty or has its sender, by which nothing was sent
-  pub record AreFreshOuts (lines : List (Line P)) (slots : List (Option (Sending P T))) : Type 0 where
+  pub record AreFreshOuts (lines : List (Channel P)) (slots : List (Option (Sender P T))) : Type 0 where
     pub count : length slots ≡ length lines
-    pub each : (k : ℕ) (s : Sending P T) → slice_get slots k ≡ Some (Some s) → (slice_get lines k ≡ Some s.line) × (s.sent ≡ [])
+    pub each : (k : ℕ) (s : Sender P T) → slice_get slots k ≡ Some (Some s) → (slice_get lines k ≡ Some s.line) × (s.sent ≡ [])
 
-  pub record AreFreshIns (lines : List (Line P)) (slots : List (Option (Taking P T))) : Type 0 where
+  pub record AreFreshIns (lines : List (Channel P)) (slots : List (Option (Taker P T))) : Type 0 where
     pub count : length slots ≡ length lines
-    pub each : (k : ℕ) (t : Taking P T) → slice_get slots k ≡ Some (Some t) → (slice_get lines k ≡ Some t.line) × (t.taken ≡ [])
+    pub each : (k : ℕ) (t : Taker P T) → slice_get slots k ≡ Some (Some t) → (slice_get lines k ≡ Some t.line) × (t.taken ≡ [])
 
   -- senders of so many channels from a first one on, by which nothing was sent
-  pub record AreOutsAt (lines : List (Line P)) (first n : ℕ) (outs : List (Sending P T)) : Type 0 where
+  pub record AreOutsAt (lines : List (Channel P)) (first n : ℕ) (outs : List (Sender P T)) : Type 0 where
     pub count : length outs ≡ n
-    pub each : (p : ℕ) (s : Sending P T) → slice_get outs p ≡ Some s → (slice_get lines (first + p) ≡ Some s.line) × (s.sent ≡ [])
+    pub each : (p : ℕ) (s : Sender P T) → slice_get outs p ≡ Some s → (slice_get lines (first + p) ≡ Some s.line) × (s.sent ≡ [])
 
   -- takers of the channels of so many peers from a first one on, by which nothing was taken
-  pub record AreInsAt (lines : List (Line P)) (peers : List ℕ) (first n : ℕ) (ins : List (Taking P T)) : Type 0 where
+  pub record AreInsAt (lines : List (Channel P)) (peers : List ℕ) (first n : ℕ) (ins : List (Taker P T)) : Type 0 where
     pub count : length ins ≡ n
-    pub each : (p : ℕ) (t : Taking P T) → slice_get ins p ≡ Some t → (slice_get lines (slice_index peers (first + p)) ≡ Some t.line) × (t.taken ≡ [])
+    pub each : (p : ℕ) (t : Taker P T) → slice_get ins p ≡ Some t → (slice_get lines (slice_index peers (first + p)) ≡ Some t.line) × (t.taken ≡ [])

@@ -1,18 +1,18 @@
 -- What a clause reads of a net.
 use Rattle.std.specs.Prelude.{◌≡◌, Some}
-use Rattle.ir_model.specs.Scheme.{Scheme}
+use Rattle.ir_model.specs.Plan.{Plan}
 use Rattle.ir_core.specs.declared.opening.Opening.{Opening}
 use Rattle.ir_core.specs.Meaning.{IsMade}
 use Rattle.ir_epochs.specs.Stamps.{knows}
 use Rattle.ir_control.specs.declared.net.Net.{Net}
 
 -- the plan of epoch 1
-abbrev pub first_plan : Net → Scheme
+abbrev pub first_plan : Net → Plan
 first_plan net = knows net.opening
 
 -- A net for this opening: epoch 1 has a plan of the opening's kind and root over all links, labelled in its order.
 pub record IsNetFor (opening : Opening) (net : Net) : Type 0 where
-  pub network : net.topology ≡ opening.topology
+  pub topology : net.topology ≡ opening.topology
   pub labels : net.labels ≡ opening.labels
   pub first : IsMade opening.labels opening.kind opening.root opening.topology (Some (first_plan net))
   pub capacity : net.capacity ≡ opening.capacity

@@ -1,12 +1,12 @@
 -- Which parts are of which net.
 use Rattle.std.specs.Prelude.{◌≡◌, ℕ, ◌+◌, ◌<◌, ◌≤◌, List, [], ◌∷◌, All, Some, length, slice_get, slice_index, sum_by}
 use Rattle.std.specs.Arc.{arc_value}
-use Rattle.ir_model.specs.Network.{node_count, ports_of}
-use Rattle.ir_links.specs.Ends.{Sending, Taking}
+use Rattle.ir_model.specs.Topology.{node_count, ports_of}
+use Rattle.ir_links.specs.Ends.{Sender, Taker}
 use Rattle.ir_epochs.specs.Handles.{published, known, writer_board, reader_board}
 use Rattle.ir_worker.specs.declared.node.Node.{Node}
 use Rattle.ir_worker.specs.declared.parcel.Place.{Place}
-use Rattle.ir_worker.specs.Seen.{SeenParcel}
+use Rattle.ir_worker.specs.Seen.{Parcel}
 use Rattle.ir_worker.specs.Account.{lines_out}
 use Rattle.ir_epochs.specs.declared.entry.Entry.{Entry}
 use Rattle.ir_epochs.specs.declared.entry.Entry.TheVariants.{Opened}
@@ -24,9 +24,9 @@ pub record IsNodeOf (net : Net) (n : Node) : Type 0 where
   pub restamps : n.restamps ≡ net.restamps
   pub inbox : slice_get net.inboxes.items n.index ≡ Some n.entrances.inbox.line
   pub outs_count : length n.outs.items ≡ length (ports_of net.topology n.index)
-  pub outs : (p : ℕ) (s : Sending Place SeenParcel) → slice_get n.outs.items p ≡ Some s → slice_get net.ways.items (offset net.topology n.index + p) ≡ Some s.line
+  pub outs : (p : ℕ) (s : Sender Place Parcel) → slice_get n.outs.items p ≡ Some s → slice_get net.ways.items (offset net.topology n.index + p) ≡ Some s.line
   pub ins_count : length n.entrances.ports.items ≡ length (ports_of net.topology n.index)
-  pub ins : (p : ℕ) (t : Taking Place SeenParcel) → slice_get n.entrances.ports.items p ≡ Some t
+  pub ins : (p : ℕ) (t : Taker Place Parcel) → slice_get n.entrances.ports.items p ≡ Some t
       → slice_get net.ways.items (slice_index net.peers.items (offset net.topology n.index + p)) ≡ Some t.line
 
 -- the injector of a net: its ends are those of the inboxes, in the nodes' order

@@ -1,9 +1,9 @@
 -- What finish makes of the parts of a net.
 use Rattle.std.specs.Prelude.{◌≡◌, ℕ, ◌+◌, ◌<◌, ◌≤◌, List, [], None, length, sum_by, slice_index_or, vec_capacity}
-use Rattle.ir_model.specs.Network.{node_count}
+use Rattle.ir_model.specs.Topology.{node_count}
 use Rattle.ir_worker.specs.declared.node.Node.{Node}
 use Rattle.ir_worker.specs.declared.parcel.Outcome.{Outcome}
-use Rattle.ir_worker.specs.Seen.{SeenParcel}
+use Rattle.ir_worker.specs.Seen.{Parcel}
 use Rattle.ir_worker.specs.Wires.{Out}
 use Rattle.ir_control.specs.declared.net.Net.{Net}
 use Rattle.ir_control.specs.declared.leaving.Rows.{Rows}
@@ -26,6 +26,6 @@ abbrev pub AreAllThere : Net → List Node → Type 0
 AreAllThere net nodes = (u : ℕ) → u < node_count net.topology → 0 < sum_by (hit node_number u) nodes
 
 -- What was settled is what the nodes settled; and what was sent is what was taken and what is left, each parcel as often.
-pub record IsGathered (nodes : List Node) (injected : List Out) (settled : (Outcome → ℕ) → ℕ) (left : List SeenParcel) : Type 0 where
+pub record IsGathered (nodes : List Node) (injected : List Out) (settled : (Outcome → ℕ) → ℕ) (left : List Parcel) : Type 0 where
   pub settlings : (w : Outcome → ℕ) → settled w ≡ sum_by (node_settled w) nodes
-  pub leavings : (w : SeenParcel → ℕ) → sum_by (λ s. sum_by w s.sent) injected + sum_by (node_sent w) nodes ≡ sum_by (node_taken w) nodes + sum_by w left
+  pub leavings : (w : Parcel → ℕ) → sum_by (λ s. sum_by w s.sent) injected + sum_by (node_sent w) nodes ≡ sum_by (node_taken w) nodes + sum_by w left

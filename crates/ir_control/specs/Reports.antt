@@ -1,11 +1,11 @@
 -- What a report says of the parts of a net.
 use Rattle.std.specs.Prelude.{◌≡◌, ℕ, ◌+◌, ◌<◌, ◌≤◌, List, [], All, None, length, map, sum_by, slice_index_or, vec_capacity}
 use Rattle.ir_core.specs.declared.packet.Fate.TheVariants.{Left}
-use Rattle.ir_model.specs.Network.{node_count}
+use Rattle.ir_model.specs.Topology.{node_count}
 use Rattle.ir_worker.specs.declared.node.Node.{Node}
 use Rattle.ir_worker.specs.declared.parcel.Outcome.{Outcome}
 use Rattle.ir_worker.specs.Account.{head_of}
-use Rattle.ir_worker.specs.Seen.{SeenParcel, IsSoundJourney, stamps_of}
+use Rattle.ir_worker.specs.Seen.{Parcel, IsSoundByStamps, stamps_of}
 use Rattle.ir_control.specs.declared.report.FinishError.{FinishError}
 use Rattle.ir_control.specs.declared.report.FinishError.TheVariants.{Missing, NoMemory}
 use Rattle.ir_control.specs.declared.report.Report.{Report}
@@ -17,10 +17,10 @@ use Rattle.ir_control.specs.Parts.{node_number}
 use Rattle.ir_control.specs.Reported.{AreEmptyRows, AreAllThere}
 use Rattle.ir_control.specs.Rowed.{node_settled, node_taken, node_sent}
 use Rattle.ir_control.specs.Slots.{hit}
-use Rattle.ir_control.specs.Told.{Told, told, told_left, IsOutcomeIn}
+use Rattle.ir_control.specs.Told.{Told, outcome_told, told_left, IsOutcomeIn}
 
 -- room for a report of so many packets
-pub record HasRoom (n ways m : ℕ) (room : Room) : Type 0 where
+pub record HasReportRoom (n ways m : ℕ) (room : Room) : Type 0 where
   pub rows : AreEmptyRows n ways room.rows
   pub channels : (room.channels.items ≡ []) × (n + ways ≤ vec_capacity room.channels)
   pub slots_count : length room.slots.items ≡ m
@@ -31,7 +31,7 @@ pub record HasRoom (n ways m : ℕ) (room : Room) : Type 0 where
 
 -- A record is of its first stamp's epoch and sound by its stamps.
 abbrev pub IsSoundOutcome : Outcome → Type 0
-IsSoundOutcome o = (o.packet.epoch ≡ o.stamp.epoch) × ∥ IsSoundJourney (stamps_of o.stamp o.later.items) o.packet ∥₁
+IsSoundOutcome o = (o.packet.epoch ≡ o.stamp.epoch) × ∥ IsSoundByStamps (stamps_of o.stamp o.later.items) o.packet ∥₁
 
 -- The report tells these outcomes: their heads are those of the accepted packets, in order, each is sound by its stamps,
 -- which are of the net, and has no more restamps than the net allows; and they are what the nodes settled and what is left, each as often. What is left is what was
@@ -45,10 +45,10 @@ pub record IsReport (net : Net) (nodes : List Node) (injector : Injector) (repor
   pub sound : All IsSoundOutcome outcomes
   pub of_net : All (IsOutcomeIn net.opening) outcomes
   pub few : All (λ o. length o.packet.restamps ≤ net.restamps) outcomes
-  pub left : List SeenParcel
-  pub left_is : (w : SeenParcel → ℕ) → sum_by (λ s. sum_by w s.sent) injector.outs.items + sum_by (node_sent w) nodes ≡ sum_by (node_taken w) nodes + sum_by w left
+  pub left : List Parcel
+  pub left_is : (w : Parcel → ℕ) → sum_by (λ s. sum_by w s.sent) injector.outs.items + sum_by (node_sent w) nodes ≡ sum_by (node_taken w) nodes + sum_by w left
   pub fates : All (λ x. x.journey.fate ≡ Left) left
-  pub told_are : (w : Told → ℕ) → sum_by (λ o. w (told o)) outcomes ≡ sum_by (node_settled (λ o. w (told o))) nodes + sum_by (λ x. w (told_left x)) left
+  pub told_are : (w : Told → ℕ) → sum_by (λ o. w (outcome_told o)) outcomes ≡ sum_by (node_settled (λ o. w (outcome_told o))) nodes + sum_by (λ x. w (told_left x)) left
 
 -- the least node that is not among the parts
 pub record IsLeastMissing (net : Net) (nodes : List Node) (v : ℕ) : Type 0 where

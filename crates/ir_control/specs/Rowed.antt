@@ -1,9 +1,9 @@
 -- All nodes' ends in rows, in the nodes' order, and what they weigh.
 use Rattle.std.specs.Prelude.{◌≡◌, ℕ, ◌+◌, ◌<◌, ◌≤◌, List, Option, Some, None, sum_by, length, slice_get, slice_index, slice_index_or}
-use Rattle.ir_model.specs.Network.{node_count}
+use Rattle.ir_model.specs.Topology.{node_count}
 use Rattle.ir_worker.specs.declared.node.Node.{Node}
 use Rattle.ir_worker.specs.declared.parcel.Outcome.{Outcome}
-use Rattle.ir_worker.specs.Seen.{SeenParcel}
+use Rattle.ir_worker.specs.Seen.{Parcel}
 use Rattle.ir_worker.specs.Wires.{In, Out}
 use Rattle.ir_control.specs.declared.net.Net.{Net}
 use Rattle.ir_control.specs.Places.{offset}
@@ -19,14 +19,14 @@ AllGet {X} Q xs = (k : ℕ) (x : X) → slice_get xs k ≡ Some x → Q k x
 abbrev pub node_settled : (Outcome → ℕ) → Node → ℕ
 node_settled w n = sum_by w n.outcomes.items
 
-abbrev pub node_taken : (SeenParcel → ℕ) → Node → ℕ
+abbrev pub node_taken : (Parcel → ℕ) → Node → ℕ
 node_taken w n = sum_by w n.entrances.inbox.taken + weight_taken w n.entrances.ports.items
 
-abbrev pub node_sent : (SeenParcel → ℕ) → Node → ℕ
+abbrev pub node_sent : (Parcel → ℕ) → Node → ℕ
 node_sent w n = sum_by (λ s. sum_by w s.sent) n.outs.items
 
 -- The ends of the first u nodes of a net, each of the channel of its place.
-pub record AreRows (net : Net) (u : ℕ) (inboxes takers : List In) (senders : List (Option Out)) : Type 0 where
+pub record AreEndRows (net : Net) (u : ℕ) (inboxes takers : List In) (senders : List (Option Out)) : Type 0 where
   pub inbox_count : length inboxes ≡ u
   pub inbox_lines : AllGet (λ k t. slice_get net.inboxes.items k ≡ Some t.line) inboxes
   pub in_count : length takers ≡ offset net.topology u
@@ -43,5 +43,5 @@ pub record AreSlotsFrom (net : Net) (u : ℕ) (slots : List (Option Node)) : Typ
 -- what is in the rows and what is in the slots was all in the slots
 pub record AreWeighed (all slots : List (Option Node)) (inboxes takers : List In) (senders : List (Option Out)) (settled : (Outcome → ℕ) → ℕ) : Type 0 where
   pub settlings : (w : Outcome → ℕ) → settled w + sum_by (slot_weight (node_settled w)) slots ≡ sum_by (slot_weight (node_settled w)) all
-  pub takings : (w : SeenParcel → ℕ) → (weight_taken w inboxes + weight_taken w takers) + sum_by (slot_weight (node_taken w)) slots ≡ sum_by (slot_weight (node_taken w)) all
-  pub sendings : (w : SeenParcel → ℕ) → times_in_slots w senders + sum_by (slot_weight (node_sent w)) slots ≡ sum_by (slot_weight (node_sent w)) all
+  pub takings : (w : Parcel → ℕ) → (weight_taken w inboxes + weight_taken w takers) + sum_by (slot_weight (node_taken w)) slots ≡ sum_by (slot_weight (node_taken w)) all
+  pub sendings : (w : Parcel → ℕ) → times_in_slots w senders + sum_by (slot_weight (node_sent w)) slots ≡ sum_by (slot_weight (node_sent w)) all

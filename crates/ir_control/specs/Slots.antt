@@ -1,6 +1,6 @@
 -- Slots that hold something or nothing, and what they weigh.
 use Rattle.std.specs.Prelude.{◌≡◌, ℕ, List, [], ◌∷◌, ◌++◌, Option, Some, None, cond, sum_by, slice_index_or, ltb, ◌==◌}
-use Rattle.ir_links.specs.Ends.{Sending, Taking, Remaining}
+use Rattle.ir_links.specs.Ends.{Sender, Taker, Remains}
 
 -- things weighed, whatever each weighs: so lists are told apart by how often each thing stands in them
 abbrev pub slot_weight : {X : Type 0} → (X → ℕ) → Option X → ℕ
@@ -8,18 +8,18 @@ slot_weight w None = 0
 slot_weight w (Some x) = w x
 
 module _ {P T : Type 0} where
-  abbrev pub slot_sent : (T → ℕ) → Option (Sending P T) → ℕ
+  abbrev pub slot_sent : (T → ℕ) → Option (Sender P T) → ℕ
   slot_sent w None = 0
   slot_sent w (Some s) = sum_by w s.sent
 
-  abbrev pub times_in_slots : (T → ℕ) → List (Option (Sending P T)) → ℕ
+  abbrev pub times_in_slots : (T → ℕ) → List (Option (Sender P T)) → ℕ
   times_in_slots w slots = sum_by (slot_sent w) slots
 
-  abbrev pub weight_taken : (T → ℕ) → List (Taking P T) → ℕ
+  abbrev pub weight_taken : (T → ℕ) → List (Taker P T) → ℕ
   weight_taken w takers = sum_by (λ t. sum_by w t.taken) takers
 
   -- all that is left in channels, one channel after another
-  abbrev pub left_in : List (Remaining P T) → List T
+  abbrev pub left_in : List (Remains P T) → List T
   left_in [] = []
   left_in (r ∷ rs) = r.left ++ left_in rs
 

@@ -1,20 +1,20 @@
 -- What a report tells of a packet.
 use Rattle.std.specs.Prelude.{ℕ, List, All}
-use Rattle.ir_core.specs.Journey.{Journey}
+use Rattle.ir_core.specs.Record.{Record}
 use Rattle.ir_epochs.specs.declared.registry.Stamp.{Stamp}
 use Rattle.ir_worker.specs.declared.parcel.Outcome.{Outcome}
-use Rattle.ir_worker.specs.Seen.{SeenParcel, IsOfNet, stamps_of}
+use Rattle.ir_worker.specs.Seen.{Parcel, IsOfNet, stamps_of}
 
 -- its record, its first stamp and those of its later segments
 pub record Told : Type 0 where
-  pub journey : Journey
+  pub journey : Record
   pub first : Stamp
   pub later : List Stamp
 
-abbrev pub told : Outcome → Told
-told o = record { journey = o.packet; first = o.stamp; later = o.later.items }
+abbrev pub outcome_told : Outcome → Told
+outcome_told o = record { journey = o.packet; first = o.stamp; later = o.later.items }
 
-abbrev pub told_left : SeenParcel → Told
+abbrev pub told_left : Parcel → Told
 told_left x = record { journey = x.journey; first = x.first; later = x.later }
 
 abbrev pub outcome_number : Outcome → ℕ

@@ -1,8 +1,8 @@
 //! The channels of a net.
 ghost use Rattle.std.specs.Prelude.{◌≡◌, ℕ, ◌+◌, ◌^◌, ◌<◌, IfOk, length, slice_index};
-ghost use Rattle.ir_model.specs.Network.{node_count};
+ghost use Rattle.ir_model.specs.Topology.{node_count};
 ghost use Rattle.ir_control.specs.Places.{offset, way_count, IsFilled, IsFilledTo};
-ghost use Rattle.ir_control.specs.Wired.{IsWay, AreInboxes};
+ghost use Rattle.ir_control.specs.Wired.{IsNetChannel, AreInboxes};
 
 use ir_epochs::Stamp;
 use ir_links::Channel;
@@ -20,7 +20,7 @@ fn channel(
     to: u16,
 ) -> Result<Channel<Parcel>, AllocError>
     requires { 0 < capacity }
-    ensures { IfOk result (λ line. IsWay opening.now restamps capacity from to line) }
+    ensures { IfOk result (λ line. IsNetChannel opening.now restamps capacity from to line) }
 {
     let place = Place {
         from,
@@ -63,9 +63,9 @@ fn add_ways(
     requires capacity { 0 < capacity }
     requires node { u < node_count topology.now }
     requires before { IsFilledTo topology.now
-        (λ v hop line. IsWay opening.now restamps capacity v hop.node line) u 0 ways.old.items }
+        (λ v hop line. IsNetChannel opening.now restamps capacity v hop.node line) u 0 ways.old.items }
     ensures { IfOk result (λ _. IsFilledTo topology.now
-        (λ v hop line. IsWay opening.now restamps capacity v hop.node line) (u + 1) 0 ways.new.items) }
+        (λ v hop line. IsNetChannel opening.now restamps capacity v hop.node line) (u + 1) 0 ways.new.items) }
 {
     for hop in topology.ports(u as usize) {
         ways.push(channel(alloc, opening, restamps, capacity, u, hop.node)?)?;
@@ -83,7 +83,7 @@ pub fn ways_of(
 ) -> Result<(Vec<Channel<Parcel>>, Vec<usize>), AllocError>
     requires { 0 < capacity }
     ensures ways { IfOk result (λ made. IsFilled topology.now
-        (λ v hop line. IsWay opening.now restamps capacity v hop.node line) made.0.items) }
+        (λ v hop line. IsNetChannel opening.now restamps capacity v hop.node line) made.0.items) }
     ensures offsets { IfOk result (λ made. (length made.1.items ≡ node_count topology.now)
         × ((v : ℕ) → v < node_count topology.now → slice_index made.1.items v ≡ offset topology.now v)) }
     ensures fits { IfOk result (λ _. way_count topology.now < 2 ^ 64) }

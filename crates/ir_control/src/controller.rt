@@ -1,12 +1,12 @@
 //! The controller: it registers plans and changes the board.
 ghost use Rattle.std.specs.Prelude.{◌≡◌, ◌⊎◌, ◌+◌, ◌<◌, ◌≤◌, ◌∷◌, ◌++◌, [], IfOk, MatchResult, Some, None, Err, length};
 ghost use Rattle.std.specs.Arc.{arc_value};
-ghost use Rattle.ir_model.specs.Network.{node_count};
+ghost use Rattle.ir_model.specs.Topology.{node_count};
 ghost use Rattle.ir_model.specs.Walk.{IsDisconnected};
 ghost use Rattle.ir_core.specs.declared.TheConstants.{MAX_LINKS, MAX_EPOCHS};
 ghost use Rattle.ir_core.specs.Meaning.{IsMade};
 ghost use Rattle.ir_epochs.specs.Stamps.{IsOf, knows, registry_name};
-ghost use Rattle.ir_epochs.specs.Entries.{registry_of, network_of, links_of, board_of, changed, Fits};
+ghost use Rattle.ir_epochs.specs.Entries.{registry_of, topology_of, opening_links, board_of, changed, MayComeNext};
 ghost use Rattle.ir_epochs.specs.declared.entry.Entry.TheVariants.{Opened, Changed};
 ghost use Rattle.ir_core.specs.declared.TheConstants.{MAX_CHANGES};
 ghost use Rattle.ir_epochs.specs.Handles.{published, known, writer_board, reader_board, told, receipt_board};
@@ -33,15 +33,15 @@ pub struct Controller<R: Wait + Drop> {
     used: u32,
     ghost of_registry: { IsOf (arc_value registry) opening },
     ghost registry_is: { registry_of (published writer) ≡ registry_name opening },
-    ghost network_is: { network_of (published writer) ≡ (knows opening).network },
-    ghost links_are: { links_of (published writer) ≡ length (knows opening).network.links },
-    ghost few_links: { length (knows opening).network.links ≤ MAX_LINKS },
+    ghost topology_is: { topology_of (published writer) ≡ (knows opening).topology },
+    ghost links_are: { opening_links (published writer) ≡ length (knows opening).topology.links },
+    ghost few_links: { length (knows opening).topology.links ≤ MAX_LINKS },
     ghost used_up: { ((board_of (published writer)).current ≤ used) × (used ≤ MAX_EPOCHS) },
 }
 
 impl<R: Wait + Drop> Controller<R> {
     ghost use Rattle.ir_core.specs.Refusals.{retire_refused, mark_refused};
-    ghost use Rattle.ir_control.specs.Changes.{install_refusal, network_up, IsChangeAnswer, IsInstallAnswer};
+    ghost use Rattle.ir_control.specs.Changes.{install_refusal, topology_up, IsChangeAnswer, IsInstallAnswer};
     ghost use Rattle.ir_epochs.specs.declared.entry.Change.TheVariants.{Retire, Down, Up};
     ghost use Rattle.std.specs.Prelude.{true, false};
 
@@ -54,8 +54,8 @@ impl<R: Wait + Drop> Controller<R> {
         writer: BoardWriter<R>,
     ) -> Controller<R>
         requires registry { IsOf (arc_value registry) opening.now }
-        requires board { published writer ≡ Opened (length (knows opening.now).network.links) opening.now ∷ [] }
-        requires few_links { length (knows opening.now).network.links ≤ MAX_LINKS }
+        requires board { published writer ≡ Opened (length (knows opening.now).topology.links) opening.now ∷ [] }
+        requires few_links { length (knows opening.now).topology.links ≤ MAX_LINKS }
         ensures { (result.opening ≡ opening.now) × (result.registry ≡ registry) × (result.writer ≡ writer)
             × (result.used ≡ 1) × (result.labels ≡ labels) }
     {
@@ -87,7 +87,7 @@ impl<R: Wait + Drop> Controller<R> {
     /// Publishes one change, for which there is room.
     fn change(&mut self, change: Change) -> Result<Receipt, Refused>
         requires version { (board_of (published self.old.writer)).version < MAX_CHANGES }
-        requires fits { Fits (published self.old.writer) change }
+        requires fits { MayComeNext (published self.old.writer) change }
         requires epochs { (changed (board_of (published self.old.writer)) change).current ≤ self.old.used }
         ensures answer { MatchResult result
             (λ t. (published self.new.writer ≡ published self.old.writer ++ Changed change ∷ [])
@@ -119,7 +119,7 @@ impl<R: Wait + Drop> Controller<R> {
     /// Marks a link as down. Refused are, in this order: a number that is no link, a link that is down, a change too
     /// many, want of memory.
     pub fn down(&mut self, link: u16) -> Result<Receipt, Refused>
-        ensures { IsChangeAnswer (mark_refused (length (knows self.old.opening).network.links)
+        ensures { IsChangeAnswer (mark_refused (length (knows self.old.opening).topology.links)
             (board_of (published self.old.writer)) link false) (Down link) self.old self.new result }
     {
         if let Some(error) = self.mark_refusal(link, false) {
@@ -131,7 +131,7 @@ impl<R: Wait + Drop> Controller<R> {
     /// Marks a link as up. Refused are, in this order: a number that is no link, a link that is up, a change too many,
     /// want of memory.
     pub fn up(&mut self, link: u16) -> Result<Receipt, Refused>
-        ensures { IsChangeAnswer (mark_refused (length (knows self.old.opening).network.links)
+        ensures { IsChangeAnswer (mark_refused (length (knows self.old.opening).topology.links)
             (board_of (published self.old.writer)) link true) (Up link) self.old self.new result }
     {
         if let Some(error) = self.mark_refusal(link, true) {
@@ -142,7 +142,7 @@ impl<R: Wait + Drop> Controller<R> {
 
     // Why a link is not marked.
     fn mark_refusal(&self, link: u16, up: bool) -> Option<Refused>
-        ensures { result ≡ mark_refused (length (knows self.now.opening).network.links)
+        ensures { result ≡ mark_refused (length (knows self.now.opening).topology.links)
             (board_of (published self.now.writer)) link up }
     {
         let topology = self.registry.plan(&self.opening).topology();
@@ -161,10 +161,10 @@ impl<R: Wait + Drop> Controller<R> {
 
     // The plan of this kind and root over the links that are up.
     fn plan(&self, rt: &(impl Threads + Sync), kind: Kind, root: u16) -> Result<Plan, Refused>
-        requires { root < node_count (knows self.now.opening).network }
+        requires { root < node_count (knows self.now.opening).topology }
         ensures { MatchResult result
-            (λ p. IsMade self.now.labels kind root (network_up self.now) (Some p))
-            (λ e. ((e ≡ Refused.Disconnected) × IsDisconnected (network_up self.now))
+            (λ p. IsMade self.now.labels kind root (topology_up self.now) (Some p))
+            (λ e. ((e ≡ Refused.Disconnected) × IsDisconnected (topology_up self.now))
             ⊎ (e ≡ Refused.NoMemory)) }
     {
         let topology = self.registry.plan(&self.opening).topology();

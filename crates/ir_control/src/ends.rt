@@ -1,8 +1,8 @@
 //! All nodes' ends in rows.
 ghost use Rattle.std.specs.Prelude.{◌≡◌, ◌≤◌, ◌<◌, ◌+◌, ◌++◌, ◌∷◌, [], All, Some, length, map, sum_by, vec_len, vec_capacity};
-ghost use Rattle.ir_model.specs.Network.{node_count};
+ghost use Rattle.ir_model.specs.Topology.{node_count};
 ghost use Rattle.ir_control.specs.Places.{way_count};
-ghost use Rattle.ir_control.specs.Rowed.{AreRows, AreSlotsFrom, AreWeighed};
+ghost use Rattle.ir_control.specs.Rowed.{AreEndRows, AreSlotsFrom, AreWeighed};
 ghost use Rattle.ir_control.specs.Told.{IsOutcomeIn};
 
 use crate::net::Net;
@@ -80,7 +80,8 @@ pub(crate) fn take_apart(
         × (way_count net.now.topology ≤ vec_capacity takers.old)
         × (way_count net.now.topology ≤ vec_capacity senders.old)
         × (node_count net.now.topology ≤ vec_capacity settled.old) }
-    ensures rows { AreRows net.now (node_count net.now.topology) inboxes.new.items takers.new.items senders.new.items }
+    ensures rows { AreEndRows net.now (node_count net.now.topology)
+        inboxes.new.items takers.new.items senders.new.items }
     ensures weighed { AreWeighed slots.items [] inboxes.new.items takers.new.items senders.new.items
         (λ w. sum_by (λ row. sum_by w row.items) settled.new.items) }
     ensures of_net { All (λ row. All (λ o. IsOutcomeIn net.now.opening o) row.items) settled.new.items }

@@ -1,10 +1,10 @@
 //! The injector: it puts packets into the nodes' inboxes and keeps what was accepted.
 ghost use Rattle.std.specs.Prelude.{◌≡◌, ℕ, Bool, All, ◌<◌, ◌≤◌, [], ◌∷◌, MatchResult, Some, None, length};
 ghost use Rattle.std.specs.Arc.{arc_value};
-ghost use Rattle.ir_model.specs.Network.{node_count};
+ghost use Rattle.ir_model.specs.Topology.{node_count};
 ghost use Rattle.ir_core.specs.declared.TheConstants.{MAX_NODES, MAX_PACKETS};
 ghost use Rattle.ir_epochs.specs.Stamps.{IsOf, knows, registry_name};
-ghost use Rattle.ir_epochs.specs.Entries.{registry_of, network_of, installed_by};
+ghost use Rattle.ir_epochs.specs.Entries.{registry_of, topology_of, installed_by};
 ghost use Rattle.ir_epochs.specs.Handles.{told};
 ghost use Rattle.ir_worker.specs.Seen.{HasRoomOf, IsOfNet};
 ghost use Rattle.ir_control.specs.Whole.{IsParcelOf};
@@ -42,7 +42,7 @@ pub struct Injector {
     pub(crate) accepted: Vec<Accepted>,
     ghost of_registry: { IsOf (arc_value registry) opening },
     ghost newest_of: { IsOfNet opening newest },
-    ghost few_nodes: { node_count (knows opening).network ≤ MAX_NODES },
+    ghost few_nodes: { node_count (knows opening).topology ≤ MAX_NODES },
     ghost few_packets: { max_packets ≤ MAX_PACKETS },
     ghost counted: { length accepted.items ≤ max_packets },
     ghost ends: { AreEntryEnds opening restamps (lines_out outs.items) },
@@ -95,7 +95,7 @@ impl Injector {
         outs: Vec<Sender<Parcel>>,
     ) -> Injector
         requires registry { IsOf (arc_value registry) opening.now }
-        requires few_nodes { node_count (knows opening.now).network ≤ MAX_NODES }
+        requires few_nodes { node_count (knows opening.now).topology ≤ MAX_NODES }
         requires few_packets { max_packets ≤ MAX_PACKETS }
         requires ends { AreEntryEnds opening.now restamps (lines_out outs.items) }
         requires fresh { All (λ s. s.sent ≡ []) outs.items }
@@ -124,7 +124,7 @@ impl Injector {
     /// From now on packets are stamped with the receipt's epoch, if it is an install's and a later one.
     pub fn learn(&mut self, receipt: &Receipt)
         requires registry { registry_of (told receipt.now) ≡ registry_name self.old.opening }
-        requires network { network_of (told receipt.now) ≡ (knows self.old.opening).network }
+        requires topology { topology_of (told receipt.now) ≡ (knows self.old.opening).topology }
         ensures newest { self.new.newest ≡ stamp_after_learning self.old.newest (installed_by (told receipt.now)) }
         ensures same { (self.new.opening ≡ self.old.opening) × (self.new.outs ≡ self.old.outs)
             × (self.new.accepted ≡ self.old.accepted) × (self.new.max_packets ≡ self.old.max_packets) }
@@ -148,7 +148,7 @@ impl Injector {
         dest: u16,
     ) -> Result<u32, Refused>
         ensures answer { MatchResult result
-            (λ id. (inject_refused (node_count (knows self.old.opening).network) self.old.max_packets
+            (λ id. (inject_refused (node_count (knows self.old.opening).topology) self.old.max_packets
             (length self.old.accepted.items) source dest ≡ None) × IsInjected self.old self.new id source dest)
             (λ e. IsInjectRefusal R.was_full self.old source dest e × (self.new.outs.items ≡ self.old.outs.items)
             × (self.new.accepted.items ≡ self.old.accepted.items)) }

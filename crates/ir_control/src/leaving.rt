@@ -1,6 +1,6 @@
 //! What the nodes settled and what is left in the channels.
 ghost use Rattle.std.specs.Prelude.{◌≡◌, ◌≤◌, ◌+◌, [], All, IfOk, sum_by, vec_capacity};
-ghost use Rattle.ir_model.specs.Network.{node_count};
+ghost use Rattle.ir_model.specs.Topology.{node_count};
 ghost use Rattle.ir_worker.specs.Account.{lines_out};
 ghost use Rattle.ir_control.specs.Parts.{AreNodesOf};
 ghost use Rattle.ir_control.specs.Places.{way_count};

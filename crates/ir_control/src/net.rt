@@ -1,7 +1,7 @@
 //! A net: its registry, its channels, and what its parts are made of.
 ghost use Rattle.std.specs.Prelude.{◌≡◌, ◌⊎◌, ◌<◌, ◌≤◌, IfOk, IfErr, None, Some, length};
 ghost use Rattle.std.specs.Arc.{arc_value};
-ghost use Rattle.ir_model.specs.Network.{node_count};
+ghost use Rattle.ir_model.specs.Topology.{node_count};
 ghost use Rattle.ir_model.specs.Walk.{IsDisconnected};
 ghost use Rattle.ir_core.specs.Meaning.{IsMade};
 ghost use Rattle.ir_core.specs.declared.TheConstants.{MAX_PACKETS, MAX_RESTAMPS};
@@ -9,7 +9,7 @@ ghost use Rattle.ir_control.specs.Places.{offset};
 ghost use Rattle.ir_epochs.specs.Stamps.{IsOf, knows};
 ghost use Rattle.ir_core.specs.Opened.{open_refused};
 ghost use Rattle.ir_control.specs.Opened.{IsNetRefusal};
-ghost use Rattle.ir_control.specs.Wired.{AreInboxes, AreWays, AreEntries, AreOffsets, IsOpening};
+ghost use Rattle.ir_control.specs.Wired.{AreInboxes, AreWiredWays, AreEntries, AreOffsets, IsOpening};
 
 use crate::channels::{inboxes_of, ways_of};
 use crate::controller::Controller;
@@ -50,7 +50,7 @@ pub struct Net {
     ghost opened: { IsOpening (arc_value registry) topology opening },
     ghost inboxes_are: { AreInboxes topology opening restamps capacity inboxes.items },
     ghost entries_are: { AreEntries (node_count topology) entries.items },
-    ghost ways_are: { AreWays topology opening restamps capacity ways.items peers.items },
+    ghost ways_are: { AreWiredWays topology opening restamps capacity ways.items peers.items },
     ghost offsets_are: { AreOffsets topology offsets.items },
     ghost few_packets: { max_packets ≤ MAX_PACKETS },
     ghost few_restamps: { restamps ≤ MAX_RESTAMPS },
@@ -183,7 +183,7 @@ impl Net {
 impl Net {
     ghost use Rattle.std.specs.Prelude.{IfSome, slice_get, []};
     ghost use Rattle.ir_epochs.specs.Stamps.{registry_name};
-    ghost use Rattle.ir_epochs.specs.Entries.{registry_of, network_of};
+    ghost use Rattle.ir_epochs.specs.Entries.{registry_of, topology_of};
     ghost use Rattle.ir_epochs.specs.Handles.{known, reader_board};
     ghost use Rattle.ir_control.specs.Fresh.{AreFreshOuts, AreFreshIns};
     ghost use Rattle.ir_control.specs.Parts.{IsNodeOf, IsFreshNode};
@@ -222,7 +222,7 @@ impl Net {
         requires inbox { slice_get self.now.inboxes.items u ≡ Some inbox.line }
         requires inbox_new { inbox.taken ≡ [] }
         requires reader { (registry_of (known reader) ≡ registry_name self.now.opening)
-            × (network_of (known reader) ≡ (knows self.now.opening).network) }
+            × (topology_of (known reader) ≡ (knows self.now.opening).topology) }
         requires senders { AreFreshOuts self.now.ways.items senders.old.items }
         requires takers { AreFreshIns self.now.ways.items takers.old.items }
         ensures senders { AreFreshOuts self.now.ways.items senders.new.items }

@@ -3,7 +3,7 @@ ghost use Rattle.std.specs.Prelude.{◌≡◌, ◌≤◌, ◌<◌, ◌+◌, [], 
 ghost use Rattle.ir_core.specs.declared.packet.Fate.TheVariants.{Left};
 ghost use Rattle.ir_worker.specs.declared.parcel.Outcome.{Outcome};
 ghost use Rattle.ir_control.specs.Slots.{slot_weight, hit, once, AllAt, AllIn, left_in};
-ghost use Rattle.ir_control.specs.Told.{Told, told, told_left, outcome_number, IsOutcomeIn};
+ghost use Rattle.ir_control.specs.Told.{Told, outcome_told, told_left, outcome_number, IsOutcomeIn};
 ghost use Rattle.ir_control.specs.Whole.{IsParcelOf};
 
 use crate::net::Net;
@@ -97,8 +97,8 @@ fn place_rest<R: Wait>(
     ensures at { AllAt outcome_number slots.new.items }
     ensures all { AllIn (λ o. IsOutcomeIn opening.now o) slots.new.items }
     ensures weighs { (w : Told → ℕ)
-        → sum_by (slot_weight (λ o. w (told o))) slots.new.items
-        ≡ sum_by (slot_weight (λ o. w (told o))) slots.old.items + sum_by (λ x. w (told_left x)) channel.left }
+        → sum_by (slot_weight (λ o. w (outcome_told o))) slots.new.items
+        ≡ sum_by (slot_weight (λ o. w (outcome_told o))) slots.old.items + sum_by (λ x. w (told_left x)) channel.left }
     ensures fates { All (λ x. x.journey.fate ≡ Left) channel.left }
 {
     for _ in rt.forever() {
@@ -125,8 +125,8 @@ pub(crate) fn place_left<R: Wait>(
     ensures at { AllAt outcome_number slots.new.items }
     ensures all { AllIn (λ o. IsOutcomeIn opening.now o) slots.new.items }
     ensures weighs { (w : Told → ℕ)
-        → sum_by (slot_weight (λ o. w (told o))) slots.new.items
-        ≡ sum_by (slot_weight (λ o. w (told o))) slots.old.items
+        → sum_by (slot_weight (λ o. w (outcome_told o))) slots.new.items
+        ≡ sum_by (slot_weight (λ o. w (outcome_told o))) slots.old.items
         + sum_by (λ x. w (told_left x)) (left_in channels.items) }
     ensures fates { All (λ x. x.journey.fate ≡ Left) (left_in channels.items) }
 {

@@ -1,6 +1,6 @@
 //! Which port is the other end of which port's link.
 ghost use Rattle.std.specs.Prelude.{◌≡◌, ℕ, ◌+◌, ◌^◌, ◌<◌, Some, IfOk, length, slice_index};
-ghost use Rattle.ir_model.specs.Network.{node_count, port_at, port_back};
+ghost use Rattle.ir_model.specs.Topology.{node_count, port_at, port_back};
 ghost use Rattle.ir_control.specs.Places.{offset, way_count, IsFilled, IsFilledTo, IsPeer};
 
 use ir_tables::{Hop, Topology};

@@ -1,10 +1,10 @@
 //! Finishing a net.
 ghost use Rattle.std.specs.Prelude.{◌≡◌, ◌<◌, ◌+◌, MatchResult, IfOk, length};
-ghost use Rattle.ir_model.specs.Network.{node_count};
+ghost use Rattle.ir_model.specs.Topology.{node_count};
 ghost use Rattle.ir_control.specs.Parts.{AreNodesOf, IsInjectorOf};
 ghost use Rattle.ir_control.specs.Places.{way_count};
 ghost use Rattle.ir_control.specs.Reported.{AreAllThere};
-ghost use Rattle.ir_control.specs.Reports.{HasRoom, IsReport, IsFinishRefusal};
+ghost use Rattle.ir_control.specs.Reports.{HasReportRoom, IsReport, IsFinishRefusal};
 
 use crate::injector::Injector;
 use crate::leaving::{empty_rows, left_over};
@@ -17,7 +17,7 @@ use std::sync::Wait;
 
 // All the memory that a report takes: for so many nodes, ways and packets.
 fn room_for(alloc: Global, nodes: usize, ways: usize, packets: usize) -> Result<Room, AllocError>
-    ensures { IfOk result (λ room. HasRoom nodes ways packets room) }
+    ensures { IfOk result (λ room. HasReportRoom nodes ways packets room) }
 {
     let Some(channels) = nodes.checked_add(ways) else {
         return Err(AllocError);
@@ -37,7 +37,7 @@ fn reported<R: Wait>(rt: &R, net: &Net, nodes: Vec<Node>, injector: Injector, ro
     requires nodes { AreNodesOf net.now nodes.items }
     requires all { AreAllThere net.now nodes.items }
     requires injector { IsInjectorOf net.now injector }
-    requires room { HasRoom (node_count net.now.topology) (way_count net.now.topology)
+    requires room { HasReportRoom (node_count net.now.topology) (way_count net.now.topology)
         (length injector.accepted.items) room }
     ensures { IsReport net.now nodes.items injector result }
 {

@@ -1,6 +1,6 @@
 //! What is left in the channels.
 ghost use Rattle.std.specs.Prelude.{◌≡◌, ◌≤◌, ◌+◌, ℕ, All, sum_by, length, vec_len, vec_capacity};
-ghost use Rattle.ir_worker.specs.Seen.{SeenParcel};
+ghost use Rattle.ir_worker.specs.Seen.{Parcel};
 ghost use Rattle.ir_control.specs.Whole.{IsParcelOf, IsFew};
 ghost use Rattle.ir_control.specs.Slots.{times_in_slots, weight_taken, left_in};
 ghost use Rattle.ir_control.specs.Pairs.{ArePaired};
@@ -25,7 +25,7 @@ pub fn join_all(
     requires limits { All (λ t. t.line.place.restamps ≡ restamps) takers.items }
     requires of_net { All (λ x. IsParcelOf opening.now x) (left_in channels.old.items) }
     requires few { All (λ x. IsFew restamps x) (left_in channels.old.items) }
-    ensures account { (w : SeenParcel → ℕ)
+    ensures account { (w : Parcel → ℕ)
         → times_in_slots w senders.items + sum_by w (left_in channels.old.items) ≡ weight_taken w takers.items
         + sum_by w (left_in channels.new.items) }
     ensures room { (vec_capacity channels.new ≡ vec_capacity channels.old)

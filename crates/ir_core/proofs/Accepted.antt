@@ -3,7 +3,7 @@ use Rattle.std.specs.Prelude.{Result, Ok, Err, is_some}
 use Rattle.std.proofs.lemmas.Grind.{common_steps}
 use Rattle.std.proofs.lemmas.List.{get_or_default}
 use Rattle.ir_model.specs.declared.Kind.{Kind}
-use Rattle.ir_model.specs.Scheme.{Scheme}
+use Rattle.ir_model.specs.Plan.{Plan}
 use Rattle.ir_core.specs.declared.event.Way.{Way}
 use Rattle.ir_core.specs.declared.event.Way.TheVariants.{Link}
 use Rattle.ir_core.specs.declared.event.Event.{Event}
@@ -13,7 +13,7 @@ use Rattle.ir_core.specs.declared.event.Refused.TheVariants.{NoNode, NoChannel, 
 use Rattle.ir_core.specs.declared.event.Verdict.{Verdict}
 use Rattle.ir_core.specs.declared.event.Verdict.TheVariants.{CameByDown, BelowFloor, Arrives, LeavesByDown, NoRoom, GoesOn}
 use Rattle.ir_core.specs.declared.event.Ruling.{Ruling}
-use Rattle.ir_core.specs.Journey.{Journey, hop_room}
+use Rattle.ir_core.specs.Record.{Record, hop_room}
 use Rattle.ir_core.specs.declared.packet.Held.{Held}
 use Rattle.ir_core.specs.Setting.{nodes_of, links_of, channel_of, into}
 use Rattle.ir_core.specs.declared.board.Board.{Board}
@@ -21,7 +21,7 @@ use Rattle.ir_core.specs.Board.{marked, retired_below, installed}
 use Rattle.ir_core.specs.Refusals.{retire_refused, mark_refused}
 use Rattle.ir_core.specs.Entry.{Entry, DidInject, DidLearn, DidTake, DidRead, DidAct, DidChange, DidInstall, fresh}
 use Rattle.ir_core.specs.Meaning.{newest, takes_from, takes_first, acts_on, installs_made, unless, install_refusal, InstallsUnless, ComesTo, record_at, ruling_on, is_full_towards}
-use Rattle.ir_core.specs.State.{State, IsState, sight_in, LeadsIn}
+use Rattle.ir_core.specs.World.{World, IsWorld, sight_in, LeadsIn}
 use Rattle.ir_core.proofs.Refusals.{source_in}
 use Rattle.ir_core.proofs.Channels.{channel_within, into_is}
 use Rattle.ir_core.proofs.Keeps.{acting_now, leads_in}
@@ -49,7 +49,7 @@ let_through : (x : Option Refused) (w : Result Entry Refused) (y : Entry) → un
 let_through (Some e) w y is = absurd (not_accepted e y is)
 let_through None w y is = (refl, is)
 
-fits_verdict : (s : State) (v : Verdict) → LeadsIn s v → FitsVerdict s v
+fits_verdict : (s : World) (v : Verdict) → LeadsIn s v → FitsVerdict s v
 fits_verdict s (GoesOn h) k = let e = into_is s.opening h.node (Link h.link) k.0 k.1 in let w = k.2 in omega arith
 fits_verdict s (CameByDown l) k = tt
 fits_verdict s BelowFloor k = tt
@@ -57,7 +57,7 @@ fits_verdict s Arrives k = tt
 fits_verdict s (LeavesByDown l) k = tt
 fits_verdict s (NoRoom h) k = tt
 
-take_fits : (s : State) → IsState s → (u : ℕ) (way : Way) (entry : Entry) (x : Option ℕ) (y : Option ℕ) → u < (nodes_of s.opening) → channel_of s.opening u way ≡ x →
+take_fits : (s : World) → IsWorld s → (u : ℕ) (way : Way) (entry : Entry) (x : Option ℕ) (y : Option ℕ) → u < (nodes_of s.opening) → channel_of s.opening u way ≡ x →
     ((c : ℕ) → x ≡ Some c → slice_get (slice_index_or s.channels c []) 0 ≡ y) → takes_from (sight_in s) u way x ≡ Ok entry → Fits s entry
 take_fits s ok u way entry None y u_in there seen e = absurd (not_accepted NoChannel entry e)
 take_fits s ok u way entry (Some c) y u_in there seen e =
@@ -72,31 +72,31 @@ take_fits s ok u way entry (Some c) y u_in there seen e =
         let made : Fits s (DidTake u way id) = (omega (arith, ok.hands), omega (arith, number, ok.channels), ap (λ (k : ℕ). slice_get (slice_index_or s.channels k []) 0) number ∙ is) in
         subst (λ (k : Entry). Fits s k) (same_entry (DidTake u way id) entry q) made
 
-act_fits : (s : State) → IsState s → (u : ℕ) (entry : Entry) (x : Option Held) → u < (nodes_of s.opening) → slice_index_or s.hands u None ≡ x → acts_on s.opening (sight_in s) u x ≡ Ok entry → Fits s entry
+act_fits : (s : World) → IsWorld s → (u : ℕ) (entry : Entry) (x : Option Held) → u < (nodes_of s.opening) → slice_index_or s.hands u None ≡ x → acts_on s.opening (sight_in s) u x ≡ Ok entry → Fits s entry
 act_fits s ok u entry None u_in holds e = absurd (not_accepted HandEmpty entry e)
 act_fits s ok u entry (Some held) u_in holds e =
     let id_in = (ok.placed.held u held holds).0 in
-    let r : Journey = slice_index_or s.records held.id (fresh held.id 0 0 0 0) in
+    let r : Record = slice_index_or s.records held.id (fresh held.id 0 0 0 0) in
     let read : r ≡ slice_index_or s.records held.id r = get_or_default s.records held.id (fresh held.id 0 0 0 0) r id_in in
     let x : Ruling = ruling_on s.opening (sight_in s) u held.way (record_at (sight_in s) held.id) in
     let a = acting_now s s refl ok u held r x holds read u_in refl in
     let made : Fits s (DidAct u held.id held.way x.restamp x.verdict) = (omega (arith, ok.hands), id_in, fits_verdict s x.verdict (leads_in s ok u held r (is_full_towards s.opening (sight_in s)) _ x.restamp x.verdict a), holds) in
     subst (λ (k : Entry). Fits s k) (same_entry (DidAct u held.id held.way x.restamp x.verdict) entry e) made
 
-made_fits : (s : State) (entry : Entry) (x : Option Scheme) → Ok entry ≡ installs_made (sight_in s) x → Fits s entry
+made_fits : (s : World) (entry : Entry) (x : Option Plan) → Ok entry ≡ installs_made (sight_in s) x → Fits s entry
 made_fits s entry None e = absurd (not_accepted Disconnected entry (sym e))
 made_fits s entry (Some t) e =
     subst (λ (k : Entry). Fits s k) (same_entry (DidInstall (length s.plans + 1) t (installed (newest (sight_in s)) (length s.plans + 1))) entry (sym e)) tt
 
-install_fits : (s : State) (kind : Kind) (root : ℕ) (entry : Entry) (x : Option Refused) → InstallsUnless s.opening (sight_in s) kind root (Ok entry) x → Fits s entry
+install_fits : (s : World) (kind : Kind) (root : ℕ) (entry : Entry) (x : Option Refused) → InstallsUnless s.opening (sight_in s) kind root (Ok entry) x → Fits s entry
 install_fits s kind root entry (Some refused) e = absurd (not_accepted refused entry (sym e))
 install_fits s kind root entry None e = made_fits s entry e.0 e.2
 
-change_fits : (s : State) (x : Option Refused) (b : Board) (entry : Entry) → Ok entry ≡ unless x (Ok (DidChange b)) → Fits s entry
+change_fits : (s : World) (x : Option Refused) (b : Board) (entry : Entry) → Ok entry ≡ unless x (Ok (DidChange b)) → Fits s entry
 change_fits s x b entry e = subst (λ (k : Entry). Fits s k) (same_entry (DidChange b) entry (let_through x (Ok (DidChange b)) entry (sym e)).1) tt
 
 -- what is accepted fits the world
-pub accepted_fits : (s : State) → IsState s → (e : Event) (entry : Entry) → ComesTo s.opening (sight_in s) e (Ok entry) → Fits s entry
+pub accepted_fits : (s : World) → IsWorld s → (e : Event) (entry : Entry) → ComesTo s.opening (sight_in s) e (Ok entry) → Fits s entry
 accepted_fits s ok (event.Inject source dest) entry e =
     let p = let_through _ _ entry (sym e) in
     let r = passed _ InboxFull _ entry p.1 in

@@ -5,9 +5,9 @@ use Rattle.std.proofs.lemmas.Option.{none-some}
 use Rattle.std.proofs.lemmas.List.Elements.{All-head, All-tail}
 use Rattle.ir_model.specs.declared.Hop.{Hop}
 use Rattle.ir_model.specs.declared.Kind.{Kind}
-use Rattle.ir_model.specs.Network.{Network, ports_of, restrict}
+use Rattle.ir_model.specs.Topology.{Topology, ports_of, restrict}
 use Rattle.ir_model.specs.Walk.{IsConnected, IsDisconnected}
-use Rattle.ir_model.specs.Scheme.{Scheme, IsScheme}
+use Rattle.ir_model.specs.Plan.{Plan, IsPlan}
 use Rattle.ir_plan.specs.declared.tour.LabelOrder.{LabelOrder}
 use Rattle.ir_plan.specs.Starts.{IsLabelledBy}
 use Rattle.ir_core.specs.declared.opening.Opening.{Opening}
@@ -25,46 +25,46 @@ use Rattle.ir_core.specs.declared.event.Refused.TheVariants.{NoNode, NoEpoch, In
 use Rattle.ir_core.specs.declared.event.Way.{Way}
 use Rattle.ir_core.specs.declared.event.Way.TheVariants.{Inbox, Link}
 use Rattle.ir_core.specs.declared.packet.Held.{Held}
-use Rattle.ir_core.specs.Journey.{hop_room}
+use Rattle.ir_core.specs.Record.{hop_room}
 use Rattle.ir_core.specs.Setting.{Setting, nodes_of, links_of, channel_of, into}
 use Rattle.ir_core.specs.Opened.{IsOpenedWith}
 use Rattle.ir_core.specs.Entry.{Entry, DidInject, DidLearn, DidTake, DidRead, DidAct, DidChange, DidInstall}
 use Rattle.ir_core.specs.History as history
-use Rattle.ir_core.specs.Meaning.{Sight, IsMade, ComesTo, InstallsUnless, unless, install_refusal, installs_made, network_up, newest, newest_of, is_full, sight_after, with_entry, injects, learns, takes, takes_from, takes_first, reads, acts, acts_on, retires, marks}
-use Rattle.ir_core.specs.State.{State}
+use Rattle.ir_core.specs.Meaning.{Sight, IsMade, ComesTo, InstallsUnless, unless, install_refusal, installs_made, topology_up, newest, newest_of, is_full, sight_after, with_entry, injects, learns, takes, takes_from, takes_first, reads, acts, acts_on, retires, marks}
+use Rattle.ir_core.specs.World.{World}
 use Rattle.ir_core.specs.Shows.{IsAnswered}
 use Rattle.ir_core.specs.Run.{IsStepAnswered, IsRun}
 use Rattle.ir_core.specs.Drain.{after_read, after_act, after_take, after_way, after_ports, after_visit, after_visits, after_rounds}
-use Rattle.ir_core.specs.Installed.{IsControlled, IsControlRun, AreBuiltFrom, IsChange, NoneWantsMemory, AreEpochsOf}
+use Rattle.ir_core.specs.Installed.{IsControlled, IsControlRun, AreBuiltFrom, IsPlainChange, NoneWantsMemory, AreEpochsOf}
 
--- two schemes of one kind, root and network, the first labelled in this order
-abbrev IsTwin : LabelOrder → Scheme → Scheme → Type 0
-IsTwin n s t = (s.kind ≡ t.kind) × (s.root ≡ t.root) × (s.network ≡ t.network) × IsScheme s × IsLabelledBy n s
+-- two plans of one kind, root and network, the first labelled in this order
+abbrev IsTwin : LabelOrder → Plan → Plan → Type 0
+IsTwin n s t = (s.kind ≡ t.kind) × (s.root ≡ t.root) × (s.topology ≡ t.topology) × IsPlan s × IsLabelledBy n s
 
-abbrev AreTwins : LabelOrder → List Scheme → List Scheme → Type 0
+abbrev AreTwins : LabelOrder → List Plan → List Plan → Type 0
 AreTwins n [] [] = Unit {0}
 AreTwins n [] (t ∷ ts) = ⊥
 AreTwins n (s ∷ ss) [] = ⊥
 AreTwins n (s ∷ ss) (t ∷ ts) = IsTwin n s t × AreTwins n ss ts
 
--- two histories with the same boards, and schemes of the same kinds, roots and networks
+-- two histories with the same boards, and plans of the same kinds, roots and networks
 record AreAlike (o p : Setting) (log other : List Entry) : Type 0 where
   boards : history.boards log ≡ history.boards other
   plans : AreTwins o.labels (history.plans o log) (history.plans p other)
 
-twins-length : (n : LabelOrder) (ss ts : List Scheme) → AreTwins n ss ts → length ss ≡ length ts
+twins-length : (n : LabelOrder) (ss ts : List Plan) → AreTwins n ss ts → length ss ≡ length ts
 twins-length n [] [] h = refl
 twins-length n [] (t ∷ ts) h = absurd h
 twins-length n (s ∷ ss) [] h = absurd h
 twins-length n (s ∷ ss) (t ∷ ts) h = ap suc (twins-length n ss ts h.1)
 
-twins-push : (n : LabelOrder) (ss ts : List Scheme) (s t : Scheme) → AreTwins n ss ts → IsTwin n s t → AreTwins n (ss ++ s ∷ []) (ts ++ t ∷ [])
+twins-push : (n : LabelOrder) (ss ts : List Plan) (s t : Plan) → AreTwins n ss ts → IsTwin n s t → AreTwins n (ss ++ s ∷ []) (ts ++ t ∷ [])
 twins-push n [] [] s t h is = (is, tt)
 twins-push n [] (y ∷ ts) s t h is = absurd h
 twins-push n (x ∷ ss) [] s t h is = absurd h
 twins-push n (x ∷ ss) (y ∷ ts) s t h is = (h.0, twins-push n ss ts s t h.1 is)
 
-twins_built : (o p : Setting) → o.network ≡ p.network → o.labels ≡ p.labels → (installs : List Install) (ss ts : List Scheme) → AreTwins o.labels ss ts → AreBuiltFrom p installs ts → AreBuiltFrom o installs ss
+twins_built : (o p : Setting) → o.topology ≡ p.topology → o.labels ≡ p.labels → (installs : List Install) (ss ts : List Plan) → AreTwins o.labels ss ts → AreBuiltFrom p installs ts → AreBuiltFrom o installs ss
 twins_built o p same order [] [] [] h built = tt
 twins_built o p same order [] [] (t ∷ ts) h built = absurd h
 twins_built o p same order [] (s ∷ ss) [] h built = absurd h
@@ -76,11 +76,11 @@ twins_built o p same order (i ∷ installs) (s ∷ ss) (t ∷ ts) h built =
     let twin = h.0 in
     let made = built.0.1 in (
       (
-        built.0.0 ∙ ap (λ (net : Network). length net.links) (sym same),
+        built.0.0 ∙ ap (λ (net : Topology). length net.links) (sym same),
         (
           twin.0 ∙ made.0,
           twin.1 ∙ made.1,
-          twin.2 ∙ made.2 ∙ ap (λ (net : Network). restrict i.up.items net) (sym same),
+          twin.2 ∙ made.2 ∙ ap (λ (net : Topology). restrict i.up.items net) (sym same),
           twin.3,
           subst (λ (n : LabelOrder). IsLabelledBy n s) (order ∙ sym built.0.2) twin.4,
         ),
@@ -89,7 +89,7 @@ twins_built o p same order (i ∷ installs) (s ∷ ss) (t ∷ ts) h built =
       twins_built o p same order installs ss ts h.1 built.1,
     )
 
--- Entries of the steps that are no controller's change neither boards nor schemes.
+-- Entries of the steps that are no controller's change neither boards nor plans.
 abbrev IsPassed : Result Entry Refused → Type 0
 IsPassed (Err e) = Unit {0}
 IsPassed (Ok (DidInject id e s d m)) = Unit {0}
@@ -158,7 +158,7 @@ on_passed o s u (Some held) = tt
 acts_passed : (o : Setting) (s : Sight) (u : ℕ) → IsPassed (acts o s u)
 acts_passed o s u = one_of (not (nat_lt u (nodes_of o))) (Err NoNode) (acts_on o s u (s.hand u)) tt (on_passed o s u (s.hand u))
 
--- a drain changes neither boards nor schemes
+-- a drain changes neither boards nor plans
 kept_read : (o : Setting) (u : ℕ) (log : List Entry) → SameEpochs o log (after_read o u log)
 kept_read o u log =
     let k = length (history.boards log) - 1 in
@@ -184,7 +184,7 @@ kept_visit o u log =
     let acted = after_act o u seen in
     let came = after_way o u Inbox acted in
     keeps_both o log seen (after_visit o u log) (kept_read o u log)
-    (keeps_both o seen acted (after_visit o u log) (kept_act o u seen) (keeps_both o acted came (after_visit o u log) (kept_way o u Inbox acted) (kept_ports o u (ports_of o.network u) came)))
+    (keeps_both o seen acted (after_visit o u log) (kept_act o u seen) (keeps_both o acted came (after_visit o u log) (kept_way o u Inbox acted) (kept_ports o u (ports_of o.topology u) came)))
 
 kept_visits : (o : Setting) (k : ℕ) (log : List Entry) → SameEpochs o log (after_visits o k log)
 kept_visits o zero log = record { boards = refl; plans = refl }
@@ -197,7 +197,7 @@ kept_rounds o (suc k) log = keeps_both o log (after_rounds o k log) (after_round
 -- a step that is passed over leaves histories alike
 alike_kept : (o p : Setting) (log mid other : List Entry) → SameEpochs o log mid → AreAlike o p log other → AreAlike o p mid other
 alike_kept o p log mid other keeps is =
-    record { boards = keeps.boards ∙ is.boards; plans = subst (λ (schemes : List Scheme). AreTwins o.labels schemes (history.plans p other)) (sym keeps.plans) is.plans }
+    record { boards = keeps.boards ∙ is.boards; plans = subst (λ (plans : List Plan). AreTwins o.labels plans (history.plans p other)) (sym keeps.plans) is.plans }
 
 -- what a change of the board comes to
 abbrev IsBoardChange : Result Entry Refused → Type 0
@@ -214,7 +214,7 @@ change_or : (x : Option Refused) (board : Board) → IsBoardChange (unless x (Ok
 change_or (Some e) board = tt
 change_or None board = tt
 
-change_comes : (o : Setting) (s : Sight) (e : Event) → IsChange e → (w : Result Entry Refused) → ComesTo o s e w → IsBoardChange w
+change_comes : (o : Setting) (s : Sight) (e : Event) → IsPlainChange e → (w : Result Entry Refused) → ComesTo o s e w → IsBoardChange w
 change_comes o s (event.Retire f) is w comes = subst IsBoardChange (sym comes) (change_or (retire_refused (newest s) f) (retired_below (newest s) f))
 change_comes o s (event.Down l) is w comes = subst IsBoardChange (sym comes) (change_or (mark_refused (links_of o) (newest s) l false) (marked (newest s) l false))
 change_comes o s (event.Up l) is w comes = subst IsBoardChange (sym comes) (change_or (mark_refused (links_of o) (newest s) l true) (marked (newest s) l true))
@@ -226,12 +226,12 @@ change_comes o s (event.Read u k) is w comes = absurd is
 change_comes o s (event.Act u) is w comes = absurd is
 
 -- Two settings over one network. A change comes to the same by the same boards.
-module _ (o p : Setting) (over : o.network ≡ p.network) where
+module _ (o p : Setting) (over : o.topology ≡ p.topology) where
   marks_same : (s t : Sight) (l : ℕ) (up : Bool) → s.boards ≡ t.boards → marks o s l up ≡ marks p t l up
   marks_same s t l up same =
-      ap (λ (boards : List Board). marks o (record s { boards = boards }) l up) same ∙ ap (λ (net : Network). marks (record o { network = net }) t l up) over
+      ap (λ (boards : List Board). marks o (record s { boards = boards }) l up) same ∙ ap (λ (net : Topology). marks (record o { topology = net }) t l up) over
 
-  change_same : (s t : Sight) → s.boards ≡ t.boards → (e : Event) → IsChange e → (w v : Result Entry Refused) → ComesTo o s e w → ComesTo p t e v → w ≡ v
+  change_same : (s t : Sight) → s.boards ≡ t.boards → (e : Event) → IsPlainChange e → (w v : Result Entry Refused) → ComesTo o s e w → ComesTo p t e v → w ≡ v
   change_same s t same (event.Retire f) is w v comes goes = comes ∙ ap (λ (boards : List Board). retires (record s { boards = boards }) f) same ∙ sym goes
   change_same s t same (event.Down l) is w v comes goes = comes ∙ marks_same s t l false same ∙ sym goes
   change_same s t same (event.Up l) is w v comes goes = comes ∙ marks_same s t l true same ∙ sym goes
@@ -252,36 +252,36 @@ module _ (o p : Setting) (over : o.network ≡ p.network) where
   changed log other is (Ok (DidRead u k)) h = absurd h
   changed log other is (Ok (DidAct u id way restamp v)) h = absurd h
 
-  change_alike : (log other : List Entry) → AreAlike o p log other → (e : Event) → IsChange e → (w v : Result Entry Refused) → ComesTo o (sight_after o log) e w → ComesTo p (sight_after p other) e v →
+  change_alike : (log other : List Entry) → AreAlike o p log other → (e : Event) → IsPlainChange e → (w v : Result Entry Refused) → ComesTo o (sight_after o log) e w → ComesTo p (sight_after p other) e v →
       AreAlike o p (with_entry log w) (with_entry other v)
   change_alike log other is e change w v comes goes =
       let same = change_same (sight_after o log) (sight_after p other) is.boards e change w v comes goes in
       subst (λ (x : Result Entry Refused). AreAlike o p (with_entry log w) (with_entry other x)) same (changed log other is w (change_comes o (sight_after o log) e change w comes))
 
   -- an install, which is refused by both or accepted by both
-  up_same : (log other : List Entry) → AreAlike o p log other → network_up o (sight_after o log) ≡ network_up p (sight_after p other)
+  up_same : (log other : List Entry) → AreAlike o p log other → topology_up o (sight_after o log) ≡ topology_up p (sight_after p other)
   up_same log other is =
-      ap (λ (boards : List Board). restrict (take (links_of o) (newest_of boards).up) o.network) is.boards
-      ∙ ap (λ (net : Network). restrict (take (length net.links) (newest_of (history.boards other)).up) net) over
+      ap (λ (boards : List Board). restrict (take (links_of o) (newest_of boards).up) o.topology) is.boards
+      ∙ ap (λ (net : Topology). restrict (take (length net.links) (newest_of (history.boards other)).up) net) over
 
   refused_same : (log other : List Entry) → AreAlike o p log other → (root : ℕ) → install_refusal o (sight_after o log) root ≡ install_refusal p (sight_after p other) root
   refused_same log other is root =
       ap (λ (boards : List Board). install_refused (nodes_of o) (length (history.plans o log)) (newest_of boards) root) is.boards
       ∙ ap (λ (n : ℕ). install_refused (nodes_of o) n (newest_of (history.boards other)) root) (twins-length _ _ _ is.plans)
-      ∙ ap (λ (net : Network). install_refusal (record p { network = net }) (sight_after p other) root) over
+      ∙ ap (λ (net : Topology). install_refusal (record p { topology = net }) (sight_after p other) root) over
 
-  not_both : (labels : LabelOrder) (kind : Kind) (root : ℕ) (net : Network) (t : Scheme) → IsMade labels kind root net (Some t) → IsDisconnected net → ⊥
+  not_both : (labels : LabelOrder) (kind : Kind) (root : ℕ) (net : Topology) (t : Plan) → IsMade labels kind root net (Some t) → IsDisconnected net → ⊥
   not_both labels kind root net t made apart =
-      let walk = subst (λ (n : Network). IsConnected n) made.2 made.3.connected apart.0 apart.1 apart.2 apart.3 in
+      let walk = subst (λ (n : Topology). IsConnected n) made.2 made.3.connected apart.0 apart.1 apart.2 apart.3 in
       apart.4 walk.0 walk.1
 
-  installed_alike : (log other : List Entry) → AreAlike o p log other → (kind : Kind) (root : ℕ) (x y : Option Scheme) → IsMade o.labels kind root (network_up o (sight_after o log)) x → IsMade p.labels kind root (network_up p (sight_after p other)) y →
+  installed_alike : (log other : List Entry) → AreAlike o p log other → (kind : Kind) (root : ℕ) (x y : Option Plan) → IsMade o.labels kind root (topology_up o (sight_after o log)) x → IsMade p.labels kind root (topology_up p (sight_after p other)) y →
       AreAlike o p (with_entry log (installs_made (sight_after o log) x)) (with_entry other (installs_made (sight_after p other) y))
   installed_alike log other is kind root None None made given = is
   installed_alike log other is kind root None (Some u) made given =
-      absurd (not_both p.labels kind root (network_up p (sight_after p other)) u given (subst (λ (net : Network). IsDisconnected net) (up_same log other is) made))
+      absurd (not_both p.labels kind root (topology_up p (sight_after p other)) u given (subst (λ (net : Topology). IsDisconnected net) (up_same log other is) made))
   installed_alike log other is kind root (Some t) None made given =
-      absurd (not_both o.labels kind root (network_up o (sight_after o log)) t made (subst (λ (net : Network). IsDisconnected net) (sym (up_same log other is)) given))
+      absurd (not_both o.labels kind root (topology_up o (sight_after o log)) t made (subst (λ (net : Topology). IsDisconnected net) (sym (up_same log other is)) given))
   installed_alike log other is kind root (Some t) (Some u) made given =
       let count = twins-length o.labels (history.plans o log) (history.plans p other) is.plans in
       let board = ap (λ (boards : List Board). installed (newest_of boards) (length (history.plans o log) + 1)) is.boards ∙ ap (λ (n : ℕ). installed (newest_of (history.boards other)) (n + 1)) count in
@@ -361,10 +361,10 @@ opened_alike opening o p a b =
     record { boards = refl; plans = ((made.0 ∙ sym given.0, made.1 ∙ sym given.1, made.2 ∙ sym given.2, made.3, subst (λ (n : LabelOrder). IsLabelledBy n o.first) (sym a.labels) made.4), tt) }
 
 -- the epochs of a run are built from the installs of its steps
-pub epochs_built : (opening : Opening) (steps : List Step) (replies : List (Result Reply Refused)) (world : State) (installs : List Install) →
+pub epochs_built : (opening : Opening) (steps : List Step) (replies : List (Result Reply Refused)) (world : World) (installs : List Install) →
     AreEpochsOf opening steps replies world installs
 epochs_built opening steps replies world installs opened played memory built =
     let o = world.opening in
-    let over = opened.network ∙ sym built.opened.network in
+    let over = opened.topology ∙ sym built.opened.topology in
     let alike = run_alike o built.setting over steps replies [] [] played.log built.log (opened_alike opening o built.setting opened built.opened) memory played.run built.run in
-    subst (λ (schemes : List Scheme). AreBuiltFrom o installs schemes) (sym played.shows.plans) (twins_built o built.setting over (opened.labels ∙ sym built.opened.labels) installs (history.plans o played.log) (history.plans built.setting built.log) alike.plans built.built)
+    subst (λ (plans : List Plan). AreBuiltFrom o installs plans) (sym played.shows.plans) (twins_built o built.setting over (opened.labels ∙ sym built.opened.labels) installs (history.plans o played.log) (history.plans built.setting built.log) alike.plans built.built)

@@ -4,8 +4,8 @@ use Rattle.std.specs.Prelude.{Result, Ok, Err, is_ok, IfOk}
 use Rattle.std.proofs.lemmas.Option.{slice_get_within}
 use Rattle.ir_model.specs.declared.Hop.{Hop}
 use Rattle.ir_model.specs.declared.Kind.{Kind}
-use Rattle.ir_model.specs.Network.{Network, IsNetwork, is_up, restrict}
-use Rattle.ir_model.specs.Scheme.{Scheme}
+use Rattle.ir_model.specs.Topology.{Topology, IsTopology, is_up, restrict}
+use Rattle.ir_model.specs.Plan.{Plan}
 use Rattle.ir_model.proofs.Restrict.{rows_all}
 use Rattle.ir_core.specs.declared.TheConstants.{MAX_LINKS}
 use Rattle.ir_core.specs.declared.board.Board.{Board}
@@ -26,23 +26,23 @@ use Rattle.ir_core.specs.Opened.{IsOpenedWith}
 use Rattle.ir_core.specs.Entry.{Entry, DidChange}
 use Rattle.ir_core.specs.History as history
 use Rattle.ir_core.specs.Meaning.{IsMade, ComesTo, InstallsUnless, unless, install_refusal, installs_made, newest, newest_of, sight_after, with_entry}
-use Rattle.ir_core.specs.State.{State, IsState, sight_in}
+use Rattle.ir_core.specs.World.{World, IsWorld, sight_in}
 use Rattle.ir_core.specs.Shows.{Shows, AnswersAfter, IsAnswered, reply_to}
 use Rattle.ir_core.proofs.Accepted.{same_entry, not_accepted}
-use Rattle.ir_core.specs.Installed.{IsTaken, IsControlled, IsControlRun, IsBuiltFrom, AreBuiltFrom, AreInstalls, ControlsOn, IsChange}
+use Rattle.ir_core.specs.Installed.{IsTaken, IsControlled, IsControlRun, IsBuiltFrom, AreBuiltFrom, AreInstallsOf, ControlsOn, IsPlainChange}
 
-built_push : (o : Setting) (installs : List Install) (schemes : List Scheme) (i : Install) (t : Scheme) → AreBuiltFrom o installs schemes → IsBuiltFrom o i t → AreBuiltFrom o (installs ++ i ∷ []) (schemes ++ t ∷ [])
+built_push : (o : Setting) (installs : List Install) (plans : List Plan) (i : Install) (t : Plan) → AreBuiltFrom o installs plans → IsBuiltFrom o i t → AreBuiltFrom o (installs ++ i ∷ []) (plans ++ t ∷ [])
 built_push o [] [] i t b is = (is, tt)
-built_push o [] (s ∷ schemes) i t b is = absurd b
+built_push o [] (s ∷ plans) i t b is = absurd b
 built_push o (x ∷ installs) [] i t b is = absurd b
-built_push o (x ∷ installs) (s ∷ schemes) i t b is = (b.0, built_push o installs schemes i t b.1 is)
+built_push o (x ∷ installs) (s ∷ plans) i t b is = (b.0, built_push o installs plans i t b.1 is)
 
 -- the plans after a change of the board
 plans_kept : (o : Setting) (log : List Entry) (x : Option Refused) (board : Board) → history.plans o (with_entry log (unless x (Ok (DidChange board)))) ≡ history.plans o log
 plans_kept o log (Some e) board = refl
 plans_kept o log None board = refl
 
-change_plans : (o : Setting) (log : List Entry) (e : Event) → IsChange e → (wanted : Result Entry Refused) → ComesTo o (sight_after o log) e wanted → history.plans o (with_entry log wanted) ≡ history.plans o log
+change_plans : (o : Setting) (log : List Entry) (e : Event) → IsPlainChange e → (wanted : Result Entry Refused) → ComesTo o (sight_after o log) e wanted → history.plans o (with_entry log wanted) ≡ history.plans o log
 change_plans o log (event.Retire f) is wanted comes =
     let b = newest (sight_after o log) in
     ap (λ (w : Result Entry Refused). history.plans o (with_entry log w)) comes ∙ plans_kept o log (retire_refused b f) (retired_below b f)
@@ -59,7 +59,7 @@ change_plans o log (event.Take u way) is wanted comes = absurd is
 change_plans o log (event.Read u k) is wanted comes = absurd is
 change_plans o log (event.Act u) is wanted comes = absurd is
 
-change_controlled : (o : Setting) (log later : List Entry) (e : Event) → IsChange e → IsTaken o log e later → IsControlled o log (step.Event e) later
+change_controlled : (o : Setting) (log later : List Entry) (e : Event) → IsPlainChange e → IsTaken o log e later → IsControlled o log (step.Event e) later
 change_controlled o log later (event.Retire f) is t = t
 change_controlled o log later (event.Down l) is t = t
 change_controlled o log later (event.Up l) is t = t
@@ -71,7 +71,7 @@ change_controlled o log later (event.Read u k) is t = absurd is
 change_controlled o log later (event.Act u) is t = absurd is
 
 -- a change of the board
-pub change_taken : (s new : State) (e : Event) (reply : Result Reply Refused) → IsChange e → new.opening ≡ s.opening → ((log : List Entry) → Shows log s → AnswersAfter log e reply s.opening new) → reply ≢ Err NoMemory →
+pub change_taken : (s new : World) (e : Event) (reply : Result Reply Refused) → IsPlainChange e → new.opening ≡ s.opening → ((log : List Entry) → Shows log s → AnswersAfter log e reply s.opening new) → reply ≢ Err NoMemory →
     (installs : List Install) → ControlsOn s (step.Event e) installs new installs
 change_taken s new e reply is same answers memory installs = (same, λ log k built. by_answer log built (answers log k).0 (answers log k).1 (answers log k).2)
   where
@@ -79,11 +79,11 @@ change_taken s new e reply is same answers memory installs = (same, λ log k bui
         (x : List Entry) × IsControlled s.opening log (step.Event e) x × Shows x new × AreBuiltFrom s.opening installs (history.plans s.opening x)
     by_answer log built later (inl a) shows =
         let plans = ap (λ (x : List Entry). history.plans s.opening x) a.3 ∙ change_plans s.opening log e is a.0 a.1 in
-        (later, change_controlled s.opening log later e is (a.0, a.1, a.3), shows, subst (λ (schemes : List Scheme). AreBuiltFrom s.opening installs schemes) (sym plans) built)
+        (later, change_controlled s.opening log later e is (a.0, a.1, a.3), shows, subst (λ (plans : List Plan). AreBuiltFrom s.opening installs plans) (sym plans) built)
     by_answer log built later (inr a) shows = absurd (memory a.1)
 
 -- an install, accepted or refused
-module _ (s new : State) (kind : Kind) (root : ℕ) (reply : Result Reply Refused) (same : new.opening ≡ s.opening)
+module _ (s new : World) (kind : Kind) (root : ℕ) (reply : Result Reply Refused) (same : new.opening ≡ s.opening)
     (answers : (log : List Entry) → Shows log s → AnswersAfter log (event.Install kind root) reply s.opening new) (memory : reply ≢ Err NoMemory) where
   refused_by : (log later : List Entry) (installs : List Install) (wanted : Result Entry Refused) → is_ok (reply_to wanted) ≡ false → later ≡ with_entry log wanted →
       AreBuiltFrom s.opening installs (history.plans s.opening log) → AreBuiltFrom s.opening installs (history.plans s.opening later)
@@ -100,18 +100,18 @@ module _ (s new : State) (kind : Kind) (root : ℕ) (reply : Result Reply Refuse
       by_answer log built later (inr a) shows = absurd (memory a.1)
 
   built_by : (log later : List Entry) (installs : List Install) (i : Install) (wanted : Result Entry Refused) (x : Option Refused) → is_ok (reply_to wanted) ≡ true → later ≡ with_entry log wanted →
-      InstallsUnless s.opening (sight_after s.opening log) kind root wanted x → ((t : Scheme) → IsMade s.opening.labels kind root (restrict (take (links_of s.opening) (newest (sight_after s.opening log)).up) s.opening.network) (Some t) → IsBuiltFrom s.opening i t) →
+      InstallsUnless s.opening (sight_after s.opening log) kind root wanted x → ((t : Plan) → IsMade s.opening.labels kind root (restrict (take (links_of s.opening) (newest (sight_after s.opening log)).up) s.opening.topology) (Some t) → IsBuiltFrom s.opening i t) →
       AreBuiltFrom s.opening installs (history.plans s.opening log) → AreBuiltFrom s.opening (installs ++ i ∷ []) (history.plans s.opening later)
   built_by log later installs i (Err e) x did is comes from built = cc
   built_by log later installs i (Ok entry) (Some e) did is comes from built = absurd (not_accepted e entry (sym comes))
   built_by log later installs i (Ok entry) None did is comes from built = by_made comes.0 comes.1 comes.2
     where
-      by_made : (made : Option Scheme) → IsMade s.opening.labels kind root (restrict (take (links_of s.opening) (newest (sight_after s.opening log)).up) s.opening.network) made → Ok entry ≡ installs_made (sight_after s.opening log) made →
+      by_made : (made : Option Plan) → IsMade s.opening.labels kind root (restrict (take (links_of s.opening) (newest (sight_after s.opening log)).up) s.opening.topology) made → Ok entry ≡ installs_made (sight_after s.opening log) made →
           AreBuiltFrom s.opening (installs ++ i ∷ []) (history.plans s.opening later)
       by_made None m e = absurd (not_accepted Disconnected entry (sym e))
       by_made (Some t) m e =
           let plans = ap (λ (x : List Entry). history.plans s.opening x) is ∙ ap (λ (x : Entry). history.plans s.opening (x ∷ log)) (same_entry entry _ e) in
-          subst (λ (schemes : List Scheme). AreBuiltFrom s.opening (installs ++ i ∷ []) schemes) (sym plans) (built_push s.opening installs (history.plans s.opening log) i t built (from t m))
+          subst (λ (plans : List Plan). AreBuiltFrom s.opening (installs ++ i ∷ []) plans) (sym plans) (built_push s.opening installs (history.plans s.opening log) i t built (from t m))
 
   pub install_accepted_so : is_ok reply ≡ true → (i : Install) → i.labels ≡ s.opening.labels → i.kind ≡ kind → i.root ≡ root → length i.up.items ≡ links_of s.opening → i.up.items ≡ take (links_of s.opening) (newest (sight_in s)).up → (installs : List Install) →
       ControlsOn s (step.Event (event.Install kind root)) installs new (installs ++ i ∷ [])
@@ -125,7 +125,7 @@ module _ (s new : State) (kind : Kind) (root : ℕ) (reply : Result Reply Refuse
             (a.0, a.1, a.3),
             shows,
             built_by log later installs i a.0 (install_refusal s.opening (sight_after s.opening log) root) (sym (ap (λ (r : Result Reply Refused). is_ok r) a.2) ∙ did) a.3 a.1
-                (λ t m. (marks, subst (λ (n : LabelOrder). IsMade n i.kind i.root (restrict i.up.items s.opening.network) (Some t)) (sym same_labels) (subst (λ (k : Kind). IsMade s.opening.labels k i.root (restrict i.up.items s.opening.network) (Some t)) (sym same_kind) (subst (λ (n : ℕ). IsMade s.opening.labels kind n (restrict i.up.items s.opening.network) (Some t)) (sym same_root) (subst (λ (xs : List Bool). IsMade s.opening.labels kind root (restrict xs s.opening.network) (Some t)) (sym here) m))), same_labels)) built,
+                (λ t m. (marks, subst (λ (n : LabelOrder). IsMade n i.kind i.root (restrict i.up.items s.opening.topology) (Some t)) (sym same_labels) (subst (λ (k : Kind). IsMade s.opening.labels k i.root (restrict i.up.items s.opening.topology) (Some t)) (sym same_kind) (subst (λ (n : ℕ). IsMade s.opening.labels kind n (restrict i.up.items s.opening.topology) (Some t)) (sym same_root) (subst (λ (xs : List Bool). IsMade s.opening.labels kind root (restrict xs s.opening.topology) (Some t)) (sym here) m))), same_labels)) built,
           )
       by_answer log k built later (inr a) shows = absurd (memory a.1)
 
@@ -136,32 +136,32 @@ all_up (suc n) zero l lt le = absurd (omega arith)
 all_up (suc n) (suc m) zero lt le = refl
 all_up (suc n) (suc m) (suc l) lt le = all_up n m l (omega arith) (omega arith)
 
-restrict_all : (net : Network) → IsNetwork net → length net.links ≤ MAX_LINKS → restrict (take (length net.links) (replicate MAX_LINKS true)) net ≡ net
+restrict_all : (net : Topology) → IsTopology net → length net.links ≤ MAX_LINKS → restrict (take (length net.links) (replicate MAX_LINKS true)) net ≡ net
 restrict_all net ok few =
     ap (λ (ports : List (List Hop)). record { links = net.links; ports = ports })
     (rows_all (is_up (take (length net.links) (replicate MAX_LINKS true))) net.ports (λ u k x e. (let port = ok.ports u k x e in all_up (length net.links) MAX_LINKS x.link (slice_get_within net.links x.link port.0 port.1) few)))
 
 -- the install of the first epoch
-pub first_built : (s : State) → IsState s → Shows [] s → (i : Install) → length i.up.items ≡ links_of s.opening → i.up.items ≡ take (links_of s.opening) (newest (sight_in s)).up →
-    i.labels ≡ s.opening.labels → IsMade s.opening.labels i.kind i.root s.opening.network (Some s.opening.first) → AreBuiltFrom s.opening (i ∷ []) (s.opening.first ∷ [])
+pub first_built : (s : World) → IsWorld s → Shows [] s → (i : Install) → length i.up.items ≡ links_of s.opening → i.up.items ≡ take (links_of s.opening) (newest (sight_in s)).up →
+    i.labels ≡ s.opening.labels → IsMade s.opening.labels i.kind i.root s.opening.topology (Some s.opening.first) → AreBuiltFrom s.opening (i ∷ []) (s.opening.first ∷ [])
 first_built s ok k i marks is_up same_labels made =
     let here : i.up.items ≡ take (links_of s.opening) (replicate MAX_LINKS true) = is_up ∙ ap (λ (boards : List Board). take (links_of s.opening) (newest_of boards).up) k.boards in
-    let whole = ap (λ (xs : List Bool). restrict xs s.opening.network) here ∙ restrict_all s.opening.network ok.opening.network ok.opening.few_links in
-    ((marks, subst (λ (n : LabelOrder). IsMade n i.kind i.root (restrict i.up.items s.opening.network) (Some s.opening.first)) (sym same_labels) (subst (λ (net : Network). IsMade s.opening.labels i.kind i.root net (Some s.opening.first)) (sym whole) made), same_labels), tt)
+    let whole = ap (λ (xs : List Bool). restrict xs s.opening.topology) here ∙ restrict_all s.opening.topology ok.opening.topology ok.opening.few_links in
+    ((marks, subst (λ (n : LabelOrder). IsMade n i.kind i.root (restrict i.up.items s.opening.topology) (Some s.opening.first)) (sym same_labels) (subst (λ (net : Topology). IsMade s.opening.labels i.kind i.root net (Some s.opening.first)) (sym whole) made), same_labels), tt)
 
 run_more : (o : Setting) (log mid later : List Entry) (steps : List Step) (s : Step) → IsControlRun o log steps mid → IsControlled o mid s later → IsControlRun o log (steps ++ s ∷ []) later
 run_more o log mid later [] s run next = (later, subst (λ (x : List Entry). IsControlled o x s later) run next, refl)
 run_more o log mid later (y ∷ steps) s run next = (run.0, run.1, run_more o run.0 mid later steps s run.2 next)
 
 -- the steps so far
-pub record ControlSo (opening : Opening) (steps : List Step) (world : State) (installs : List Install) : Type 0 where
+pub record ControlSo (opening : Opening) (steps : List Step) (world : World) (installs : List Install) : Type 0 where
   pub opened : IsOpenedWith opening world.opening
   pub log : List Entry
   pub run : IsControlRun world.opening [] steps log
   pub shows : Shows log world
   pub built : AreBuiltFrom world.opening installs (history.plans world.opening log)
 
-pub control_more : (opening : Opening) (steps : List Step) (s : Step) (world new : State) (installs more : List Install) → ControlSo opening steps world installs →
+pub control_more : (opening : Opening) (steps : List Step) (s : Step) (world new : World) (installs more : List Install) → ControlSo opening steps world installs →
     ControlsOn world s installs new more → ControlSo opening (steps ++ s ∷ []) new more
 control_more opening steps s world new installs more so on =
     let next = on.1 so.log so.shows so.built in
@@ -174,8 +174,8 @@ control_more opening steps s world new installs more so on =
       built = subst (λ (o : Setting). AreBuiltFrom o more (history.plans o next.0)) back next.3;
     }
 
-pub control_all : (opening : Opening) (steps all : List Step) (world : State) (installs : List Install) → steps ≡ all → ControlSo opening steps world installs →
-    AreInstalls opening all installs
+pub control_all : (opening : Opening) (steps all : List Step) (world : World) (installs : List Install) → steps ≡ all → ControlSo opening steps world installs →
+    AreInstallsOf opening all installs
 control_all opening steps all world installs same so =
     record { setting = world.opening; opened = so.opened; log = so.log; run = subst (λ (xs : List Step). IsControlRun world.opening [] xs so.log) same so.run; built = so.built }
 

@@ -3,7 +3,7 @@ use Rattle.std.proofs.lemmas.Grind.{common_steps}
 use Rattle.std.proofs.lemmas.List.{length-set, length-append, get_or_push, length_push, get_or_read, get_or_append_left}
 use Rattle.std.proofs.lemmas.Option.{none-some, slice_get_read, get_or_from_slice_get}
 use Rattle.ir_model.specs.declared.Hop.{Hop}
-use Rattle.ir_model.specs.Scheme.{Scheme, next_hop, label_in, node_in}
+use Rattle.ir_model.specs.Plan.{Plan, next_hop, label_in, node_in}
 use Rattle.ir_model.proofs.Graphs.{none_from_is_some}
 use Rattle.std.specs.List.{AllByRecursion}
 use Rattle.ir_core.specs.declared.TheConstants.{MAX_CHANGES, MAX_EPOCHS, MAX_RESTAMPS}
@@ -14,19 +14,19 @@ use Rattle.ir_core.specs.declared.event.Way.TheVariants.{Inbox, Link}
 use Rattle.ir_core.specs.declared.event.Verdict.{Verdict}
 use Rattle.ir_core.specs.declared.event.Verdict.TheVariants.{CameByDown, BelowFloor, Arrives, LeavesByDown, NoRoom, GoesOn}
 use Rattle.ir_core.specs.declared.board.Board.{Board}
-use Rattle.ir_core.specs.Journey.{Journey, hop_room, segments, present, stamp_of}
+use Rattle.ir_core.specs.Record.{Record, hop_room, segments, present, stamp_of}
 use Rattle.ir_core.specs.declared.packet.Held.{Held}
 use Rattle.ir_core.specs.Board.{opening_board, installed}
-use Rattle.ir_model.specs.Network.{node_count}
+use Rattle.ir_model.specs.Topology.{node_count}
 use Rattle.ir_core.specs.Recorded.{HasRoomHere}
-use Rattle.ir_core.specs.Setting.{Setting, IsPlanFor, channel_of, into, no_scheme, nodes_of}
+use Rattle.ir_core.specs.Setting.{Setting, IsPlanFor, channel_of, into, no_plan, nodes_of}
 use Rattle.ir_core.specs.Entry.{Entry, DidInject, DidAct, DidTake, ruled, restamp_by, fresh, judged, reply_after}
 use Rattle.ir_core.specs.declared.event.Reply.{Reply}
 use Rattle.ir_core.specs.declared.event.Reply.TheVariants.{Injected, Settled, Taken}
 use Rattle.ir_core.specs.declared.event.Refused.{Refused}
 use Rattle.std.specs.Prelude.{Result, Ok, nat_le, is_some}
 use Rattle.ir_core.specs.Meaning.{plan_of, newest_of, record_at, board_at, verdict_on, ruling_by, ruling_on, is_full_towards, acts, takes, injects}
-use Rattle.ir_core.specs.State.{State, IsState, IsBoard, ArePlaced, IsPacket, IsRouted, IsStretch, IsNew, Place, Waits, InHand, put_into, taken_from, sent_on, sight_in, open_verdict_on, LeadsIn, IsBeginning, IsDue, FitsPlace, IsAnswer, after}
+use Rattle.ir_core.specs.World.{World, IsWorld, IsBoard, ArePlaced, IsPacket, IsRoutedRecord, IsStretch, IsNew, Place, Waits, InHand, put_into, taken_from, sent_on, sight_in, open_verdict_on, LeadsIn, IsBeginning, IsDue, FitsPlace, IsAnswer, after}
 use Rattle.ir_core.proofs.Channels.{channel_within, into_is, hop_leads}
 use Rattle.ir_core.proofs.Lists.{or_set}
 use Rattle.ir_core.specs.Sound.{last_of}
@@ -36,10 +36,10 @@ use Rattle.ir_core.proofs.Routed.{RuledBy, present_stretch, ruled_packet, retire
 use Rattle.ir_core.proofs.Placed.{moved, place_after, placed_inject, placed_take, ended, sent}
 
 -- what is true of a world, with these places
-abbrev pub KeptWith : State → (ℕ → Place) → Type 0
-KeptWith s place = (kept : IsState s) × ((id : ℕ) → kept.place id ≡ place id)
+abbrev pub KeptWith : World → (ℕ → Place) → Type 0
+KeptWith s place = (kept : IsWorld s) × ((id : ℕ) → kept.place id ≡ place id)
 
-pub keep_read_place : (s : State) (ok : IsState s) → (u k : ℕ) → u < (nodes_of s.opening) → k < length s.boards → KeptWith (record s { views = slice_set s.views u k }) ok.place
+pub keep_read_place : (s : World) (ok : IsWorld s) → (u k : ℕ) → u < (nodes_of s.opening) → k < length s.boards → KeptWith (record s { views = slice_set s.views u k }) ok.place
 keep_read_place s ok u k u_in k_in = (
   record {
     opening = ok.opening;
@@ -72,8 +72,8 @@ board_each epochs [] b each is (suc k) = each k
 board_each epochs (x ∷ boards) b each is zero = each zero
 board_each epochs (x ∷ boards) b each is (suc k) = board_each epochs boards b (λ j. each (suc j)) is k
 
-pub keep_change : (s : State) → IsState s → (b : Board) → b.version ≡ (newest_of s.boards).version + 1 → (newest_of s.boards).version < MAX_CHANGES →
-    b.current ≡ (newest_of s.boards).current → b.floor ≤ b.current → IsState (record s { boards = s.boards ++ b ∷ [] })
+pub keep_change : (s : World) → IsWorld s → (b : Board) → b.version ≡ (newest_of s.boards).version + 1 → (newest_of s.boards).version < MAX_CHANGES →
+    b.current ≡ (newest_of s.boards).current → b.floor ≤ b.current → IsWorld (record s { boards = s.boards ++ b ∷ [] })
 keep_change s ok b version room current floor = record {
   opening = ok.opening;
   views = ok.views;
@@ -96,7 +96,7 @@ keep_change s ok b version room current floor = record {
   placed = ok.placed;
 }
 
-pub keep_take_place : (s : State) (ok : IsState s) (u : ℕ) (way : Way) (c id : ℕ) → u < (nodes_of s.opening) → channel_of s.opening u way ≡ Some c → slice_get (slice_index_or s.channels c []) 0 ≡ Some id → slice_index_or s.hands u None ≡ None →
+pub keep_take_place : (s : World) (ok : IsWorld s) (u : ℕ) (way : Way) (c id : ℕ) → u < (nodes_of s.opening) → channel_of s.opening u way ≡ Some c → slice_get (slice_index_or s.channels c []) 0 ≡ Some id → slice_index_or s.hands u None ≡ None →
     KeptWith (record s { hands = slice_set s.hands u (Some (record { id = id; way = way })); channels = taken_from s.channels c }) (moved ok.place id (InHand u way))
 keep_take_place s ok u way c id u_in there first empty =
     let c_in = channel_within s.opening u way c u_in there in (
@@ -117,12 +117,12 @@ keep_take_place s ok u way c id u_in there first empty =
       λ j. refl,
     )
 
-pub keep_take : (s : State) → IsState s → (u : ℕ) (way : Way) (c id : ℕ) → u < (nodes_of s.opening) → channel_of s.opening u way ≡ Some c → slice_get (slice_index_or s.channels c []) 0 ≡ Some id → slice_index_or s.hands u None ≡ None →
-    IsState (record s { hands = slice_set s.hands u (Some (record { id = id; way = way })); channels = taken_from s.channels c })
+pub keep_take : (s : World) → IsWorld s → (u : ℕ) (way : Way) (c id : ℕ) → u < (nodes_of s.opening) → channel_of s.opening u way ≡ Some c → slice_get (slice_index_or s.channels c []) 0 ≡ Some id → slice_index_or s.hands u None ≡ None →
+    IsWorld (record s { hands = slice_set s.hands u (Some (record { id = id; way = way })); channels = taken_from s.channels c })
 keep_take s ok u way c id u_in there first empty = (keep_take_place s ok u way c id u_in there first empty).0
 
-pub keep_inject : (s : State) → IsState s → (source dest : ℕ) → source < (nodes_of s.opening) → dest < (nodes_of s.opening) → length s.records < s.opening.max_packets →
-    IsState (record s { channels = put_into s.channels source (length s.records); records = s.records ++ fresh (length s.records) s.learnt source dest (hop_room s.opening.restamps (nodes_of s.opening)) ∷ [] })
+pub keep_inject : (s : World) → IsWorld s → (source dest : ℕ) → source < (nodes_of s.opening) → dest < (nodes_of s.opening) → length s.records < s.opening.max_packets →
+    IsWorld (record s { channels = put_into s.channels source (length s.records); records = s.records ++ fresh (length s.records) s.learnt source dest (hop_room s.opening.restamps (nodes_of s.opening)) ∷ [] })
 keep_inject s ok source dest s_in d_in room = record {
   opening = ok.opening;
   views = ok.views;
@@ -138,13 +138,13 @@ keep_inject s ok source dest s_in d_in room = record {
   placed = placed_inject s.opening s.plans s.hands s.channels s.records ok.place s.learnt source dest ok.placed s_in d_in ok.learnt_above ok.learnt_in (omega (arith, ok.channels));
 }
 
-pub newest_known : (s now : State) → s ≡ now → (b : Board) → b ≡ newest_of now.boards → b ≡ newest_of s.boards
-newest_known s now e b n = n ∙ ap (λ (x : State). newest_of x.boards) (sym e)
+pub newest_known : (s now : World) → s ≡ now → (b : Board) → b ≡ newest_of now.boards → b ≡ newest_of s.boards
+newest_known s now e b n = n ∙ ap (λ (x : World). newest_of x.boards) (sym e)
 
 -- the same as keep_take, from what the code read
-pub keep_take_at : (s : State) → IsState s → (u : ℕ) (way : Way) (c id : ℕ) (seen was now : List ℕ) → u < (nodes_of s.opening) → Some c ≡ channel_of s.opening u way →
+pub keep_take_at : (s : World) → IsWorld s → (u : ℕ) (way : Way) (c id : ℕ) (seen was now : List ℕ) → u < (nodes_of s.opening) → Some c ≡ channel_of s.opening u way →
     seen ≡ slice_index_or s.channels c seen → Some id ≡ slice_get seen 0 → was ≡ slice_index_or s.channels c was → now ≡ drop 1 was → (hand : Option Held) → hand ≡ slice_index_or s.hands u hand → is_some hand ≡ false →
-    IsState (record s { hands = slice_set s.hands u (Some (record { id = id; way = way })); channels = slice_set s.channels c now })
+    IsWorld (record s { hands = slice_set s.hands u (Some (record { id = id; way = way })); channels = slice_set s.channels c now })
 keep_take_at s ok u way c id seen was now u_in there read first read_again left hand hand_is none =
     let c_in = channel_within s.opening u way c u_in (sym there) in
     let lt : c < length s.channels = omega (arith, ok.channels) in
@@ -154,7 +154,7 @@ keep_take_at s ok u way c id seen was now u_in there read first read_again left 
     rw (left, again) (keep_take s ok u way c id u_in (sym there) (ap (λ (l : List ℕ). slice_get l 0) (sym held) ∙ sym first) empty)
 
 -- what a Take comes to, from what the code read
-pub take_done : (s now : State) → s ≡ now → IsState s → (u : ℕ) (way : Way) (c id : ℕ) (seen was left : List ℕ) → u < nodes_of s.opening → Some c ≡ channel_of s.opening u way →
+pub take_done : (s now : World) → s ≡ now → IsWorld s → (u : ℕ) (way : Way) (c id : ℕ) (seen was left : List ℕ) → u < nodes_of s.opening → Some c ≡ channel_of s.opening u way →
     seen ≡ slice_index_or s.channels c seen → Some id ≡ slice_get seen 0 → was ≡ slice_index_or s.channels c was → left ≡ drop 1 was → (hand : Option Held) → hand ≡ slice_index_or s.hands u hand → is_some hand ≡ false →
     IsAnswer now (record s { hands = slice_set s.hands u (Some (record { id = id; way = way })); channels = slice_set s.channels c left }) (takes now.opening (sight_in now) u way) (Ok (Taken id))
 take_done s now e ok u way c id seen was left u_in there read first read_again is_left hand hand_is none =
@@ -169,25 +169,25 @@ take_done s now e ok u way c id seen was left u_in there read first read_again i
     let new = record s { hands = slice_set s.hands u (Some (record { id = id; way = way })); channels = slice_set s.channels c left } in
     let comes : takes s.opening (sight_in s) u way ≡ Ok (DidTake u way id) = rw (within, ← there, empty, top) refl in
     let to : new ≡ after s (DidTake u way id) = rw (number, is_left, again) refl in
-    subst (λ (x : State). IsAnswer x new (takes x.opening (sight_in x) u way) (Ok (Taken id))) e
+    subst (λ (x : World). IsAnswer x new (takes x.opening (sight_in x) u way) (Ok (Taken id))) e
     (subst (λ (w : Result Entry Refused). IsAnswer s new w (Ok (Taken id))) (sym comes) (refl, to))
 
 -- a new record of this world, from what the code read
-pub fresh_in : (s : State) (id source dest : ℕ) (new : Journey) (room nodes : ℕ) → new ≡ fresh id s.learnt source dest room → room ≡ hop_room s.opening.restamps nodes → nodes ≡ nodes_of s.opening →
+pub fresh_in : (s : World) (id source dest : ℕ) (new : Record) (room nodes : ℕ) → new ≡ fresh id s.learnt source dest room → room ≡ hop_room s.opening.restamps nodes → nodes ≡ nodes_of s.opening →
     new ≡ fresh id s.learnt source dest (hop_room s.opening.restamps (nodes_of s.opening))
 fresh_in s id source dest new room nodes made much count = made ∙ ap (fresh id s.learnt source dest) (much ∙ ap (hop_room s.opening.restamps) count)
 
 -- the same as keep_inject, from what the code read
-pub keep_inject_at : (s : State) → IsState s → (source dest id : ℕ) (new : Journey) (was now : List ℕ) (mid records : List Journey) → source < nodes_of s.opening → dest < nodes_of s.opening →
+pub keep_inject_at : (s : World) → IsWorld s → (source dest id : ℕ) (new : Record) (was now : List ℕ) (mid records : List Record) → source < nodes_of s.opening → dest < nodes_of s.opening →
     length s.records < s.opening.max_packets → id ≡ length s.records → new ≡ fresh id s.learnt source dest (hop_room s.opening.restamps (nodes_of s.opening)) → was ≡ slice_index_or s.channels source was → now ≡ was ++ id ∷ [] →
-    mid ≡ s.records → records ≡ mid ++ new ∷ [] → IsState (record s { channels = slice_set s.channels source now; records = records })
+    mid ≡ s.records → records ≡ mid ++ new ∷ [] → IsWorld (record s { channels = slice_set s.channels source now; records = records })
 keep_inject_at s ok source dest id new was now mid records s_in d_in room is_id one read put same pushed =
     let lt : source < length s.channels = omega (arith, ok.channels) in
     let again : was ≡ slice_index_or s.channels source [] = get_or_read s.channels source was lt read [] in
     rw (pushed, put, again, same, one, is_id) (keep_inject s ok source dest s_in d_in room)
 
 -- what an Inject comes to, from what the code read
-pub inject_done : (s now : State) → s ≡ now → IsState s → (source dest id : ℕ) (new : Journey) (was left : List ℕ) (mid records : List Journey) → source < nodes_of s.opening → dest < nodes_of s.opening →
+pub inject_done : (s now : World) → s ≡ now → IsWorld s → (source dest id : ℕ) (new : Record) (was left : List ℕ) (mid records : List Record) → source < nodes_of s.opening → dest < nodes_of s.opening →
     length s.records < s.opening.max_packets → length was < s.opening.capacity → id ≡ length s.records → new ≡ fresh id s.learnt source dest (hop_room s.opening.restamps (nodes_of s.opening)) → was ≡ slice_index_or s.channels source was → left ≡ was ++ id ∷ [] →
     mid ≡ s.records → records ≡ mid ++ new ∷ [] →
     IsAnswer now (record s { channels = slice_set s.channels source left; records = records }) (injects now.opening (sight_in now) source dest) (Ok (Injected id))
@@ -202,18 +202,18 @@ inject_done s now e ok source dest id new was left mid records s_in d_in room sp
     let comes : injects s.opening (sight_in s) source dest ≡ Ok (DidInject (length s.records) s.learnt source dest (hop_room s.opening.restamps (nodes_of s.opening))) = rw (known, known_too, few, free) refl in
     let after_it = record s { channels = slice_set s.channels source left; records = records } in
     let to : after_it ≡ after s (DidInject (length s.records) s.learnt source dest (hop_room s.opening.restamps (nodes_of s.opening))) = rw (pushed, put, again, same, one, is_id) refl in
-    subst (λ (x : State). IsAnswer x after_it (injects x.opening (sight_in x) source dest) (Ok (Injected id))) e
+    subst (λ (x : World). IsAnswer x after_it (injects x.opening (sight_in x) source dest) (Ok (Injected id))) e
     (subst (λ (w : Result Entry Refused). IsAnswer s after_it w (Ok (Injected id))) (sym comes) (ap (λ (n : ℕ). Ok (Injected n)) is_id, to))
 
 -- what is known of the packet in a node's hand
-pub record InHandOf (s : State) (u : ℕ) (held : Held) (r : Journey) : Type 0 where
+pub record InHandOf (s : World) (u : ℕ) (held : Held) (r : Record) : Type 0 where
   pub id_in : held.id < length s.records
   pub is_record : slice_get s.records held.id ≡ Some r
   pub packet : IsPacket s.opening s.plans r (InHand u held.way)
 
-pub in_hand_of : (s now : State) → s ≡ now → IsState s → (u : ℕ) (held : Held) → slice_index_or now.hands u None ≡ Some held → (r : Journey) → r ≡ slice_index_or s.records held.id r → InHandOf s u held r
+pub in_hand_of : (s now : World) → s ≡ now → IsWorld s → (u : ℕ) (held : Held) → slice_index_or now.hands u None ≡ Some held → (r : Record) → r ≡ slice_index_or s.records held.id r → InHandOf s u held r
 in_hand_of s now e ok u held h r read =
-    let holds : slice_index_or s.hands u None ≡ Some held = ap (λ (x : State). slice_index_or x.hands u None) e ∙ h in
+    let holds : slice_index_or s.hands u None ≡ Some held = ap (λ (x : World). slice_index_or x.hands u None) e ∙ h in
     let q = ok.placed.held u held holds in
     let is_record = slice_get_read s.records (length s.records) held.id r refl q.0 read in
     record {
@@ -222,50 +222,50 @@ in_hand_of s now e ok u held h r read =
       packet = subst (λ (x : Place). IsPacket s.opening s.plans r x) q.1 (ok.placed.each held.id r is_record);
     }
 
-pub held_read : (s now : State) → s ≡ now → IsState s → (u : ℕ) (held : Held) → slice_index_or now.hands u None ≡ Some held → (r : Journey) → r ≡ slice_index_or s.records held.id r → record_at (sight_in now) held.id ≡ r
+pub held_read : (s now : World) → s ≡ now → IsWorld s → (u : ℕ) (held : Held) → slice_index_or now.hands u None ≡ Some held → (r : Record) → r ≡ slice_index_or s.records held.id r → record_at (sight_in now) held.id ≡ r
 held_read s now e ok u held h r read =
     let there = (in_hand_of s now e ok u held h r read).is_record in
-    ap (λ (x : State). record_at (sight_in x) held.id) (sym e) ∙ (rw there refl)
+    ap (λ (x : World). record_at (sight_in x) held.id) (sym e) ∙ (rw there refl)
 
-pub held_in : (s now : State) → s ≡ now → IsState s → (u : ℕ) (held : Held) → slice_index_or now.hands u None ≡ Some held → held.id < length s.records
-held_in s now e ok u held h = (ok.placed.held u held (ap (λ (x : State). slice_index_or x.hands u None) e ∙ h)).0
+pub held_in : (s now : World) → s ≡ now → IsWorld s → (u : ℕ) (held : Held) → slice_index_or now.hands u None ≡ Some held → held.id < length s.records
+held_in s now e ok u held h = (ok.placed.held u held (ap (λ (x : World). slice_index_or x.hands u None) e ∙ h)).0
 
--- the scheme of an epoch, from what the code read
-pub plan_known : (s now : State) → s ≡ now → IsState s → (e : ℕ) (t : Scheme) → t ≡ plan_of now.opening now.plans e → (t ≡ plan_of s.opening s.plans e) × IsPlanFor s.opening t
+-- the plan of an epoch, from what the code read
+pub plan_known : (s now : World) → s ≡ now → IsWorld s → (e : ℕ) (t : Plan) → t ≡ plan_of now.opening now.plans e → (t ≡ plan_of s.opening s.plans e) × IsPlanFor s.opening t
 plan_known s now known ok e t is =
-    let same : t ≡ plan_of s.opening s.plans e = is ∙ ap (λ (x : State). plan_of x.opening x.plans e) (sym known) in
-    (same, subst (λ (x : Scheme). IsPlanFor s.opening x) (sym same) (ok.plans.each (e - 1)))
+    let same : t ≡ plan_of s.opening s.plans e = is ∙ ap (λ (x : World). plan_of x.opening x.plans e) (sym known) in
+    (same, subst (λ (x : Plan). IsPlanFor s.opening x) (sym same) (ok.plans.each (e - 1)))
 
 -- the destination's label leads back to it
-pub label_back : (o : Setting) (t : Scheme) → IsPlanFor o t → (d address : ℕ) → d < nodes_of o → address ≡ label_in t d → (address < node_count t.network) × (node_in t address ≡ d)
+pub label_back : (o : Setting) (t : Plan) → IsPlanFor o t → (d address : ℕ) → d < nodes_of o → address ≡ label_in t d → (address < node_count t.topology) × (node_in t address ≡ d)
 label_back o t k d address d_in is =
-    let here : d < node_count t.network = omega (arith, k.nodes) in
-    let there = k.scheme.labels.label d here in
-    (omega arith, ap (λ (x : ℕ). node_in t x) is ∙ k.scheme.labels.there d here)
+    let here : d < node_count t.topology = omega (arith, k.nodes) in
+    let there = k.plan.labels.label d here in
+    (omega arith, ap (λ (x : ℕ). node_in t x) is ∙ k.plan.labels.there d here)
 
-record_read : (s : State) (id : ℕ) (r : Journey) → slice_get s.records id ≡ Some r → record_at (sight_in s) id ≡ r
+record_read : (s : World) (id : ℕ) (r : Record) → slice_get s.records id ≡ Some r → record_at (sight_in s) id ≡ r
 record_read s id r e = rw e refl
 
 -- the open verdict, from what the code read
-pub open_read : (s now : State) → s ≡ now → IsState s → (u : ℕ) (way : Way) (stamp dest : ℕ) (t : Scheme) (b : Board) (v : Verdict) (address : ℕ) → dest < nodes_of now.opening →
+pub open_read : (s now : World) → s ≡ now → IsWorld s → (u : ℕ) (way : Way) (stamp dest : ℕ) (t : Plan) (b : Board) (v : Verdict) (address : ℕ) → dest < nodes_of now.opening →
     t ≡ plan_of now.opening now.plans stamp → b ≡ board_at (sight_in now) (slice_index now.views u) → address ≡ label_in t dest →
     v ≡ judged t b (λ _. false) way u stamp (node_in t address) → v ≡ open_verdict_on now u way stamp dest
 open_read s now e ok u way stamp dest t b v address d_in t_read b_read labelled is =
     let plan = plan_known s now e ok stamp t t_read in
-    let n = ap (λ (x : State). nodes_of x.opening) e in
+    let n = ap (λ (x : World). nodes_of x.opening) e in
     let home = (label_back s.opening t plan.1 dest address (omega arith) labelled).1 in
-    is ∙ ap (λ (x : ℕ). judged t b (λ _. false) way u stamp x) home ∙ ap (λ (x : Scheme). judged x b (λ _. false) way u stamp dest) t_read
+    is ∙ ap (λ (x : ℕ). judged t b (λ _. false) way u stamp x) home ∙ ap (λ (x : Plan). judged x b (λ _. false) way u stamp dest) t_read
     ∙ ap (λ (x : Board). judged (plan_of now.opening now.plans stamp) x (λ _. false) way u stamp dest) b_read
 
 -- no hop means the destination
-none_means : (o : Setting) (t : Scheme) (u d : ℕ) → IsPlanFor o t → u < nodes_of o → d < nodes_of o → next_hop t u d ≡ None → u ≡ d
-none_means o t u d k u_in d_in e = next_hop-none t k.scheme u d (omega (arith, k.nodes)) (omega (arith, k.nodes)) e
+none_means : (o : Setting) (t : Plan) (u d : ℕ) → IsPlanFor o t → u < nodes_of o → d < nodes_of o → next_hop t u d ≡ None → u ≡ d
+none_means o t u d k u_in d_in e = next_hop-none t k.plan u d (omega (arith, k.nodes)) (omega (arith, k.nodes)) e
 
-away_from : (o : Setting) (t : Scheme) → IsPlanFor o t → (d : ℕ) → d < nodes_of o → (x : ℕ) (h : Hop) → next_hop t x d ≡ Some h → x ≢ d
-away_from o t k d d_in x h e = next_hop-away t k.scheme x d (omega (arith, k.nodes)) h e
+away_from : (o : Setting) (t : Plan) → IsPlanFor o t → (d : ℕ) → d < nodes_of o → (x : ℕ) (h : Hop) → next_hop t x d ≡ Some h → x ≢ d
+away_from o t k d d_in x h e = next_hop-away t k.plan x d (omega (arith, k.nodes)) h e
 
 -- where a packet that goes on leads to
-abbrev pub LeadsFar : State → Verdict → Type 0
+abbrev pub LeadsFar : World → Verdict → Type 0
 LeadsFar s (GoesOn h) = (h.node < nodes_of s.opening) × ((c : ℕ) × (channel_of s.opening h.node (Link h.link) ≡ Some c) × (c < length s.channels))
 LeadsFar s (CameByDown l) = Unit {0}
 LeadsFar s BelowFloor = Unit {0}
@@ -273,7 +273,7 @@ LeadsFar s Arrives = Unit {0}
 LeadsFar s (LeavesByDown l) = Unit {0}
 LeadsFar s (NoRoom h) = Unit {0}
 
-leads_by : (s : State) → IsState s → (t : Scheme) → IsPlanFor s.opening t → (full : Hop → Bool) (u : ℕ) (way : Way) (d : ℕ) (v : Verdict) → Means t full u way d v → LeadsFar s v
+leads_by : (s : World) → IsWorld s → (t : Plan) → IsPlanFor s.opening t → (full : Hop → Bool) (u : ℕ) (way : Way) (d : ℕ) (v : Verdict) → Means t full u way d v → LeadsFar s v
 leads_by s ok t plan full u way d (GoesOn h) m =
     let k = hop_leads s.opening t plan u d h m.0 in
     let within = channel_within s.opening h.node (Link h.link) k.1.0 k.0 k.1.1 in
@@ -284,7 +284,7 @@ leads_by s ok t plan full u way d Arrives m = tt
 leads_by s ok t plan full u way d (LeavesByDown l) m = tt
 leads_by s ok t plan full u way d (NoRoom h) m = tt
 
-leads_near : (s : State) (v : Verdict) → LeadsFar s v → LeadsIn s v
+leads_near : (s : World) (v : Verdict) → LeadsFar s v → LeadsIn s v
 leads_near s (GoesOn h) k = k.1
 leads_near s (CameByDown l) k = tt
 leads_near s BelowFloor k = tt
@@ -293,25 +293,25 @@ leads_near s (LeavesByDown l) k = tt
 leads_near s (NoRoom h) k = tt
 
 -- what a board says of the packet's epoch, or of the one that it is restamped with
-abbrev pub IsLiveBy : Board → Journey → Option ℕ → Verdict → Type 0
+abbrev pub IsLiveBy : Board → Record → Option ℕ → Verdict → Type 0
 IsLiveBy b r None v = IsLive b (stamp_of r) v
 IsLiveBy b r (Some e) v = (stamp_of r < b.floor) × (b.floor ≤ e)
 
 -- what the ruling on the packet in hand says
-pub record Acting (s : State) (u : ℕ) (held : Held) (r : Journey) (full : Hop → Bool) (b : Board) (restamp : Option ℕ) (v : Verdict) : Type 0 where
+pub record Acting (s : World) (u : ℕ) (held : Held) (r : Record) (full : Hop → Bool) (b : Board) (restamp : Option ℕ) (v : Verdict) : Type 0 where
   pub hand : InHandOf s u held r
   pub by : RuledBy s.opening s.plans full r u held.way restamp v
   pub live : IsLiveBy b r restamp v
   pub node_in : u < (nodes_of s.opening)
 
 -- a verdict of a node means what it says
-verdict_means : (s : State) → IsState s → (u : ℕ) (way : Way) (stamp dest : ℕ) (full : Hop → Bool) (b : Board) → u < nodes_of s.opening → dest < nodes_of s.opening →
+verdict_means : (s : World) → IsWorld s → (u : ℕ) (way : Way) (stamp dest : ℕ) (full : Hop → Bool) (b : Board) → u < nodes_of s.opening → dest < nodes_of s.opening →
     Means (plan_of s.opening s.plans stamp) full u way dest (judged (plan_of s.opening s.plans stamp) b full way u stamp dest)
 verdict_means s ok u way stamp dest full b u_in d_in =
     judged_means (plan_of s.opening s.plans stamp) b full way u stamp dest (none_means s.opening (plan_of s.opening s.plans stamp) u dest (ok.plans.each (stamp - 1)) u_in d_in)
 
 -- and so does a ruling
-ruling_means : (s : State) → IsState s → (u : ℕ) (way : Way) (r : Journey) → u < nodes_of s.opening → r.dest < nodes_of s.opening → (v : Verdict) →
+ruling_means : (s : World) → IsWorld s → (u : ℕ) (way : Way) (r : Record) → u < nodes_of s.opening → r.dest < nodes_of s.opening → (v : Verdict) →
     Means (plan_of s.opening s.plans (stamp_of r)) (is_full_towards s.opening (sight_in s)) u way r.dest v → IsLive (board_at (sight_in s) (slice_index s.views u)) (stamp_of r) v →
     (x : Ruling) → x ≡ ruling_by s.opening (sight_in s) u r.dest v (restamp_by (s.opening.restamps - length r.restamps) (board_at (sight_in s) (slice_index s.views u)).current v) →
     RuledBy s.opening s.plans (is_full_towards s.opening (sight_in s)) r u way x.restamp x.verdict × IsLiveBy (board_at (sight_in s) (slice_index s.views u)) r x.restamp x.verdict
@@ -345,10 +345,10 @@ ruling_means s ok u way r u_in d_in v m l x is = subst IsRight (sym is) (by_verd
     by_verdict (NoRoom h) m l = (m, l)
     by_verdict (GoesOn h) m l = (m, l)
 
-pub dest_in : (s : State) → IsState s → (r : Journey) → IsRouted s.opening s.plans r → r.dest < nodes_of s.opening
+pub dest_in : (s : World) → IsWorld s → (r : Record) → IsRoutedRecord s.opening s.plans r → r.dest < nodes_of s.opening
 dest_in s ok r k = (present_stretch s.opening s.plans ok.plans.each r k).dest_in
 
-pub acting_of : (s : State) → IsState s → (u : ℕ) (held : Held) (r : Journey) (x : Ruling) → InHandOf s u held r → u < (nodes_of s.opening) →
+pub acting_of : (s : World) → IsWorld s → (u : ℕ) (held : Held) (r : Record) (x : Ruling) → InHandOf s u held r → u < (nodes_of s.opening) →
     x ≡ ruling_on s.opening (sight_in s) u held.way r → Acting s u held r (is_full_towards s.opening (sight_in s)) (board_at (sight_in s) (slice_index s.views u)) x.restamp x.verdict
 acting_of s ok u held r x p u_in e =
     let d_in = dest_in s ok r p.packet.routed in
@@ -359,44 +359,44 @@ acting_of s ok u held r x p u_in e =
     record { hand = p; by = k.0; live = k.1; node_in = u_in }
 
 -- a packet that goes on is led by the table of some epoch
-goes_by : (o : Setting) (plans : List Scheme) (full : Hop → Bool) (r : Journey) (u : ℕ) (way : Way) (restamp : Option ℕ) (h : Hop) → RuledBy o plans full r u way restamp (GoesOn h) →
+goes_by : (o : Setting) (plans : List Plan) (full : Hop → Bool) (r : Record) (u : ℕ) (way : Way) (restamp : Option ℕ) (h : Hop) → RuledBy o plans full r u way restamp (GoesOn h) →
     (e : ℕ) × (next_hop (plan_of o plans e) u r.dest ≡ Some h) × (full h ≡ false)
 goes_by o plans full r u way None h by = (stamp_of r, by.0, by.1)
 goes_by o plans full r u way (Some e) h by = (e, by.3.0, by.3.1)
 
-pub leads_to : (s : State) → IsState s → (u : ℕ) (held : Held) (r : Journey) (full : Hop → Bool) (b : Board) (restamp : Option ℕ) (v : Verdict) → Acting s u held r full b restamp v → LeadsFar s v
+pub leads_to : (s : World) → IsWorld s → (u : ℕ) (held : Held) (r : Record) (full : Hop → Bool) (b : Board) (restamp : Option ℕ) (v : Verdict) → Acting s u held r full b restamp v → LeadsFar s v
 leads_to s ok u held r full b None v a = leads_by s ok (plan_of s.opening s.plans (stamp_of r)) (ok.plans.each (stamp_of r - 1)) full u held.way r.dest v a.by
 leads_to s ok u held r full b (Some e) v a = leads_by s ok (plan_of s.opening s.plans e) (ok.plans.each (e - 1)) full u Inbox r.dest v a.by.3
 
-pub leads_in : (s : State) → IsState s → (u : ℕ) (held : Held) (r : Journey) (full : Hop → Bool) (b : Board) (restamp : Option ℕ) (v : Verdict) → Acting s u held r full b restamp v → LeadsIn s v
+pub leads_in : (s : World) → IsWorld s → (u : ℕ) (held : Held) (r : Record) (full : Hop → Bool) (b : Board) (restamp : Option ℕ) (v : Verdict) → Acting s u held r full b restamp v → LeadsIn s v
 leads_in s ok u held r full b restamp v a = leads_near s v (leads_to s ok u held r full b restamp v a)
 
-pub open_leads : (s now : State) → s ≡ now → IsState s → (u : ℕ) (way : Way) (stamp dest : ℕ) (v : Verdict) → u < nodes_of now.opening → dest < nodes_of now.opening → v ≡ open_verdict_on now u way stamp dest → LeadsIn now v
+pub open_leads : (s now : World) → s ≡ now → IsWorld s → (u : ℕ) (way : Way) (stamp dest : ℕ) (v : Verdict) → u < nodes_of now.opening → dest < nodes_of now.opening → v ≡ open_verdict_on now u way stamp dest → LeadsIn now v
 open_leads s now e ok u way stamp dest v u_in d_in is =
-    let n = ap (λ (x : State). nodes_of x.opening) e in
-    let here : v ≡ open_verdict_on s u way stamp dest = is ∙ ap (λ (x : State). open_verdict_on x u way stamp dest) (sym e) in
+    let n = ap (λ (x : World). nodes_of x.opening) e in
+    let here : v ≡ open_verdict_on s u way stamp dest = is ∙ ap (λ (x : World). open_verdict_on x u way stamp dest) (sym e) in
     let t = plan_of s.opening s.plans stamp in
     let m = verdict_means s ok u way stamp dest (λ _. false) (board_at (sight_in s) (slice_index s.views u)) (omega arith) (omega arith) in
     let leads : LeadsIn s (open_verdict_on s u way stamp dest) = leads_near s _ (leads_by s ok t (ok.plans.each (stamp - 1)) (λ _. false) u way dest _ m) in
-    subst (λ (x : State). LeadsIn x v) e (subst (λ (x : Verdict). LeadsIn s x) (sym here) leads)
+    subst (λ (x : World). LeadsIn x v) e (subst (λ (x : Verdict). LeadsIn s x) (sym here) leads)
 
-pub verdict_from_open : (s : State) (u : ℕ) (way : Way) (stamp dest : ℕ) (v : Verdict) → v ≡ open_verdict_on s u way stamp dest →
+pub verdict_from_open : (s : World) (u : ℕ) (way : Way) (stamp dest : ℕ) (v : Verdict) → v ≡ open_verdict_on s u way stamp dest →
     if_full (is_full_towards s.opening (sight_in s)) v ≡ verdict_on s.opening (sight_in s) u way stamp dest
 verdict_from_open s u way stamp dest v e =
     ap (if_full (is_full_towards s.opening (sight_in s))) e ∙ sym (judged-if_full (plan_of s.opening s.plans stamp) (board_at (sight_in s) (slice_index s.views u)) (is_full_towards s.opening (sight_in s)) way u stamp dest)
 
 -- where the table led a packet on, its hops are fewer than the nodes
-pub hops_below : (o : Setting) (t : Scheme) (r : Journey) (u l : ℕ) → IsPlanFor o t → r.source < nodes_of o → r.dest < nodes_of o → slice_get r.hops 0 ≡ Some r.source → IsBeginning t r.dest r.hops → IsDue t r u (Link l) → length r.hops < nodes_of o
+pub hops_below : (o : Setting) (t : Plan) (r : Record) (u l : ℕ) → IsPlanFor o t → r.source < nodes_of o → r.dest < nodes_of o → slice_get r.hops 0 ≡ Some r.source → IsBeginning t r.dest r.hops → IsDue t r u (Link l) → length r.hops < nodes_of o
 hops_below o t r u l k s_in d_in first from due =
     let more = IsBeginning-push t r.dest r.hops u from (away_from o t k r.dest d_in (last_of r.hops) due.0 due.1) (due.0, due.1, due.3) in
-    let w = k.scheme.walks r.source r.dest (omega (arith, k.nodes)) (omega (arith, k.nodes)) in
+    let w = k.plan.walks r.source r.dest (omega (arith, k.nodes)) (omega (arith, k.nodes)) in
     let walk = walk_of t r.source r.dest w.0 w.1 in
     let p = prefix t r.dest (r.hops ++ u ∷ []) w.0 r.source (first-push r.hops r.source u first) walk.begins more walk.steps in
     let lengths = ap length p.1 in
     omega (arith, w.2, k.nodes, length-append (r.hops ++ u ∷ []) p.0, length-append r.hops (u ∷ []), lengths)
 
 -- a record has room for one more hop, where the packet came by a link
-short_by : (o : Setting) (plans : List Scheme) → ((k : ℕ) → IsPlanFor o (slice_index_or plans k o.first)) → 0 < nodes_of o → (u : ℕ) (way : Way) (r : Journey) → IsRouted o plans r →
+short_by : (o : Setting) (plans : List Plan) → ((k : ℕ) → IsPlanFor o (slice_index_or plans k o.first)) → 0 < nodes_of o → (u : ℕ) (way : Way) (r : Record) → IsRoutedRecord o plans r →
     IsDue (plan_of o plans (stamp_of r)) (present r) u way → IsNew r (InHand u way) → HasRoomHere way r
 short_by o plans each some u Inbox r k due new = tt
 short_by o plans each some u (Link l) r k due new =
@@ -405,18 +405,18 @@ short_by o plans each some u (Link l) r k due new =
     let longer = length-append r.hops (u ∷ []) in
     omega (arith, k.room, fit, longer)
 
-pub short : (s : State) → IsState s → (u : ℕ) (held : Held) (r : Journey) → InHandOf s u held r → HasRoomHere held.way r
+pub short : (s : World) → IsWorld s → (u : ℕ) (held : Held) (r : Record) → InHandOf s u held r → HasRoomHere held.way r
 short s ok u held r p =
     short_by s.opening s.plans ok.plans.each ok.opening.some_nodes u held.way r p.packet.routed p.packet.fits.1 p.packet.is_new
 
 -- and so do its restamps, where there is another
-pub restamps_short : (s : State) → IsState s → (u : ℕ) (held : Held) (r : Journey) (full : Hop → Bool) (b : Board) (restamp : Option ℕ) (v : Verdict) → Acting s u held r full b restamp v →
+pub restamps_short : (s : World) → IsWorld s → (u : ℕ) (held : Held) (r : Record) (full : Hop → Bool) (b : Board) (restamp : Option ℕ) (v : Verdict) → Acting s u held r full b restamp v →
     (e : ℕ) → restamp ≡ Some e → length r.restamps < MAX_RESTAMPS
 restamps_short s ok u held r full b None v a e is = absurd (none-some e is)
 restamps_short s ok u held r full b (Some x) v a e is = let lt = a.by.2 in let most = ok.opening.restamps in omega arith
 
 -- the world after an Act
-pub keep_act_place : (s : State) (ok : IsState s) (u : ℕ) (held : Held) (r : Journey) (full : Hop → Bool) (b : Board) (restamp : Option ℕ) (v : Verdict) → slice_index_or s.hands u None ≡ Some held → Acting s u held r full b restamp v →
+pub keep_act_place : (s : World) (ok : IsWorld s) (u : ℕ) (held : Held) (r : Record) (full : Hop → Bool) (b : Board) (restamp : Option ℕ) (v : Verdict) → slice_index_or s.hands u None ≡ Some held → Acting s u held r full b restamp v →
     KeptWith (record s { hands = slice_set s.hands u None; channels = sent_on s.opening s.channels v held.id; records = slice_set s.records held.id (ruled u held.way restamp v r) }) (moved ok.place held.id (place_after v))
 keep_act_place s ok u held r full b restamp v holds a = (
   record {
@@ -447,7 +447,7 @@ keep_act_place s ok u held r full b restamp v holds a = (
     same_channels (LeavesByDown l) = refl
     same_channels (NoRoom h) = refl
 
-    placed_after : (w : Verdict) (made : Journey) → IsPacket s.opening s.plans made (place_after w) → LeadsFar s w →
+    placed_after : (w : Verdict) (made : Record) → IsPacket s.opening s.plans made (place_after w) → LeadsFar s w →
         ArePlaced s.opening s.plans (slice_set s.hands u None) (sent_on s.opening s.channels w held.id) (slice_set s.records held.id made) (moved ok.place held.id (place_after w))
     placed_after (GoesOn h) made now to =
         subst (λ (c : ℕ). ArePlaced s.opening s.plans (slice_set s.hands u None) (put_into s.channels c held.id) (slice_set s.records held.id made) (moved ok.place held.id (place_after (GoesOn h))))
@@ -459,21 +459,21 @@ keep_act_place s ok u held r full b restamp v holds a = (
     placed_after (LeavesByDown l) made now to = ended s.opening s.plans s.hands s.channels s.records ok.place u held (LeavesByDown l) made ok.placed u_in holds now refl
     placed_after (NoRoom h) made now to = ended s.opening s.plans s.hands s.channels s.records ok.place u held (NoRoom h) made ok.placed u_in holds now refl
 
-pub keep_act : (s : State) → IsState s → (u : ℕ) (held : Held) (r : Journey) (full : Hop → Bool) (b : Board) (restamp : Option ℕ) (v : Verdict) → slice_index_or s.hands u None ≡ Some held → Acting s u held r full b restamp v →
-    IsState (record s { hands = slice_set s.hands u None; channels = sent_on s.opening s.channels v held.id; records = slice_set s.records held.id (ruled u held.way restamp v r) })
+pub keep_act : (s : World) → IsWorld s → (u : ℕ) (held : Held) (r : Record) (full : Hop → Bool) (b : Board) (restamp : Option ℕ) (v : Verdict) → slice_index_or s.hands u None ≡ Some held → Acting s u held r full b restamp v →
+    IsWorld (record s { hands = slice_set s.hands u None; channels = sent_on s.opening s.channels v held.id; records = slice_set s.records held.id (ruled u held.way restamp v r) })
 keep_act s ok u held r full b restamp v holds a = (keep_act_place s ok u held r full b restamp v holds a).0
 
-pub acting_now : (s now : State) → s ≡ now → IsState s → (u : ℕ) (held : Held) (r : Journey) (x : Ruling) → slice_index_or now.hands u None ≡ Some held → r ≡ slice_index_or s.records held.id r → u < (nodes_of s.opening) →
+pub acting_now : (s now : World) → s ≡ now → IsWorld s → (u : ℕ) (held : Held) (r : Record) (x : Ruling) → slice_index_or now.hands u None ≡ Some held → r ≡ slice_index_or s.records held.id r → u < (nodes_of s.opening) →
     x ≡ ruling_on now.opening (sight_in now) u held.way (record_at (sight_in now) held.id) →
     Acting s u held r (is_full_towards s.opening (sight_in s)) (board_at (sight_in s) (slice_index s.views u)) x.restamp x.verdict
 acting_now s now e ok u held r x holds read u_in is =
     let p = in_hand_of s now e ok u held holds r read in
     let here : x ≡ ruling_on s.opening (sight_in s) u held.way (record_at (sight_in s) held.id) =
-    is ∙ ap (λ (y : State). ruling_on y.opening (sight_in y) u held.way (record_at (sight_in y) held.id)) (sym e) in
-    let known : x ≡ ruling_on s.opening (sight_in s) u held.way r = here ∙ ap (λ (y : Journey). ruling_on s.opening (sight_in s) u held.way y) (record_read s held.id r p.is_record) in
+    is ∙ ap (λ (y : World). ruling_on y.opening (sight_in y) u held.way (record_at (sight_in y) held.id)) (sym e) in
+    let known : x ≡ ruling_on s.opening (sight_in s) u held.way r = here ∙ ap (λ (y : Record). ruling_on s.opening (sight_in s) u held.way y) (record_read s held.id r p.is_record) in
     acting_of s ok u held r x p u_in known
 
-pub room_for : (s : State) → IsState s → (u : ℕ) (held : Held) (r : Journey) (b : Board) (restamp : Option ℕ) (v : Verdict) (h : Hop) (c : ℕ) (q : List ℕ) → Acting s u held r (is_full_towards s.opening (sight_in s)) b restamp v → v ≡ GoesOn h →
+pub room_for : (s : World) → IsWorld s → (u : ℕ) (held : Held) (r : Record) (b : Board) (restamp : Option ℕ) (v : Verdict) (h : Hop) (c : ℕ) (q : List ℕ) → Acting s u held r (is_full_towards s.opening (sight_in s)) b restamp v → v ≡ GoesOn h →
     c ≡ into s.opening h.node (Link h.link) → q ≡ slice_index_or s.channels c q → (c < length s.channels) × (length q < s.opening.capacity) × (q ≡ slice_index_or s.channels c [])
 room_for s ok u held r b restamp v h c q acting goes is read =
     let a : Acting s u held r (is_full_towards s.opening (sight_in s)) b restamp (GoesOn h) = subst (λ (w : Verdict). Acting s u held r (is_full_towards s.opening (sight_in s)) b restamp w) goes acting in
@@ -495,58 +495,58 @@ unsent o channels (LeavesByDown l) id n = (refl, refl)
 unsent o channels (NoRoom h) id n = (refl, refl)
 
 -- what an Act comes to
-pub acts_is : (now : State) (u : ℕ) (held : Held) (x : Ruling) → u < (nodes_of now.opening) → slice_index_or now.hands u None ≡ Some held →
+pub acts_is : (now : World) (u : ℕ) (held : Held) (x : Ruling) → u < (nodes_of now.opening) → slice_index_or now.hands u None ≡ Some held →
     x ≡ ruling_on now.opening (sight_in now) u held.way (record_at (sight_in now) held.id) → acts now.opening (sight_in now) u ≡ Ok (DidAct u held.id held.way x.restamp x.verdict)
 acts_is now u held x u_in holds is =
     let t : nat_lt u (nodes_of now.opening) ≡ true = grind (arith, common_steps) in
     rw (t, holds) (ap (λ (y : Ruling). Ok (DidAct u held.id held.way y.restamp y.verdict)) (sym is))
 
-answer_of : (now new : State) (x y : Result Entry Refused) (result : Result Reply Refused) → x ≡ y → IsAnswer now new y result → IsAnswer now new x result
+answer_of : (now new : World) (x y : Result Entry Refused) (result : Result Reply Refused) → x ≡ y → IsAnswer now new y result → IsAnswer now new x result
 answer_of now new x y result e a = subst (λ (z : Result Entry Refused). IsAnswer now new z result) (sym e) a
 
 -- the world after an Act, from what the code read and wrote
-abbrev pub acted_state : State → ℕ → ℕ → Journey → List (List ℕ) → State
-acted_state s u id r channels = record s { hands = slice_set s.hands u None; channels = channels; records = slice_set s.records id r }
+abbrev pub acted_world : World → ℕ → ℕ → Record → List (List ℕ) → World
+acted_world s u id r channels = record s { hands = slice_set s.hands u None; channels = channels; records = slice_set s.records id r }
 
-acted_is : (s : State) → IsState s → (u : ℕ) (held : Held) (r : Journey) (restamp : Option ℕ) (v : Verdict) (r' : Journey) (channels : List (List ℕ)) → InHandOf s u held r →
-    r' ≡ ruled u held.way restamp v r → channels ≡ sent_on s.opening s.channels v held.id → acted_state s u held.id r' channels ≡ after s (DidAct u held.id held.way restamp v)
+acted_is : (s : World) → IsWorld s → (u : ℕ) (held : Held) (r : Record) (restamp : Option ℕ) (v : Verdict) (r' : Record) (channels : List (List ℕ)) → InHandOf s u held r →
+    r' ≡ ruled u held.way restamp v r → channels ≡ sent_on s.opening s.channels v held.id → acted_world s u held.id r' channels ≡ after s (DidAct u held.id held.way restamp v)
 acted_is s ok u held r restamp v r' channels p e f =
     let same : r ≡ slice_index_or s.records held.id (fresh held.id 0 0 0 0) = sym (get_or_from_slice_get s.records held.id r (fresh held.id 0 0 0 0) p.is_record) in
-    rw (e, f) (ap (λ (x : Journey). acted_state s u held.id (ruled u held.way restamp v x) (sent_on s.opening s.channels v held.id)) same)
+    rw (e, f) (ap (λ (x : Record). acted_world s u held.id (ruled u held.way restamp v x) (sent_on s.opening s.channels v held.id)) same)
 
 -- an Act is answered, and the invariant holds after it
-pub act_done : (s now : State) → s ≡ now → IsState s → (u : ℕ) (held : Held) (r : Journey) (x : Ruling) (r' : Journey) (channels : List (List ℕ)) (reply : Reply) → slice_index_or now.hands u None ≡ Some held → r ≡ slice_index_or s.records held.id r → u < (nodes_of s.opening) →
+pub act_done : (s now : World) → s ≡ now → IsWorld s → (u : ℕ) (held : Held) (r : Record) (x : Ruling) (r' : Record) (channels : List (List ℕ)) (reply : Reply) → slice_index_or now.hands u None ≡ Some held → r ≡ slice_index_or s.records held.id r → u < (nodes_of s.opening) →
     x ≡ ruling_on now.opening (sight_in now) u held.way (record_at (sight_in now) held.id) → r' ≡ ruled u held.way x.restamp x.verdict r → channels ≡ sent_on s.opening s.channels x.verdict held.id → reply ≡ reply_after held.id x.verdict →
-    IsState (acted_state s u held.id r' channels) × IsAnswer now (acted_state s u held.id r' channels) (acts now.opening (sight_in now) u) (Ok reply)
+    IsWorld (acted_world s u held.id r' channels) × IsAnswer now (acted_world s u held.id r' channels) (acts now.opening (sight_in now) u) (Ok reply)
 act_done s now e ok u held r x r' channels reply holds read u_in is wrote sends says =
     let a = acting_now s now e ok u held r x holds read u_in is in
-    let here : slice_index_or s.hands u None ≡ Some held = ap (λ (y : State). slice_index_or y.hands u None) e ∙ holds in
-    let kept : IsState (acted_state s u held.id r' channels) = rw (wrote, sends) (keep_act s ok u held r (is_full_towards s.opening (sight_in s)) (board_at (sight_in s) (slice_index s.views u)) x.restamp x.verdict here a) in
-    let n : u < (nodes_of now.opening) = let m = ap (λ (y : State). nodes_of y.opening) e in omega arith in
-    let to : acted_state s u held.id r' channels ≡ after now (DidAct u held.id held.way x.restamp x.verdict) =
-    acted_is s ok u held r x.restamp x.verdict r' channels a.hand wrote sends ∙ ap (λ (y : State). after y (DidAct u held.id held.way x.restamp x.verdict)) e in
+    let here : slice_index_or s.hands u None ≡ Some held = ap (λ (y : World). slice_index_or y.hands u None) e ∙ holds in
+    let kept : IsWorld (acted_world s u held.id r' channels) = rw (wrote, sends) (keep_act s ok u held r (is_full_towards s.opening (sight_in s)) (board_at (sight_in s) (slice_index s.views u)) x.restamp x.verdict here a) in
+    let n : u < (nodes_of now.opening) = let m = ap (λ (y : World). nodes_of y.opening) e in omega arith in
+    let to : acted_world s u held.id r' channels ≡ after now (DidAct u held.id held.way x.restamp x.verdict) =
+    acted_is s ok u held r x.restamp x.verdict r' channels a.hand wrote sends ∙ ap (λ (y : World). after y (DidAct u held.id held.way x.restamp x.verdict)) e in
     (kept, answer_of now _ _ (Ok (DidAct u held.id held.way x.restamp x.verdict)) (Ok reply) (acts_is now u held x n holds is) (ap (λ (y : Reply). Ok y) says, to))
 
-pub not_sent : (s : State) (u : ℕ) (held : Held) (v : Verdict) → ((h : Hop) → v ≡ GoesOn h → ⊥) → (s.channels ≡ sent_on s.opening s.channels v held.id) × (Settled held.id ≡ reply_after held.id v)
+pub not_sent : (s : World) (u : ℕ) (held : Held) (v : Verdict) → ((h : Hop) → v ≡ GoesOn h → ⊥) → (s.channels ≡ sent_on s.opening s.channels v held.id) × (Settled held.id ≡ reply_after held.id v)
 not_sent s u held v n = let q = unsent s.opening s.channels v held.id n in (sym q.0, sym q.1)
 
-pub hand_read : (s now : State) → s ≡ now → IsState s → (u : ℕ) (x : Option Held) (held : Held) → u < (nodes_of s.opening) → x ≡ slice_index_or s.hands u x → x ≡ Some held → slice_index_or now.hands u None ≡ Some held
+pub hand_read : (s now : World) → s ≡ now → IsWorld s → (u : ℕ) (x : Option Held) (held : Held) → u < (nodes_of s.opening) → x ≡ slice_index_or s.hands u x → x ≡ Some held → slice_index_or now.hands u None ≡ Some held
 hand_read s now e ok u x held u_in read is =
     let known : x ≡ slice_index_or s.hands u None = get_or_read s.hands u x (omega (arith, ok.hands)) read None in
-    ap (λ (y : State). slice_index_or y.hands u None) (sym e) ∙ sym known ∙ is
+    ap (λ (y : World). slice_index_or y.hands u None) (sym e) ∙ sym known ∙ is
 
 -- what the channels are after a put, from what the code read and wrote
-pub put_read : (s : State) → IsState s → (u : ℕ) (held : Held) (r : Journey) (b : Board) (restamp : Option ℕ) (v : Verdict) (h : Hop) (c : ℕ) (q q' : List ℕ) → Acting s u held r (is_full_towards s.opening (sight_in s)) b restamp v → v ≡ GoesOn h →
+pub put_read : (s : World) → IsWorld s → (u : ℕ) (held : Held) (r : Record) (b : Board) (restamp : Option ℕ) (v : Verdict) (h : Hop) (c : ℕ) (q q' : List ℕ) → Acting s u held r (is_full_towards s.opening (sight_in s)) b restamp v → v ≡ GoesOn h →
     c ≡ into s.opening h.node (Link h.link) → q ≡ slice_index_or s.channels c q → q' ≡ q ++ held.id ∷ [] → slice_set s.channels c q' ≡ sent_on s.opening s.channels v held.id
 put_read s ok u held r b restamp v h c q q' a goes is read put =
     let old = (room_for s ok u held r b restamp v h c q a goes is read).2 in
     rw (put, old, goes) (ap (λ (x : ℕ). put_into s.channels x held.id) is)
 
 -- a new plan changes no table that a packet goes by
-table_more : (o : Setting) (plans : List Scheme) (t : Scheme) (e : ℕ) → 0 < e → e ≤ length plans → plan_of o (plans ++ t ∷ []) e ≡ plan_of o plans e
+table_more : (o : Setting) (plans : List Plan) (t : Plan) (e : ℕ) → 0 < e → e ≤ length plans → plan_of o (plans ++ t ∷ []) e ≡ plan_of o plans e
 table_more o plans t e above within = get_or_append_left plans (t ∷ []) o.first (e - 1) (omega arith)
 
-stretch_more : (o : Setting) (plans : List Scheme) (t : Scheme) (g : Journey) → IsStretch o plans g → IsStretch o (plans ++ t ∷ []) g
+stretch_more : (o : Setting) (plans : List Plan) (t : Plan) (g : Record) → IsStretch o plans g → IsStretch o (plans ++ t ∷ []) g
 stretch_more o plans t g k =
     let e_in = k.epoch_in in
     record {
@@ -555,30 +555,30 @@ stretch_more o plans t g k =
       epoch_above = k.epoch_above;
       epoch_in = rw length_push (omega arith);
       begins = k.begins;
-      follows = subst (λ (x : Scheme). IsBeginning x g.dest g.hops) (sym (table_more o plans t g.epoch k.epoch_above k.epoch_in)) k.follows;
+      follows = subst (λ (x : Plan). IsBeginning x g.dest g.hops) (sym (table_more o plans t g.epoch k.epoch_above k.epoch_in)) k.follows;
     }
 
-each_more : (o : Setting) (plans : List Scheme) (t : Scheme) (gs : List Journey) → AllByRecursion (IsStretch o plans) gs → AllByRecursion (IsStretch o (plans ++ t ∷ [])) gs
+each_more : (o : Setting) (plans : List Plan) (t : Plan) (gs : List Record) → AllByRecursion (IsStretch o plans) gs → AllByRecursion (IsStretch o (plans ++ t ∷ [])) gs
 each_more o plans t [] k = tt
 each_more o plans t (g ∷ gs) k = (stretch_more o plans t g k.0, each_more o plans t gs k.1)
 
-packet_more : (o : Setting) (plans : List Scheme) (t : Scheme) (r : Journey) (place : Place) → ((k : ℕ) → IsPlanFor o (slice_index_or plans k o.first)) → IsPacket o plans r place → IsPacket o (plans ++ t ∷ []) r place
+packet_more : (o : Setting) (plans : List Plan) (t : Plan) (r : Record) (place : Place) → ((k : ℕ) → IsPlanFor o (slice_index_or plans k o.first)) → IsPacket o plans r place → IsPacket o (plans ++ t ∷ []) r place
 packet_more o plans t r place each p =
     let here = present_stretch o plans each r p.routed in
     record {
       routed = record { few = p.routed.few; places = p.routed.places; rising = p.routed.rising; each = each_more o plans t (segments r) p.routed.each; room = p.routed.room };
-      fits = subst (λ (x : Scheme). FitsPlace x (present r) place) (sym (table_more o plans t (stamp_of r) here.epoch_above here.epoch_in)) p.fits;
+      fits = subst (λ (x : Plan). FitsPlace x (present r) place) (sym (table_more o plans t (stamp_of r) here.epoch_above here.epoch_in)) p.fits;
       is_new = p.is_new;
     }
 
-plan_each : (o : Setting) (plans : List Scheme) (t : Scheme) → ((k : ℕ) → IsPlanFor o (slice_index_or plans k o.first)) → IsPlanFor o t → (k : ℕ) → IsPlanFor o (slice_index_or (plans ++ t ∷ []) k o.first)
+plan_each : (o : Setting) (plans : List Plan) (t : Plan) → ((k : ℕ) → IsPlanFor o (slice_index_or plans k o.first)) → IsPlanFor o t → (k : ℕ) → IsPlanFor o (slice_index_or (plans ++ t ∷ []) k o.first)
 plan_each o [] t each is zero = is
 plan_each o [] t each is (suc k) = each k
 plan_each o (p ∷ plans) t each is zero = each zero
 plan_each o (p ∷ plans) t each is (suc k) = plan_each o plans t (λ j. each (suc j)) is k
 
-pub keep_install : (s : State) → IsState s → (t : Scheme) (b : Board) → IsPlanFor s.opening t → length s.plans < MAX_EPOCHS → b.version ≡ (newest_of s.boards).version + 1 → (newest_of s.boards).version < MAX_CHANGES →
-    b.current ≡ length s.plans + 1 → b.floor ≡ (newest_of s.boards).floor → IsState (record s { boards = s.boards ++ b ∷ []; plans = s.plans ++ t ∷ [] })
+pub keep_install : (s : World) → IsWorld s → (t : Plan) (b : Board) → IsPlanFor s.opening t → length s.plans < MAX_EPOCHS → b.version ≡ (newest_of s.boards).version + 1 → (newest_of s.boards).version < MAX_CHANGES →
+    b.current ≡ length s.plans + 1 → b.floor ≡ (newest_of s.boards).floor → IsWorld (record s { boards = s.boards ++ b ∷ []; plans = s.plans ++ t ∷ [] })
 keep_install s ok t b is few version room current floor = record {
   opening = ok.opening;
   views = ok.views;
@@ -610,18 +610,18 @@ keep_install s ok t b is few version room current floor = record {
 }
 
 -- the opening stays, though its first plan is read from the list of plans
-pub first_same : (plans : List Scheme) (t d : Scheme) → 0 < length plans → slice_index_or (plans ++ t ∷ []) 0 d ≡ slice_index_or plans 0 d
+pub first_same : (plans : List Plan) (t d : Plan) → 0 < length plans → slice_index_or (plans ++ t ∷ []) 0 d ≡ slice_index_or plans 0 d
 first_same plans t d some = get_or_append_left plans (t ∷ []) d 0 some
 
 -- the same as keep_install, from what the code read
-pub installed_at : (s : State) → IsState s → s.opening.first ≡ slice_index_or s.plans 0 no_scheme → (epoch : ℕ) (newest next : Board) (t : Scheme) (mid boards : List Board) (plans : List Scheme) →
+pub installed_at : (s : World) → IsWorld s → s.opening.first ≡ slice_index_or s.plans 0 no_plan → (epoch : ℕ) (newest next : Board) (t : Plan) (mid boards : List Board) (plans : List Plan) →
     newest ≡ newest_of s.boards → length s.plans < MAX_EPOCHS → newest.version < MAX_CHANGES → epoch ≡ length s.plans + 1 →
     IsPlanFor s.opening t → next ≡ installed newest epoch → mid ≡ s.boards → boards ≡ mid ++ next ∷ [] → plans ≡ s.plans ++ t ∷ [] →
-    IsState (record s { opening = record s.opening { first = slice_index_or plans 0 no_scheme }; boards = boards; plans = plans })
+    IsWorld (record s { opening = record s.opening { first = slice_index_or plans 0 no_plan }; boards = boards; plans = plans })
 installed_at s ok first epoch newest next t mid boards plans n few room is_epoch is made same more pushed =
     let version = ap (λ (b : Board). b.version) n in
-    let kept : IsState (record s { boards = s.boards ++ installed newest epoch ∷ []; plans = s.plans ++ t ∷ [] }) =
+    let kept : IsWorld (record s { boards = s.boards ++ installed newest epoch ∷ []; plans = s.plans ++ t ∷ [] }) =
     keep_install s ok t (installed newest epoch) is few (ap (λ (k : ℕ). k + 1) version) (omega arith)
     is_epoch (ap (λ (b : Board). b.floor) n) in
-    let one : slice_index_or (s.plans ++ t ∷ []) 0 no_scheme ≡ s.opening.first = first_same s.plans t no_scheme ok.plans.some ∙ sym first in
-    rw (pushed, more, same, made) (subst (λ (f : Scheme). IsState (record s { opening = record s.opening { first = f }; boards = s.boards ++ installed newest epoch ∷ []; plans = s.plans ++ t ∷ [] })) (sym one) kept)
+    let one : slice_index_or (s.plans ++ t ∷ []) 0 no_plan ≡ s.opening.first = first_same s.plans t no_plan ok.plans.some ∙ sym first in
+    rw (pushed, more, same, made) (subst (λ (f : Plan). IsWorld (record s { opening = record s.opening { first = f }; boards = s.boards ++ installed newest epoch ∷ []; plans = s.plans ++ t ∷ [] })) (sym one) kept)

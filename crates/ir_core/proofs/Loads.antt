@@ -16,11 +16,11 @@ use Rattle.ir_core.specs.declared.packet.Held.{Held}
 use Rattle.ir_core.specs.declared.packet.Fate.{Fate}
 use Rattle.ir_core.specs.declared.packet.Fate.TheVariants.{Left}
 use Rattle.ir_core.specs.declared.board.Board.{Board}
-use Rattle.ir_core.specs.Journey.{Journey, present, stamp_of}
+use Rattle.ir_core.specs.Record.{Record, present, stamp_of}
 use Rattle.ir_core.specs.Setting.{nodes_of, channel_of, into}
 use Rattle.ir_core.specs.Entry.{DidTake, DidAct, acted, ruled, fresh, fate_of, is_hop, hops_after}
 use Rattle.ir_core.specs.Meaning.{plan_of}
-use Rattle.ir_core.specs.State.{State, IsState, IsDue, after, sent_on, taken_from, LeadsIn}
+use Rattle.ir_core.specs.World.{World, IsWorld, IsDue, after, sent_on, taken_from, LeadsIn}
 use Rattle.ir_core.specs.Quiet.{weight, travel, made_of, hops_left, floor_of, way_load, held_load, inbox_load}
 use Rattle.ir_core.proofs.Channels.{IsEndOf, link_channel, channel_within, into_is}
 use Rattle.ir_core.proofs.Segments.{present_gone}
@@ -63,7 +63,7 @@ beyond n u l c link (inl p) = let e = p.0 in omega arith
 beyond n u l c link (inr p) = let e = p.0 in omega arith
 
 -- what is sent goes into no inbox
-sent_elsewhere : (s : State) (v : Verdict) (id k : ℕ) → LeadsIn s v → k < nodes_of s.opening → slice_index_or (sent_on s.opening s.channels v id) k [] ≡ slice_index_or s.channels k []
+sent_elsewhere : (s : World) (v : Verdict) (id k : ℕ) → LeadsIn s v → k < nodes_of s.opening → slice_index_or (sent_on s.opening s.channels v id) k [] ≡ slice_index_or s.channels k []
 sent_elsewhere s (GoesOn h) id k to k_in =
     let number = into_is s.opening h.node (Link h.link) to.0 to.1 in
     let at = link_channel s.opening h.node h.link to.0 to.1 in
@@ -76,24 +76,24 @@ sent_elsewhere s Arrives id k to k_in = refl
 sent_elsewhere s (LeavesByDown l) id k to k_in = refl
 sent_elsewhere s (NoRoom h) id k to k_in = refl
 
-travel_left : (n floor : ℕ) (r : Journey) → r.fate ≡ Left → travel n floor r ≡ n - made_of floor r
+travel_left : (n floor : ℕ) (r : Record) → r.fate ≡ Left → travel n floor r ≡ n - made_of floor r
 travel_left n floor r e = rw e refl
 
 -- a segment of a live epoch has made its hops, one of a retired epoch none
-pub made_live : (floor : ℕ) (r : Journey) → floor ≤ stamp_of r → made_of floor r ≡ length (present r).hops
+pub made_live : (floor : ℕ) (r : Record) → floor ≤ stamp_of r → made_of floor r ≡ length (present r).hops
 made_live floor r le = let t : nat_lt (stamp_of r) floor ≡ false = grind (arith, common_steps) in rw t refl
 
-pub made_retired : (floor : ℕ) (r : Journey) → stamp_of r < floor → made_of floor r ≡ 0
+pub made_retired : (floor : ℕ) (r : Record) → stamp_of r < floor → made_of floor r ≡ 0
 made_retired floor r lt = let t : nat_lt (stamp_of r) floor ≡ true = grind (arith, common_steps) in rw t refl
 
-made_below : (floor n : ℕ) (r : Journey) → length (present r).hops < n → made_of floor r < n
+made_below : (floor n : ℕ) (r : Record) → length (present r).hops < n → made_of floor r < n
 made_below floor n r lt = by_test (nat_lt (stamp_of r) floor)
   where
     by_test : (t : Bool) → cond t 0 (length (present r).hops) < n
     by_test true = omega arith
     by_test false = lt
 
-pub ruled_fate : (u : ℕ) (way : Way) (restamp : Option ℕ) (v : Verdict) (r : Journey) → (ruled u way restamp v r).fate ≡ fate_of v
+pub ruled_fate : (u : ℕ) (way : Way) (restamp : Option ℕ) (v : Verdict) (r : Record) → (ruled u way restamp v r).fate ≡ fate_of v
 ruled_fate u way None v r = refl
 ruled_fate u way (Some e) v r = refl
 
@@ -110,14 +110,14 @@ after_goes (Link k) u h hops some = let more = length-append hops (u ∷ []) in 
 grows_from : (way : Way) (a b c d : ℕ) → a ≡ c → b ≡ d → Grows way c d → Grows way a b
 grows_from way a b c d e f g = record { no_less = let x = g.no_less in omega arith; some = let x = g.some in omega arith; by_link = λ l w. (let x = g.by_link l w in omega arith) }
 
-pub act_grows : (s : State) → IsState s → (u : ℕ) (held : Held) (r : Journey) (full : Hop → Bool) (b : Board) (restamp : Option ℕ) (h : Hop) → Acting s u held r full b restamp (GoesOn h) →
+pub act_grows : (s : World) → IsWorld s → (u : ℕ) (held : Held) (r : Record) (full : Hop → Bool) (b : Board) (restamp : Option ℕ) (h : Hop) → Acting s u held r full b restamp (GoesOn h) →
     Grows held.way (made_of b.floor r) (made_of b.floor (ruled u held.way restamp (GoesOn h) r))
 act_grows s ok u held r full b None h a =
     let k = a.hand.packet.routed in
     let st = present_stretch s.opening s.plans ok.plans.each r k in
     let was = made_live b.floor r a.live in
     let now = made_live b.floor (acted u held.way (GoesOn h) r) a.live in
-    let g = ap (λ (x : Journey). length x.hops) (present_gone (reverse r.restamps) (is_hop held.way (GoesOn h)) u Left r k.places) in
+    let g = ap (λ (x : Record). length x.hops) (present_gone (reverse r.restamps) (is_hop held.way (GoesOn h)) u Left r k.places) in
     grows_from held.way _ _ _ _ was (now ∙ g) (after_goes held.way u h (present r).hops (slice_get_within (present r).hops 0 (present r).source st.begins))
 act_grows s ok u held r full b (Some e) h a =
     let was = made_retired b.floor r a.live.0 in
@@ -128,7 +128,7 @@ act_grows s ok u held r full b (Some e) h a =
     let one = ap (λ (x : List ℕ). length x) k.1 in
     record { no_less = omega arith; some = omega arith; by_link = λ l w. omega arith }
 
-pub grows_on : (s : State) → IsState s → (u : ℕ) (held : Held) (r : Journey) (full : Hop → Bool) (b : Board) (restamp : Option ℕ) (v : Verdict) (h : Hop) → b.floor ≡ floor_of s → v ≡ GoesOn h → Acting s u held r full b restamp v →
+pub grows_on : (s : World) → IsWorld s → (u : ℕ) (held : Held) (r : Record) (full : Hop → Bool) (b : Board) (restamp : Option ℕ) (v : Verdict) (h : Hop) → b.floor ≡ floor_of s → v ≡ GoesOn h → Acting s u held r full b restamp v →
     Grows held.way (made_of (floor_of s) r) (made_of (floor_of s) (ruled u held.way restamp v r))
 grows_on s ok u held r full b restamp v h is_floor goes a =
     let g = act_grows s ok u held r full b restamp h (subst (λ (w : Verdict). Acting s u held r full b restamp w) goes a) in
@@ -151,7 +151,7 @@ act_lighter n (Link l) (LeavesByDown k) made after short grows = let lt = short 
 act_lighter n (Link l) (NoRoom h) made after short grows = let lt = short l refl in omega arith
 
 -- a packet that came by a link has made fewer hops of its walk than there are nodes
-pub hops_short : (s : State) → IsState s → (u : ℕ) (held : Held) (r : Journey) (floor : ℕ) → InHandOf s u held r → (l : ℕ) → held.way ≡ Link l → made_of floor r < nodes_of s.opening
+pub hops_short : (s : World) → IsWorld s → (u : ℕ) (held : Held) (r : Record) (floor : ℕ) → InHandOf s u held r → (l : ℕ) → held.way ≡ Link l → made_of floor r < nodes_of s.opening
 hops_short s ok u held r floor p l e =
     let t = plan_of s.opening s.plans (stamp_of r) in
     let due : IsDue t (present r) u (Link l) = subst (λ (w : Way). IsDue t (present r) u w) e p.packet.fits.1 in
@@ -159,7 +159,7 @@ hops_short s ok u held r floor p l e =
     made_below floor (nodes_of s.opening) r (hops_below s.opening t (present r) u l (ok.plans.each (stamp_of r - 1)) st.source_in st.dest_in st.begins st.follows due)
 
 -- an Act on a newest board makes the weight less
-pub act_falls : (s : State) → IsState s → (u : ℕ) (held : Held) (restamp : Option ℕ) (v : Verdict) (full : Hop → Bool) (b : Board) → b.floor ≡ floor_of s → slice_index_or s.hands u None ≡ Some held →
+pub act_falls : (s : World) → IsWorld s → (u : ℕ) (held : Held) (restamp : Option ℕ) (v : Verdict) (full : Hop → Bool) (b : Board) → b.floor ≡ floor_of s → slice_index_or s.hands u None ≡ Some held →
     Acting s u held (slice_index_or s.records held.id (fresh held.id 0 0 0 0)) full b restamp v → weight (after s (DidAct u held.id held.way restamp v)) < weight s
 act_falls s ok u held restamp v full b is_floor holds a =
     let r = slice_index_or s.records held.id (fresh held.id 0 0 0 0) in
@@ -197,7 +197,7 @@ act_falls s ok u held restamp v full b is_floor holds a =
         omega arith
 
 -- a channel of a way, and the loads after a take by it
-take_node : (s : State) → IsState s → (u : ℕ) (way : Way) (c id : ℕ) → u < nodes_of s.opening → channel_of s.opening u way ≡ Some c → slice_index_or s.hands u None ≡ None →
+take_node : (s : World) → IsWorld s → (u : ℕ) (way : Way) (c id : ℕ) → u < nodes_of s.opening → channel_of s.opening u way ≡ Some c → slice_index_or s.hands u None ≡ None →
     slice_get (slice_index_or s.channels c []) 0 ≡ Some id → c < length s.channels → u < length s.hands →
     node_load (slice_set s.channels c (drop 1 (slice_index_or s.channels c []))) (slice_set s.hands u (Some (record { id = id; way = way }))) u ≡ node_load s.channels s.hands u
 take_node s ok u Inbox c id u_in there empty first c_in h_in =
@@ -220,7 +220,7 @@ take_node s ok u (Link l) c id u_in there empty first c_in h_in =
     omega arith
 
 -- no other node's load changes
-take_other : (s : State) (u : ℕ) (way : Way) (c id : ℕ) → channel_of s.opening u way ≡ Some c →
+take_other : (s : World) (u : ℕ) (way : Way) (c id : ℕ) → channel_of s.opening u way ≡ Some c →
     (k : ℕ) → k < nodes_of s.opening → k ≢ u →
     node_load (slice_set s.channels c (drop 1 (slice_index_or s.channels c []))) (slice_set s.hands u (Some (record { id = id; way = way }))) k ≡ node_load s.channels s.hands k
 take_other s u way c id there k k_in ne =
@@ -234,7 +234,7 @@ take_other s u way c id there k k_in ne =
     apart (Link l) e = let past : nodes_of s.opening ≤ c = (let at = link_channel s.opening u l c e in beyond (nodes_of s.opening) u l c at.0 at.3) in omega arith
 
 -- a take leaves the weight
-pub take_weighs : (s : State) → IsState s → (u : ℕ) (way : Way) (c id : ℕ) → u < nodes_of s.opening → channel_of s.opening u way ≡ Some c → slice_index_or s.hands u None ≡ None →
+pub take_weighs : (s : World) → IsWorld s → (u : ℕ) (way : Way) (c id : ℕ) → u < nodes_of s.opening → channel_of s.opening u way ≡ Some c → slice_index_or s.hands u None ≡ None →
     slice_get (slice_index_or s.channels c []) 0 ≡ Some id → weight (after s (DidTake u way id)) ≡ weight s
 take_weighs s ok u way c id u_in there empty first =
     let c_in = channel_within s.opening u way c u_in there in

@@ -11,15 +11,15 @@ use Rattle.ir_core.specs.Meaning.{IsMade}
 use Rattle.ir_core.proofs.Installing.{whole_plan}
 use Rattle.std.proofs.lemmas.Option.{none-some}
 use Rattle.std.proofs.lemmas.List.{length-replicate}
-use Rattle.ir_model.specs.Scheme.{Scheme}
+use Rattle.ir_model.specs.Plan.{Plan}
 use Rattle.ir_model.specs.Walk.{IsDisconnected}
-use Rattle.ir_model.specs.Network.{Network, node_count, IsNetwork}
-use Rattle.ir_core.specs.Journey.{Journey}
+use Rattle.ir_model.specs.Topology.{Topology, node_count, IsTopology}
+use Rattle.ir_core.specs.Record.{Record}
 use Rattle.ir_core.specs.declared.packet.Held.{Held}
 use Rattle.ir_core.specs.declared.board.Board.{Board}
 use Rattle.ir_core.specs.Board.{opening_board}
-use Rattle.ir_core.specs.Setting.{Setting, IsSetting, IsPlanFor, links_of, nodes_of, no_scheme}
-use Rattle.ir_core.specs.State.{State, IsState, IsBoard, Ended}
+use Rattle.ir_core.specs.Setting.{Setting, IsSetting, IsPlanFor, links_of, nodes_of, no_plan}
+use Rattle.ir_core.specs.World.{World, IsWorld, IsBoard, Ended}
 use Rattle.ir_core.specs.Shows.{Shows}
 use Rattle.ir_core.proofs.Placed.{ended_waits, ended_in_hand}
 
@@ -29,7 +29,7 @@ same_all zero k x = refl
 same_all (suc n) zero x = refl
 same_all (suc n) (suc k) x = same_all n k x
 
-abbrev pub opened : Setting → State
+abbrev pub opened : Setting → World
 opened o = record {
   opening = o;
   boards = opening_board ∷ [];
@@ -53,7 +53,7 @@ one_board : (k : ℕ) → IsBoard 1 (slice_index_or (opening_board ∷ []) k ope
 one_board zero = record { live = omega arith; current = omega arith }
 one_board (suc k) = record { live = omega arith; current = omega arith }
 
-pub opened_kept : (o : Setting) → IsSetting o → IsState (opened o)
+pub opened_kept : (o : Setting) → IsSetting o → IsWorld (opened o)
 opened_kept o ok = record {
   opening = ok;
   views = length-replicate (nodes_of o) 0;
@@ -91,9 +91,9 @@ opened_shows o = record {
 }
 
 -- a world's fields, as contracts see them
-abbrev pub made : Network → LabelOrder → ℕ → ℕ → ℕ → List Board → List Scheme → List ℕ → List (Option Held) → List (List ℕ) → List Journey → State
+abbrev pub made : Topology → LabelOrder → ℕ → ℕ → ℕ → List Board → List Plan → List ℕ → List (Option Held) → List (List ℕ) → List Record → World
 made net labels capacity max_packets restamps boards plans views hands channels records = record {
-  opening = record { network = net; labels = labels; first = slice_index_or plans 0 no_scheme; capacity = capacity; max_packets = max_packets; restamps = restamps };
+  opening = record { topology = net; labels = labels; first = slice_index_or plans 0 no_plan; capacity = capacity; max_packets = max_packets; restamps = restamps };
   boards = boards;
   plans = plans;
   learnt = 1;
@@ -103,16 +103,16 @@ made net labels capacity max_packets restamps boards plans views hands channels 
   records = records;
 }
 
-pub made_is : (o : Setting) (boards : List Board) (plans : List Scheme) (views : List ℕ) (hands : List (Option Held)) (channels : List (List ℕ)) (records : List Journey) →
+pub made_is : (o : Setting) (boards : List Board) (plans : List Plan) (views : List ℕ) (hands : List (Option Held)) (channels : List (List ℕ)) (records : List Record) →
     boards ≡ opening_board ∷ [] → plans ≡ o.first ∷ [] → views ≡ replicate (nodes_of o) 0 → hands ≡ replicate (nodes_of o) None → channels ≡ replicate (nodes_of o + 2 * links_of o) [] → records ≡ [] →
-    made o.network o.labels o.capacity o.max_packets o.restamps boards plans views hands channels records ≡ opened o
+    made o.topology o.labels o.capacity o.max_packets o.restamps boards plans views hands channels records ≡ opened o
 made_is o boards plans views hands channels records a b c d e f = rw (a, b, c, d, e, f) refl
 
-pub made_kept : (o : Setting) → IsSetting o → (s : State) → s ≡ opened o → IsState s
-made_kept o ok s e = subst (λ (x : State). IsState x) (sym e) (opened_kept o ok)
+pub made_kept : (o : Setting) → IsSetting o → (s : World) → s ≡ opened o → IsWorld s
+made_kept o ok s e = subst (λ (x : World). IsWorld x) (sym e) (opened_kept o ok)
 
-pub made_shows : (o : Setting) → (s : State) → s ≡ opened o → Shows [] s
-made_shows o s e = subst (λ (x : State). Shows [] x) (sym e) (opened_shows o)
+pub made_shows : (o : Setting) → (s : World) → s ≡ opened o → Shows [] s
+made_shows o s e = subst (λ (x : World). Shows [] x) (sym e) (opened_shows o)
 
 -- an opening that is not refused
 both_true : (a b : Bool) → (a && b) ≡ true → (a ≡ true) × (b ≡ true)
@@ -125,7 +125,7 @@ not_refused false true c n = absurd (n NoNode refl)
 not_refused false false true n = (refl, refl)
 not_refused false false false n = absurd (n TooLarge refl)
 
--- an opening that is not refused before a scheme is made, over a disconnected network
+-- an opening that is not refused before a plan is made, over a disconnected network
 pub apart_refused : (opening : Opening) → ((e : OpenError) → open_refused opening ≡ Some e → ⊥) → IsDisconnected opening.topology → IsOpenRefusal opening Disconnected
 apart_refused opening accepted apart = by (open_refused opening) accepted
   where
@@ -136,12 +136,12 @@ apart_refused opening accepted apart = by (open_refused opening) accepted
 within : (n most : ℕ) → is_within n most ≡ true → (0 < n) × (n ≤ most)
 within n most e = let parts = both_true (not (n == 0)) (nat_le n most) e in let a = parts.0 in let b = parts.1 in (grind (arith, common_steps), grind (arith, common_steps))
 
-pub setting_is : (opening : Opening) (first : Scheme) → ((e : OpenError) → open_refused opening ≡ Some e → ⊥) → IsMade opening.labels opening.kind opening.root opening.topology (Some first) → IsSetting (setting_of opening first)
+pub setting_is : (opening : Opening) (first : Plan) → ((e : OpenError) → open_refused opening ≡ Some e → ⊥) → IsMade opening.labels opening.kind opening.root opening.topology (Some first) → IsSetting (setting_of opening first)
 setting_is opening first accepted made =
     let o = setting_of opening first in
-    let parts = not_refused (node_count o.network == 0) (nat_le (node_count o.network) opening.root) (is_small opening) accepted in
+    let parts = not_refused (node_count o.topology == 0) (nat_le (node_count o.topology) opening.root) (is_small opening) accepted in
     let a = parts.0 in
-    let p = small_parts (nat_le (node_count o.network) MAX_NODES) (nat_le (length o.network.links) MAX_LINKS) (is_within o.capacity MAX_CAPACITY) (is_within o.max_packets MAX_PACKETS) (nat_le o.restamps MAX_RESTAMPS) parts.1 in
+    let p = small_parts (nat_le (node_count o.topology) MAX_NODES) (nat_le (length o.topology.links) MAX_LINKS) (is_within o.capacity MAX_CAPACITY) (is_within o.max_packets MAX_PACKETS) (nat_le o.restamps MAX_RESTAMPS) parts.1 in
     let nodes = p.0 in
     let links = p.1 in
     let capacity = within o.capacity MAX_CAPACITY p.2 in
@@ -156,7 +156,7 @@ setting_is opening first accepted made =
       some_packets = packets.0;
       max_packets = packets.1;
       restamps = grind (arith, common_steps);
-      network = subst (λ (net : Network). IsNetwork net) made.2 made.3.network;
+      topology = subst (λ (net : Topology). IsTopology net) made.2 made.3.topology;
       first = whole_plan o o.first made.3 made.2;
     }
   where

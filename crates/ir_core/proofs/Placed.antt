@@ -4,17 +4,17 @@ use Rattle.std.proofs.lemmas.Option.{same_Some, none-some, slice_get_within}
 use Rattle.std.proofs.lemmas.Bool.{cases_eq}
 use Rattle.std.proofs.lemmas.List.{length-set, get_or-set_same}
 use Rattle.ir_model.specs.declared.Hop.{Hop}
-use Rattle.ir_model.specs.Scheme.{Scheme, next_hop}
+use Rattle.ir_model.specs.Plan.{Plan, next_hop}
 use Rattle.ir_core.specs.declared.event.Way.{Way}
 use Rattle.ir_core.specs.declared.event.Way.TheVariants.{Inbox, Link}
 use Rattle.ir_core.specs.declared.event.Verdict.{Verdict}
 use Rattle.ir_core.specs.declared.event.Verdict.TheVariants.{CameByDown, BelowFloor, Arrives, LeavesByDown, NoRoom, GoesOn}
-use Rattle.ir_core.specs.Journey.{Journey, hop_room}
+use Rattle.ir_core.specs.Record.{Record, hop_room}
 use Rattle.ir_core.specs.declared.packet.Held.{Held}
 use Rattle.ir_core.specs.Setting.{Setting, channel_of, nodes_of}
 use Rattle.ir_core.specs.Entry.{acted, fresh}
 use Rattle.ir_core.specs.Sound.{LeadsOn, last_of}
-use Rattle.ir_core.specs.State.{IsBeginning, IsPacket, IsNew, IsDue, FitsPlace, Place, Waits, InHand, Ended, ArePlaced}
+use Rattle.ir_core.specs.World.{IsBeginning, IsPacket, IsNew, IsDue, FitsPlace, Place, Waits, InHand, Ended, ArePlaced}
 use Rattle.ir_core.proofs.Walks.{IsBeginning-push, last_of-push, first-push}
 use Rattle.ir_core.proofs.Verdicts.{Means}
 use Rattle.ir_core.proofs.Channels.{same_way}
@@ -29,11 +29,11 @@ place_after Arrives = Ended
 place_after (LeavesByDown l) = Ended
 place_after (NoRoom h) = Ended
 
-abbrev leads : (t : Scheme) (r : Journey) (u : ℕ) (h : Hop) → last_of r.hops ≡ u → next_hop t u r.dest ≡ Some h → LeadsOn t r h.link h.node
+abbrev leads : (t : Plan) (r : Record) (u : ℕ) (h : Hop) → last_of r.hops ≡ u → next_hop t u r.dest ≡ Some h → LeadsOn t r h.link h.node
 leads t r u h e n = (h, ap (λ (k : ℕ). next_hop t k r.dest) e ∙ n, refl, refl)
 
 -- what an Act leaves in a record fits the packet's new place
-pub acted_fits : (t : Scheme) (full : Hop → Bool) (u : ℕ) (way : Way) (v : Verdict) (r : Journey) → ((x : ℕ) (h : Hop) → next_hop t x r.dest ≡ Some h → x ≢ r.dest) →
+pub acted_fits : (t : Plan) (full : Hop → Bool) (u : ℕ) (way : Way) (v : Verdict) (r : Record) → ((x : ℕ) (h : Hop) → next_hop t x r.dest ≡ Some h → x ≢ r.dest) →
     Means t full u way r.dest v → IsDue t r u way →
     slice_get r.hops 0 ≡ Some r.source → IsBeginning t r.dest r.hops →
     (slice_get (acted u way v r).hops 0 ≡ Some r.source) × IsBeginning t r.dest (acted u way v r).hops × FitsPlace t (acted u way v r) (place_after v)
@@ -73,16 +73,16 @@ pub moved_other : (place : ℕ → Place) (id : ℕ) (p : Place) (i : ℕ) → i
 moved_other place id p i e = grind (arith, common_steps)
 
 -- the facts on one packet in a channel, of which these lemmas speak
-abbrev pub IsWaiting : Setting → List Journey → (ℕ → Place) → ℕ → ℕ → Type 0
+abbrev pub IsWaiting : Setting → List Record → (ℕ → Place) → ℕ → ℕ → Type 0
 IsWaiting o records place c id =
     (id < length records) × ((u : ℕ) × (way : Way) × (u < (nodes_of o)) × (place id ≡ Waits u way) × (channel_of o u way ≡ Some c))
 
-still_waiting : (o : Setting) (records more : List Journey) (place : ℕ → Place) (c id j : ℕ) (p : Place) → length records ≤ length more → j ≢ id → IsWaiting o records place c j → IsWaiting o more (moved place id p) c j
+still_waiting : (o : Setting) (records more : List Record) (place : ℕ → Place) (c id j : ℕ) (p : Place) → length records ≤ length more → j ≢ id → IsWaiting o records place c j → IsWaiting o more (moved place id p) c j
 still_waiting o records more place c id j p le ne w =
     let lt = w.0 in
     (omega arith, (w.1.0, w.1.1, w.1.2, moved_other place id p j ne ∙ w.1.3, w.1.4))
 
-placed_still : (o : Setting) (plans : List Scheme) (r : Journey) (place : ℕ → Place) (id j : ℕ) (p : Place) → j ≢ id → IsPacket o plans r (place j) → IsPacket o plans r (moved place id p j)
+placed_still : (o : Setting) (plans : List Plan) (r : Record) (place : ℕ → Place) (id j : ℕ) (p : Place) → j ≢ id → IsPacket o plans r (place j) → IsPacket o plans r (moved place id p j)
 placed_still o plans r place id j p ne k = subst (λ (q : Place). IsPacket o plans r q) (sym (moved_other place id p j ne)) k
 
 -- what a channel holds after a put
@@ -105,10 +105,10 @@ put_cases channels c0 id c k j h e = chosen (or_set channels c0 c (old ++ id ∷
     chosen (inr p) = inr (inl p.0, ap (λ (l : List ℕ). slice_get l k) (sym p.1) ∙ e)
 
 -- a packet that is in no channel is put into one
-module _ (o : Setting) (channels : List (List ℕ)) (records : List Journey) (place : ℕ → Place)
+module _ (o : Setting) (channels : List (List ℕ)) (records : List Record) (place : ℕ → Place)
     (waits : (c k id : ℕ) → slice_get (slice_index_or channels c []) k ≡ Some id → IsWaiting o records place c id)
     (once : (c j k id : ℕ) → slice_get (slice_index_or channels c []) j ≡ Some id → slice_get (slice_index_or channels c []) k ≡ Some id → j ≡ k)
-    (more : List Journey) (longer : length records ≤ length more)
+    (more : List Record) (longer : length records ≤ length more)
     (id c0 u0 : ℕ) (way0 : Way) (c0_in : c0 < length channels) (id_in : id < length more) (u0_in : u0 < (nodes_of o)) (there : channel_of o u0 way0 ≡ Some c0)
     (new : (c k : ℕ) → slice_get (slice_index_or channels c []) k ≡ Some id → ⊥) where
   pub put_waiting : (c k j : ℕ) → slice_get (slice_index_or (slice_set channels c0 (slice_index_or channels c0 [] ++ id ∷ [])) c []) k ≡ Some j → IsWaiting o more (moved place id (Waits u0 way0)) c j
@@ -175,7 +175,7 @@ waits_in_hand : (u v : ℕ) (way other : Way) → Waits u way ≡ InHand v other
 waits_in_hand u v way other e = cc
 
 -- a new packet in its source's inbox
-pub placed_inject : (o : Setting) (plans : List Scheme) (hands : List (Option Held)) (channels : List (List ℕ)) (records : List Journey) (place : ℕ → Place) (e source dest : ℕ) →
+pub placed_inject : (o : Setting) (plans : List Plan) (hands : List (Option Held)) (channels : List (List ℕ)) (records : List Record) (place : ℕ → Place) (e source dest : ℕ) →
     ArePlaced o plans hands channels records place → source < (nodes_of o) → dest < (nodes_of o) → 0 < e → e ≤ length plans → source < length channels →
     ArePlaced o plans hands (slice_set channels source (slice_index_or channels source [] ++ length records ∷ [])) (records ++ fresh (length records) e source dest (hop_room o.restamps (nodes_of o)) ∷ []) (moved place (length records) (Waits source Inbox))
 placed_inject o plans hands channels records place e source dest p s_in d_in e_above e_in c_in = record {
@@ -190,10 +190,10 @@ placed_inject o plans hands channels records place e source dest p s_in d_in e_a
     id : ℕ
     id = length records
 
-    new : Journey
+    new : Record
     new = fresh (length records) e source dest (hop_room o.restamps (nodes_of o))
 
-    more : List Journey
+    more : List Record
     more = records ++ fresh (length records) e source dest (hop_room o.restamps (nodes_of o)) ∷ []
 
     longer : length records ≤ length (records ++ fresh (length records) e source dest (hop_room o.restamps (nodes_of o)) ∷ [])
@@ -205,7 +205,7 @@ placed_inject o plans hands channels records place e source dest p s_in d_in e_a
     not_there : (c k : ℕ) → slice_get (slice_index_or channels c []) k ≡ Some (length records) → ⊥
     not_there c k q = let lt = (p.waiting c k (length records) q).0 in omega arith
 
-    each_of : (i : ℕ) (r : Journey) → ((i ≡ length records) × (fresh (length records) e source dest (hop_room o.restamps (nodes_of o)) ≡ r)) ⊎ ((i < length records) × (slice_get records i ≡ Some r)) → IsPacket o plans r (moved place (length records) (Waits source Inbox) i)
+    each_of : (i : ℕ) (r : Record) → ((i ≡ length records) × (fresh (length records) e source dest (hop_room o.restamps (nodes_of o)) ≡ r)) ⊎ ((i < length records) × (slice_get records i ≡ Some r)) → IsPacket o plans r (moved place (length records) (Waits source Inbox) i)
     each_of i r (inl q) =
         let made : IsPacket o plans (fresh (length records) e source dest (hop_room o.restamps (nodes_of o))) (Waits source Inbox) = record {
           routed = record {
@@ -219,12 +219,12 @@ placed_inject o plans hands channels records place e source dest p s_in d_in e_a
           is_new = refl;
         } in
         let here = subst (λ (x : Place). IsPacket o plans (fresh (length records) e source dest (hop_room o.restamps (nodes_of o))) x) (sym (moved_same place (length records) (Waits source Inbox) i q.0)) made in
-        subst (λ (x : Journey). IsPacket o plans x (moved place (length records) (Waits source Inbox) i)) q.1 here
+        subst (λ (x : Record). IsPacket o plans x (moved place (length records) (Waits source Inbox) i)) q.1 here
     each_of i r (inr q) =
         let lt = q.0 in let ne : i ≢ length records = omega arith in
         placed_still o plans r place (length records) i (Waits source Inbox) ne (p.each i r q.1)
 
-new_in_hand : (r : Journey) (u : ℕ) (way : Way) → IsNew r (Waits u way) → IsNew r (InHand u way)
+new_in_hand : (r : Record) (u : ℕ) (way : Way) → IsNew r (Waits u way) → IsNew r (InHand u way)
 new_in_hand r u Inbox k = k
 new_in_hand r u (Link l) k = tt
 
@@ -247,7 +247,7 @@ same_hand : (u v : ℕ) (way other : Way) → InHand u way ≡ InHand v other �
 same_hand u v way other e = (cc, cc)
 
 -- the first packet of a channel is taken into a node's empty hand
-pub placed_take : (o : Setting) (plans : List Scheme) (hands : List (Option Held)) (channels : List (List ℕ)) (records : List Journey) (place : ℕ → Place) (u : ℕ) (way : Way) (c0 id : ℕ) →
+pub placed_take : (o : Setting) (plans : List Plan) (hands : List (Option Held)) (channels : List (List ℕ)) (records : List Record) (place : ℕ → Place) (u : ℕ) (way : Way) (c0 id : ℕ) →
     ArePlaced o plans hands channels records place → u < (nodes_of o) → u < length hands → c0 < length channels → channel_of o u way ≡ Some c0 → slice_get (slice_index_or channels c0 []) 0 ≡ Some id → slice_index_or hands u None ≡ None →
     ArePlaced o plans (slice_set hands u (Some (record { id = id; way = way }))) (slice_set channels c0 (drop 1 (slice_index_or channels c0 []))) records (moved place id (InHand u way))
 placed_take o plans hands channels records place u way c0 id p u_in h_in c_in there first empty = record {
@@ -305,7 +305,7 @@ placed_take o plans hands channels records place u way c0 id p u_in h_in c_in th
         by_node was (inl q) = absurd (none-some (record { id = j; way = other }) (sym empty ∙ ap (λ (x : ℕ). slice_index_or hands x None) (sym q.0) ∙ was))
         by_node was (inr q) = q.1 ∙ was
 
-    each_of : (i : ℕ) (r : Journey) → slice_get records i ≡ Some r → ((i ≡ id) ⊎ (i ≡ id → ⊥)) → IsPacket o plans r (moved place id (InHand u way) i)
+    each_of : (i : ℕ) (r : Record) → slice_get records i ≡ Some r → ((i ≡ id) ⊎ (i ≡ id → ⊥)) → IsPacket o plans r (moved place id (InHand u way) i)
     each_of i r eq (inl s) =
         let was = p.each i r eq in
         let waited : IsPacket o plans r (Waits u way) = subst (λ (x : Place). IsPacket o plans r x) (ap place s ∙ here) was in
@@ -350,8 +350,8 @@ pub ended_in_hand : (u : ℕ) (way : Way) → Ended ≡ InHand u way → ⊥
 ended_in_hand u way e = cc
 
 -- an Act on the packet in a node's hand
-module _ (o : Setting) (plans : List Scheme) (hands : List (Option Held)) (channels : List (List ℕ)) (records : List Journey) (place : ℕ → Place)
-    (u : ℕ) (held : Held) (v : Verdict) (made : Journey)
+module _ (o : Setting) (plans : List Plan) (hands : List (Option Held)) (channels : List (List ℕ)) (records : List Record) (place : ℕ → Place)
+    (u : ℕ) (held : Held) (v : Verdict) (made : Record)
     (p : ArePlaced o plans hands channels records place) (h_in : u < length hands)
     (holds : slice_index_or hands u None ≡ Some held) (now : IsPacket o plans made (place_after v)) where
   in_hand : place held.id ≡ InHand u held.way
@@ -360,13 +360,13 @@ module _ (o : Setting) (plans : List Scheme) (hands : List (Option Held)) (chann
   pub not_waiting : (c k : ℕ) → slice_get (slice_index_or channels c []) k ≡ Some held.id → ⊥
   not_waiting c k e = let w = p.waiting c k held.id e in waits_in_hand w.1.0 u w.1.1 held.way (sym w.1.3 ∙ in_hand)
 
-  pub act_each : (i : ℕ) (x : Journey) → slice_get (slice_set records held.id made) i ≡ Some x → IsPacket o plans x (moved place held.id (place_after v) i)
+  pub act_each : (i : ℕ) (x : Record) → slice_get (slice_set records held.id made) i ≡ Some x → IsPacket o plans x (moved place held.id (place_after v) i)
   act_each i x e = chosen (get_set records held.id i made x e)
     where
       chosen : ((i ≡ held.id) × (made ≡ x)) ⊎ ((i ≢ held.id) × (slice_get records i ≡ Some x)) → IsPacket o plans x (moved place held.id (place_after v) i)
       chosen (inl q) =
           let here = subst (λ (y : Place). IsPacket o plans made y) (sym (moved_same place held.id (place_after v) i q.0)) now in
-          subst (λ (y : Journey). IsPacket o plans y (moved place held.id (place_after v) i)) q.1 here
+          subst (λ (y : Record). IsPacket o plans y (moved place held.id (place_after v) i)) q.1 here
       chosen (inr q) = placed_still o plans x place held.id i (place_after v) q.0 (p.each i x q.1)
 
   pub act_held : (w : ℕ) (h : Held) → slice_index_or (slice_set hands u None) w None ≡ Some h → (h.id < length (slice_set records held.id made)) × (moved place held.id (place_after v) h.id ≡ InHand w h.way)

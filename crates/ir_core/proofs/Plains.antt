@@ -13,7 +13,7 @@ use Rattle.ir_core.specs.declared.event.Verdict.TheVariants.{CameByDown, BelowFl
 use Rattle.ir_core.specs.declared.event.Way.{Way}
 use Rattle.ir_core.specs.declared.packet.Held.{Held}
 use Rattle.ir_core.specs.declared.packet.Restamp.{Restamp as Stamped}
-use Rattle.ir_core.specs.Journey.{Journey, stamp_in, stamp_of}
+use Rattle.ir_core.specs.Record.{Record, stamp_in, stamp_of}
 use Rattle.ir_core.specs.Setting.{Setting, nodes_of}
 use Rattle.ir_core.specs.Entry.{Entry, DidInject, DidLearn, DidTake, DidRead, DidAct, DidChange, DidInstall, action_of, restamp_by, ruled, fresh}
 use Rattle.ir_core.specs.History as history
@@ -30,7 +30,7 @@ no_restamp (LeavesByDown l) current left e = refl
 no_restamp (NoRoom h) current left e = refl
 no_restamp (GoesOn h) current left e = refl
 
-pub plain_verdict : (o : Setting) (s : Sight) (u : ℕ) (way : Way) (r : Journey) → IsPlainVerdict o s u way r
+pub plain_verdict : (o : Setting) (s : Sight) (u : ℕ) (way : Way) (r : Record) → IsPlainVerdict o s u way r
 plain_verdict o s u way r limit none =
     let e : stamp_of r ≡ r.epoch = ap (λ (l : List Stamped). stamp_in (reverse l) r.epoch) none in
     let v = verdict_on o s u way (stamp_of r) r.dest in
@@ -47,20 +47,20 @@ never_restamped port (NoRoom h) e = cc
 never_restamped port (GoesOn h) e = cc
 
 -- a packet, if there is one, was not restamped
-record IsPlain (x : Option Journey) : Type 0 where
-  none : (r : Journey) → x ≡ Some r → r.restamps ≡ []
+record IsPlain (x : Option Record) : Type 0 where
+  none : (r : Record) → x ≡ Some r → r.restamps ≡ []
 
-plain_either : (b : Bool) (x y : Option Journey) → IsPlain x → IsPlain y → IsPlain (cond b x y)
+plain_either : (b : Bool) (x y : Option Record) → IsPlain x → IsPlain y → IsPlain (cond b x y)
 plain_either true x y p q = p
 plain_either false x y p q = q
 
 plain_fresh : (id epoch source dest room : ℕ) → IsPlain (Some (fresh id epoch source dest room))
-plain_fresh id epoch source dest room = record { none = λ r e. ap (λ (x : Journey). x.restamps) (sym (same_Some (fresh id epoch source dest room) r e)) }
+plain_fresh id epoch source dest room = record { none = λ r e. ap (λ (x : Record). x.restamps) (sym (same_Some (fresh id epoch source dest room) r e)) }
 
-plain_ruled : (u : ℕ) (way : Way) (v : Verdict) (x : Option Journey) → IsPlain x → IsPlain (option_map (ruled u way None v) x)
+plain_ruled : (u : ℕ) (way : Way) (v : Verdict) (x : Option Record) → IsPlain x → IsPlain (option_map (ruled u way None v) x)
 plain_ruled u way v None p = record { none = λ r e. absurd (none-some r e) }
 plain_ruled u way v (Some r) p =
-    record { none = λ s e. ap (λ (x : Journey). x.restamps) (sym (same_Some (ruled u way None v r) s e)) ∙ p.none r refl }
+    record { none = λ s e. ap (λ (x : Record). x.restamps) (sym (same_Some (ruled u way None v r) s e)) ∙ p.none r refl }
 
 -- the packets of a history without restamps
 packet_plain : (id : ℕ) (log : List Entry) → HasNoRestamp log → IsPlain (history.packet id log)
@@ -75,7 +75,7 @@ packet_plain id (DidRead u k ∷ log) h = packet_plain id log h
 packet_plain id (DidChange b ∷ log) h = packet_plain id log h
 packet_plain id (DidInstall e t b ∷ log) h = packet_plain id log h
 
-plain_or : (id : ℕ) (x : Option Journey) → IsPlain x → (unwrap_or x (fresh id 0 0 0 0)).restamps ≡ []
+plain_or : (id : ℕ) (x : Option Record) → IsPlain x → (unwrap_or x (fresh id 0 0 0 0)).restamps ≡ []
 plain_or id None p = refl
 plain_or id (Some r) p = p.none r refl
 
@@ -90,25 +90,25 @@ plain_act o log u none h =
     ap (λ (x : Result Entry Refused). cond (not (nat_lt u (nodes_of o))) (Err NoNode) x) (act_plain o s u (s.hand u) none (λ held. plain_or held.id (history.packet held.id log) (packet_plain held.id log h)))
 
 -- A history whose packets were not restamped has no restamp.
-act_was_plain : (u i : ℕ) (way : Way) (restamp : Option ℕ) (v : Verdict) (x : Option Journey) (r : Journey) → x ≡ Some r → IsPlain (option_map (ruled u way restamp v) x) → restamp ≡ None
+act_was_plain : (u i : ℕ) (way : Way) (restamp : Option ℕ) (v : Verdict) (x : Option Record) (r : Record) → x ≡ Some r → IsPlain (option_map (ruled u way restamp v) x) → restamp ≡ None
 act_was_plain u i way None v x r is p = refl
 act_was_plain u i way (Some e) v x r is p =
     let made = ruled u way (Some e) v r in
-    let here : option_map (ruled u way (Some e) v) x ≡ Some made = ap (λ (y : Option Journey). option_map (ruled u way (Some e) v) y) is in
+    let here : option_map (ruled u way (Some e) v) x ≡ Some made = ap (λ (y : Option Record). option_map (ruled u way (Some e) v) y) is in
     let short = ap (λ (l : List Stamped). length l) (p.none made here) in
     absurd (omega (arith, short, length_push {X = Stamped}))
 
-before_inject : (b : Bool) (x y : Option Journey) → (b ≡ true → y ≡ None) → IsPlain (cond b x y) → IsPlain y
+before_inject : (b : Bool) (x y : Option Record) → (b ≡ true → y ≡ None) → IsPlain (cond b x y) → IsPlain y
 before_inject true x y none p = record { none = λ r e. absurd (none-some r (sym (none refl) ∙ e)) }
 before_inject false x y none p = p
 
-before_act : (u : ℕ) (way : Way) (v : Verdict) (b : Bool) (x : Option Journey) → IsPlain (cond b (option_map (ruled u way None v) x) x) → IsPlain x
+before_act : (u : ℕ) (way : Way) (v : Verdict) (b : Bool) (x : Option Record) → IsPlain (cond b (option_map (ruled u way None v) x) x) → IsPlain x
 before_act u way v false x p = p
 before_act u way v true None p = record { none = λ r e. absurd (none-some r e) }
 before_act u way v true (Some r) p =
-    record { none = λ s e. ap (λ (x : Journey). x.restamps) (sym (same_Some r s e)) ∙ p.none (ruled u way None v r) refl }
+    record { none = λ s e. ap (λ (x : Record). x.restamps) (sym (same_Some r s e)) ∙ p.none (ruled u way None v r) refl }
 
-acted_here : (id : ℕ) (x y : Option Journey) → IsPlain (cond (eqb id id) x y) → IsPlain x
+acted_here : (id : ℕ) (x y : Option Record) → IsPlain (cond (eqb id id) x y) → IsPlain x
 acted_here id x y p = subst (λ (b : Bool). IsPlain (cond b x y)) (eq-eqb id id refl) p
 
 plain_history : (log : List Entry) → history.NothingAfterTheEnd log → ((id : ℕ) → IsPlain (history.packet id log)) → HasNoRestamp log

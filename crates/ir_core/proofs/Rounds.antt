@@ -5,18 +5,18 @@ use Rattle.std.proofs.lemmas.Option.{same_Some, none-some, slice_get_within, sli
 use Rattle.std.proofs.lemmas.List.{take_more}
 use Rattle.ir_model.specs.declared.Link.{Link as Edge}
 use Rattle.ir_model.specs.declared.Hop.{Hop}
-use Rattle.ir_model.specs.Network.{ports_of, port_at, port_back, IsNetwork, Joins}
-use Rattle.ir_model.specs.Scheme.{Scheme}
+use Rattle.ir_model.specs.Topology.{ports_of, port_at, port_back, IsTopology, Joins}
+use Rattle.ir_model.specs.Plan.{Plan}
 use Rattle.ir_core.specs.declared.event.Way.{Way}
 use Rattle.ir_core.specs.declared.event.Way.TheVariants.{Inbox, Link}
 use Rattle.ir_core.specs.declared.packet.Held.{Held}
 use Rattle.ir_core.specs.declared.packet.Fate.TheVariants.{Left}
-use Rattle.ir_core.specs.Journey.{Journey, present, stamp_of}
+use Rattle.ir_core.specs.Record.{Record, present, stamp_of}
 use Rattle.ir_core.specs.Setting.{Setting, IsPlanFor, nodes_of, channel_of}
 use Rattle.ir_core.specs.Entry.{Entry}
 use Rattle.ir_core.specs.Meaning.{plan_of}
 use Rattle.ir_core.specs.Sound.{LeadsOn, last_of}
-use Rattle.ir_core.specs.State.{State, IsState, IsPacket, Place, Waits, InHand, Ended}
+use Rattle.ir_core.specs.World.{World, IsWorld, IsPacket, Place, Waits, InHand, Ended}
 use Rattle.ir_core.specs.Shows.{Shows}
 use Rattle.ir_core.specs.Drain.{acts_in, after_read, after_act, after_way, after_ports, after_visit, after_visits, after_round, after_rounds}
 use Rattle.ir_core.specs.Quiet.{acts_ahead, hops_made, TakesFromBefore, SamePackets, Moves, floor_of, IsHandEmpty, IsUpToDate, IsEmptyAt, ArePortsEmpty, IsQuietAt, IsQuiet, IsNoneLeft, ShowsDrained}
@@ -25,7 +25,7 @@ use Rattle.ir_core.proofs.Channels.{channel_there}
 use Rattle.ir_core.proofs.Quiets.{moves_none, moves_then}
 
 -- a port's link has a channel into the node
-pub port_channel : (o : Setting) → IsNetwork o.network → (u p : ℕ) (hop : Hop) → port_at o.network u p ≡ Some hop → (c : ℕ) × (channel_of o u (Link hop.link) ≡ Some c)
+pub port_channel : (o : Setting) → IsTopology o.topology → (u p : ℕ) (hop : Hop) → port_at o.topology u p ≡ Some hop → (c : ℕ) × (channel_of o u (Link hop.link) ≡ Some c)
 port_channel o net u p hop at =
     let port = net.ports u p hop at in
     let to = channel_there (nodes_of o + 2 * hop.link) u port.0 (an_end port.0 port.2) in
@@ -35,17 +35,17 @@ port_channel o net u p hop at =
     an_end link (inl p) = inl p.0
     an_end link (inr p) = inr p.1
 
-pub hand_same : (s new : State) (u : ℕ) → SamePackets s new → IsHandEmpty s u → IsHandEmpty new u
+pub hand_same : (s new : World) (u : ℕ) → SamePackets s new → IsHandEmpty s u → IsHandEmpty new u
 hand_same s new u k e = ap (λ (hands : List (Option Held)). slice_index_or hands u None) k.hands ∙ e
 
-pub empty_same : (s new : State) (u : ℕ) (way : Way) → SamePackets s new → IsEmptyAt s u way → IsEmptyAt new u way
+pub empty_same : (s new : World) (u : ℕ) (way : Way) → SamePackets s new → IsEmptyAt s u way → IsEmptyAt new u way
 empty_same s new u way k e c there =
     ap (λ (channels : List (List ℕ)). slice_index_or channels c []) k.channels ∙ e c (ap (λ (o : Setting). channel_of o u way) (sym k.opening) ∙ there)
 
-pub ports_same : (s new : State) (u : ℕ) → SamePackets s new → ArePortsEmpty s u → ArePortsEmpty new u
-ports_same s new u k e p hop at = empty_same s new u (Link hop.link) k (e p hop (ap (λ (o : Setting). port_at o.network u p) (sym k.opening) ∙ at))
+pub ports_same : (s new : World) (u : ℕ) → SamePackets s new → ArePortsEmpty s u → ArePortsEmpty new u
+ports_same s new u k e p hop at = empty_same s new u (Link hop.link) k (e p hop (ap (λ (o : Setting). port_at o.topology u p) (sym k.opening) ∙ at))
 
-quiet_same : (s new : State) (u : ℕ) → SamePackets s new → IsQuietAt s u → IsQuietAt new u
+quiet_same : (s new : World) (u : ℕ) → SamePackets s new → IsQuietAt s u → IsQuietAt new u
 quiet_same s new u k q = record { hand = hand_same s new u k q.hand; inbox = empty_same s new u Inbox k q.inbox; ports = ports_same s new u k q.ports }
 
 -- the ports up to one more
@@ -54,28 +54,28 @@ ports_push o u [] h log = refl
 ports_push o u (x ∷ hops) h log = ports_push o u hops h (after_way o u (Link x.link) log)
 
 -- the ports so far
-pub record PortsSo (s : State) (u k : ℕ) (acted : Bool) (new : State) : Type 0 where
-  pub moves : Moves (after_ports s.opening u (take k (ports_of s.opening.network u))) acted s new
+pub record PortsSo (s : World) (u k : ℕ) (acted : Bool) (new : World) : Type 0 where
+  pub moves : Moves (after_ports s.opening u (take k (ports_of s.opening.topology u))) acted s new
   pub hand : IsHandEmpty new u
   pub view : IsUpToDate new u
-  pub idle : acted ≡ false → (p : ℕ) (hop : Hop) → p < k → port_at s.opening.network u p ≡ Some hop → IsEmptyAt new u (Link hop.link)
+  pub idle : acted ≡ false → (p : ℕ) (hop : Hop) → p < k → port_at s.opening.topology u p ≡ Some hop → IsEmptyAt new u (Link hop.link)
 
-pub ports_none : (s : State) (u : ℕ) → IsHandEmpty s u → IsUpToDate s u → PortsSo s u 0 false s
+pub ports_none : (s : World) (u : ℕ) → IsHandEmpty s u → IsUpToDate s u → PortsSo s u 0 false s
 ports_none s u hand view = record { moves = moves_none s; hand = hand; view = view; idle = λ e p hop lt. absurd (omega arith) }
 
 -- the port that the code read
-pub port_read : (s mid : State) → mid.opening ≡ s.opening → (u k : ℕ) (ports : List Hop) (d : Hop) → ports ≡ ports_of mid.opening.network u → k < length ports →
-    (port_at s.opening.network u k ≡ Some (get_or ports k d)) × (port_at mid.opening.network u k ≡ Some (get_or ports k d))
+pub port_read : (s mid : World) → mid.opening ≡ s.opening → (u k : ℕ) (ports : List Hop) (d : Hop) → ports ≡ ports_of mid.opening.topology u → k < length ports →
+    (port_at s.opening.topology u k ≡ Some (get_or ports k d)) × (port_at mid.opening.topology u k ≡ Some (get_or ports k d))
 port_read s mid same u k ports d is lt =
     let at : slice_get ports k ≡ Some (get_or ports k d) = slice_get-get_or ports k d lt in
-    let here : port_at mid.opening.network u k ≡ Some (get_or ports k d) = ap (λ (xs : List Hop). slice_get xs k) (sym is) ∙ at in
-    (ap (λ (o : Setting). port_at o.network u k) (sym same) ∙ here, here)
+    let here : port_at mid.opening.topology u k ≡ Some (get_or ports k d) = ap (λ (xs : List Hop). slice_get xs k) (sym is) ∙ at in
+    (ap (λ (o : Setting). port_at o.topology u k) (sym same) ∙ here, here)
 
-pub ports_more : (s mid new : State) (u k : ℕ) (acted sent : Bool) (hop : Hop) → PortsSo s u k acted mid → port_at s.opening.network u k ≡ Some hop →
+pub ports_more : (s mid new : World) (u k : ℕ) (acted sent : Bool) (hop : Hop) → PortsSo s u k acted mid → port_at s.opening.topology u k ≡ Some hop →
     Moves (after_way mid.opening u (Link hop.link)) sent mid new → (sent ≡ false → IsEmptyAt new u (Link hop.link)) → IsHandEmpty new u → IsUpToDate new u → PortsSo s u (k + 1) (acted || sent) new
 ports_more s mid new u k acted sent hop so at m idle hand view = record {
   moves = subst (λ (f : List Entry → List Entry). Moves f (acted || sent) s new) (λ i log. one_more log i)
-      (moves_then (after_ports s.opening u (take k (ports_of s.opening.network u))) (after_way s.opening u (Link hop.link)) acted sent s mid new so.moves
+      (moves_then (after_ports s.opening u (take k (ports_of s.opening.topology u))) (after_way s.opening u (Link hop.link)) acted sent s mid new so.moves
       (subst (λ (o : Setting). Moves (after_way o u (Link hop.link)) sent mid new) so.moves.opening m));
   hand = hand;
   view = view;
@@ -83,37 +83,37 @@ ports_more s mid new u k acted sent hop so at m idle hand view = record {
 }
   where
     ports : List Hop
-    ports = ports_of s.opening.network u
+    ports = ports_of s.opening.topology u
 
-    lt_k : k < length (ports_of s.opening.network u)
-    lt_k = slice_get_within (ports_of s.opening.network u) k hop at
+    lt_k : k < length (ports_of s.opening.topology u)
+    lt_k = slice_get_within (ports_of s.opening.topology u) k hop at
 
-    one_more : (log : List Entry) → after_way s.opening u (Link hop.link) (after_ports s.opening u (take k (ports_of s.opening.network u)) log) ≡ after_ports s.opening u (take (k + 1) (ports_of s.opening.network u)) log
+    one_more : (log : List Entry) → after_way s.opening u (Link hop.link) (after_ports s.opening u (take k (ports_of s.opening.topology u)) log) ≡ after_ports s.opening u (take (k + 1) (ports_of s.opening.topology u)) log
     one_more log =
-        let here : get_or (ports_of s.opening.network u) k hop ≡ hop = get_or_from_slice_get (ports_of s.opening.network u) k hop hop at in
-        let more = take_more (ports_of s.opening.network u) k hop lt_k in
-        sym (ports_push s.opening u (take k (ports_of s.opening.network u)) hop log)
-        ∙ ap (λ (h : Hop). after_ports s.opening u (take k (ports_of s.opening.network u) ++ h ∷ []) log) (sym here)
+        let here : get_or (ports_of s.opening.topology u) k hop ≡ hop = get_or_from_slice_get (ports_of s.opening.topology u) k hop hop at in
+        let more = take_more (ports_of s.opening.topology u) k hop lt_k in
+        sym (ports_push s.opening u (take k (ports_of s.opening.topology u)) hop log)
+        ∙ ap (λ (h : Hop). after_ports s.opening u (take k (ports_of s.opening.topology u) ++ h ∷ []) log) (sym here)
         ∙ ap (λ (hops : List Hop). after_ports s.opening u hops log) (sym more)
 
-    by_place : acted ≡ false → sent ≡ false → (p : ℕ) (other : Hop) → port_at s.opening.network u p ≡ Some other → ((p < k) ⊎ (k ≤ p)) → p < k + 1 → IsEmptyAt new u (Link other.link)
+    by_place : acted ≡ false → sent ≡ false → (p : ℕ) (other : Hop) → port_at s.opening.topology u p ≡ Some other → ((p < k) ⊎ (k ≤ p)) → p < k + 1 → IsEmptyAt new u (Link other.link)
     by_place a b p other at_p (inl below) lt = empty_same mid new u (Link other.link) (m.stays b) (so.idle a p other below at_p)
     by_place a b p other at_p (inr above) lt =
         let same : p ≡ k = omega arith in
-        let equal : hop ≡ other = same_Some hop other (sym at ∙ ap (λ (x : ℕ). port_at s.opening.network u x) (sym same) ∙ at_p) in
+        let equal : hop ≡ other = same_Some hop other (sym at ∙ ap (λ (x : ℕ). port_at s.opening.topology u x) (sym same) ∙ at_p) in
         subst (λ (h : Hop). IsEmptyAt new u (Link h.link)) equal (idle b)
 
-pub ports_all : (s new : State) (u k : ℕ) (acted : Bool) → PortsSo s u k acted new → length (ports_of s.opening.network u) ≤ k → take k (ports_of s.opening.network u) ≡ ports_of s.opening.network u →
-    Moves (after_ports s.opening u (ports_of s.opening.network u)) acted s new × (acted ≡ false → ArePortsEmpty new u)
+pub ports_all : (s new : World) (u k : ℕ) (acted : Bool) → PortsSo s u k acted new → length (ports_of s.opening.topology u) ≤ k → take k (ports_of s.opening.topology u) ≡ ports_of s.opening.topology u →
+    Moves (after_ports s.opening u (ports_of s.opening.topology u)) acted s new × (acted ≡ false → ArePortsEmpty new u)
 ports_all s new u k acted so le all = (
   subst (λ (hops : List Hop). Moves (after_ports s.opening u hops) acted s new) all so.moves,
-  λ e p hop at. (let there : port_at s.opening.network u p ≡ Some hop = ap (λ (o : Setting). port_at o.network u p) (sym so.moves.opening) ∙ at in
-      let lt = slice_get_within (ports_of s.opening.network u) p hop there in so.idle e p hop (omega arith) there),
+  λ e p hop at. (let there : port_at s.opening.topology u p ≡ Some hop = ap (λ (o : Setting). port_at o.topology u p) (sym so.moves.opening) ∙ at in
+      let lt = slice_get_within (ports_of s.opening.topology u) p hop there in so.idle e p hop (omega arith) there),
 )
 
 -- a visit from its parts
-pub visit_done : (s read held taken new : State) (u : ℕ) (a b c : Bool) → Moves (after_read s.opening u) false s read → Moves (after_act read.opening u) a read held → Moves (after_way held.opening u Inbox) b held taken →
-    (b ≡ false → IsEmptyAt taken u Inbox) → IsHandEmpty taken u → Moves (after_ports taken.opening u (ports_of taken.opening.network u)) c taken new → (c ≡ false → ArePortsEmpty new u) →
+pub visit_done : (s read held taken new : World) (u : ℕ) (a b c : Bool) → Moves (after_read s.opening u) false s read → Moves (after_act read.opening u) a read held → Moves (after_way held.opening u Inbox) b held taken →
+    (b ≡ false → IsEmptyAt taken u Inbox) → IsHandEmpty taken u → Moves (after_ports taken.opening u (ports_of taken.opening.topology u)) c taken new → (c ≡ false → ArePortsEmpty new u) →
     Moves (after_visit s.opening u) ((a || b) || c) s new × (((a || b) || c) ≡ false → SamePackets s new × IsQuietAt new u)
 visit_done s read held taken new u a b c m1 m2 m3 inbox hand m4 ports =
     let o = s.opening in
@@ -121,22 +121,22 @@ visit_done s read held taken new u a b c m1 m2 m3 inbox hand m4 ports =
     let p2 = moves_then (after_read o u) (after_act o u) false a s read held m1 s2 in
     let s3 = subst (λ (x : Setting). Moves (after_way x u Inbox) b held taken) p2.opening m3 in
     let p3 = moves_then (λ log. after_act o u (after_read o u log)) (after_way o u Inbox) a b s held taken p2 s3 in
-    let s4 = subst (λ (x : Setting). Moves (after_ports x u (ports_of x.network u)) c taken new) p3.opening m4 in
-    let p4 = moves_then (λ log. after_way o u Inbox (after_act o u (after_read o u log))) (after_ports o u (ports_of o.network u)) (a || b) c s taken new p3 s4 in (
+    let s4 = subst (λ (x : Setting). Moves (after_ports x u (ports_of x.topology u)) c taken new) p3.opening m4 in
+    let p4 = moves_then (λ log. after_way o u Inbox (after_act o u (after_read o u log))) (after_ports o u (ports_of o.topology u)) (a || b) c s taken new p3 s4 in (
       p4,
       λ e. (let both = or_parts (a || b) c e in let first = or_parts a b both.0 in let stays = m4.stays both.1 in
           (p4.stays e, record { hand = hand_same taken new u stays hand; inbox = empty_same taken new u Inbox stays (inbox first.1); ports = ports both.1 })),
     )
 
 -- the visits so far
-pub record RoundSo (s : State) (k : ℕ) (acted : Bool) (new : State) : Type 0 where
+pub record RoundSo (s : World) (k : ℕ) (acted : Bool) (new : World) : Type 0 where
   pub moves : Moves (after_visits s.opening k) acted s new
   pub quiet : acted ≡ false → (u : ℕ) → u < k → IsQuietAt new u
 
-pub round_none : (s : State) → RoundSo s 0 false s
+pub round_none : (s : World) → RoundSo s 0 false s
 round_none s = record { moves = moves_none s; quiet = λ e u lt. absurd (omega arith) }
 
-pub round_more : (s mid new : State) (k : ℕ) (acted sent : Bool) → RoundSo s k acted mid → Moves (after_visit mid.opening k) sent mid new → (sent ≡ false → IsQuietAt new k) → RoundSo s (k + 1) (acted || sent) new
+pub round_more : (s mid new : World) (k : ℕ) (acted sent : Bool) → RoundSo s k acted mid → Moves (after_visit mid.opening k) sent mid new → (sent ≡ false → IsQuietAt new k) → RoundSo s (k + 1) (acted || sent) new
 round_more s mid new k acted sent so m quiet = subst (λ (j : ℕ). RoundSo s j (acted || sent) new) (sym (add-one k)) made
   where
     by_node : (acted || sent) ≡ false → (u : ℕ) → u < suc k → ((u < k) ⊎ (k ≤ u)) → IsQuietAt new u
@@ -154,7 +154,7 @@ round_more s mid new k acted sent so m quiet = subst (λ (j : ℕ). RoundSo s j 
       quiet = λ e u lt. by_node e u lt (cases_lt u k);
     }
 
-pub round_all : (s new : State) (k n : ℕ) (acted : Bool) → RoundSo s k acted new → n ≡ nodes_of s.opening → n ≤ k → k ≤ n → Moves (after_round s.opening) acted s new × (acted ≡ false → IsQuiet new)
+pub round_all : (s new : World) (k n : ℕ) (acted : Bool) → RoundSo s k acted new → n ≡ nodes_of s.opening → n ≤ k → k ≤ n → Moves (after_round s.opening) acted s new × (acted ≡ false → IsQuiet new)
 round_all s new k n acted so is le ge =
     let same : k ≡ nodes_of s.opening = omega arith in (
       subst (λ (j : ℕ). Moves (after_visits s.opening j) acted s new) same so.moves,
@@ -162,18 +162,18 @@ round_all s new k n acted so is le ge =
     )
 
 -- the rounds so far
-pub record DrainSo (s new : State) : Type 0 where
+pub record DrainSo (s new : World) : Type 0 where
   pub opening : new.opening ≡ s.opening
   pub rounds : ℕ
   pub shows : (log : List Entry) → Shows log s → Shows (after_rounds s.opening rounds log) new
-  pub few : (ok : IsState s) → TakesFromBefore (after_rounds s.opening rounds) s ok new
+  pub few : (ok : IsWorld s) → TakesFromBefore (after_rounds s.opening rounds) s ok new
   pub acts : (log : List Entry) → Shows log s → (k : ℕ) → k < rounds → acts_in (after_rounds s.opening k log) < acts_in (after_rounds s.opening (suc k) log)
 
-pub drain_none : (s : State) → DrainSo s s
+pub drain_none : (s : World) → DrainSo s s
 drain_none s = record { opening = refl; rounds = 0; shows = λ log k. k; few = λ ok. (ok, λ id log k. omega arith); acts = λ log k j lt. absurd (omega arith) }
 
-few_more : (s mid new : State) (rounds : ℕ) (b : Bool) → ((ok : IsState s) → TakesFromBefore (after_rounds s.opening rounds) s ok mid) → ((log : List Entry) → Shows log s → Shows (after_rounds s.opening rounds log) mid) →
-    Moves (after_round s.opening) b mid new → (ok : IsState s) → TakesFromBefore (after_rounds s.opening (suc rounds)) s ok new
+few_more : (s mid new : World) (rounds : ℕ) (b : Bool) → ((ok : IsWorld s) → TakesFromBefore (after_rounds s.opening rounds) s ok mid) → ((log : List Entry) → Shows log s → Shows (after_rounds s.opening rounds log) mid) →
+    Moves (after_round s.opening) b mid new → (ok : IsWorld s) → TakesFromBefore (after_rounds s.opening (suc rounds)) s ok new
 few_more s mid new rounds b few shows m ok =
     let first = few ok in
     let second = m.few first.0 in
@@ -187,7 +187,7 @@ before_few n made (InHand u Inbox) = omega arith
 before_few n made (InHand u (Link l)) = omega arith
 before_few n made Ended = omega arith
 
-pub drain_more : (s mid new : State) (acted : Bool) → acted ≡ true → DrainSo s mid → Moves (after_round mid.opening) acted mid new → DrainSo s new
+pub drain_more : (s mid new : World) (acted : Bool) → acted ≡ true → DrainSo s mid → Moves (after_round mid.opening) acted mid new → DrainSo s new
 drain_more s mid new acted did so m =
     let n = subst (λ (o : Setting). Moves (after_round o) acted mid new) so.opening m in
     let t = subst (λ (b : Bool). Moves (after_round s.opening) b mid new) did n in
@@ -206,7 +206,7 @@ drain_more s mid new acted did so m =
         let same : so.rounds ≡ j = omega arith in
         subst (λ (i : ℕ). acts_in (after_rounds s.opening i log) < acts_in (after_rounds s.opening (suc i) log)) same (t.counts (after_rounds s.opening so.rounds log) (so.shows log k))
 
-pub drained : (s mid new : State) → IsState s → (acted : Bool) → acted ≡ false → DrainSo s mid → Moves (after_round mid.opening) acted mid new → (log : List Entry) → Shows log s → ShowsDrained log s.opening new
+pub drained : (s mid new : World) → IsWorld s → (acted : Bool) → acted ≡ false → DrainSo s mid → Moves (after_round mid.opening) acted mid new → (log : List Entry) → Shows log s → ShowsDrained log s.opening new
 drained s mid new ok acted not so m log k =
     let n = subst (λ (o : Setting). Moves (after_round o) acted mid new) so.opening m in
     let t = subst (λ (b : Bool). Moves (after_round s.opening) b mid new) not n in (
@@ -231,16 +231,16 @@ nothing_there : (k id : ℕ) (xs : List ℕ) → xs ≡ [] → slice_get xs k �
 nothing_there k id xs e at = none-some id (ap (λ (l : List ℕ). slice_get l k) (sym e) ∙ at)
 
 -- where the table led a packet to, the network has a port back by that link
-due_port : (o : Setting) (t : Scheme) → IsPlanFor o t → (r : Journey) (u l : ℕ) → LeadsOn t r l u → (p : ℕ) × (hop : Hop) × (port_at o.network u p ≡ Some hop) × (hop.link ≡ l)
+due_port : (o : Setting) (t : Plan) → IsPlanFor o t → (r : Record) (u l : ℕ) → LeadsOn t r l u → (p : ℕ) × (hop : Hop) × (port_at o.topology u p ≡ Some hop) × (hop.link ≡ l)
 due_port o t plan r u l on =
     let h : Hop = on.0 in
     let at = port_of t (last_of r.hops) r.dest h on.1 in
-    let back = plan.scheme.network.paired (last_of r.hops) at.0 h at.1 in
+    let back = plan.plan.topology.paired (last_of r.hops) at.0 h at.1 in
     let was = plan.ports h.node back.0 (port_back (last_of r.hops) h) back.1 in
-    (was.0, port_back (last_of r.hops) h, ap (λ (x : ℕ). port_at o.network x was.0) (sym on.3) ∙ was.1, on.2)
+    (was.0, port_back (last_of r.hops) h, ap (λ (x : ℕ). port_at o.topology x was.0) (sym on.3) ∙ was.1, on.2)
 
 -- where all is quiet, no packet is under way
-pub quiet_none_left : (s : State) → IsState s → IsQuiet s → IsNoneLeft s
+pub quiet_none_left : (s : World) → IsWorld s → IsQuiet s → IsNoneLeft s
 quiet_none_left s ok quiet id r at = by_place (ok.place id) refl (ok.placed.each id r at)
   where
     by_way : (u : ℕ) (way : Way) → ok.place id ≡ Waits u way → u < nodes_of s.opening → IsPacket s.opening s.plans r (Waits u way) → ⊥

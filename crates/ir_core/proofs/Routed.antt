@@ -5,7 +5,7 @@ use Rattle.std.specs.List.{AllByRecursion}
 use Rattle.std.proofs.lemmas.List.{length-append, length_push, length-drop, length-take-le, length-reverse}
 use Rattle.std.proofs.lemmas.Nat.{mul-le}
 use Rattle.ir_model.specs.declared.Hop.{Hop}
-use Rattle.ir_model.specs.Scheme.{Scheme, next_hop}
+use Rattle.ir_model.specs.Plan.{Plan, next_hop}
 use Rattle.ir_core.specs.declared.TheConstants.{MAX_NODES, MAX_RESTAMPS}
 use Rattle.ir_core.specs.declared.event.Way.{Way}
 use Rattle.ir_core.specs.declared.event.Way.TheVariants.{Inbox, Link}
@@ -14,19 +14,19 @@ use Rattle.ir_core.specs.declared.event.Verdict.TheVariants.{CameByDown, BelowFl
 use Rattle.ir_core.specs.declared.packet.Fate.{Fate}
 use Rattle.ir_core.specs.declared.packet.Fate.TheVariants.{Retired}
 use Rattle.ir_core.specs.declared.packet.Restamp.{Restamp}
-use Rattle.ir_core.specs.Journey.{Journey, hop_room, segments_in, present, present_in, stamp_of, until}
+use Rattle.ir_core.specs.Record.{Record, hop_room, segments_in, present, present_in, stamp_of, until}
 use Rattle.ir_core.specs.Setting.{Setting, IsPlanFor, nodes_of}
 use Rattle.ir_core.specs.Entry.{acted, restamped, ruled, hops_here, is_hop, fate_of}
 use Rattle.ir_core.specs.Meaning.{plan_of}
 use Rattle.ir_core.specs.Sound.{AreRising, ArePlaces, last_of}
-use Rattle.ir_core.specs.State.{IsBeginning, IsPacket, IsRouted, IsStretch, IsNew, IsDue, FitsPlace, InHand}
+use Rattle.ir_core.specs.World.{IsBeginning, IsPacket, IsRoutedRecord, IsStretch, IsNew, IsDue, FitsPlace, InHand}
 use Rattle.ir_core.proofs.Walks.{IsBeginning-push, first-push, next_hop-away, walk_of, prefix}
 use Rattle.ir_core.proofs.Verdicts.{Means}
 use Rattle.ir_core.proofs.Placed.{place_after, acted_fits}
 use Rattle.ir_core.proofs.Segments.{gone, past_in, present_gone, segments_gone, segments_split, places_more, longer, rising_same, rising_begun, of_present, reverse_push, stamped, begun, present_stamped, segments_stamped, stamp_stamped}
 
 -- what a ruling says of the tables: by the present epoch, or by the one that the packet is restamped with
-abbrev pub RuledBy : Setting → List Scheme → (Hop → Bool) → Journey → ℕ → Way → Option ℕ → Verdict → Type 0
+abbrev pub RuledBy : Setting → List Plan → (Hop → Bool) → Record → ℕ → Way → Option ℕ → Verdict → Type 0
 RuledBy o plans full r u way None v = Means (plan_of o plans (stamp_of r)) full u way r.dest v
 RuledBy o plans full r u way (Some e) v =
     (stamp_of r < e) × (e ≤ length plans) × (length r.restamps < o.restamps) × Means (plan_of o plans e) full u Inbox r.dest v
@@ -37,25 +37,25 @@ front_of Inbox hops = []
 front_of (Link l) hops = hops
 
 -- what a new packet has as its hops
-pub new_hops : (r : Journey) (u : ℕ) → r.restamps ≡ [] → (present r).hops ≡ u ∷ [] → r.hops ≡ u ∷ []
+pub new_hops : (r : Record) (u : ℕ) → r.restamps ≡ [] → (present r).hops ≡ u ∷ [] → r.hops ≡ u ∷ []
 new_hops r u none e = ap (λ (l : List Restamp). (present_in (reverse l) r).hops) (sym none) ∙ e
 
-pub here_is : (t : Scheme) (u : ℕ) (way : Way) (r : Journey) → IsDue t (present r) u way → IsNew r (InHand u way) → hops_here way u r.hops ≡ front_of way r.hops ++ u ∷ []
+pub here_is : (t : Plan) (u : ℕ) (way : Way) (r : Record) → IsDue t (present r) u way → IsNew r (InHand u way) → hops_here way u r.hops ≡ front_of way r.hops ++ u ∷ []
 here_is t u Inbox r due new = new_hops r u new due.0
 here_is t u (Link l) r due new = refl
 
-pub places_front : (way : Way) (u : ℕ) (r : Journey) → IsNew r (InHand u way) → ArePlaces (length r.hops) (reverse r.restamps) → ArePlaces (length (front_of way r.hops)) (reverse r.restamps)
+pub places_front : (way : Way) (u : ℕ) (r : Record) → IsNew r (InHand u way) → ArePlaces (length r.hops) (reverse r.restamps) → ArePlaces (length (front_of way r.hops)) (reverse r.restamps)
 places_front Inbox u r new k = subst (λ (l : List Restamp). ArePlaces 0 (reverse l)) (sym new) tt
 places_front (Link l) u r new k = k
 
-pub restamped_is : (u e : ℕ) (way : Way) (r : Journey) → hops_here way u r.hops ≡ front_of way r.hops ++ u ∷ [] →
+pub restamped_is : (u e : ℕ) (way : Way) (r : Record) → hops_here way u r.hops ≡ front_of way r.hops ++ u ∷ [] →
     restamped u way e r ≡ stamped u (front_of way r.hops) (record { epoch = e; from = length (front_of way r.hops) }) r
 restamped_is u e way r here =
     let from : length (front_of way r.hops ++ u ∷ []) - 1 ≡ length (front_of way r.hops) = rw length_push (omega arith) in
     ap (λ (hops : List ℕ). record r { hops = hops; restamps = r.restamps ++ record { epoch = e; from = length hops - 1 } ∷ [] }) here
     ∙ ap (λ (n : ℕ). stamped u (front_of way r.hops) (record { epoch = e; from = n }) r) from
 
-no_new_link : (r : Journey) (v : Verdict) → IsNew r (place_after v)
+no_new_link : (r : Record) (v : Verdict) → IsNew r (place_after v)
 no_new_link r (GoesOn h) = tt
 no_new_link r (CameByDown l) = tt
 no_new_link r BelowFloor = tt
@@ -80,39 +80,39 @@ pub hop_room_most : (restamps nodes : ℕ) → restamps ≤ MAX_RESTAMPS → nod
 hop_room_most restamps nodes few_restamps few_nodes =
     let le = mul-le (restamps + 1) (nodes - 1) (MAX_RESTAMPS + 1) (MAX_NODES - 1) (omega arith) (omega arith) in omega (arith, le)
 
-module _ (o : Setting) (plans : List Scheme) (is_plan : (k : ℕ) → IsPlanFor o (slice_index_or plans k o.first)) where
-  pub stretch_away : (g : Journey) → IsStretch o plans g → (x : ℕ) (h : Hop) → next_hop (plan_of o plans g.epoch) x g.dest ≡ Some h → x ≢ g.dest
+module _ (o : Setting) (plans : List Plan) (is_plan : (k : ℕ) → IsPlanFor o (slice_index_or plans k o.first)) where
+  pub stretch_away : (g : Record) → IsStretch o plans g → (x : ℕ) (h : Hop) → next_hop (plan_of o plans g.epoch) x g.dest ≡ Some h → x ≢ g.dest
   stretch_away g k x h e =
       let plan = is_plan (g.epoch - 1) in
       let d = k.dest_in in
       let n = plan.nodes in
-      next_hop-away (plan_of o plans g.epoch) plan.scheme x g.dest (omega arith) h e
+      next_hop-away (plan_of o plans g.epoch) plan.plan x g.dest (omega arith) h e
 
   -- a segment has no more hops than there are nodes
-  pub stretch_short : (g : Journey) → IsStretch o plans g → length g.hops ≤ nodes_of o
+  pub stretch_short : (g : Record) → IsStretch o plans g → length g.hops ≤ nodes_of o
   stretch_short g k =
       let t = plan_of o plans g.epoch in
       let plan = is_plan (g.epoch - 1) in
       let n = plan.nodes in
       let s_in = k.source_in in
       let d_in = k.dest_in in
-      let w = plan.scheme.walks g.source g.dest (omega arith) (omega arith) in
+      let w = plan.plan.walks g.source g.dest (omega arith) (omega arith) in
       let walk = walk_of t g.source g.dest w.0 w.1 in
       let p = prefix t g.dest g.hops w.0 g.source k.begins walk.begins k.follows walk.steps in
       let lengths = ap length p.1 in
       omega (arith, w.2, length-append g.hops p.0, lengths)
 
-  stretch_gone : (b : Bool) (u : ℕ) (fate : Fate) (g : Journey) → IsStretch o plans g → slice_get (gone b u fate g).hops 0 ≡ Some g.source → IsBeginning (plan_of o plans g.epoch) g.dest (gone b u fate g).hops →
+  stretch_gone : (b : Bool) (u : ℕ) (fate : Fate) (g : Record) → IsStretch o plans g → slice_get (gone b u fate g).hops 0 ≡ Some g.source → IsBeginning (plan_of o plans g.epoch) g.dest (gone b u fate g).hops →
       IsStretch o plans (gone b u fate g)
   stretch_gone b u fate g k begins follows =
       record { source_in = k.source_in; dest_in = k.dest_in; epoch_above = k.epoch_above; epoch_in = k.epoch_in; begins = begins; follows = follows }
 
-  pub present_stretch : (r : Journey) → IsRouted o plans r → IsStretch o plans (present r)
+  pub present_stretch : (r : Record) → IsRoutedRecord o plans r → IsStretch o plans (present r)
   present_stretch r k = of_present (IsStretch o plans) (reverse r.restamps) r k.each
 
   -- one more hop or none, which the table allows
-  pub routed_gone : (r : Journey) (b : Bool) (u : ℕ) (fate : Fate) → IsRouted o plans r → slice_get (gone b u fate (present r)).hops 0 ≡ Some (present r).source →
-      IsBeginning (plan_of o plans (stamp_of r)) r.dest (gone b u fate (present r)).hops → IsRouted o plans (gone b u fate r)
+  pub routed_gone : (r : Record) (b : Bool) (u : ℕ) (fate : Fate) → IsRoutedRecord o plans r → slice_get (gone b u fate (present r)).hops 0 ≡ Some (present r).source →
+      IsBeginning (plan_of o plans (stamp_of r)) r.dest (gone b u fate (present r)).hops → IsRoutedRecord o plans (gone b u fate r)
   routed_gone r b u fate k begins follows =
       let latest = reverse r.restamps in
       let now = segments_gone latest b u fate r k.places in
@@ -126,7 +126,7 @@ module _ (o : Setting) (plans : List Scheme) (is_plan : (k : ℕ) → IsPlanFor 
       }
 
   -- an Act without a restamp
-  pub acted_packet : (full : Hop → Bool) (u : ℕ) (way : Way) (v : Verdict) (r : Journey) → IsRouted o plans r → IsDue (plan_of o plans (stamp_of r)) (present r) u way →
+  pub acted_packet : (full : Hop → Bool) (u : ℕ) (way : Way) (v : Verdict) (r : Record) → IsRoutedRecord o plans r → IsDue (plan_of o plans (stamp_of r)) (present r) u way →
       Means (plan_of o plans (stamp_of r)) full u way r.dest v → IsPacket o plans (acted u way v r) (place_after v)
   acted_packet full u way v r k due means =
       let t = plan_of o plans (stamp_of r) in
@@ -134,16 +134,16 @@ module _ (o : Setting) (plans : List Scheme) (is_plan : (k : ℕ) → IsPlanFor 
       let f = acted_fits t full u way v (present r) (stretch_away (present r) st) means due st.begins st.follows in
       record {
         routed = routed_gone r (is_hop way v) u (fate_of v) k f.0 f.1;
-        fits = subst (λ (g : Journey). FitsPlace t g (place_after v)) (sym (present_gone (reverse r.restamps) (is_hop way v) u (fate_of v) r k.places)) f.2;
+        fits = subst (λ (g : Record). FitsPlace t g (place_after v)) (sym (present_gone (reverse r.restamps) (is_hop way v) u (fate_of v) r k.places)) f.2;
         is_new = no_new_link (acted u way v r) v;
       }
 
   -- the segment that a restamp ends
-  pub retired_here : (u : ℕ) (way : Way) (r : Journey) → IsRouted o plans r → IsDue (plan_of o plans (stamp_of r)) (present r) u way → IsNew r (InHand u way) →
-      IsRouted o plans (record r { hops = front_of way r.hops ++ u ∷ []; fate = Retired })
+  pub retired_here : (u : ℕ) (way : Way) (r : Record) → IsRoutedRecord o plans r → IsDue (plan_of o plans (stamp_of r)) (present r) u way → IsNew r (InHand u way) →
+      IsRoutedRecord o plans (record r { hops = front_of way r.hops ++ u ∷ []; fate = Retired })
   retired_here u Inbox r k due new =
       let st = present_stretch r k in
-      subst (λ (hops : List ℕ). IsRouted o plans (record r { hops = hops; fate = Retired })) (new_hops r u new due.0) (routed_gone r false u Retired k st.begins st.follows)
+      subst (λ (hops : List ℕ). IsRoutedRecord o plans (record r { hops = hops; fate = Retired })) (new_hops r u new due.0) (routed_gone r false u Retired k st.begins st.follows)
   retired_here u (Link l) r k due new =
       let t = plan_of o plans (stamp_of r) in
       let st = present_stretch r k in
@@ -151,8 +151,8 @@ module _ (o : Setting) (plans : List Scheme) (is_plan : (k : ℕ) → IsPlanFor 
       routed_gone r true u Retired k (first-push (present r).hops (present r).source u st.begins) more
 
   -- a restamp
-  pub stamped_routed : (u e : ℕ) (way : Way) (r : Journey) → u < nodes_of o → IsRouted o plans r → IsDue (plan_of o plans (stamp_of r)) (present r) u way → IsNew r (InHand u way) →
-      stamp_of r < e → e ≤ length plans → length r.restamps < o.restamps → IsRouted o plans (stamped u (front_of way r.hops) (record { epoch = e; from = length (front_of way r.hops) }) r)
+  pub stamped_routed : (u e : ℕ) (way : Way) (r : Record) → u < nodes_of o → IsRoutedRecord o plans r → IsDue (plan_of o plans (stamp_of r)) (present r) u way → IsNew r (InHand u way) →
+      stamp_of r < e → e ≤ length plans → length r.restamps < o.restamps → IsRoutedRecord o plans (stamped u (front_of way r.hops) (record { epoch = e; from = length (front_of way r.hops) }) r)
   stamped_routed u e way r u_in k due new above e_in left =
       let front = front_of way r.hops in
       let s : Restamp = record { epoch = e; from = length (front_of way r.hops) } in
@@ -169,7 +169,7 @@ module _ (o : Setting) (plans : List Scheme) (is_plan : (k : ℕ) → IsPlanFor 
       }
 
   -- an Act
-  pub ruled_packet : (full : Hop → Bool) (u : ℕ) (way : Way) (restamp : Option ℕ) (v : Verdict) (r : Journey) → u < nodes_of o → IsPacket o plans r (InHand u way) → RuledBy o plans full r u way restamp v →
+  pub ruled_packet : (full : Hop → Bool) (u : ℕ) (way : Way) (restamp : Option ℕ) (v : Verdict) (r : Record) → u < nodes_of o → IsPacket o plans r (InHand u way) → RuledBy o plans full r u way restamp v →
       IsPacket o plans (ruled u way restamp v r) (place_after v)
   ruled_packet full u way None v r u_in p by = acted_packet full u way v r p.routed p.fits.1 by
   ruled_packet full u way (Some e) v r u_in p by =
@@ -178,20 +178,20 @@ module _ (o : Setting) (plans : List Scheme) (is_plan : (k : ℕ) → IsPlanFor 
       let k = stamped_routed u e way r u_in p.routed p.fits.1 p.is_new by.0 by.1 by.2 in
       let g = present_stamped u e (front_of way r.hops) r in
       let same = restamped_is u e way r (here_is (plan_of o plans (stamp_of r)) u way r p.fits.1 p.is_new) in
-      subst (λ (y : Journey). IsPacket o plans (acted u Inbox v y) (place_after v)) (sym same)
-      (acted_packet full u Inbox v x k (ap (λ (y : Journey). y.hops) g, ap (λ (y : Journey). y.source) g)
+      subst (λ (y : Record). IsPacket o plans (acted u Inbox v y) (place_after v)) (sym same)
+      (acted_packet full u Inbox v x k (ap (λ (y : Record). y.hops) g, ap (λ (y : Record). y.source) g)
       (subst (λ (n : ℕ). Means (plan_of o plans n) full u Inbox r.dest v) (sym (stamp_stamped u e (front_of way r.hops) r)) by.3))
 
   -- after a restamp the present segment is of the new epoch, and one hop
-  pub ruled_begun : (u : ℕ) (way : Way) (e : ℕ) (v : Verdict) (r : Journey) → IsPacket o plans r (InHand u way) →
+  pub ruled_begun : (u : ℕ) (way : Way) (e : ℕ) (v : Verdict) (r : Record) → IsPacket o plans r (InHand u way) →
       (stamp_of (ruled u way (Some e) v r) ≡ e) × ((present (ruled u way (Some e) v r)).hops ≡ u ∷ [])
   ruled_begun u way e v r p =
       let same = restamped_is u e way r (here_is (plan_of o plans (stamp_of r)) u way r p.fits.1 p.is_new) in (
-        ap (λ (y : Journey). stamp_of (acted u Inbox v y)) same ∙ stamp_stamped u e (front_of way r.hops) r,
-        ap (λ (y : Journey). (present (acted u Inbox v y)).hops) same ∙ ap (λ (y : Journey). y.hops) (present_stamped u e (front_of way r.hops) r),
+        ap (λ (y : Record). stamp_of (acted u Inbox v y)) same ∙ stamp_stamped u e (front_of way r.hops) r,
+        ap (λ (y : Record). (present (acted u Inbox v y)).hops) same ∙ ap (λ (y : Record). y.hops) (present_stamped u e (front_of way r.hops) r),
       )
 
-  few_hops : (latest : List Restamp) (r : Journey) (m : ℕ) → nodes_of o ≡ m + 1 → ArePlaces (length r.hops) latest → AllByRecursion (IsStretch o plans) (segments_in latest r) → length r.hops ≤ most latest m + 1
+  few_hops : (latest : List Restamp) (r : Record) (m : ℕ) → nodes_of o ≡ m + 1 → ArePlaces (length r.hops) latest → AllByRecursion (IsStretch o plans) (segments_in latest r) → length r.hops ≤ most latest m + 1
   few_hops [] r m n places each = let s = stretch_short (present_in [] r) each.0 in omega arith
   few_hops (s ∷ older) r m n places each =
       let lt = places.0 in
@@ -202,7 +202,7 @@ module _ (o : Setting) (plans : List Scheme) (is_plan : (k : ℕ) → IsPlanFor 
       omega arith
 
   -- all hops of a packet have room
-  pub hops_fit : (r : Journey) → 0 < nodes_of o → IsRouted o plans r → length r.hops ≤ hop_room o.restamps (nodes_of o)
+  pub hops_fit : (r : Record) → 0 < nodes_of o → IsRoutedRecord o plans r → length r.hops ≤ hop_room o.restamps (nodes_of o)
   hops_fit r some k =
       let n : nodes_of o ≡ (nodes_of o - 1) + 1 = omega arith in
       let reversed = length-reverse r.restamps in

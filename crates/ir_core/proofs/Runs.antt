@@ -7,7 +7,7 @@ use Rattle.ir_core.specs.declared.event.Refused.{Refused}
 use Rattle.ir_core.specs.Setting.{Setting}
 use Rattle.ir_core.specs.Entry.{Entry}
 use Rattle.ir_core.specs.Opened.{IsOpenedWith, open_refused}
-use Rattle.ir_core.specs.State.{State}
+use Rattle.ir_core.specs.World.{World}
 use Rattle.ir_core.specs.Shows.{Shows}
 use Rattle.ir_core.specs.Sound.{AllSound}
 use Rattle.ir_core.proofs.Theorem.{all_of_one_epoch}
@@ -24,14 +24,14 @@ run_more o log (y ∷ steps) (x ∷ replies) mid later s r run answered =
     (run.0, run.1, run_more o run.0 steps replies mid later s r run.2 answered)
 
 -- a run so far
-pub record Ran (opening : Opening) (steps : List Step) (replies : List (Result Reply Refused)) (world : State) : Type 0 where
+pub record Ran (opening : Opening) (steps : List Step) (replies : List (Result Reply Refused)) (world : World) : Type 0 where
   pub opened : IsOpenedWith opening world.opening
   pub accepted : open_refused opening ≡ None
   pub log : List Entry
   pub run : IsRun world.opening [] steps replies log
   pub shows : Shows log world
 
-pub ran_more : (opening : Opening) (steps : List Step) (replies : List (Result Reply Refused)) (world new : State) (s : Step) (r : Result Reply Refused) →
+pub ran_more : (opening : Opening) (steps : List Step) (replies : List (Result Reply Refused)) (world new : World) (s : Step) (r : Result Reply Refused) →
     Ran opening steps replies world → new.opening ≡ world.opening → ((log : List Entry) → Shows log world → StepsAfter log s r world.opening new) →
     Ran opening (steps ++ s ∷ []) (replies ++ r ∷ []) new
 ran_more opening steps replies world new s r ran same after =
@@ -44,7 +44,7 @@ ran_more opening steps replies world new s r ran same after =
       shows = a.2;
     }
 
-pub ran_played : (opening : Opening) (steps : List Step) (replies : List (Result Reply Refused)) (world : State) → Ran opening steps replies world →
+pub ran_played : (opening : Opening) (steps : List Step) (replies : List (Result Reply Refused)) (world : World) → Ran opening steps replies world →
     ((log : List Entry) → Shows log world → AllSound world.opening log) → IsPlayed world.opening steps replies world
 ran_played opening steps replies world ran sound =
     let all = sound ran.log ran.shows in

@@ -4,24 +4,24 @@ use Rattle.std.proofs.lemmas.List.{length-set, length_push, length-drop, drop-dr
 use Rattle.std.proofs.lemmas.Option.{slice_get_within, slice_get-get_or, slice_get_past}
 use Rattle.std.proofs.lemmas.Bool.{cases_lt}
 use Rattle.std.proofs.lemmas.Bool.Decides.{eqb_tells}
-use Rattle.ir_model.specs.Scheme.{Scheme}
+use Rattle.ir_model.specs.Plan.{Plan}
 use Rattle.ir_core.specs.declared.event.Way.{Way}
 use Rattle.ir_core.specs.declared.event.Way.TheVariants.{Link}
 use Rattle.ir_core.specs.declared.event.Verdict.{Verdict}
 use Rattle.ir_core.specs.declared.event.Verdict.TheVariants.{CameByDown, BelowFloor, Arrives, LeavesByDown, NoRoom, GoesOn}
 use Rattle.ir_core.specs.declared.board.Board.{Board}
 use Rattle.ir_core.specs.declared.packet.Fate.TheVariants.{Left}
-use Rattle.ir_core.specs.Journey.{Journey}
+use Rattle.ir_core.specs.Record.{Record}
 use Rattle.ir_core.specs.Setting.{into}
 use Rattle.ir_core.specs.Entry.{Entry, DidInject, DidLearn, DidTake, DidRead, DidAct, DidChange, DidInstall, ruled, fresh}
 use Rattle.ir_core.specs.History as history
 use Rattle.ir_core.specs.Meaning.{sight_after}
-use Rattle.ir_core.specs.State.{State, IsState, IsPacket, Place, Waits, InHand, sight_in, after, put_into, taken_from, sent_on}
+use Rattle.ir_core.specs.World.{World, IsWorld, IsPacket, Place, Waits, InHand, sight_in, after, put_into, taken_from, sent_on}
 use Rattle.ir_core.specs.Shows.{Shows}
 use Rattle.ir_core.proofs.Lists.{or_set, get_set_same, get_set_other, get_push_here, get_push_before}
 
 -- a world and its history are seen alike
-pub same_sight : (log : List Entry) (s : State) → Shows log s → sight_in s ≡ sight_after s.opening log
+pub same_sight : (log : List Entry) (s : World) → Shows log s → sight_in s ≡ sight_after s.opening log
 same_sight log s k = λ i. record {
   injected = k.injected i;
   learnt = k.learnt i;
@@ -33,7 +33,7 @@ same_sight log s k = λ i. record {
   packet = λ id. k.packet id i;
 }
 
-abbrev pub FitsVerdict : State → Verdict → Type 0
+abbrev pub FitsVerdict : World → Verdict → Type 0
 FitsVerdict s (GoesOn h) = into s.opening h.node (Link h.link) < length s.channels
 FitsVerdict s (CameByDown l) = Unit {0}
 FitsVerdict s BelowFloor = Unit {0}
@@ -42,7 +42,7 @@ FitsVerdict s (LeavesByDown l) = Unit {0}
 FitsVerdict s (NoRoom h) = Unit {0}
 
 -- what an entry needs of the world in which it is made
-abbrev pub Fits : State → Entry → Type 0
+abbrev pub Fits : World → Entry → Type 0
 Fits s (DidInject id e source dest room) = (id ≡ length s.records) × (source < length s.channels)
 Fits s (DidLearn e) = Unit {0}
 Fits s (DidTake u way id) = (u < length s.hands) × (into s.opening u way < length s.channels) × (slice_get (slice_index_or s.channels (into s.opening u way) []) 0 ≡ Some id)
@@ -52,11 +52,11 @@ Fits s (DidChange b) = Unit {0}
 Fits s (DidInstall e t b) = Unit {0}
 
 -- the packet is under way
-abbrev pub IsLeft : State → ℕ → Type 0
-IsLeft s id = (r : Journey) × (slice_get s.records id ≡ Some r) × (r.fate ≡ Left)
+abbrev pub IsLeft : World → ℕ → Type 0
+IsLeft s id = (r : Record) × (slice_get s.records id ≡ Some r) × (r.fate ≡ Left)
 
 -- what an entry concerns is under way in this world
-abbrev pub ConcernsLeft : State → Entry → Type 0
+abbrev pub ConcernsLeft : World → Entry → Type 0
 ConcernsLeft s (DidInject id e source dest room) = slice_get s.records id ≡ None
 ConcernsLeft s (DidLearn e) = Unit {0}
 ConcernsLeft s (DidTake u way id) = IsLeft s id
@@ -66,7 +66,7 @@ ConcernsLeft s (DidChange b) = Unit {0}
 ConcernsLeft s (DidInstall e t b) = Unit {0}
 
 -- what an entry that fits concerns is under way
-pub concerns_left : (s : State) → IsState s → (entry : Entry) → Fits s entry → ConcernsLeft s entry
+pub concerns_left : (s : World) → IsWorld s → (entry : Entry) → Fits s entry → ConcernsLeft s entry
 concerns_left s ok (DidInject id e source dest room) f = let i = f.0 in slice_get_past s.records id (omega arith)
 concerns_left s ok (DidLearn e) f = tt
 concerns_left s ok (DidTake u way id) f =
@@ -74,7 +74,7 @@ concerns_left s ok (DidTake u way id) f =
     let at = slice_get-get_or s.records id (fresh id 0 0 0 0) w.0 in
     (slice_index_or s.records id (fresh id 0 0 0 0), at, waits_left (slice_index_or s.records id (fresh id 0 0 0 0)) w.1.0 w.1.1 (ok.placed.each id _ at) w.1.3)
   where
-    waits_left : (r : Journey) (v : ℕ) (by : Way) → IsPacket s.opening s.plans r (ok.place id) → ok.place id ≡ Waits v by → r.fate ≡ Left
+    waits_left : (r : Record) (v : ℕ) (by : Way) → IsPacket s.opening s.plans r (ok.place id) → ok.place id ≡ Waits v by → r.fate ≡ Left
     waits_left r v by p e =
         let q : IsPacket s.opening s.plans r (Waits v by) = subst (λ (x : Place). IsPacket s.opening s.plans r x) e p in
         q.fits.0
@@ -84,7 +84,7 @@ concerns_left s ok (DidAct u id way restamp v) f =
     let at = slice_get-get_or s.records id (fresh id 0 0 0 0) h.0 in
     (slice_index_or s.records id (fresh id 0 0 0 0), at, hand_left (slice_index_or s.records id (fresh id 0 0 0 0)) (ok.placed.each id _ at) h.1)
   where
-    hand_left : (r : Journey) → IsPacket s.opening s.plans r (ok.place id) → ok.place id ≡ InHand u way → r.fate ≡ Left
+    hand_left : (r : Record) → IsPacket s.opening s.plans r (ok.place id) → ok.place id ≡ InHand u way → r.fate ≡ Left
     hand_left r p e =
         let q : IsPacket s.opening s.plans r (InHand u way) = subst (λ (x : Place). IsPacket s.opening s.plans r x) e p in
         q.fits.0
@@ -92,7 +92,7 @@ concerns_left s ok (DidChange b) f = tt
 concerns_left s ok (DidInstall e t b) f = tt
 
 -- and so it is by the history
-pub concerns_under_way : (log : List Entry) (s : State) → Shows log s → (entry : Entry) → ConcernsLeft s entry → history.ConcernsOneUnderWay entry log
+pub concerns_under_way : (log : List Entry) (s : World) → Shows log s → (entry : Entry) → ConcernsLeft s entry → history.ConcernsOneUnderWay entry log
 concerns_under_way log s k (DidInject id e source dest room) l = sym (k.packet id) ∙ l
 concerns_under_way log s k (DidLearn e) l = tt
 concerns_under_way log s k (DidTake u way id) l = (l.0, sym (k.packet id) ∙ l.1, l.2)
@@ -154,7 +154,7 @@ set_shows {X} xs i j y d old h e = chosen (or_set xs i j y d h) (eqb_tells i j)
     chosen (inr p) (inr q) = rw q.0 (p.1 ∙ e)
 
 -- the records after a push
-push_shows : (records : List Journey) (r : Journey) (id j : ℕ) (old : Option Journey) → id ≡ length records → slice_get records j ≡ old → slice_get (records ++ r ∷ []) j ≡ (if id == j then Some r else old)
+push_shows : (records : List Record) (r : Record) (id j : ℕ) (old : Option Record) → id ≡ length records → slice_get records j ≡ old → slice_get (records ++ r ∷ []) j ≡ (if id == j then Some r else old)
 push_shows records r id j old is e = chosen (eqb_tells id j) (cases_lt j (length records))
   where
     chosen : ((eqb id j ≡ true) × (id ≡ j)) ⊎ ((eqb id j ≡ false) × (id ≢ j)) → ((j < length records) ⊎ (length records ≤ j)) → slice_get (records ++ r ∷ []) j ≡ (if id == j then Some r else old)
@@ -166,7 +166,7 @@ push_shows records r id j old is e = chosen (eqb_tells id j) (cases_lt j (length
         rw q.0 (past ∙ sym (slice_get_past records j ge) ∙ e)
 
 -- the records after one was acted on
-act_shows : (records : List Journey) (f : Journey → Journey) (id j : ℕ) (d : Journey) (old : Option Journey) → id < length records → slice_get records j ≡ old →
+act_shows : (records : List Record) (f : Record → Record) (id j : ℕ) (d : Record) (old : Option Record) → id < length records → slice_get records j ≡ old →
     slice_get (slice_set records id (f (slice_index_or records id d))) j ≡ (if id == j then option_map f old else old)
 act_shows records f id j d old h e = chosen (eqb_tells id j)
   where
@@ -177,7 +177,7 @@ act_shows records f id j d old h e = chosen (eqb_tells id j)
         rw (q.0, there) (ap (λ (x : ℕ). slice_get (slice_set records id (f (slice_index_or records id d))) x) (sym q.1) ∙ get_set_same records id (f (slice_index_or records id d)) h)
     chosen (inr q) = rw q.0 (get_set_other records id j (f (slice_index_or records id d)) (λ x. q.1 (sym x)) ∙ e)
 
-act_waiting : (s : State) (v : Verdict) (id c n : ℕ) (xs : List ℕ) → FitsVerdict s v → slice_index_or s.channels c [] ≡ drop n xs → n ≤ length xs →
+act_waiting : (s : World) (v : Verdict) (id c n : ℕ) (xs : List ℕ) → FitsVerdict s v → slice_index_or s.channels c [] ≡ drop n xs → n ≤ length xs →
     (slice_index_or (sent_on s.opening s.channels v id) c [] ≡ drop n (if history.is_put_into s.opening c v then xs ++ id ∷ [] else xs)) × (n ≤ length (if history.is_put_into s.opening c v then xs ++ id ∷ [] else xs))
 act_waiting s (GoesOn h) id c n xs f e few =
     (put_shows s.channels (into s.opening h.node (Link h.link)) id c n xs f e few, put_few (into s.opening h.node (Link h.link) == c) id n xs few)
@@ -188,7 +188,7 @@ act_waiting s (LeavesByDown l) id c n xs f e few = (e, few)
 act_waiting s (NoRoom h) id c n xs f e few = (e, few)
 
 -- the world after an entry is that of the history with it
-pub show_after : (log : List Entry) (s : State) → Shows log s → (entry : Entry) → Fits s entry → history.ConcernsOneUnderWay entry log → Shows (entry ∷ log) (after s entry)
+pub show_after : (log : List Entry) (s : World) → Shows log s → (entry : Entry) → Fits s entry → history.ConcernsOneUnderWay entry log → Shows (entry ∷ log) (after s entry)
 show_after log s k (DidInject id e source dest room) f w = record {
   ends_once = (w, k.ends_once);
   injected = length_push s.records (fresh id e source dest room) ∙ ap (λ (n : ℕ). n + 1) k.injected;
@@ -197,8 +197,8 @@ show_after log s k (DidInject id e source dest room) f w = record {
   plans = k.plans;
   view = k.view;
   hand = k.hand;
-  waiting = λ c. put_shows s.channels source id c (history.takes s.opening c log) (history.puts s.opening c log) f.1 (k.waiting c) (k.no_more_takes c);
-  no_more_takes = λ c. put_few (source == c) id (history.takes s.opening c log) (history.puts s.opening c log) (k.no_more_takes c);
+  waiting = λ c. put_shows s.channels source id c (history.take_count s.opening c log) (history.puts s.opening c log) f.1 (k.waiting c) (k.no_more_takes c);
+  no_more_takes = λ c. put_few (source == c) id (history.take_count s.opening c log) (history.puts s.opening c log) (k.no_more_takes c);
   packet = λ j. push_shows s.records (fresh id e source dest room) id j (history.packet j log) f.0 (k.packet j);
 }
 show_after log s k (DidLearn e) f w = record {
@@ -221,8 +221,8 @@ show_after log s k (DidTake u way id) f w = record {
   plans = k.plans;
   view = k.view;
   hand = λ v. set_shows s.hands u v (Some (record { id = id; way = way })) None (history.hand v log) f.0 (k.hand v);
-  waiting = λ c. take_shows s.channels (into s.opening u way) c (history.takes s.opening c log) (history.puts s.opening c log) f.1 (k.waiting c);
-  no_more_takes = λ c. take_few s.channels (into s.opening u way) id c (history.takes s.opening c log) (history.puts s.opening c log) (k.waiting c) f.2 (k.no_more_takes c);
+  waiting = λ c. take_shows s.channels (into s.opening u way) c (history.take_count s.opening c log) (history.puts s.opening c log) f.1 (k.waiting c);
+  no_more_takes = λ c. take_few s.channels (into s.opening u way) id c (history.take_count s.opening c log) (history.puts s.opening c log) (k.waiting c) f.2 (k.no_more_takes c);
   packet = k.packet;
 }
 show_after log s k (DidRead u n) f w = record {
@@ -245,8 +245,8 @@ show_after log s k (DidAct u id way restamp v) f w = record {
   plans = k.plans;
   view = k.view;
   hand = λ w. set_shows s.hands u w None None (history.hand w log) f.0 (k.hand w);
-  waiting = λ c. (act_waiting s v id c (history.takes s.opening c log) (history.puts s.opening c log) f.2 (k.waiting c) (k.no_more_takes c)).0;
-  no_more_takes = λ c. (act_waiting s v id c (history.takes s.opening c log) (history.puts s.opening c log) f.2 (k.waiting c) (k.no_more_takes c)).1;
+  waiting = λ c. (act_waiting s v id c (history.take_count s.opening c log) (history.puts s.opening c log) f.2 (k.waiting c) (k.no_more_takes c)).0;
+  no_more_takes = λ c. (act_waiting s v id c (history.take_count s.opening c log) (history.puts s.opening c log) f.2 (k.waiting c) (k.no_more_takes c)).1;
   packet = λ j. act_shows s.records (ruled u way restamp v) id j (fresh id 0 0 0 0) (history.packet j log) f.1 (k.packet j);
 }
 show_after log s k (DidChange b) f w = record {
@@ -266,7 +266,7 @@ show_after log s k (DidInstall e t b) f w = record {
   injected = k.injected;
   learnt = k.learnt;
   boards = ap (λ (l : List Board). l ++ b ∷ []) k.boards;
-  plans = ap (λ (l : List Scheme). l ++ t ∷ []) k.plans;
+  plans = ap (λ (l : List Plan). l ++ t ∷ []) k.plans;
   view = k.view;
   hand = k.hand;
   waiting = k.waiting;

@@ -3,26 +3,26 @@ use Rattle.std.specs.Prelude.{Result, Ok, Err, IfErr, reverse, length, slice_ind
 use Rattle.std.proofs.lemmas.Option.{slice_get_within, slice_get-get_or}
 use Rattle.ir_model.specs.declared.Kind.{Kind}
 use Rattle.ir_model.specs.declared.Kind.TheVariants.{Tree, Shortest, Compact}
-use Rattle.ir_model.specs.Network.{node_count}
+use Rattle.ir_model.specs.Topology.{node_count}
 use Rattle.ir_model.specs.Walk.{walk_weight, IsDistance}
 use Rattle.ir_model.specs.Table.{IsPrescribedWalk, IsNearerTable, IsShortestTable}
 use Rattle.ir_model.specs.Compact.{IsCompactTable}
-use Rattle.ir_model.specs.Scheme.{Scheme, table_port, IsScheme, IsTableOf}
+use Rattle.ir_model.specs.Plan.{Plan, table_port, IsPlan, IsTableOf}
 use Rattle.ir_model.proofs.Tables.{prescribed_nearer, shortest_is_nearer}
 use Rattle.ir_core.specs.declared.event.Event.{Event}
 use Rattle.ir_core.specs.declared.event.Reply.{Reply}
 use Rattle.ir_core.specs.declared.event.Refused.{Refused}
 use Rattle.std.specs.List.{AllByRecursion}
 use Rattle.ir_core.specs.declared.packet.Restamp.{Restamp}
-use Rattle.ir_core.specs.Journey.{Journey, segments_in, present, present_in, until, stamp_of}
+use Rattle.ir_core.specs.Record.{Record, segments_in, present, present_in, until, stamp_of}
 use Rattle.ir_core.specs.declared.packet.Fate.{Fate}
 use Rattle.ir_core.specs.declared.packet.Fate.TheVariants.{Delivered, Retired, Down, Full, Left}
 use Rattle.ir_core.specs.Setting.{Setting, IsPlanFor, nodes_of}
 use Rattle.ir_core.specs.Entry.{Entry, DidInject, DidLearn, DidTake, DidRead, DidAct, DidChange, DidInstall, reply_of}
 use Rattle.ir_core.specs.Meaning.{Sight, ComesTo, sight_after, plan_of, with_entry}
 use Rattle.ir_core.specs.History as history
-use Rattle.ir_core.specs.Sound.{IsSoundBy, IsPlanAmong, IsSoundJourney, AllSound, AllOfOneEpoch, FateFits, WeighsTheDistance, GoesOnAlong, LeadsOn, last_of}
-use Rattle.ir_core.specs.State.{State, IsState, IsStretch, sight_in, after, IsAnswer, IsBeginning, Place, Waits, InHand, Ended, FitsPlace, EndFits}
+use Rattle.ir_core.specs.Sound.{IsSoundBy, IsPlanAmong, IsSoundRecord, AllSound, AllOfOneEpoch, FateFits, WeighsTheDistance, GoesOnAlong, LeadsOn, last_of}
+use Rattle.ir_core.specs.World.{World, IsWorld, IsStretch, sight_in, after, IsAnswer, IsBeginning, Place, Waits, InHand, Ended, FitsPlace, EndFits}
 use Rattle.ir_core.specs.Shows.{Shows, AnswersAfter, MayWantMemory, reply_to}
 use Rattle.ir_core.specs.Handled.{IsAnswerTo}
 use Rattle.ir_core.proofs.Walks.{walk_of, prefix, whole, next_hop-away, IsBeginning-push, first-push}
@@ -31,13 +31,13 @@ use Rattle.ir_core.proofs.Shown.{same_sight, show_after, concerns_left, concerns
 use Rattle.ir_core.proofs.Accepted.{accepted_fits}
 
 -- an answer by the world is one by its history
-module _ (log : List Entry) (s new : State) (ok : IsState s) (k : Shows log s) (e : Event) (result : Result Reply Refused) where
+module _ (log : List Entry) (s new : World) (ok : IsWorld s) (k : Shows log s) (e : Event) (result : Result Reply Refused) where
   pub shows_after : (wanted : Result Entry Refused) → ComesTo s.opening (sight_in s) e wanted → IsAnswer s new wanted result → Shows (with_entry log wanted) new
   shows_after (Ok entry) comes a =
       let fits = accepted_fits s ok e entry comes in
       let live = concerns_under_way log s k entry (concerns_left s ok entry fits) in
-      subst (λ (x : State). Shows (entry ∷ log) x) (sym a.1) (show_after log s k entry fits live)
-  shows_after (Err x) comes a = subst (λ (y : State). Shows log y) (sym a.1) k
+      subst (λ (x : World). Shows (entry ∷ log) x) (sym a.1) (show_after log s k entry fits live)
+  shows_after (Err x) comes a = subst (λ (y : World). Shows log y) (sym a.1) k
 
   replied : (wanted : Result Entry Refused) → IsAnswer s new wanted result → result ≡ reply_to wanted
   replied (Ok entry) a = a.0
@@ -49,60 +49,60 @@ module _ (log : List Entry) (s new : State) (ok : IsState s) (k : Shows log s) (
       (with_entry log a.0, inl (a.0, there, replied a.0 a.2, refl), shows_after a.0 a.1 a.2)
   by_history (inr a) =
       let there : MayWantMemory s.opening (sight_after s.opening log) e = subst (λ (y : Sight). MayWantMemory s.opening y e) (same_sight log s k) a.0 in
-      (log, inr (there, a.1, refl), subst (λ (y : State). Shows log y) (sym a.2) k)
+      (log, inr (there, a.1, refl), subst (λ (y : World). Shows log y) (sym a.2) k)
 
 -- what a refused event leaves
-pub unchanged : (s new : State) (wanted : Result Entry Refused) (x : Refused) → IsAnswer s new wanted (Err x) → new ≡ s
+pub unchanged : (s new : World) (wanted : Result Entry Refused) (x : Refused) → IsAnswer s new wanted (Err x) → new ≡ s
 unchanged s new (Ok entry) x a = absurd (not_ok (sym a.0))
   where
     not_ok : ◌≡◌ {A = Result Reply Refused} (Ok (reply_of entry)) (Err x) → ⊥
     not_ok q = cc
 unchanged s new (Err y) x a = a.1
 
-pub refused_unchanged : (e : Event) (s new : State) (x : Refused) → IsAnswerTo e s new (Err x) → new ≡ s
+pub refused_unchanged : (e : Event) (s new : World) (x : Refused) → IsAnswerTo e s new (Err x) → new ≡ s
 refused_unchanged e s new x (inl a) = unchanged s new a.0 x a.2
 refused_unchanged e s new x (inr a) = a.2
 
-pub refused_at : (e : Event) (s new : State) (r : Result Reply Refused) → IsAnswerTo e s new r → IfErr r (λ _. new ≡ s)
+pub refused_at : (e : Event) (s new : World) (r : Result Reply Refused) → IsAnswerTo e s new r → IfErr r (λ _. new ≡ s)
 refused_at e s new (Ok y) a = tt
 refused_at e s new (Err x) a = refused_unchanged e s new x a
 
 -- a table of shortest ways leads the whole walk over the distance
-nearer_weighs : (t : Scheme) → IsScheme t → IsNearerTable t.network (table_port t) → (r : Journey) → r.source < node_count t.network → r.dest < node_count t.network →
-    (walk : List ℕ) → IsPrescribedWalk t.network (table_port t) r.source r.dest walk → r.hops ≡ walk → IsDistance t.network r.source r.dest (walk_weight t.network r.hops)
+nearer_weighs : (t : Plan) → IsPlan t → IsNearerTable t.topology (table_port t) → (r : Record) → r.source < node_count t.topology → r.dest < node_count t.topology →
+    (walk : List ℕ) → IsPrescribedWalk t.topology (table_port t) r.source r.dest walk → r.hops ≡ walk → IsDistance t.topology r.source r.dest (walk_weight t.topology r.hops)
 nearer_weighs t is table r s_in d_in walk w h =
-    let d = (prescribed_nearer t.network is.network (table_port t) table r.source r.dest s_in d_in walk w).1 in
-    subst (λ (x : List ℕ). IsDistance t.network r.source r.dest (walk_weight t.network x)) (sym h) d
+    let d = (prescribed_nearer t.topology is.topology (table_port t) table r.source r.dest s_in d_in walk w).1 in
+    subst (λ (x : List ℕ). IsDistance t.topology r.source r.dest (walk_weight t.topology x)) (sym h) d
 
 -- with a kind of shortest ways the whole walk weighs the distance
-weighs : (k : Kind) (t : Scheme) → k ≡ t.kind → IsScheme t → (r : Journey) → r.source < node_count t.network → r.dest < node_count t.network →
-    (walk : List ℕ) → IsPrescribedWalk t.network (table_port t) r.source r.dest walk → r.hops ≡ walk → WeighsTheDistance k t r
+weighs : (k : Kind) (t : Plan) → k ≡ t.kind → IsPlan t → (r : Record) → r.source < node_count t.topology → r.dest < node_count t.topology →
+    (walk : List ℕ) → IsPrescribedWalk t.topology (table_port t) r.source r.dest walk → r.hops ≡ walk → WeighsTheDistance k t r
 weighs Tree t e is r s_in d_in walk w h = tt
 weighs Shortest t e is r s_in d_in walk w h =
-    let table : IsShortestTable t.network (table_port t) = subst (λ (k : Kind). IsTableOf k t.network t.order is.parents (table_port t)) (sym e) is.table in
-    nearer_weighs t is (shortest_is_nearer t.network (table_port t) table) r s_in d_in walk w h
+    let table : IsShortestTable t.topology (table_port t) = subst (λ (k : Kind). IsTableOf k t.topology t.order is.parents (table_port t)) (sym e) is.table in
+    nearer_weighs t is (shortest_is_nearer t.topology (table_port t) table) r s_in d_in walk w h
 weighs Compact t e is r s_in d_in walk w h =
-    let table : IsCompactTable t.network t.order (table_port t) = subst (λ (k : Kind). IsTableOf k t.network t.order is.parents (table_port t)) (sym e) is.table in
+    let table : IsCompactTable t.topology t.order (table_port t) = subst (λ (k : Kind). IsTableOf k t.topology t.order is.parents (table_port t)) (sym e) is.table in
     nearer_weighs t is table.nearer r s_in d_in walk w h
 
--- a record that is right, and the walk that its scheme prescribes
-module _ (o : Setting) (t : Scheme) (plan : IsPlanFor o t) (r : Journey) (s_in : r.source < nodes_of o) (d_in : r.dest < nodes_of o) (begins : slice_get r.hops 0 ≡ Some r.source) (follows : IsBeginning t r.dest r.hops)
-    (walk : List ℕ) (prescribed : IsPrescribedWalk t.network (table_port t) r.source r.dest walk) where
-  dest_there : r.dest < node_count t.network
+-- a record that is right, and the walk that its plan prescribes
+module _ (o : Setting) (t : Plan) (plan : IsPlanFor o t) (r : Record) (s_in : r.source < nodes_of o) (d_in : r.dest < nodes_of o) (begins : slice_get r.hops 0 ≡ Some r.source) (follows : IsBeginning t r.dest r.hops)
+    (walk : List ℕ) (prescribed : IsPrescribedWalk t.topology (table_port t) r.source r.dest walk) where
+  dest_there : r.dest < node_count t.topology
   dest_there = let n = plan.nodes in omega arith
 
   -- where the table leads on, the walk goes on
   goes_on : (l v : ℕ) → LeadsOn t r l v → GoesOnAlong t r walk l v
   goes_on l v on =
       let w = walk_of t r.source r.dest walk prescribed in
-      let more = IsBeginning-push t r.dest r.hops v follows (next_hop-away t plan.scheme (last_of r.hops) r.dest dest_there on.0 on.1) (on.0, on.1, on.3) in
+      let more = IsBeginning-push t r.dest r.hops v follows (next_hop-away t plan.plan (last_of r.hops) r.dest dest_there on.0 on.1) (on.0, on.1, on.3) in
       (prefix t r.dest (r.hops ++ v ∷ []) walk r.source (first-push r.hops r.source v begins) w.begins more w.steps, on)
 
   arrives : last_of r.hops ≡ r.dest → (r.hops ≡ walk) × WeighsTheDistance t.kind t r
   arrives l =
       let w = walk_of t r.source r.dest walk prescribed in
       let all = whole t r.dest r.hops walk r.source begins w.begins follows w.steps l in
-      (all, weighs t.kind t refl plan.scheme r (let n = plan.nodes in omega arith) dest_there walk prescribed all)
+      (all, weighs t.kind t refl plan.plan r (let n = plan.nodes in omega arith) dest_there walk prescribed all)
 
   fate_fits : (fate : Fate) → EndFits t r fate → FateFits t r walk fate
   fate_fits Delivered e = arrives e
@@ -117,19 +117,19 @@ module _ (o : Setting) (t : Scheme) (plan : IsPlanFor o t) (r : Journey) (s_in :
   place_fits Ended f = fate_fits r.fate f.1
 
 -- a segment is sound, where its fate fits the prescribed walk
-segment_sound : (o : Setting) (plans : List Scheme) → ((k : ℕ) → IsPlanFor o (slice_index_or plans k o.first)) → (g : Journey) → IsStretch o plans g →
-    ((walk : List ℕ) → IsPrescribedWalk (plan_of o plans g.epoch).network (table_port (plan_of o plans g.epoch)) g.source g.dest walk → FateFits (plan_of o plans g.epoch) g walk g.fate) → IsSoundBy (IsPlanAmong plans) g
+segment_sound : (o : Setting) (plans : List Plan) → ((k : ℕ) → IsPlanFor o (slice_index_or plans k o.first)) → (g : Record) → IsStretch o plans g →
+    ((walk : List ℕ) → IsPrescribedWalk (plan_of o plans g.epoch).topology (table_port (plan_of o plans g.epoch)) g.source g.dest walk → FateFits (plan_of o plans g.epoch) g walk g.fate) → IsSoundBy (IsPlanAmong plans) g
 segment_sound o plans each g p fits =
     let t = plan_of o plans g.epoch in
     let k = each (g.epoch - 1) in
     let n = k.nodes in
-    let w = k.scheme.walks g.source g.dest (let i = p.source_in in omega arith) (let i = p.dest_in in omega arith) in
+    let w = k.plan.walks g.source g.dest (let i = p.source_in in omega arith) (let i = p.dest_in in omega arith) in
     let walk = walk_of t g.source g.dest w.0 w.1 in
     record {
       plan = t;
       of_epoch = (p.epoch_above, slice_get-get_or plans (g.epoch - 1) o.first (let above = p.epoch_above in let within = p.epoch_in in omega arith));
       sound = record {
-        scheme = k.scheme;
+        plan = k.plan;
         walk = w.0;
         prescribed = w.1;
         not_empty = slice_get_within g.hops 0 g.source p.begins;
@@ -139,7 +139,7 @@ segment_sound o plans each g p fits =
     }
 
 -- the segments that restamps ended
-past_sound : (o : Setting) (plans : List Scheme) → ((k : ℕ) → IsPlanFor o (slice_index_or plans k o.first)) → (latest : List Restamp) (r : Journey) → r.fate ≡ Retired → AllByRecursion (IsStretch o plans) (segments_in latest r) →
+past_sound : (o : Setting) (plans : List Plan) → ((k : ℕ) → IsPlanFor o (slice_index_or plans k o.first)) → (latest : List Restamp) (r : Record) → r.fate ≡ Retired → AllByRecursion (IsStretch o plans) (segments_in latest r) →
     AllByRecursion (IsSoundBy (IsPlanAmong plans)) (segments_in latest r)
 past_sound o plans each [] r e k =
     (segment_sound o plans each (present_in [] r) k.0 (λ walk w. subst (λ (f : Fate). FateFits (plan_of o plans r.epoch) (present_in [] r) walk f) (sym e) tt), tt)
@@ -148,13 +148,13 @@ past_sound o plans each (s ∷ older) r e k = (
   past_sound o plans each older (until s r) refl k.1,
 )
 
-all_segments_sound : (o : Setting) (plans : List Scheme) → ((k : ℕ) → IsPlanFor o (slice_index_or plans k o.first)) → (latest : List Restamp) (r : Journey) → AllByRecursion (IsStretch o plans) (segments_in latest r) →
+all_segments_sound : (o : Setting) (plans : List Plan) → ((k : ℕ) → IsPlanFor o (slice_index_or plans k o.first)) → (latest : List Restamp) (r : Record) → AllByRecursion (IsStretch o plans) (segments_in latest r) →
     (IsStretch o plans (present_in latest r) → IsSoundBy (IsPlanAmong plans) (present_in latest r)) → AllByRecursion (IsSoundBy (IsPlanAmong plans)) (segments_in latest r)
 all_segments_sound o plans each [] r k now = (now k.0, tt)
 all_segments_sound o plans each (s ∷ older) r k now = (now k.0, past_sound o plans each older (until s r) refl k.1)
 
 -- each record is sound
-pub sound : (s : State) → IsState s → (id : ℕ) (r : Journey) → slice_get s.records id ≡ Some r → IsSoundJourney s.opening.restamps (IsPlanAmong s.plans) r
+pub sound : (s : World) → IsWorld s → (id : ℕ) (r : Record) → slice_get s.records id ≡ Some r → IsSoundRecord s.opening.restamps (IsPlanAmong s.plans) r
 sound s ok id r e =
     let p = ok.placed.each id r e in
     let g = present r in
@@ -171,12 +171,12 @@ sound s ok id r e =
     }
 
 -- and so are the records of its history
-pub all_sound : (s : State) → IsState s → (log : List Entry) → Shows log s → AllSound s.opening log
+pub all_sound : (s : World) → IsWorld s → (log : List Entry) → Shows log s → AllSound s.opening log
 all_sound s ok log k id r e =
-    subst (λ (plans : List Scheme). IsSoundJourney s.opening.restamps (IsPlanAmong plans) r) k.plans (sound s ok id r (k.packet id ∙ e))
+    subst (λ (plans : List Plan). IsSoundRecord s.opening.restamps (IsPlanAmong plans) r) k.plans (sound s ok id r (k.packet id ∙ e))
 
 -- where no restamp is allowed, a record is of one epoch
-one_epoch : (o : Setting) (plans : List Scheme) (r : Journey) (restamps : List Restamp) → r.restamps ≡ restamps → length restamps ≤ 0 → AllByRecursion (IsSoundBy (IsPlanAmong plans)) (segments_in (reverse restamps) r) →
+one_epoch : (o : Setting) (plans : List Plan) (r : Record) (restamps : List Restamp) → r.restamps ≡ restamps → length restamps ≤ 0 → AllByRecursion (IsSoundBy (IsPlanAmong plans)) (segments_in (reverse restamps) r) →
     (r.restamps ≡ []) × IsSoundBy (IsPlanAmong plans) r
 one_epoch o plans r [] e le k = (e, subst (λ (l : List Restamp). IsSoundBy (IsPlanAmong plans) (record r { restamps = l })) (sym e) k.0)
 one_epoch o plans r (s ∷ restamps) e le k = absurd (omega arith)
@@ -187,7 +187,7 @@ all_of_one_epoch o log all none id r e =
     let few = k.few in
     one_epoch o (history.plans o log) r r.restamps refl (omega arith) k.each
 
-after_setting : (s : State) (entry : Entry) → (after s entry).opening ≡ s.opening
+after_setting : (s : World) (entry : Entry) → (after s entry).opening ≡ s.opening
 after_setting s (DidInject id e source dest room) = refl
 after_setting s (DidLearn e) = refl
 after_setting s (DidTake u way id) = refl
@@ -197,6 +197,6 @@ after_setting s (DidChange b) = refl
 after_setting s (DidInstall e t b) = refl
 
 -- an event leaves the setting as it is
-pub same_setting : (s new : State) (wanted : Result Entry Refused) (r : Result Reply Refused) → IsAnswer s new wanted r → new.opening ≡ s.opening
-same_setting s new (Ok entry) r a = ap (λ (x : State). x.opening) a.1 ∙ after_setting s entry
-same_setting s new (Err e) r a = ap (λ (x : State). x.opening) a.1
+pub same_setting : (s new : World) (wanted : Result Entry Refused) (r : Result Reply Refused) → IsAnswer s new wanted r → new.opening ≡ s.opening
+same_setting s new (Ok entry) r a = ap (λ (x : World). x.opening) a.1 ∙ after_setting s entry
+same_setting s new (Err e) r a = ap (λ (x : World). x.opening) a.1

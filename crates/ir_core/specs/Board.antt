@@ -8,8 +8,8 @@ abbrev pub opening_board : Board
 opening_board = record { version = 0; current = 1; floor = 1; up = replicate MAX_LINKS true }
 
 -- a number that is no link counts as up
-abbrev pub is_up : Board → ℕ → Bool
-is_up b l = get_or b.up l true
+abbrev pub is_link_up : Board → ℕ → Bool
+is_link_up b l = get_or b.up l true
 
 -- the board after one link was marked
 abbrev pub marked : Board → ℕ → Bool → Board

@@ -1,7 +1,7 @@
 -- The events of a drain, and the history after it.
 use Rattle.std.specs.Prelude.{◌≡◌, ℕ, zero, suc, ◌-◌, ◌+◌, ◌<◌, ◌≤◌, List, [], ◌∷◌, length, if◌then◌else◌, ◌==◌}
 use Rattle.ir_model.specs.declared.Hop.{Hop}
-use Rattle.ir_model.specs.Network.{ports_of}
+use Rattle.ir_model.specs.Topology.{ports_of}
 use Rattle.ir_core.specs.declared.event.Way.{Way}
 use Rattle.ir_core.specs.declared.event.Way.TheVariants.{Inbox, Link}
 use Rattle.ir_core.specs.Setting.{Setting, nodes_of}
@@ -32,7 +32,7 @@ after_ports o u (hop ∷ hops) log = after_ports o u hops (after_way o u (Link h
 -- A visit of a node: it reads the newest version, acts on what it holds, then takes from its inbox and acts, then from
 -- each port's channel, in port order of the opening's topology, and acts.
 abbrev pub after_visit : Setting → ℕ → List Entry → List Entry
-after_visit o u log = after_ports o u (ports_of o.network u) (after_way o u Inbox (after_act o u (after_read o u log)))
+after_visit o u log = after_ports o u (ports_of o.topology u) (after_way o u Inbox (after_act o u (after_read o u log)))
 
 -- the visits of the first nodes, in order
 abbrev pub after_visits : Setting → ℕ → List Entry → List Entry

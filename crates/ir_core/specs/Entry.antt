@@ -1,7 +1,7 @@
 -- Verdicts, and the entries of a history.
 use Rattle.std.specs.Prelude.{ℕ, ◌-◌, length, Bool, true, false, not, nat_lt, Option, Some, None, unwrap_or, List, [], ◌∷◌, ◌++◌, if◌then◌else◌, ◌==◌}
 use Rattle.ir_model.specs.declared.Hop.{Hop}
-use Rattle.ir_model.specs.Scheme.{Scheme, next_hop, table_port}
+use Rattle.ir_model.specs.Plan.{Plan, next_hop, table_port}
 use Rattle.ir_core.specs.declared.event.Way.{Way}
 use Rattle.ir_core.specs.declared.event.Way.TheVariants.{Inbox, Link}
 use Rattle.ir_core.specs.declared.event.Action.{Action}
@@ -9,29 +9,29 @@ use Rattle.ir_core.specs.declared.event.Action.TheVariants.{Deliver, Send, Resta
 use Rattle.ir_core.specs.declared.event.Reply.{Reply}
 use Rattle.ir_core.specs.declared.event.Reply.TheVariants.{Injected, Learnt, Taken, Viewed, Sent, Settled, Changed, Installed}
 use Rattle.ir_core.specs.declared.board.Board.{Board}
-use Rattle.ir_core.specs.Journey.{Journey}
+use Rattle.ir_core.specs.Record.{Record}
 use Rattle.ir_core.specs.declared.packet.Fate.{Fate}
 use Rattle.ir_core.specs.declared.packet.Fate.TheVariants.{Delivered, Retired, Down, Full, Left}
 use Rattle.ir_core.specs.declared.event.Verdict.{Verdict}
 use Rattle.ir_core.specs.declared.event.Verdict.TheVariants.{CameByDown, BelowFloor, Arrives, LeavesByDown, NoRoom, GoesOn}
-use Rattle.ir_core.specs.Board.{is_up}
+use Rattle.ir_core.specs.Board.{is_link_up}
 
 -- The first line that holds. The full table is looked up by the destination.
 abbrev pub onward : Board → (Hop → Bool) → Option Hop → Verdict
 onward b is_full None = Arrives
 onward b is_full (Some h) =
-    if not (is_up b h.link) then LeavesByDown h.link else if is_full h then NoRoom h else GoesOn h
+    if not (is_link_up b h.link) then LeavesByDown h.link else if is_full h then NoRoom h else GoesOn h
 
-abbrev pub judged_here : Scheme → Board → (Hop → Bool) → ℕ → ℕ → ℕ → Verdict
+abbrev pub judged_here : Plan → Board → (Hop → Bool) → ℕ → ℕ → ℕ → Verdict
 judged_here t b is_full at stamp dest =
     if nat_lt stamp b.floor then BelowFloor
     else if at == dest then Arrives
     else onward b is_full (next_hop t at dest)
 
-abbrev pub judged : Scheme → Board → (Hop → Bool) → Way → ℕ → ℕ → ℕ → Verdict
+abbrev pub judged : Plan → Board → (Hop → Bool) → Way → ℕ → ℕ → ℕ → Verdict
 judged t b is_full Inbox at stamp dest = judged_here t b is_full at stamp dest
 judged t b is_full (Link l) at stamp dest =
-    if not (is_up b l) then CameByDown l else judged_here t b is_full at stamp dest
+    if not (is_link_up b l) then CameByDown l else judged_here t b is_full at stamp dest
 
 -- the fate of a packet after this verdict
 abbrev pub fate_of : Verdict → Fate
@@ -56,7 +56,7 @@ abbrev pub hops_after : Way → Verdict → ℕ → List ℕ → List ℕ
 hops_after way v u hops = if is_hop way v then hops ++ u ∷ [] else hops
 
 -- a packet's record after a node acted on it
-abbrev pub acted : ℕ → Way → Verdict → Journey → Journey
+abbrev pub acted : ℕ → Way → Verdict → Record → Record
 acted u way v r = record r { hops = hops_after way v u r.hops; fate = fate_of v }
 
 -- the hops with this node, unless the packet came from the inbox, where it is its last hop
@@ -65,7 +65,7 @@ hops_here Inbox u hops = hops
 hops_here (Link l) u hops = hops ++ u ∷ []
 
 -- A packet's record after a node restamped it with an epoch: a new segment begins at this node.
-abbrev pub restamped : ℕ → Way → ℕ → Journey → Journey
+abbrev pub restamped : ℕ → Way → ℕ → Record → Record
 restamped u way e r =
     record r {
       hops = hops_here way u r.hops;
@@ -83,12 +83,12 @@ restamp_by left current (GoesOn h) = None
 
 -- A packet's record after an Act that restamped it with this epoch, if it did. A restamped packet goes on as one from
 -- the inbox.
-abbrev pub ruled : ℕ → Way → Option ℕ → Verdict → Journey → Journey
+abbrev pub ruled : ℕ → Way → Option ℕ → Verdict → Record → Record
 ruled u way None v r = acted u way v r
 ruled u way (Some e) v r = acted u Inbox v (restamped u way e r)
 
 -- a packet's record after its injection
-abbrev pub fresh : ℕ → ℕ → ℕ → ℕ → ℕ → Journey
+abbrev pub fresh : ℕ → ℕ → ℕ → ℕ → ℕ → Record
 fresh id epoch source dest room =
     record { id = id; epoch = epoch; source = source; dest = dest; hops = source ∷ []; restamps = []; fate = Left; room = room }
 
@@ -100,7 +100,7 @@ pub data Entry : Type 0 where
   DidRead : (node version : ℕ) → Entry
   DidAct : (node id : ℕ) → (way : Way) → (restamp : Option ℕ) → (verdict : Verdict) → Entry
   DidChange : (board : Board) → Entry
-  DidInstall : (epoch : ℕ) → (scheme : Scheme) → (board : Board) → Entry
+  DidInstall : (epoch : ℕ) → (plan : Plan) → (board : Board) → Entry
 
 abbrev pub reply_after : ℕ → Verdict → Reply
 reply_after id (GoesOn h) = Sent id h.node
@@ -117,7 +117,7 @@ reply_of (DidTake node way id) = Taken id
 reply_of (DidRead node version) = Viewed
 reply_of (DidAct node id way restamp verdict) = reply_after id verdict
 reply_of (DidChange board) = Changed
-reply_of (DidInstall epoch scheme board) = Installed epoch
+reply_of (DidInstall epoch plan board) = Installed epoch
 
 -- What a node does by this verdict, before it is known whether there is room: it sends the packet over this port. A
 -- packet of a retired epoch is restamped, where it has restamps left.
@@ -130,7 +130,7 @@ action_of left port (NoRoom h) = Send port
 action_of left port (GoesOn h) = Send port
 
 -- what a node does with a packet, where each channel has room
-abbrev pub decided : Scheme → Board → Way → ℕ → ℕ → ℕ → ℕ → Action
+abbrev pub decided : Plan → Board → Way → ℕ → ℕ → ℕ → ℕ → Action
 decided s b way at stamp dest left =
     action_of left (unwrap_or (table_port s at dest) 0) (judged s b (λ _. false) way at stamp dest)
 

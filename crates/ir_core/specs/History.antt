@@ -1,9 +1,9 @@
 use Rattle.std.specs.Prelude.{◌≡◌, ℕ, ◌+◌, max, Bool, false, Option, Some, None, option_map, List, [], ◌∷◌, ◌++◌, drop, if◌then◌else◌, ◌==◌}
-use Rattle.ir_model.specs.Scheme.{Scheme}
+use Rattle.ir_model.specs.Plan.{Plan}
 use Rattle.ir_core.specs.declared.packet.Fate.TheVariants.{Left}
 use Rattle.ir_core.specs.declared.event.Way.TheVariants.{Inbox, Link}
 use Rattle.ir_core.specs.declared.board.Board.{Board}
-use Rattle.ir_core.specs.Journey.{Journey}
+use Rattle.ir_core.specs.Record.{Record}
 use Rattle.ir_core.specs.declared.packet.Held.{Held}
 use Rattle.ir_core.specs.declared.event.Verdict.{Verdict}
 use Rattle.ir_core.specs.declared.event.Verdict.TheVariants.{CameByDown, BelowFloor, Arrives, LeavesByDown, NoRoom, GoesOn}
@@ -21,8 +21,8 @@ boards (DidChange b ∷ log) = boards log ++ b ∷ []
 boards (DidInstall e t b ∷ log) = boards log ++ b ∷ []
 boards (_ ∷ log) = boards log
 
--- the schemes of the epochs: place k has epoch k + 1
-abbrev pub plans : Setting → List Entry → List Scheme
+-- the plans of the epochs: place k has epoch k + 1
+abbrev pub plans : Setting → List Entry → List Plan
 plans o [] = o.first ∷ []
 plans o (DidInstall e t b ∷ log) = plans o log ++ t ∷ []
 plans o (_ ∷ log) = plans o log
@@ -69,17 +69,17 @@ puts o c (DidAct u id way restamp verdict ∷ log) = if is_put_into o c verdict 
 puts o c (_ ∷ log) = puts o c log
 
 -- how many were taken from it
-abbrev pub takes : Setting → ℕ → List Entry → ℕ
-takes o c [] = 0
-takes o c (DidTake u way id ∷ log) = if into o u way == c then takes o c log + 1 else takes o c log
-takes o c (_ ∷ log) = takes o c log
+abbrev pub take_count : Setting → ℕ → List Entry → ℕ
+take_count o c [] = 0
+take_count o c (DidTake u way id ∷ log) = if into o u way == c then take_count o c log + 1 else take_count o c log
+take_count o c (_ ∷ log) = take_count o c log
 
 -- a channel holds its puts without as many at the front as it had takes
 abbrev pub waiting : Setting → ℕ → List Entry → List ℕ
-waiting o c log = drop (takes o c log) (puts o c log)
+waiting o c log = drop (take_count o c log) (puts o c log)
 
 -- the record of a packet: its injection, and then each Act on it
-abbrev pub packet : ℕ → List Entry → Option Journey
+abbrev pub packet : ℕ → List Entry → Option Record
 packet id [] = None
 packet id (DidInject i e s d m ∷ log) = if i == id then Some (fresh i e s d m) else packet id log
 packet id (DidAct u i way restamp verdict ∷ log) = if i == id then option_map (ruled u way restamp verdict) (packet id log) else packet id log
@@ -87,7 +87,7 @@ packet id (_ ∷ log) = packet id log
 
 -- the packet was injected, and no Act has ended its way
 abbrev pub IsUnderWay : ℕ → List Entry → Type 0
-IsUnderWay id log = (r : Journey) × (packet id log ≡ Some r) × (r.fate ≡ Left)
+IsUnderWay id log = (r : Record) × (packet id log ≡ Some r) × (r.fate ≡ Left)
 
 -- an entry that concerns a packet comes while the packet is under way
 abbrev pub ConcernsOneUnderWay : Entry → List Entry → Type 0

@@ -2,16 +2,16 @@
 use Rattle.std.specs.Prelude.{◌≤◌, map, slice_index_or, All}
 use Rattle.ir_core.specs.declared.world.World.TheInside.{Inside}
 use Rattle.ir_core.specs.Queue.{ids_of, room_of}
-use Rattle.ir_core.specs.Setting.{no_scheme}
-use Rattle.ir_core.specs.State.{State, IsState}
+use Rattle.ir_core.specs.Setting.{no_plan}
+use Rattle.ir_core.specs.World.{World, IsWorld}
 
 -- what contracts see of a world
-abbrev pub state_of : Inside → State
-state_of w = record {
+abbrev pub world_of : Inside → World
+world_of w = record {
   opening = record {
-    network = w.topology;
+    topology = w.topology;
     labels = w.labels;
-    first = slice_index_or w.plans.items 0 no_scheme;
+    first = slice_index_or w.plans.items 0 no_plan;
     capacity = w.capacity;
     max_packets = w.max_packets;
     restamps = w.restamps;
@@ -26,6 +26,6 @@ state_of w = record {
 }
 
 -- each queue keeps room for the capacity
-pub record IsKept (w : Inside) : Type 0 where
-  pub state : IsState (state_of w)
+pub record IsWorldKept (w : Inside) : Type 0 where
+  pub world : IsWorld (world_of w)
   pub room : All (λ q. w.capacity ≤ room_of q) w.channels.items

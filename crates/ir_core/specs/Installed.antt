@@ -1,7 +1,7 @@
 -- What the epochs of a list of steps are built from.
 use Rattle.std.specs.Prelude.{◌≡◌, ◌≢◌, Some, Result, Err, List, [], ◌∷◌, length, All}
-use Rattle.ir_model.specs.Network.{restrict}
-use Rattle.ir_model.specs.Scheme.{Scheme}
+use Rattle.ir_model.specs.Topology.{restrict}
+use Rattle.ir_model.specs.Plan.{Plan}
 use Rattle.ir_core.specs.declared.event.Event.{Event}
 use Rattle.ir_core.specs.declared.event.Event.TheVariants as event
 use Rattle.ir_core.specs.declared.event.Step.{Step}
@@ -16,7 +16,7 @@ use Rattle.ir_core.specs.Opened.{IsOpenedWith}
 use Rattle.ir_core.specs.Entry.{Entry}
 use Rattle.ir_core.specs.History as history
 use Rattle.ir_core.specs.Meaning.{IsMade, ComesTo, sight_after, with_entry}
-use Rattle.ir_core.specs.State.{State}
+use Rattle.ir_core.specs.World.{World}
 use Rattle.ir_core.specs.Shows.{Shows}
 use Rattle.ir_core.specs.Run.{IsPlayed}
 
@@ -41,20 +41,20 @@ abbrev pub IsControlRun : Setting → List Entry → List Step → List Entry �
 IsControlRun o log [] later = later ≡ log
 IsControlRun o log (s ∷ steps) later = (mid : List Entry) × IsControlled o log s mid × IsControlRun o mid steps later
 
--- an epoch's scheme is of this kind and root, over the links that are marked, labelled in the order of all; there is a mark
+-- an epoch's plan is of this kind and root, over the links that are marked, labelled in the order of all; there is a mark
 -- for each link
-abbrev pub IsBuiltFrom : Setting → Install → Scheme → Type 0
+abbrev pub IsBuiltFrom : Setting → Install → Plan → Type 0
 IsBuiltFrom o i s =
-    (length i.up.items ≡ links_of o) × IsMade i.labels i.kind i.root (restrict i.up.items o.network) (Some s) × (i.labels ≡ o.labels)
+    (length i.up.items ≡ links_of o) × IsMade i.labels i.kind i.root (restrict i.up.items o.topology) (Some s) × (i.labels ≡ o.labels)
 
-abbrev pub AreBuiltFrom : Setting → List Install → List Scheme → Type 0
+abbrev pub AreBuiltFrom : Setting → List Install → List Plan → Type 0
 AreBuiltFrom o [] [] = Unit {0}
-AreBuiltFrom o [] (s ∷ schemes) = ⊥
+AreBuiltFrom o [] (s ∷ plans) = ⊥
 AreBuiltFrom o (i ∷ installs) [] = ⊥
-AreBuiltFrom o (i ∷ installs) (s ∷ schemes) = IsBuiltFrom o i s × AreBuiltFrom o installs schemes
+AreBuiltFrom o (i ∷ installs) (s ∷ plans) = IsBuiltFrom o i s × AreBuiltFrom o installs plans
 
 -- The installs of a list of steps, by epoch: each epoch after the controller's steps is built from its install.
-pub record AreInstalls (opening : Opening) (steps : List Step) (installs : List Install) : Type 0 where
+pub record AreInstallsOf (opening : Opening) (steps : List Step) (installs : List Install) : Type 0 where
   pub setting : Setting
   pub opened : IsOpenedWith opening setting
   pub log : List Entry
@@ -66,25 +66,25 @@ abbrev pub NoneWantsMemory : List (Result Reply Refused) → Type 0
 NoneWantsMemory replies = All (λ reply. reply ≢ Err NoMemory) replies
 
 -- Where no step of a run wanted memory, its epochs were built from the installs of the same opening and steps.
-abbrev pub AreEpochsOf : Opening → List Step → List (Result Reply Refused) → State → List Install → Type 0
+abbrev pub AreEpochsOf : Opening → List Step → List (Result Reply Refused) → World → List Install → Type 0
 AreEpochsOf opening steps replies world installs =
     IsOpenedWith opening world.opening → IsPlayed world.opening steps replies world → NoneWantsMemory replies
-    → AreInstalls opening steps installs → AreBuiltFrom world.opening installs world.plans
+    → AreInstallsOf opening steps installs → AreBuiltFrom world.opening installs world.plans
 
 -- one step more, of a world and the installs so far
-abbrev pub ControlsOn : State → Step → List Install → State → List Install → Type 0
+abbrev pub ControlsOn : World → Step → List Install → World → List Install → Type 0
 ControlsOn s x installs new more =
     (new.opening ≡ s.opening) × ((log : List Entry) → Shows log s → AreBuiltFrom s.opening installs (history.plans s.opening log) →
     (later : List Entry) × IsControlled s.opening log x later × Shows later new × AreBuiltFrom s.opening more (history.plans s.opening later))
 
 -- an event that changes a board and installs nothing
-abbrev pub IsChange : Event → Type 0
-IsChange (event.Retire f) = Unit {0}
-IsChange (event.Down l) = Unit {0}
-IsChange (event.Up l) = Unit {0}
-IsChange (event.Install kind root) = ⊥
-IsChange (event.Inject source dest) = ⊥
-IsChange (event.Learn e) = ⊥
-IsChange (event.Take u way) = ⊥
-IsChange (event.Read u k) = ⊥
-IsChange (event.Act u) = ⊥
+abbrev pub IsPlainChange : Event → Type 0
+IsPlainChange (event.Retire f) = Unit {0}
+IsPlainChange (event.Down l) = Unit {0}
+IsPlainChange (event.Up l) = Unit {0}
+IsPlainChange (event.Install kind root) = ⊥
+IsPlainChange (event.Inject source dest) = ⊥
+IsPlainChange (event.Learn e) = ⊥
+IsPlainChange (event.Take u way) = ⊥
+IsPlainChange (event.Read u k) = ⊥
+IsPlainChange (event.Act u) = ⊥

@@ -6,8 +6,8 @@ use Rattle.ir_core.specs.declared.marks.TheConstants.{MARK_WORDS}
 use Rattle.ir_core.specs.Marks.{marks_in, with_rest_up, EndsDown}
 
 -- the links behind its words are up
-abbrev pub board_of : Inside → Board
-board_of k = record { version = k.version; current = k.epoch; floor = k.floor; up = marks_in (with_rest_up k.words.items) }
+abbrev pub kept_board : Inside → Board
+kept_board k = record { version = k.version; current = k.epoch; floor = k.floor; up = marks_in (with_rest_up k.words.items) }
 
 -- no word is kept that says nothing
 abbrev pub IsKeptBoard : Inside → Type 0

@@ -5,7 +5,7 @@ pub mod Board
 pub mod Kept
 pub mod Refusals
 pub mod Queue
-pub mod Journey
+pub mod Record
 pub mod Recorded
 pub mod Setting
 pub mod Entry
@@ -13,7 +13,7 @@ pub mod History
 pub mod Meaning
 pub mod Plain
 pub mod Sound
-pub mod State
+pub mod World
 pub mod Shows
 pub mod Drain
 pub mod Run

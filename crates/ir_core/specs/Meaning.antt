@@ -2,9 +2,9 @@
 use Rattle.std.specs.Prelude.{◌≡◌, ℕ, ◌+◌, ◌-◌, Bool, true, false, not, ◌||◌, nat_lt, nat_le, Option, Some, None, Result, Ok, Err, unwrap_or, is_some, List, ◌∷◌, length, take, slice_get, slice_index_or, if◌then◌else◌, ◌==◌}
 use Rattle.ir_model.specs.declared.Hop.{Hop}
 use Rattle.ir_model.specs.declared.Kind.{Kind}
-use Rattle.ir_model.specs.Network.{Network, restrict}
+use Rattle.ir_model.specs.Topology.{Topology, restrict}
 use Rattle.ir_model.specs.Walk.{IsDisconnected}
-use Rattle.ir_model.specs.Scheme.{Scheme, IsScheme}
+use Rattle.ir_model.specs.Plan.{Plan, IsPlan}
 use Rattle.ir_plan.specs.declared.tour.LabelOrder.{LabelOrder}
 use Rattle.ir_plan.specs.Starts.{IsLabelledBy}
 use Rattle.ir_core.specs.declared.event.Way.{Way}
@@ -17,7 +17,7 @@ use Rattle.ir_core.specs.declared.board.Board.{Board}
 use Rattle.ir_core.specs.declared.packet.Held.{Held}
 use Rattle.ir_core.specs.declared.event.Verdict.{Verdict}
 use Rattle.ir_core.specs.declared.event.Ruling.{Ruling}
-use Rattle.ir_core.specs.Journey.{Journey, hop_room, stamp_of}
+use Rattle.ir_core.specs.Record.{Record, hop_room, stamp_of}
 use Rattle.ir_core.specs.Board.{opening_board, marked, retired_below, installed}
 use Rattle.ir_core.specs.Refusals.{inject_refused, retire_refused, mark_refused, install_refused}
 use Rattle.ir_core.specs.Setting.{Setting, nodes_of, links_of, channel_of, into}
@@ -29,11 +29,11 @@ pub record Sight : Type 0 where
   pub injected : ℕ
   pub learnt : ℕ
   pub boards : List Board
-  pub plans : List Scheme
+  pub plans : List Plan
   pub view : ℕ → ℕ
   pub hand : ℕ → Option Held
   pub waiting : ℕ → List ℕ
-  pub packet : ℕ → Option Journey
+  pub packet : ℕ → Option Record
 
 -- what stands after a history
 abbrev pub sight_after : Setting → List Entry → Sight
@@ -57,11 +57,11 @@ newest s = newest_of s.boards
 abbrev pub board_at : Sight → ℕ → Board
 board_at s k = slice_index_or s.boards k opening_board
 
--- the scheme of an epoch
-abbrev pub plan_of : Setting → List Scheme → ℕ → Scheme
+-- the plan of an epoch
+abbrev pub plan_of : Setting → List Plan → ℕ → Plan
 plan_of o plans e = slice_index_or plans (e - 1) o.first
 
-abbrev pub record_at : Sight → ℕ → Journey
+abbrev pub record_at : Sight → ℕ → Record
 record_at s id = unwrap_or (s.packet id) (fresh id 0 0 0 0)
 
 abbrev pub is_full : Setting → Sight → ℕ → Bool
@@ -83,7 +83,7 @@ ruling_by o s u dest v (Some e) = record { restamp = Some e; verdict = verdict_o
 
 -- What u makes of a packet: it judges it by its present epoch, and restamps it with the current epoch of its board where
 -- that one is retired and the packet has had fewer restamps than the network allows.
-abbrev pub ruling_on : Setting → Sight → ℕ → Way → Journey → Ruling
+abbrev pub ruling_on : Setting → Sight → ℕ → Way → Record → Ruling
 ruling_on o s u way r =
     let v = verdict_on o s u way (stamp_of r) r.dest in
     ruling_by o s u r.dest v (restamp_by (o.restamps - length r.restamps) (board_at s (s.view u)).current v)
@@ -136,32 +136,32 @@ abbrev pub marks : Setting → Sight → ℕ → Bool → Result Entry Refused
 marks o s l up = unless (mark_refused (links_of o) (newest s) l up) (Ok (DidChange (marked (newest s) l up)))
 
 -- the network over the links that are up in the newest version
-abbrev pub network_up : Setting → Sight → Network
-network_up o s = restrict (take (links_of o) (newest s).up) o.network
+abbrev pub topology_up : Setting → Sight → Topology
+topology_up o s = restrict (take (links_of o) (newest s).up) o.topology
 
--- a scheme of this kind and root over the network, labelled in this order, or none where the network is disconnected
-abbrev pub IsMade : LabelOrder → Kind → ℕ → Network → Option Scheme → Type 0
+-- a plan of this kind and root over the network, labelled in this order, or none where the network is disconnected
+abbrev pub IsMade : LabelOrder → Kind → ℕ → Topology → Option Plan → Type 0
 IsMade labels kind root net None = IsDisconnected net
 IsMade labels kind root net (Some s) =
-    (s.kind ≡ kind) × (s.root ≡ root) × (s.network ≡ net) × IsScheme s × IsLabelledBy labels s
+    (s.kind ≡ kind) × (s.root ≡ root) × (s.topology ≡ net) × IsPlan s × IsLabelledBy labels s
 
--- the entry of an install, once the scheme is made
-abbrev pub installs_made : Sight → Option Scheme → Result Entry Refused
+-- the entry of an install, once the plan is made
+abbrev pub installs_made : Sight → Option Plan → Result Entry Refused
 installs_made s None = Err Disconnected
 installs_made s (Some t) = Ok (DidInstall (length s.plans + 1) t (installed (newest s) (length s.plans + 1)))
 
--- why an install is refused before any scheme is made
+-- why an install is refused before any plan is made
 abbrev pub install_refusal : Setting → Sight → ℕ → Option Refused
 install_refusal o s root = install_refused (nodes_of o) (length s.plans) (newest s) root
 
 abbrev pub InstallsUnless : Setting → Sight → Kind → ℕ → Result Entry Refused → Option Refused → Type 0
 InstallsUnless o s kind root wanted (Some e) = wanted ≡ Err e
-InstallsUnless o s kind root wanted None = (made : Option Scheme) × IsMade o.labels kind root (network_up o s) made × (wanted ≡ installs_made s made)
+InstallsUnless o s kind root wanted None = (made : Option Plan) × IsMade o.labels kind root (topology_up o s) made × (wanted ≡ installs_made s made)
 
 abbrev pub Installs : Setting → Sight → Kind → ℕ → Result Entry Refused → Type 0
 Installs o s kind root wanted = InstallsUnless o s kind root wanted (install_refusal o s root)
 
--- What an event comes to: its entry, or its first refusal. Of an install it says which scheme is made, and the scheme
+-- What an event comes to: its entry, or its first refusal. Of an install it says which plan is made, and the plan
 -- is any of that kind and root over the links that are up, labelled in the order of the setting.
 abbrev pub ComesTo : Setting → Sight → Event → Result Entry Refused → Type 0
 ComesTo o s (event.Inject source dest) wanted = wanted ≡ injects o s source dest

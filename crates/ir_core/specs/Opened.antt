@@ -1,8 +1,8 @@
 -- How a world is opened.
 use Rattle.std.specs.Prelude.{◌≡◌, ℕ, Bool, not, ◌&&◌, nat_le, length, Option, Some, None, ◌⊎◌, if◌then◌else◌, ◌==◌}
-use Rattle.ir_model.specs.Network.{Network, node_count}
+use Rattle.ir_model.specs.Topology.{Topology, node_count}
 use Rattle.ir_model.specs.Walk.{IsDisconnected}
-use Rattle.ir_model.specs.Scheme.{Scheme}
+use Rattle.ir_model.specs.Plan.{Plan}
 use Rattle.ir_core.specs.declared.TheConstants.{MAX_NODES, MAX_LINKS, MAX_CAPACITY, MAX_PACKETS, MAX_RESTAMPS}
 use Rattle.ir_core.specs.declared.opening.Opening.{Opening}
 use Rattle.ir_core.specs.declared.event.OpenError.{OpenError}
@@ -20,7 +20,7 @@ is_small o =
     nat_le (node_count o.topology) MAX_NODES && nat_le (length o.topology.links) MAX_LINKS && is_within o.capacity MAX_CAPACITY
     && is_within o.max_packets MAX_PACKETS && nat_le o.restamps MAX_RESTAMPS
 
--- why a world is not opened, before any scheme is made
+-- why a world is not opened, before any plan is made
 abbrev pub open_refused : Opening → Option OpenError
 open_refused o =
     if node_count o.topology == 0 then Some Empty
@@ -28,10 +28,10 @@ open_refused o =
     else if not (is_small o) then Some TooLarge
     else None
 
--- the setting of an opening, with this scheme of the first epoch
-abbrev pub setting_of : Opening → Scheme → Setting
+-- the setting of an opening, with this plan of the first epoch
+abbrev pub setting_of : Opening → Plan → Setting
 setting_of opening first = record {
-  network = opening.topology;
+  topology = opening.topology;
   labels = opening.labels;
   first = first;
   capacity = opening.capacity;
@@ -39,9 +39,9 @@ setting_of opening first = record {
   restamps = opening.restamps;
 }
 
--- A setting for this opening: its first epoch's scheme is of the opening's kind and root over all links.
+-- A setting for this opening: its first epoch's plan is of the opening's kind and root over all links.
 pub record IsOpenedWith (opening : Opening) (o : Setting) : Type 0 where
-  pub network : o.network ≡ opening.topology
+  pub topology : o.topology ≡ opening.topology
   pub labels : o.labels ≡ opening.labels
   pub capacity : o.capacity ≡ opening.capacity
   pub max_packets : o.max_packets ≡ opening.max_packets
@@ -49,7 +49,7 @@ pub record IsOpenedWith (opening : Opening) (o : Setting) : Type 0 where
   pub first : IsMade opening.labels opening.kind opening.root opening.topology (Some o.first)
 
 -- an opening is refused as this
-abbrev pub IsRefusedAs : Network → OpenError → Option OpenError → Type 0
+abbrev pub IsRefusedAs : Topology → OpenError → Option OpenError → Type 0
 IsRefusedAs net error (Some e) = error ≡ e
 IsRefusedAs net error None = ((error ≡ Disconnected) × IsDisconnected net) ⊎ (error ≡ NoMemory)
 

@@ -4,7 +4,7 @@ use Rattle.ir_core.specs.declared.event.Way.{Way}
 use Rattle.ir_core.specs.declared.event.Refused.{Refused}
 use Rattle.ir_core.specs.declared.event.Refused.TheVariants.{NoNode, HandEmpty}
 use Rattle.ir_core.specs.declared.packet.Held.{Held}
-use Rattle.ir_core.specs.Journey.{Journey}
+use Rattle.ir_core.specs.Record.{Record}
 use Rattle.ir_core.specs.Setting.{Setting, nodes_of}
 use Rattle.ir_core.specs.Entry.{Entry, DidAct}
 use Rattle.ir_core.specs.Meaning.{Sight, sight_after, record_at, verdict_on, ruling_on, acts}
@@ -16,7 +16,7 @@ HasNoRestamp (DidAct u id way restamp verdict ∷ log) = (restamp ≡ None) × H
 HasNoRestamp (_ ∷ log) = HasNoRestamp log
 
 -- the ruling on a packet of one epoch is the verdict by that epoch
-abbrev pub IsPlainVerdict : Setting → Sight → ℕ → Way → Journey → Type 0
+abbrev pub IsPlainVerdict : Setting → Sight → ℕ → Way → Record → Type 0
 IsPlainVerdict o s u way r =
     o.restamps ≡ 0 → r.restamps ≡ [] → ruling_on o s u way r ≡ record { restamp = None; verdict = verdict_on o s u way r.epoch r.dest }
 

@@ -4,16 +4,16 @@ use Rattle.ir_core.specs.declared.TheConstants.{MAX_RESTAMPS}
 use Rattle.ir_core.specs.declared.event.Way.{Way}
 use Rattle.ir_core.specs.declared.event.Way.TheVariants.{Inbox, Link}
 use Rattle.ir_core.specs.declared.packet.Record.TheInside.{Inside}
-use Rattle.ir_core.specs.Journey.{Journey}
+use Rattle.ir_core.specs.Record.{Record}
 
-abbrev pub journey_of : Inside → Journey
-journey_of r = record { id = r.id; epoch = r.epoch; source = r.source; dest = r.dest; hops = r.hops.items; restamps = r.restamps.items; fate = r.fate; room = r.room }
+abbrev pub record_of : Inside → Record
+record_of r = record { id = r.id; epoch = r.epoch; source = r.source; dest = r.dest; hops = r.hops.items; restamps = r.restamps.items; fate = r.fate; room = r.room }
 
 -- there is room for the hops that it says, and for all restamps that a packet can have
 abbrev pub HasRoom : Inside → Type 0
 HasRoom r = (r.room ≤ vec_capacity r.hops) × (MAX_RESTAMPS ≤ vec_capacity r.restamps)
 
 -- a packet that was taken by a link has room for the node as a hop
-abbrev pub HasRoomHere : Way → Journey → Type 0
+abbrev pub HasRoomHere : Way → Record → Type 0
 HasRoomHere Inbox r = Unit {0}
 HasRoomHere (Link l) r = length r.hops < r.room

@@ -4,7 +4,7 @@ use Rattle.ir_core.specs.declared.TheConstants.{MAX_EPOCHS, MAX_CHANGES}
 use Rattle.ir_core.specs.declared.board.Board.{Board}
 use Rattle.ir_core.specs.declared.event.Refused.{Refused}
 use Rattle.ir_core.specs.declared.event.Refused.TheVariants.{NoNode, NoLink, NoEpoch, Same, EpochsFull, TooManyPackets, TooManyChanges}
-use Rattle.ir_core.specs.Board.{is_up}
+use Rattle.ir_core.specs.Board.{is_link_up}
 
 -- a packet more, of so many nodes, of at most so many packets, so many of which there are
 abbrev pub inject_refused : (nodes most count source dest : ℕ) → Option Refused
@@ -28,7 +28,7 @@ retire_refused b f =
 abbrev pub mark_refused : (links : ℕ) → Board → (link : ℕ) → Bool → Option Refused
 mark_refused links b l up =
     if nat_le links l then Some NoLink
-    else if (if up then is_up b l else not (is_up b l)) then Some Same
+    else if (if up then is_link_up b l else not (is_link_up b l)) then Some Same
     else change_refused b
 
 -- an install over so many nodes, where so many epochs are used up, before any plan is made

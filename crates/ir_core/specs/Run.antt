@@ -8,7 +8,7 @@ use Rattle.ir_core.specs.declared.event.Refused.{Refused}
 use Rattle.ir_core.specs.Setting.{Setting}
 use Rattle.ir_core.specs.Entry.{Entry}
 use Rattle.ir_core.specs.History as history
-use Rattle.ir_core.specs.State.{State}
+use Rattle.ir_core.specs.World.{World}
 use Rattle.ir_core.specs.Shows.{Shows, IsAnswered}
 use Rattle.ir_core.specs.Plain.{HasNoRestamp}
 use Rattle.ir_core.specs.Sound.{AllSound, AllOfOneEpoch}
@@ -20,7 +20,7 @@ IsStepAnswered o log (step.Event e) reply later = IsAnswered o log e reply later
 IsStepAnswered o log step.Drain reply later = (reply ≡ Ok Changed) × IsDrained o log later
 
 -- the later world is that of the history after the step and its reply
-abbrev pub StepsAfter : List Entry → Step → Result Reply Refused → Setting → State → Type 0
+abbrev pub StepsAfter : List Entry → Step → Result Reply Refused → Setting → World → Type 0
 StepsAfter log s reply o new = (later : List Entry) × IsStepAnswered o log s reply later × Shows later new
 
 -- A run goes from one history to another: each reply is that to its step after the history so far.
@@ -34,7 +34,7 @@ IsRun o log (s ∷ steps) (reply ∷ replies) later =
 -- A world was played to from the empty history: by these steps with these replies. It is the world of that history,
 -- in which every record is sound, and no packet is concerned after its end. Where no restamp is allowed, no Act has one,
 -- and every record is of one epoch.
-pub record IsPlayed (o : Setting) (steps : List Step) (replies : List (Result Reply Refused)) (s : State) : Type 0 where
+pub record IsPlayed (o : Setting) (steps : List Step) (replies : List (Result Reply Refused)) (s : World) : Type 0 where
   pub log : List Entry
   pub run : IsRun o [] steps replies log
   pub shows : Shows log s

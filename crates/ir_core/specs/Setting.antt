@@ -3,33 +3,33 @@ use Rattle.std.specs.Prelude.{◌≡◌, ℕ, ◌+◌, ◌*◌, ◌<◌, ◌≤�
 use Rattle.ir_model.specs.declared.Link.{Link as Edge}
 use Rattle.ir_model.specs.declared.Hop.{Hop}
 use Rattle.ir_model.specs.declared.Kind.TheVariants.{Tree}
-use Rattle.ir_model.specs.Network.{Network, node_count, port_at, IsNetwork}
-use Rattle.ir_model.specs.Scheme.{Scheme, IsScheme}
+use Rattle.ir_model.specs.Topology.{Topology, node_count, port_at, IsTopology}
+use Rattle.ir_model.specs.Plan.{Plan, IsPlan}
 use Rattle.ir_plan.specs.declared.tour.LabelOrder.{LabelOrder}
 use Rattle.ir_core.specs.declared.TheConstants.{MAX_NODES, MAX_LINKS, MAX_CAPACITY, MAX_PACKETS, MAX_RESTAMPS}
 use Rattle.ir_core.specs.declared.event.Way.{Way}
 use Rattle.ir_core.specs.declared.event.Way.TheVariants.{Inbox, Link}
 
--- A network, the order in which its schemes are labelled, the scheme of its first epoch, the capacity of each channel, the
+-- A network, the order in which its plans are labelled, the plan of its first epoch, the capacity of each channel, the
 -- most packets, and the most restamps of a packet.
 pub record Setting : Type 0 where
-  pub network : Network
+  pub topology : Topology
   pub labels : LabelOrder
-  pub first : Scheme
+  pub first : Plan
   pub capacity : ℕ
   pub max_packets : ℕ
   pub restamps : ℕ
 
--- the scheme that stands where there is none
-abbrev pub no_scheme : Scheme
-no_scheme = record { kind = Tree; root = 0; network = record { links = []; ports = [] }; order = []; labels = []; table = []; rows = [] }
+-- the plan that stands where there is none
+abbrev pub no_plan : Plan
+no_plan = record { kind = Tree; root = 0; topology = record { links = []; ports = [] }; order = []; labels = []; table = []; rows = [] }
 
 -- how many nodes and links there are
 abbrev pub nodes_of : Setting → ℕ
-nodes_of o = node_count o.network
+nodes_of o = node_count o.topology
 
 abbrev pub links_of : Setting → ℕ
-links_of o = length o.network.links
+links_of o = length o.topology.links
 
 -- the channel of a link into one of its ends, of the two that begin at this number
 abbrev pub channel_into : ℕ → ℕ → Option Edge → Option ℕ
@@ -39,22 +39,22 @@ channel_into first u (Some link) =
 
 -- The number of the channel that a node takes from by this way, if there is one: the inboxes by node come first, then
 -- for each link the channel into its first end and the channel into its second.
-abbrev pub channel_in : Network → ℕ → Way → Option ℕ
+abbrev pub channel_in : Topology → ℕ → Way → Option ℕ
 channel_in net u Inbox = Some u
 channel_in net u (Link l) = channel_into (node_count net + 2 * l) u (slice_get net.links l)
 
 abbrev pub channel_of : Setting → ℕ → Way → Option ℕ
-channel_of o u way = channel_in o.network u way
+channel_of o u way = channel_in o.topology u way
 
 abbrev pub into : Setting → ℕ → Way → ℕ
 into o u way = unwrap_or (channel_of o u way) 0
 
--- a scheme over the nodes and numbered links of the network, and some of its ports
-pub record IsPlanFor (o : Setting) (s : Scheme) : Type 0 where
-  pub scheme : IsScheme s
-  pub nodes : node_count s.network ≡ nodes_of o
-  pub links : s.network.links ≡ o.network.links
-  pub ports : (u p : ℕ) (hop : Hop) → port_at s.network u p ≡ Some hop → (q : ℕ) × (port_at o.network u q ≡ Some hop)
+-- a plan over the nodes and numbered links of the network, and some of its ports
+pub record IsPlanFor (o : Setting) (s : Plan) : Type 0 where
+  pub plan : IsPlan s
+  pub nodes : node_count s.topology ≡ nodes_of o
+  pub links : s.topology.links ≡ o.topology.links
+  pub ports : (u p : ℕ) (hop : Hop) → port_at s.topology u p ≡ Some hop → (q : ℕ) × (port_at o.topology u q ≡ Some hop)
 
 -- What is true of every world's setting.
 pub record IsSetting (o : Setting) : Type 0 where
@@ -66,5 +66,5 @@ pub record IsSetting (o : Setting) : Type 0 where
   pub some_packets : 0 < o.max_packets
   pub max_packets : o.max_packets ≤ MAX_PACKETS
   pub restamps : o.restamps ≤ MAX_RESTAMPS
-  pub network : IsNetwork o.network
+  pub topology : IsTopology o.topology
   pub first : IsPlanFor o o.first

@@ -9,10 +9,10 @@ use Rattle.ir_core.specs.Setting.{Setting}
 use Rattle.ir_core.specs.Entry.{Entry, reply_of}
 use Rattle.ir_core.specs.Meaning.{Sight, sight_after, ComesTo, with_entry, injects, retires, marks, install_refusal}
 use Rattle.ir_core.specs.History as history
-use Rattle.ir_core.specs.State.{State}
+use Rattle.ir_core.specs.World.{World}
 
 -- The world is that of a history.
-pub record Shows (log : List Entry) (s : State) : Type 0 where
+pub record Shows (log : List Entry) (s : World) : Type 0 where
   pub injected : length s.records ≡ history.injected log
   pub learnt : s.learnt ≡ history.learnt log
   pub boards : s.boards ≡ history.boards log
@@ -20,7 +20,7 @@ pub record Shows (log : List Entry) (s : State) : Type 0 where
   pub view : (u : ℕ) → slice_index s.views u ≡ history.view u log
   pub hand : (u : ℕ) → slice_index_or s.hands u None ≡ history.hand u log
   pub waiting : (c : ℕ) → slice_index_or s.channels c [] ≡ history.waiting s.opening c log
-  pub no_more_takes : (c : ℕ) → history.takes s.opening c log ≤ length (history.puts s.opening c log)
+  pub no_more_takes : (c : ℕ) → history.take_count s.opening c log ≤ length (history.puts s.opening c log)
   pub packet : (id : ℕ) → slice_get s.records id ≡ history.packet id log
   pub ends_once : history.NothingAfterTheEnd log
 
@@ -54,5 +54,5 @@ IsAnswered o log e reply later =
     ⊎ (MayWantMemory o (sight_after o log) e × (reply ≡ Err NoMemory) × (later ≡ log))
 
 -- The later world is that of the history after the event and its reply.
-abbrev pub AnswersAfter : List Entry → Event → Result Reply Refused → Setting → State → Type 0
+abbrev pub AnswersAfter : List Entry → Event → Result Reply Refused → Setting → World → Type 0
 AnswersAfter log e reply o new = (later : List Entry) × IsAnswered o log e reply later × Shows later new

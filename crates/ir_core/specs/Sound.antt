@@ -8,8 +8,8 @@ use Rattle.ir_model.specs.declared.Kind.{Kind}
 use Rattle.ir_model.specs.declared.Kind.TheVariants.{Tree, Shortest, Compact}
 use Rattle.ir_model.specs.Walk.{walk_weight, IsDistance}
 use Rattle.ir_model.specs.Table.{IsPrescribedWalk}
-use Rattle.ir_model.specs.Scheme.{Scheme, next_hop, table_port, IsScheme}
-use Rattle.ir_core.specs.Journey.{Journey, segments, joined}
+use Rattle.ir_model.specs.Plan.{Plan, next_hop, table_port, IsPlan}
+use Rattle.ir_core.specs.Record.{Record, segments, joined}
 use Rattle.ir_core.specs.declared.packet.Restamp.{Restamp}
 use Rattle.ir_core.specs.declared.packet.Fate.{Fate}
 use Rattle.ir_core.specs.declared.packet.Fate.TheVariants.{Delivered, Retired, Down, Full, Left}
@@ -22,52 +22,52 @@ last_of [] = 0
 last_of (x ∷ []) = x
 last_of (x ∷ y ∷ rest) = last_of (y ∷ rest)
 
--- the scheme's table sends the packet on from its last hop, along this link to this node
-abbrev pub LeadsOn : Scheme → Journey → ℕ → ℕ → Type 0
+-- the plan's table sends the packet on from its last hop, along this link to this node
+abbrev pub LeadsOn : Plan → Record → ℕ → ℕ → Type 0
 LeadsOn t r link node = (h : Hop) × (next_hop t (last_of r.hops) r.dest ≡ Some h) × (h.link ≡ link) × (h.node ≡ node)
 
 -- the walk goes on after the hops, along this link to this node
-abbrev pub GoesOnAlong : Scheme → Journey → List ℕ → ℕ → ℕ → Type 0
+abbrev pub GoesOnAlong : Plan → Record → List ℕ → ℕ → ℕ → Type 0
 GoesOnAlong t r walk link node = IsPrefix (r.hops ++ node ∷ []) walk × LeadsOn t r link node
 
 -- with a kind of shortest ways, the hops weigh the distance from the source to the destination
-abbrev pub WeighsTheDistance : Kind → Scheme → Journey → Type 0
-WeighsTheDistance Shortest t r = IsDistance t.network r.source r.dest (walk_weight t.network r.hops)
-WeighsTheDistance Compact t r = IsDistance t.network r.source r.dest (walk_weight t.network r.hops)
+abbrev pub WeighsTheDistance : Kind → Plan → Record → Type 0
+WeighsTheDistance Shortest t r = IsDistance t.topology r.source r.dest (walk_weight t.topology r.hops)
+WeighsTheDistance Compact t r = IsDistance t.topology r.source r.dest (walk_weight t.topology r.hops)
 WeighsTheDistance Tree t r = Unit {0}
 
 -- what a fate says of the hops and of the prescribed walk
-abbrev pub FateFits : Scheme → Journey → List ℕ → Fate → Type 0
+abbrev pub FateFits : Plan → Record → List ℕ → Fate → Type 0
 FateFits t r walk Delivered = (r.hops ≡ walk) × WeighsTheDistance t.kind t r
 FateFits t r walk Retired = Unit {0}
 FateFits t r walk (Down l) = (node : ℕ) × GoesOnAlong t r walk l node
 FateFits t r walk (Full l node) = GoesOnAlong t r walk l node
 FateFits t r walk Left = Unit {0}
 
--- A journey of one epoch is sound by the scheme of that epoch: its hops are a prefix of the prescribed walk, not empty,
+-- A record of one epoch is sound by the plan of that epoch: its hops are a prefix of the prescribed walk, not empty,
 -- and its fate fits.
-pub record IsSound (t : Scheme) (r : Journey) : Type 0 where
-  pub scheme : IsScheme t
+pub record IsSound (t : Plan) (r : Record) : Type 0 where
+  pub plan : IsPlan t
   pub walk : List ℕ
-  pub prescribed : IsPrescribedWalk t.network (table_port t) r.source r.dest walk
+  pub prescribed : IsPrescribedWalk t.topology (table_port t) r.source r.dest walk
   pub not_empty : 0 < length r.hops
   pub follows : IsPrefix r.hops walk
   pub fate : FateFits t r walk r.fate
 
--- A journey of one epoch is sound by a plan of that epoch.
-pub record IsSoundBy (IsPlan : ℕ → Scheme → Type 0) (r : Journey) : Type 0 where
-  pub plan : Scheme
-  pub of_epoch : IsPlan r.epoch plan
+-- A record of one epoch is sound by a plan of that epoch.
+pub record IsSoundBy (IsPlanOf : ℕ → Plan → Type 0) (r : Record) : Type 0 where
+  pub plan : Plan
+  pub of_epoch : IsPlanOf r.epoch plan
   pub sound : IsSound plan r
 
 -- the epochs rise from segment to segment; the latest segment stands first
-abbrev pub AreRising : List Journey → Type 0
+abbrev pub AreRising : List Record → Type 0
 AreRising [] = Unit {0}
 AreRising (g ∷ []) = Unit {0}
 AreRising (g ∷ h ∷ rest) = (h.epoch < g.epoch) × AreRising (h ∷ rest)
 
 -- each segment begins where the one before it ended
-abbrev pub AreLinked : List Journey → Type 0
+abbrev pub AreLinked : List Record → Type 0
 AreLinked [] = Unit {0}
 AreLinked (g ∷ []) = Unit {0}
 AreLinked (g ∷ h ∷ rest) = (g.source ≡ last_of h.hops) × AreLinked (h ∷ rest)
@@ -80,22 +80,22 @@ ArePlaces n (s ∷ older) = (s.from < n) × ArePlaces s.from older
 -- A record is sound by the plans of epochs: it has at most so many restamps, each at a place of its own in the hops. Its
 -- hops are its segments joined end to end, each of which begins where the one before it ended; their epochs rise, and
 -- each segment is sound by the plan of its epoch, the last of them with the record's fate.
-pub record IsSoundJourney (most : ℕ) (IsPlan : ℕ → Scheme → Type 0) (r : Journey) : Type 0 where
+pub record IsSoundRecord (most : ℕ) (IsPlanOf : ℕ → Plan → Type 0) (r : Record) : Type 0 where
   pub few : length r.restamps ≤ most
   pub places : ArePlaces (length r.hops) (reverse r.restamps)
   pub joined : joined (segments r) ≡ r.hops
   pub linked : AreLinked (segments r)
   pub rising : AreRising (segments r)
-  pub each : AllByRecursion (IsSoundBy IsPlan) (segments r)
+  pub each : AllByRecursion (IsSoundBy IsPlanOf) (segments r)
 
 -- the plan of an epoch, where these are the plans of the epochs from 1 on
-abbrev pub IsPlanAmong : List Scheme → ℕ → Scheme → Type 0
+abbrev pub IsPlanAmong : List Plan → ℕ → Plan → Type 0
 IsPlanAmong plans epoch plan = (0 < epoch) × (slice_get plans (epoch - 1) ≡ Some plan)
 
 -- Every record of a history is sound by the plans of its epochs.
 abbrev pub AllSound : Setting → List Entry → Type 0
-AllSound o log = (id : ℕ) (r : Journey) → history.packet id log ≡ Some r → IsSoundJourney o.restamps (IsPlanAmong (history.plans o log)) r
+AllSound o log = (id : ℕ) (r : Record) → history.packet id log ≡ Some r → IsSoundRecord o.restamps (IsPlanAmong (history.plans o log)) r
 
--- Where a network allows no restamp, every record of a history is a journey of one epoch, and sound as one.
+-- Where a network allows no restamp, every record of a history is a record of one epoch, and sound as one.
 abbrev pub AllOfOneEpoch : Setting → List Entry → Type 0
-AllOfOneEpoch o log = (id : ℕ) (r : Journey) → history.packet id log ≡ Some r → (r.restamps ≡ []) × IsSoundBy (IsPlanAmong (history.plans o log)) r
+AllOfOneEpoch o log = (id : ℕ) (r : Record) → history.packet id log ≡ Some r → (r.restamps ≡ []) × IsSoundBy (IsPlanAmong (history.plans o log)) r

@@ -17,7 +17,7 @@ pub struct Board {
 
 impl Board {
     ghost use Rattle.ir_core.specs.declared.TheConstants.{MAX_LINKS, MAX_CHANGES};
-    ghost use Rattle.ir_core.specs.Board.{opening_board, is_up, marked, retired_below, installed};
+    ghost use Rattle.ir_core.specs.Board.{opening_board, is_link_up, marked, retired_below, installed};
     ghost use Rattle.ir_core.specs.Refusals.{change_refused, retire_refused, mark_refused, install_refused};
 
     /// The board before any change: version 0, epoch 1 current and live, all links up.
@@ -55,7 +55,7 @@ impl Board {
 
     /// Whether a link is up; true where the number is no link.
     pub fn is_up(&self, link: u16) -> bool
-        ensures { result ≡ is_up self.now link }
+        ensures { result ≡ is_link_up self.now link }
     {
         self.up.is_up(link as usize)
     }
@@ -169,9 +169,9 @@ impl Model for KeptBoard {
 
     ghost Value = { Board };
 
-    ghost use Rattle.ir_core.specs.Kept.{board_of, IsKeptBoard};
+    ghost use Rattle.ir_core.specs.Kept.{kept_board, IsKeptBoard};
 
-    ghost view = { board_of };
+    ghost view = { kept_board };
 
     ghost invariant = { IsKeptBoard };
 }

@@ -7,7 +7,7 @@ ghost use Rattle.ir_core.specs.Meaning.{IsMade};
 ghost use Rattle.ir_core.specs.History.{plans};
 ghost use Rattle.ir_core.specs.Shows.{Shows};
 ghost use Rattle.ir_core.specs.Opened.{IsOpenedWith, IsOpenRefusal, open_refused};
-ghost use Rattle.ir_core.specs.Installed.{AreInstalls, AreBuiltFrom, ControlsOn, IsChange};
+ghost use Rattle.ir_core.specs.Installed.{AreInstallsOf, AreBuiltFrom, ControlsOn, IsPlainChange};
 
 use crate::event::{Event, OpenError, Refused, Reply, Step};
 use crate::opening::{Opening, open_refusal};
@@ -36,7 +36,7 @@ pub fn installs(
     opening: &Opening,
     steps: &[Step],
 ) -> Result<Vec<Install>, OpenError>
-    ensures built { IfOk result (λ v. AreInstalls opening.now steps.now v.items) }
+    ensures built { IfOk result (λ v. AreInstallsOf opening.now steps.now v.items) }
     ensures accepted { IfOk result (λ _. open_refused opening.now ≡ None) }
     ensures refused { IfErr result (λ e. IsOpenRefusal opening.now e) }
 {
@@ -75,7 +75,7 @@ fn first_install(
 ) -> Result<Vec<Install>, OpenError>
     requires history { Shows [] world.now }
     requires made { IsMade world.now.opening.labels kind root
-        world.now.opening.network (Some world.now.opening.first) }
+        world.now.opening.topology (Some world.now.opening.first) }
     ensures built { IfOk result (λ v. AreBuiltFrom world.now.opening v.items (plans world.now.opening [])) }
     ensures refused { IfErr result (λ e. e ≡ OpenError.NoMemory) }
 {
@@ -139,7 +139,7 @@ fn control_event(
 
 /// A change of the board that installs nothing.
 fn change(rt: &(impl Threads + Sync), world: &mut World, event: Event) -> Result<(), OpenError>
-    requires { IsChange event }
+    requires { IsPlainChange event }
     ensures { IfOk result (λ _. (installs : List Install)
         → ControlsOn world.old (step.Event event) installs world.new installs) }
 {

@@ -1,5 +1,5 @@
 ghost use Rattle.std.specs.Prelude.{◌≡◌, ℕ, ◌<◌, true, false, ◌||◌, List, Some};
-ghost use Rattle.ir_model.specs.Network.{ports_of};
+ghost use Rattle.ir_model.specs.Topology.{ports_of};
 ghost use Rattle.ir_core.specs.Setting.{nodes_of, channel_of};
 ghost use Rattle.ir_core.specs.Entry.{Entry};
 ghost use Rattle.ir_core.specs.Shows.{Shows};
@@ -62,7 +62,7 @@ impl World {
         requires node_in { node < nodes_of self.old.opening }
         requires hand { IsHandEmpty self.old node }
         requires view { IsUpToDate self.old node }
-        ensures moves { Moves (after_ports self.old.opening node (ports_of self.old.opening.network node)) result
+        ensures moves { Moves (after_ports self.old.opening node (ports_of self.old.opening.topology node)) result
             self.old self.new }
         ensures idle { result ≡ false → ArePortsEmpty self.new node }
     {

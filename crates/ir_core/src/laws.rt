@@ -1,11 +1,11 @@
 ghost use Rattle.std.specs.Prelude.{◌≡◌, ◌≢◌, ℕ, List, Result, None};
 ghost use Rattle.ir_core.specs.declared.event.Way.{Way};
-ghost use Rattle.ir_core.specs.Journey.{Journey};
+ghost use Rattle.ir_core.specs.Record.{Record};
 ghost use Rattle.ir_core.specs.Setting.{Setting};
 ghost use Rattle.ir_core.specs.declared.event.Action.TheVariants.{Restamp};
 ghost use Rattle.ir_core.specs.declared.event.Verdict.{Verdict};
 ghost use Rattle.ir_core.specs.declared.board.Board.{Board};
-ghost use Rattle.ir_model.specs.Scheme.{Scheme};
+ghost use Rattle.ir_model.specs.Plan.{Plan};
 ghost use Rattle.ir_core.specs.Entry.{Entry, ruled, acted, decided};
 ghost use Rattle.ir_core.specs.Meaning.{Sight};
 ghost use Rattle.ir_core.specs.Plain.{IsPlainVerdict, IsPlainAct};
@@ -14,23 +14,23 @@ ghost use Rattle.ir_core.specs.declared.built.Install.{Install};
 ghost use Rattle.ir_core.specs.declared.event.Refused.{Refused};
 ghost use Rattle.ir_core.specs.declared.event.Reply.{Reply};
 ghost use Rattle.ir_core.specs.declared.event.Step.{Step};
-ghost use Rattle.ir_core.specs.State.{State};
+ghost use Rattle.ir_core.specs.World.{World};
 ghost use Rattle.ir_core.specs.Installed.{AreEpochsOf};
 
 /// A law of the definitions: a network that allows no restamp reads as one that knows of none. What a node makes of a packet
 /// of one epoch is the verdict by that epoch; so an Act after a history without restamps comes to that verdict, with no
 /// restamp, and leaves in the record what the verdict leaves. With no restamp left, no packet is told to be restamped.
 pub fn without_restamps()
-    ensures verdict { (o : Setting) (s : Sight) (u : ℕ) (way : Way) (r : Journey) → IsPlainVerdict o s u way r }
+    ensures verdict { (o : Setting) (s : Sight) (u : ℕ) (way : Way) (r : Record) → IsPlainVerdict o s u way r }
     ensures act { (o : Setting) (log : List Entry) (u : ℕ) → IsPlainAct o log u }
-    ensures journey { (u : ℕ) (way : Way) (v : Verdict) (r : Journey) → ruled u way None v r ≡ acted u way v r }
-    ensures action { (t : Scheme) (b : Board) (way : Way) (at stamp dest : ℕ)
+    ensures journey { (u : ℕ) (way : Way) (v : Verdict) (r : Record) → ruled u way None v r ≡ acted u way v r }
+    ensures action { (t : Plan) (b : Board) (way : Way) (at stamp dest : ℕ)
         → decided t b way at stamp dest 0 ≢ Restamp }
 {}
 
 /// A law of runs: where no step of a run wanted memory, its epochs were built from just what `installs` gives for the same
 /// opening and the same steps. So boards and plans do not depend on the steps that `installs` passes over.
 pub fn epochs_of_installs()
-    ensures { (opening : Opening) (steps : List Step) (replies : List (Result Reply Refused)) (world : State)
+    ensures { (opening : Opening) (steps : List Step) (replies : List (Result Reply Refused)) (world : World)
         (installs : List Install) → AreEpochsOf opening steps replies world installs }
 {}

@@ -1,4 +1,4 @@
-ghost use Rattle.ir_core.specs.Journey.{hop_room};
+ghost use Rattle.ir_core.specs.Record.{hop_room};
 ghost use Rattle.std.specs.Prelude.{◌≡◌, ℕ, ◌<◌, [], ◌∷◌, ◌++◌, length, Some, IfOk};
 
 use crate::MAX_RESTAMPS;
@@ -50,13 +50,13 @@ pub struct Record {
 }
 
 impl Model for Record {
-    ghost use Rattle.ir_core.specs.Journey.{Journey};
+    ghost use Rattle.ir_core.specs.Record.{Record};
 
-    ghost Value = { Journey };
+    ghost Value = { Record };
 
-    ghost use Rattle.ir_core.specs.Recorded.{journey_of, HasRoom};
+    ghost use Rattle.ir_core.specs.Recorded.{record_of, HasRoom};
 
-    ghost view = { journey_of };
+    ghost view = { record_of };
 
     ghost invariant = { HasRoom };
 }
@@ -70,7 +70,7 @@ pub struct Held {
 
 impl Record {
     ghost use Rattle.ir_core.specs.declared.TheConstants.{MAX_RESTAMPS};
-    ghost use Rattle.ir_core.specs.Journey.{stamp_of};
+    ghost use Rattle.ir_core.specs.Record.{stamp_of};
     ghost use Rattle.ir_core.specs.Entry.{restamped, ruled, fresh};
     ghost use Rattle.ir_core.specs.Recorded.{HasRoomHere};
 

@@ -1,6 +1,6 @@
 //! Plans of a network within the limits.
 ghost use Rattle.std.specs.Prelude.{◌≡◌, ◌<◌, ◌≤◌, length, IfOk, take, Some, None, Err};
-ghost use Rattle.ir_model.specs.Network.{node_count, restrict};
+ghost use Rattle.ir_model.specs.Topology.{node_count, restrict};
 ghost use Rattle.ir_core.specs.declared.TheConstants.{MAX_LINKS};
 ghost use Rattle.ir_core.specs.Meaning.{IsMade};
 

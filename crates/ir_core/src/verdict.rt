@@ -1,6 +1,6 @@
 ghost use Rattle.std.specs.Prelude.{◌≡◌, ◌<◌, false};
-ghost use Rattle.ir_model.specs.Network.{node_count};
-ghost use Rattle.ir_model.specs.Scheme.{node_in};
+ghost use Rattle.ir_model.specs.Topology.{node_count};
+ghost use Rattle.ir_model.specs.Plan.{node_in};
 ghost use Rattle.ir_core.specs.Entry.{judged, decided, way_of};
 
 use crate::board::Board;
@@ -9,8 +9,8 @@ use ir_plan::Plan;
 
 /// What comes of a packet, where each channel has room. Takes O(log k), for k starts of the row.
 pub fn judge(plan: &Plan, board: &Board, way: Way, at: u16, stamp: u32, address: u16) -> Verdict
-    requires at_in { at < node_count plan.now.network }
-    requires address_in { address < node_count plan.now.network }
+    requires at_in { at < node_count plan.now.topology }
+    requires address_in { address < node_count plan.now.topology }
     ensures { result ≡ judged plan.now board.now (λ _. false) way at stamp (node_in plan.now address) }
 {
     if let Way::Link(link) = way
@@ -49,8 +49,8 @@ pub fn decide(
     address: u16,
     left: u8,
 ) -> Action
-    requires at_in { at < node_count plan.now.network }
-    requires address_in { address < node_count plan.now.network }
+    requires at_in { at < node_count plan.now.topology }
+    requires address_in { address < node_count plan.now.topology }
     ensures { result ≡ decided plan.now board.now (way_of came_by) at stamp (node_in plan.now address) left }
 {
     let way = match came_by {

@@ -1,5 +1,5 @@
 ghost use Rattle.std.specs.Prelude.{◌≡◌, ℕ, ◌+◌, ◌-◌, ◌<◌, ◌≤◌, List, [], length, map, All, replicate, IfOk, IfErr, take, ◌++◌, ◌∷◌, slice_get, slice_index, slice_index_or, unwrap_or, option_copied, Some, None};
-ghost use Rattle.ir_model.specs.Network.{ports_of};
+ghost use Rattle.ir_model.specs.Topology.{ports_of};
 ghost use Rattle.ir_core.specs.declared.TheConstants.{MAX_LINKS, MAX_CHANGES};
 ghost use Rattle.ir_core.specs.declared.event.Way.TheVariants.{Link as WayLink};
 ghost use Rattle.ir_core.specs.Opened.{open_refused};
@@ -40,28 +40,28 @@ pub struct World {
 }
 
 impl Model for World {
-    ghost use Rattle.ir_core.specs.State.{State};
+    ghost use Rattle.ir_core.specs.World.{World};
 
-    ghost Value = { State };
+    ghost Value = { World };
 
-    ghost use Rattle.ir_core.specs.Inside.{state_of, IsKept};
+    ghost use Rattle.ir_core.specs.Inside.{world_of, IsWorldKept};
 
-    ghost view = { state_of };
+    ghost view = { world_of };
 
-    ghost invariant = { IsKept };
+    ghost invariant = { IsWorldKept };
 }
 
 impl World {
     ghost use Rattle.ir_core.specs.Setting.{IsSetting, nodes_of, links_of};
     ghost use Rattle.ir_core.specs.Opened.{IsOpenedWith, IsOpenRefusal, setting_of};
     ghost use Rattle.ir_core.specs.Meaning.{newest, learns, reads, takes, acts, retires, marks, injects, verdict_on, ruling_on, record_at, board_at, is_full_towards, plan_of};
-    ghost use Rattle.ir_core.specs.Journey.{stamp_of};
+    ghost use Rattle.ir_core.specs.Record.{stamp_of};
     ghost use Rattle.ir_core.specs.Entry.{Entry};
     ghost use Rattle.ir_core.specs.History.{boards};
     ghost use Rattle.ir_core.specs.Shows.{Shows, AnswersAfter};
     ghost use Rattle.ir_core.specs.Run.{StepsAfter};
     ghost use Rattle.ir_core.specs.Sound.{AllSound};
-    ghost use Rattle.ir_core.specs.State.{IsState, IsBoard, sight_in, IsAnswer, open_verdict_on, LeadsIn};
+    ghost use Rattle.ir_core.specs.World.{IsWorld, IsBoard, sight_in, IsAnswer, open_verdict_on, LeadsIn};
     ghost use Rattle.ir_core.specs.Handled.{IsAnswerOr, IsAnswerTo, IsInstallAnswer};
 
     /// The world of the empty history. Epoch 1 has a plan of the opening's kind and root over all links of the topology.
@@ -502,7 +502,7 @@ impl World {
     /// How many nodes there are, as a node that `view` takes is one of them.
     pub fn nodes(&self) -> u16
         ensures count { result ≡ nodes_of self.now.opening }
-        ensures state { IsState self.now }
+        ensures world { IsWorld self.now }
     {
         self.topology.nodes() as u16
     }
@@ -510,7 +510,7 @@ impl World {
     /// The links of a node's ports in the opening's topology, in order.
     pub(crate) fn ports(&self, node: u16) -> &[Hop]
         requires { node < nodes_of self.now.opening }
-        ensures { result.now ≡ ports_of self.now.opening.network node }
+        ensures { result.now ≡ ports_of self.now.opening.topology node }
     {
         self.topology.ports(node as usize)
     }

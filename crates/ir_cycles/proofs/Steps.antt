@@ -3,8 +3,8 @@ use Rattle.std.proofs.Common.{◌≡◌, ◌≢◌, ◌⊎◌, ℕ, ◌+◌, ◌
 use Rattle.std.proofs.lemmas.Bool.{cases_eq}
 use Rattle.std.proofs.lemmas.List.{get_or_push, get_or_append_left}
 use Rattle.std.proofs.lemmas.List.Sums.{sum_by-set}
-use Rattle.ir_cycles.specs.Arcs.{width_of, IsMarked, IsArc, IsDigraph}
-use Rattle.ir_cycles.specs.Search.{IsOpen, AreDue, IsPath, ArePassed, AreNumbered, IsSearch}
+use Rattle.ir_cycles.specs.Arcs.{width_of, IsArcMarked, IsArc, IsDigraph}
+use Rattle.ir_cycles.specs.Search.{IsOpen, AreDue, IsOpenPath, LeadToDone, AreRisingNumbers, IsSearch}
 
 -- a place of a list in which the place c was set: that place, or another one
 at_set : (xs : List ℕ) (c v x : ℕ) → c < length xs → ((x ≡ c) × (slice_index (set xs c v) x ≡ v)) ⊎ ((x ≢ c) × (slice_index (set xs c v) x ≡ slice_index xs x))
@@ -73,7 +73,7 @@ module _ (first : List ℕ) (marks : List (List Bool)) (due numbers path shorter
       let same = get_or-set_other due c (slice_index path i) 0 0 (other i below) in
       subst (IsOpen marks (set due c 0)) (sym (kept i below)) (open_same marks due (set due c 0) (slice_index path i) same (s.path_is.opened i (omega arith)))
 
-  path_left : IsPath first marks (set due c 0) shorter
+  path_left : IsOpenPath first marks (set due c 0) shorter
   path_left = record {
     opened = opened;
     once = λ i j less lt e. s.path_is.once i j less (omega (arith, short, lt)) (sym (kept i (omega (arith, short, lt, less))) ∙ e ∙ kept j (omega (arith, short, lt)));
@@ -84,7 +84,7 @@ module _ (first : List ℕ) (marks : List (List Bool)) (due numbers path shorter
         subst (λ (x : ℕ). IsArc first marks x (slice_index shorter (i + 1))) (sym (kept i here)) (subst (λ (x : ℕ). IsArc first marks (slice_index path i) x) (sym (kept (i + 1) next)) (s.path_is.arcs i (omega arith)));
   }
 
-  passed : ArePassed first marks (set due c 0)
+  passed : LeadToDone first marks (set due c 0)
   passed x q hx hq less marked =
       let before : slice_index due (slice_index first x + q) ≡ 0 =
       elim (at_set due c 0 x inside) [
@@ -108,7 +108,7 @@ module _ (first : List ℕ) (marks : List (List Bool)) (due numbers path shorter
   some_due : 0 < total
   some_due = omega (arith, sum_by-set (λ (x : ℕ). x) due c 0 0 inside, s.due_are.sum_is, one)
 
-  numbers_left : AreNumbered first marks (set due c 0) (set numbers c (total - 1)) (total - 1)
+  numbers_left : AreRisingNumbers first marks (set due c 0) (set numbers c (total - 1)) (total - 1)
   numbers_left = record {
     every = length-set numbers c (total - 1) ∙ s.numbered.every;
     rises = λ x d hx zero arc.
@@ -141,7 +141,7 @@ module _ (first : List ℕ) (marks : List (List Bool)) (due numbers path shorter
 -- A place of the block of the last node is passed: it is not marked, or its node is done.
 module _ (first : List ℕ) (marks : List (List Bool)) (due numbers path : List ℕ) (total c v : ℕ) (s : IsSearch first marks due numbers path total)
     (some : 0 < length path) (last : slice_index path (length path - 1) ≡ c) (one : v + 1 ≡ slice_index due c) (more : 0 < v)
-    (here : (q : ℕ) → q + v ≡ width_of marks c → IsMarked marks c q → slice_index due (slice_index first c + q) ≡ 0) where
+    (here : (q : ℕ) → q + v ≡ width_of marks c → IsArcMarked marks c q → slice_index due (slice_index first c + q) ≡ 0) where
   last_open : IsOpen marks due c
   last_open = subst (IsOpen marks due) last (s.path_is.opened (length path - 1) (omega arith))
 
@@ -172,12 +172,12 @@ module _ (first : List ℕ) (marks : List (List Bool)) (due numbers path : List 
     | inr h ↦ sym h.1 ∙ zero
   ]
 
-  passed_before : (x q : ℕ) → x < length marks → q < width_of marks x → q + slice_index (set due c v) x ≤ width_of marks x → IsMarked marks x q
+  passed_before : (x q : ℕ) → x < length marks → q < width_of marks x → q + slice_index (set due c v) x ≤ width_of marks x → IsArcMarked marks x q
       → slice_index due (slice_index first x + q) ≡ 0
   passed_before x q hx hq less marked = elim (at_set due c v x within) [
     | inl h ↦ (elim (cases_eq (q + v) (width_of marks c)) [
       | inl e ↦
-          subst (λ (y : ℕ). slice_index due (slice_index first y + q) ≡ 0) (sym h.0) (here q e (subst (λ (y : ℕ). IsMarked marks y q) h.0 marked))
+          subst (λ (y : ℕ). slice_index due (slice_index first y + q) ≡ 0) (sym h.0) (here q e (subst (λ (y : ℕ). IsArcMarked marks y q) h.0 marked))
       | inr ne ↦ s.passed x q hx hq (omega (arith, h.1, ap (slice_index due) h.0, ap (width_of marks) h.0, one, less, ne)) marked
     ])
     | inr h ↦ s.passed x q hx hq (omega (arith, h.1, less)) marked

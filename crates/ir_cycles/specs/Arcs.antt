@@ -11,14 +11,14 @@ abbrev pub width_of : List (List Bool) → ℕ → ℕ
 width_of marks c = length (slice_index_or marks c [])
 
 -- the node at place q of the block of c is marked
-abbrev pub IsMarked : List (List Bool) → ℕ → ℕ → Type 0
-IsMarked marks c q = slice_index_or (slice_index_or marks c []) q false ≡ true
+abbrev pub IsArcMarked : List (List Bool) → ℕ → ℕ → Type 0
+IsArcMarked marks c q = slice_index_or (slice_index_or marks c []) q false ≡ true
 
 -- an arc leads from c to d: d stands in the block of c, and is marked there
 pub record IsArc (first : List ℕ) (marks : List (List Bool)) (c d : ℕ) : Type 0 where
   pub place : ℕ
   pub within : place < width_of marks c
-  pub marked : IsMarked marks c place
+  pub marked : IsArcMarked marks c place
   pub leads : slice_index first c + place ≡ d
 
 -- as many nodes as there are blocks, and each block is one of nodes
@@ -29,12 +29,12 @@ pub record IsDigraph (first : List ℕ) (marks : List (List Bool)) : Type 0 wher
   pub within : (c : ℕ) → c < length marks → slice_index first c + width_of marks c ≤ length marks
 
 -- each arc rises along the numbers
-abbrev pub IsRising : List ℕ → List (List Bool) → (ℕ → ℕ) → Type 0
-IsRising first marks number = (c d : ℕ) → c < length marks → IsArc first marks c d → number c < number d
+abbrev pub ArcsRise : List ℕ → List (List Bool) → (ℕ → ℕ) → Type 0
+ArcsRise first marks number = (c d : ℕ) → c < length marks → IsArc first marks c d → number c < number d
 
 -- there are such numbers
 abbrev pub IsAcyclic : List ℕ → List (List Bool) → Type 0
-IsAcyclic first marks = (number : ℕ → ℕ) × IsRising first marks number
+IsAcyclic first marks = (number : ℕ → ℕ) × ArcsRise first marks number
 
 -- nodes, none twice, of which an arc leads from each to the next one, and from the last to the first
 pub record IsRing (first : List ℕ) (marks : List (List Bool)) (ring : List ℕ) : Type 0 where

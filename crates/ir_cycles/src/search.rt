@@ -1,7 +1,7 @@
 //! A search of a digraph, depth first.
 ghost use Rattle.std.specs.Prelude.{◌≡◌, ◌+◌, ◌<◌, ◌≤◌, ℕ, List, length, slice_index, IfOk, IfNone, IfSome, OnOk};
 ghost use Rattle.ir_cycles.specs.Arcs.{marks_of, width_of, IsDigraph};
-ghost use Rattle.ir_cycles.specs.Search.{Searches, OnlyFall, IsLast, IsPassed, LeadsOn, IsBack, HasOnPath, IsPathFrom};
+ghost use Rattle.ir_cycles.specs.Search.{Searches, OnlyFall, IsLast, IsPassed, ArcLeadsOn, IsBack, HasOnPath, IsPathFrom};
 
 use std::alloc::{AllocError, Global};
 
@@ -76,7 +76,7 @@ impl Search {
         requires search { Searches first.now leads.now self.old }
         requires node { d < length leads.now }
         requires fresh { slice_index self.old.due.items d ≡ width_of (marks_of leads.now) d + 2 }
-        requires from { LeadsOn first.now leads.now self.old d }
+        requires from { ArcLeadsOn first.now leads.now self.old d }
         ensures search { OnOk result (Searches first.now leads.now self.new) }
         ensures falls { OnOk result (self.new.total < self.old.total) }
         ensures fall { OnOk result (OnlyFall self.old self.new) }

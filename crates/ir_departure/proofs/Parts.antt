@@ -3,58 +3,58 @@ use Rattle.std.proofs.Common.{◌≡◌, ◌≢◌, ◌<◌, ◌≤◌, ◌+◌,
 use Rattle.std.proofs.lemmas.Bool.{and_parts, and_from}
 use Rattle.std.proofs.lemmas.List.{take_more}
 use Rattle.std.proofs.lemmas.Option.{slice_get-get_or}
-use Rattle.ir_model.specs.Network.{Network, node_count}
-use Rattle.ir_model.specs.Scheme.{Scheme}
+use Rattle.ir_model.specs.Topology.{Topology, node_count}
+use Rattle.ir_model.specs.Plan.{Plan}
 use Rattle.ir_core.specs.Sound.{last_of}
-use Rattle.ir_trace.specs.Row.{Part, Row}
+use Rattle.ir_trace.specs.Row.{Segment, TraceRow}
 use Rattle.ir_trace.specs.Checked.{plan_at, last_part, KnowsEpochs, IsFrontOfWalk, AreJoined, GoesOn, FollowsWalks}
-use Rattle.ir_trace.specs.Inspect.{next_of, are_known, are_joined, fits_fate, goes_on, has_arrived, weight_of, first_of_four, AreOverPlans}
+use Rattle.ir_trace.specs.Inspect.{next_of, are_known, are_joined, fits_fate, goes_on, has_arrived, segments_weight, first_of_four, AreOverPlans}
 use Rattle.ir_trace.proofs.CheckedRows.{IsFound, found, over_plans, joined_tells}
 use Rattle.ir_departure.specs.declared.departures.Departure.{Departure}
 use Rattle.ir_departure.specs.declared.departures.Departure.TheVariants.{Epoch, Start, Hop, Fate}
-use Rattle.ir_departure.specs.Leaving.{stands_after, epoch_after, IsStray, IsReached, LeavesAmong, LeavesByFate, Leaves, IsDeparture, LeavesIn, AreOverRow}
+use Rattle.ir_departure.specs.Leaving.{stands_after, last_epoch, IsStray, IsReachedByParts, LeavesAmong, LeavesByFate, Leaves, IsDeparture, LeavesIn, AreOverRow}
 
 -- ---- one part more
 
-joined_push : (plans : List Scheme) (d u above : ℕ) (parts : List Part) (part : Part) → AreJoined plans d u above parts
-    → epoch_after above parts < part.epoch → slice_get part.hops 0 ≡ Some (stands_after u parts) → IsFrontOfWalk (plan_at plans part.epoch) d part.hops → AreJoined plans d u above (parts ++ part ∷ [])
+joined_push : (plans : List Plan) (d u above : ℕ) (parts : List Segment) (part : Segment) → AreJoined plans d u above parts
+    → last_epoch above parts < part.epoch → slice_get part.hops 0 ≡ Some (stands_after u parts) → IsFrontOfWalk (plan_at plans part.epoch) d part.hops → AreJoined plans d u above (parts ++ part ∷ [])
 joined_push plans d u above [] part are rises at front = (rises, at, front, tt)
 joined_push plans d u above (p ∷ parts) part are rises at front = (are.0, are.1, are.2, joined_push plans d (last_of p.hops) p.epoch parts part are.3 rises at front)
 
-stands_push : (u : ℕ) (parts : List Part) (part : Part) → stands_after u (parts ++ part ∷ []) ≡ last_of part.hops
+stands_push : (u : ℕ) (parts : List Segment) (part : Segment) → stands_after u (parts ++ part ∷ []) ≡ last_of part.hops
 stands_push u [] part = refl
 stands_push u (p ∷ parts) part = stands_push (last_of p.hops) parts part
 
-epoch_push : (epoch : ℕ) (parts : List Part) (part : Part) → epoch_after epoch (parts ++ part ∷ []) ≡ part.epoch
+epoch_push : (epoch : ℕ) (parts : List Segment) (part : Segment) → last_epoch epoch (parts ++ part ∷ []) ≡ part.epoch
 epoch_push epoch [] part = refl
 epoch_push epoch (p ∷ parts) part = epoch_push p.epoch parts part
 
 -- the parts before part k are joined; the packet stands at `at`, and its epoch so far is `above`
-pub record AreFollowed (plans : List Scheme) (d u : ℕ) (parts : List Part) (k at above : ℕ) : Type 0 where
+pub record AreFollowed (plans : List Plan) (d u : ℕ) (parts : List Segment) (k at above : ℕ) : Type 0 where
   pub joined : AreJoined plans d u 0 (take k parts)
   pub at_is : at ≡ stands_after u (take k parts)
-  pub above_is : above ≡ epoch_after 0 (take k parts)
+  pub above_is : above ≡ last_epoch 0 (take k parts)
 
-pub followed_none : (plans : List Scheme) (d u : ℕ) (parts : List Part) → AreFollowed plans d u parts 0 u 0
+pub followed_none : (plans : List Plan) (d u : ℕ) (parts : List Segment) → AreFollowed plans d u parts 0 u 0
 followed_none plans d u [] = record { joined = tt; at_is = refl; above_is = refl }
 followed_none plans d u (p ∷ parts) = record { joined = tt; at_is = refl; above_is = refl }
 
-module _ (plans : List Scheme) (d u : ℕ) (parts : List Part) (k at above : ℕ) (part : Part) (lt : k < length parts) (part_is : part ≡ get_or parts k part) (are : AreFollowed plans d u parts k at above) where
+module _ (plans : List Plan) (d u : ℕ) (parts : List Segment) (k at above : ℕ) (part : Segment) (lt : k < length parts) (part_is : part ≡ get_or parts k part) (are : AreFollowed plans d u parts k at above) where
   more : take (k + 1) parts ≡ take k parts ++ part ∷ []
-  more = take_more parts k part lt ∙ ap (λ (p : Part). take k parts ++ p ∷ []) (sym part_is)
+  more = take_more parts k part lt ∙ ap (λ (p : Segment). take k parts ++ p ∷ []) (sym part_is)
 
   here : slice_get parts k ≡ Some part
-  here = slice_get-get_or parts k part lt ∙ ap (λ (p : Part). Some p) (sym part_is)
+  here = slice_get-get_or parts k part lt ∙ ap (λ (p : Segment). Some p) (sym part_is)
 
-  reached : IsReached plans d u parts k part
+  reached : IsReachedByParts plans d u parts k part
   reached = record { before = are.joined; part_is = here }
 
   pub followed_more : LeavesIn plans d k part at above None → AreFollowed plans d u parts (k + 1) (last_of part.hops) part.epoch
   followed_more h = record {
     joined = subst (AreJoined plans d u 0) (sym more)
         (joined_push plans d u 0 (take k parts) part are.joined (subst (λ (e : ℕ). e < part.epoch) are.above_is h.0) (h.1 ∙ ap (λ (v : ℕ). Some v) are.at_is) h.2);
-    at_is = sym (ap (λ (ps : List Part). stands_after u ps) more ∙ stands_push u (take k parts) part);
-    above_is = sym (ap (λ (ps : List Part). epoch_after 0 ps) more ∙ epoch_push 0 (take k parts) part);
+    at_is = sym (ap (λ (ps : List Segment). stands_after u ps) more ∙ stands_push u (take k parts) part);
+    above_is = sym (ap (λ (ps : List Segment). last_epoch 0 ps) more ∙ epoch_push 0 (take k parts) part);
   }
 
   pub left_told : (left : Departure) → LeavesIn plans d k part at above (Some left) → LeavesAmong plans d u parts left
@@ -67,7 +67,7 @@ module _ (plans : List Scheme) (d u : ℕ) (parts : List Part) (k at above : ℕ
 
 -- ---- rows
 
-module _ (net : Network) (plans : List Scheme) (row : Row) where
+module _ (net : Topology) (plans : List Plan) (row : TraceRow) where
   known_from : (a b c e : Bool) → IsFound net plans row (first_of_four a b c e) → a ≡ true → KnowsEpochs plans row.parts
   known_from false b c e h eq = absurd (cc eq)
   known_from true false c e h eq = h.0
@@ -95,8 +95,8 @@ and_false : (a b : Bool) → b ≡ false → (a && b) ≡ false
 and_false true b e = e
 and_false false b e = refl
 
-module _ (plans : List Scheme) (row : Row) (over : AreOverRow plans row) where
-  is_found : IsFound over.net plans row (first_of_four (are_known (length plans) row.parts) (are_joined plans row.dest row.source 0 row.parts && goes_on plans row.dest row.fate row.parts) (has_arrived row.dest row.fate row.parts) (weight_of over.net row.parts == row.weight))
+module _ (plans : List Plan) (row : TraceRow) (over : AreOverRow plans row) where
+  is_found : IsFound over.net plans row (first_of_four (are_known (length plans) row.parts) (are_joined plans row.dest row.source 0 row.parts && goes_on plans row.dest row.fate row.parts) (has_arrived row.dest row.fate row.parts) (segments_weight over.net row.parts == row.weight))
   is_found = found over.net plans row over.plans_are over.row_is
 
   -- an epoch of the row is not known

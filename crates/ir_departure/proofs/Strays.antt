@@ -4,8 +4,8 @@ use Rattle.std.specs.List.{list_all}
 use Rattle.std.proofs.lemmas.Bool.{and_parts, and_from, ltb-true, both_ways, cases_eq}
 use Rattle.std.proofs.lemmas.List.{length-take-le, get_or-take, take_all}
 use Rattle.std.proofs.lemmas.Option.{slice_get-get_or}
-use Rattle.ir_model.specs.Network.{node_count}
-use Rattle.ir_model.specs.Scheme.{Scheme, IsScheme}
+use Rattle.ir_model.specs.Topology.{node_count}
+use Rattle.ir_model.specs.Plan.{Plan, IsPlan}
 use Rattle.ir_core.specs.Sound.{last_of}
 use Rattle.ir_trace.specs.Checked.{IsFrontOfWalk}
 use Rattle.ir_trace.specs.Inspect.{is_node, next_of, leads_through}
@@ -20,11 +20,11 @@ node_at n (u ∷ rest) all zero lt = ltb-true u n (and_parts (nat_lt u n) (list_
 node_at n (u ∷ rest) all (suc i) lt = node_at n rest (and_parts (nat_lt u n) (list_all (λ x. nat_lt x n) rest) all).1 i (omega arith)
 
 -- the table leads from each of the first i hops but the last to the one behind it
-pub record AreSteps (t : Scheme) (d : ℕ) (hops : List ℕ) (i : ℕ) : Type 0 where
+pub record AreSteps (t : Plan) (d : ℕ) (hops : List ℕ) (i : ℕ) : Type 0 where
   pub step : (k : ℕ) → suc k < i → next_of t (get_or hops k 0) d ≡ Some (get_or hops (suc k) 0)
 
 -- one hop more
-pub steps_more : (t : Scheme) (d : ℕ) (hops : List ℕ) (i : ℕ) → 1 ≤ i → AreSteps t d hops i → next_of t (get_or hops (i - 1) 0) d ≡ Some (get_or hops i 0) → AreSteps t d hops (i + 1)
+pub steps_more : (t : Plan) (d : ℕ) (hops : List ℕ) (i : ℕ) → 1 ≤ i → AreSteps t d hops i → next_of t (get_or hops (i - 1) 0) d ≡ Some (get_or hops i 0) → AreSteps t d hops (i + 1)
 steps_more t d hops i pos are next = record {
   step = λ k lt. elim (cases_eq (suc k) i) [
     | inl e ↦ (let before : i - 1 ≡ k = omega (arith, e) in
@@ -34,23 +34,23 @@ steps_more t d hops i pos are next = record {
   ];
 }
 
-led_through : (t : Scheme) (d u : ℕ) (rest : List ℕ) (n : ℕ) → n ≤ length rest → ((k : ℕ) → k < n → next_of t (get_or (u ∷ rest) k 0) d ≡ Some (get_or rest k 0)) → leads_through t d u (take n rest) ≡ true
+led_through : (t : Plan) (d u : ℕ) (rest : List ℕ) (n : ℕ) → n ≤ length rest → ((k : ℕ) → k < n → next_of t (get_or (u ∷ rest) k 0) d ≡ Some (get_or rest k 0)) → leads_through t d u (take n rest) ≡ true
 led_through t d u [] zero le h = refl
 led_through t d u (v ∷ rest) zero le h = refl
 led_through t d u [] (suc n) le h = absurd (omega arith)
 led_through t d u (v ∷ rest) (suc n) le h =
     and_from (is_node (next_of t u d) v) (leads_through t d v (take n rest)) (is_node_at (next_of t u d) v (h 0 (omega arith))) (led_through t d v rest n (omega arith) (λ k lt. h (suc k) (omega arith)))
 
-module _ (t : Scheme) (is : IsScheme t) (d : ℕ) (d_in : d < node_count t.network) where
+module _ (t : Plan) (is : IsPlan t) (d : ℕ) (d_in : d < node_count t.topology) where
   -- hops that the table leads through are a front of the walk
-  pub front_of_steps : (hops : List ℕ) → list_all (λ u. nat_lt u (node_count t.network)) hops ≡ true → (i : ℕ) → 1 ≤ i → i ≤ length hops → AreSteps t d hops i → IsFrontOfWalk t d (take i hops)
+  pub front_of_steps : (hops : List ℕ) → list_all (λ u. nat_lt u (node_count t.topology)) hops ≡ true → (i : ℕ) → 1 ≤ i → i ≤ length hops → AreSteps t d hops i → IsFrontOfWalk t d (take i hops)
   front_of_steps hops all zero pos le are = absurd (omega arith)
   front_of_steps [] all (suc n) pos le are = absurd (omega arith)
   front_of_steps (u ∷ rest) all (suc n) pos le are =
-      (front t is d d_in u (take n rest) (node_at (node_count t.network) (u ∷ rest) all 0 (omega arith)) (led_through t d u rest n (omega arith) (λ k lt. are.step k (omega arith)))).front
+      (front t is d d_in u (take n rest) (node_at (node_count t.topology) (u ∷ rest) all 0 (omega arith)) (led_through t d u rest n (omega arith) (λ k lt. are.step k (omega arith)))).front
 
   -- the first hop that it does not lead to
-  pub stray_from : (hops : List ℕ) → list_all (λ u. nat_lt u (node_count t.network)) hops ≡ true → (i : ℕ) → 1 ≤ i → i < length hops → AreSteps t d hops i
+  pub stray_from : (hops : List ℕ) → list_all (λ u. nat_lt u (node_count t.topology)) hops ≡ true → (i : ℕ) → 1 ≤ i → i < length hops → AreSteps t d hops i
       → (next : Option ℕ) → next ≡ next_of t (get_or hops (i - 1) 0) d → is_node next (get_or hops i 0) ≡ false → IsStray t d hops i next
   stray_from hops all i pos lt are next e other =
       let len : length (take i hops) ≡ i = length-take-le i hops (omega arith) in
@@ -66,5 +66,5 @@ module _ (t : Scheme) (is : IsScheme t) (d : ℕ) (d_in : d < node_count t.netwo
       }
 
   -- all hops
-  pub front_of_all : (hops : List ℕ) → list_all (λ u. nat_lt u (node_count t.network)) hops ≡ true → (i : ℕ) → 1 ≤ i → i ≡ length hops → AreSteps t d hops i → IsFrontOfWalk t d hops
+  pub front_of_all : (hops : List ℕ) → list_all (λ u. nat_lt u (node_count t.topology)) hops ≡ true → (i : ℕ) → 1 ≤ i → i ≡ length hops → AreSteps t d hops i → IsFrontOfWalk t d hops
   front_of_all hops all i pos e are = subst (IsFrontOfWalk t d) (take_all i hops (omega arith)) (front_of_steps hops all i pos (omega arith) are)

@@ -1,6 +1,6 @@
 //! Where a row leaves the walks of its epochs.
 ghost use Rattle.std.specs.Prelude.{IfOk};
-ghost use Rattle.ir_model.specs.Network.{node_count};
+ghost use Rattle.ir_model.specs.Topology.{node_count};
 ghost use Rattle.ir_trace.specs.Checked.{IsRowOver, AreInstalls};
 ghost use Rattle.ir_departure.specs.Leaving.{IsDeparture, IsDepartureOf, AreOverRow};
 

@@ -1,7 +1,7 @@
 //! The hops of one segment beside the walk of its plan.
 ghost use Rattle.std.specs.Prelude.{◌≡◌, ◌<◌, true, length, nat_lt, IfNone, IfSome};
 ghost use Rattle.std.specs.List.{list_all};
-ghost use Rattle.ir_model.specs.Network.{node_count};
+ghost use Rattle.ir_model.specs.Topology.{node_count};
 ghost use Rattle.ir_trace.specs.Checked.{IsFrontOfWalk};
 ghost use Rattle.ir_trace.specs.Inspect.{is_node, next_of};
 ghost use Rattle.ir_departure.specs.Leaving.{IsStray};
@@ -20,8 +20,8 @@ pub struct Stray {
 /// are a front of the walk that the plan prescribes from the first of them.
 pub fn first_stray(plan: &Plan, hops: &[u16], dest: u16) -> Option<Stray>
     requires some { 0 < length hops.now }
-    requires hops { list_all (λ u. nat_lt u (node_count plan.now.network)) hops.now ≡ true }
-    requires dest { dest < node_count plan.now.network }
+    requires hops { list_all (λ u. nat_lt u (node_count plan.now.topology)) hops.now ≡ true }
+    requires dest { dest < node_count plan.now.topology }
     ensures front { IfNone result (IsFrontOfWalk plan.now dest hops.now) }
     ensures stray { IfSome result (λ s. IsStray plan.now dest hops.now s.hop s.next) }
 {

@@ -1,18 +1,18 @@
 //! Laws of the definitions, each the contract of a function with an empty body.
 ghost use Rattle.std.specs.Prelude.{◌≡◌, List, Option};
-ghost use Rattle.ir_model.specs.Network.{Network, node_count};
-ghost use Rattle.ir_model.specs.Scheme.{Scheme};
+ghost use Rattle.ir_model.specs.Topology.{Topology, node_count};
+ghost use Rattle.ir_model.specs.Plan.{Plan};
 ghost use Rattle.ir_core.specs.declared.built.Install.{Install};
-ghost use Rattle.ir_trace.specs.Row.{Row};
-ghost use Rattle.ir_trace.specs.Checked.{IsRowOver, AreSchemesOf};
+ghost use Rattle.ir_trace.specs.Row.{TraceRow};
+ghost use Rattle.ir_trace.specs.Checked.{IsRowOver, ArePlansOf};
 ghost use Rattle.ir_departure.specs.declared.departures.Departure.{Departure};
 ghost use Rattle.ir_departure.specs.Leaving.{IsDeparture};
 
 /// By the plans of its epochs a row leaves their walks first at one place, or at none. So a row that follows them leaves
 /// them nowhere.
 pub fn departure_is_determined()
-    ensures { (net : Network) (installs : List Install) (plans : List Scheme) (row : Row)
+    ensures { (net : Topology) (installs : List Install) (plans : List Plan) (row : TraceRow)
         (found other : Option Departure)
-        → AreSchemesOf net installs plans → IsRowOver (node_count net) row
+        → ArePlansOf net installs plans → IsRowOver (node_count net) row
         → IsDeparture plans row found → IsDeparture plans row other → found ≡ other }
 {}

@@ -1,8 +1,8 @@
 -- What one more change makes of a list of entries.
 use Rattle.std.proofs.Common.{◌≡◌, ℕ, ◌+◌, ◌<◌, ◌≤◌, le_refl, length-append, List, [], ◌∷◌, ◌++◌, length, Option, Some, None, if◌then◌else◌, fold, refl, sym, ap, ◌∙◌, subst, arith}
 use mathlib.Core.List.{IsPrefix}
-use Rattle.ir_model.specs.Network.{Network}
-use Rattle.ir_model.specs.Scheme.{IsScheme}
+use Rattle.ir_model.specs.Topology.{Topology}
+use Rattle.ir_model.specs.Plan.{IsPlan}
 use Rattle.ir_core.specs.declared.TheConstants.{MAX_LINKS}
 use Rattle.ir_core.specs.declared.board.Board.{Board}
 use Rattle.ir_core.specs.Board.{opening_board}
@@ -13,7 +13,7 @@ use Rattle.ir_epochs.specs.declared.entry.Entry.{Entry}
 use Rattle.ir_epochs.specs.declared.entry.Entry.TheVariants.{Opened, Changed}
 use Rattle.ir_epochs.specs.Stamps.{knows, registry_name}
 use Rattle.ir_epochs.specs.Over.{IsOver}
-use Rattle.ir_epochs.specs.Entries.{board_of, changed, stamped, stamp_next, stamp_of, stamp_after, last_stamp, installed_by, installs, links_of, registry_of, network_of, Fits, IsCurrent, IsSameOpening, IsLive, IsMade}
+use Rattle.ir_epochs.specs.Entries.{board_of, changed, stamped, stamp_next, installed_stamp, stamp_after, last_stamp, installed_by, installs, opening_links, registry_of, topology_of, MayComeNext, IsCurrent, IsSameOpening, HasLiveEpochs, IsMadeOf}
 use Rattle.ir_epochs.proofs.Rising.{board_last, rising_opened, rising_more}
 use Rattle.ir_epochs.proofs.Overs.{over_itself}
 
@@ -25,7 +25,7 @@ stamp_from : (o : Option Stamp) (xs : List Entry) (c : Change) → fold stamped 
 stamp_from o [] c = refl
 stamp_from o (x ∷ xs) c = stamp_from (stamped o x) xs c
 
-stamp_last : (xs : List Entry) (c : Change) (s : Stamp) → stamp_of xs ≡ Some s → stamp_of (xs ++ Changed c ∷ []) ≡ Some (stamp_after s c)
+stamp_last : (xs : List Entry) (c : Change) (s : Stamp) → installed_stamp xs ≡ Some s → installed_stamp (xs ++ Changed c ∷ []) ≡ Some (stamp_after s c)
 stamp_last xs c s is = stamp_from None xs c ∙ ap (λ (o : Option Stamp). stamp_next o c) is ∙ some_after c
   where
     some_after : (c : Change) → stamp_next (Some s) c ≡ Some (stamp_after s c)
@@ -47,13 +47,13 @@ installed_last xs c s = installed_from None xs c ∙ by_case c
 -- what the opening fixed stays
 opening_more : (xs rest : List Entry) → 0 < length xs → IsSameOpening xs (xs ++ rest)
 opening_more [] rest some = absurd (omega arith)
-opening_more (Opened links s ∷ xs) rest some = record { links = refl; registry = refl; network = refl }
-opening_more (Changed d ∷ xs) rest some = record { links = refl; registry = refl; network = refl }
+opening_more (Opened links s ∷ xs) rest some = record { links = refl; registry = refl; topology = refl }
+opening_more (Changed d ∷ xs) rest some = record { links = refl; registry = refl; topology = refl }
 
 pub opening_kept : (xs ys : List Entry) → IsPrefix xs ys → 0 < length xs → IsSameOpening xs ys
 opening_kept xs ys p some = subst (λ (zs : List Entry). IsSameOpening xs zs) p.1 (opening_more xs p.0 some)
 
-current_opened : (links : ℕ) (s : Stamp) → s.epoch ≡ 1 → ∥ IsScheme (knows s) ∥₁ → IsCurrent (Opened links s ∷ []) s
+current_opened : (links : ℕ) (s : Stamp) → s.epoch ≡ 1 → ∥ IsPlan (knows s) ∥₁ → IsCurrent (Opened links s ∷ []) s
 current_opened links s first is = record { last = refl; epoch = first; registry = refl; over = over_itself (knows s) is }
 
 module _ (xs : List Entry) (s : Stamp) (is : IsCurrent xs s) where
@@ -63,27 +63,27 @@ module _ (xs : List Entry) (s : Stamp) (is : IsCurrent xs s) where
   epoch_after (Down l) = is.epoch
   epoch_after (Up l) = is.epoch
 
-  registry_after : (c : Change) → Fits xs c → registry_name (stamp_after s c) ≡ registry_of xs
+  registry_after : (c : Change) → MayComeNext xs c → registry_name (stamp_after s c) ≡ registry_of xs
   registry_after (Install t) fits = fits.1
   registry_after (Retire f) fits = is.registry
   registry_after (Down l) fits = is.registry
   registry_after (Up l) fits = is.registry
 
-  over_after : (c : Change) → Fits xs c → IsOver (network_of xs) (knows (stamp_after s c)).network
+  over_after : (c : Change) → MayComeNext xs c → IsOver (topology_of xs) (knows (stamp_after s c)).topology
   over_after (Install t) fits = fits.2
   over_after (Retire f) fits = is.over
   over_after (Down l) fits = is.over
   over_after (Up l) fits = is.over
 
-  current_more : (c : Change) → 0 < length xs → Fits xs c → IsCurrent (xs ++ Changed c ∷ []) (stamp_after s c)
+  current_more : (c : Change) → 0 < length xs → MayComeNext xs c → IsCurrent (xs ++ Changed c ∷ []) (stamp_after s c)
   current_more c some fits = let opening = opening_more xs (Changed c ∷ []) some in record {
     last = stamp_last xs c s is.last;
     epoch = epoch_after c ∙ sym (ap (λ (b : Board). b.current) (board_last xs c));
     registry = registry_after c fits ∙ sym opening.registry;
-    over = subst (λ (net : Network). IsOver net (knows (stamp_after s c)).network) (sym opening.network) (over_after c fits);
+    over = subst (λ (net : Topology). IsOver net (knows (stamp_after s c)).topology) (sym opening.topology) (over_after c fits);
   }
 
-pub made_opened : (links : ℕ) (s : Stamp) → s.epoch ≡ 1 → ∥ IsScheme (knows s) ∥₁ → links ≤ MAX_LINKS → IsMade (Opened links s ∷ []) opening_board s
+pub made_opened : (links : ℕ) (s : Stamp) → s.epoch ≡ 1 → ∥ IsPlan (knows s) ∥₁ → links ≤ MAX_LINKS → IsMadeOf (Opened links s ∷ []) opening_board s
 made_opened links s first is few = record {
   board = refl;
   version = refl;
@@ -99,7 +99,7 @@ version_after b (Retire f) = refl
 version_after b (Down l) = refl
 version_after b (Up l) = refl
 
-live_after : (xs : List Entry) (b : Board) (c : Change) → b ≡ board_of xs → IsLive b → Fits xs c → IsLive (changed b c)
+live_after : (xs : List Entry) (b : Board) (c : Change) → b ≡ board_of xs → HasLiveEpochs b → MayComeNext xs c → HasLiveEpochs (changed b c)
 live_after xs b (Install s) is live fits =
     let now : b.current ≡ (board_of xs).current = ap (λ (a : Board). a.current) is in
     let later : (board_of xs).current < s.epoch = fits.0 in
@@ -113,7 +113,7 @@ live_after xs b (Retire f) is live fits =
 live_after xs b (Down l) is live fits = live
 live_after xs b (Up l) is live fits = live
 
-pub made_more : (xs : List Entry) (b : Board) (s : Stamp) (c : Change) → IsMade xs b s → Fits xs c → IsMade (xs ++ Changed c ∷ []) (changed b c) (stamp_after s c)
+pub made_more : (xs : List Entry) (b : Board) (s : Stamp) (c : Change) → IsMadeOf xs b s → MayComeNext xs c → IsMadeOf (xs ++ Changed c ∷ []) (changed b c) (stamp_after s c)
 made_more xs b s c is fits =
     let some : 0 < length xs = omega (arith, is.version) in
     record {
@@ -122,5 +122,5 @@ made_more xs b s c is fits =
       stamp = current_more xs s is.stamp c some fits;
       live = live_after xs b c is.board is.live fits;
       rising = rising_more xs c is.rising fits;
-      few_links = (let same : links_of (xs ++ Changed c ∷ []) ≡ links_of xs = (opening_more xs (Changed c ∷ []) some).links in let few : links_of xs ≤ MAX_LINKS = is.few_links in omega arith);
+      few_links = (let same : opening_links (xs ++ Changed c ∷ []) ≡ opening_links xs = (opening_more xs (Changed c ∷ []) some).links in let few : opening_links xs ≤ MAX_LINKS = is.few_links in omega arith);
     }

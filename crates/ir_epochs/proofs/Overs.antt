@@ -5,13 +5,13 @@ use Rattle.std.proofs.lemmas.Option.{slice_get_within}
 use Rattle.std.proofs.Math.Logic.{∥∥₁_elim, ∥∥₁_prop}
 use Rattle.std.proofs.Math.Nat.{ℕ_set}
 use Rattle.ir_model.specs.declared.Hop.{Hop}
-use Rattle.ir_model.specs.Network.{Network, IsNetwork, node_count, is_up}
-use Rattle.ir_model.specs.Scheme.{Scheme, IsScheme}
+use Rattle.ir_model.specs.Topology.{Topology, IsTopology, node_count, is_up}
+use Rattle.ir_model.specs.Plan.{Plan, IsPlan}
 use Rattle.ir_model.proofs.Restrict.{rows_all, node_count-restrict}
 use Rattle.ir_epochs.specs.Over.{IsOver}
 
 -- a network is the one over all of its links
-pub over_self : (net : Network) → IsNetwork net → IsOver net net
+pub over_self : (net : Topology) → IsTopology net → IsOver net net
 over_self net is =
     let up : List Bool = replicate (length net.links) true in
     let all : (u p : ℕ) (hop : Hop) → slice_get (slice_index_or net.ports u []) p ≡ Some hop → is_up up hop ≡ true =
@@ -19,10 +19,10 @@ over_self net is =
     let same : map (filter (is_up up)) net.ports ≡ net.ports = rows_all (is_up up) net.ports all in
     ∣ (up, length-replicate (length net.links) true, ap (λ (ports : List (List Hop)). record { links = net.links; ports = ports }) (sym same)) ∣₁
 
--- and so is the network of each routing scheme
-pub over_itself : (s : Scheme) → ∥ IsScheme s ∥₁ → IsOver s.network s.network
-over_itself s is = ∥∥₁_elim is ∥∥₁_prop (λ h. over_self s.network h.network)
+-- and so is the network of each routing plan
+pub over_itself : (s : Plan) → ∥ IsPlan s ∥₁ → IsOver s.topology s.topology
+over_itself s is = ∥∥₁_elim is ∥∥₁_prop (λ h. over_self s.topology h.topology)
 
 -- the nodes of a network over some links of another are that one's
-pub over_nodes : (net over : Network) → IsOver net over → node_count over ≡ node_count net
+pub over_nodes : (net over : Topology) → IsOver net over → node_count over ≡ node_count net
 over_nodes net over o = ∥∥₁_elim o (ℕ_set _ _) (λ w. ap node_count w.2 ∙ node_count-restrict w.0 net)

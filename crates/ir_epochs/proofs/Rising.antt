@@ -8,7 +8,7 @@ use Rattle.ir_epochs.specs.declared.entry.Change.{Change}
 use Rattle.ir_epochs.specs.declared.entry.Change.TheVariants.{Install, Retire, Down, Up}
 use Rattle.ir_epochs.specs.declared.entry.Entry.{Entry}
 use Rattle.ir_epochs.specs.declared.entry.Entry.TheVariants.{Opened, Changed}
-use Rattle.ir_epochs.specs.Entries.{board_of, entered, changed, Fits, Rises, IsRising}
+use Rattle.ir_epochs.specs.Entries.{board_of, entered, changed, MayComeNext, Rises, IsRising}
 
 take_none : (n : ℕ) → take {A = Entry} n [] ≡ []
 take_none zero = refl
@@ -28,7 +28,7 @@ board_from b (x ∷ xs) e = board_from (entered b x) xs e
 pub board_last : (xs : List Entry) (c : Change) → board_of (xs ++ Changed c ∷ []) ≡ changed (board_of xs) c
 board_last xs c = board_from opening_board xs (Changed c)
 
-later_step : (xs : List Entry) (c : Change) → Fits xs c → Rises (board_of xs) (changed (board_of xs) c)
+later_step : (xs : List Entry) (c : Change) → MayComeNext xs c → Rises (board_of xs) (changed (board_of xs) c)
 later_step xs (Install s) f = let lt : (board_of xs).current < s.epoch = f.0 in (le_refl (board_of xs).floor, omega arith)
 later_step xs (Retire g) f = let lt : (board_of xs).floor < g = f.0 in (omega arith, le_refl (board_of xs).current)
 later_step xs (Down l) f = (le_refl (board_of xs).floor, le_refl (board_of xs).current)
@@ -38,7 +38,7 @@ pub rising_opened : (links : ℕ) (s : Stamp) → IsRising (Opened links s ∷ [
 rising_opened links s zero = (le_refl 1, le_refl 1)
 rising_opened links s (suc n) = subst (λ (ys : List Entry). Rises (board_of (Opened links s ∷ ys)) (board_of (Opened links s ∷ []))) (sym (take_none n)) (le_refl 1, le_refl 1)
 
-pub rising_more : (xs : List Entry) (c : Change) → IsRising xs → Fits xs c → IsRising (xs ++ Changed c ∷ [])
+pub rising_more : (xs : List Entry) (c : Change) → IsRising xs → MayComeNext xs c → IsRising (xs ++ Changed c ∷ [])
 rising_more xs c up fits n = let all = xs ++ Changed c ∷ [] in
     let step : Rises (board_of xs) (board_of all) = subst (λ (b : Board). Rises (board_of xs) b) (sym (board_last xs c)) (later_step xs c fits) in
     ⊎_elim (λ (t : take n all ≡ take n xs). subst (λ (ys : List Entry). Rises (board_of ys) (board_of all)) (sym t) (le_trans (up n).0 step.0, le_trans (up n).1 step.1))

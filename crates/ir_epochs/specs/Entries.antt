@@ -1,9 +1,9 @@
 -- What a list of entries makes: the board, the stamp of its current epoch, and what the opening fixes for good.
 use Rattle.std.specs.Prelude.{◌≡◌, ℕ, ◌+◌, ◌<◌, ◌≤◌, Bool, true, false, List, [], ◌∷◌, length, fold, Option, Some, None, take}
-use Rattle.ir_model.specs.Network.{Network}
+use Rattle.ir_model.specs.Topology.{Topology}
 use Rattle.ir_core.specs.declared.TheConstants.{MAX_LINKS, MAX_EPOCHS}
 use Rattle.ir_core.specs.declared.board.Board.{Board}
-use Rattle.ir_core.specs.Board.{opening_board, is_up, marked, retired_below, installed}
+use Rattle.ir_core.specs.Board.{opening_board, is_link_up, marked, retired_below, installed}
 use Rattle.ir_epochs.specs.declared.registry.Stamp.{Stamp}
 use Rattle.ir_epochs.specs.declared.entry.Change.{Change}
 use Rattle.ir_epochs.specs.declared.entry.Change.TheVariants.{Install, Retire, Down, Up}
@@ -45,8 +45,8 @@ stamped o (Opened links s) = Some s
 stamped o (Changed c) = stamp_next o c
 
 -- the stamp that was installed last, or that of the opening
-abbrev pub stamp_of : List Entry → Option Stamp
-stamp_of entries = fold stamped None entries
+abbrev pub installed_stamp : List Entry → Option Stamp
+installed_stamp entries = fold stamped None entries
 
 abbrev pub installs : Change → Bool
 installs (Install s) = true
@@ -63,10 +63,10 @@ abbrev pub installed_by : List Entry → Option Stamp
 installed_by entries = fold last_stamp None entries
 
 -- how many links the opening has
-abbrev pub links_of : List Entry → ℕ
-links_of [] = 0
-links_of (Opened links s ∷ entries) = links
-links_of (Changed c ∷ entries) = 0
+abbrev pub opening_links : List Entry → ℕ
+opening_links [] = 0
+opening_links (Opened links s ∷ entries) = links
+opening_links (Changed c ∷ entries) = 0
 
 -- the registry of the opening's stamp
 abbrev pub registry_of : List Entry → List ℕ
@@ -75,16 +75,16 @@ registry_of (Opened links s ∷ entries) = registry_name s
 registry_of (Changed c ∷ entries) = []
 
 -- the network of the opening's plan
-abbrev pub network_of : List Entry → Network
-network_of [] = record { links = []; ports = [] }
-network_of (Opened links s ∷ entries) = (knows s).network
-network_of (Changed c ∷ entries) = record { links = []; ports = [] }
+abbrev pub topology_of : List Entry → Topology
+topology_of [] = record { links = []; ports = [] }
+topology_of (Opened links s ∷ entries) = (knows s).topology
+topology_of (Changed c ∷ entries) = record { links = []; ports = [] }
 
 -- The openings are alike: as many links, one registry and one network.
 pub record IsSameOpening (a b : List Entry) : Type 0 where
-  pub links : links_of b ≡ links_of a
+  pub links : opening_links b ≡ opening_links a
   pub registry : registry_of b ≡ registry_of a
-  pub network : network_of b ≡ network_of a
+  pub topology : topology_of b ≡ topology_of a
 
 -- the link is one that a board has room for
 abbrev pub MarksALink : Change → Type 0
@@ -95,23 +95,23 @@ MarksALink (Up l) = l < MAX_LINKS
 
 -- The change may come next. What is installed is a later epoch of the same registry, over links of the opening's
 -- network. A floor rises, up to the current epoch. A mark changes, and it is that of a link.
-abbrev pub Fits : List Entry → Change → Type 0
-Fits entries (Install s) = ((board_of entries).current < s.epoch) × (registry_name s ≡ registry_of entries) × IsOver (network_of entries) (knows s).network
-Fits entries (Retire f) = ((board_of entries).floor < f) × (f ≤ (board_of entries).current)
-Fits entries (Down l) = (l < links_of entries) × (is_up (board_of entries) l ≡ true)
-Fits entries (Up l) = (l < links_of entries) × (is_up (board_of entries) l ≡ false)
+abbrev pub MayComeNext : List Entry → Change → Type 0
+MayComeNext entries (Install s) = ((board_of entries).current < s.epoch) × (registry_name s ≡ registry_of entries) × IsOver (topology_of entries) (knows s).topology
+MayComeNext entries (Retire f) = ((board_of entries).floor < f) × (f ≤ (board_of entries).current)
+MayComeNext entries (Down l) = (l < opening_links entries) × (is_link_up (board_of entries) l ≡ true)
+MayComeNext entries (Up l) = (l < opening_links entries) × (is_link_up (board_of entries) l ≡ false)
 
 -- The stamp is that of the current epoch: the one installed last, of the opening's registry, with a plan over links
 -- of the opening's network.
 pub record IsCurrent (entries : List Entry) (s : Stamp) : Type 0 where
-  pub last : stamp_of entries ≡ Some s
+  pub last : installed_stamp entries ≡ Some s
   pub epoch : s.epoch ≡ (board_of entries).current
   pub registry : registry_name s ≡ registry_of entries
-  pub over : IsOver (network_of entries) (knows s).network
+  pub over : IsOver (topology_of entries) (knows s).topology
 
 -- the live epochs are those from the floor to the current one
-abbrev pub IsLive : Board → Type 0
-IsLive b = (1 ≤ b.floor) × (b.floor ≤ b.current) × (b.current ≤ MAX_EPOCHS)
+abbrev pub HasLiveEpochs : Board → Type 0
+HasLiveEpochs b = (1 ≤ b.floor) × (b.floor ≤ b.current) × (b.current ≤ MAX_EPOCHS)
 
 -- neither the floor nor the current epoch goes back from a to b
 abbrev pub Rises : Board → Board → Type 0
@@ -122,10 +122,10 @@ abbrev pub IsRising : List Entry → Type 0
 IsRising entries = (n : ℕ) → Rises (board_of (take n entries)) (board_of entries)
 
 -- The entries make this board, whose version is how many changes there were, and this stamp.
-pub record IsMade (entries : List Entry) (b : Board) (s : Stamp) : Type 0 where
+pub record IsMadeOf (entries : List Entry) (b : Board) (s : Stamp) : Type 0 where
   pub board : b ≡ board_of entries
   pub version : b.version + 1 ≡ length entries
   pub stamp : IsCurrent entries s
-  pub live : IsLive b
+  pub live : HasLiveEpochs b
   pub rising : IsRising entries
-  pub few_links : links_of entries ≤ MAX_LINKS
+  pub few_links : opening_links entries ≤ MAX_LINKS

@@ -1,12 +1,12 @@
 -- What a stamp knows, and of which registry it is.
 use Rattle.std.specs.Prelude.{◌≡◌, ℕ, List, map}
 use Rattle.once_cell.specs.Once.{cell_name}
-use Rattle.ir_model.specs.Scheme.{Scheme}
+use Rattle.ir_model.specs.Plan.{Plan}
 use Rattle.ir_epochs.specs.declared.registry.Registry.{Registry}
 use Rattle.ir_epochs.specs.declared.registry.Stamp.{Stamp}
 
 -- the plan of its epoch
-abbrev pub knows : Stamp → Scheme
+abbrev pub knows : Stamp → Plan
 knows s = s.known.value
 
 -- the names of its registry's cells, by which registries are told apart

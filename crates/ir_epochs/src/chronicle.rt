@@ -11,9 +11,9 @@ pub struct Law;
 impl Rule<Entry, u64> for Law {
     ghost use Rattle.std.specs.Prelude.{[]};
     ghost use base.Fml.{ftrue};
-    ghost use Rattle.ir_epochs.specs.Chronicle.{IsKept};
+    ghost use Rattle.ir_epochs.specs.Chronicle.{IsChronicleKept};
 
-    ghost holds = { λ cells log. IsKept cells log };
+    ghost holds = { λ cells log. IsChronicleKept cells log };
 
     ghost first = { [] };
 

@@ -152,7 +152,7 @@ impl<R: Wait + Drop> Drop for BoardWriter<R> {
 
 impl<R: Wait + Drop> BoardWriter<R> {
     ghost use Rattle.ir_epochs.specs.declared.entry.Entry.TheVariants.{Opened, Changed};
-    ghost use Rattle.ir_epochs.specs.Entries.{Fits, IsLive};
+    ghost use Rattle.ir_epochs.specs.Entries.{MayComeNext, HasLiveEpochs};
     ghost use Rattle.ir_epochs.specs.Handles.{published, known, told, writer_board, reader_board, receipt_board};
 
     // A board that was just opened, with places for so many readers, of which there is one at least.
@@ -167,7 +167,7 @@ impl<R: Wait + Drop> BoardWriter<R> {
         readers: u16,
     ) -> Result<BoardWriter<R>, AllocError>
         requires epoch { opening.now.epoch ≡ 1 }
-        requires links { length (knows opening.now).network.links ≡ links }
+        requires links { length (knows opening.now).topology.links ≡ links }
         requires few { links ≤ MAX_LINKS }
         ensures { IfOk result (λ w. published w ≡ Opened links opening.now ∷ []) }
     {
@@ -198,7 +198,7 @@ impl<R: Wait + Drop> BoardWriter<R> {
     pub fn board(&self) -> Board
         ensures board { result ≡ board_of (published self.now) }
         ensures version { result.version + 1 ≡ length (published self.now) }
-        ensures live { IsLive result }
+        ensures live { HasLiveEpochs result }
     {
         self.writer.published().board
     }
@@ -209,7 +209,7 @@ impl<R: Wait + Drop> BoardWriter<R> {
     /// readers that still read an older board.
     pub fn change(&mut self, change: Change) -> Result<Receipt, AllocError>
         requires version { (board_of (published self.old)).version < MAX_CHANGES }
-        requires fits { Fits (published self.old) change }
+        requires fits { MayComeNext (published self.old) change }
         ensures change { IfOk result (λ t. (published self.new ≡ published self.old ++ Changed change ∷ [])
             × (told t ≡ published self.new)) }
         ensures succeeds { IsOk result }
@@ -321,7 +321,7 @@ impl Receipt {
 }
 
 impl BoardReader {
-    ghost use Rattle.ir_epochs.specs.Entries.{IsCurrent, IsLive};
+    ghost use Rattle.ir_epochs.specs.Entries.{IsCurrent, HasLiveEpochs};
     ghost use Rattle.ir_epochs.specs.Handles.{known, told, reader_board, receipt_board};
 
     // The list of the newest board that it has read or learnt.
@@ -351,7 +351,7 @@ impl BoardReader {
     pub fn read(&mut self) -> Board
         ensures board { result ≡ board_of (known self.new) }
         ensures version { result.version + 1 ≡ length (known self.new) }
-        ensures live { IsLive result }
+        ensures live { HasLiveEpochs result }
         ensures later { IsPrefix (known self.old) (known self.new) }
         ensures rises { Rises (board_of (known self.old)) (board_of (known self.new)) }
         ensures opening { IsSameOpening (known self.old) (known self.new) }

@@ -46,7 +46,7 @@ pub fn board<R: Wait + Drop>(
     readers: u16,
 ) -> Result<(BoardWriter<R>, Vec<BoardReader>), BoardError>
     requires epoch { opening.now.epoch ≡ 1 }
-    requires links { length (knows opening.now).network.links ≡ links }
+    requires links { length (knows opening.now).topology.links ≡ links }
     requires few { links ≤ MAX_LINKS }
     ensures writer { IfOk result (λ r. published r.0 ≡ Opened links opening.now ∷ []) }
     ensures count { IfOk result (λ r. length r.1.items ≡ readers) }

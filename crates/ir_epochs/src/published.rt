@@ -1,6 +1,6 @@
 //! What is published.
 ghost use Rattle.std.specs.Prelude.{◌≡◌};
-ghost use Rattle.ir_epochs.specs.Entries.{IsMade};
+ghost use Rattle.ir_epochs.specs.Entries.{IsMadeOf};
 
 use crate::chronicle::Front;
 use crate::registry::Stamp;
@@ -14,7 +14,7 @@ pub struct Published {
     pub board: Board,
     pub stamp: Stamp,
     pub front: Front,
-    pub ghost made: { IsMade front.log board stamp },
+    pub ghost made: { IsMadeOf front.log board stamp },
 }
 
 impl Published {

@@ -1,7 +1,7 @@
 //! The registry: for each epoch a cell that is set once, and stamps that know what their cell holds.
 ghost use Rattle.std.specs.Prelude.{◌≡◌, ◌-◌, ◌≤◌, ◌↔◌, IsTrue, MatchResult, length, slice_index, map};
 ghost use Rattle.once_cell.specs.Once.{cell_name};
-ghost use Rattle.ir_model.specs.Scheme.{IsScheme};
+ghost use Rattle.ir_model.specs.Plan.{IsPlan};
 ghost use Rattle.ir_core.specs.declared.TheConstants.{MAX_EPOCHS};
 
 use crate::error::RegisterError;
@@ -27,7 +27,7 @@ pub struct Stamp {
     registry: Tag,
     ghost in_range: { (1 ≤ epoch) × (epoch ≤ MAX_EPOCHS) },
     ghost here: { known.cell ≡ slice_index registry.numbers (epoch - 1) },
-    ghost sound: { ∥ IsScheme known.value ∥₁ },
+    ghost sound: { ∥ IsPlan known.value ∥₁ },
 }
 
 // The names of a registry's cells.

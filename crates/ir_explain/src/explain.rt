@@ -9,14 +9,14 @@ use crate::refusal::explain_refusal;
 use crate::script::explain_script;
 use crate::topology::explain_topology;
 use ir_adjlist::scan;
+use ir_cli::open::read_topology;
+use ir_cli::words::{Sub, Words};
 use ir_given::lines::{Told, told_of};
 use ir_given::parts::{Given, Part, Parts, Trouble, parts_of};
 use ir_given::sentence::begin;
 use ir_graph::Graph;
 use ir_model::Fault;
 use ir_streams::MAX_INPUT_BYTES;
-use ir_words::open::read_topology;
-use ir_words::words::{Sub, Words};
 use std::alloc::{AllocError, Global};
 use std::thread::Threads;
 

@@ -2,12 +2,12 @@
 
 use crate::script::push_no_node;
 use ir_adjlist::scan;
+use ir_cli::words::Words;
 use ir_given::departing::push_departure;
 use ir_given::lines::{line_at, text_of, word_at, words_of};
 use ir_given::parts::{Part, Parts};
 use ir_given::sentence::{begin_at, push_quoted};
 use ir_graph::Graph;
-use ir_words::words::Words;
 use std::alloc::{AllocError, Global};
 use std::thread::Threads;
 

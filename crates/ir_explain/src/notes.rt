@@ -2,10 +2,10 @@
 
 use ir_adjlist::digits::all_digits;
 use ir_adjlist::scan;
+use ir_cli::words::Format;
 use ir_given::lines::{word_at, words_of};
 use ir_given::parts::Part;
 use ir_given::sentence::{begin, push_file};
-use ir_words::words::Format;
 use std::alloc::{AllocError, Global};
 
 /// The most lines that are looked at.

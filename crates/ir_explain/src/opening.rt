@@ -1,11 +1,11 @@
 //! Why nothing was opened over a topology.
 
 use crate::nearest::{nearest_node, push_near};
+use ir_cli::words::{Format, Words};
 use ir_core::{MAX_LINKS, MAX_NODES};
 use ir_given::parts::Part;
 use ir_given::sentence::{begin, push_file, push_quoted};
 use ir_graph::Graph;
-use ir_words::words::{Format, Words};
 use std::alloc::{AllocError, Global};
 
 /// An option that names a node, and the name.
@@ -202,7 +202,7 @@ pub(crate) fn explain_opening(
         "Disconnected" => push_disconnected(alloc, text, graph, words)?,
         "TooLarge" => push_too_large(text, graph)?,
         "Used" => text.push_str("a fresh cell of the registry refused its plan")?,
-        _ => text.push_str("memory was refused while the network was opened")?,
+        _ => text.push_str("memory was refused while the topology was opened")?,
     }
     text.push_str("\n")
 }

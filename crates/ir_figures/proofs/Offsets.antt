@@ -7,7 +7,7 @@ use Rattle.std.proofs.lemmas.List.FromFn.{get_or-range_with_len, length-range_wi
 use Rattle.std.proofs.lemmas.List.Sums.{sum_by_more}
 use Rattle.std.proofs.lemmas.Option.{slice_get-get_or}
 use Rattle.ir_model.specs.declared.Hop.{Hop}
-use Rattle.ir_model.specs.Network.{Network, IsNetwork, node_count, ports_of, port_at}
+use Rattle.ir_model.specs.Topology.{Topology, IsTopology, node_count, ports_of, port_at}
 use Rattle.ir_model.specs.Numbering.{neighbors_of}
 use Rattle.ir_model.proofs.Pigeonhole.{Mem, mem_at, length-le_from_within}
 use Rattle.ir_model.proofs.Walks.{port_facts}
@@ -15,15 +15,15 @@ use Rattle.ir_tables.proofs.Rounds.{past}
 use Rattle.ir_figures.specs.Exits.{exits_before, AreExits, AreNextExits}
 
 -- the hop at a port below the degree
-pub hop_at : (net : Network) (u p : ℕ) → p < length (ports_of net u) → (hop : Hop) × (port_at net u p ≡ Some hop)
+pub hop_at : (net : Topology) (u p : ℕ) → p < length (ports_of net u) → (hop : Hop) × (port_at net u p ≡ Some hop)
 hop_at net u p lt = (get_or (ports_of net u) p past, slice_get-get_or (ports_of net u) p past lt)
 
 -- the node behind a port
-behind : (net : Network) (u p : ℕ) → p < length (ports_of net u) → slice_index (neighbors_of net u) p ≡ (get_or (ports_of net u) p past).node
+behind : (net : Topology) (u p : ℕ) → p < length (ports_of net u) → slice_index (neighbors_of net u) p ≡ (get_or (ports_of net u) p past).node
 behind net u p lt = get_or-map (λ (hop : Hop). hop.node) (ports_of net u) p past 0 lt
 
 -- a node has no more ports than the network has nodes
-pub degree_le : (net : Network) → IsNetwork net → (u : ℕ) → length (ports_of net u) ≤ node_count net
+pub degree_le : (net : Topology) → IsTopology net → (u : ℕ) → length (ports_of net u) ≤ node_count net
 unfolding hop_at
 degree_le net ok u =
     let count : length (neighbors_of net u) ≡ length (ports_of net u) = length-map (ports_of net u) (λ (hop : Hop). hop.node) in
@@ -45,10 +45,10 @@ degree_le net ok u =
     subst (Mem (range_with_len 0 (node_count net))) (there ∙ sym (behind net u k within)) (mem_at (range_with_len 0 (node_count net)) one.0.node (omega (arith, all, below))))) in
     omega (arith, count, all, few)
 
-pub before_more : (net : Network) (u : ℕ) → u < node_count net → exits_before net (u + 1) ≡ exits_before net u + length (ports_of net u)
+pub before_more : (net : Topology) (u : ℕ) → u < node_count net → exits_before net (u + 1) ≡ exits_before net u + length (ports_of net u)
 before_more net u lt = sum_by_more length net.ports u [] lt
 
-pub before_le : (net : Network) → IsNetwork net → (u : ℕ) → u ≤ node_count net → exits_before net u ≤ 16384 * u
+pub before_le : (net : Topology) → IsTopology net → (u : ℕ) → u ≤ node_count net → exits_before net u ≤ 16384 * u
 before_le net ok zero le = omega arith
 before_le net ok (suc u) le =
     let more : exits_before net (u + 1) ≡ exits_before net u + length (ports_of net u) = before_more net u (omega (arith, le)) in
@@ -57,7 +57,7 @@ before_le net ok (suc u) le =
     omega (arith, up, more, degree_le net ok u, ok.few_nodes, before_le net ok u (omega (arith, le)))
 
 -- they begin in the order of the nodes
-pub before_up : (net : Network) (u k : ℕ) → u + k ≤ node_count net → exits_before net u ≤ exits_before net (u + k)
+pub before_up : (net : Topology) (u k : ℕ) → u + k ≤ node_count net → exits_before net u ≤ exits_before net (u + k)
 before_up net u zero le = omega (arith, ap (exits_before net) (let e : u + 0 ≡ u = omega arith in e))
 before_up net u (suc k) le =
     let more : exits_before net (u + k + 1) ≡ exits_before net (u + k) + length (ports_of net (u + k)) = before_more net (u + k) (omega (arith, le)) in
@@ -65,11 +65,11 @@ before_up net u (suc k) le =
     let next : exits_before net (u + suc k) ≡ exits_before net (u + k + 1) = ap (exits_before net) same in
     omega (arith, more, next, before_up net u k (omega (arith, le)))
 
-pub before_mono : (net : Network) (u v : ℕ) → u ≤ v → v ≤ node_count net → exits_before net u ≤ exits_before net v
+pub before_mono : (net : Topology) (u v : ℕ) → u ≤ v → v ≤ node_count net → exits_before net u ≤ exits_before net v
 before_mono net u v le in_net = subst (λ (x : ℕ). exits_before net u ≤ exits_before net x) (omega (arith, le)) (before_up net u (v - u) (omega (arith, le, in_net)))
 
 -- a number is that of one node's link alone
-pub one_node : (net : Network) (u v c : ℕ) → u < node_count net → v < node_count net → exits_before net u ≤ c → c < exits_before net (u + 1) → exits_before net v ≤ c → c < exits_before net (v + 1) → u ≡ v
+pub one_node : (net : Topology) (u v c : ℕ) → u < node_count net → v < node_count net → exits_before net u ≤ c → c < exits_before net (u + 1) → exits_before net v ≤ c → c < exits_before net (v + 1) → u ≡ v
 one_node net u v c hu hv a b d e =
     elim (cases_lt u v) [
       | inl lt ↦ absurd (omega (arith, b, d, before_mono net (u + 1) v (omega (arith, lt)) (omega (arith, hv))))
@@ -80,7 +80,7 @@ one_node net u v c hu hv a b d e =
     ]
 
 -- the links of one more node
-pub exits_more : (net : Network) (u start : ℕ) (first nodes more : List ℕ) → u < node_count net → start ≡ length nodes → AreExits net u first nodes → AreNextExits nodes u (length (ports_of net u)) more
+pub exits_more : (net : Topology) (u start : ℕ) (first nodes more : List ℕ) → u < node_count net → start ≡ length nodes → AreExits net u first nodes → AreNextExits nodes u (length (ports_of net u)) more
     → AreExits net (u + 1) (first ++ start ∷ []) more
 exits_more net u start first nodes more lt begins so_far next =
     let links : ℕ = length (ports_of net u) in
@@ -110,7 +110,7 @@ exits_more net u start first nodes more lt begins so_far next =
       ];
     }
 
-pub exits_none : (net : Network) (first nodes : List ℕ) → length first ≡ 0 → length nodes ≡ 0 → AreExits net 0 first nodes
+pub exits_none : (net : Topology) (first nodes : List ℕ) → length first ≡ 0 → length nodes ≡ 0 → AreExits net 0 first nodes
 exits_none net first nodes none empty = record {
   every = none;
   starts = λ u lt. absurd (omega (arith, lt));

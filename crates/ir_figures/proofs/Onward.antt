@@ -6,36 +6,36 @@ use Rattle.std.proofs.lemmas.Option.{slice_get_within}
 use Rattle.ir_model.specs.declared.Hop.{Hop}
 use Rattle.ir_model.specs.declared.Kind.{Kind}
 use Rattle.ir_model.specs.declared.Kind.TheVariants.{Tree, Shortest, Compact}
-use Rattle.ir_model.specs.Network.{node_count, ports_of, port_at}
-use Rattle.ir_model.specs.Scheme.{Scheme, IsScheme, IsTableOf, table_port, node_in}
-use Rattle.ir_look.proofs.WalkLines.{plan_next}
+use Rattle.ir_model.specs.Topology.{node_count, ports_of, port_at}
+use Rattle.ir_model.specs.Plan.{Plan, IsPlan, IsTableOf, table_port, node_in}
+use Rattle.ir_show.proofs.WalkLines.{plan_next}
 use Rattle.ir_figures.specs.Exits.{AreOnward, IsMarkedFor}
 
 -- no port leads from a node to itself
-own_none : (s : Scheme) → IsScheme s → (k : Kind) → s.kind ≡ k → (d : ℕ) → d < node_count s.network → table_port s d d ≡ None
-own_none s is Tree e d lt = (subst (λ (k : Kind). IsTableOf k s.network s.order is.parents (table_port s)) e is.table).own d lt
-own_none s is Shortest e d lt = (subst (λ (k : Kind). IsTableOf k s.network s.order is.parents (table_port s)) e is.table).own d lt
-own_none s is Compact e d lt = (subst (λ (k : Kind). IsTableOf k s.network s.order is.parents (table_port s)) e is.table).nearer.own d lt
+own_none : (s : Plan) → IsPlan s → (k : Kind) → s.kind ≡ k → (d : ℕ) → d < node_count s.topology → table_port s d d ≡ None
+own_none s is Tree e d lt = (subst (λ (k : Kind). IsTableOf k s.topology s.order is.parents (table_port s)) e is.table).own d lt
+own_none s is Shortest e d lt = (subst (λ (k : Kind). IsTableOf k s.topology s.order is.parents (table_port s)) e is.table).own d lt
+own_none s is Compact e d lt = (subst (λ (k : Kind). IsTableOf k s.topology s.order is.parents (table_port s)) e is.table).nearer.own d lt
 
-pub goes_elsewhere : (s : Scheme) → IsScheme s → (u d p : ℕ) → d < node_count s.network → table_port s u d ≡ Some p → u ≢ d
+pub goes_elsewhere : (s : Plan) → IsPlan s → (u d p : ℕ) → d < node_count s.topology → table_port s u d ≡ Some p → u ≢ d
 goes_elsewhere s is u d p lt held e =
     let own : table_port s u d ≡ None = ap (λ (x : ℕ). table_port s x d) e ∙ own_none s is s.kind refl d lt in
     cc (held, own)
 
 -- a port of the table leads somewhere
-pub port_leads : (s : Scheme) → IsScheme s → (u d p : ℕ) → u < node_count s.network → d < node_count s.network → table_port s u d ≡ Some p → (hop : Hop) × (port_at s.network u p ≡ Some hop)
+pub port_leads : (s : Plan) → IsPlan s → (u d p : ℕ) → u < node_count s.topology → d < node_count s.topology → table_port s u d ≡ Some p → (hop : Hop) × (port_at s.topology u p ≡ Some hop)
 port_leads s is u d p hu hd held =
     let next = plan_next s is u d hu hd (goes_elsewhere s is u d p hd held) in
     let same : next.1.port ≡ p = cc (next.1.held, held) in
-    (next.0, subst (λ (x : ℕ). port_at s.network u x ≡ Some next.0) same next.1.there)
+    (next.0, subst (λ (x : ℕ). port_at s.topology u x ≡ Some next.0) same next.1.there)
 
-pub port_below : (s : Scheme) → IsScheme s → (u d p : ℕ) → u < node_count s.network → d < node_count s.network → table_port s u d ≡ Some p → p < length (ports_of s.network u)
+pub port_below : (s : Plan) → IsPlan s → (u d p : ℕ) → u < node_count s.topology → d < node_count s.topology → table_port s u d ≡ Some p → p < length (ports_of s.topology u)
 port_below s is u d p hu hd held =
     let leads = port_leads s is u d p hu hd held in
-    slice_get_within (ports_of s.network u) p leads.0 leads.1
+    slice_get_within (ports_of s.topology u) p leads.0 leads.1
 
 -- one more port is marked
-pub marked_for : (s : Scheme) (v a q : ℕ) (old : List Bool) → table_port s v (node_in s a) ≡ Some q → q < length old → IsMarkedFor s v a old (set old q true)
+pub marked_for : (s : Plan) (v a q : ℕ) (old : List Bool) → table_port s v (node_in s a) ≡ Some q → q < length old → IsMarkedFor s v a old (set old q true)
 marked_for s v a q old held lt = record {
   every = length-set old q true;
   kept = λ x was. elim (cases_eq x q) [
@@ -56,7 +56,7 @@ mark_within marks q at = elim (cases_lt q (length marks)) [
   | inr past ↦ absurd (let none : slice_index_or marks q false ≡ false = get_or_past marks q false past in cc (at, none))
 ]
 
-pub no_onward : (s : Scheme) (u p v : ℕ) (marks : List Bool) (count : ℕ) → marks ≡ replicate count false → count ≡ length (ports_of s.network v) → AreOnward s u p v 0 marks
+pub no_onward : (s : Plan) (u p v : ℕ) (marks : List Bool) (count : ℕ) → marks ≡ replicate count false → count ≡ length (ports_of s.topology v) → AreOnward s u p v 0 marks
 no_onward s u p v marks count is all =
     let none : (q : ℕ) → slice_index_or (replicate count false) q false ≡ true → ⊥ = λ q at.
     (let lt : q < count = subst (λ (n : ℕ). q < n) (length-replicate count false) (mark_within (replicate count false) q at) in
@@ -69,7 +69,7 @@ no_onward s u p v marks count is all =
     }
 
 -- the next label goes by p, and its port is marked
-pub onward_marked : (s : Scheme) (u p v a : ℕ) (old new : List Bool) → a < node_count s.network → table_port s u (node_in s a) ≡ Some p → AreOnward s u p v a old → IsMarkedFor s v a old new → AreOnward s u p v (a + 1) new
+pub onward_marked : (s : Plan) (u p v a : ℕ) (old new : List Bool) → a < node_count s.topology → table_port s u (node_in s a) ≡ Some p → AreOnward s u p v a old → IsMarkedFor s v a old new → AreOnward s u p v (a + 1) new
 onward_marked s u p v a old new lt here so_far mark = record {
   every = mark.every ∙ so_far.every;
   passed = λ b q below by on. elim (cases_eq b a) [
@@ -83,7 +83,7 @@ onward_marked s u p v a old new lt here so_far mark = record {
 }
 
 -- the next label goes by another port
-pub onward_passed_by : (s : Scheme) (u p v a : ℕ) (marks : List Bool) → (table_port s u (node_in s a) ≢ Some p) → AreOnward s u p v a marks → AreOnward s u p v (a + 1) marks
+pub onward_passed_by : (s : Plan) (u p v a : ℕ) (marks : List Bool) → (table_port s u (node_in s a) ≢ Some p) → AreOnward s u p v a marks → AreOnward s u p v (a + 1) marks
 onward_passed_by s u p v a marks other so_far = record {
   every = so_far.every;
   passed = λ b q below by on. elim (cases_eq b a) [

@@ -1,9 +1,9 @@
 -- The most intervals at one port, as k of k-interval routing (van Leeuwen and Tan 1987).
 use Rattle.std.specs.Prelude.{◌≡◌, ℕ, ◌<◌, ◌≤◌, ◌==◌, List, length, Option, None, Some, count_by}
-use Rattle.ir_model.specs.Network.{node_count, ports_of}
+use Rattle.ir_model.specs.Topology.{node_count, ports_of}
 use Rattle.ir_model.specs.Row.{Start, start_ports}
-use Rattle.ir_model.specs.Scheme.{Scheme, row_in}
-use Rattle.ir_look.specs.StatsText.{IsEarlier}
+use Rattle.ir_model.specs.Plan.{Plan, row_in}
+use Rattle.ir_show.specs.StatsText.{IsEarlier}
 use Rattle.ir_figures.specs.declared.most.Most.{Most}
 
 -- how many intervals of a row go by port p
@@ -11,23 +11,23 @@ abbrev pub intervals_at : List Start → ℕ → ℕ
 intervals_at row p = count_by (λ q. q == p) (start_ports row)
 
 -- u has a port p
-abbrev pub HasPort : Scheme → ℕ → ℕ → Type 0
-HasPort s u p = (u < node_count s.network) × (p < length (ports_of s.network u))
+abbrev pub HasPortNumber : Plan → ℕ → ℕ → Type 0
+HasPortNumber s u p = (u < node_count s.topology) × (p < length (ports_of s.topology u))
 
 -- Of the ports before port p of u, by node and then by number, that of `most` has the most intervals, and is the first
 -- that has as many.
-pub record IsMostBefore (s : Scheme) (u p : ℕ) (most : Most) : Type 0 where
-  pub node : most.node < node_count s.network
-  pub port : most.port < length (ports_of s.network most.node)
+pub record IsMostBefore (s : Plan) (u p : ℕ) (most : Most) : Type 0 where
+  pub node : most.node < node_count s.topology
+  pub port : most.port < length (ports_of s.topology most.node)
   pub count : most.count ≡ intervals_at (row_in s most.node) most.port
-  pub greatest : (v q : ℕ) → HasPort s v q → IsEarlier v q u p → intervals_at (row_in s v) q ≤ most.count
-  pub first : (v q : ℕ) → HasPort s v q → IsEarlier v q most.node most.port → intervals_at (row_in s v) q < most.count
+  pub greatest : (v q : ℕ) → HasPortNumber s v q → IsEarlier v q u p → intervals_at (row_in s v) q ≤ most.count
+  pub first : (v q : ℕ) → HasPortNumber s v q → IsEarlier v q most.node most.port → intervals_at (row_in s v) q < most.count
 
 -- the same, where there is such a port
-abbrev pub AreMostBefore : Scheme → ℕ → ℕ → Option Most → Type 0
-AreMostBefore s u p None = (v q : ℕ) → HasPort s v q → IsEarlier v q u p → ⊥
+abbrev pub AreMostBefore : Plan → ℕ → ℕ → Option Most → Type 0
+AreMostBefore s u p None = (v q : ℕ) → HasPortNumber s v q → IsEarlier v q u p → ⊥
 AreMostBefore s u p (Some most) = IsMostBefore s u p most
 
 -- of all ports
-abbrev pub AreMost : Scheme → Option Most → Type 0
-AreMost s most = AreMostBefore s (node_count s.network) 0 most
+abbrev pub AreMost : Plan → Option Most → Type 0
+AreMost s most = AreMostBefore s (node_count s.topology) 0 most

@@ -1,15 +1,15 @@
 -- The directed links of a network in a row: those that leave a node stand by port, behind those of the nodes before it.
 use Rattle.std.specs.Prelude.{◌≡◌, ℕ, ◌+◌, ◌<◌, ◌≤◌, ◌⊎◌, Bool, true, Option, Some, List, [], ◌++◌, replicate, length, take, sum_by, slice_index, slice_index_or, None, false}
 use Rattle.ir_model.specs.declared.Hop.{Hop}
-use Rattle.ir_model.specs.Network.{Network, node_count, ports_of, port_at}
-use Rattle.ir_model.specs.Scheme.{Scheme, table_port, node_in}
+use Rattle.ir_model.specs.Topology.{Topology, node_count, ports_of, port_at}
+use Rattle.ir_model.specs.Plan.{Plan, table_port, node_in}
 
 -- how many links leave the nodes before u
-abbrev pub exits_before : Network → ℕ → ℕ
+abbrev pub exits_before : Topology → ℕ → ℕ
 exits_before net u = sum_by length (take u net.ports)
 
 -- where the links of each of the first so many nodes begin, and the node that each of these links leaves
-pub record AreExits (net : Network) (count : ℕ) (first nodes : List ℕ) : Type 0 where
+pub record AreExits (net : Topology) (count : ℕ) (first nodes : List ℕ) : Type 0 where
   pub every : length first ≡ count
   pub starts : (u : ℕ) → u < count → slice_index first u ≡ exits_before net u
   pub all : length nodes ≡ exits_before net count
@@ -18,43 +18,43 @@ pub record AreExits (net : Network) (count : ℕ) (first nodes : List ℕ) : Typ
   pub below : (c : ℕ) → c < length nodes → c < exits_before net (slice_index nodes c + 1)
 
 -- the ports of u by label
-pub record ArePortsByLabel (s : Scheme) (u : ℕ) (ports : List (Option ℕ)) : Type 0 where
-  pub every : length ports ≡ node_count s.network
-  pub each : (a : ℕ) → a < node_count s.network → slice_index_or ports a None ≡ table_port s u (node_in s a)
+pub record ArePortsByLabel (s : Plan) (u : ℕ) (ports : List (Option ℕ)) : Type 0 where
+  pub every : length ports ≡ node_count s.topology
+  pub each : (a : ℕ) → a < node_count s.topology → slice_index_or ports a None ≡ table_port s u (node_in s a)
 
 -- A mark for each port of v: where what goes from u by port p to some label leaves v by that port.
-pub record AreOnward (s : Scheme) (u p v count : ℕ) (marks : List Bool) : Type 0 where
-  pub every : length marks ≡ length (ports_of s.network v)
+pub record AreOnward (s : Plan) (u p v count : ℕ) (marks : List Bool) : Type 0 where
+  pub every : length marks ≡ length (ports_of s.topology v)
   pub passed : (a q : ℕ) → a < count → table_port s u (node_in s a) ≡ Some p → table_port s v (node_in s a) ≡ Some q → slice_index_or marks q false ≡ true
   pub only : (q : ℕ) → slice_index_or marks q false ≡ true
-      → (a : ℕ) × (a < node_count s.network) × (table_port s u (node_in s a) ≡ Some p) × (table_port s v (node_in s a) ≡ Some q)
+      → (a : ℕ) × (a < node_count s.topology) × (table_port s u (node_in s a) ≡ Some p) × (table_port s v (node_in s a) ≡ Some q)
 
 -- the place c of blocks and marks is that of the link by port p of u
-pub record IsExitAt (s : Scheme) (blocks : List ℕ) (marks : List (List Bool)) (u p c : ℕ) : Type 0 where
+pub record IsExitAt (s : Plan) (blocks : List ℕ) (marks : List (List Bool)) (u p c : ℕ) : Type 0 where
   pub hop : Hop
-  pub leads : port_at s.network u p ≡ Some hop
-  pub block : slice_index blocks c ≡ exits_before s.network hop.node
-  pub onward : AreOnward s u p hop.node (node_count s.network) (slice_index_or marks c [])
+  pub leads : port_at s.topology u p ≡ Some hop
+  pub block : slice_index blocks c ≡ exits_before s.topology hop.node
+  pub onward : AreOnward s u p hop.node (node_count s.topology) (slice_index_or marks c [])
 
 -- the node u stands behind the others, so many times
 abbrev pub AreNextExits : List ℕ → ℕ → ℕ → List ℕ → Type 0
 AreNextExits old u count new = new ≡ old ++ replicate count u
 
 -- the marks with one more, for the port of v to the label a
-pub record IsMarkedFor (s : Scheme) (v a : ℕ) (old new : List Bool) : Type 0 where
+pub record IsMarkedFor (s : Plan) (v a : ℕ) (old new : List Bool) : Type 0 where
   pub every : length new ≡ length old
   pub kept : (q : ℕ) → slice_index_or old q false ≡ true → slice_index_or new q false ≡ true
   pub marked : (q : ℕ) → table_port s v (node_in s a) ≡ Some q → slice_index_or new q false ≡ true
   pub only : (q : ℕ) → slice_index_or new q false ≡ true → (slice_index_or old q false ≡ true) ⊎ (table_port s v (node_in s a) ≡ Some q)
 
 -- the blocks and the marks of the first so many links
-pub record AreLinks (s : Scheme) (blocks : List ℕ) (marks : List (List Bool)) (count : ℕ) : Type 0 where
+pub record AreLinks (s : Plan) (blocks : List ℕ) (marks : List (List Bool)) (count : ℕ) : Type 0 where
   pub every_block : length blocks ≡ count
   pub every_row : length marks ≡ count
-  pub each : (v r : ℕ) → v < node_count s.network → r < length (ports_of s.network v) → exits_before s.network v + r < count
-      → IsExitAt s blocks marks v r (exits_before s.network v + r)
+  pub each : (v r : ℕ) → v < node_count s.topology → r < length (ports_of s.topology v) → exits_before s.topology v + r < count
+      → IsExitAt s blocks marks v r (exits_before s.topology v + r)
 
 -- the nodes that links of these numbers leave
-pub record AreNodesOf (nodes ring named : List ℕ) : Type 0 where
+pub record AreLeftBy (nodes ring named : List ℕ) : Type 0 where
   pub every : length named ≡ length ring
   pub each : (i : ℕ) → i < length ring → slice_index named i ≡ slice_index nodes (slice_index ring i)

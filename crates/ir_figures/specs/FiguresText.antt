@@ -2,24 +2,24 @@
 use Rattle.std.specs.Prelude.{◌≡◌, ℕ, ◌++◌, List, [], ◌∷◌, map, decimal, codes, Option, None, Some}
 use Rattle.std.specs.Option.{option_map_or}
 use Rattle.ir_model.specs.Graph.{Name}
-use Rattle.ir_model.specs.Network.{Network, node_count, port_at}
-use Rattle.ir_model.specs.Scheme.{Scheme}
+use Rattle.ir_model.specs.Topology.{Topology, node_count, port_at}
+use Rattle.ir_model.specs.Plan.{Plan}
 use Rattle.ir_trace.specs.Written.{name_at}
-use Rattle.ir_look.specs.Words.{line_text}
-use Rattle.ir_look.specs.StatsText.{IsStatsOf}
+use Rattle.ir_show.specs.Words.{line_text}
+use Rattle.ir_show.specs.StatsText.{IsStatsOf}
 use Rattle.ir_figures.specs.declared.most.Most.{Most}
 use Rattle.ir_figures.specs.Compactness.{AreMost}
 use Rattle.ir_figures.specs.RowBits.{AreBitsBefore}
 use Rattle.ir_figures.specs.Waits.{IsWithoutRing, IsWaitingRing}
 
 -- the node behind a port
-abbrev pub behind : Network → ℕ → ℕ → ℕ
+abbrev pub behind : Topology → ℕ → ℕ → ℕ
 behind net u p = option_map_or (λ hop. hop.node) (port_at net u p) 0
 
 -- `compactness NODE NEIGHBOUR COUNT`, where there is a port
-abbrev pub most_line : List Name → Scheme → Option Most → List ℕ
+abbrev pub most_line : List Name → Plan → Option Most → List ℕ
 most_line nodes s None = []
-most_line nodes s (Some m) = line_text (codes "compactness" ∷ name_at nodes m.node ∷ name_at nodes (behind s.network m.node m.port) ∷ decimal m.count ∷ [])
+most_line nodes s (Some m) = line_text (codes "compactness" ∷ name_at nodes m.node ∷ name_at nodes (behind s.topology m.node m.port) ∷ decimal m.count ∷ [])
 
 -- `bits ROWS TABLES`
 abbrev pub bits_line : ℕ → ℕ → List ℕ
@@ -31,19 +31,19 @@ ring_line nodes None = line_text (codes "dependencies" ∷ codes "acyclic" ∷ [
 ring_line nodes (Some ring) = line_text (codes "dependencies" ∷ codes "cycle" ∷ map (name_at nodes) ring)
 
 -- the links of a ring that wait for each other leave these nodes; without, no links do so
-abbrev pub IsRingOf : Scheme → Option (List ℕ) → Type 0
+abbrev pub IsRingOf : Plan → Option (List ℕ) → Type 0
 IsRingOf s None = IsWithoutRing s
 IsRingOf s (Some ring) = (ports : List ℕ) × IsWaitingRing s ring ports
 
--- The text has the figures of a scheme, and behind them those of the field.
-pub record AreFiguresOf (nodes : List Name) (s : Scheme) (text : List ℕ) : Type 0 where
+-- The text has the figures of a plan, and behind them those of the field.
+pub record AreFiguresOf (nodes : List Name) (s : Plan) (text : List ℕ) : Type 0 where
   pub figures : List ℕ
   pub stats : IsStatsOf nodes s figures
   pub most : Option Most
   pub most_are : AreMost s most
   pub rows : ℕ
   pub tables : ℕ
-  pub bits : AreBitsBefore s (node_count s.network) rows tables
+  pub bits : AreBitsBefore s (node_count s.topology) rows tables
   pub ring : Option (List ℕ)
   pub ring_is : IsRingOf s ring
   pub whole : text ≡ ((figures ++ most_line nodes s most) ++ bits_line rows tables) ++ ring_line nodes ring

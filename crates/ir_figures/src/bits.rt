@@ -1,7 +1,7 @@
 //! How many bits the rows of a plan take, and full tables.
 ghost use Rattle.std.specs.Prelude.{◌≡◌, ◌+◌, ◌*◌, ◌<◌, ◌≤◌};
-ghost use Rattle.ir_model.specs.Network.{node_count};
-ghost use Rattle.ir_model.specs.Scheme.{IsScheme};
+ghost use Rattle.ir_model.specs.Topology.{node_count};
+ghost use Rattle.ir_model.specs.Plan.{IsPlan};
 ghost use Rattle.ir_prefix.specs.Longest.{IsWidth};
 ghost use Rattle.ir_figures.specs.RowBits.{AreBitsBefore};
 
@@ -17,9 +17,9 @@ pub struct Bits {
 
 /// The bits up to those of a node, by those of the nodes before it.
 fn bits_with(plan: &Plan, label: u8, u: u16, before: Bits) -> Bits
-    requires scheme { IsScheme plan.now }
-    requires node { u < node_count plan.now.network }
-    requires label { IsWidth (node_count plan.now.network) label }
+    requires plan { IsPlan plan.now }
+    requires node { u < node_count plan.now.topology }
+    requires label { IsWidth (node_count plan.now.topology) label }
     requires light { (before.rows ≤ 1048576 * u) × (before.tables ≤ 1048576 * u) }
     requires before { AreBitsBefore plan.now u before.rows before.tables }
     ensures light { (result.rows ≤ 1048576 * (u + 1)) × (result.tables ≤ 1048576 * (u + 1)) }
@@ -37,7 +37,7 @@ fn bits_with(plan: &Plan, label: u8, u: u16, before: Bits) -> Bits
 /// The bits of a plan's rows, of which each start takes those of a label and of a port of the node, and of full tables by
 /// label, of which each entry takes those of a port of the node. Takes O(n), for n nodes.
 pub fn bits_of(plan: &Plan) -> Bits
-    ensures { AreBitsBefore plan.now (node_count plan.now.network) result.rows result.tables }
+    ensures { AreBitsBefore plan.now (node_count plan.now.topology) result.rows result.tables }
 {
     let label = width(plan.nodes() as u16);
     let mut bits = Bits { rows: 0, tables: 0 };

@@ -1,6 +1,6 @@
 //! The directed links of a network, in a row.
 ghost use Rattle.std.specs.Prelude.{◌≡◌, ◌+◌, ◌<◌, ◌≤◌, IfOk, OnOk, length};
-ghost use Rattle.ir_model.specs.Network.{node_count, ports_of};
+ghost use Rattle.ir_model.specs.Topology.{node_count, ports_of};
 ghost use Rattle.ir_figures.specs.Exits.{AreExits, AreNextExits};
 
 use ir_tables::Topology;

@@ -1,8 +1,8 @@
 //! The port that the most intervals of a plan go by.
 ghost use Rattle.std.specs.Prelude.{◌≡◌, ◌+◌, ◌<◌};
-ghost use Rattle.ir_model.specs.Network.{node_count};
-ghost use Rattle.ir_model.specs.Scheme.{IsScheme};
-ghost use Rattle.ir_figures.specs.Compactness.{intervals_at, HasPort, AreMostBefore, AreMost};
+ghost use Rattle.ir_model.specs.Topology.{node_count};
+ghost use Rattle.ir_model.specs.Plan.{IsPlan};
+ghost use Rattle.ir_figures.specs.Compactness.{intervals_at, HasPortNumber, AreMostBefore, AreMost};
 
 use ir_lookup::Row;
 use ir_plan::Plan;
@@ -30,7 +30,7 @@ fn intervals_at(row: &Row, p: u16) -> usize
 
 /// The port of the most intervals up to a port of a node, by that of the ports before it.
 fn more_of(plan: &Plan, u: u16, p: u16, best: Option<Most>) -> Option<Most>
-    requires port { HasPort plan.now u p }
+    requires port { HasPortNumber plan.now u p }
     requires best { AreMostBefore plan.now u p best }
     ensures { AreMostBefore plan.now u (p + 1) result }
 {
@@ -51,8 +51,8 @@ fn more_of(plan: &Plan, u: u16, p: u16, best: Option<Most>) -> Option<Most>
 
 /// The port of the most intervals up to those of a node, by that of the ports of the nodes before it.
 fn most_of_node(plan: &Plan, u: u16, best: Option<Most>) -> Option<Most>
-    requires scheme { IsScheme plan.now }
-    requires node { u < node_count plan.now.network }
+    requires plan { IsPlan plan.now }
+    requires node { u < node_count plan.now.topology }
     requires best { AreMostBefore plan.now u 0 best }
     ensures { AreMostBefore plan.now (u + 1) 0 result }
 {

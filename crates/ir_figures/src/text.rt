@@ -2,18 +2,18 @@
 ghost use Rattle.std.specs.Prelude.{◌≡◌, ◌<◌, ◌++◌, ℕ, IfOk, IfSome, OnOk, flat_map, length, map, slice_index, string_bytes};
 ghost use Rattle.std.specs.Option.{option_map};
 ghost use Rattle.ir_model.specs.Graph.{names};
-ghost use Rattle.ir_model.specs.Network.{node_count};
+ghost use Rattle.ir_model.specs.Topology.{node_count};
 ghost use Rattle.ir_trace.specs.Rows.{spaced};
 ghost use Rattle.ir_trace.specs.Written.{name_at};
-ghost use Rattle.ir_figures.specs.Compactness.{HasPort};
+ghost use Rattle.ir_figures.specs.Compactness.{HasPortNumber};
 ghost use Rattle.ir_figures.specs.FiguresText.{most_line, bits_line, ring_line, AreFiguresOf};
 
 use crate::bits::{Bits, bits_of};
 use crate::most::{Most, most_intervals};
 use crate::waits::waiting_ring;
 use ir_graph::Graph;
-use ir_look::stats_text;
 use ir_plan::Plan;
+use ir_show::stats_text;
 use ir_trace::text::{push_name, push_next_number};
 use std::alloc::{AllocError, Global};
 
@@ -24,8 +24,8 @@ fn push_most(
     plan: &Plan,
     most: Option<Most>,
 ) -> Result<(), AllocError>
-    requires nodes { node_count plan.now.network ≡ length graph.now }
-    requires port { IfSome most (λ m. HasPort plan.now m.node m.port) }
+    requires nodes { node_count plan.now.topology ≡ length graph.now }
+    requires port { IfSome most (λ m. HasPortNumber plan.now m.node m.port) }
     ensures { OnOk result (string_bytes text.new ≡ string_bytes text.old
         ++ most_line (names graph.now) plan.now most) }
 {
@@ -66,7 +66,7 @@ fn push_names(text: &mut String, graph: &Graph, ring: &[u16]) -> Result<(), Allo
 }
 
 /// Writes the line of the ring of links that wait for each other, if there is one.
-#[tactic(auto, using(ir_look::proofs::PlanLines::words_of_a_line))]
+#[tactic(auto, using(ir_show::proofs::PlanLines::words_of_a_line))]
 fn push_ring(text: &mut String, graph: &Graph, ring: &Option<Vec<u16>>) -> Result<(), AllocError>
     requires { IfSome ring.now (λ r. (i : ℕ) → i < length r.items → slice_index r.items i < length graph.now) }
     ensures { OnOk result (string_bytes text.new
@@ -83,10 +83,10 @@ fn push_ring(text: &mut String, graph: &Graph, ring: &Option<Vec<u16>>) -> Resul
 }
 
 /// The text of the figures of a plan, those of the field behind the others. Condition: the plan is over the graph's
-/// network. It is refused for memory alone. Takes as long as `stats_text` of `ir_look`, `most_intervals` and
+/// network. It is refused for memory alone. Takes as long as `stats_text` of `ir_show`, `most_intervals` and
 /// `waiting_ring`.
 pub fn figures_text(alloc: Global, graph: &Graph, plan: &Plan) -> Result<String, AllocError>
-    requires { node_count plan.now.network ≡ length graph.now }
+    requires { node_count plan.now.topology ≡ length graph.now }
     ensures { IfOk result (λ text. AreFiguresOf (names graph.now) plan.now (string_bytes text)) }
 {
     let ring = waiting_ring(alloc, plan)?;

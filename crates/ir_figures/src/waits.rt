@@ -1,10 +1,10 @@
 //! Rings of directed links that wait for each other.
 ghost use Rattle.std.specs.Prelude.{◌≡◌, ◌↔◌, ◌+◌, ◌<◌, ℕ, List, Some, IsTrue, IfNone, IfOk, IfSome, OnOk, length, slice_index};
-ghost use Rattle.ir_model.specs.Network.{node_count, ports_of};
-ghost use Rattle.ir_model.specs.Scheme.{IsScheme};
+ghost use Rattle.ir_model.specs.Topology.{node_count, ports_of};
+ghost use Rattle.ir_model.specs.Plan.{IsPlan};
 ghost use Rattle.ir_cycles.specs.Arcs.{marks_of};
 ghost use Rattle.ir_figures.specs.Waits.{IsWithoutRing, IsWaitingRing};
-ghost use Rattle.ir_figures.specs.Exits.{exits_before, AreExits, ArePortsByLabel, AreOnward, IsMarkedFor, AreLinks, AreNodesOf};
+ghost use Rattle.ir_figures.specs.Exits.{exits_before, AreExits, ArePortsByLabel, AreOnward, IsMarkedFor, AreLinks, AreLeftBy};
 
 use crate::exits::{Exits, exits_of};
 use ir_cycles::ring_of;
@@ -21,7 +21,7 @@ struct Links {
 
 /// The ports of a node by label, none at its own.
 fn ports_by_label(alloc: Global, plan: &Plan, u: u16) -> Result<Vec<Option<u16>>, AllocError>
-    requires { u < node_count plan.now.network }
+    requires { u < node_count plan.now.topology }
     ensures { IfOk result (λ ports. ArePortsByLabel plan.now u ports.items) }
 {
     let mut ports = Vec::with_capacity(alloc, plan.nodes())?;
@@ -33,10 +33,10 @@ fn ports_by_label(alloc: Global, plan: &Plan, u: u16) -> Result<Vec<Option<u16>>
 
 /// Marks the port of a node to a label.
 fn mark_port(plan: &Plan, v: u16, a: u16, marks: &mut Vec<bool>)
-    requires scheme { IsScheme plan.now }
-    requires node { v < node_count plan.now.network }
-    requires label { a < node_count plan.now.network }
-    requires every { length marks.old.items ≡ length (ports_of plan.now.network v) }
+    requires plan { IsPlan plan.now }
+    requires node { v < node_count plan.now.topology }
+    requires label { a < node_count plan.now.topology }
+    requires every { length marks.old.items ≡ length (ports_of plan.now.topology v) }
     ensures { IsMarkedFor plan.now v a marks.old.items marks.new.items }
 {
     if let Some(q) = plan.port(v, a) {
@@ -64,8 +64,8 @@ fn onward(
     v: u16,
 ) -> Result<Vec<bool>, AllocError>
     requires ports { ArePortsByLabel plan.now u ports.now }
-    requires node { v < node_count plan.now.network }
-    ensures { IfOk result (λ marks. AreOnward plan.now u p v (node_count plan.now.network) marks.items) }
+    requires node { v < node_count plan.now.topology }
+    ensures { IfOk result (λ marks. AreOnward plan.now u p v (node_count plan.now.topology) marks.items) }
 {
     let _ = u;
     let mut marks = vec![in alloc; false; plan.topology().degree(v)]?;
@@ -85,13 +85,13 @@ fn push_links(
     links: &mut Links,
     u: u16,
 ) -> Result<(), AllocError>
-    requires scheme { IsScheme plan.now }
-    requires node { u < node_count plan.now.network }
-    requires first { (nodes : List ℕ) × AreExits plan.now.network (node_count plan.now.network) first.now nodes }
+    requires plan { IsPlan plan.now }
+    requires node { u < node_count plan.now.topology }
+    requires first { (nodes : List ℕ) × AreExits plan.now.topology (node_count plan.now.topology) first.now nodes }
     requires links { AreLinks plan.now links.old.begins.items (marks_of links.old.marks.items)
-        (exits_before plan.now.network u) }
+        (exits_before plan.now.topology u) }
     ensures { OnOk result (AreLinks plan.now links.new.begins.items (marks_of links.new.marks.items)
-        (exits_before plan.now.network (u + 1))) }
+        (exits_before plan.now.topology (u + 1))) }
 {
     let ports = ports_by_label(alloc, plan, u)?;
     for p in 0..plan.topology().degree(u) {
@@ -105,9 +105,9 @@ fn push_links(
 
 /// The links of a plan's network.
 fn links_of(alloc: Global, plan: &Plan, first: &[u32]) -> Result<Links, AllocError>
-    requires first { (nodes : List ℕ) × AreExits plan.now.network (node_count plan.now.network) first.now nodes }
+    requires first { (nodes : List ℕ) × AreExits plan.now.topology (node_count plan.now.topology) first.now nodes }
     ensures { IfOk result (λ links. AreLinks plan.now links.begins.items (marks_of links.marks.items)
-        (exits_before plan.now.network (node_count plan.now.network))) }
+        (exits_before plan.now.topology (node_count plan.now.topology))) }
 {
     let mut links = Links {
         begins: Vec::new(alloc),
@@ -122,7 +122,7 @@ fn links_of(alloc: Global, plan: &Plan, first: &[u32]) -> Result<Links, AllocErr
 /// The nodes that links leave, by the links' numbers.
 fn nodes_of(alloc: Global, nodes: &[u16], ring: &[u32]) -> Result<Vec<u16>, AllocError>
     requires { (i : ℕ) → i < length ring.now → slice_index ring.now i < length nodes.now }
-    ensures { IfOk result (λ named. AreNodesOf nodes.now ring.now named.items) }
+    ensures { IfOk result (λ named. AreLeftBy nodes.now ring.now named.items) }
 {
     let mut named = Vec::with_capacity(alloc, ring.len())?;
     for c in ring {

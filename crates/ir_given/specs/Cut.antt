@@ -4,5 +4,5 @@ use Rattle.std.specs.Borrow.{Bor}
 use Rattle.ir_model.specs.Graph.{Name}
 
 -- the texts that a list of words points to
-abbrev pub texts : List (Bor (List ℕ)) → List Name
-texts found = map (λ word. word.now) found
+abbrev pub pointed_texts : List (Bor (List ℕ)) → List Name
+pointed_texts found = map (λ word. word.now) found

@@ -1,19 +1,19 @@
 //! Where a row of a trace leaves the walks of its epochs.
 ghost use Rattle.std.specs.Prelude.{◌≡◌, IfOk, IfSome};
-ghost use Rattle.ir_model.specs.Network.{node_count};
-ghost use Rattle.ir_model.specs.OfGraph.{network_of_graph};
+ghost use Rattle.ir_model.specs.Topology.{node_count};
+ghost use Rattle.ir_model.specs.OfGraph.{topology_of_graph};
 ghost use Rattle.ir_trace.specs.Checked.{AreInstalls, AreRowsOver};
 
 use crate::parts::Parts;
 use crate::sentence::push_quoted;
+use ir_cli::open::{opening_of, root_of};
+use ir_cli::words::Words;
 use ir_core::{Install, OpenError, installs};
 use ir_departure::{Departure, departure};
 use ir_graph::Graph;
 use ir_script::{ScriptFault, parse_script};
 use ir_tables::Topology;
 use ir_trace::{FindingKind, Segment, Trace, read_trace};
-use ir_words::open::{opening_of, root_of};
-use ir_words::words::Words;
 use std::alloc::{AllocError, Global};
 use std::thread::Threads;
 
@@ -173,7 +173,7 @@ fn installs_of(
     words: &Words,
     script: &[u8],
 ) -> Result<Option<Vec<Install>>, AllocError>
-    requires { topology.now ≡ network_of_graph graph.now }
+    requires { topology.now ≡ topology_of_graph graph.now }
     ensures { IfOk result (λ found. IfSome found (λ built. AreInstalls topology.now built.items)) }
 {
     let script = match parse_script(alloc, script, graph, topology) {
@@ -194,7 +194,7 @@ fn installs_of(
 
 /// The trace that a text is; none where it is not one.
 fn trace_of(alloc: Global, graph: &Graph, text: &[u8]) -> Result<Option<Trace>, AllocError>
-    ensures { IfOk result (λ found. IfSome found (AreRowsOver (node_count (network_of_graph graph.now)))) }
+    ensures { IfOk result (λ found. IfSome found (AreRowsOver (node_count (topology_of_graph graph.now)))) }
 {
     match read_trace(alloc, text, graph) {
         Ok(trace) => Ok(Some(trace)),

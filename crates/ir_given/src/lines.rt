@@ -2,7 +2,7 @@
 ghost use Rattle.std.specs.Prelude.{◌≡◌, ◌==◌, IfOk};
 ghost use Rattle.std.specs.List.{count_by};
 ghost use Rattle.ir_model.specs.Text.{words};
-ghost use Rattle.ir_given.specs.Cut.{texts};
+ghost use Rattle.ir_given.specs.Cut.{pointed_texts};
 
 use ir_adjlist::digits::all_digits;
 use ir_adjlist::scan;
@@ -27,7 +27,7 @@ pub fn line_at(text: &[u8], number: usize) -> &[u8] {
 
 /// The words of a line, without its comment.
 pub fn words_of<'a>(alloc: Global, line: &'a [u8]) -> Result<Vec<&'a [u8]>, AllocError>
-    ensures { IfOk result (λ found. texts found.items ≡ words line.now) }
+    ensures { IfOk result (λ found. pointed_texts found.items ≡ words line.now) }
 {
     let mut found = Vec::new(alloc);
     let mut rest = scan::without_comment(line);

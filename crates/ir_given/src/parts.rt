@@ -1,8 +1,8 @@
 //! The texts of a run, and the files that they stand in.
 
 use crate::lines::line_ends;
-use ir_words::cut::cut;
-use ir_words::words::{Numbering, Sub, Words};
+use ir_cli::cut::cut;
+use ir_cli::words::{Numbering, Sub, Words};
 
 /// What kept an input from being read.
 #[derive(Clone, Copy, Debug, PartialEq, Eq)]

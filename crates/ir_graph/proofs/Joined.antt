@@ -11,7 +11,7 @@ use Rattle.std.proofs.lemmas.Bool.{both_ways, eqb-false, eqb-true, ne_eqb}
 use Rattle.ir_model.specs.Graph.{Name, Neighbors, Adjacency, names, neighbors, weight_of, has_node, put, linked, with_node, with_edge, without, unlinked, without_edge}
 use Rattle.ir_model.proofs.Names.{same_names, bytes_eq-same, bytes_eq-swap}
 use Rattle.ir_model.proofs.Graphs.{each_row, names-each_row}
-use Rattle.ir_graph.specs.View.{change_row, joined}
+use Rattle.ir_graph.specs.View.{change_row, linked_rows}
 
 -- what holds of each holds at a place
 pub at_place : {X : Type 0} (P : X → Type 0) (xs : List X) (i : ℕ) (x : X) → AllByRecursion P xs → slice_get xs i ≡ Some x → P x
@@ -69,7 +69,7 @@ module _ (u v : Name) (w : ℕ) where
       by false true s t = absurd (both_ways _ s (ap (bytes_eq r.0) e ∙ t))
       by false false s t = refl
 
-  pub joined-linked : (g : Adjacency) (i j : ℕ) → IsDistinct bytes_eq (names g) → slice_get (names g) i ≡ Some u → slice_get (names g) j ≡ Some v → joined g i j u v w ≡ each_row (linked u v w) g
+  pub joined-linked : (g : Adjacency) (i j : ℕ) → IsDistinct bytes_eq (names g) → slice_get (names g) i ≡ Some u → slice_get (names g) j ≡ Some v → linked_rows g i j u v w ≡ each_row (linked u v w) g
   joined-linked g i j differ at_i at_j = by (nat_eq i j) refl
     where
       half : change_row g i (λ es. put es v w) ≡ each_row (named u (λ es. put es v w)) g

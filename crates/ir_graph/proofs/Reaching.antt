@@ -9,8 +9,8 @@ use Rattle.std.proofs.lemmas.Map.Keys.{IsDistinct-cons}
 use Rattle.std.proofs.lemmas.Map.Steps.{length-le_from_distinct_below, le-length_from_below}
 use Rattle.ir_model.specs.Graph.{Name, Neighbors, Adjacency, names, has_node, has_edge, weight_of, IsGraph}
 use Rattle.ir_model.specs.Places.{place_of, neighbors_at, neighbor_at}
-use Rattle.ir_graph.specs.Paths.{IsPath, IsConnected}
-use Rattle.ir_graph.specs.Reached.{HasPlace, HasWay, HasNeighbors, AreReached, AreClosed, GoesOn}
+use Rattle.ir_graph.specs.Paths.{IsPath, IsConnectedGraph}
+use Rattle.ir_graph.specs.Reached.{HasPlace, HasWay, HasNeighbors, AreReached, AreClosed, HasMoreBehind}
 use Rattle.std.proofs.Math.Bool.{or-false}
 use Rattle.ir_graph.proofs.Joined.{one_place, has_node-weight_of}
 use Rattle.ir_graph.proofs.Places.{link_facts, link_there, at_place_of, place_of_within, has_node_at, name_there}
@@ -34,7 +34,7 @@ there_place (j ∷ places) i h = by (nat_eq i j) refl h (there_place places i)
     by true e h later = (zero, ap (λ (n : ℕ). Some n) (sym (eqb-true i j e)))
     by false e h later = let w = later h in (suc w.0, w.1)
 
-pub kept_place : (before after : List ℕ) → GoesOn before after → (i : ℕ) → HasPlace before i → HasPlace after i
+pub kept_place : (before after : List ℕ) → HasMoreBehind before after → (i : ℕ) → HasPlace before i → HasPlace after i
 kept_place before after on i h = ap (list_any (nat_eq i)) on.1 ∙ list_any-append (nat_eq i) before on.0 ∙ ap (λ b. b || list_any (nat_eq i) on.0) h
 
 kept_at : (xs ys : List ℕ) (k : ℕ) → k < length xs → slice_get (xs ++ ys) k ≡ slice_get xs k
@@ -46,14 +46,14 @@ kept_at (x ∷ xs) ys (suc k) h = kept_at xs ys k (omega (arith, h))
 abbrev pub IsPut : List ℕ → ℕ → List ℕ → Type 0
 IsPut places j after = after ≡ cond (list_any (nat_eq j) places) places (places ++ j ∷ [])
 
-pub goes_on_put : (before places after : List ℕ) (j : ℕ) → GoesOn before places → IsPut places j after → GoesOn before after
+pub goes_on_put : (before places after : List ℕ) (j : ℕ) → HasMoreBehind before places → IsPut places j after → HasMoreBehind before after
 goes_on_put before places after j on e = by (list_any (nat_eq j) places) e
   where
-    by : (b : Bool) → after ≡ cond b places (places ++ j ∷ []) → GoesOn before after
+    by : (b : Bool) → after ≡ cond b places (places ++ j ∷ []) → HasMoreBehind before after
     by true h = (on.0, h ∙ on.1)
     by false h = (on.0 ++ j ∷ [], h ∙ ap (λ t. t ++ j ∷ []) on.1 ∙ append_assoc before on.0 (j ∷ []))
 
-pub goes_on_none : (places : List ℕ) → GoesOn places places
+pub goes_on_none : (places : List ℕ) → HasMoreBehind places places
 goes_on_none places = ([], sym (append-nil places))
 
 pub has_put : (places after : List ℕ) (j : ℕ) → IsPut places j after → HasPlace after j
@@ -122,21 +122,21 @@ module _ (g : Adjacency) (graph : IsGraph g) where
         subst (HasWay g) (sym zero_is) (record { first = first.0; last = first.0; path = []; first_at = first.1; last_at = first.1; way = refl }));
   }
 
-  pub neighbors_more : (before after : List ℕ) (i p : ℕ) → GoesOn before after → HasNeighbors g before i p → ((j w : ℕ) → neighbor_at g i p ≡ Some (j, w) → HasPlace after j) → HasNeighbors g after i (p + 1)
+  pub neighbors_more : (before after : List ℕ) (i p : ℕ) → HasMoreBehind before after → HasNeighbors g before i p → ((j w : ℕ) → neighbor_at g i p ≡ Some (j, w) → HasPlace after j) → HasNeighbors g after i (p + 1)
   neighbors_more before after i p on so_far here q j w h link = by (cases_eq q p)
     where
       by : (q ≡ p) ⊎ (q ≡ p → ⊥) → HasPlace after j
       by (inl e) = here j w (ap (neighbor_at g i) (sym e) ∙ link)
       by (inr ne) = kept_place before after on j (so_far q j w (omega arith) link)
 
-  pub neighbors_kept : (before after : List ℕ) (i p : ℕ) → GoesOn before after → HasNeighbors g before i p → HasNeighbors g after i p
+  pub neighbors_kept : (before after : List ℕ) (i p : ℕ) → HasMoreBehind before after → HasNeighbors g before i p → HasNeighbors g after i p
   neighbors_kept before after i p on so_far q j w h link = kept_place before after on j (so_far q j w h link)
 
   -- the first places that were reached have their neighbours among all that were
   abbrev pub ClosedBefore : List ℕ → ℕ → Type 0
   ClosedBefore places n = (k i : ℕ) → k < n → slice_get places k ≡ Some i → HasNeighbors g places i (length (neighbors_at g i))
 
-  pub closed_more : (before after : List ℕ) (n i : ℕ) → GoesOn before after → ClosedBefore before n → slice_get before n ≡ Some i → HasNeighbors g after i (length (neighbors_at g i)) → ClosedBefore after (n + 1)
+  pub closed_more : (before after : List ℕ) (n i : ℕ) → HasMoreBehind before after → ClosedBefore before n → slice_get before n ≡ Some i → HasNeighbors g after i (length (neighbors_at g i)) → ClosedBefore after (n + 1)
   closed_more before after n i on so_far at all k j h at_k =
       let within : n < length before = slice_get_within before n i at in
       let same : slice_get before k ≡ Some j = sym (ap (λ xs. slice_get xs k) on.1 ∙ kept_at before on.0 k (omega arith)) ∙ at_k in
@@ -189,7 +189,7 @@ module _ (g : Adjacency) (graph : IsGraph g) where
           let more : length (q ∷ places) ≤ length g = length-le_from_distinct_below (q ∷ places) (length g) (IsDistinct-cons nat_eq q places (each_below places q e) reached.differ) below in
           absurd (omega (arith, more, full))
 
-  pub connected_full : (places : List ℕ) → AreReached g places → length places ≡ length g → IsConnected g
+  pub connected_full : (places : List ℕ) → AreReached g places → length places ≡ length g → IsConnectedGraph g
   connected_full places reached full x y node_x node_y =
       let to_x = reached.ways (place_of g x) (all_there places reached full (place_of g x) (place_of_within g x node_x)) in
       let to_y = reached.ways (place_of g y) (all_there places reached full (place_of g y) (place_of_within g y node_y)) in
@@ -222,7 +222,7 @@ module _ (g : Adjacency) (graph : IsGraph g) where
           let link = link_there g graph i (place_of g z) w x z at_i at_z e in
           later (place_of g z) at_z (closed i there link.0 (place_of g z) w (link_within i link.0 (place_of g z) w link.1) link.1)
 
-  pub full_connected : (places : List ℕ) → AreReached g places → AreClosed g places → HasPlace places 0 → 0 < length g → IsConnected g → length places ≡ length g
+  pub full_connected : (places : List ℕ) → AreReached g places → AreClosed g places → HasPlace places 0 → 0 < length g → IsConnectedGraph g → length places ≡ length g
   full_connected places reached closed first some connected =
       let start = name_there g 0 some in
       let more : length g ≤ length places = le-length_from_below places (length g) (λ q h.

@@ -25,12 +25,12 @@ Refuses fault NoMemory = fault ≡ None
 Refuses fault e = fault ≡ Some e
 
 -- the number of an error
-abbrev pub code_of : GraphError → ℕ
-code_of BadName = 1
-code_of BadWeight = 2
-code_of NoNode = 3
-code_of NoEdge = 4
-code_of TooManyNodes = 5
-code_of TooManyEdges = 6
-code_of EmptyGraph = 7
-code_of NoMemory = 8
+abbrev pub graph_code : GraphError → ℕ
+graph_code BadName = 1
+graph_code BadWeight = 2
+graph_code NoNode = 3
+graph_code NoEdge = 4
+graph_code TooManyNodes = 5
+graph_code TooManyEdges = 6
+graph_code EmptyGraph = 7
+graph_code NoMemory = 8

@@ -10,8 +10,8 @@ IsPath g x y [] = x ≡ y
 IsPath g x y (z ∷ rest) = (has_edge g x z ≡ true) × IsPath g z y rest
 
 -- Each two nodes have a path from one to the other.
-abbrev pub IsConnected : Adjacency → Type 0
-IsConnected g = (x y : Name) → has_node g x ≡ true → has_node g y ≡ true → (path : List Name) × IsPath g x y path
+abbrev pub IsConnectedGraph : Adjacency → Type 0
+IsConnectedGraph g = (x y : Name) → has_node g x ≡ true → has_node g y ≡ true → (path : List Name) × IsPath g x y path
 
 -- That the graph has no node is told first. Want of memory comes only where there is one.
 abbrev pub RefusesEmpty : Adjacency → GraphError → Type 0

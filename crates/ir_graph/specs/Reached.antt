@@ -32,5 +32,5 @@ abbrev pub AreClosed : Adjacency → List ℕ → Type 0
 AreClosed g places = (i : ℕ) → HasPlace places i → HasNeighbors g places i (length (neighbors_at g i))
 
 -- the places so far, and perhaps more behind them
-abbrev pub GoesOn : List ℕ → List ℕ → Type 0
-GoesOn before after = (more : List ℕ) × (after ≡ before ++ more)
+abbrev pub HasMoreBehind : List ℕ → List ℕ → Type 0
+HasMoreBehind before after = (more : List ℕ) × (after ≡ before ++ more)

@@ -19,7 +19,7 @@ change_row (r ∷ rs) zero f = (r.0, f r.1) ∷ rs
 change_row (r ∷ rs) (suc i) f = r ∷ change_row rs i f
 
 -- with u and v, which stand at i and j, in each other's rows
-abbrev pub joined : Adjacency → ℕ → ℕ → Name → Name → ℕ → Adjacency
-joined g i j u v w =
+abbrev pub linked_rows : Adjacency → ℕ → ℕ → Name → Name → ℕ → Adjacency
+linked_rows g i j u v w =
     let half = change_row g i (λ es. put es v w) in
     if i == j then half else change_row half j (λ es. put es u w)

@@ -24,11 +24,11 @@ pub enum GraphError {
 
 impl GraphError {
     ghost use Rattle.std.specs.Prelude.{◌≡◌};
-    ghost use Rattle.ir_graph.specs.Faults.{code_of};
+    ghost use Rattle.ir_graph.specs.Faults.{graph_code};
 
     /// The number of the error, from 1 to 8. For users of the library.
     pub fn code(self) -> u8
-        ensures { result ≡ code_of self }
+        ensures { result ≡ graph_code self }
     {
         match self {
             GraphError::BadName => 1,

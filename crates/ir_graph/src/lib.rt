@@ -65,7 +65,7 @@ fn is_valid_name(name: &str) -> bool
 
 impl Graph {
     ghost use Rattle.ir_graph.specs.Faults.{node_fault, edge_fault, Refuses};
-    ghost use Rattle.ir_graph.specs.Paths.{IsConnected, RefusesEmpty};
+    ghost use Rattle.ir_graph.specs.Paths.{IsConnectedGraph, RefusesEmpty};
     ghost use Rattle.ir_model.specs.Places.{neighbor_at, neighbors_at};
     ghost use Rattle.ir_model.specs.Graph.{IsGraph};
     ghost use Rattle.std.specs.Prelude.{ℕ, List, position};
@@ -277,7 +277,7 @@ impl Graph {
     /// Whether each two nodes have a path from one to the other. A graph with no node is refused as `EmptyGraph`.
     /// Takes O(n + m) on average, for n nodes and m edges. For users of the library.
     pub fn is_connected(&self) -> Result<bool, GraphError>
-        ensures connected { IfOk result (λ yes. IsTrue yes ↔ IsConnected self.now) }
+        ensures connected { IfOk result (λ yes. IsTrue yes ↔ IsConnectedGraph self.now) }
         ensures some { OnOk result (0 < length self.now) }
         ensures refused { IfErr result (RefusesEmpty self.now) }
     {

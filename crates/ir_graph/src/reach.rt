@@ -3,7 +3,7 @@ ghost use Rattle.std.specs.Prelude.{◌≡◌, ◌<◌, IfOk, OnOk, length};
 ghost use Rattle.ir_model.specs.Graph.{IsGraph};
 ghost use Rattle.ir_graph.specs.View.{rows_view};
 ghost use Rattle.ir_model.specs.Places.{neighbors_at};
-ghost use Rattle.ir_graph.specs.Reached.{AreReached, AreClosed, HasNeighbors, HasPlace, GoesOn};
+ghost use Rattle.ir_graph.specs.Reached.{AreReached, AreClosed, HasNeighbors, HasPlace, HasMoreBehind};
 
 use crate::by_place::{neighbor_at, neighbor_count};
 use crate::rows::Rows;
@@ -19,7 +19,7 @@ fn reach_neighbors(rows: &Rows, node: usize, reached: &mut Places) -> Result<(),
     requires before { AreReached (rows_view rows.now) reached.old.keys }
     requires there { HasPlace reached.old.keys node }
     ensures after { OnOk result (AreReached (rows_view rows.now) reached.new.keys) }
-    ensures kept { OnOk result (GoesOn reached.old.keys reached.new.keys) }
+    ensures kept { OnOk result (HasMoreBehind reached.old.keys reached.new.keys) }
     ensures all { OnOk result (HasNeighbors (rows_view rows.now) reached.new.keys node
         (length (neighbors_at (rows_view rows.now) node))) }
 {

@@ -3,7 +3,7 @@ ghost use Rattle.std.specs.Prelude.{false, ◌^◌, if◌then◌else◌, None, S
 ghost use Rattle.std.specs.List.{IsDistinct};
 ghost use Rattle.std.specs.Map.{lookup, keys_of};
 ghost use Rattle.ir_model.specs.Graph.{weight_of, has_node, neighbors, with_node, with_edge, without, without_edge, without_node, names, put};
-ghost use Rattle.ir_graph.specs.View.{rows_view, change_row, joined};
+ghost use Rattle.ir_graph.specs.View.{rows_view, change_row, linked_rows};
 
 use indexmap::IndexMap;
 use std::alloc::{AllocError, Global};
@@ -93,7 +93,7 @@ pub fn join_rows(
     requires first { i < length (rows_view rows.old) }
     requires second { j < length (rows_view rows.old) }
     requires apart { IfSome (slice_get (rows_view rows.old) i) (λ r. lookup (bytes_eq v.now) r.1 ≡ None) }
-    ensures ok { OnOk result (rows_view rows.new ≡ joined (rows_view rows.old) i j u.now v.now weight) }
+    ensures ok { OnOk result (rows_view rows.new ≡ linked_rows (rows_view rows.old) i j u.now v.now weight) }
     ensures err { OnErr result (rows_view rows.new ≡ rows_view rows.old) }
 {
     put_neighbor(alloc, rows, i, v, weight)?;

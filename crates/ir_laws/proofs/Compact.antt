@@ -2,13 +2,13 @@
 use Rattle.std.proofs.Common.{◌≡◌, ◌≢◌, ℕ, ◌<◌, List, Option, None, map, get_or, ap, sym, ◌∙◌, subst}
 use Rattle.std.specs.Prelude.{slice_index}
 use Rattle.std.proofs.lemmas.List.{get_or-map}
-use Rattle.ir_model.specs.Network.{Network, node_count}
+use Rattle.ir_model.specs.Topology.{Topology, node_count}
 use Rattle.ir_model.specs.Choices.{AreChoices}
 use Rattle.ir_model.specs.Compact.{IsTied, IsCompactTable}
-use Rattle.ir_model.specs.Scheme.{AreLabels}
+use Rattle.ir_model.specs.Plan.{AreLabels}
 use Rattle.ir_model.proofs.Chosen.{chosen_same}
 
-module _ (net : Network) (order labels : List ℕ) (named : AreLabels (node_count net) order labels) where
+module _ (net : Topology) (order labels : List ℕ) (named : AreLabels (node_count net) order labels) where
   tied : (table : ℕ → ℕ → Option ℕ) → IsCompactTable net order table → (a : ℕ) → a < node_count net → AreChoices (node_count net) a (IsTied net order a)
   tied table is a ha = record {
     has_own = ha;

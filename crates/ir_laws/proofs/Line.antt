@@ -1,7 +1,7 @@
 -- The distance from a to c on the line a-b-c.
 use Rattle.std.proofs.Common.{◌≡◌, ℕ, zero, suc, ◌+◌, ◌≤◌, List, [], ◌∷◌, Some, refl, sym, subst, arith, lit<}
 use Rattle.ir_model.specs.declared.Hop.{Hop}
-use Rattle.ir_model.specs.Network.{port_at}
+use Rattle.ir_model.specs.Topology.{port_at}
 use Rattle.ir_model.specs.Walk.{link_weight, LeadsTo, IsWalk, weight_from, walk_weight, IsDistance}
 use Rattle.ir_laws.specs.Worked.{line, hop}
 

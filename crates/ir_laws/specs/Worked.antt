@@ -2,7 +2,7 @@
 use Rattle.std.specs.Prelude.{ℕ, List, [], ◌∷◌, Option, Some, None, codes, if◌then◌else◌, ◌==◌}
 use Rattle.ir_model.specs.declared.Link.{Link}
 use Rattle.ir_model.specs.declared.Hop.{Hop}
-use Rattle.ir_model.specs.Network.{Network}
+use Rattle.ir_model.specs.Topology.{Topology}
 
 abbrev pub link : ℕ → ℕ → ℕ → Link
 link u v w = record { low = u; high = v; weight = w }
@@ -11,14 +11,14 @@ abbrev pub hop : ℕ → ℕ → ℕ → Hop
 hop v l w = record { node = v; link = l; weight = w }
 
 -- the line a-b-c, its links of weight 1
-abbrev pub line : Network
+abbrev pub line : Topology
 line = record {
   links = link 0 1 1 ∷ link 1 2 1 ∷ [];
   ports = (hop 1 0 1 ∷ []) ∷ (hop 0 0 1 ∷ hop 2 1 1 ∷ []) ∷ (hop 1 1 1 ∷ []) ∷ [];
 }
 
 -- six nodes u p q r t s (0 to 5) and the links u-p, u-q, p-q, p-t, q-r, q-t, q-s (0 to 6)
-abbrev pub six : Network
+abbrev pub six : Topology
 six = record {
   links = link 0 1 1 ∷ link 0 2 1 ∷ link 1 2 9 ∷ link 1 4 1 ∷ link 2 3 1 ∷ link 2 4 9 ∷ link 2 5 1 ∷ [];
   ports = (hop 1 0 1 ∷ hop 2 1 1 ∷ [])

@@ -7,27 +7,27 @@ use Rattle.std.specs.declared.alloc.AllocError.{AllocError}
 use Rattle.std.proofs.lemmas.List.Elements.{All-cons, All-nil}
 use Rattle.std.proofs.lemmas.List.Sums.{sum_by-cons}
 use Rattle.ir_model.specs.Graph.{Name}
-use Rattle.ir_model.specs.Network.{node_count}
-use Rattle.ir_model.specs.Scheme.{Scheme}
+use Rattle.ir_model.specs.Topology.{node_count}
+use Rattle.ir_model.specs.Plan.{Plan}
 use Rattle.ir_prefix.specs.Longest.{IsWidth}
 use Rattle.ir_prefix.specs.declared.line.Line.{Line}
-use Rattle.ir_look.specs.Words.{line_text}
+use Rattle.ir_show.specs.Words.{line_text}
 use Rattle.ir_lines.specs.declared.threads.NodeText.{NodeText}
 use Rattle.ir_lines.specs.Before.{AreWritten}
 use Rattle.ir_lines.specs.NodeTexts.{AreNodeTexts, IsNodeText, bytes_of, lines_of}
-use Rattle.ir_lines.specs.PrefixesText.{node_words, nodes_text}
+use Rattle.ir_lines.specs.PrefixesText.{prefix_node_words, nodes_text}
 use Rattle.ir_lines.specs.Tables.{AreLinesOf}
 use Rattle.ir_lines.proofs.Entries.{node_long}
 
 -- tables by which the texts are those of the nodes from u on
-record Told (is_disjoint : Bool) (nodes : List Name) (s : Scheme) (u : ℕ) (made : List NodeText) : Type 0 where
+record Told (is_disjoint : Bool) (nodes : List Name) (s : Plan) (u : ℕ) (made : List NodeText) : Type 0 where
   tables : List (List Line)
   every : length tables ≡ length made
-  each : (i : ℕ) → i < length made → (bits : ℕ) → IsWidth (node_count s.network) bits → AreLinesOf is_disjoint s bits (u + i) (slice_index_or tables i [])
+  each : (i : ℕ) → i < length made → (bits : ℕ) → IsWidth (node_count s.topology) bits → AreLinesOf is_disjoint s bits (u + i) (slice_index_or tables i [])
   sum : sum_by length tables ≡ sum_by lines_of made
   whole : flat_map bytes_of made ≡ nodes_text nodes s u tables
 
-module _ (is_disjoint : Bool) (nodes : List Name) (s : Scheme) where
+module _ (is_disjoint : Bool) (nodes : List Name) (s : Plan) where
   -- where nothing was refused, the texts are those that were made
   pub texts_made : (u k : ℕ) (made : List NodeText) → AllZip (λ (v : ℕ) (one : Result NodeText AllocError). IfOk one (IsNodeText is_disjoint nodes s v)) (range_with_len u k) (map Ok made)
       → AllZip (IsNodeText is_disjoint nodes s) (range_with_len u k) made
@@ -52,13 +52,13 @@ module _ (is_disjoint : Bool) (nodes : List Name) (s : Scheme) where
           each = at first.table first.are rest.tables rest.each;
           sum = sum_by-cons (λ (t : List Line). length t) first.table rest.tables ∙ ap (λ (n : ℕ). n + sum_by length rest.tables) first.count
               ∙ ap (λ (n : ℕ). one.lines + n) rest.sum ∙ sym (sum_by-cons lines_of one made);
-          whole = ap (λ (t : List ℕ). t ++ flat_map bytes_of made) first.whole ∙ ap (λ (t : List ℕ). line_text (node_words nodes s u first.table) ++ t) rest.whole;
+          whole = ap (λ (t : List ℕ). t ++ flat_map bytes_of made) first.whole ∙ ap (λ (t : List ℕ). line_text (prefix_node_words nodes s u first.table) ++ t) rest.whole;
         },
       )
     where
-      at : (table : List Line) → ((bits : ℕ) → IsWidth (node_count s.network) bits → AreLinesOf is_disjoint s bits u table) → (tables : List (List Line))
-          → ((i : ℕ) → i < length made → (bits : ℕ) → IsWidth (node_count s.network) bits → AreLinesOf is_disjoint s bits (u + 1 + i) (slice_index_or tables i []))
-          → (i : ℕ) → i < suc (length made) → (bits : ℕ) → IsWidth (node_count s.network) bits → AreLinesOf is_disjoint s bits (u + i) (slice_index_or (table ∷ tables) i [])
+      at : (table : List Line) → ((bits : ℕ) → IsWidth (node_count s.topology) bits → AreLinesOf is_disjoint s bits u table) → (tables : List (List Line))
+          → ((i : ℕ) → i < length made → (bits : ℕ) → IsWidth (node_count s.topology) bits → AreLinesOf is_disjoint s bits (u + 1 + i) (slice_index_or tables i []))
+          → (i : ℕ) → i < suc (length made) → (bits : ℕ) → IsWidth (node_count s.topology) bits → AreLinesOf is_disjoint s bits (u + i) (slice_index_or (table ∷ tables) i [])
       at table are tables later zero lt bits width = let e : u ≡ u + 0 = omega arith in subst (λ (v : ℕ). AreLinesOf is_disjoint s bits v table) e (are bits width)
       at table are tables later (suc i) lt bits width =
           let e : u + 1 + i ≡ u + suc i = omega arith in

@@ -2,13 +2,13 @@
 use Rattle.std.specs.Prelude.{◌≡◌, ℕ, Bool, List, length, string_bytes}
 use Rattle.std.specs.List.{AllZip, range_with_len}
 use Rattle.ir_model.specs.Graph.{Name}
-use Rattle.ir_model.specs.Network.{node_count}
-use Rattle.ir_model.specs.Scheme.{Scheme}
+use Rattle.ir_model.specs.Topology.{node_count}
+use Rattle.ir_model.specs.Plan.{Plan}
 use Rattle.ir_prefix.specs.Longest.{IsWidth}
 use Rattle.ir_prefix.specs.declared.line.Line.{Line}
-use Rattle.ir_look.specs.Words.{line_text}
+use Rattle.ir_show.specs.Words.{line_text}
 use Rattle.ir_lines.specs.declared.threads.NodeText.{NodeText}
-use Rattle.ir_lines.specs.PrefixesText.{node_words}
+use Rattle.ir_lines.specs.PrefixesText.{prefix_node_words}
 use Rattle.ir_lines.specs.Tables.{AreLinesOf}
 
 abbrev pub bytes_of : NodeText → List ℕ
@@ -18,12 +18,12 @@ abbrev pub lines_of : NodeText → ℕ
 lines_of made = made.lines
 
 -- It is the line of text of the node u, whose table has so many lines.
-pub record IsNodeText (is_disjoint : Bool) (nodes : List Name) (s : Scheme) (u : ℕ) (made : NodeText) : Type 0 where
+pub record IsNodeText (is_disjoint : Bool) (nodes : List Name) (s : Plan) (u : ℕ) (made : NodeText) : Type 0 where
   pub table : List Line
-  pub are : (bits : ℕ) → IsWidth (node_count s.network) bits → AreLinesOf is_disjoint s bits u table
+  pub are : (bits : ℕ) → IsWidth (node_count s.topology) bits → AreLinesOf is_disjoint s bits u table
   pub count : length table ≡ made.lines
-  pub whole : string_bytes made.text ≡ line_text (node_words nodes s u table)
+  pub whole : string_bytes made.text ≡ line_text (prefix_node_words nodes s u table)
 
 -- They are the lines of text of the first so many nodes.
-abbrev pub AreNodeTexts : Bool → List Name → Scheme → ℕ → List NodeText → Type 0
+abbrev pub AreNodeTexts : Bool → List Name → Plan → ℕ → List NodeText → Type 0
 AreNodeTexts is_disjoint nodes s count made = AllZip (IsNodeText is_disjoint nodes s) (range_with_len 0 count) made

@@ -1,12 +1,12 @@
 -- The text of a plan's forwarding tables.
 use Rattle.std.specs.Prelude.{◌≡◌, ℕ, ◌+◌, Bool, List, [], ◌∷◌, ◌++◌, Option, None, Some, length, flat_map, sum_by, decimal, codes}
 use Rattle.ir_model.specs.Graph.{Name}
-use Rattle.ir_model.specs.Network.{Network, node_count}
-use Rattle.ir_model.specs.Scheme.{Scheme, label_in}
+use Rattle.ir_model.specs.Topology.{Topology, node_count}
+use Rattle.ir_model.specs.Plan.{Plan, label_in}
 use Rattle.ir_prefix.specs.declared.line.Line.{Line}
 use Rattle.ir_trace.specs.Written.{name_at}
-use Rattle.ir_look.specs.PlanText.{kind_text, node_by}
-use Rattle.ir_look.specs.Words.{line_text}
+use Rattle.ir_show.specs.PlanText.{kind_text, node_by}
+use Rattle.ir_show.specs.Words.{line_text}
 use Rattle.ir_lines.specs.Tables.{AreTablesOf}
 
 -- `VALUE/LENGTH`
@@ -14,32 +14,32 @@ abbrev pub prefix_text : ℕ → ℕ → List ℕ
 prefix_text value length = decimal value ++ codes "/" ++ decimal length
 
 -- the name of the neighbour at a port of u, or `-` for what is unreachable
-abbrev pub goal_text : List Name → Network → ℕ → Option ℕ → List ℕ
+abbrev pub goal_text : List Name → Topology → ℕ → Option ℕ → List ℕ
 goal_text nodes net u None = codes "-"
 goal_text nodes net u (Some p) = name_at nodes (node_by net u p)
 
 -- a line of u: its prefix and its neighbour
-abbrev pub entry_words : List Name → Network → ℕ → Line → List (List ℕ)
+abbrev pub entry_words : List Name → Topology → ℕ → Line → List (List ℕ)
 entry_words nodes net u m = prefix_text m.value m.length ∷ goal_text nodes net u m.port ∷ []
 
 -- a node: its name, its label, and its lines
-abbrev pub node_words : List Name → Scheme → ℕ → List Line → List (List ℕ)
-node_words nodes s u table = name_at nodes u ∷ decimal (label_in s u) ∷ flat_map (entry_words nodes s.network u) table
+abbrev pub prefix_node_words : List Name → Plan → ℕ → List Line → List (List ℕ)
+prefix_node_words nodes s u table = name_at nodes u ∷ decimal (label_in s u) ∷ flat_map (entry_words nodes s.topology u) table
 
 -- a line of text for each table, those of the nodes from u on
-abbrev pub nodes_text : List Name → Scheme → ℕ → List (List Line) → List ℕ
+abbrev pub nodes_text : List Name → Plan → ℕ → List (List Line) → List ℕ
 nodes_text nodes s u [] = []
-nodes_text nodes s u (table ∷ tables) = line_text (node_words nodes s u table) ++ nodes_text nodes s (u + 1) tables
+nodes_text nodes s u (table ∷ tables) = line_text (prefix_node_words nodes s u table) ++ nodes_text nodes s (u + 1) tables
 
 -- `prefixes KIND N BITS LINES`
-abbrev pub head_words : Scheme → ℕ → ℕ → List (List ℕ)
-head_words s bits lines = codes "prefixes" ∷ kind_text s.kind ∷ decimal (node_count s.network) ∷ decimal bits ∷ decimal lines ∷ []
+abbrev pub prefixes_head : Plan → ℕ → ℕ → List (List ℕ)
+prefixes_head s bits lines = codes "prefixes" ∷ kind_text s.kind ∷ decimal (node_count s.topology) ∷ decimal bits ∷ decimal lines ∷ []
 
-abbrev pub prefixes_text : List Name → Scheme → ℕ → List (List Line) → List ℕ
-prefixes_text nodes s bits tables = line_text (head_words s bits (sum_by length tables)) ++ nodes_text nodes s 0 tables
+abbrev pub prefixes_text : List Name → Plan → ℕ → List (List Line) → List ℕ
+prefixes_text nodes s bits tables = line_text (prefixes_head s bits (sum_by length tables)) ++ nodes_text nodes s 0 tables
 
 -- The text is that of the lines of a plan's nodes, disjoint or not.
-pub record IsPrefixesOf (is_disjoint : Bool) (nodes : List Name) (s : Scheme) (text : List ℕ) : Type 0 where
+pub record IsPrefixesOf (is_disjoint : Bool) (nodes : List Name) (s : Plan) (text : List ℕ) : Type 0 where
   pub bits : ℕ
   pub tables : List (List Line)
   pub are : AreTablesOf is_disjoint s bits tables

@@ -1,37 +1,37 @@
 -- The forwarding tables of a plan's nodes.
 use Rattle.std.specs.Prelude.{◌≡◌, ℕ, ◌<◌, Bool, true, false, List, [], length, slice_index_or}
-use Rattle.ir_model.specs.Network.{node_count}
-use Rattle.ir_model.specs.Scheme.{Scheme, by_label}
+use Rattle.ir_model.specs.Topology.{node_count}
+use Rattle.ir_model.specs.Plan.{Plan, by_label}
 use Rattle.ir_prefix.specs.Longest.{IsWidth}
 use Rattle.ir_prefix.specs.Forwarding.{AreLongestFirst, IsDisjointTable, IsFewestDisjoint, IsFewestLines, IsForwardingTable, IsWellFormed, KeepsMatches, NamesPorts}
 use Rattle.ir_prefix.specs.declared.line.Line.{Line}
 
 -- The lines of the node u whose longest match names u's port to each other label: the fewest that forward so, the
 -- longest first, and of one length in the order of their values.
-pub record AreNestedLines (s : Scheme) (bits u : ℕ) (table : List Line) : Type 0 where
+pub record AreNestedLines (s : Plan) (bits u : ℕ) (table : List Line) : Type 0 where
   pub well : IsWellFormed bits table
-  pub forwards : IsForwardingTable (node_count s.network) bits (by_label s u) table
-  pub fewest : IsFewestLines (node_count s.network) bits (by_label s u) (length table)
+  pub forwards : IsForwardingTable (node_count s.topology) bits (by_label s u) table
+  pub fewest : IsFewestLines (node_count s.topology) bits (by_label s u) (length table)
   pub ports : NamesPorts (by_label s u) table
   pub order : AreLongestFirst table
   pub loads : KeepsMatches bits table
 
 -- The lines of the node u of which one alone holds each other label, and has u's port to it: the fewest that do, in the
 -- same order.
-pub record AreDisjointLines (s : Scheme) (bits u : ℕ) (table : List Line) : Type 0 where
+pub record AreDisjointLines (s : Plan) (bits u : ℕ) (table : List Line) : Type 0 where
   pub well : IsWellFormed bits table
-  pub disjoint : IsDisjointTable (node_count s.network) bits (by_label s u) table
-  pub fewest : IsFewestDisjoint (node_count s.network) bits (by_label s u) (length table)
+  pub disjoint : IsDisjointTable (node_count s.topology) bits (by_label s u) table
+  pub fewest : IsFewestDisjoint (node_count s.topology) bits (by_label s u) (length table)
   pub ports : NamesPorts (by_label s u) table
   pub order : AreLongestFirst table
 
 -- the lines of the node u, disjoint or not
-abbrev pub AreLinesOf : Bool → Scheme → ℕ → ℕ → List Line → Type 0
+abbrev pub AreLinesOf : Bool → Plan → ℕ → ℕ → List Line → Type 0
 AreLinesOf false s bits u table = AreNestedLines s bits u table
 AreLinesOf true s bits u table = AreDisjointLines s bits u table
 
 -- The lines of each node of a plan, by the least width that tells its labels apart.
-pub record AreTablesOf (is_disjoint : Bool) (s : Scheme) (bits : ℕ) (tables : List (List Line)) : Type 0 where
-  pub width : IsWidth (node_count s.network) bits
-  pub every : length tables ≡ node_count s.network
-  pub each : (u : ℕ) → u < node_count s.network → AreLinesOf is_disjoint s bits u (slice_index_or tables u [])
+pub record AreTablesOf (is_disjoint : Bool) (s : Plan) (bits : ℕ) (tables : List (List Line)) : Type 0 where
+  pub width : IsWidth (node_count s.topology) bits
+  pub every : length tables ≡ node_count s.topology
+  pub each : (u : ℕ) → u < node_count s.topology → AreLinesOf is_disjoint s bits u (slice_index_or tables u [])

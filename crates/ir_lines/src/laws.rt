@@ -1,8 +1,8 @@
 //! Laws of the tables, each the contract of a function with an empty body.
 ghost use Rattle.std.specs.Prelude.{◌≡◌, ◌<◌, ◌^◌, ℕ, All, Bool, Contains, List, [], false, length, map, slice_index_or, take, true};
 ghost use Rattle.ir_model.specs.Graph.{Name};
-ghost use Rattle.ir_model.specs.Network.{node_count};
-ghost use Rattle.ir_model.specs.Scheme.{IsScheme, Scheme};
+ghost use Rattle.ir_model.specs.Topology.{node_count};
+ghost use Rattle.ir_model.specs.Plan.{IsPlan, Plan};
 ghost use Rattle.ir_prefix.specs.declared.line.Line.{Line};
 ghost use Rattle.ir_lines.specs.PrefixesText.{IsPrefixesOf};
 ghost use Rattle.ir_lines.specs.Sent.{end_of, GoesAllTheWay, KeepsToWalk};
@@ -12,7 +12,7 @@ ghost use Rattle.ir_lines.specs.Tables.{AreTablesOf};
 /// the nodes that it goes through are the first ones of the prescribed walk to the node with that label; for a number
 /// beyond the labels to the node with the last one.
 pub fn beginnings_of_lines_keep_to_walks()
-    ensures { (s : Scheme) (bits : ℕ) (tables : List (List Line)) (counts : ℕ → ℕ) (x : ℕ) → IsScheme s
+    ensures { (s : Plan) (bits : ℕ) (tables : List (List Line)) (counts : ℕ → ℕ) (x : ℕ) → IsPlan s
         → AreTablesOf false s bits tables → x < 2 ^ bits
         → KeepsToWalk s bits (λ u. take (counts u) (slice_index_or tables u [])) x (end_of s x) }
 {}
@@ -20,20 +20,20 @@ pub fn beginnings_of_lines_keep_to_walks()
 /// Where each node has any of its disjoint lines, what is sent to a label goes through the first nodes of the
 /// prescribed walk to the node with that label.
 pub fn disjoint_lines_keep_to_walks()
-    ensures { (s : Scheme) (bits : ℕ) (tables : List (List Line)) (lines : ℕ → List Line) (x : ℕ) → IsScheme s
+    ensures { (s : Plan) (bits : ℕ) (tables : List (List Line)) (lines : ℕ → List Line) (x : ℕ) → IsPlan s
         → AreTablesOf true s bits tables
         → ((u : ℕ) → All (λ m. Contains (slice_index_or tables u []) m) (lines u))
-        → x < node_count s.network → KeepsToWalk s bits lines x (end_of s x) }
+        → x < node_count s.topology → KeepsToWalk s bits lines x (end_of s x) }
 {}
 
 /// Where each node has all of its lines, disjoint or not, what is sent to a label goes all the way to the node with
 /// that label; where they are not disjoint, what is sent to a number beyond the labels goes all the way to the node
 /// with the last one.
 pub fn lines_go_all_the_way()
-    ensures labels { (is_disjoint : Bool) (s : Scheme) (bits : ℕ) (tables : List (List Line)) (x : ℕ) → IsScheme s
-        → AreTablesOf is_disjoint s bits tables → x < node_count s.network
+    ensures labels { (is_disjoint : Bool) (s : Plan) (bits : ℕ) (tables : List (List Line)) (x : ℕ) → IsPlan s
+        → AreTablesOf is_disjoint s bits tables → x < node_count s.topology
         → GoesAllTheWay s bits (λ u. slice_index_or tables u []) x (end_of s x) }
-    ensures beyond { (s : Scheme) (bits : ℕ) (tables : List (List Line)) (x : ℕ) → IsScheme s
+    ensures beyond { (s : Plan) (bits : ℕ) (tables : List (List Line)) (x : ℕ) → IsPlan s
         → AreTablesOf false s bits tables → x < 2 ^ bits
         → GoesAllTheWay s bits (λ u. slice_index_or tables u []) x (end_of s x) }
 {}
@@ -41,7 +41,7 @@ pub fn lines_go_all_the_way()
 /// Two texts of the tables of one plan have the same width, and as many lines for each node; they are one text where
 /// they have the same lines.
 pub fn text_is_determined_by_lines()
-    ensures { (is_disjoint : Bool) (nodes : List Name) (s : Scheme) (text other : List ℕ)
+    ensures { (is_disjoint : Bool) (nodes : List Name) (s : Plan) (text other : List ℕ)
         (a : IsPrefixesOf is_disjoint nodes s text) (b : IsPrefixesOf is_disjoint nodes s other) → (a.bits ≡ b.bits)
         × (map length a.tables ≡ map length b.tables) × (a.tables ≡ b.tables → text ≡ other) }
 {}

@@ -1,8 +1,8 @@
 //! The forwarding table of a node of a plan.
 ghost use Rattle.std.specs.Prelude.{◌≡◌, ◌≢◌, ◌<◌, ◌+◌, ℕ, None, IfOk, IfSome, IsSome, length};
-ghost use Rattle.ir_model.specs.Network.{node_count};
+ghost use Rattle.ir_model.specs.Topology.{node_count};
 ghost use Rattle.ir_model.specs.Row.{HasPort};
-ghost use Rattle.ir_model.specs.Scheme.{by_label};
+ghost use Rattle.ir_model.specs.Plan.{by_label};
 ghost use Rattle.ir_prefix.specs.Forwarding.{NamesPorts};
 ghost use Rattle.ir_prefix.specs.Longest.{IsWidth};
 ghost use Rattle.ir_lines.specs.Before.{AreBelow};
@@ -15,7 +15,7 @@ use std::alloc::{AllocError, Global};
 
 // The ports of a node to each label, by one walk along its row.
 fn ports_by_label(alloc: Global, plan: &Plan, u: u16) -> Result<Vec<Option<u16>>, AllocError>
-    requires { u < node_count plan.now.network }
+    requires { u < node_count plan.now.topology }
     ensures { IfOk result (λ ports. ports.items ≡ by_label plan.now u) }
 {
     let row = plan.row(u);
@@ -61,8 +61,8 @@ fn port_behind(row: &Row, below: usize, own: u16, label: u16) -> Option<u16>
 
 // The fewest lines of a node whose longest match names its port to each other label.
 fn nested_lines(alloc: Global, plan: &Plan, u: u16) -> Result<Vec<Line>, AllocError>
-    requires { u < node_count plan.now.network }
-    ensures lines { IfOk result (λ table. (bits : ℕ) → IsWidth (node_count plan.now.network) bits
+    requires { u < node_count plan.now.topology }
+    ensures lines { IfOk result (λ table. (bits : ℕ) → IsWidth (node_count plan.now.topology) bits
         → AreNestedLines plan.now bits u table.items) }
     ensures ports { IfOk result (λ table. NamesPorts (by_label plan.now u) table.items) }
 {
@@ -77,8 +77,8 @@ fn nested_lines(alloc: Global, plan: &Plan, u: u16) -> Result<Vec<Line>, AllocEr
 
 // The fewest lines of a node of which one alone holds each other label.
 fn disjoint_lines(alloc: Global, plan: &Plan, u: u16) -> Result<Vec<Line>, AllocError>
-    requires { u < node_count plan.now.network }
-    ensures lines { IfOk result (λ table. (bits : ℕ) → IsWidth (node_count plan.now.network) bits
+    requires { u < node_count plan.now.topology }
+    ensures lines { IfOk result (λ table. (bits : ℕ) → IsWidth (node_count plan.now.topology) bits
         → AreDisjointLines plan.now bits u table.items) }
     ensures ports { IfOk result (λ table. NamesPorts (by_label plan.now u) table.items) }
 {
@@ -99,8 +99,8 @@ pub fn table_of(
     u: u16,
     is_disjoint: bool,
 ) -> Result<Vec<Line>, AllocError>
-    requires { u < node_count plan.now.network }
-    ensures lines { IfOk result (λ table. (bits : ℕ) → IsWidth (node_count plan.now.network) bits
+    requires { u < node_count plan.now.topology }
+    ensures lines { IfOk result (λ table. (bits : ℕ) → IsWidth (node_count plan.now.topology) bits
         → AreLinesOf is_disjoint plan.now bits u table.items) }
     ensures ports { IfOk result (λ table. NamesPorts (by_label plan.now u) table.items) }
 {

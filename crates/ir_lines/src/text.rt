@@ -1,18 +1,18 @@
 //! The text of a plan's forwarding tables.
 ghost use Rattle.std.specs.Prelude.{◌≡◌, ◌<◌, ◌≤◌, ◌++◌, Bool, IfOk, IfSome, List, OnOk, All, [], length, flat_map, string_bytes};
 ghost use Rattle.ir_model.specs.Graph.{Name, names};
-ghost use Rattle.ir_model.specs.Network.{node_count, ports_of};
-ghost use Rattle.ir_model.specs.Scheme.{IsScheme};
+ghost use Rattle.ir_model.specs.Topology.{node_count, ports_of};
+ghost use Rattle.ir_model.specs.Plan.{IsPlan};
 ghost use Rattle.ir_trace.specs.Rows.{spaced};
-ghost use Rattle.ir_look.specs.Words.{line_text};
+ghost use Rattle.ir_show.specs.Words.{line_text};
 ghost use Rattle.ir_lines.specs.Before.{AreWritten};
-ghost use Rattle.ir_lines.specs.PrefixesText.{entry_words, goal_text, head_words, node_words, prefix_text, IsPrefixesOf};
+ghost use Rattle.ir_lines.specs.PrefixesText.{entry_words, goal_text, prefixes_head, prefix_node_words, prefix_text, IsPrefixesOf};
 
 use crate::table::table_of;
 use ir_graph::Graph;
-use ir_look::plan_text::kind_text;
 use ir_plan::Plan;
 use ir_prefix::{Line, width};
+use ir_show::plan_text::kind_text;
 use ir_trace::text::{name_of, push_name, push_next_number, push_word};
 use std::alloc::{AllocError, Global};
 
@@ -31,12 +31,12 @@ fn push_goal(
     u: u16,
     port: Option<u16>,
 ) -> Result<(), AllocError>
-    requires nodes { node_count plan.now.network ≡ length graph.now }
-    requires scheme { IsScheme plan.now }
+    requires nodes { node_count plan.now.topology ≡ length graph.now }
+    requires plan { IsPlan plan.now }
     requires node { u < length graph.now }
-    requires port { IfSome port (λ p. p < length (ports_of plan.now.network u)) }
+    requires port { IfSome port (λ p. p < length (ports_of plan.now.topology u)) }
     ensures { OnOk result (string_bytes text.new ≡ string_bytes text.old
-        ++ spaced (goal_text (names graph.now) plan.now.network u port)) }
+        ++ spaced (goal_text (names graph.now) plan.now.topology u port)) }
 {
     match port {
         Some(port) => push_name(text, graph, plan.hop(u, port).node),
@@ -52,12 +52,12 @@ fn push_entry(
     u: u16,
     line: &Line,
 ) -> Result<(), AllocError>
-    requires nodes { node_count plan.now.network ≡ length graph.now }
-    requires scheme { IsScheme plan.now }
+    requires nodes { node_count plan.now.topology ≡ length graph.now }
+    requires plan { IsPlan plan.now }
     requires node { u < length graph.now }
-    requires port { IfSome line.now.port (λ p. p < length (ports_of plan.now.network u)) }
+    requires port { IfSome line.now.port (λ p. p < length (ports_of plan.now.topology u)) }
     ensures { OnOk result (string_bytes text.new ≡ string_bytes text.old
-        ++ flat_map spaced (entry_words (names graph.now) plan.now.network u line.now)) }
+        ++ flat_map spaced (entry_words (names graph.now) plan.now.topology u line.now)) }
 {
     push_prefix(text, line.value, line.length)?;
     push_goal(text, graph, plan, u, line.port)?;
@@ -72,12 +72,12 @@ fn push_entries(
     u: u16,
     table: &[Line],
 ) -> Result<(), AllocError>
-    requires nodes { node_count plan.now.network ≡ length graph.now }
-    requires scheme { IsScheme plan.now }
+    requires nodes { node_count plan.now.topology ≡ length graph.now }
+    requires plan { IsPlan plan.now }
     requires node { u < length graph.now }
-    requires ports { All (λ m. IfSome m.port (λ p. p < length (ports_of plan.now.network u))) table.now }
+    requires ports { All (λ m. IfSome m.port (λ p. p < length (ports_of plan.now.topology u))) table.now }
     ensures { OnOk result (string_bytes text.new ≡ string_bytes text.old
-        ++ flat_map spaced (flat_map (entry_words (names graph.now) plan.now.network u) table.now)) }
+        ++ flat_map spaced (flat_map (entry_words (names graph.now) plan.now.topology u) table.now)) }
 {
     for line in table {
         push_entry(text, graph, plan, u, line)?;
@@ -86,7 +86,7 @@ fn push_entries(
 }
 
 /// Writes the line of text of a node.
-#[tactic(auto, using(ir_look::proofs::PlanLines::words_of_a_line))]
+#[tactic(auto, using(ir_show::proofs::PlanLines::words_of_a_line))]
 pub fn push_node(
     text: &mut String,
     graph: &Graph,
@@ -94,12 +94,12 @@ pub fn push_node(
     u: u16,
     table: &[Line],
 ) -> Result<(), AllocError>
-    requires nodes { node_count plan.now.network ≡ length graph.now }
-    requires scheme { IsScheme plan.now }
+    requires nodes { node_count plan.now.topology ≡ length graph.now }
+    requires plan { IsPlan plan.now }
     requires node { u < length graph.now }
-    requires ports { All (λ m. IfSome m.port (λ p. p < length (ports_of plan.now.network u))) table.now }
+    requires ports { All (λ m. IfSome m.port (λ p. p < length (ports_of plan.now.topology u))) table.now }
     ensures { OnOk result (string_bytes text.new ≡ string_bytes text.old
-        ++ line_text (node_words (names graph.now) plan.now u table.now)) }
+        ++ line_text (prefix_node_words (names graph.now) plan.now u table.now)) }
 {
     text.push_str(name_of(graph, u))?;
     push_next_number(text, plan.label_of(u) as usize)?;
@@ -116,9 +116,9 @@ fn push_nodes(
     plan: &Plan,
     is_disjoint: bool,
 ) -> Result<usize, AllocError>
-    requires { node_count plan.now.network ≡ length graph.now }
+    requires { node_count plan.now.topology ≡ length graph.now }
     ensures { IfOk result (λ lines. AreWritten is_disjoint (names graph.now) plan.now
-        (node_count plan.now.network) lines (string_bytes text.old) (string_bytes text.new)) }
+        (node_count plan.now.topology) lines (string_bytes text.old) (string_bytes text.new)) }
 {
     let mut lines = 0;
     for u in 0..plan.nodes() {
@@ -133,7 +133,7 @@ fn push_nodes(
 /// Writes the first line.
 fn push_head(text: &mut String, plan: &Plan, bits: u8, lines: usize) -> Result<(), AllocError>
     ensures { OnOk result (string_bytes text.new ≡ string_bytes text.old
-        ++ line_text (head_words plan.now bits lines)) }
+        ++ line_text (prefixes_head plan.now bits lines)) }
 {
     text.push_str("prefixes")?;
     push_word(text, kind_text(plan.kind()))?;
@@ -155,7 +155,7 @@ pub fn prefixes_text(
     plan: &Plan,
     is_disjoint: bool,
 ) -> Result<String, AllocError>
-    requires { node_count plan.now.network ≡ length graph.now }
+    requires { node_count plan.now.topology ≡ length graph.now }
     ensures { IfOk result (λ text. IsPrefixesOf is_disjoint (names graph.now) plan.now (string_bytes text)) }
 {
     let mut tables = String::new(alloc);
@@ -171,7 +171,7 @@ pub fn text_of_lines(
     tables: &str,
 ) -> Result<String, AllocError>
     ensures { IfOk result (λ text. (is_disjoint : Bool) (nodes : List Name)
-        → AreWritten is_disjoint nodes plan.now (node_count plan.now.network) lines [] tables.now
+        → AreWritten is_disjoint nodes plan.now (node_count plan.now.topology) lines [] tables.now
         → IsPrefixesOf is_disjoint nodes plan.now (string_bytes text)) }
 {
     let bits = width(plan.nodes() as u16);

@@ -2,7 +2,7 @@
 
 ghost use Rattle.std.specs.Prelude.{◌≡◌, ◌<◌, ◌≤◌, ◌++◌, All, IfOk, OnOk, length, flat_map, sum_by, string_bytes};
 ghost use Rattle.ir_model.specs.Graph.{names};
-ghost use Rattle.ir_model.specs.Network.{node_count};
+ghost use Rattle.ir_model.specs.Topology.{node_count};
 ghost use Rattle.ir_lines.specs.NodeTexts.{AreNodeTexts, IsNodeText, bytes_of, lines_of};
 ghost use Rattle.ir_lines.specs.PrefixesText.{IsPrefixesOf};
 
@@ -34,7 +34,7 @@ pub fn prefixes_text_in_threads(
     is_disjoint: bool,
     most: Option<usize>,
 ) -> Result<String, AllocError>
-    requires { node_count plan.now.network ≡ length graph.now }
+    requires { node_count plan.now.topology ≡ length graph.now }
     ensures { IfOk result (λ text. IsPrefixesOf is_disjoint (names graph.now) plan.now (string_bytes text)) }
 {
     let made = texts_in_threads(rt, alloc, graph, plan, is_disjoint, most)?;
@@ -52,9 +52,9 @@ fn texts_in_threads(
     is_disjoint: bool,
     most: Option<usize>,
 ) -> Result<Vec<NodeText>, AllocError>
-    requires { node_count plan.now.network ≡ length graph.now }
+    requires { node_count plan.now.topology ≡ length graph.now }
     ensures { IfOk result (λ made. AreNodeTexts is_disjoint (names graph.now) plan.now
-        (node_count plan.now.network) made.items) }
+        (node_count plan.now.topology) made.items) }
 {
     let nodes = plan.nodes();
     (0..nodes)
@@ -62,7 +62,7 @@ fn texts_in_threads(
         .with_min_len(rows_of_a_thread(nodes, most))
         .map(
             |u: usize| -> Result<NodeText, AllocError>
-                requires { (u < node_count plan.now.network) × (node_count plan.now.network ≡ length graph.now) }
+                requires { (u < node_count plan.now.topology) × (node_count plan.now.topology ≡ length graph.now) }
                 ensures { IfOk result (λ made. IsNodeText is_disjoint (names graph.entry.now) plan.entry.now u made) }
             { node_text(alloc, graph, plan, u, is_disjoint) },
         )
@@ -77,8 +77,8 @@ fn node_text(
     u: usize,
     is_disjoint: bool,
 ) -> Result<NodeText, AllocError>
-    requires nodes { node_count plan.now.network ≡ length graph.now }
-    requires node { u < node_count plan.now.network }
+    requires nodes { node_count plan.now.topology ≡ length graph.now }
+    requires node { u < node_count plan.now.topology }
     ensures { IfOk result (λ made. IsNodeText is_disjoint (names graph.now) plan.now u made) }
 {
     let _nodes = plan.nodes();

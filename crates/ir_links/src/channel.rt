@@ -27,7 +27,7 @@ impl<S, V> Rests for Seat<S, V> {
 
 /// Carries items to one place, oldest first, and holds at most its capacity of them.
 ///
-/// Contracts see its `Line`: which queue it is, its place, and its capacity in items.
+/// Contracts see its `Channel`: which queue it is, its place, and its capacity in items.
 #[derive(Drop)]
 pub struct Channel<T: Bound> {
     shared: Arc<Shared<T>, Global>,
@@ -38,10 +38,10 @@ impl<T: Bound> Model for Channel<T> {
     ghost use Rattle.std.specs.Prelude.{◌≡◌};
     ghost use Rattle.std.specs.Arc.{arc_value};
     ghost use Rattle.crossbeam_queue.specs.Passes.{ruled_capacity};
-    ghost use Rattle.ir_links.specs.Ends.{Line};
+    ghost use Rattle.ir_links.specs.Ends.{Channel};
     ghost use Rattle.ir_links.specs.Rule.{knows_base};
 
-    ghost Value = { Line T.Place };
+    ghost Value = { Channel T.Place };
 
     ghost view = { λ c. record {
       name = c.base.table_id;
@@ -59,7 +59,7 @@ pub struct Full<T> {
     pub item: T,
 }
 
-/// The end that sends. Contracts see the channel's `Line`, and the list of all that was sent.
+/// The end that sends. Contracts see the channel's `Channel`, and the list of all that was sent.
 #[derive(Drop)]
 pub struct Sender<T: Bound> {
     shared: Arc<Shared<T>, Global>,
@@ -70,10 +70,10 @@ impl<T: Bound> Model for Sender<T> {
     ghost use Rattle.std.specs.Prelude.{◌≡◌};
     ghost use Rattle.std.specs.Arc.{arc_value};
     ghost use Rattle.crossbeam_queue.specs.Passes.{view as pass_view, IsPassOf, ruled_capacity};
-    ghost use Rattle.ir_links.specs.Ends.{Sending};
+    ghost use Rattle.ir_links.specs.Ends.{Sender};
     ghost use Rattle.ir_links.specs.Rule.{knows_sent};
 
-    ghost Value = { Sending T.Place T };
+    ghost Value = { Sender T.Place T };
 
     ghost view = { λ s. record {
       line = record {
@@ -89,7 +89,7 @@ impl<T: Bound> Model for Sender<T> {
         (pass_view s.pass).sent) };
 }
 
-/// The end that takes. Contracts see the channel's `Line`, and the list of all that was taken.
+/// The end that takes. Contracts see the channel's `Channel`, and the list of all that was taken.
 #[derive(Drop)]
 pub struct Taker<T: Bound> {
     shared: Arc<Shared<T>, Global>,
@@ -100,10 +100,10 @@ impl<T: Bound> Model for Taker<T> {
     ghost use Rattle.std.specs.Prelude.{◌≡◌};
     ghost use Rattle.std.specs.Arc.{arc_value};
     ghost use Rattle.crossbeam_queue.specs.Passes.{view as pass_view, IsPassOf, ruled_capacity};
-    ghost use Rattle.ir_links.specs.Ends.{Taking};
+    ghost use Rattle.ir_links.specs.Ends.{Taker};
     ghost use Rattle.ir_links.specs.Rule.{knows_taken};
 
-    ghost Value = { Taking T.Place T };
+    ghost Value = { Taker T.Place T };
 
     ghost view = { λ s. record {
       line = record {
@@ -119,7 +119,7 @@ impl<T: Bound> Model for Taker<T> {
         (pass_view s.pass).taken) };
 }
 
-/// What is left of a channel whose two ends were brought together. Contracts see the channel's `Line`, and the list of
+/// What is left of a channel whose two ends were brought together. Contracts see the channel's `Channel`, and the list of
 /// the items that it still holds, oldest first.
 #[derive(Drop)]
 pub struct Remains<T: Bound> {
@@ -131,10 +131,10 @@ impl<T: Bound> Model for Remains<T> {
     ghost use Rattle.std.specs.Prelude.{◌≡◌, ◌++◌, length, drop};
     ghost use Rattle.std.specs.Arc.{arc_value};
     ghost use Rattle.crossbeam_queue.specs.Passes.{view as pass_view, IsPassOf, ruled_capacity};
-    ghost use Rattle.ir_links.specs.Ends.{Remaining};
+    ghost use Rattle.ir_links.specs.Ends.{Remains};
     ghost use Rattle.ir_links.specs.Rule.{knows_both};
 
-    ghost Value = { Remaining T.Place T };
+    ghost Value = { Remains T.Place T };
 
     ghost view = { λ r. record {
       line = record {

@@ -8,14 +8,14 @@ use Rattle.ir_epochs.specs.declared.registry.Stamp.{Stamp}
 use Rattle.ir_epochs.specs.declared.entry.Change.{Change}
 use Rattle.ir_links.specs.Ends.{Word}
 use Rattle.ir_worker.specs.Account.{lines_out}
-use Rattle.ir_worker.specs.Seen.{SeenParcel}
+use Rattle.ir_worker.specs.Seen.{Parcel}
 use Rattle.ir_control.specs.declared.net.Net.{Net}
 use Rattle.ir_control.specs.declared.injector.Injector.{Injector}
 use Rattle.ir_control.specs.declared.injector.Accepted.{Accepted}
 use Rattle.ir_control.specs.Accepted.{stamp_after_learning}
 use Rattle.ir_control.specs.Parts.{IsInjectorOf}
 use Rattle.ir_live.specs.declared.desk.Desk.{Desk}
-use Rattle.ir_live.specs.Answers.{Answer, epoch_after, accepted_by, accepted_from}
+use Rattle.ir_live.specs.Answers.{CommandAnswer, epoch_after, accepted_by, accepted_from}
 use Rattle.ir_live.specs.Carried.{IsSameInjector, IsInjectAnswer, HasLearnt, IsChangedAs, IsCarriedOut, AreCarriedOut}
 
 -- What an answer did to an injector: it is the same one, these packets were put in, and this is the greatest epoch then.
@@ -44,7 +44,7 @@ learnt before after s is = record {
   newest = ap (λ (t : Stamp). t.epoch) is.newest ∙ later_epoch before.newest s;
 }
 
-injected : (was_full : Word SeenParcel) (source dest : ℕ) (before after : Injector) (answer : Answer) → IsInjectAnswer was_full source dest before answer after → IsSameInjector before after → after.newest ≡ before.newest →
+injected : (was_full : Word Parcel) (source dest : ℕ) (before after : Injector) (answer : CommandAnswer) → IsInjectAnswer was_full source dest before answer after → IsSameInjector before after → after.newest ≡ before.newest →
     Kept before after (accepted_by (length before.accepted.items) before.newest.epoch (Inject source dest) answer) (epoch_after before.newest.epoch answer)
 injected was_full source dest before after (Ok (Some s)) is same newest = absurd is
 injected was_full source dest before after (Ok None) is same newest = record {
@@ -62,13 +62,13 @@ pub injector_kept : (net : Net) (a b : Injector) → IsInjectorOf net a → IsSa
 injector_kept net a b is same = record { opening = same.opening ∙ is.opening; ends = same.lines ∙ is.ends; most = same.most ∙ is.most }
 
 module _ {B : Type 0} where
-  changed : (refused : Option Refused) (c : Change) (before after : Desk B) (answer : Answer) → IsChangedAs refused c before answer after → Kept before.injector after.injector [] (epoch_after before.injector.newest.epoch answer)
+  changed : (refused : Option Refused) (c : Change) (before after : Desk B) (answer : CommandAnswer) → IsChangedAs refused c before answer after → Kept before.injector after.injector [] (epoch_after before.injector.newest.epoch answer)
   changed refused c before after (Ok (Some s)) is = absurd is
   changed refused c before after (Ok None) is = unchanged before.injector after.injector is.0
   changed refused c before after (Err why) is = unchanged before.injector after.injector is.0
 
-module _ (was_full : Word SeenParcel) {B : Type 0} where
-  carried : (c : Command) (before after : Desk B) (answer : Answer) → IsCarriedOut was_full c before answer after →
+module _ (was_full : Word Parcel) {B : Type 0} where
+  carried : (c : Command) (before after : Desk B) (answer : CommandAnswer) → IsCarriedOut was_full c before answer after →
       Kept before.injector after.injector (accepted_by (length before.injector.accepted.items) before.injector.newest.epoch c answer) (epoch_after before.injector.newest.epoch answer)
   carried (Inject source dest) before after answer is = injected was_full source dest before.injector after.injector answer is.0 is.1 is.2
   carried (Install kind root) before after (Ok None) is = absurd is
@@ -77,9 +77,9 @@ module _ (was_full : Word SeenParcel) {B : Type 0} where
   carried (Retire floor) before after answer is = changed _ _ before after answer is
   carried (Down link) before after answer is = changed _ _ before after answer is
   carried (Up link) before after answer is = changed _ _ before after answer is
-  carried Drain before after answer is = subst (λ (a : Answer). Kept before.injector after.injector [] (epoch_after before.injector.newest.epoch a)) (sym is.0) (unchanged before.injector after.injector is.1)
+  carried Drain before after answer is = subst (λ (a : CommandAnswer). Kept before.injector after.injector [] (epoch_after before.injector.newest.epoch a)) (sym is.0) (unchanged before.injector after.injector is.1)
 
-  pub same_injector : (commands : List Command) (a b : Desk B) (answers : List Answer) → AreCarriedOut was_full commands a answers b → IsSameInjector a.injector b.injector
+  pub same_injector : (commands : List Command) (a b : Desk B) (answers : List CommandAnswer) → AreCarriedOut was_full commands a answers b → IsSameInjector a.injector b.injector
   same_injector [] a b [] done = (unchanged a.injector b.injector (ap (λ (d : Desk B). d.injector) done)).same
   same_injector [] a b (x ∷ answers) done = absurd done
   same_injector (c ∷ commands) a b [] done = absurd done
@@ -88,7 +88,7 @@ module _ (was_full : Word SeenParcel) {B : Type 0} where
       let q = same_injector commands done.0 b answers done.2 in
       record { opening = q.opening ∙ p.opening; lines = q.lines ∙ p.lines; most = q.most ∙ p.most }
 
-  pub accepted_are : (commands : List Command) (a b : Desk B) (answers : List Answer) → AreCarriedOut was_full commands a answers b →
+  pub accepted_are : (commands : List Command) (a b : Desk B) (answers : List CommandAnswer) → AreCarriedOut was_full commands a answers b →
       b.injector.accepted.items ≡ a.injector.accepted.items ++ accepted_from (length a.injector.accepted.items) a.injector.newest.epoch commands answers
   accepted_are [] a b [] done = ap (λ (d : Desk B). d.injector.accepted.items) done ∙ sym (append-nil a.injector.accepted.items)
   accepted_are [] a b (x ∷ answers) done = absurd done

@@ -7,7 +7,7 @@ use Rattle.std.proofs.lemmas.List.{take-replicate, take-append-le, take_all, len
 use Rattle.std.proofs.lemmas.List.Elements.{All-nil, All-push, All-append}
 use Rattle.std.proofs.Math.Seq.{take-set-lt}
 use Rattle.ir_model.specs.declared.Kind.{Kind}
-use Rattle.ir_model.specs.Network.{Network, restrict}
+use Rattle.ir_model.specs.Topology.{Topology, restrict}
 use Rattle.ir_plan.specs.declared.tour.LabelOrder.{LabelOrder}
 use Rattle.ir_core.specs.declared.TheConstants.{MAX_LINKS}
 use Rattle.ir_core.specs.declared.board.Board.{Board}
@@ -31,15 +31,15 @@ use Rattle.ir_core.specs.declared.command.Command.{Command}
 use Rattle.ir_core.specs.declared.command.Command.TheVariants.{Inject, Install, Retire, Down, Up, Drain}
 use Rattle.std.specs.List.{AllByRecursion}
 use Rattle.ir_worker.specs.Account.{NeverCurrent}
-use Rattle.ir_worker.specs.Seen.{SeenParcel}
+use Rattle.ir_worker.specs.Seen.{Parcel}
 use Rattle.ir_worker.proofs.Restamps.{never_now}
 use Rattle.ir_control.specs.declared.net.Net.{Net}
 use Rattle.ir_control.specs.declared.controller.Controller.{Controller}
-use Rattle.ir_control.specs.Changes.{network_up, Publishes, PublishesNothing}
+use Rattle.ir_control.specs.Changes.{topology_up, Publishes, PublishesNothing}
 use Rattle.ir_control.specs.Parts.{AreFreshParts}
 use Rattle.ir_live.specs.declared.desk.Desk.{Desk}
 use Rattle.ir_live.specs.Agreed.{AreOfOne}
-use Rattle.ir_live.specs.Answers.{Answer, epoch_after}
+use Rattle.ir_live.specs.Answers.{CommandAnswer, epoch_after}
 use Rattle.ir_live.specs.Planned.{stamp_by, stamps_in, up_after, IsAsked, AreAsked}
 use Rattle.ir_live.specs.Carried.{IsChangedAs, InstallsAndLearns, IsCarriedOut, AreCarriedOut}
 
@@ -51,7 +51,7 @@ link_in links b l up e = by (nat_le links l) _ refl e
     by true rest is e = absurd (cc e)
     by false rest is e = grind (arith, common_steps)
 
-no_stamp : (P : Stamp → Type 0) (x : Answer) → stamp_by x ≡ [] → All P (stamp_by x)
+no_stamp : (P : Stamp → Type 0) (x : CommandAnswer) → stamp_by x ≡ [] → All P (stamp_by x)
 no_stamp P x none = subst (All P) (sym none) (All-nil P)
 
 used_le : {X : Type 0} (m n : ℕ) → (n ≡ m) ⊎ ((n ≡ m + 1) × X) → m ≤ n
@@ -99,10 +99,10 @@ module _ {B : Type 0} (net : Net) (origin : Controller B) where
   abbrev links : ℕ
   links = length net.topology.links
 
-  same_up : (up : List Bool) (last : ℕ) (c : Controller B) → Stands up last c → network_up c ≡ restrict up net.topology
+  same_up : (up : List Bool) (last : ℕ) (c : Controller B) → Stands up last c → topology_up c ≡ restrict up net.topology
   same_up up last c is =
-      let over : (knows c.opening).network ≡ net.topology = ap (λ (s : Stamp). (knows s).network) is.opening ∙ net.opened.network in
-      ap (λ (g : Network). restrict (take (length g.links) (board_of (published c.writer)).up) g) over ∙ ap (λ (marks : List Bool). restrict marks net.topology) is.ups
+      let over : (knows c.opening).topology ≡ net.topology = ap (λ (s : Stamp). (knows s).topology) is.opening ∙ net.opened.topology in
+      ap (λ (g : Topology). restrict (take (length g.links) (board_of (published c.writer)).up) g) over ∙ ap (λ (marks : List Bool). restrict marks net.topology) is.ups
 
   unmoved : (up : List Bool) (last : ℕ) (a b : Controller B) → b ≡ a → Stands up last a → Stands up last b
   unmoved up last a b same is = subst (λ (c : Controller B). Stands up last c) (sym same) is
@@ -134,11 +134,11 @@ module _ {B : Type 0} (net : Net) (origin : Controller B) where
   rejected : (why_not : Option Refused) (c : Change) (up : List Bool) (last : ℕ) (a b : Desk B) (why : Refused) → IsChangedAs why_not c a (Err why) b → Stands up last a.controller → Stands up last b.controller
   rejected why_not c up last a b why done is = nothing up last a.controller b.controller done.1.1.1 (let same = done.1.0 in omega (arith, same)) is
 
-  marked_up : (up : List Bool) (last : ℕ) (c : Controller B) (l : ℕ) (v : Bool) → Stands up last c → mark_refused (length (knows c.opening).network.links) (board_of (published c.writer)) l v ≡ None
+  marked_up : (up : List Bool) (last : ℕ) (c : Controller B) (l : ℕ) (v : Bool) → Stands up last c → mark_refused (length (knows c.opening).topology.links) (board_of (published c.writer)) l v ≡ None
       → (w : Bool) → take links (slice_set (board_of (published c.writer)).up l w) ≡ slice_set up l w
   marked_up up last c l v is allowed w =
-      let over : length (knows c.opening).network.links ≡ links = ap (λ (s : Stamp). length (knows s).network.links) is.opening ∙ ap (λ (g : Network). length g.links) net.opened.network in
-      let within = link_in (length (knows c.opening).network.links) (board_of (published c.writer)) l v allowed in
+      let over : length (knows c.opening).topology.links ≡ links = ap (λ (s : Stamp). length (knows s).topology.links) is.opening ∙ ap (λ (g : Topology). length g.links) net.opened.topology in
+      let within = link_in (length (knows c.opening).topology.links) (board_of (published c.writer)) l v allowed in
       take-set-lt links (board_of (published c.writer)).up l w (omega (arith, over, within)) ∙ ap (λ (marks : List Bool). slice_set marks l w) is.ups
 
   of_one : (kind : Kind) (root : ℕ) (up : List Bool) (last : ℕ) (a b : Desk B) (s : Stamp) → InstallsAndLearns a b kind root s → Stands up last a.controller → registry_name s ≡ registry_name net.opening
@@ -155,14 +155,14 @@ module _ {B : Type 0} (net : Net) (origin : Controller B) where
       let now = i.used in
       let made : IsMade net.labels kind root (restrict up net.topology) (Some (knows i.stamp)) =
       subst (λ (n : LabelOrder). IsMade n kind root (restrict up net.topology) (Some (knows i.stamp))) is.labels
-      (subst (λ (g : Network). IsMade a.controller.labels kind root g (Some (knows i.stamp))) (same_up up last a.controller is) i.plan) in (
+      (subst (λ (g : Topology). IsMade a.controller.labels kind root g (Some (knows i.stamp))) (same_up up last a.controller is) i.plan) in (
         (omega (arith, same, number, before), subst (λ (x : Stamp). IsMade net.labels kind root (restrict up net.topology) (Some (knows x))) done.stamp_is made),
         one_more up up last (epoch_after last (Ok (Some s))) a.controller b.controller (change.Install i.stamp) done.receipt i.publishes is.ups
             (after_epoch last b.controller.used s (omega (arith, before, now)) (omega (arith, same, number, now))) is,
       )
 
-  module _ (was_full : Word SeenParcel) where
-    step : (c : Command) (up : List Bool) (last : ℕ) (a b : Desk B) (answer : Answer) → IsCarriedOut was_full c a answer b → Stands up last a.controller →
+  module _ (was_full : Word Parcel) where
+    step : (c : Command) (up : List Bool) (last : ℕ) (a b : Desk B) (answer : CommandAnswer) → IsCarriedOut was_full c a answer b → Stands up last a.controller →
         IsAsked net.labels net.topology up last c answer × Stands (up_after up c answer) (epoch_after last answer) b.controller
     step (Inject source dest) up last a b (Ok None) done is = (refl, unmoved up last a.controller b.controller done.3 is)
     step (Inject source dest) up last a b (Ok (Some s)) done is = absurd done.0
@@ -183,7 +183,7 @@ module _ {B : Type 0} (net : Net) (origin : Controller B) where
     step Drain up last a b (Ok (Some s)) done is = absurd (let e = done.0 in cc e)
     step Drain up last a b (Err why) done is = absurd (let e = done.0 in cc e)
 
-    pub all_asked : (commands : List Command) (up : List Bool) (last : ℕ) (a b : Desk B) (answers : List Answer) → AreCarriedOut was_full commands a answers b → Stands up last a.controller → AreAsked net.labels net.topology up last commands answers
+    pub all_asked : (commands : List Command) (up : List Bool) (last : ℕ) (a b : Desk B) (answers : List CommandAnswer) → AreCarriedOut was_full commands a answers b → Stands up last a.controller → AreAsked net.labels net.topology up last commands answers
     all_asked [] up last a b answers done is = tt
     all_asked (c ∷ commands) up last a b [] done is = tt
     all_asked (c ∷ commands) up last a b (x ∷ answers) done is =
@@ -191,7 +191,7 @@ module _ {B : Type 0} (net : Net) (origin : Controller B) where
         (one.0, all_asked commands (up_after up c x) (epoch_after last x) done.0 b answers done.2 one.1)
 
     -- it is the same board
-    pub same_board : (commands : List Command) (up : List Bool) (last : ℕ) (a b : Desk B) (answers : List Answer) → AreCarriedOut was_full commands a answers b → Stands up last a.controller → writer_board b.controller.writer ≡ writer_board origin.writer
+    pub same_board : (commands : List Command) (up : List Bool) (last : ℕ) (a b : Desk B) (answers : List CommandAnswer) → AreCarriedOut was_full commands a answers b → Stands up last a.controller → writer_board b.controller.writer ≡ writer_board origin.writer
     same_board [] up last a b [] done is = ap (λ (d : Desk B). writer_board d.controller.writer) done ∙ is.board
     same_board [] up last a b (x ∷ answers) done is = absurd done
     same_board (c ∷ commands) up last a b [] done is = absurd done
@@ -199,7 +199,7 @@ module _ {B : Type 0} (net : Net) (origin : Controller B) where
         same_board commands (up_after up c x) (epoch_after last x) done.0 b answers done.2 (step c up last a done.0 x done.1 is).1
 
     -- the stamps that were installed are of the net's registry
-    stamp_of_one : (c : Command) (up : List Bool) (last : ℕ) (a b : Desk B) (x : Answer) → IsCarriedOut was_full c a x b → Stands up last a.controller → AreOfOne net.opening (stamp_by x)
+    stamp_of_one : (c : Command) (up : List Bool) (last : ℕ) (a b : Desk B) (x : CommandAnswer) → IsCarriedOut was_full c a x b → Stands up last a.controller → AreOfOne net.opening (stamp_by x)
     stamp_of_one (Install kind root) up last a b (Ok (Some s)) done is = All-push (λ t. registry_name t ≡ registry_name net.opening) [] s (All-nil (λ t. registry_name t ≡ registry_name net.opening)) (of_one kind root up last a b s done is)
     stamp_of_one (Install kind root) up last a b (Ok None) done is = absurd done
     stamp_of_one (Install kind root) up last a b (Err why) done is = All-nil (λ t. registry_name t ≡ registry_name net.opening)
@@ -209,7 +209,7 @@ module _ {B : Type 0} (net : Net) (origin : Controller B) where
     stamp_of_one (Up l) up last a b x done is = no_stamp (λ t. registry_name t ≡ registry_name net.opening) x (step (Up l) up last a b x done is).0
     stamp_of_one Drain up last a b x done is = no_stamp (λ t. registry_name t ≡ registry_name net.opening) x (step Drain up last a b x done is).0
 
-    pub stamps_of_one : (commands : List Command) (up : List Bool) (last : ℕ) (a b : Desk B) (answers : List Answer) → AreCarriedOut was_full commands a answers b → Stands up last a.controller → AreOfOne net.opening (stamps_in answers)
+    pub stamps_of_one : (commands : List Command) (up : List Bool) (last : ℕ) (a b : Desk B) (answers : List CommandAnswer) → AreCarriedOut was_full commands a answers b → Stands up last a.controller → AreOfOne net.opening (stamps_in answers)
     stamps_of_one commands up last a b [] done is = All-nil (λ t. registry_name t ≡ registry_name net.opening)
     stamps_of_one [] up last a b (x ∷ answers) done is = absurd done
     stamps_of_one (c ∷ commands) up last a b (x ∷ answers) done is =
@@ -219,14 +219,14 @@ module _ {B : Type 0} (net : Net) (origin : Controller B) where
 kept_never : (p : ℕ → Bool) (xs ys : List Entry) → ys ≡ xs → NeverCurrent p xs → NeverCurrent p ys
 kept_never p xs ys same never = subst (NeverCurrent p) (sym same) never
 
-split_all : (p : ℕ → Bool) (x : Answer) (answers : List Answer) → AllByRecursion (λ s. p s.epoch ≡ false) (stamps_in (x ∷ answers)) → AllByRecursion (λ s. p s.epoch ≡ false) (stamp_by x) × AllByRecursion (λ s. p s.epoch ≡ false) (stamps_in answers)
+split_all : (p : ℕ → Bool) (x : CommandAnswer) (answers : List CommandAnswer) → AllByRecursion (λ s. p s.epoch ≡ false) (stamps_in (x ∷ answers)) → AllByRecursion (λ s. p s.epoch ≡ false) (stamp_by x) × AllByRecursion (λ s. p s.epoch ≡ false) (stamps_in answers)
 split_all p (Ok None) answers all = (tt, all)
 split_all p (Ok (Some s)) answers all = ((all.0, tt), all.1)
 split_all p (Err why) answers all = (tt, all)
 
 -- an epoch that was current on the board is that of the opening or one of those that were installed
-module _ {B : Type 0} (was_full : Word SeenParcel) (p : ℕ → Bool) where
-  changed_never : (why_not : Option Refused) (c : Change) (a b : Desk B) (x : Answer) → IsChangedAs why_not c a x b → ((board : Board) → (changed board c).current ≡ board.current)
+module _ {B : Type 0} (was_full : Word Parcel) (p : ℕ → Bool) where
+  changed_never : (why_not : Option Refused) (c : Change) (a b : Desk B) (x : CommandAnswer) → IsChangedAs why_not c a x b → ((board : Board) → (changed board c).current ≡ board.current)
       → NeverCurrent p (published a.controller.writer) → NeverCurrent p (published b.controller.writer)
   changed_never why_not c a b (Ok (Some s)) done keeps never = absurd done
   changed_never why_not c a b (Ok None) done keeps never =
@@ -236,7 +236,7 @@ module _ {B : Type 0} (was_full : Word SeenParcel) (p : ℕ → Bool) where
   moved_never : (a b : Desk B) → b.controller ≡ a.controller → NeverCurrent p (published a.controller.writer) → NeverCurrent p (published b.controller.writer)
   moved_never a b same never = kept_never p _ _ (ap (λ (c : Controller B). published c.writer) same) never
 
-  step_never : (c : Command) (a b : Desk B) (x : Answer) → IsCarriedOut was_full c a x b → AllByRecursion (λ s. p s.epoch ≡ false) (stamp_by x) → NeverCurrent p (published a.controller.writer) → NeverCurrent p (published b.controller.writer)
+  step_never : (c : Command) (a b : Desk B) (x : CommandAnswer) → IsCarriedOut was_full c a x b → AllByRecursion (λ s. p s.epoch ≡ false) (stamp_by x) → NeverCurrent p (published a.controller.writer) → NeverCurrent p (published b.controller.writer)
   step_never (Inject source dest) a b x done none never = moved_never a b done.3 never
   step_never (Install kind root) a b (Ok None) done none never = absurd done
   step_never (Install kind root) a b (Ok (Some s)) done none never =
@@ -248,7 +248,7 @@ module _ {B : Type 0} (was_full : Word SeenParcel) (p : ℕ → Bool) where
   step_never (Up l) a b x done none never = changed_never _ (change.Up l) a b x done (λ board. refl) never
   step_never Drain a b x done none never = moved_never a b done.2 never
 
-  pub never_all : (commands : List Command) (a b : Desk B) (answers : List Answer) → AreCarriedOut was_full commands a answers b → AllByRecursion (λ s. p s.epoch ≡ false) (stamps_in answers) → NeverCurrent p (published a.controller.writer) → NeverCurrent p (published b.controller.writer)
+  pub never_all : (commands : List Command) (a b : Desk B) (answers : List CommandAnswer) → AreCarriedOut was_full commands a answers b → AllByRecursion (λ s. p s.epoch ≡ false) (stamps_in answers) → NeverCurrent p (published a.controller.writer) → NeverCurrent p (published b.controller.writer)
   never_all [] a b [] done none never = subst (λ (d : Desk B). NeverCurrent p (published d.controller.writer)) (sym done) never
   never_all [] a b (x ∷ answers) done none never = absurd done
   never_all (c ∷ commands) a b [] done none never = absurd done

@@ -9,38 +9,38 @@ use Rattle.ir_epochs.specs.declared.registry.Stamp.{Stamp}
 use Rattle.ir_epochs.specs.declared.handles.Receipt.{Receipt}
 use Rattle.ir_epochs.specs.declared.entry.Change.{Change}
 use Rattle.ir_links.specs.Ends.{Word}
-use Rattle.ir_worker.specs.Seen.{SeenParcel}
+use Rattle.ir_worker.specs.Seen.{Parcel}
 use Rattle.ir_epochs.specs.Stamps.{knows}
-use Rattle.ir_model.specs.Network.{node_count}
+use Rattle.ir_model.specs.Topology.{node_count}
 use Rattle.ir_core.specs.Refusals.{inject_refused}
 use Rattle.ir_control.specs.declared.injector.Injector.{Injector}
 use Rattle.ir_control.specs.Accepted.{IsInjected}
 use Rattle.ir_control.specs.Refusals.{IsInjectRefusal}
 use Rattle.ir_control.specs.Changes.{IsChangeAnswer}
 use Rattle.ir_live.specs.declared.desk.Desk.{Desk}
-use Rattle.ir_live.specs.Answers.{Answer, answer_of, refusal_in, refusal_at, refusals_from}
+use Rattle.ir_live.specs.Answers.{CommandAnswer, command_answer, refusal_in, refusal_at, refusals_from}
 use Rattle.ir_live.specs.Planned.{stamp_by, stamps_in}
 use Rattle.ir_live.specs.Carried.{IsInjectAnswer, IsCarriedOut, IsChangedAs, AreCarriedOut}
 
-pub injected_as : (was_full : Word SeenParcel) (source dest : ℕ) (before after : Injector) (result : Result ℕ Refused) (r : Option Refused) → r ≡ result_err result →
+pub injected_as : (was_full : Word Parcel) (source dest : ℕ) (before after : Injector) (result : Result ℕ Refused) (r : Option Refused) → r ≡ result_err result →
     MatchResult result
-    (λ id. (inject_refused (node_count (knows before.opening).network) before.max_packets (length before.accepted.items) source dest ≡ None) × IsInjected before after id source dest)
-    (λ e. IsInjectRefusal was_full before source dest e × (after.outs.items ≡ before.outs.items) × (after.accepted.items ≡ before.accepted.items)) → IsInjectAnswer was_full source dest before (answer_of r) after
-injected_as was_full source dest before after (Ok id) r told is = subst (λ (o : Option Refused). IsInjectAnswer was_full source dest before (answer_of o) after) (sym told) (is.0, (id, is.1))
+    (λ id. (inject_refused (node_count (knows before.opening).topology) before.max_packets (length before.accepted.items) source dest ≡ None) × IsInjected before after id source dest)
+    (λ e. IsInjectRefusal was_full before source dest e × (after.outs.items ≡ before.outs.items) × (after.accepted.items ≡ before.accepted.items)) → IsInjectAnswer was_full source dest before (command_answer r) after
+injected_as was_full source dest before after (Ok id) r told is = subst (λ (o : Option Refused). IsInjectAnswer was_full source dest before (command_answer o) after) (sym told) (is.0, (id, is.1))
 injected_as was_full source dest before after (Err e) r told is =
-    subst (λ (o : Option Refused). IsInjectAnswer was_full source dest before (answer_of o) after) (sym told) (is.0, record { outs = is.1; accepted = is.2 })
+    subst (λ (o : Option Refused). IsInjectAnswer was_full source dest before (command_answer o) after) (sym told) (is.0, record { outs = is.1; accepted = is.2 })
 
 module _ {B : Type 0} where
   pub changed_as : (refused : Option Refused) (c : Change) (before after : Desk B) (result : Result Receipt Refused) (r : Option Refused) → r ≡ result_err result →
-      after.injector ≡ before.injector → IsChangeAnswer refused c before.controller after.controller result → IsChangedAs refused c before (answer_of r) after
-  changed_as refused c before after result r told same is = subst (λ (o : Option Refused). IsChangedAs refused c before (answer_of o) after) (sym told) (by_case result is) where
-    by_case : (result : Result Receipt Refused) → IsChangeAnswer refused c before.controller after.controller result → IsChangedAs refused c before (answer_of (result_err result)) after
+      after.injector ≡ before.injector → IsChangeAnswer refused c before.controller after.controller result → IsChangedAs refused c before (command_answer r) after
+  changed_as refused c before after result r told same is = subst (λ (o : Option Refused). IsChangedAs refused c before (command_answer o) after) (sym told) (by_case result is) where
+    by_case : (result : Result Receipt Refused) → IsChangeAnswer refused c before.controller after.controller result → IsChangedAs refused c before (command_answer (result_err result)) after
     by_case (Ok t) is = (same, (t, is))
     by_case (Err e) is = (same, is)
 
-module _ (was_full : Word SeenParcel) {B : Type 0} where
+module _ (was_full : Word Parcel) {B : Type 0} where
   -- one more command, with its answer
-  pub carried_more : (commands : List Command) (a b d : Desk B) (answers : List Answer) (c : Command) (answer : Answer) →
+  pub carried_more : (commands : List Command) (a b d : Desk B) (answers : List CommandAnswer) (c : Command) (answer : CommandAnswer) →
       AreCarriedOut was_full commands a answers b → IsCarriedOut was_full c b answer d → AreCarriedOut was_full (commands ++ c ∷ []) a (answers ++ answer ∷ []) d
   carried_more [] a b d [] c answer done one = (d, subst (λ (z : Desk B). IsCarriedOut was_full c z answer d) done one, refl)
   carried_more [] a b d (x ∷ answers) c answer done one = absurd done
@@ -48,32 +48,32 @@ module _ (was_full : Word SeenParcel) {B : Type 0} where
   carried_more (k ∷ commands) a b d (x ∷ answers) c answer done one = (done.0, done.1, carried_more commands done.0 b d answers c answer done.2 one)
 
   -- as many answers as commands
-  pub as_many : (commands : List Command) (a b : Desk B) (answers : List Answer) → AreCarriedOut was_full commands a answers b → length answers ≡ length commands
+  pub as_many : (commands : List Command) (a b : Desk B) (answers : List CommandAnswer) → AreCarriedOut was_full commands a answers b → length answers ≡ length commands
   as_many [] a b [] done = refl
   as_many [] a b (x ∷ answers) done = absurd done
   as_many (k ∷ commands) a b [] done = absurd done
   as_many (k ∷ commands) a b (x ∷ answers) done = ap suc (as_many commands done.0 b answers done.2)
 
 -- one more answer
-pub refusals_more : (k : ℕ) (answers : List Answer) (answer : Answer) → refusals_from k (answers ++ answer ∷ []) ≡ refusals_from k answers ++ refusal_at (k + length answers) (refusal_in answer)
+pub refusals_more : (k : ℕ) (answers : List CommandAnswer) (answer : CommandAnswer) → refusals_from k (answers ++ answer ∷ []) ≡ refusals_from k answers ++ refusal_at (k + length answers) (refusal_in answer)
 refusals_more k [] answer = append-nil (refusal_at k (refusal_in answer)) ∙ ap (λ (n : ℕ). refusal_at n (refusal_in answer)) (let e : k ≡ k + 0 = omega arith in e)
 refusals_more k (x ∷ answers) answer =
     ap (λ (rest : List (ℕ × Refused)). refusal_at k (refusal_in x) ++ rest) (refusals_more (k + 1) answers answer)
     ∙ sym (append_assoc (refusal_at k (refusal_in x)) (refusals_from (k + 1) answers) (refusal_at (k + 1 + length answers) (refusal_in answer)))
     ∙ ap (λ (n : ℕ). refusal_at k (refusal_in x) ++ refusals_from (k + 1) answers ++ refusal_at n (refusal_in answer)) (let e : k + 1 + length answers ≡ k + suc (length answers) = omega arith in e)
 
-stamps_more : (answers : List Answer) (answer : Answer) → stamps_in (answers ++ answer ∷ []) ≡ stamps_in answers ++ stamp_by answer
+stamps_more : (answers : List CommandAnswer) (answer : CommandAnswer) → stamps_in (answers ++ answer ∷ []) ≡ stamps_in answers ++ stamp_by answer
 stamps_more [] answer = append-nil (stamp_by answer)
 stamps_more (x ∷ answers) answer = ap (λ (rest : List Stamp). stamp_by x ++ rest) (stamps_more answers answer) ∙ sym (append_assoc (stamp_by x) (stamps_in answers) (stamp_by answer))
 
-module _ (was_full : Word SeenParcel) {B : Type 0} where
+module _ (was_full : Word Parcel) {B : Type 0} where
   -- the first commands with their answers, one more of them, the refusals and the stamps
-  pub carried_to : (commands : List Command) (place : ℕ) (c default : Command) (a b d : Desk B) (before after : List (ℕ × Refused)) (opening : Stamp) (stamps stamps' : List Stamp) (x : Answer) →
+  pub carried_to : (commands : List Command) (place : ℕ) (c default : Command) (a b d : Desk B) (before after : List (ℕ × Refused)) (opening : Stamp) (stamps stamps' : List Stamp) (x : CommandAnswer) →
       place < length commands → c ≡ get_or commands place default →
-      (answers : List Answer) × AreCarriedOut was_full (take place commands) a answers b × (before ≡ refusals_from 0 answers) × (stamps ≡ opening ∷ stamps_in answers) →
+      (answers : List CommandAnswer) × AreCarriedOut was_full (take place commands) a answers b × (before ≡ refusals_from 0 answers) × (stamps ≡ opening ∷ stamps_in answers) →
       IsCarriedOut was_full c b x d →
       after ≡ before ++ refusal_at place (refusal_in x) → stamps' ≡ stamps ++ stamp_by x →
-      (answers : List Answer) × AreCarriedOut was_full (take (place + 1) commands) a answers d × (after ≡ refusals_from 0 answers) × (stamps' ≡ opening ∷ stamps_in answers)
+      (answers : List CommandAnswer) × AreCarriedOut was_full (take (place + 1) commands) a answers d × (after ≡ refusals_from 0 answers) × (stamps' ≡ opening ∷ stamps_in answers)
   carried_to commands place c default a b d before after opening stamps stamps' x lt is done one told more = (
     done.0 ++ x ∷ [],
     subst (λ (ks : List Command). AreCarriedOut was_full ks a (done.0 ++ x ∷ []) d) (ap (λ (k : Command). take place commands ++ k ∷ []) is ∙ sym (take_more commands place default lt))

@@ -8,17 +8,17 @@ use Rattle.std.proofs.Math.Logic.{∥∥₁_elim, ∥∥₁_prop}
 use Rattle.ir_core.specs.declared.packet.Restamp.{Restamp}
 use Rattle.ir_core.specs.declared.command.Command.{Command}
 use Rattle.ir_core.specs.declared.command.Command.TheVariants.{Inject, Install, Retire, Down, Up, Drain}
-use Rattle.ir_core.specs.Journey.{Journey, segments, segments_in, until}
-use Rattle.ir_core.specs.Sound.{IsSoundBy, IsSoundJourney}
+use Rattle.ir_core.specs.Record.{Record, segments, segments_in, until}
+use Rattle.ir_core.specs.Sound.{IsSoundBy, IsSoundRecord}
 use Rattle.ir_epochs.specs.declared.registry.Stamp.{Stamp}
 use Rattle.ir_epochs.specs.Stamps.{knows}
 use Rattle.ir_worker.specs.declared.parcel.Outcome.{Outcome}
 use Rattle.ir_worker.specs.Account.{Head, head_of}
-use Rattle.ir_worker.specs.Seen.{EachBy, IsSoundBy as IsSoundByStamp, IsSoundJourney as IsSoundByStamps}
+use Rattle.ir_worker.specs.Seen.{EachBy, IsSoundByStamp, IsSoundByStamps}
 use Rattle.ir_control.specs.declared.injector.Accepted.{Accepted}
 use Rattle.ir_control.specs.Heads.{head_at}
 use Rattle.ir_live.specs.Agreed.{Agrees}
-use Rattle.ir_live.specs.Answers.{Answer, epoch_after, accepted_by, accepted_from}
+use Rattle.ir_live.specs.Answers.{CommandAnswer, epoch_after, accepted_by, accepted_from}
 use Rattle.ir_live.specs.Planned.{planned, stamps_in, IsPlanIn}
 use Rattle.ir_live.proofs.Agreement.{all_reverse}
 
@@ -77,7 +77,7 @@ appended P [] ys a b = b
 appended P (x ∷ xs) ys a b = (a.0, appended P xs ys a.1 b)
 
 module _ (whole : List Stamp) where
-  entered : (id epoch : ℕ) (c : Command) (x : Answer) → among whole epoch ≡ true → AllByRecursion (λ (a : Accepted). among whole a.epoch ≡ true) (accepted_by id epoch c x)
+  entered : (id epoch : ℕ) (c : Command) (x : CommandAnswer) → among whole epoch ≡ true → AllByRecursion (λ (a : Accepted). among whole a.epoch ≡ true) (accepted_by id epoch c x)
   entered id epoch (Inject source dest) (Ok installed) there = (there, tt)
   entered id epoch (Inject source dest) (Err why) there = tt
   entered id epoch (Install kind root) x there = tt
@@ -86,7 +86,7 @@ module _ (whole : List Stamp) where
   entered id epoch (Up link) x there = tt
   entered id epoch Drain x there = tt
 
-  after : (epoch : ℕ) (x : Answer) (answers : List Answer) → among whole epoch ≡ true → AllByRecursion (λ s. among whole s.epoch ≡ true) (stamps_in (x ∷ answers)) →
+  after : (epoch : ℕ) (x : CommandAnswer) (answers : List CommandAnswer) → among whole epoch ≡ true → AllByRecursion (λ s. among whole s.epoch ≡ true) (stamps_in (x ∷ answers)) →
       (among whole (epoch_after epoch x) ≡ true) × AllByRecursion (λ s. among whole s.epoch ≡ true) (stamps_in answers)
   after epoch (Ok None) answers there all = (there, all)
   after epoch (Ok (Some s)) answers there all = (by (nat_lt epoch s.epoch), all.1)
@@ -96,7 +96,7 @@ module _ (whole : List Stamp) where
       by false = there
   after epoch (Err why) answers there all = (there, all)
 
-  pub entered_among : (commands : List Command) (answers : List Answer) (id epoch : ℕ) → among whole epoch ≡ true → AllByRecursion (λ s. among whole s.epoch ≡ true) (stamps_in answers) →
+  pub entered_among : (commands : List Command) (answers : List CommandAnswer) (id epoch : ℕ) → among whole epoch ≡ true → AllByRecursion (λ s. among whole s.epoch ≡ true) (stamps_in answers) →
       AllByRecursion (λ (a : Accepted). among whole a.epoch ≡ true) (accepted_from id epoch commands answers)
   entered_among [] answers id epoch there all = tt
   entered_among (c ∷ commands) [] id epoch there all = tt
@@ -116,11 +116,11 @@ module _ (whole : List Stamp) where
   first_among (x ∷ outcomes) (a ∷ accepted) e all (suc i) o at = first_among outcomes accepted (cc e) all.1 i o at
 
   -- and those of the segments
-  segments_among : (latest : List Restamp) (r : Journey) → among whole r.epoch ≡ true → AllByRecursion (λ (s : Restamp). among whole s.epoch ≡ true) latest → AllByRecursion (λ g. among whole g.epoch ≡ true) (segments_in latest r)
+  segments_among : (latest : List Restamp) (r : Record) → among whole r.epoch ≡ true → AllByRecursion (λ (s : Restamp). among whole s.epoch ≡ true) latest → AllByRecursion (λ g. among whole g.epoch ≡ true) (segments_in latest r)
   segments_among [] r there all = (there, tt)
   segments_among (s ∷ older) r there all = (all.0, segments_among older (until s r) there all.1)
 
-  each_by : (ss : List Stamp) (gs : List Journey) → EachBy IsSoundByStamp ss gs → AllByRecursion (λ s. Agrees whole s) ss → AllByRecursion (λ g. among whole g.epoch ≡ true) gs → AllByRecursion (IsSoundBy (IsPlanIn (planned whole))) gs
+  each_by : (ss : List Stamp) (gs : List Record) → EachBy IsSoundByStamp ss gs → AllByRecursion (λ s. Agrees whole s) ss → AllByRecursion (λ g. among whole g.epoch ≡ true) gs → AllByRecursion (IsSoundBy (IsPlanIn (planned whole))) gs
   each_by [] [] sound agree there = tt
   each_by [] (g ∷ gs) sound agree there = absurd sound
   each_by (s ∷ ss) [] sound agree there = absurd sound
@@ -134,8 +134,8 @@ module _ (whole : List Stamp) where
   )
 
   -- a record that is sound by its stamps is sound by the plans of its epochs
-  pub sound_by_plans : (most : ℕ) (ss : List Stamp) (r : Journey) → ∥ IsSoundByStamps ss r ∥₁ → length r.restamps ≤ most → All (λ s. Agrees whole s) ss → among whole r.epoch ≡ true
-      → All (λ (s : Restamp). among whole s.epoch ≡ true) r.restamps → ∥ IsSoundJourney most (IsPlanIn (planned whole)) r ∥₁
+  pub sound_by_plans : (most : ℕ) (ss : List Stamp) (r : Record) → ∥ IsSoundByStamps ss r ∥₁ → length r.restamps ≤ most → All (λ s. Agrees whole s) ss → among whole r.epoch ≡ true
+      → All (λ (s : Restamp). among whole s.epoch ≡ true) r.restamps → ∥ IsSoundRecord most (IsPlanIn (planned whole)) r ∥₁
   sound_by_plans most ss r sound few agree first restamps = ∥∥₁_elim sound ∥∥₁_prop (λ k. ∣ record {
     few = few;
     places = k.places;

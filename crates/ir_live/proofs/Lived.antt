@@ -7,7 +7,7 @@ use Rattle.std.proofs.lemmas.Option.{slice_get-get_or}
 use mathlib.Core.List.{IsPrefix}
 use Rattle.ir_core.specs.declared.packet.Restamp.{Restamp}
 use Rattle.ir_core.specs.declared.command.Command.{Command}
-use Rattle.ir_core.specs.Sound.{IsSoundJourney}
+use Rattle.ir_core.specs.Sound.{IsSoundRecord}
 use Rattle.ir_epochs.specs.Handles.{known, published, reader_board, writer_board}
 use Rattle.ir_epochs.specs.Stamps.{registry_name}
 use Rattle.ir_worker.specs.declared.parcel.Outcome.{Outcome}
@@ -22,12 +22,12 @@ use Rattle.ir_live.specs.Planned.{Planned, planned, stamps_in, IsPlanIn}
 use Rattle.ir_live.proofs.Agreement.{at_all, all_mapped, all_agree}
 use Rattle.ir_live.proofs.Asked.{Stands, stands_first, never_first, all_asked, same_board, stamps_of_one, never_all}
 use Rattle.ir_live.proofs.Epochs.{among, all_among, none_beside, not_beside, entered_among, first_among, sound_by_plans}
-use Rattle.ir_model.specs.Network.{node_count}
+use Rattle.ir_model.specs.Topology.{node_count}
 use Rattle.ir_epochs.specs.declared.registry.Stamp.{Stamp}
 use Rattle.ir_worker.specs.declared.node.Node.{Node}
 use Rattle.ir_worker.specs.declared.serving.NoMemory.{NoMemory}
 use Rattle.ir_links.specs.Ends.{Word}
-use Rattle.ir_worker.specs.Seen.{SeenParcel}
+use Rattle.ir_worker.specs.Seen.{Parcel}
 use Rattle.ir_control.specs.declared.net.Net.{Net}
 use Rattle.ir_control.specs.declared.injector.Accepted.{Accepted}
 use Rattle.ir_control.specs.Parts.{AreFreshParts, AreFirstNodes, IsInjectorOf}
@@ -43,7 +43,7 @@ use Rattle.ir_live.specs.Answers.{accepted_from}
 use Rattle.ir_live.specs.Lives.{AreSameNodes, IsLive, IsRefusal}
 use Rattle.ir_epochs.specs.declared.error.BoardError.{BoardError}
 use Rattle.ir_epochs.specs.declared.error.BoardError.TheVariants as board
-use Rattle.ir_live.specs.Runs.{IsRun, IsStopped, live_error, parts_error}
+use Rattle.ir_live.specs.Runs.{IsNetRun, IsStopped, live_error, parts_error}
 use Rattle.ir_live.proofs.Accepting.{same_injector, injector_kept, accepted_are}
 use Rattle.ir_live.proofs.Handed.{first_back, same_back, all_there}
 
@@ -65,8 +65,8 @@ parts_refused {S} unstarted net s why error is = subst (λ (e : LiveError). IsRe
   by_case board.TooManyReaders = tt
   by_case board.NoMemory = tt
 
-module _ (was_full : Word SeenParcel) {B : Type 0} (net : Net) (nodes : List Node) (opened : Desk B) (commands : List Command) (run : Run B)
-    (fresh : AreFreshParts net nodes opened.injector opened.controller) (done : IsRun was_full net.opening nodes opened commands run) where
+module _ (was_full : Word Parcel) {B : Type 0} (net : Net) (nodes : List Node) (opened : Desk B) (commands : List Command) (run : Run B)
+    (fresh : AreFreshParts net nodes opened.injector opened.controller) (done : IsNetRun was_full net.opening nodes opened commands run) where
   pub nodes_back : AreFirstNodes net (node_count net.topology) (map (λ (b : Node × Option NoMemory). b.0) run.back.items)
   nodes_back = first_back net (node_count net.topology) nodes run.back.items fresh.nodes_are done.came_back
 
@@ -134,9 +134,9 @@ module _ (was_full : Word SeenParcel) {B : Type 0} (net : Net) (nodes : List Nod
     agree k o got = subst (λ (plans : List Stamp). All (λ s. Agrees plans s) (stamps_of o.stamp o.later.items)) done.stamps
         (all_agree run.stamps.items report.outcomes live.report.stamps.items report.stamps first (λ row. row.items) (λ (o : Outcome). o.later) (λ o. refl) live.report.later.items report.later later k o got)
 
-    sound : All (λ r. ∥ IsSoundJourney net.restamps (IsPlanIn (planned whole)) r ∥₁) live.report.records.items
-    sound = subst (All (λ r. ∥ IsSoundJourney net.restamps (IsPlanIn (planned whole)) r ∥₁)) (sym report.records)
-        (all_mapped (λ r. ∥ IsSoundJourney net.restamps (IsPlanIn (planned whole)) r ∥₁) (λ (o : Outcome). o.packet) report.outcomes
+    sound : All (λ r. ∥ IsSoundRecord net.restamps (IsPlanIn (planned whole)) r ∥₁) live.report.records.items
+    sound = subst (All (λ r. ∥ IsSoundRecord net.restamps (IsPlanIn (planned whole)) r ∥₁)) (sym report.records)
+        (all_mapped (λ r. ∥ IsSoundRecord net.restamps (IsPlanIn (planned whole)) r ∥₁) (λ (o : Outcome). o.packet) report.outcomes
         (λ k o got. sound_by_plans whole net.restamps (stamps_of o.stamp o.later.items) o.packet (at_all IsSoundOutcome report.outcomes report.sound k o got).1
         (at_all (λ (o : Outcome). length o.packet.restamps ≤ net.restamps) report.outcomes report.few k o got) (agree k o got) (first_there k o got) (restamps_there k o got)))
 

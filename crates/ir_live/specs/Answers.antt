@@ -7,16 +7,16 @@ use Rattle.ir_epochs.specs.declared.registry.Stamp.{Stamp}
 use Rattle.ir_control.specs.declared.injector.Accepted.{Accepted}
 
 -- a command was accepted, with the stamp of the epoch that it installed if it did; or it was refused
-abbrev pub Answer : Type 0
-Answer = Result (Option Stamp) Refused
+abbrev pub CommandAnswer : Type 0
+CommandAnswer = Result (Option Stamp) Refused
 
 -- the answer of a command that installs nothing, where this is why it was refused if it was
-abbrev pub answer_of : Option Refused → Answer
-answer_of None = Ok None
-answer_of (Some why) = Err why
+abbrev pub command_answer : Option Refused → CommandAnswer
+command_answer None = Ok None
+command_answer (Some why) = Err why
 
 -- why a command was refused, if it was
-abbrev pub refusal_in : Answer → Option Refused
+abbrev pub refusal_in : CommandAnswer → Option Refused
 refusal_in (Ok installed) = None
 refusal_in (Err why) = Some why
 
@@ -26,18 +26,18 @@ refusal_at k None = []
 refusal_at k (Some why) = (k, why) ∷ []
 
 -- the refused commands' places and refusals, where the first answer is that of place k
-abbrev pub refusals_from : ℕ → List Answer → List (ℕ × Refused)
+abbrev pub refusals_from : ℕ → List CommandAnswer → List (ℕ × Refused)
 refusals_from k [] = []
 refusals_from k (answer ∷ answers) = refusal_at k (refusal_in answer) ++ refusals_from (k + 1) answers
 
 -- the greatest epoch known, once an answer is known
-abbrev pub epoch_after : ℕ → Answer → ℕ
+abbrev pub epoch_after : ℕ → CommandAnswer → ℕ
 epoch_after epoch (Ok None) = epoch
 epoch_after epoch (Ok (Some s)) = cond (nat_lt epoch s.epoch) s.epoch epoch
 epoch_after epoch (Err why) = epoch
 
 -- the packet that one command put in, if it did
-abbrev pub accepted_by : ℕ → ℕ → Command → Answer → List Accepted
+abbrev pub accepted_by : ℕ → ℕ → Command → CommandAnswer → List Accepted
 accepted_by id epoch (Inject source dest) (Ok installed) = record { id = id; epoch = epoch; source = source; dest = dest } ∷ []
 accepted_by id epoch (Inject source dest) (Err why) = []
 accepted_by id epoch (Install kind root) answer = []
@@ -48,7 +48,7 @@ accepted_by id epoch Drain answer = []
 
 -- The packets of the commands that inject and were not refused, in order: numbered from `id` on, each stamped with the
 -- greatest epoch among `epoch` and those that were installed before it.
-abbrev pub accepted_from : ℕ → ℕ → List Command → List Answer → List Accepted
+abbrev pub accepted_from : ℕ → ℕ → List Command → List CommandAnswer → List Accepted
 accepted_from id epoch [] answers = []
 accepted_from id epoch (c ∷ commands) [] = []
 accepted_from id epoch (c ∷ commands) (answer ∷ answers) =

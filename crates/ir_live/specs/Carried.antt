@@ -1,7 +1,7 @@
 -- What commands do with an injector and a controller of one net.
 use Rattle.std.specs.Prelude.{◌≡◌, ℕ, ◌∷◌, [], true, false, List, Option, Some, None, Ok, Err, length}
 use Rattle.ir_model.specs.declared.Kind.{Kind}
-use Rattle.ir_model.specs.Network.{node_count}
+use Rattle.ir_model.specs.Topology.{node_count}
 use Rattle.ir_core.specs.declared.board.Board.{Board}
 use Rattle.ir_core.specs.declared.event.Refused.{Refused}
 use Rattle.ir_core.specs.declared.command.Command.{Command}
@@ -16,13 +16,13 @@ use Rattle.ir_epochs.specs.Entries.{board_of}
 use Rattle.ir_epochs.specs.Handles.{published}
 use Rattle.ir_links.specs.Ends.{Word}
 use Rattle.ir_worker.specs.Account.{lines_out}
-use Rattle.ir_worker.specs.Seen.{SeenParcel}
+use Rattle.ir_worker.specs.Seen.{Parcel}
 use Rattle.ir_control.specs.declared.injector.Injector.{Injector}
 use Rattle.ir_control.specs.Accepted.{IsInjected, stamp_after_learning}
 use Rattle.ir_control.specs.Refusals.{IsInjectRefusal}
 use Rattle.ir_control.specs.Changes.{Installs, IsNoInstall, IsChangeAnswer}
 use Rattle.ir_live.specs.declared.desk.Desk.{Desk}
-use Rattle.ir_live.specs.Answers.{Answer}
+use Rattle.ir_live.specs.Answers.{CommandAnswer}
 
 -- the same injector, of the same inboxes and with the same limit
 pub record IsSameInjector (before after : Injector) : Type 0 where
@@ -36,10 +36,10 @@ pub record InjectsNothing (before after : Injector) : Type 0 where
   pub accepted : after.accepted.items ≡ before.accepted.items
 
 -- what an injector answers to an inject, where the word tells of refused pushes
-abbrev pub IsInjectAnswer : Word SeenParcel → ℕ → ℕ → Injector → Answer → Injector → Type 0
+abbrev pub IsInjectAnswer : Word Parcel → ℕ → ℕ → Injector → CommandAnswer → Injector → Type 0
 IsInjectAnswer was_full source dest before (Ok (Some s)) after = ⊥
 IsInjectAnswer was_full source dest before (Ok None) after =
-    (inject_refused (node_count (knows before.opening).network) before.max_packets (length before.accepted.items) source dest ≡ None)
+    (inject_refused (node_count (knows before.opening).topology) before.max_packets (length before.accepted.items) source dest ≡ None)
     × ((id : ℕ) × IsInjected before after id source dest)
 IsInjectAnswer was_full source dest before (Err why) after =
     IsInjectRefusal was_full before source dest why × InjectsNothing before after
@@ -62,7 +62,7 @@ module _ {B : Type 0} where
     pub learnt : HasLearnt before.injector after.injector s
 
   -- what a controller answers to a command that changes the board and installs nothing
-  abbrev pub IsChangedAs : Option Refused → Change → Desk B → Answer → Desk B → Type 0
+  abbrev pub IsChangedAs : Option Refused → Change → Desk B → CommandAnswer → Desk B → Type 0
   IsChangedAs refused c before (Ok (Some s)) after = ⊥
   IsChangedAs refused c before (Ok None) after =
       (after.injector ≡ before.injector) × ((t : Receipt) × IsChangeAnswer refused c before.controller after.controller (Ok t))
@@ -71,21 +71,21 @@ module _ {B : Type 0} where
 
   -- how many links the net of a desk has, and its newest board
   abbrev pub desk_links : Desk B → ℕ
-  desk_links d = length (knows d.controller.opening).network.links
+  desk_links d = length (knows d.controller.opening).topology.links
 
   abbrev pub desk_board : Desk B → Board
   desk_board d = board_of (published d.controller.writer)
 
   -- what comes of an install
-  abbrev pub IsInstalledAs : Kind → ℕ → Desk B → Answer → Desk B → Type 0
+  abbrev pub IsInstalledAs : Kind → ℕ → Desk B → CommandAnswer → Desk B → Type 0
   IsInstalledAs kind root before (Ok None) after = ⊥
   IsInstalledAs kind root before (Ok (Some s)) after = InstallsAndLearns before after kind root s
   IsInstalledAs kind root before (Err why) after =
       (after.injector ≡ before.injector) × IsNoInstall root before.controller after.controller why
 
-module _ (was_full : Word SeenParcel) {B : Type 0} where
+module _ (was_full : Word Parcel) {B : Type 0} where
   -- what comes of a command: the injector and the controller before it, the answer, and both after it
-  abbrev pub IsCarriedOut : Command → Desk B → Answer → Desk B → Type 0
+  abbrev pub IsCarriedOut : Command → Desk B → CommandAnswer → Desk B → Type 0
   IsCarriedOut (Inject source dest) before answer after =
       IsInjectAnswer was_full source dest before.injector answer after.injector × IsSameInjector before.injector after.injector × (after.injector.newest ≡ before.injector.newest) × (after.controller ≡ before.controller)
   IsCarriedOut (Install kind root) before answer after = IsInstalledAs kind root before answer after
@@ -96,7 +96,7 @@ module _ (was_full : Word SeenParcel) {B : Type 0} where
       (answer ≡ Ok None) × (after.injector ≡ before.injector) × (after.controller ≡ before.controller)
 
   -- an answer to each command, in order
-  abbrev pub AreCarriedOut : List Command → Desk B → List Answer → Desk B → Type 0
+  abbrev pub AreCarriedOut : List Command → Desk B → List CommandAnswer → Desk B → Type 0
   AreCarriedOut [] before [] after = after ≡ before
   AreCarriedOut [] before (answer ∷ answers) after = ⊥
   AreCarriedOut (c ∷ commands) before [] after = ⊥

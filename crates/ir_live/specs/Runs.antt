@@ -6,7 +6,7 @@ use Rattle.ir_epochs.specs.declared.registry.Stamp.{Stamp}
 use Rattle.ir_worker.specs.declared.node.Node.{Node}
 use Rattle.ir_worker.specs.declared.serving.NoMemory.{NoMemory as Short}
 use Rattle.ir_worker.specs.Same.{IsSameNode}
-use Rattle.ir_worker.specs.Seen.{SeenParcel}
+use Rattle.ir_worker.specs.Seen.{Parcel}
 use Rattle.ir_live.specs.declared.desk.Desk.{Desk}
 use Rattle.ir_live.specs.declared.live.LiveError.{LiveError}
 use Rattle.ir_live.specs.declared.live.LiveError.TheVariants as live
@@ -15,7 +15,7 @@ use Rattle.ir_epochs.specs.declared.error.BoardError.TheVariants as boards
 use Rattle.ir_live.specs.declared.working.NotRun.{NotRun}
 use Rattle.ir_live.specs.declared.working.NotRun.TheVariants.{NoThread, NoMemory}
 use Rattle.ir_live.specs.declared.working.Run.{Run}
-use Rattle.ir_live.specs.Answers.{Answer, refusals_from}
+use Rattle.ir_live.specs.Answers.{CommandAnswer, refusals_from}
 use Rattle.ir_live.specs.Planned.{stamps_in}
 use Rattle.ir_live.specs.Carried.{AreCarriedOut}
 
@@ -26,9 +26,9 @@ pub record CameBack (before : List Node) (after : List (Node × Option Short)) :
 
 -- The nodes came back, and each command had its answer. The stamps are that of the opening and those of the epochs that were
 -- installed.
-pub record IsRun (was_full : Word SeenParcel) {B : Type 0} (opening : Stamp) (nodes : List Node) (desk : Desk B) (commands : List Command) (run : Run B) : Type 0 where
+pub record IsNetRun (was_full : Word Parcel) {B : Type 0} (opening : Stamp) (nodes : List Node) (desk : Desk B) (commands : List Command) (run : Run B) : Type 0 where
   pub came_back : CameBack nodes run.back.items
-  pub answers : List Answer
+  pub answers : List CommandAnswer
   pub carried_out : AreCarriedOut was_full commands desk answers run.desk
   pub refusals : run.refusals.items ≡ refusals_from 0 answers
   pub stamps : run.stamps.items ≡ opening ∷ stamps_in answers

@@ -1,6 +1,6 @@
 //! Carrying out commands in turn.
 ghost use Rattle.std.specs.Prelude.{◌≡◌, ◌++◌, ◌∷◌, List, IfOk, OnOk};
-ghost use Rattle.ir_live.specs.Answers.{Answer, refusal_in, refusal_at, refusals_from};
+ghost use Rattle.ir_live.specs.Answers.{CommandAnswer, refusal_in, refusal_at, refusals_from};
 ghost use Rattle.ir_live.specs.Planned.{stamp_by, stamps_in};
 ghost use Rattle.ir_live.specs.Carried.{AreCarriedOut};
 
@@ -43,7 +43,7 @@ pub(crate) fn carry_out_all<R: Threads + Moments<Parcel> + Sync, B: Wait + Drop>
     desk: &mut Desk<B>,
     commands: &[Command],
 ) -> Result<(Vec<(usize, Refused)>, Vec<Stamp>), AllocError>
-    ensures { IfOk result (λ told. (answers : List Answer)
+    ensures { IfOk result (λ told. (answers : List CommandAnswer)
         × AreCarriedOut R.was_full commands.now desk.old answers desk.new × (told.0.items ≡ refusals_from 0 answers)
         × (told.1.items ≡ net.now.opening ∷ stamps_in answers)) }
 {

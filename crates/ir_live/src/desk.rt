@@ -1,6 +1,6 @@
 //! The desk where commands are carried out.
 ghost use Rattle.std.specs.Prelude.{◌≡◌};
-ghost use Rattle.ir_live.specs.Answers.{answer_of};
+ghost use Rattle.ir_live.specs.Answers.{command_answer};
 
 use ir_control::{Controller, Injector, Net};
 use ir_core::{Command, Refused};
@@ -23,7 +23,7 @@ pub struct Desk<B: Wait + Drop> {
 
 // The answer of a command that installs nothing.
 fn answered(refusal: Option<Refused>) -> Result<Option<Stamp>, Refused>
-    ensures { result ≡ answer_of refusal }
+    ensures { result ≡ command_answer refusal }
 {
     match refusal {
         None => Ok(None),

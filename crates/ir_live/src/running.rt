@@ -1,6 +1,6 @@
 //! A live run.
 ghost use Rattle.std.specs.Prelude.{◌≡◌, All, IfOk, IfErr, None, map};
-ghost use Rattle.ir_model.specs.Network.{node_count};
+ghost use Rattle.ir_model.specs.Topology.{node_count};
 ghost use Rattle.ir_control.specs.Parts.{AreFirstNodes, IsInjectorOf};
 ghost use Rattle.ir_control.specs.Reports.{IsReport};
 ghost use Rattle.std.specs.Borrow.{Bor};

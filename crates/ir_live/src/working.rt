@@ -1,7 +1,7 @@
 //! Nodes that turn on threads of their own while commands are carried out.
 ghost use Rattle.std.specs.Prelude.{◌≡◌, IfOk, IfErr, Err, false};
 ghost use Rattle.ir_worker.specs.Same.{IsSameNode};
-ghost use Rattle.ir_live.specs.Runs.{IsRun, IsStopped};
+ghost use Rattle.ir_live.specs.Runs.{IsNetRun, IsStopped};
 
 use crate::carrying::carry_out_all;
 use crate::desk::Desk;
@@ -61,7 +61,7 @@ pub(crate) fn run_nodes<R: Threads + Moments<Parcel> + Sync, G: Gate, S: Starter
     gate: &G,
     starter: &S,
 ) -> Result<Run<B>, NotRun>
-    ensures run { IfOk result (λ run. IsRun R.was_full net.now.opening nodes.items desk commands.now run) }
+    ensures run { IfOk result (λ run. IsNetRun R.was_full net.now.opening nodes.items desk commands.now run) }
     ensures stopped { IfErr result (λ why. IsStopped S.unstarted starter.now nodes.items why) }
 {
     let (stop, ended) = (AtomicBool::new(false), AtomicBool::new(false));
@@ -70,7 +70,7 @@ pub(crate) fn run_nodes<R: Threads + Moments<Parcel> + Sync, G: Gate, S: Starter
         thread::scope_env(),
         rt,
         move |scope| -> Result<Run<B>, NotRun>
-            ensures run { IfOk result (λ run. IsRun R.was_full net.entry.now.opening nodes.items
+            ensures run { IfOk result (λ run. IsNetRun R.was_full net.entry.now.opening nodes.items
                 desk commands.entry.now run) }
             ensures stopped { IfErr result (λ why. IsStopped S.unstarted starter.entry.now nodes.items why) }
         {

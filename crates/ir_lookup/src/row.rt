@@ -116,51 +116,51 @@ impl Row {
     }
 
     /// The label of the start at a place below `len()`.
-    pub fn start(&self, i: usize) -> u16
-        requires { i < length self.now }
-        ensures { result ≡ slice_index (labels self.now) i }
+    pub fn start(&self, place: usize) -> u16
+        requires { place < length self.now }
+        ensures { result ≡ slice_index (labels self.now) place }
     {
-        self.starts.start(i)
+        self.starts.start(place)
     }
 
     /// The port of the start at a place below `len()`.
-    pub fn port(&self, i: usize) -> u16
-        requires { i < length self.now }
-        ensures { result ≡ slice_index (start_ports self.now) i }
+    pub fn port(&self, place: usize) -> u16
+        requires { place < length self.now }
+        ensures { result ≡ slice_index (start_ports self.now) place }
     {
-        self.starts.port(i)
+        self.starts.port(place)
     }
 
-    /// The port of the interval that has the label `d`, of any number of labels above `d`. The row is not empty. Takes
-    /// O(log k), for k starts.
-    pub fn find(&self, d: u16) -> u16
+    /// The port of the interval that has a label, of any number of labels above it. The row is not empty. Takes O(log k), for
+    /// k starts.
+    pub fn find(&self, label: u16) -> u16
         requires { 0 < length self.now }
-        ensures { (n : ℕ) → d < n → HasPort n self.now d result }
+        ensures { (n : ℕ) → label < n → HasPort n self.now label result }
     {
-        let (port, _) = self.find_counted(d);
+        let (port, _) = self.find_counted(label);
         port
     }
 
-    /// What `find` answers, and the number of starts that were compared with `d`: those that halve the row until none is
+    /// What `find` answers, and the number of starts that were compared with the label: those that halve the row until none is
     /// left, at most as many as `len()` has binary digits, and at most one less.
-    pub fn find_counted(&self, d: u16) -> (u16, u32)
+    pub fn find_counted(&self, label: u16) -> (u16, u32)
         requires { 0 < length self.now }
-        ensures port { (n : ℕ) → d < n → HasPort n self.now d result.0 }
+        ensures port { (n : ℕ) → label < n → HasPort n self.now label result.0 }
         ensures count { (2 ^ result.1 ≤ 2 * length self.now) × (length self.now + 1 < 2 * 2 ^ result.1) }
-        ensures halves { Halves (labels self.now) d 0 (length self.now) result.1 }
+        ensures halves { Halves (labels self.now) label 0 (length self.now) result.1 }
     {
-        counted_from::<Brand>(self, d, Blank::new(1))
+        counted_from::<Brand>(self, label, Blank::new(1))
     }
 
     /// What `find_counted` answers, with a tick for each start compared.
-    pub fn find_steps<L: Ledger>(&self, d: u16, steps: &mut Steps<L>) -> (u16, u32)
+    pub fn find_steps<L: Ledger>(&self, label: u16, steps: &mut Steps<L>) -> (u16, u32)
         requires { 0 < length self.now }
-        ensures port { (n : ℕ) → d < n → HasPort n self.now d result.0 }
+        ensures port { (n : ℕ) → label < n → HasPort n self.now label result.0 }
         ensures count { (2 ^ result.1 ≤ 2 * length self.now) × (length self.now + 1 < 2 * 2 ^ result.1) }
-        ensures halves { Halves (labels self.now) d 0 (length self.now) result.1 }
+        ensures halves { Halves (labels self.now) label 0 (length self.now) result.1 }
         ensures ticks { steps.new ≡ steps.old + result.1 }
     {
-        let (place, count) = place_counted(&self.starts, d, steps);
+        let (place, count) = place_counted(&self.starts, label, steps);
         (self.port(place), count)
     }
 }

@@ -1,12 +1,12 @@
 -- Walks the other way round, and one behind the other.
 use Rattle.std.proofs.Common.{◌≡◌, ℕ, ◌+◌, ◌<◌, ◌≤◌, List, [], ◌∷◌, ◌++◌, refl, sym, subst, ◌∙◌, arith}
-use Rattle.ir_model.specs.Network.{Network, node_count, port_back, IsNetwork}
+use Rattle.ir_model.specs.Topology.{Topology, node_count, port_back, IsTopology}
 use Rattle.ir_model.specs.Walk.{Linked, link_weight, LeadsTo, IsWalk, weight_from, walk_weight, IsDistance}
 use Rattle.ir_model.proofs.Walks.{link_weight_at, leads_from_node}
 use Rattle.ir_model.proofs.Tables.{distance_way}
 
 -- one way behind another
-pub joined : (net : Network) (u v d : ℕ) (rest more : List ℕ) → LeadsTo net u v rest → LeadsTo net v d more
+pub joined : (net : Topology) (u v d : ℕ) (rest more : List ℕ) → LeadsTo net u v rest → LeadsTo net v d more
     → LeadsTo net u d (rest ++ more) × (weight_from net u (rest ++ more) ≡ weight_from net u rest + weight_from net v more)
 joined net u v d [] more way on =
     let P : ℕ → Type 0 = λ x. LeadsTo net x d more × (weight_from net x more ≡ 0 + weight_from net v more) in
@@ -16,7 +16,7 @@ joined net u v d (x ∷ rest) more way on =
     ((way.0, later.0), omega (arith, later.1))
 
 -- a link leads both ways, with one weight
-linked_back : (net : Network) → IsNetwork net → (u v : ℕ) → Linked net u v → Linked net v u × (link_weight net v u ≡ link_weight net u v)
+linked_back : (net : Topology) → IsTopology net → (u v : ℕ) → Linked net u v → Linked net v u × (link_weight net v u ≡ link_weight net u v)
 linked_back net ok u v step =
     let P : ℕ → Type 0 = λ x. Linked net x u × (link_weight net x u ≡ link_weight net u x) in
     let back = ok.paired u step.0 step.1 step.2 in
@@ -25,7 +25,7 @@ linked_back net ok u v step =
     subst P step.3 ((back.0, port_back u step.1, back.1, refl), here ∙ sym there)
 
 -- each way has a way back of the same weight
-way_back : (net : Network) → IsNetwork net → (u d : ℕ) (rest : List ℕ) → LeadsTo net u d rest
+way_back : (net : Topology) → IsTopology net → (u d : ℕ) (rest : List ℕ) → LeadsTo net u d rest
     → (back : List ℕ) × LeadsTo net d u back × (weight_from net d back ≡ weight_from net u rest)
 way_back net ok u d [] way =
     let u_in : u < node_count net = leads_from_node net ok u d [] way in
@@ -38,7 +38,7 @@ way_back net ok u d (v ∷ rest) way =
     let both = joined net d v u later.0 (u ∷ []) later.1 last in
     (later.0 ++ u ∷ [], both.0, omega (arith, both.1, later.2, step.1))
 
-pub symmetric : (net : Network) → IsNetwork net → (u d n : ℕ) → IsDistance net u d n → IsDistance net d u n
+pub symmetric : (net : Topology) → IsTopology net → (u d n : ℕ) → IsDistance net u d n → IsDistance net d u n
 symmetric net ok u d n far =
     let way = distance_way net u d n far in
     let back = way_back net ok u d way.0 way.1 in
@@ -52,7 +52,7 @@ symmetric net ok u d n far =
         let le : n ≤ weight_from net u there.0 = far.least (u ∷ there.0) (refl, there.1) in
         omega (arith, le, there.2, subst P (sym is.0) refl)
 
-pub triangle : (net : Network) → IsNetwork net → (u v w a b c : ℕ) → IsDistance net u v a → IsDistance net v w b → IsDistance net u w c → c ≤ a + b
+pub triangle : (net : Topology) → IsTopology net → (u v w a b c : ℕ) → IsDistance net u v a → IsDistance net v w b → IsDistance net u w c → c ≤ a + b
 triangle net ok u v w a b c first second whole =
     let one = distance_way net u v a first in
     let two = distance_way net v w b second in

@@ -33,8 +33,8 @@ abbrev pub is_decimal : Name → Bool
 is_decimal word = not (is_empty (whole word)) && list_all is_digit (whole word) && is_zero_fraction (fraction word)
 
 -- the weight that a word spells, where it spells one
-abbrev pub weight_in : Name → Option ℕ
-weight_in word = if is_decimal word && is_weight (value_of (whole word)) then Some (value_of (whole word)) else None
+abbrev pub spelled_weight : Name → Option ℕ
+spelled_weight word = if is_decimal word && is_weight (value_of (whole word)) then Some (value_of (whole word)) else None
 
 -- ---- the edges of a text
 
@@ -45,7 +45,7 @@ weighted u v None = []
 
 -- the edge that the words of a line name
 abbrev pub row_edges : List Name → List Pair
-row_edges (u ∷ v ∷ word ∷ []) = weighted u v (weight_in word)
+row_edges (u ∷ v ∷ word ∷ []) = weighted u v (spelled_weight word)
 row_edges words = []
 
 abbrev pub edges_in : List (List ℕ) → List Pair
@@ -71,7 +71,7 @@ weight_fault pairs u v (Some w) = limit_fault (pairs ++ (u, v, w) ∷ [])
 
 -- the fault of what stands behind two ends
 abbrev pub ending_fault : List Pair → Name → Name → List Name → Option Fault
-ending_fault pairs u v (word ∷ []) = weight_fault pairs u v (weight_in word)
+ending_fault pairs u v (word ∷ []) = weight_fault pairs u v (spelled_weight word)
 ending_fault pairs u v words = Some BadRow
 
 -- a row of fewer than two words names nothing

@@ -4,7 +4,7 @@ pub mod Places
 pub mod Made
 pub mod Text
 pub mod Edgelist
-pub mod Network
+pub mod Topology
 pub mod OfGraph
 pub mod Walk
 pub mod Table
@@ -16,4 +16,4 @@ pub mod Row
 pub mod Compiled
 pub mod Choices
 pub mod Compact
-pub mod Scheme
+pub mod Plan

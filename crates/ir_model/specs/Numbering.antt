@@ -1,10 +1,10 @@
 -- Depth-first numberings of a network.
 use Rattle.std.specs.Prelude.{◌≡◌, ◌≢◌, ℕ, ◌<◌, List, length, All, AllPairs, Contains, map, take, slice_index}
 use Rattle.ir_model.specs.declared.Hop.{Hop}
-use Rattle.ir_model.specs.Network.{Network, ports_of}
+use Rattle.ir_model.specs.Topology.{Topology, ports_of}
 
 -- the neighbours of a node in port order
-abbrev pub neighbors_of : Network → ℕ → List ℕ
+abbrev pub neighbors_of : Topology → ℕ → List ℕ
 neighbors_of net u = map (λ (hop : Hop). hop.node) (ports_of net u)
 
 -- x is the first of these nodes that is not among those seen

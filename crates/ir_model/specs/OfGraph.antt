@@ -5,7 +5,7 @@ use Rattle.ir_model.specs.declared.Link.{Link}
 use Rattle.ir_model.specs.declared.Hop.{Hop}
 use Rattle.ir_model.specs.Graph.{Name, Neighbors, Adjacency, edges}
 use Rattle.ir_model.specs.Made.{Pair, joins}
-use Rattle.ir_model.specs.Network.{Network}
+use Rattle.ir_model.specs.Topology.{Topology}
 use Rattle.ir_model.specs.Places.{place_of}
 
 -- the edges that make links, in edge order: all but the self-loops
@@ -30,5 +30,5 @@ node_ports g x es = map (port_of g x) (filter (λ e. not (bytes_eq x e.0)) es)
 
 -- The network of a graph: its nodes are places in node order, its links are the edges without the self-loops, in edge
 -- order, and the ports of a node are its other neighbours in adjacency order.
-abbrev pub network_of_graph : Adjacency → Network
-network_of_graph g = record { links = map (link_of g) (link_edges g); ports = map (λ r. node_ports g r.0 r.1) g }
+abbrev pub topology_of_graph : Adjacency → Topology
+topology_of_graph g = record { links = map (link_of g) (link_edges g); ports = map (λ r. node_ports g r.0 r.1) g }

@@ -1,7 +1,7 @@
 -- The tree of a numbering, and the table that routes along it.
 use Rattle.std.specs.Prelude.{◌≡◌, ◌≢◌, ◌⊎◌, ℕ, ◌<◌, Option, Some, None, List, [], ◌∷◌, length, AllPairs, slice_index}
 use Rattle.ir_model.specs.declared.Hop.{Hop}
-use Rattle.ir_model.specs.Network.{Network, node_count, port_at}
+use Rattle.ir_model.specs.Topology.{Topology, node_count, port_at}
 
 -- Node v is the parent of node u: the places of both are those of a place and its parent.
 abbrev pub IsParent : List ℕ → List ℕ → ℕ → ℕ → Type 0
@@ -22,7 +22,7 @@ IsTreePath order parents u d [] = ⊥
 IsTreePath order parents u d (x ∷ rest) = (x ≡ u) × LeadsInTree order parents u d rest × AllPairs (λ a b. a ≢ b) (x ∷ rest)
 
 -- A tree table: at (u,d) with u ≠ d the port to the second node of the path in the tree, and none at (d,d).
-pub record IsTreeTable (net : Network) (order parents : List ℕ) (table : ℕ → ℕ → Option ℕ) : Type 0 where
+pub record IsTreeTable (net : Topology) (order parents : List ℕ) (table : ℕ → ℕ → Option ℕ) : Type 0 where
   pub own : (d : ℕ) → d < node_count net → table d d ≡ None
   pub port : (u d : ℕ) → u < node_count net → d < node_count net → u ≢ d
       → (p : ℕ) × (hop : Hop) × (rest : List ℕ) × (table u d ≡ Some p) × (port_at net u p ≡ Some hop) × IsTreePath order parents u d (u ∷ hop.node ∷ rest)

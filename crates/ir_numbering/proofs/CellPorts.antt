@@ -4,20 +4,20 @@ use Rattle.std.specs.Prelude.{slice_index, unwrap_or}
 use Rattle.std.proofs.lemmas.Bool.{cases_eq}
 use Rattle.std.proofs.lemmas.Option.{slice_get_within}
 use Rattle.ir_model.specs.declared.Hop.{Hop}
-use Rattle.ir_model.specs.Network.{Network, node_count, ports_of, port_at, IsNetwork}
+use Rattle.ir_model.specs.Topology.{Topology, node_count, ports_of, port_at, IsTopology}
 use Rattle.ir_model.specs.Numbering.{neighbors_of, IsDepthFirst}
 use Rattle.ir_model.specs.Subtree.{IsUnder, itself, IsNested, IsTreePorts}
 use Rattle.ir_model.specs.Compiled.{port_to}
-use Rattle.ir_numbering.specs.Numbers.{IsPortTo}
+use Rattle.ir_numbering.specs.Numbering.{IsPortTo}
 use Rattle.ir_numbering.specs.Cells.{AreTreeCells}
 use Rattle.ir_numbering.proofs.Nested.{depth_first_nests, under_above, all_under, same_place}
 
 -- two ports to one node are one
-pub one_port : (net : Network) → IsNetwork net → (u p q v w : ℕ) → v ≡ w → IsPortTo net u p v → IsPortTo net u q w → p ≡ q
+pub one_port : (net : Topology) → IsTopology net → (u p q v w : ℕ) → v ≡ w → IsPortTo net u p v → IsPortTo net u q w → p ≡ q
 one_port net ok u p q v w e a b = ok.single u p q a.0 b.0 a.1 b.1 (a.2 ∙ (e ∙ sym b.2))
 
 -- one port leads to one node
-pub one_node : (net : Network) (u p q v w : ℕ) → p ≡ q → IsPortTo net u p v → IsPortTo net u q w → v ≡ w
+pub one_node : (net : Topology) (u p q v w : ℕ) → p ≡ q → IsPortTo net u p v → IsPortTo net u q w → v ≡ w
 one_node net u p q v w e a b =
     let there : port_at net u q ≡ Some a.0 = subst (λ (x : ℕ). port_at net u x ≡ Some a.0) e a.1 in
     let hops : a.0 ≡ b.0 = some_hop a.0 b.0 (sym there ∙ b.1) in
@@ -26,7 +26,7 @@ one_node net u p q v w e a b =
     some_hop : (x y : Hop) → ◌≡◌ {A = Option Hop} (Some x) (Some y) → x ≡ y
     some_hop x y f = cc
 
-module _ (net : Network) (ok : IsNetwork net) (order parents : List ℕ) (root : ℕ) (is : IsDepthFirst (neighbors_of net) (node_count net) root order parents)
+module _ (net : Topology) (ok : IsTopology net) (order parents : List ℕ) (root : ℕ) (is : IsDepthFirst (neighbors_of net) (node_count net) root order parents)
     (a : ℕ) (own : a < node_count net) (ports : List (Option ℕ)) (cells : AreTreeCells net order parents a (node_count net) ports) where
   nest : IsNested (node_count net) parents
   nest = depth_first_nests (neighbors_of net) (node_count net) root order parents is

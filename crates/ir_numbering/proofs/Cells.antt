@@ -4,18 +4,18 @@ use Rattle.std.specs.Prelude.{slice_index, slice_index_or, IsSomeAnd}
 use Rattle.std.proofs.lemmas.Bool.{cases_eq}
 use Rattle.std.proofs.lemmas.List.{get_or-map, length-map, get_or_append_left, get_or-append-add, length-append, length_push}
 use Rattle.std.proofs.lemmas.Nat.{mul-add-lt}
-use Rattle.ir_model.specs.Network.{Network, node_count, IsNetwork}
+use Rattle.ir_model.specs.Topology.{Topology, node_count, IsTopology}
 use Rattle.ir_model.specs.Walk.{Linked}
 use Rattle.ir_model.specs.Numbering.{neighbors_of, IsDepthFirst}
 use Rattle.ir_model.specs.Subtree.{IsUnder, itself, child, IsNested}
-use Rattle.ir_model.specs.Scheme.{AreLabels}
-use Rattle.ir_numbering.specs.Numbers.{IsPortTo, IsParentPort}
+use Rattle.ir_model.specs.Plan.{AreLabels}
+use Rattle.ir_numbering.specs.Numbering.{IsPortTo, IsParentPort}
 use Rattle.ir_numbering.specs.Cells.{IsTreeCell, AreTreeCells, AreTreeRows}
 use Rattle.ir_numbering.proofs.Lists.{each_push}
 use Rattle.ir_numbering.proofs.Nested.{depth_first_nests, under_above, parent_under, same_place, same_son}
 use Rattle.ir_numbering.proofs.Ways.{parent_linked}
 
-module _ (net : Network) (ok : IsNetwork net) (order parents : List ℕ)
+module _ (net : Topology) (ok : IsTopology net) (order parents : List ℕ)
     (is : IsDepthFirst (neighbors_of net) (node_count net) (slice_index order 0) order parents) (a : ℕ) (own : a < node_count net) where
   nest : IsNested (node_count net) parents
   nest = depth_first_nests (neighbors_of net) (node_count net) (slice_index order 0) order parents is
@@ -99,7 +99,7 @@ module _ (net : Network) (ok : IsNetwork net) (order parents : List ℕ)
   cell_of up port (suc fuel) i f h = cell_by up port i h (λ j lt. cell_of up port fuel j (omega arith) (omega arith))
 
 -- a row by label, node by node
-module _ (net : Network) (order parents labels : List ℕ) (l : AreLabels (node_count net) order labels) where
+module _ (net : Topology) (order parents labels : List ℕ) (l : AreLabels (node_count net) order labels) where
   pub row_added : (u : ℕ) (ports row : List (Option ℕ)) → u < node_count net → AreTreeRows net order parents labels u ports
       → AreTreeCells net order parents (slice_index labels u) (node_count net) row
       → AreTreeRows net order parents labels (u + 1) (ports ++ map (λ label. slice_index_or row label None) labels)
@@ -130,7 +130,7 @@ module _ (net : Network) (order parents labels : List ℕ) (l : AreLabels (node_
       }
 
 -- a row grows
-pub cell_added : (net : Network) (order parents : List ℕ) (a i : ℕ) (ports : List (Option ℕ)) (port : Option ℕ) → AreTreeCells net order parents a i ports
+pub cell_added : (net : Topology) (order parents : List ℕ) (a i : ℕ) (ports : List (Option ℕ)) (port : Option ℕ) → AreTreeCells net order parents a i ports
     → IsTreeCell net order parents a i port → AreTreeCells net order parents a (i + 1) (ports ++ port ∷ [])
 cell_added net order parents a i ports port cells cell =
     let every = cells.every in
@@ -141,7 +141,7 @@ cell_added net order parents a i ports port cells cell =
     }
 
 -- there are ports by place for each node
-pub cells_of : (net : Network) (ok : IsNetwork net) (order parents : List ℕ) → IsDepthFirst (neighbors_of net) (node_count net) (slice_index order 0) order parents
+pub cells_of : (net : Topology) (ok : IsTopology net) (order parents : List ℕ) → IsDepthFirst (neighbors_of net) (node_count net) (slice_index order 0) order parents
     → (a : ℕ) → a < node_count net → (up : Option ℕ) → IsParentPort net order parents (slice_index order a) up
     → (count : ℕ) → count ≤ node_count net → (ports : List (Option ℕ)) × AreTreeCells net order parents a count ports
 cells_of net ok order parents is a own up port zero h = ([], record { every = refl; each = λ i lt. absurd (omega (arith, lt)) })

@@ -1,16 +1,16 @@
 -- Labels, and the ports to parents.
 use Rattle.std.proofs.Common.{◌≡◌, ◌≢◌, ℕ, ◌<◌, List, get_or, refl, ap, sym, ◌∙◌, subst, arith, Option, Some, None}
 use Rattle.std.specs.Prelude.{slice_index, IsSomeAnd}
-use Rattle.ir_model.specs.Network.{Network, node_count, IsNetwork}
+use Rattle.ir_model.specs.Topology.{Topology, node_count, IsTopology}
 use Rattle.ir_model.specs.Walk.{Linked}
 use Rattle.ir_model.specs.Numbering.{neighbors_of, IsDepthFirst}
 use Rattle.ir_model.specs.Subtree.{IsNested}
-use Rattle.ir_model.specs.Scheme.{AreLabels}
-use Rattle.ir_numbering.specs.Numbers.{IsPortTo, IsParentPort, AreParentPorts, IsSound}
+use Rattle.ir_model.specs.Plan.{AreLabels}
+use Rattle.ir_numbering.specs.Numbering.{IsPortTo, IsParentPort, AreParentPorts, AreSoundNumbers}
 use Rattle.ir_numbering.proofs.Nested.{depth_first_nests}
 use Rattle.ir_numbering.proofs.Ways.{child_linked}
 
-module _ (net : Network) (ok : IsNetwork net) (root : ℕ) (order parents labels : List ℕ)
+module _ (net : Topology) (ok : IsTopology net) (root : ℕ) (order parents labels : List ℕ)
     (is : IsDepthFirst (neighbors_of net) (node_count net) root order parents) (l : AreLabels (node_count net) order labels) where
   -- the node with the label
   node_at : (u a : ℕ) → u < node_count net → slice_index labels u ≡ a → slice_index order a ≡ u
@@ -40,7 +40,7 @@ module _ (net : Network) (ok : IsNetwork net) (root : ℕ) (order parents labels
       }
 
   pub sound_numbers : (ports : List (Option ℕ)) → AreParentPorts net order parents ports
-      → IsSound (record { order = order; parents = parents; labels = labels; ports = ports })
+      → AreSoundNumbers (record { order = order; parents = parents; labels = labels; ports = ports })
   sound_numbers ports p =
       let every = is.every in
       let parented = is.parented in

@@ -6,7 +6,7 @@ use Rattle.std.proofs.lemmas.Bool.{cases_eq, cases_lt, ne_eqb, eqb-true, or_case
 use Rattle.std.proofs.lemmas.Map.Steps.{length-le_from_distinct_below}
 use Rattle.std.proofs.lemmas.Map.Keys.{IsDistinct-from_apart}
 use Rattle.std.proofs.lemmas.List.{length-replicate, get_or-replicate, get_or_past}
-use Rattle.ir_numbering.specs.Numbers.{IsListing}
+use Rattle.ir_numbering.specs.Numbering.{IsListing}
 use Rattle.ir_numbering.specs.Orders.{StartsWell, HoldsNoNode, HoldsOneTwice}
 
 -- the first i places are well, and their nodes are marked

@@ -5,19 +5,19 @@ use Rattle.std.specs.List.{AllByRecursion}
 use Rattle.std.proofs.lemmas.List.Kept.{AllPairs-cons}
 use Rattle.std.proofs.lemmas.List.Elements.{All-cons}
 use Rattle.ir_model.specs.declared.Hop.{Hop}
-use Rattle.ir_model.specs.Network.{Network, node_count, port_at}
+use Rattle.ir_model.specs.Topology.{Topology, node_count, port_at}
 use Rattle.ir_model.specs.Numbering.{neighbors_of, IsDepthFirst}
 use Rattle.ir_model.specs.Subtree.{IsUnder, itself, IsNested}
-use Rattle.ir_model.specs.Scheme.{AreLabels}
-use Rattle.ir_model.specs.Table.{FullTable, port_in, next_node, Continues, IsPrescribedWalk}
+use Rattle.ir_model.specs.Plan.{AreLabels}
+use Rattle.ir_model.specs.Table.{Table, port_in, next_node, Continues, IsPrescribedWalk}
 use Rattle.ir_model.specs.Tree.{IsTreeStep, LeadsInTree, IsTreePath, IsTreeTable}
-use Rattle.ir_numbering.specs.Numbers.{IsPortTo}
+use Rattle.ir_numbering.specs.Numbering.{IsPortTo}
 use Rattle.ir_numbering.specs.Cells.{IsTreeCell, AreTreeRows}
 use Rattle.ir_tables.specs.Listed.{listed_port, IsPortList, IsListed}
 use Rattle.ir_numbering.proofs.Nested.{depth_first_nests, under_above, same_place}
 use Rattle.ir_numbering.proofs.Ways.{IsStep, Goes, way, step_in, after_way, way_in, not_again, After}
 
-module _ (net : Network) (order parents labels : List ℕ) (root : ℕ)
+module _ (net : Topology) (order parents labels : List ℕ) (root : ℕ)
     (is : IsDepthFirst (neighbors_of net) (node_count net) root order parents) (l : AreLabels (node_count net) order labels) where
   nest : IsNested (node_count net) parents
   nest = depth_first_nests (neighbors_of net) (node_count net) root order parents is
@@ -150,6 +150,6 @@ module _ (net : Network) (order parents labels : List ℕ) (root : ℕ)
       walks = tree_walk (listed_port (node_count net) ports) rows.each;
     }
 
-    pub listed_is_tree : (table : FullTable) → IsListed net ports table → IsTreeTable net order parents (port_in table)
+    pub listed_is_tree : (table : Table) → IsListed net ports table → IsTreeTable net order parents (port_in table)
     listed_is_tree table t = tree_table_is (port_in table) (λ u d u_in d_in.
         subst (λ (port : Option ℕ). IsTreeCell net order parents (slice_index labels u) (slice_index labels d) port) (sym (t.held u d u_in d_in)) (rows.each u d u_in d_in))

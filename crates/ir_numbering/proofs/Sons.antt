@@ -3,9 +3,9 @@ use Rattle.std.proofs.Common.{◌≡◌, ℕ, ◌<◌, ◌≤◌, List, length, 
 use Rattle.std.specs.Prelude.{slice_index, Contains}
 use Rattle.std.proofs.lemmas.Bool.{cases_lt, cases_eq}
 use Rattle.std.proofs.lemmas.List.{get_or-take, get_or_default, length-take-le}
-use Rattle.ir_model.specs.Network.{Network, node_count, IsNetwork}
+use Rattle.ir_model.specs.Topology.{Topology, node_count, IsTopology}
 use Rattle.ir_model.specs.Numbering.{neighbors_of, IsDepthFirst, IsFirstOutside}
-use Rattle.ir_numbering.specs.Numbers.{IsPortTo}
+use Rattle.ir_numbering.specs.Numbering.{IsPortTo}
 use Rattle.ir_numbering.proofs.Neighbors.{neighbor_at, port_of_neighbor}
 use Rattle.ir_numbering.proofs.Nested.{depth_first_nests, same_place}
 use Rattle.ir_numbering.proofs.CellPorts.{one_port}
@@ -17,7 +17,7 @@ among_first xs e x h w =
     let within : w.0 < e = omega (arith, w.1) in
     (w.0, within, get_or_default xs w.0 0 x (omega arith) ∙ sym (get_or-take e xs w.0 x within) ∙ w.2)
 
-module _ (net : Network) (ok : IsNetwork net) (order parents : List ℕ) (root : ℕ) (is : IsDepthFirst (neighbors_of net) (node_count net) root order parents) (a : ℕ) where
+module _ (net : Topology) (ok : IsTopology net) (order parents : List ℕ) (root : ℕ) (is : IsDepthFirst (neighbors_of net) (node_count net) root order parents) (a : ℕ) where
   -- the later port leads to no earlier son: when that got its place, the earlier port led to a node without one
   not_before : (c e p q : ℕ) → c < node_count net → 0 < e → e < c → slice_index parents e ≡ a → IsPortTo net (slice_index order a) p (slice_index order c)
       → IsPortTo net (slice_index order a) q (slice_index order e) → p < q → ⊥

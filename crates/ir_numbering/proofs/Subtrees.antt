@@ -2,11 +2,11 @@
 use Rattle.std.proofs.Common.{◌≡◌, ◌≢◌, ℕ, ◌+◌, ◌-◌, ◌<◌, ◌≤◌, List, refl, ap, sym, ◌∙◌, subst, inl, inr, ◌⊎◌, arith, map}
 use Rattle.std.specs.Prelude.{slice_index, ◌↔◌}
 use Rattle.std.proofs.lemmas.Bool.{cases_lt, cases_eq}
-use Rattle.ir_model.specs.Network.{node_count}
+use Rattle.ir_model.specs.Topology.{node_count}
 use Rattle.ir_model.specs.Numbering.{IsDepthFirst, neighbors_of}
 use Rattle.ir_model.specs.Interval.{InInterval}
 use Rattle.ir_model.specs.Subtree.{IsUnder, itself, child, IsNested}
-use Rattle.ir_model.specs.Scheme.{AreLabels}
+use Rattle.ir_model.specs.Plan.{AreLabels}
 use Rattle.ir_model.specs.Tree.{IsParent}
 use Rattle.ir_numbering.specs.Laws.{IsBelow, at, from_parent, end_label, SubtreesAreIntervals, OthersAreAnInterval, TreeRowsStartAtSons}
 use Rattle.ir_numbering.proofs.Nested.{depth_first_nests}

@@ -6,12 +6,12 @@ use Rattle.std.proofs.lemmas.List.{length_push, get_or_append_left, get_or_push,
 use Rattle.std.proofs.lemmas.List.Elements.{Contains-get_or, Contains-append_left, Contains-push, Contains-push_cases, All-push}
 use Rattle.std.proofs.lemmas.List.Quantifiers.{all_pairs_push}
 use Rattle.ir_model.proofs.Pigeonhole.{length-le_from_places}
-use Rattle.ir_model.specs.Network.{Network, node_count, IsNetwork}
+use Rattle.ir_model.specs.Topology.{Topology, node_count, IsTopology}
 use Rattle.ir_model.specs.Numbering.{neighbors_of, IsFirstOutside, NoneOutside, IsNext}
 use Rattle.ir_model.specs.Walk.{LeadsTo, IsWalk}
-use Rattle.ir_model.specs.Scheme.{AreLabels}
+use Rattle.ir_model.specs.Plan.{AreLabels}
 use Rattle.ir_numbering.specs.Search.{IsFirstUnmarked, AllMarked, ArePassed}
-use Rattle.ir_numbering.specs.Numbers.{IsListing}
+use Rattle.ir_numbering.specs.Numbering.{IsListing}
 use Rattle.ir_numbering.proofs.Neighbors.{neighbor_at, neighbors_below}
 
 -- nodes seen so far, the place of each one's parent, and the places on the way from the root to the node where the search stands
@@ -131,7 +131,7 @@ begun adjacent n root label = record {
 }
 
 -- where every neighbour of a node seen is seen, so is each node that a walk leads to
-seen_along : (net : Network) (order : List ℕ) → ((k : ℕ) → k < length order → NoneOutside order (neighbors_of net (slice_index order k)))
+seen_along : (net : Topology) (order : List ℕ) → ((k : ℕ) → k < length order → NoneOutside order (neighbors_of net (slice_index order k)))
     → (u v : ℕ) (rest : List ℕ) → LeadsTo net u v rest → Contains order u → Contains order v
 seen_along net order closed u v [] way h = subst (Contains order) way.0 h
 seen_along net order closed u v (x ∷ rest) way h =
@@ -141,7 +141,7 @@ seen_along net order closed u v (x ∷ rest) way h =
     seen_along net order closed x v rest way.1 (subst (Contains order) (edge.1 ∙ way.0.3) (all way.0.0 edge.0))
 
 -- where the stack is empty, each node that a walk from the root leads to is seen
-pub walk_is_seen : (net : Network) (n root : ℕ) (order parents : List ℕ) → IsTraversal (neighbors_of net) n root order parents [] → (v : ℕ) (walk : List ℕ) → IsWalk net root v walk → Contains order v
+pub walk_is_seen : (net : Topology) (n root : ℕ) (order parents : List ℕ) → IsTraversal (neighbors_of net) n root order parents [] → (v : ℕ) (walk : List ℕ) → IsWalk net root v walk → Contains order v
 walk_is_seen net n root order parents t v [] walk = absurd walk
 walk_is_seen net n root order parents t v (x ∷ rest) walk =
     let root_is : get_or order 0 root ≡ root = get_or_default order 0 root 0 t.started ∙ t.root_first in
@@ -255,14 +255,14 @@ pub marks_one : (n root : ℕ) → root < n → IsMarked n (root ∷ []) (set (r
 marks_one n root label = marks_more n [] (replicate n false) (record { every = length-replicate n false; seen = λ v h is. absurd (false≢true (sym (get_or-replicate n v false false h) ∙ is)); told = λ v w. absurd (omega (arith, w.1)) }) root label
 
 -- a search that begins has passed no port
-pub passed_none : (net : Network) (marks : List Bool) → ArePassed net marks (replicate (node_count net) 0)
+pub passed_none : (net : Topology) (marks : List Bool) → ArePassed net marks (replicate (node_count net) 0)
 passed_none net marks = record {
   every = length-replicate (node_count net) 0;
   each = λ u h k lt. let e : slice_index (replicate (node_count net) 0) u ≡ 0 = get_or-replicate (node_count net) u 0 0 h in absurd (omega arith);
 }
 
 -- the node that was read at the top
-module _ (net : Network) (ok : IsNetwork net) (root : ℕ) (order parents rest : List ℕ) (marks : List Bool) (stack : List ℕ) (top node : ℕ)
+module _ (net : Topology) (ok : IsTopology net) (root : ℕ) (order parents rest : List ℕ) (marks : List Bool) (stack : List ℕ) (top node : ℕ)
     (t : IsTraversal (neighbors_of net) (node_count net) root order parents stack) (m : IsMarked (node_count net) order marks)
     (is : stack ≡ rest ++ top ∷ []) (read : node ≡ get_or order top node) where
   here_t : IsTraversal (neighbors_of net) (node_count net) root order parents (rest ++ top ∷ [])

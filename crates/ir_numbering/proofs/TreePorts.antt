@@ -4,19 +4,19 @@ use Rattle.std.specs.Prelude.{slice_index, All}
 use Rattle.std.proofs.lemmas.Bool.{cases_eq}
 use Rattle.std.proofs.lemmas.List.{get_or-map, length-map}
 use Rattle.ir_model.specs.declared.Hop.{Hop}
-use Rattle.ir_model.specs.Network.{Network, node_count, port_at, IsNetwork}
+use Rattle.ir_model.specs.Topology.{Topology, node_count, port_at, IsTopology}
 use Rattle.ir_model.specs.Numbering.{neighbors_of, IsDepthFirst}
 use Rattle.ir_model.specs.Subtree.{IsUnder, itself, child, IsNested, IsTreePorts}
-use Rattle.ir_model.specs.Scheme.{AreLabels}
+use Rattle.ir_model.specs.Plan.{AreLabels}
 use Rattle.ir_model.specs.Compiled.{port_to}
 use Rattle.ir_model.specs.Tree.{IsTreeStep, LeadsInTree, IsTreePath, IsTreeTable}
-use Rattle.ir_numbering.specs.Numbers.{IsPortTo}
+use Rattle.ir_numbering.specs.Numbering.{IsPortTo}
 use Rattle.ir_numbering.specs.Cells.{IsTreeCell, AreTreeCells}
 use Rattle.ir_numbering.proofs.Nested.{depth_first_nests, under_above, parent_under, same_place, same_son}
 use Rattle.ir_numbering.proofs.Ways.{under_through}
 use Rattle.ir_numbering.proofs.CellPorts.{cell_ports}
 
-module _ (net : Network) (order parents labels : List ℕ) (root : ℕ)
+module _ (net : Topology) (order parents labels : List ℕ) (root : ℕ)
     (is : IsDepthFirst (neighbors_of net) (node_count net) root order parents) (l : AreLabels (node_count net) order labels) where
   nest : IsNested (node_count net) parents
   nest = depth_first_nests (neighbors_of net) (node_count net) root order parents is
@@ -154,7 +154,7 @@ module _ (net : Network) (order parents labels : List ℕ) (root : ℕ)
                   }
             ]
 
-    module _ (ok : IsNetwork net) (u : ℕ) (u_in : u < node_count net) where
+    module _ (ok : IsTopology net) (u : ℕ) (u_in : u < node_count net) where
       -- the port to a label
       pub port_read : (d : ℕ) → d < node_count net → port_to (map (table u) order) d ≡ table u (slice_index order d)
       port_read d h = let every = is.every in get_or-map (table u) order d 0 None (omega arith)

@@ -4,11 +4,11 @@ use Rattle.std.specs.Prelude.{slice_index}
 use Rattle.std.specs.List.{AllByRecursion}
 use Rattle.std.proofs.lemmas.Bool.{cases_eq}
 use Rattle.std.proofs.lemmas.List.{get_or-take}
-use Rattle.ir_model.specs.Network.{Network, node_count, IsNetwork}
+use Rattle.ir_model.specs.Topology.{Topology, node_count, IsTopology}
 use Rattle.ir_model.specs.Walk.{Linked, LeadsTo, IsConnected}
 use Rattle.ir_model.specs.Numbering.{neighbors_of, IsDepthFirst}
 use Rattle.ir_model.specs.Subtree.{IsUnder, itself, child, IsNested}
-use Rattle.ir_model.specs.Scheme.{AreLabels}
+use Rattle.ir_model.specs.Plan.{AreLabels}
 use Rattle.ir_numbering.proofs.Neighbors.{contains_linked, linked_back}
 use Rattle.ir_numbering.proofs.Nested.{depth_first_nests, under_above, son_above, outside_means, under_cases, all_under}
 
@@ -112,7 +112,7 @@ module _ (n : ℕ) (parents : List ℕ) (nest : IsNested n parents) where
   way_in a i own [] w = tt
   way_in a i own (b ∷ rest) w = let b_in = step_in a i b own w.0 in (b_in, way_in b i b_in rest w.1)
 
-module _ (net : Network) (ok : IsNetwork net) (root : ℕ) (order parents : List ℕ) (is : IsDepthFirst (neighbors_of net) (node_count net) root order parents) where
+module _ (net : Topology) (ok : IsTopology net) (root : ℕ) (order parents : List ℕ) (is : IsDepthFirst (neighbors_of net) (node_count net) root order parents) where
   nest : IsNested (node_count net) parents
   nest = depth_first_nests (neighbors_of net) (node_count net) root order parents is
 

@@ -1,10 +1,10 @@
 -- Subtrees and the starts of tree rows, in words of nodes and labels (Santoro and Khatib 1985).
 use Rattle.std.specs.Prelude.{◌≡◌, ◌≢◌, ◌⊎◌, ◌↔◌, ℕ, ◌+◌, ◌-◌, ◌<◌, List, Option, Contains, map, slice_index}
-use Rattle.ir_model.specs.Network.{Network, node_count, IsNetwork}
+use Rattle.ir_model.specs.Topology.{Topology, node_count, IsTopology}
 use Rattle.ir_model.specs.Numbering.{neighbors_of, IsDepthFirst}
 use Rattle.ir_model.specs.Interval.{InInterval}
 use Rattle.ir_model.specs.Subtree.{IsSubtree}
-use Rattle.ir_model.specs.Scheme.{AreLabels}
+use Rattle.ir_model.specs.Plan.{AreLabels}
 use Rattle.ir_model.specs.Row.{Start, labels}
 use Rattle.ir_model.specs.Compiled.{label_after, IsCanonical}
 use Rattle.ir_model.specs.Tree.{IsParent, IsTreeTable}
@@ -34,8 +34,8 @@ OthersAreAnInterval = (adjacent : ℕ → List ℕ) (n root u v size : ℕ) (ord
 -- The canonical row of a node u for a tree table has a start at the label of each son, and, but at the root, one where
 -- the labels of the subtree of u end; it has no other start.
 abbrev pub TreeRowsStartAtSons : Type 0
-TreeRowsStartAtSons = (net : Network) (root u size : ℕ) (order parents numbers : List ℕ) (table : ℕ → ℕ → Option ℕ) (row : List Start)
-    → IsNetwork net → IsDepthFirst (neighbors_of net) (node_count net) root order parents → AreLabels (node_count net) order numbers
+TreeRowsStartAtSons = (net : Topology) (root u size : ℕ) (order parents numbers : List ℕ) (table : ℕ → ℕ → Option ℕ) (row : List Start)
+    → IsTopology net → IsDepthFirst (neighbors_of net) (node_count net) root order parents → AreLabels (node_count net) order numbers
     → IsTreeTable net order parents table → u < node_count net → IsSubtree (node_count net) parents (slice_index numbers u) size
     → IsCanonical (node_count net) (slice_index numbers u) (map (table u) order) row
     → (d : ℕ) → Contains (labels row) d ↔ (((v : ℕ) × IsParent order parents v u × (d ≡ slice_index numbers v)) ⊎ ((u ≢ root) × (d ≡ end_label (node_count net) (slice_index numbers u) size)))

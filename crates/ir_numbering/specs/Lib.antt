@@ -1,6 +1,6 @@
 -- what contracts promise
 pub mod Codes
-pub mod Numbers
+pub mod Numbering
 pub mod Views
 pub mod Cells
 pub mod Laws

@@ -1,6 +1,6 @@
 -- What a search tells by its marks.
 use Rattle.std.specs.Prelude.{◌≡◌, ℕ, ◌<◌, List, Bool, true, false, length, slice_index, slice_index_or}
-use Rattle.ir_model.specs.Network.{Network, node_count}
+use Rattle.ir_model.specs.Topology.{Topology, node_count}
 use Rattle.ir_model.specs.Numbering.{neighbors_of}
 use Rattle.ir_model.specs.Walk.{IsWalk}
 
@@ -27,10 +27,10 @@ pub record IsUnmarkedAt (marks : List Bool) (nodes : List ℕ) (place : ℕ) : T
   pub first : FirstMarked marks nodes place
 
 -- of each node the first so many neighbours have marks
-pub record ArePassed (net : Network) (marks : List Bool) (passed : List ℕ) : Type 0 where
+pub record ArePassed (net : Topology) (marks : List Bool) (passed : List ℕ) : Type 0 where
   pub every : length passed ≡ node_count net
   pub each : (u : ℕ) → u < node_count net → FirstMarked marks (neighbors_of net u) (slice_index passed u)
 
 -- no walk leads from u to v
-abbrev pub IsCutOff : Network → ℕ → ℕ → Type 0
+abbrev pub IsCutOff : Topology → ℕ → ℕ → Type 0
 IsCutOff net u v = (walk : List ℕ) → IsWalk net u v walk → ⊥

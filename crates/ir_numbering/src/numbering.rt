@@ -1,13 +1,13 @@
 ghost use Rattle.std.specs.Prelude.{◌≡◌, ◌<◌, ◌≤◌, ◌↔◌, None, length, slice_index, slice_index_or, IfOk, IsTrue, OnOk};
-ghost use Rattle.ir_model.specs.Network.{node_count};
+ghost use Rattle.ir_model.specs.Topology.{node_count};
 ghost use Rattle.ir_model.specs.Walk.{IsConnected, IsDisconnected};
 ghost use Rattle.ir_model.specs.Numbering.{neighbors_of, IsDepthFirst};
 ghost use Rattle.ir_model.specs.Subtree.{IsSubtree};
 ghost use Rattle.ir_model.specs.Table.{port_in, IsRouted};
 ghost use Rattle.ir_model.specs.Tree.{IsParent, IsTreeTable};
-ghost use Rattle.ir_model.specs.Scheme.{AreLabels};
+ghost use Rattle.ir_model.specs.Plan.{AreLabels};
 ghost use Rattle.ir_model.specs.declared.TheConstants.{MAX_NODES};
-ghost use Rattle.ir_numbering.specs.Numbers.{IsListing, IsNumberingOf};
+ghost use Rattle.ir_numbering.specs.Numbering.{IsListing, IsNumberingOf};
 ghost use Rattle.ir_numbering.specs.Orders.{HoldsNoNode, HoldsOneTwice, LacksOne};
 ghost use Rattle.ir_numbering.specs.Cells.{AreTreeCells};
 
@@ -20,7 +20,7 @@ use ir_tables::{Table, Topology};
 use std::alloc::{AllocError, Global};
 use std::marker::Model;
 
-/// Numbers of nodes: the label of each node, and its parent in the tree of the numbering.
+/// Numbering of nodes: the label of each node, and its parent in the tree of the numbering.
 #[derive(Drop)]
 pub struct Numbering {
     order: Vec<u16>,
@@ -31,19 +31,19 @@ pub struct Numbering {
 }
 
 impl Model for Numbering {
-    ghost use Rattle.ir_numbering.specs.Numbers.{Numbers, IsSound};
+    ghost use Rattle.ir_numbering.specs.Numbering.{Numbering, AreSoundNumbers};
     ghost use Rattle.ir_numbering.specs.Sizes.{AreSizesFrom};
     ghost use Rattle.ir_numbering.specs.Views.{numbers_of};
 
-    ghost Value = { Numbers };
+    ghost Value = { Numbering };
 
     ghost view = { numbers_of };
 
-    ghost invariant = { λ s. IsSound (numbers_of s) × AreSizesFrom 0 s.parents.items s.sizes.items };
+    ghost invariant = { λ s. AreSoundNumbers (numbers_of s) × AreSizesFrom 0 s.parents.items s.sizes.items };
 }
 
 impl Numbering {
-    /// Numbers the nodes depth first from the root. The next node is the first neighbour, in port order, without a
+    /// Numbering the nodes depth first from the root. The next node is the first neighbour, in port order, without a
     /// number of the node that was numbered last and still has one.
     ///
     /// NoNode exactly where the root is no node of the topology, then Disconnected where some node has no walk to
@@ -90,7 +90,7 @@ impl Numbering {
         })
     }
 
-    /// Numbers nodes by a list that has each once. Each node but the first has the first for its parent in the tree of
+    /// Numbering nodes by a list that has each once. Each node but the first has the first for its parent in the tree of
     /// the numbering, and none holds a port for it. Takes O(n), for n nodes.
     pub fn listed(alloc: Global, order: Vec<u16>) -> Result<Numbering, AllocError>
         requires listing { IsListing (length order.items) order.items }
@@ -111,7 +111,7 @@ impl Numbering {
         })
     }
 
-    /// Numbers so many nodes by a list of them in the order of their labels.
+    /// Numbering so many nodes by a list of them in the order of their labels.
     ///
     /// The first place of the list that is wrong is told: NoNode where it holds no node, Twice where it holds the node
     /// of an earlier place. Where no place is wrong, Missing where a node has none. NoMemory may come before these.
@@ -131,11 +131,11 @@ impl Numbering {
     }
 
     /// The label of a node: its place in the order.
-    pub fn label_of(&self, u: u16) -> u16
-        requires { u < length self.now.order }
-        ensures { result ≡ slice_index self.now.labels u }
+    pub fn label_of(&self, node: u16) -> u16
+        requires { node < length self.now.order }
+        ensures { result ≡ slice_index self.now.labels node }
     {
-        self.labels[u as usize]
+        self.labels[node as usize]
     }
 
     /// The node with a label.
@@ -147,30 +147,30 @@ impl Numbering {
     }
 
     /// The port of a node that leads to its parent; none at the root.
-    pub fn parent(&self, u: u16) -> Option<u16>
-        requires { u < length self.now.order }
-        ensures { result ≡ slice_index_or self.now.ports u None }
+    pub fn parent(&self, node: u16) -> Option<u16>
+        requires { node < length self.now.order }
+        ensures { result ≡ slice_index_or self.now.ports node None }
     {
-        self.ports[u as usize]
+        self.ports[node as usize]
     }
 
     /// How many nodes are in the subtree of a node, itself included. Their labels follow one another from the
     /// node's own label on (Santoro and Khatib 1985).
-    pub fn subtree(&self, u: u16) -> usize
-        requires { u < length self.now.order }
-        ensures { IsSubtree (length self.now.order) self.now.parents (slice_index self.now.labels u) result }
+    pub fn subtree(&self, node: u16) -> usize
+        requires { node < length self.now.order }
+        ensures { IsSubtree (length self.now.order) self.now.parents (slice_index self.now.labels node) result }
     {
-        self.sizes[self.label_of(u) as usize] as usize
+        self.sizes[self.label_of(node) as usize] as usize
     }
 
     /// Whether the first of two nodes has the other for its parent in the tree of the numbering.
-    pub fn has_parent(&self, u: u16, v: u16) -> bool
-        requires node { u < length self.now.order }
-        requires other { v < length self.now.order }
-        ensures { IsTrue result ↔ IsParent self.now.order self.now.parents u v }
+    pub fn has_parent(&self, node: u16, parent: u16) -> bool
+        requires node { node < length self.now.order }
+        requires other { parent < length self.now.order }
+        ensures { IsTrue result ↔ IsParent self.now.order self.now.parents node parent }
     {
-        let place = self.label_of(u) as usize;
-        place > 0 && self.parents[place] == self.label_of(v) as usize
+        let place = self.label_of(node) as usize;
+        place > 0 && self.parents[place] == self.label_of(parent) as usize
     }
 
     /// The ports of a node to all nodes, by label, along the tree of the numbering; none to itself.
@@ -181,20 +181,20 @@ impl Numbering {
         &self,
         alloc: Global,
         topology: &Topology,
-        u: u16,
+        node: u16,
     ) -> Result<Vec<Option<u16>>, AllocError>
         requires numbering { IsNumberingOf topology.now self.now }
-        requires node { u < node_count topology.now }
+        requires node { node < node_count topology.now }
         ensures { IfOk result (λ ports. AreTreeCells topology.now self.now.order self.now.parents
-            (slice_index self.now.labels u) (node_count topology.now) ports.items) }
+            (slice_index self.now.labels node) (node_count topology.now) ports.items) }
     {
         ports_by_label(
             alloc,
             topology,
             self.order.as_slice(),
             self.parents.as_slice(),
-            self.parent(u),
-            self.label_of(u) as usize,
+            self.parent(node),
+            self.label_of(node) as usize,
         )
     }
 }

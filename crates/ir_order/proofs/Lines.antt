@@ -10,8 +10,8 @@ use Rattle.ir_model.proofs.Names.{same_names, bytes_eq-same}
 use Rattle.ir_graph.proofs.Places.{named_place, among-take, place_found}
 use Rattle.ir_order.specs.declared.fault.OrderFaultKind.{OrderFaultKind}
 use Rattle.ir_order.specs.declared.fault.OrderFaultKind.TheVariants.{BadByte, BadRow, UnknownNode, Twice, Missing, NoMemory}
-use Rattle.ir_order.specs.Order.{words_fault, line_fault}
-use Rattle.ir_order.specs.Steps.{node_at, words_node, line_node}
+use Rattle.ir_order.specs.Order.{words_fault, order_line_fault}
+use Rattle.ir_order.specs.Steps.{listed_node, words_node, line_node}
 
 -- a name is found exactly where it is among the nodes
 place-among : (nodes : List Name) (name : Name) → position (bytes_eq name) nodes ≡ cond (among nodes name) (Some (position_or_len (bytes_eq name) nodes)) None
@@ -38,7 +38,7 @@ module _ (nodes : List Name) where
   words_named [] (Some u) e = absurd (cc e)
   words_named (w ∷ []) u e = by (position (bytes_eq w) nodes) refl u e
     where
-      by : (o : Option ℕ) → position (bytes_eq w) nodes ≡ o → (node : Option ℕ) → Ok node ≡ node_at o → NamesOne nodes (w ∷ []) node
+      by : (o : Option ℕ) → position (bytes_eq w) nodes ≡ o → (node : Option ℕ) → Ok node ≡ listed_node o → NamesOne nodes (w ∷ []) node
       by None h u k = absurd (cc k)
       by (Some v) h None k = absurd (cc k)
       by (Some v) h (Some u) k = let same : v ≡ u = cc k in (w, refl, h ∙ ap Some same)
@@ -46,9 +46,9 @@ module _ (nodes : List Name) where
 
   words_wrong : (named ws : List Name) (kind : OrderFaultKind) → Err kind ≡ words_node nodes ws → words_fault nodes named ws ≡ Some kind
   words_wrong named [] kind e = absurd (cc e)
-  words_wrong named (w ∷ []) kind e = by (among nodes w) refl (e ∙ ap node_at (place-among nodes w))
+  words_wrong named (w ∷ []) kind e = by (among nodes w) refl (e ∙ ap listed_node (place-among nodes w))
     where
-      by : (t : Bool) → among nodes w ≡ t → Err kind ≡ node_at (cond t (Some (position_or_len (bytes_eq w) nodes)) None) → cond (not t) (Some UnknownNode) (cond (among named w) (Some Twice) None) ≡ Some kind
+      by : (t : Bool) → among nodes w ≡ t → Err kind ≡ listed_node (cond t (Some (position_or_len (bytes_eq w) nodes)) None) → cond (not t) (Some UnknownNode) (cond (among named w) (Some Twice) None) ≡ Some kind
       by true h k = absurd (cc k)
       by false h k = let same : kind ≡ UnknownNode = cc k in ap Some (sym same)
   words_wrong named (w ∷ x ∷ ws) kind e = let same : kind ≡ BadRow = cc e in ap Some (sym same)
@@ -62,7 +62,7 @@ module _ (nodes : List Name) where
       by false h k = absurd (cc k)
 
   -- a line that is wrong whatever stands before it
-  pub line_wrong : (named : List Name) (line : List ℕ) (kind : OrderFaultKind) → Err kind ≡ line_node nodes line → line_fault nodes named line ≡ Some kind
+  pub line_wrong : (named : List Name) (line : List ℕ) (kind : OrderFaultKind) → Err kind ≡ line_node nodes line → order_line_fault nodes named line ≡ Some kind
   line_wrong named line kind e = by (list_all is_plain (content line)) e
     where
       by : (t : Bool) → Err kind ≡ cond (not t) (Err BadByte) (words_node nodes (words line)) → cond (not t) (Some BadByte) (words_fault nodes named (words line)) ≡ Some kind
@@ -77,16 +77,16 @@ module _ (nodes : List Name) where
       by false h k = absurd (cc k)
 
   -- the fault of a plain line by its words
-  plain_fault : (named : List Name) (line : List ℕ) → list_all is_plain (content line) ≡ true → line_fault nodes named line ≡ words_fault nodes named (words line)
+  plain_fault : (named : List Name) (line : List ℕ) → list_all is_plain (content line) ≡ true → order_line_fault nodes named line ≡ words_fault nodes named (words line)
   plain_fault named line h = ap (λ t. cond (not t) (Some BadByte) (words_fault nodes named (words line))) h
 
   -- a line with no word has no fault
-  pub line_empty : (named : List Name) (line : List ℕ) → list_all is_plain (content line) ≡ true → words line ≡ [] → line_fault nodes named line ≡ None
+  pub line_empty : (named : List Name) (line : List ℕ) → list_all is_plain (content line) ≡ true → words line ≡ [] → order_line_fault nodes named line ≡ None
   line_empty named line plain none = plain_fault named line plain ∙ ap (words_fault nodes named) none
 
   -- a line with the name of a node has a fault where the name stood before
   pub line_known : (named : List Name) (line : List ℕ) (w : Name) (u : ℕ) → list_all is_plain (content line) ≡ true → words line ≡ w ∷ [] → position (bytes_eq w) nodes ≡ Some u
-      → line_fault nodes named line ≡ cond (among named w) (Some Twice) None
+      → order_line_fault nodes named line ≡ cond (among named w) (Some Twice) None
   line_known named line w u plain one found = plain_fault named line plain ∙ ap (words_fault nodes named) one ∙ words_known named w u found
 
   -- ---- places and names

@@ -6,12 +6,12 @@ use Rattle.std.proofs.lemmas.List.{append-nil, length_push, length-map, map-appe
 use Rattle.std.proofs.lemmas.Grind.{flat_map-append}
 use Rattle.ir_model.specs.Graph.{Name, among}
 use Rattle.ir_model.specs.Text.{lines, words, names_in, content, is_plain}
-use Rattle.ir_numbering.specs.Numbers.{IsListing}
+use Rattle.ir_numbering.specs.Numbering.{IsListing}
 use Rattle.ir_numbering.proofs.Placing.{IsPlacing, placing_start, placing_more, placing_done}
 use Rattle.ir_order.specs.declared.fault.OrderFault.{OrderFault}
 use Rattle.ir_order.specs.declared.fault.OrderFaultKind.{OrderFaultKind}
 use Rattle.ir_order.specs.declared.fault.OrderFaultKind.TheVariants.{BadByte, BadRow, UnknownNode, Twice, Missing, NoMemory}
-use Rattle.ir_order.specs.Order.{line_fault, end_fault, or_later, first_fault, order_fault, IsOrder, OrderTold, told_order}
+use Rattle.ir_order.specs.Order.{order_line_fault, end_fault, or_later_order, first_order_fault, order_fault, IsOrder, OrderTold, told_order}
 use Rattle.ir_order.specs.Steps.{line_node, has_place, with_place}
 use Rattle.ir_order.proofs.Lines.{NamesOne, ArePlaces, line_named, line_wrong, line_empty, line_known, place_of_named, named_of_place}
 
@@ -26,7 +26,7 @@ told line NoMemory first e = refl
 -- The lines before are read without a fault: their names' nodes are the order, and are marked.
 pub record IsReading (nodes : List Name) (text order : List ℕ) (placed : List Bool) (line : ℕ) (rest : List ℕ) : Type 0 where
   pub before : List (List ℕ)
-  pub same : order_fault nodes (lines text) ≡ first_fault nodes before (lines rest)
+  pub same : order_fault nodes (lines text) ≡ first_order_fault nodes before (lines rest)
   pub split : lines text ≡ before ++ lines rest
   pub counted : length before ≡ line
   pub few : line + length rest ≤ length text
@@ -73,12 +73,12 @@ module _ (nodes : List Name) (text order : List ℕ) (placed : List Bool) (line 
   names_more = flat_map-append words is.before (current ∷ []) ∙ ap (λ ns. names_in is.before ++ ns) (append-nil (words current))
 
   -- the fault of the line is the first, if it has one
-  next_fault : order_fault nodes (lines text) ≡ or_later (length is.before + 1) (line_fault nodes (names_in is.before) current) (first_fault nodes (is.before ++ current ∷ []) (lines after))
-  next_fault = is.same ∙ ap (first_fault nodes is.before) split
+  next_fault : order_fault nodes (lines text) ≡ or_later_order (length is.before + 1) (order_line_fault nodes (names_in is.before) current) (first_order_fault nodes (is.before ++ current ∷ []) (lines after))
+  next_fault = is.same ∙ ap (first_order_fault nodes is.before) split
 
-  line_told : (kind : OrderFaultKind) → line_fault nodes (names_in is.before) current ≡ Some kind → OrderTold (told_order (line + 1) kind) (order_fault nodes (lines text))
+  line_told : (kind : OrderFaultKind) → order_line_fault nodes (names_in is.before) current ≡ Some kind → OrderTold (told_order (line + 1) kind) (order_fault nodes (lines text))
   line_told kind e =
-      told (line + 1) kind _ (next_fault ∙ ap (λ o. or_later (length is.before + 1) o (first_fault nodes (is.before ++ current ∷ []) (lines after))) e ∙ ap (λ (n : ℕ). Some (n + 1, kind)) is.counted)
+      told (line + 1) kind _ (next_fault ∙ ap (λ o. or_later_order (length is.before + 1) o (first_order_fault nodes (is.before ++ current ∷ []) (lines after))) e ∙ ap (λ (n : ℕ). Some (n + 1, kind)) is.counted)
 
   -- the line is wrong by itself
   pub read_wrong : (kind : OrderFaultKind) → Err kind ≡ line_node nodes current → OrderTold (told_order (line + 1) kind) (order_fault nodes (lines text))
@@ -111,11 +111,11 @@ module _ (nodes : List Name) (text order : List ℕ) (placed : List Bool) (line 
       line_told Twice (line_known nodes (names_in is.before) current one.1.0 u one.0 one.1.1 one.1.2 ∙ ap (λ t. cond t (Some Twice) None) twice)
 
   -- the line has no fault
-  read_next : (more : List ℕ) (marks : List Bool) → line_fault nodes (names_in is.before) current ≡ None → ArePlaces nodes (names_in is.before ++ words current) more → IsPlacing (length nodes) (length more) more marks
+  read_next : (more : List ℕ) (marks : List Bool) → order_line_fault nodes (names_in is.before) current ≡ None → ArePlaces nodes (names_in is.before ++ words current) more → IsPlacing (length nodes) (length more) more marks
       → IsReading nodes text more marks (line + 1) after
   read_next more marks none named placing = record {
     before = is.before ++ current ∷ [];
-    same = next_fault ∙ ap (λ o. or_later (length is.before + 1) o (first_fault nodes (is.before ++ current ∷ []) (lines after))) none;
+    same = next_fault ∙ ap (λ o. or_later_order (length is.before + 1) o (first_order_fault nodes (is.before ++ current ∷ []) (lines after))) none;
     split = is.split ∙ ap (λ ls. is.before ++ ls) split ∙ sym (append_assoc is.before (current ∷ []) (lines after));
     counted = length_push is.before current ∙ ap (λ (n : ℕ). n + 1) is.counted;
     few = omega (arith, is.few, shorter);
@@ -163,7 +163,7 @@ module _ (nodes : List Name) (text order : List ℕ) (placed : List Bool) (line 
   whole = is.split ∙ ap (λ bs. is.before ++ lines bs) empty ∙ append-nil is.before
 
   last_fault : order_fault nodes (lines text) ≡ end_fault nodes is.before
-  last_fault = is.same ∙ ap (λ bs. first_fault nodes is.before (lines bs)) empty
+  last_fault = is.same ∙ ap (λ bs. first_order_fault nodes is.before (lines bs)) empty
 
   counts : length (names_in is.before) ≡ length order
   counts = sym (length-map (names_in is.before) (λ name. position (bytes_eq name) nodes)) ∙ ap length is.named ∙ length-map order (λ u. Some u)

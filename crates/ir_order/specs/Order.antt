@@ -15,26 +15,26 @@ words_fault nodes named (name ∷ []) =
 words_fault nodes named (name ∷ other ∷ more) = Some BadRow
 
 -- the fault of a line, behind lines that name these
-abbrev pub line_fault : List Name → List Name → List ℕ → Option OrderFaultKind
-line_fault nodes named line = if not (list_all is_plain (content line)) then Some BadByte else words_fault nodes named (words line)
+abbrev pub order_line_fault : List Name → List Name → List ℕ → Option OrderFaultKind
+order_line_fault nodes named line = if not (list_all is_plain (content line)) then Some BadByte else words_fault nodes named (words line)
 
 -- the fault of a text with no faulty line: fewer names than nodes
 abbrev pub end_fault : List Name → List (List ℕ) → Option (ℕ × OrderFaultKind)
 end_fault nodes ls = if nat_lt (length (names_in ls)) (length nodes) then Some (length ls, Missing) else None
 
-abbrev pub or_later : ℕ → Option OrderFaultKind → Option (ℕ × OrderFaultKind) → Option (ℕ × OrderFaultKind)
-or_later n (Some kind) later = Some (n, kind)
-or_later n None later = later
+abbrev pub or_later_order : ℕ → Option OrderFaultKind → Option (ℕ × OrderFaultKind) → Option (ℕ × OrderFaultKind)
+or_later_order n (Some kind) later = Some (n, kind)
+or_later_order n None later = later
 
 -- the first faulty line, counted from 1, and its fault; or else that of the text, with its last line
-abbrev pub first_fault : List Name → List (List ℕ) → List (List ℕ) → Option (ℕ × OrderFaultKind)
-first_fault nodes before [] = end_fault nodes before
-first_fault nodes before (l ∷ ls) =
-    or_later (length before + 1) (line_fault nodes (names_in before) l) (first_fault nodes (before ++ l ∷ []) ls)
+abbrev pub first_order_fault : List Name → List (List ℕ) → List (List ℕ) → Option (ℕ × OrderFaultKind)
+first_order_fault nodes before [] = end_fault nodes before
+first_order_fault nodes before (l ∷ ls) =
+    or_later_order (length before + 1) (order_line_fault nodes (names_in before) l) (first_order_fault nodes (before ++ l ∷ []) ls)
 
 -- the first fault of the lines of a text
 abbrev pub order_fault : List Name → List (List ℕ) → Option (ℕ × OrderFaultKind)
-order_fault nodes ls = first_fault nodes [] ls
+order_fault nodes ls = first_order_fault nodes [] ls
 
 -- The text has no fault, and names these nodes in order, each by its place among the nodes.
 pub record IsOrder (nodes : List Name) (ls : List (List ℕ)) (order : List ℕ) : Type 0 where

@@ -7,14 +7,14 @@ use Rattle.ir_order.specs.declared.fault.OrderFaultKind.{OrderFaultKind}
 use Rattle.ir_order.specs.declared.fault.OrderFaultKind.TheVariants.{BadByte, BadRow, UnknownNode}
 
 -- the node at a place, where it was found
-abbrev pub node_at : Option ℕ → Result (Option ℕ) OrderFaultKind
-node_at None = Err UnknownNode
-node_at (Some u) = Ok (Some u)
+abbrev pub listed_node : Option ℕ → Result (Option ℕ) OrderFaultKind
+listed_node None = Err UnknownNode
+listed_node (Some u) = Ok (Some u)
 
 -- the node that words name; none where there is no word
 abbrev pub words_node : List Name → List Name → Result (Option ℕ) OrderFaultKind
 words_node nodes [] = Ok None
-words_node nodes (name ∷ []) = node_at (position (bytes_eq name) nodes)
+words_node nodes (name ∷ []) = listed_node (position (bytes_eq name) nodes)
 words_node nodes (name ∷ other ∷ more) = Err BadRow
 
 -- the node that a line names

@@ -2,9 +2,9 @@
 ghost use Rattle.std.specs.Prelude.{◌≡◌, ◌≢◌, ◌<◌, ◌++◌, false, true, length, position, bytes_eq, option_to_list, IfOk, IfErr, IfSome, OnOk};
 ghost use Rattle.ir_model.specs.Graph.{names};
 ghost use Rattle.ir_model.specs.Text.{lines};
-ghost use Rattle.ir_numbering.specs.Numbers.{IsListing};
+ghost use Rattle.ir_numbering.specs.Numbering.{IsListing};
 ghost use Rattle.ir_order.specs.Order.{order_fault, IsOrder, OrderTold, told_order};
-ghost use Rattle.ir_order.specs.Steps.{node_at, line_node, has_place, with_place};
+ghost use Rattle.ir_order.specs.Steps.{listed_node, line_node, has_place, with_place};
 
 use crate::fault::{OrderFault, OrderFaultKind};
 use ir_adjlist::scan;
@@ -23,7 +23,7 @@ fn fault_at(line: usize, kind: OrderFaultKind) -> OrderFault
 
 /// The node that a word names.
 fn node_of(graph: &Graph, word: &[u8]) -> Result<Option<u16>, OrderFaultKind>
-    ensures node { result ≡ node_at (position (bytes_eq word.now) (names graph.now)) }
+    ensures node { result ≡ listed_node (position (bytes_eq word.now) (names graph.now)) }
     ensures within { IfOk result (λ node. IfSome node (λ u. u < length graph.now)) }
 {
     let _nodes = graph.number_of_nodes();

@@ -5,11 +5,11 @@ use Rattle.std.proofs.lemmas.Bool.{cases_eq, cases_lt}
 use Rattle.std.proofs.lemmas.List.{get_or_past, get_or-replicate, length-replicate}
 use Rattle.std.proofs.lemmas.Grind.{get_or_default_zero}
 use Rattle.std.proofs.lemmas.List.Elements.{Contains-get_or}
-use Rattle.ir_model.specs.Network.{Network, IsNetwork, node_count, ports_of}
+use Rattle.ir_model.specs.Topology.{Topology, IsTopology, node_count, ports_of}
 use Rattle.ir_model.specs.Table.{LeadsNearer}
 use Rattle.ir_model.specs.Choices.{AreChoices, AreChosen}
 use Rattle.ir_model.specs.Compact.{IsTied}
-use Rattle.ir_model.specs.Scheme.{AreLabels}
+use Rattle.ir_model.specs.Plan.{AreLabels}
 use Rattle.ir_model.proofs.Chosen.{choices_same}
 use Rattle.std.proofs.lemmas.Option.{slice_get_within}
 use Rattle.ir_model.proofs.Best.{Marks, IsBestBelow}
@@ -19,7 +19,7 @@ use Rattle.ir_compile.specs.Runs.{HasMarked}
 use Rattle.ir_tables.proofs.Leading.{some_nearer}
 
 -- each label but that of u has a tied port
-pub tied_choices : (net : Network) → IsNetwork net → (order labels : List ℕ) → AreLabels (node_count net) order labels → (u : ℕ) (weights : List ℕ) → AreFrom net u weights
+pub tied_choices : (net : Topology) → IsTopology net → (order labels : List ℕ) → AreLabels (node_count net) order labels → (u : ℕ) (weights : List ℕ) → AreFrom net u weights
     → AreChoices (node_count net) (slice_index labels u) (IsTied net order (slice_index labels u))
 tied_choices net ok order labels named u weights are = record {
   has_own = named.label u are.node;
@@ -30,7 +30,7 @@ tied_choices net ok order labels named u weights are = record {
       (w.0, subst (λ (x : ℕ). LeadsNearer net x (slice_index order d) w.0) (sym there) w.1);
 }
 
-module _ (net : Network) (ok : IsNetwork net) (order labels : List ℕ) (named : AreLabels (node_count net) order labels) (u : ℕ) (hu : u < node_count net) where
+module _ (net : Topology) (ok : IsTopology net) (order labels : List ℕ) (named : AreLabels (node_count net) order labels) (u : ℕ) (hu : u < node_count net) where
   -- the marks of a port tell which labels may take it
   pub marks_may : (p : ℕ) (row : List Bool) → AreTiedMarks net order u p row → (d : ℕ) → MayTake net order (slice_index labels u) d p ↔ Marks row d
   marks_may p row are d =
@@ -71,7 +71,7 @@ module _ (net : Network) (ok : IsNetwork net) (order labels : List ℕ) (named :
       (λ d p hd ne. ((λ may. may.1), (λ tied. (hd, tied)))) ports chosen
 
 -- the marks of the nodes to which a port leads nearer
-pub marks_led : (net : Network) (order : List ℕ) (u p : ℕ) (nodes : List ℕ) (row : List Bool) → AreLedBy net u p nodes → AreMarksOf (node_count net) order nodes row → AreTiedMarks net order u p row
+pub marks_led : (net : Topology) (order : List ℕ) (u p : ℕ) (nodes : List ℕ) (row : List Bool) → AreLedBy net u p nodes → AreMarksOf (node_count net) order nodes row → AreTiedMarks net order u p row
 marks_led net order u p nodes row led are = record {
   every = are.every;
   marks = λ d hd.

@@ -6,23 +6,23 @@ use Rattle.std.proofs.lemmas.List.{same_lists, get_or_default}
 use Rattle.std.proofs.lemmas.List.Elements.{All-head, All-tail}
 use Rattle.ir_model.specs.declared.Kind.{Kind}
 use Rattle.ir_model.specs.declared.Kind.TheVariants.{Tree, Shortest, Compact}
-use Rattle.ir_model.specs.Network.{Network, node_count}
+use Rattle.ir_model.specs.Topology.{Topology, node_count}
 use Rattle.ir_model.specs.Numbering.{neighbors_of, IsDepthFirst}
 use Rattle.ir_model.specs.Row.{Start}
 use Rattle.ir_model.specs.Compiled.{IsCanonical}
 use Rattle.ir_model.specs.Compact.{IsCompactTable}
 use Rattle.ir_model.specs.Table.{IsShortestTable}
-use Rattle.ir_model.specs.Scheme.{Scheme, IsScheme, HasDepthFirst, AreLabels, IsTableOf, table_port, label_in, row_in, by_label}
+use Rattle.ir_model.specs.Plan.{Plan, IsPlan, HasDepthFirst, AreLabels, IsTableOf, table_port, label_in, row_in, by_label}
 use Rattle.ir_laws.proofs.Compact.{compact_same}
 use Rattle.ir_laws.proofs.Ordered.{canonical_same}
 use Rattle.ir_laws.proofs.Ranked.{order_same}
 use Rattle.ir_plan.proofs.TreeStarts.{tree_plan_starts}
 use Rattle.ir_plan.specs.declared.tour.LabelOrder.{LabelOrder}
 use Rattle.ir_plan.specs.declared.tour.LabelOrder.TheVariants.{DepthFirst, Tour}
-use Rattle.ir_plan.specs.Starts.{IsLabelledBy, starts_of, IsDepthFirstOf, HasNoMoreStarts, HasFewerStarts}
+use Rattle.ir_plan.specs.Starts.{IsLabelledBy, start_count, IsDepthFirstOf, HasNoMoreStarts, HasFewerStarts}
 
 -- a network has one shortest table
-shortest_same : (net : Network) (table other : ℕ → ℕ → Option ℕ) → IsShortestTable net table → IsShortestTable net other → (u d : ℕ) → u < node_count net → d < node_count net → table u d ≡ other u d
+shortest_same : (net : Topology) (table other : ℕ → ℕ → Option ℕ) → IsShortestTable net table → IsShortestTable net other → (u d : ℕ) → u < node_count net → d < node_count net → table u d ≡ other u d
 shortest_same net table other a b u d hu hd =
     elim (cases_eq u d) [
       | inl e ↦ subst (λ (x : ℕ). table x d ≡ other x d) (sym e) (a.own d hd ∙ sym (b.own d hd))
@@ -50,24 +50,24 @@ canonical_alike n m own mine ports given row other en eo ep a b =
     (subst (λ (x : ℕ). IsCanonical x own ports other) (sym en) (subst (λ (x : ℕ). IsCanonical m x ports other) (sym eo) (subst (λ (x : List (Option ℕ)). IsCanonical m mine x other) (sym ep) b)))
 
 -- Two plans with one order and one table over one network have as many starts.
-module _ (p q : Scheme) (is : IsScheme p) (so : IsScheme q) (nodes : node_count p.network ≡ node_count q.network) (order : p.order ≡ q.order)
-    (table : (u d : ℕ) → u < node_count p.network → d < node_count p.network → table_port p u d ≡ table_port q u d) where
-  named : AreLabels (node_count p.network) p.order q.labels
-  named = subst (λ (n : ℕ). AreLabels n p.order q.labels) (sym nodes) (subst (λ (xs : List ℕ). AreLabels (node_count q.network) xs q.labels) (sym order) so.labels)
+module _ (p q : Plan) (is : IsPlan p) (so : IsPlan q) (nodes : node_count p.topology ≡ node_count q.topology) (order : p.order ≡ q.order)
+    (table : (u d : ℕ) → u < node_count p.topology → d < node_count p.topology → table_port p u d ≡ table_port q u d) where
+  named : AreLabels (node_count p.topology) p.order q.labels
+  named = subst (λ (n : ℕ). AreLabels n p.order q.labels) (sym nodes) (subst (λ (xs : List ℕ). AreLabels (node_count q.topology) xs q.labels) (sym order) so.labels)
 
-  ports_same : (u : ℕ) → u < node_count p.network → by_label p u ≡ by_label q u
+  ports_same : (u : ℕ) → u < node_count p.topology → by_label p u ≡ by_label q u
   ports_same u hu =
       map_same (table_port p u) (table_port q u) p.order
       (λ a v within. table u (get_or p.order a v) hu
-      (subst (λ (x : ℕ). x < node_count p.network) (get_or_default p.order a 0 v within) (is.labels.node a (omega (arith, within, is.labels.every_label)))))
+      (subst (λ (x : ℕ). x < node_count p.topology) (get_or_default p.order a 0 v within) (is.labels.node a (omega (arith, within, is.labels.every_label)))))
       ∙ ap (map (table_port q u)) order
 
-  row_same : (u : ℕ) → u < node_count p.network → row_in p u ≡ row_in q u
+  row_same : (u : ℕ) → u < node_count p.topology → row_in p u ≡ row_in q u
   row_same u hu =
-      canonical_alike (node_count p.network) (node_count q.network) (label_in p u) (label_in q u) (by_label p u) (by_label q u) (row_in p u) (row_in q u)
-      nodes (label_same (node_count p.network) p.order p.labels q.labels is.labels named u hu) (ports_same u hu) (is.rows u hu) (so.rows u (omega (arith, hu, nodes)))
+      canonical_alike (node_count p.topology) (node_count q.topology) (label_in p u) (label_in q u) (by_label p u) (by_label q u) (row_in p u) (row_in q u)
+      nodes (label_same (node_count p.topology) p.order p.labels q.labels is.labels named u hu) (ports_same u hu) (is.rows u hu) (so.rows u (omega (arith, hu, nodes)))
 
-  pub starts_alike : starts_of p ≡ starts_of q
+  pub starts_alike : start_count p ≡ start_count q
   starts_alike =
       let every : length p.rows ≡ length q.rows = is.row_of_each ∙ nodes ∙ sym so.row_of_each in
       let rows : p.rows ≡ q.rows = same_lists p.rows q.rows every
@@ -78,65 +78,65 @@ module _ (p q : Scheme) (is : IsScheme p) (so : IsScheme q) (nodes : node_count 
       ap (sum_by length) rows
 
 -- the order is that of the network and the root
-depth_first_order : (p q : Scheme) → HasDepthFirst p → IsDepthFirstOf p q → p.order ≡ q.order
+depth_first_order : (p q : Plan) → HasDepthFirst p → IsDepthFirstOf p q → p.order ≡ q.order
 depth_first_order p q first other =
-    let net = p.network in
-    let moved = subst (λ (x : Network). IsDepthFirst (neighbors_of x) (node_count x) q.root q.order other.numbers.0) other.network other.numbers.1 in
+    let net = p.topology in
+    let moved = subst (λ (x : Topology). IsDepthFirst (neighbors_of x) (node_count x) q.root q.order other.numbers.0) other.topology other.numbers.1 in
     let rooted = subst (λ (x : ℕ). IsDepthFirst (neighbors_of net) (node_count net) x q.order other.numbers.0) other.root moved in
     order_same (neighbors_of net) (node_count net) p.root p.order first.0 q.order other.numbers.0 first.1 rooted
 
 -- as many starts, by the kind
-by_kind : (k : Kind) (p q : Scheme) → p.kind ≡ k → IsScheme p → HasDepthFirst p → IsDepthFirstOf p q → starts_of p ≡ starts_of q
+by_kind : (k : Kind) (p q : Plan) → p.kind ≡ k → IsPlan p → HasDepthFirst p → IsDepthFirstOf p q → start_count p ≡ start_count q
 by_kind Tree p q kind is first other =
-    tree_plan_starts p is kind ∙ ap (λ (net : Network). 2 * (node_count net - 1)) (sym other.network) ∙ sym (tree_plan_starts q other.scheme (other.kind ∙ kind))
+    tree_plan_starts p is kind ∙ ap (λ (net : Topology). 2 * (node_count net - 1)) (sym other.topology) ∙ sym (tree_plan_starts q other.plan (other.kind ∙ kind))
 by_kind Shortest p q kind is first other =
-    let so = other.scheme in
-    let table = subst (λ (k : Kind). IsTableOf k p.network p.order is.parents (table_port p)) kind is.table in
-    let theirs = subst (λ (k : Kind). IsTableOf k q.network q.order so.parents (table_port q)) (other.kind ∙ kind) so.table in
-    let over = subst (λ (net : Network). IsShortestTable net (table_port q)) other.network theirs in
-    starts_alike p q is so (ap node_count (sym other.network)) (depth_first_order p q first other)
-    (shortest_same p.network (table_port p) (table_port q) table over)
+    let so = other.plan in
+    let table = subst (λ (k : Kind). IsTableOf k p.topology p.order is.parents (table_port p)) kind is.table in
+    let theirs = subst (λ (k : Kind). IsTableOf k q.topology q.order so.parents (table_port q)) (other.kind ∙ kind) so.table in
+    let over = subst (λ (net : Topology). IsShortestTable net (table_port q)) other.topology theirs in
+    starts_alike p q is so (ap node_count (sym other.topology)) (depth_first_order p q first other)
+    (shortest_same p.topology (table_port p) (table_port q) table over)
 by_kind Compact p q kind is first other =
-    let so = other.scheme in
+    let so = other.plan in
     let same = depth_first_order p q first other in
-    let table = subst (λ (k : Kind). IsTableOf k p.network p.order is.parents (table_port p)) kind is.table in
-    let theirs = subst (λ (k : Kind). IsTableOf k q.network q.order so.parents (table_port q)) (other.kind ∙ kind) so.table in
-    let over = subst (λ (net : Network). IsCompactTable net q.order (table_port q)) other.network theirs in
-    let ordered = subst (λ (xs : List ℕ). IsCompactTable p.network xs (table_port q)) (sym same) over in
-    starts_alike p q is so (ap node_count (sym other.network)) same
-    (compact_same p.network p.order p.labels is.labels (table_port p) (table_port q) table ordered)
+    let table = subst (λ (k : Kind). IsTableOf k p.topology p.order is.parents (table_port p)) kind is.table in
+    let theirs = subst (λ (k : Kind). IsTableOf k q.topology q.order so.parents (table_port q)) (other.kind ∙ kind) so.table in
+    let over = subst (λ (net : Topology). IsCompactTable net q.order (table_port q)) other.topology theirs in
+    let ordered = subst (λ (xs : List ℕ). IsCompactTable p.topology xs (table_port q)) (sym same) over in
+    starts_alike p q is so (ap node_count (sym other.topology)) same
+    (compact_same p.topology p.order p.labels is.labels (table_port p) (table_port q) table ordered)
 
 -- a depth-first plan has as many starts as any of its kind, root and network
-pub depth_first_starts : (p q : Scheme) → IsScheme p → HasDepthFirst p → IsDepthFirstOf p q → starts_of p ≡ starts_of q
+pub depth_first_starts : (p q : Plan) → IsPlan p → HasDepthFirst p → IsDepthFirstOf p q → start_count p ≡ start_count q
 depth_first_starts p q is first other = by_kind p.kind p q refl is first other
 
 -- the depth-first plans of two plans of one kind, root and network are the same
-depth_first_moved : (p s q : Scheme) → p.kind ≡ s.kind → p.root ≡ s.root → p.network ≡ s.network → IsDepthFirstOf s q → IsDepthFirstOf p q
-depth_first_moved p s q kind root network other = record {
-  scheme = other.scheme;
+depth_first_moved : (p s q : Plan) → p.kind ≡ s.kind → p.root ≡ s.root → p.topology ≡ s.topology → IsDepthFirstOf s q → IsDepthFirstOf p q
+depth_first_moved p s q kind root topology other = record {
+  plan = other.plan;
   numbers = other.numbers;
   kind = other.kind ∙ sym kind;
   root = other.root ∙ sym root;
-  network = other.network ∙ sym network;
+  topology = other.topology ∙ sym topology;
 }
 
-depth_first_has_no_more : (p : Scheme) → IsScheme p → HasDepthFirst p → HasNoMoreStarts p
+depth_first_has_no_more : (p : Plan) → IsPlan p → HasDepthFirst p → HasNoMoreStarts p
 depth_first_has_no_more p is first q other = omega (arith, depth_first_starts p q is first other)
 
 -- a plan with fewer starts than one depth-first plan of its kind, root and network has fewer than each
-pub fewer_than_one : (p s : Scheme) → IsScheme p → HasDepthFirst p → s.kind ≡ p.kind → s.root ≡ p.root → s.network ≡ p.network → starts_of s < starts_of p → HasFewerStarts s
-fewer_than_one p s is first kind root network less q other =
-    omega (arith, less, depth_first_starts p q is first (depth_first_moved p s q (sym kind) (sym root) (sym network) other))
+pub fewer_than_one : (p s : Plan) → IsPlan p → HasDepthFirst p → s.kind ≡ p.kind → s.root ≡ p.root → s.topology ≡ p.topology → start_count s < start_count p → HasFewerStarts s
+fewer_than_one p s is first kind root topology less q other =
+    omega (arith, less, depth_first_starts p q is first (depth_first_moved p s q (sym kind) (sym root) (sym topology) other))
 
-fewer_has_no_more : (s : Scheme) → HasFewerStarts s → HasNoMoreStarts s
+fewer_has_no_more : (s : Plan) → HasFewerStarts s → HasNoMoreStarts s
 fewer_has_no_more s fewer q other = omega (arith, fewer q other)
 
 -- a depth-first plan is labelled by each order
-pub depth_first_labelled : (labels : LabelOrder) (p : Scheme) → IsScheme p → HasDepthFirst p → IsLabelledBy labels p
+pub depth_first_labelled : (labels : LabelOrder) (p : Plan) → IsPlan p → HasDepthFirst p → IsLabelledBy labels p
 depth_first_labelled DepthFirst p is numbers = numbers
 depth_first_labelled Tour p is numbers = (inl numbers, depth_first_has_no_more p is numbers)
 
 -- a plan with fewer starts is labelled by a tour
-pub fewer_labelled : (labels : LabelOrder) (p : Scheme) → labels ≢ DepthFirst → HasFewerStarts p → IsLabelledBy labels p
+pub fewer_labelled : (labels : LabelOrder) (p : Plan) → labels ≢ DepthFirst → HasFewerStarts p → IsLabelledBy labels p
 fewer_labelled DepthFirst p ne fewer = absurd (ne refl)
 fewer_labelled Tour p ne fewer = (inr fewer, fewer_has_no_more p fewer)

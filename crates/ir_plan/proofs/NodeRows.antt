@@ -8,20 +8,20 @@ use Rattle.std.proofs.lemmas.Bool.{cases_eq, eq-eqb, ne_eqb}
 use Rattle.std.proofs.lemmas.List.{get_or-map, length-map, ext_get_or, get_or_push, get_or_append_left, length_push}
 use Rattle.ir_model.specs.declared.Kind.{Kind}
 use Rattle.ir_model.specs.declared.Kind.TheVariants.{Tree, Shortest, Compact}
-use Rattle.ir_model.specs.Network.{Network, IsNetwork, node_count}
+use Rattle.ir_model.specs.Topology.{Topology, IsTopology, node_count}
 use Rattle.ir_model.specs.Table.{LeadsNearer, IsShortestPort, IsShortestTable, IsPrescribedWalk}
 use Rattle.ir_model.specs.Row.{Start}
 use Rattle.ir_model.specs.Numbering.{neighbors_of}
 use Rattle.ir_model.specs.Compiled.{IsDestinations, IsCanonical, port_to}
 use Rattle.ir_model.specs.Choices.{AreChoices, AreChosen}
 use Rattle.ir_model.specs.Compact.{IsTied, IsCompactTable}
-use Rattle.ir_model.specs.Scheme.{AreLabels}
+use Rattle.ir_model.specs.Plan.{AreLabels}
 use Rattle.ir_model.proofs.Canonical.{canonical_fits}
 use Rattle.ir_model.proofs.Tables.{nearer_walks, shortest_is_nearer}
 use Rattle.ir_model.proofs.Chosen.{chosen_may}
 use Rattle.ir_tables.specs.FromNode.{held_at, AreLeastPorts}
 use Rattle.ir_tables.proofs.Ways.{continues_short}
-use Rattle.ir_numbering.specs.Numbers.{Numbers, IsNumberingOf}
+use Rattle.ir_numbering.specs.Numbering.{Numbering, IsNumberingOf}
 use Rattle.ir_numbering.specs.Cells.{IsTreeCell, AreTreeCells}
 use Rattle.ir_numbering.proofs.Nested.{depth_first_nests}
 use Rattle.ir_numbering.proofs.Ways.{Goes, way}
@@ -30,7 +30,7 @@ use Rattle.ir_plan.specs.Shown.{row_port, shown_port, AreRows, StandForTable}
 use Rattle.ir_plan.specs.NodeRows.{AreShortestPorts, IsNodeRow, AreNodeRows}
 use Rattle.ir_plan.proofs.RowPorts.{shown_fits}
 
-module _ (kind : Kind) (net : Network) (order parents labels : List ℕ) (named : AreLabels (node_count net) order labels) (rows : List (List Start))
+module _ (kind : Kind) (net : Topology) (order parents labels : List ℕ) (named : AreLabels (node_count net) order labels) (rows : List (List Start))
     (are : AreNodeRows kind net order parents labels (node_count net) rows) where
   -- the ports that a row shows are those that it was compiled from
   shown_ports : (u : ℕ) → (hu : u < node_count net) → map (shown_port labels rows u) order ≡ (are.each u hu).ports
@@ -74,7 +74,7 @@ module _ (kind : Kind) (net : Network) (order parents labels : List ℕ) (named 
   label_differs u d hu hd ne = λ e. ne (sym (sym (named.there d hd) ∙ ap (slice_index order) e ∙ named.there u hu))
 
 -- what the kinds' rows say of the table that they show
-module _ (net : Network) (order parents labels : List ℕ) (named : AreLabels (node_count net) order labels) (rows : List (List Start)) where
+module _ (net : Topology) (order parents labels : List ℕ) (named : AreLabels (node_count net) order labels) (rows : List (List Start)) where
   shortest_shown : AreNodeRows Shortest net order parents labels (node_count net) rows → IsShortestTable net (shown_port labels rows)
   shortest_shown are = record {
     own = shown_own Shortest net order parents labels named rows are;
@@ -119,7 +119,7 @@ module _ (net : Network) (order parents labels : List ℕ) (named : AreLabels (n
   }
 
 -- the rows of all nodes stand for a full table
-module _ (net : Network) (ok : IsNetwork net) (numbers : Numbers) (named : AreLabels (node_count net) numbers.order numbers.labels) (rows : List (List Start)) where
+module _ (net : Topology) (ok : IsTopology net) (numbers : Numbering) (named : AreLabels (node_count net) numbers.order numbers.labels) (rows : List (List Start)) where
   -- the walk that a tree table prescribes is short
   tree_short : (table : ℕ → ℕ → Option ℕ) (u d : ℕ) → u < node_count net → (walk : List ℕ) → IsPrescribedWalk net table u d walk → length walk ≤ node_count net
   tree_short table u d hu [] walks = absurd walks
@@ -153,7 +153,7 @@ module _ (net : Network) (ok : IsNetwork net) (numbers : Numbers) (named : AreLa
       )
 
 -- one row more
-pub node_rows_more : (kind : Kind) (net : Network) (order parents labels : List ℕ) (count : ℕ) (rows : List (List Start)) (row : List Start) → AreNodeRows kind net order parents labels count rows
+pub node_rows_more : (kind : Kind) (net : Topology) (order parents labels : List ℕ) (count : ℕ) (rows : List (List Start)) (row : List Start) → AreNodeRows kind net order parents labels count rows
     → IsNodeRow kind net order parents (slice_index labels count) row → AreNodeRows kind net order parents labels (count + 1) (rows ++ row ∷ [])
 node_rows_more kind net order parents labels count rows row are is =
     let every = are.every in
@@ -169,7 +169,7 @@ node_rows_more kind net order parents labels count rows row are is =
 -- ---- the ports of one node
 
 -- the ports of a tree are a list of destinations
-pub tree_destinations : (net : Network) (numbers : Numbers) → IsNumberingOf net numbers → (a : ℕ) → a < node_count net → (ports : List (Option ℕ))
+pub tree_destinations : (net : Topology) (numbers : Numbering) → IsNumberingOf net numbers → (a : ℕ) → a < node_count net → (ports : List (Option ℕ))
     → AreTreeCells net numbers.order numbers.parents a (node_count net) ports → IsDestinations (node_count net) a ports
 tree_destinations net numbers is a own ports cells = record {
   every = cells.every;
@@ -189,7 +189,7 @@ tree_destinations net numbers is a own ports cells = record {
         ]
 
 -- the least ports by node are, by label, a list of destinations
-module _ (net : Network) (order labels : List ℕ) (named : AreLabels (node_count net) order labels) (u : ℕ) (hu : u < node_count net) (held : List (Option ℕ)) (least : AreLeastPorts net u held) where
+module _ (net : Topology) (order labels : List ℕ) (named : AreLabels (node_count net) order labels) (u : ℕ) (hu : u < node_count net) (held : List (Option ℕ)) (least : AreLeastPorts net u held) where
   label_read : (d : ℕ) → d < node_count net → port_to (map (held_at held) order) d ≡ held_at held (slice_index order d)
   label_read d hd = get_or-map (held_at held) order d 0 None (rw named.every_label hd)
 
@@ -228,7 +228,7 @@ zipped_rows P a (suc k) (row ∷ rows) zipped =
     at later (suc i) lt = let e : a + 1 + i ≡ a + suc i = omega arith in subst (λ (u : ℕ). P u (slice_index_or rows i [])) e (later i (omega (arith, lt)))
 
 -- rows that were made for the numbers of a range are the rows of all nodes
-pub rows_of_range : (kind : Kind) (net : Network) (order parents labels : List ℕ) (made : List (Result (List Start) AllocError)) (rows : List (List Start))
+pub rows_of_range : (kind : Kind) (net : Topology) (order parents labels : List ℕ) (made : List (Result (List Start) AllocError)) (rows : List (List Start))
     → AllZip (λ (u : ℕ) (one : Result (List Start) AllocError). IfOk one (λ (row : List Start). IsNodeRow kind net order parents (slice_index labels u) row)) (range_with_len 0 (node_count net)) made
     → made ≡ map Ok rows → AreNodeRows kind net order parents labels (node_count net) rows
 rows_of_range kind net order parents labels made rows zipped is =

@@ -8,14 +8,14 @@ use Rattle.std.proofs.lemmas.List.Elements.{All-nil, All-cons, All-push, All-wea
 use Rattle.std.proofs.lemmas.Option.{slice_get_within}
 use Rattle.ir_model.specs.declared.Hop.{Hop}
 use Rattle.ir_model.specs.declared.Kind.TheVariants.{Tree}
-use Rattle.ir_model.specs.Network.{Network, IsNetwork, node_count, ports_of, port_at}
+use Rattle.ir_model.specs.Topology.{Topology, IsTopology, node_count, ports_of, port_at}
 use Rattle.ir_model.specs.Walk.{Linked}
 use Rattle.ir_model.specs.Numbering.{neighbors_of}
 use Rattle.ir_model.specs.Subtree.{IsUnder, itself, child, IsSubtree, IsNested}
 use Rattle.ir_model.specs.Tree.{IsParent}
 use Rattle.ir_model.specs.Row.{Start, labels as start_labels}
 use Rattle.ir_model.specs.Compiled.{port_to}
-use Rattle.ir_numbering.specs.Numbers.{Numbers, IsPortTo, IsParentPort, IsNumberingOf}
+use Rattle.ir_numbering.specs.Numbering.{Numbering, IsPortTo, IsParentPort, IsNumberingOf}
 use Rattle.ir_numbering.proofs.Nested.{depth_first_nests}
 use Rattle.ir_numbering.proofs.Ways.{parent_linked}
 use Rattle.ir_numbering.proofs.Cells.{parent_port_to, cells_of}
@@ -49,7 +49,7 @@ rising_cons xs y up above (suc k) h =
 abbrev pub start_with : ℕ → ℕ → Start
 start_with l p = record { label = l; port = p }
 
-module _ (net : Network) (ok : IsNetwork net) (numbers : Numbers) (is : IsNumberingOf net numbers) (u : ℕ) (hu : u < node_count net) where
+module _ (net : Topology) (ok : IsTopology net) (numbers : Numbering) (is : IsNumberingOf net numbers) (u : ℕ) (hu : u < node_count net) where
   own : slice_index numbers.labels u < node_count net
   own = is.labels.label u hu
 

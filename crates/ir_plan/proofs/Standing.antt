@@ -1,4 +1,4 @@
--- The scheme of numbers and rows stands for the full table that the rows were compiled from.
+-- The plan of numbers and rows stands for the full table that the rows were compiled from.
 use Rattle.std.proofs.Common.{◌≡◌, ◌≢◌, ℕ, suc, ◌*◌, ◌<◌, ◌≤◌, zero-add, List, [], ◌∷◌, length, map, Option, Some, None, get_or, refl, ap, sym, ◌∙◌, subst, inl, inr, arith}
 use Rattle.std.specs.Prelude.{slice_index, slice_index_or, IsSome, sum_by, All}
 use Rattle.std.specs.List.{range_with_len}
@@ -9,7 +9,7 @@ use Rattle.std.proofs.lemmas.List.Sums.{sum_by-le}
 use Rattle.std.proofs.lemmas.List.FromFn.{get_or-map-range_with_len, get_or-range_with_len, length-range_with_len}
 use Rattle.ir_model.specs.declared.Kind.{Kind}
 use Rattle.ir_model.specs.declared.Kind.TheVariants.{Tree, Shortest, Compact}
-use Rattle.ir_model.specs.Network.{Network, IsNetwork, node_count}
+use Rattle.ir_model.specs.Topology.{Topology, IsTopology, node_count}
 use Rattle.ir_model.specs.Walk.{IsConnected}
 use Rattle.ir_model.specs.Table.{IsPrescribedWalk}
 use Rattle.ir_model.specs.Numbering.{IsDepthFirst, neighbors_of}
@@ -17,14 +17,14 @@ use Rattle.ir_model.specs.Row.{Start, labels as start_labels, intervals_of}
 use Rattle.ir_model.specs.Choices.{AreChosen}
 use Rattle.ir_model.specs.Compact.{IsTied}
 use Rattle.ir_model.specs.Compiled.{IsDestinations, IsCanonical, port_to, Fits, IsFewest}
-use Rattle.ir_model.specs.Scheme.{Scheme, IsScheme, IsTableOf, AreLabels, table_port, label_in, by_label, row_in}
+use Rattle.ir_model.specs.Plan.{Plan, IsPlan, IsTableOf, AreLabels, table_port, label_in, by_label, row_in}
 use Rattle.ir_model.proofs.Canonical.{canonical_fits}
 use Rattle.ir_model.proofs.Fewest.{canonical_is_fewest}
 use Rattle.ir_model.proofs.Pigeonhole.{length-le_from_places}
 use Rattle.ir_model.proofs.Rows.{rises}
 use Rattle.ir_model.proofs.Round.{start_is_label}
 use Rattle.ir_tables.proofs.Ways.{continues_agree}
-use Rattle.ir_plan.specs.Shown.{row_port, shown_port, shown_table, scheme_with, AreRows, IsFull}
+use Rattle.ir_plan.specs.Shown.{row_port, shown_port, shown_table, plan_with, AreRows, IsFullTable}
 use Rattle.ir_plan.proofs.RowPorts.{shown_fits, shown_some}
 
 -- the port at a place of the shown table
@@ -41,7 +41,7 @@ port_at_label : (order : List ℕ) (table : ℕ → ℕ → Option ℕ) (u a : �
 port_at_label order table u a h = get_or-map (table u) order a 0 None h
 
 -- ports of a full table, by label, are a list of destinations
-pub destinations : (n : ℕ) (order labels : List ℕ) (table : ℕ → ℕ → Option ℕ) → AreLabels n order labels → IsFull n table
+pub destinations : (n : ℕ) (order labels : List ℕ) (table : ℕ → ℕ → Option ℕ) → AreLabels n order labels → IsFullTable n table
     → (u : ℕ) → u < n → IsDestinations n (slice_index labels u) (map (table u) order)
 destinations n order labels table named full u hu =
     let len : length (map (table u) order) ≡ n = length-map order (table u) ∙ named.every_label in
@@ -54,7 +54,7 @@ destinations n order labels table named full u hu =
           rw (port_at_label order table u d (rw named.every_label hd)) (full.some u (slice_index order d) hu (named.node d hd) other);
     }
 
-module _ (n : ℕ) (order labels : List ℕ) (table : ℕ → ℕ → Option ℕ) (rows : List (List Start)) (named : AreLabels n order labels) (full : IsFull n table) (stand : AreRows n order labels table rows) where
+module _ (n : ℕ) (order labels : List ℕ) (table : ℕ → ℕ → Option ℕ) (rows : List (List Start)) (named : AreLabels n order labels) (full : IsFullTable n table) (stand : AreRows n order labels table rows) where
   -- the rows show the table's port
   pub shown_same : (u d : ℕ) → u < n → d < n → shown_port labels rows u d ≡ table u d
   shown_same u d hu hd =
@@ -72,7 +72,7 @@ module _ (n : ℕ) (order labels : List ℕ) (table : ℕ → ℕ → Option ℕ
       ]
 
 -- tables that agree on the nodes prescribe the same walks
-pub same_walk : (net : Network) → IsNetwork net → (t s : ℕ → ℕ → Option ℕ) (d : ℕ) → ((x : ℕ) → x < node_count net → s x d ≡ t x d)
+pub same_walk : (net : Topology) → IsTopology net → (t s : ℕ → ℕ → Option ℕ) (d : ℕ) → ((x : ℕ) → x < node_count net → s x d ≡ t x d)
     → (u : ℕ) → u < node_count net → (walk : List ℕ) → IsPrescribedWalk net t u d walk → IsPrescribedWalk net s u d walk
 same_walk net ok t s d same u hu [] is = is
 same_walk net ok t s d same u hu (x ∷ rest) is = (is.0, continues_agree net ok t s d (λ x hx. sym (same x hx)) u hu rest is.1)
@@ -86,7 +86,7 @@ map_same n f g same (x ∷ xs) small =
     rw (here, rest) refl
 
 -- tables that agree on the nodes are both of a kind
-same_table : (kind : Kind) (net : Network) (order parents labels : List ℕ) (t s : ℕ → ℕ → Option ℕ) → AreLabels (node_count net) order labels
+same_table : (kind : Kind) (net : Topology) (order parents labels : List ℕ) (t s : ℕ → ℕ → Option ℕ) → AreLabels (node_count net) order labels
     → ((u d : ℕ) → u < node_count net → d < node_count net → s u d ≡ t u d) → IsTableOf kind net order parents t → IsTableOf kind net order parents s
 same_table Tree net order parents labels t s named same is = record {
   own = λ d hd. same d d hd hd ∙ is.own d hd;
@@ -108,25 +108,25 @@ same_table Compact net order parents labels t s named same is = record {
 }
 
 -- a table of any kind is full
-pub full_table : (kind : Kind) (net : Network) (order parents : List ℕ) (t : ℕ → ℕ → Option ℕ) → IsTableOf kind net order parents t → IsFull (node_count net) t
+pub full_table : (kind : Kind) (net : Topology) (order parents : List ℕ) (t : ℕ → ℕ → Option ℕ) → IsTableOf kind net order parents t → IsFullTable (node_count net) t
 full_table Tree net order parents t is = record { own = is.own; some = λ u d hu hd ne. rw (is.port u d hu hd ne).3 refl }
 full_table Compact net order parents t is = record { own = is.nearer.own; some = λ u d hu hd ne. rw (is.nearer.port u d hu hd ne).1 refl }
 full_table Shortest net order parents t is = record { own = is.own; some = λ u d hu hd ne. rw (is.port u d hu hd ne).1 refl }
 
--- the numbers and rows of a full table make a scheme
-pub scheme_stands : (kind : Kind) (root : ℕ) (net : Network) (order parents labels : List ℕ) (table : ℕ → ℕ → Option ℕ) (rows : List (List Start))
-    → IsNetwork net → IsConnected net → root < node_count net → (kind ≡ Tree → IsDepthFirst (neighbors_of net) (node_count net) root order parents) → slice_index order 0 ≡ root
+-- the numbers and rows of a full table make a plan
+pub plan_stands : (kind : Kind) (root : ℕ) (net : Topology) (order parents labels : List ℕ) (table : ℕ → ℕ → Option ℕ) (rows : List (List Start))
+    → IsTopology net → IsConnected net → root < node_count net → (kind ≡ Tree → IsDepthFirst (neighbors_of net) (node_count net) root order parents) → slice_index order 0 ≡ root
     → AreLabels (node_count net) order labels → IsTableOf kind net order parents table
     → ((u d : ℕ) → u < node_count net → d < node_count net → (walk : List ℕ) × IsPrescribedWalk net table u d walk × (length walk ≤ node_count net))
-    → AreRows (node_count net) order labels table rows → IsScheme (scheme_with kind root net order labels rows)
-scheme_stands kind root net order parents labels table rows ok connected in_range depth first named is walks stand =
+    → AreRows (node_count net) order labels table rows → IsPlan (plan_with kind root net order labels rows)
+plan_stands kind root net order parents labels table rows ok connected in_range depth first named is walks stand =
     let n = node_count net in
-    let s = scheme_with kind root net order labels rows in
+    let s = plan_with kind root net order labels rows in
     let full = full_table kind net order parents table is in
     let same : (u d : ℕ) → u < n → d < n → table_port s u d ≡ table u d =
     λ u d hu hd. shown_at n labels rows u d hu hd ∙ shown_same n order labels table rows named full stand u d hu hd in
     record {
-      network = ok;
+      topology = ok;
       connected = connected;
       root_in = in_range;
       parents = parents;
@@ -143,9 +143,9 @@ scheme_stands kind root net order parents labels table rows ok connected in_rang
           subst (λ (xs : List (Option ℕ)). IsCanonical n (slice_index labels u) xs (slice_index_or rows u [])) ports (stand.canonical u hu);
     }
 
-module _ (kind : Kind) (root : ℕ) (net : Network) (order labels : List ℕ) (rows : List (List Start)) (is : IsScheme (scheme_with kind root net order labels rows)) (u a : ℕ) (hu : u < node_count net) (ha : a < node_count net) (other : a ≢ slice_index labels u) where
-  -- the scheme's port to the node with a label is the one that the row shows at the label
-  pub port_shown : table_port (scheme_with kind root net order labels rows) u (slice_index order a) ≡ row_port (slice_index_or rows u []) a
+module _ (kind : Kind) (root : ℕ) (net : Topology) (order labels : List ℕ) (rows : List (List Start)) (is : IsPlan (plan_with kind root net order labels rows)) (u a : ℕ) (hu : u < node_count net) (ha : a < node_count net) (other : a ≢ slice_index labels u) where
+  -- the plan's port to the node with a label is the one that the row shows at the label
+  pub port_shown : table_port (plan_with kind root net order labels rows) u (slice_index order a) ≡ row_port (slice_index_or rows u []) a
   port_shown =
       let named = is.labels in
       let apart : u ≢ slice_index order a = λ e. other (sym (ap (slice_index labels) e ∙ named.back a ha)) in
@@ -156,7 +156,7 @@ module _ (kind : Kind) (root : ℕ) (net : Network) (order labels : List ℕ) (r
   pub row_filled : 0 < length (slice_index_or rows u [])
   row_filled =
       let named = is.labels in
-      let s = scheme_with kind root net order labels rows in
+      let s = plan_with kind root net order labels rows in
       let apart : u ≢ slice_index order a = λ e. other (sym (ap (slice_index labels) e ∙ named.back a ha)) in
       let some = (full_table kind net order is.parents (table_port s) is.table).some u (slice_index order a) hu (named.node a ha) apart in
       shows (row_port (slice_index_or rows u []) a) refl (rw (sym port_shown) some)
@@ -166,16 +166,16 @@ module _ (kind : Kind) (root : ℕ) (net : Network) (order labels : List ℕ) (r
       shows (Some p) e h = shown_some (slice_index_or rows u []) a p e
 
 -- the ports of a node, by label, are a list of destinations, which its row fits with the fewest intervals
-module _ (s : Scheme) (is : IsScheme s) (u : ℕ) (hu : u < node_count s.network) where
-  pub row_destinations : IsDestinations (node_count s.network) (label_in s u) (by_label s u)
+module _ (s : Plan) (is : IsPlan s) (u : ℕ) (hu : u < node_count s.topology) where
+  pub row_destinations : IsDestinations (node_count s.topology) (label_in s u) (by_label s u)
   row_destinations =
-      destinations (node_count s.network) s.order s.labels (table_port s) is.labels (full_table s.kind s.network s.order is.parents (table_port s) is.table) u hu
+      destinations (node_count s.topology) s.order s.labels (table_port s) is.labels (full_table s.kind s.topology s.order is.parents (table_port s) is.table) u hu
 
-  pub row_fits : Fits (node_count s.network) (label_in s u) (by_label s u) (intervals_of (row_in s u))
-  row_fits = canonical_fits (node_count s.network) (label_in s u) (by_label s u) row_destinations (row_in s u) (is.rows u hu)
+  pub row_fits : Fits (node_count s.topology) (label_in s u) (by_label s u) (intervals_of (row_in s u))
+  row_fits = canonical_fits (node_count s.topology) (label_in s u) (by_label s u) row_destinations (row_in s u) (is.rows u hu)
 
-  pub row_fewest : IsFewest (node_count s.network) (label_in s u) (by_label s u) (length (row_in s u))
-  row_fewest = canonical_is_fewest (node_count s.network) (label_in s u) (by_label s u) row_destinations (row_in s u) (is.rows u hu)
+  pub row_fewest : IsFewest (node_count s.topology) (label_in s u) (by_label s u) (length (row_in s u))
+  row_fewest = canonical_is_fewest (node_count s.topology) (label_in s u) (by_label s u) row_destinations (row_in s u) (is.rows u hu)
 
 -- a canonical row has at most as many starts as there are labels
 pub short_row : (n own : ℕ) (ports : List (Option ℕ)) (row : List Start) → IsCanonical n own ports row → length row ≤ n
@@ -190,9 +190,9 @@ short_row n own ports row is =
     omega arith
 
 -- all rows together have at most n times n starts
-pub few_starts : (s : Scheme) → IsScheme s → sum_by length s.rows ≤ node_count s.network * node_count s.network
+pub few_starts : (s : Plan) → IsPlan s → sum_by length s.rows ≤ node_count s.topology * node_count s.topology
 few_starts s is =
-    let n = node_count s.network in
+    let n = node_count s.topology in
     let short : All (λ (row : List Start). length row ≤ n) s.rows = λ u d h.
     let hu : u < n = omega (arith, is.row_of_each) in
     subst (λ (row : List Start). length row ≤ n) (get_or_default s.rows u [] d h) (short_row n (label_in s u) (by_label s u) (row_in s u) (is.rows u hu)) in

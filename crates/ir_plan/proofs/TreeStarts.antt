@@ -9,8 +9,8 @@ use Rattle.ir_model.specs.Subtree.{IsUnder, itself, child, IsSubtree, IsNested}
 use Rattle.ir_model.specs.Row.{Start, labels as start_labels, IsAscending}
 use Rattle.ir_model.specs.Compiled.{label_after}
 use Rattle.ir_model.specs.declared.Kind.TheVariants.{Tree}
-use Rattle.ir_model.specs.Network.{node_count}
-use Rattle.ir_model.specs.Scheme.{Scheme, IsScheme, AreLabels, table_port, label_in, row_in, by_label}
+use Rattle.ir_model.specs.Topology.{node_count}
+use Rattle.ir_model.specs.Plan.{Plan, IsPlan, AreLabels, table_port, label_in, row_in, by_label}
 use Rattle.ir_model.proofs.Rows.{rises}
 use Rattle.ir_plan.specs.TreeRows.{subtree_end}
 use Rattle.ir_numbering.proofs.Nested.{subtree_of}
@@ -151,12 +151,12 @@ tree_starts n parents order labels rows some named nest every tree =
     omega arith
 
 -- all rows of a tree plan of n nodes have 2 (n - 1) starts
-pub tree_plan_starts : (s : Scheme) → IsScheme s → s.kind ≡ Tree → sum_by length s.rows ≡ 2 * (node_count s.network - 1)
+pub tree_plan_starts : (s : Plan) → IsPlan s → s.kind ≡ Tree → sum_by length s.rows ≡ 2 * (node_count s.topology - 1)
 tree_plan_starts s is tree =
-    let n = node_count s.network in
+    let n = node_count s.topology in
     let root = is.root_in in
     let row : (u : ℕ) → u < n → (size : ℕ) × IsRowOfTree n is.parents (label_in s u) size (row_in s u) = λ u hu.
-    let ports = tree_ports s.network s.order is.parents s.labels s.root (is.numbering tree) is.labels (table_port s) (tree_of s is tree) is.network u hu in
+    let ports = tree_ports s.topology s.order is.parents s.labels s.root (is.numbering tree) is.labels (table_port s) (tree_of s is tree) is.topology u hu in
     let sub = subtree_of n is.parents (nests s is tree) (label_in s u) (is.labels.label u hu) in (
       sub.0,
       record {

@@ -1,22 +1,22 @@
 -- The marks of the tied ports that the rows of a compact plan are chosen from, and what the rows are.
 use Rattle.std.specs.Prelude.{◌≡◌, ◌↔◌, ℕ, ◌<◌, Bool, true, false, Contains, List, length, slice_index, slice_index_or}
-use Rattle.ir_model.specs.Network.{Network, node_count}
+use Rattle.ir_model.specs.Topology.{Topology, node_count}
 use Rattle.ir_model.specs.Interval.{PortInterval}
 use Rattle.ir_model.specs.Choices.{FitsChoices, IsFewestOfChoices}
-use Rattle.ir_model.specs.Scheme.{Scheme, label_in}
+use Rattle.ir_model.specs.Plan.{Plan, label_in}
 use Rattle.ir_model.specs.Compact.{IsTied}
 use Rattle.ir_model.specs.Table.{LeadsNearer}
 
 -- the intervals give each label but that of u a port that leads nearer to its node
-abbrev pub FitsTied : Scheme → ℕ → List PortInterval → Type 0
-FitsTied s u set = FitsChoices (node_count s.network) (label_in s u) (IsTied s.network s.order (label_in s u)) set
+abbrev pub FitsTied : Plan → ℕ → List PortInterval → Type 0
+FitsTied s u set = FitsChoices (node_count s.topology) (label_in s u) (IsTied s.topology s.order (label_in s u)) set
 
 -- no set of intervals that gives each label but that of u a port that leads nearer has fewer members
-abbrev pub IsFewestOfTied : Scheme → ℕ → ℕ → Type 0
-IsFewestOfTied s u count = IsFewestOfChoices (node_count s.network) (label_in s u) (IsTied s.network s.order (label_in s u)) count
+abbrev pub IsFewestOfTied : Plan → ℕ → ℕ → Type 0
+IsFewestOfTied s u count = IsFewestOfChoices (node_count s.topology) (label_in s u) (IsTied s.topology s.order (label_in s u)) count
 
 -- the marks of the port p of u, by label: where it leads nearer
-pub record AreTiedMarks (net : Network) (order : List ℕ) (u p : ℕ) (row : List Bool) : Type 0 where
+pub record AreTiedMarks (net : Topology) (order : List ℕ) (u p : ℕ) (row : List Bool) : Type 0 where
   pub every : length row ≡ node_count net
   pub marks : (d : ℕ) → d < node_count net → (slice_index_or row d false ≡ true) ↔ LeadsNearer net u (slice_index order d) p
 
@@ -26,5 +26,5 @@ pub record AreMarksOf (n : ℕ) (order nodes : List ℕ) (row : List Bool) : Typ
   pub marks : (d : ℕ) → d < n → (slice_index_or row d false ≡ true) ↔ Contains nodes (slice_index order d)
 
 -- the label d is that of a node, and the port p of the node with the label a leads nearer to it
-abbrev pub MayTake : Network → List ℕ → ℕ → ℕ → ℕ → Type 0
+abbrev pub MayTake : Topology → List ℕ → ℕ → ℕ → ℕ → Type 0
 MayTake net order a d p = (d < node_count net) × IsTied net order a d p

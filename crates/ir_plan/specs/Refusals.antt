@@ -7,11 +7,11 @@ use Rattle.ir_numbering.specs.declared.error.NumberError.TheVariants as number
 use Rattle.ir_tables.specs.declared.table.TableError.{TableError}
 use Rattle.ir_tables.specs.declared.table.TableError.TheVariants as table
 
-abbrev pub code_of : PlanError → ℕ
-code_of NoNode = 1
-code_of Empty = 2
-code_of Disconnected = 3
-code_of NoMemory = 4
+abbrev pub plan_code : PlanError → ℕ
+plan_code NoNode = 1
+plan_code Empty = 2
+plan_code Disconnected = 3
+plan_code NoMemory = 4
 
 abbrev pub from_number : NumberError → PlanError
 from_number number.NoNode = NoNode

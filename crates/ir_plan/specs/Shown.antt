@@ -1,13 +1,13 @@
--- The full table that rows of starts stand for, and the scheme that numbers and rows make.
+-- The full table that rows of starts stand for, and the plan that numbers and rows make.
 use Rattle.std.specs.Prelude.{◌≡◌, ◌≢◌, ◌==◌, IsSome, ℕ, ◌<◌, ◌≤◌, Bool, ◌&&◌, ◌||◌, nat_lt, nat_le, if◌then◌else◌, Option, None, List, [], length, map, find, option_map, slice_index, slice_index_or}
 use Rattle.std.specs.List.{range_with_len}
 use Rattle.ir_model.specs.declared.Kind.{Kind}
-use Rattle.ir_model.specs.Network.{Network, node_count}
+use Rattle.ir_model.specs.Topology.{Topology, node_count}
 use Rattle.ir_model.specs.Interval.{PortInterval}
 use Rattle.ir_model.specs.Row.{Start, intervals_of}
 use Rattle.ir_model.specs.Compiled.{IsCanonical}
 use Rattle.ir_model.specs.Table.{IsPrescribedWalk}
-use Rattle.ir_model.specs.Scheme.{Scheme, IsTableOf}
+use Rattle.ir_model.specs.Plan.{Plan, IsTableOf}
 
 -- whether the cyclic interval has the label d
 abbrev pub has_label : ℕ → PortInterval → Bool
@@ -25,12 +25,12 @@ shown_port labels rows u d = if u == d then None else row_port (slice_index_or r
 unfoldable pub shown_table : ℕ → List ℕ → List (List Start) → List (List (Option ℕ))
 shown_table n labels rows = map (λ u. map (shown_port labels rows u) (range_with_len 0 n)) (range_with_len 0 n)
 
--- the scheme of these numbers and rows
-abbrev pub scheme_with : Kind → ℕ → Network → List ℕ → List ℕ → List (List Start) → Scheme
-scheme_with kind root net order labels rows = record {
+-- the plan of these numbers and rows
+abbrev pub plan_with : Kind → ℕ → Topology → List ℕ → List ℕ → List (List Start) → Plan
+plan_with kind root net order labels rows = record {
   kind = kind;
   root = root;
-  network = net;
+  topology = net;
   order = order;
   labels = labels;
   table = shown_table (node_count net) labels rows;
@@ -43,12 +43,12 @@ pub record AreRows (n : ℕ) (order labels : List ℕ) (table : ℕ → ℕ → 
   pub canonical : (u : ℕ) → u < n → IsCanonical n (slice_index labels u) (map (table u) order) (slice_index_or rows u [])
 
 -- a table names a port at each pair of two nodes, and none at a pair of one
-pub record IsFull (n : ℕ) (table : ℕ → ℕ → Option ℕ) : Type 0 where
+pub record IsFullTable (n : ℕ) (table : ℕ → ℕ → Option ℕ) : Type 0 where
   pub own : (d : ℕ) → d < n → table d d ≡ None
   pub some : (u d : ℕ) → u < n → d < n → u ≢ d → IsSome (table u d)
 
 -- the rows stand for a full table of a kind, whose prescribed walks exist and are short
-abbrev pub StandForTable : Kind → Network → List ℕ → List ℕ → List ℕ → List (List Start) → Type 0
+abbrev pub StandForTable : Kind → Topology → List ℕ → List ℕ → List ℕ → List (List Start) → Type 0
 StandForTable kind net order parents labels rows =
     (table : ℕ → ℕ → Option ℕ) × IsTableOf kind net order parents table
     × ((u d : ℕ) → u < node_count net → d < node_count net → (walk : List ℕ) × IsPrescribedWalk net table u d walk × (length walk ≤ node_count net))

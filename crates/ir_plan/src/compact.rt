@@ -2,10 +2,10 @@
 
 ghost use Rattle.std.specs.Prelude.{◌≡◌, ◌<◌, ℕ, Contains, IfOk, length, slice_index};
 ghost use Rattle.ir_model.specs.declared.Kind.TheVariants.{Compact};
-ghost use Rattle.ir_model.specs.Network.{node_count, ports_of};
+ghost use Rattle.ir_model.specs.Topology.{node_count, ports_of};
 ghost use Rattle.ir_model.specs.Walk.{IsConnected};
 ghost use Rattle.ir_model.proofs.Steps.{AreLongest};
-ghost use Rattle.ir_model.specs.Scheme.{AreLabels};
+ghost use Rattle.ir_model.specs.Plan.{AreLabels};
 ghost use Rattle.ir_tables.specs.FromNode.{AreFrom};
 ghost use Rattle.ir_compile.specs.Runs.{HasMarked};
 ghost use Rattle.ir_plan.specs.NodeRows.{IsNodeRow, ArePortsOf};

@@ -1,6 +1,6 @@
 //! How far apart nodes are as destinations: how many nodes send them by different ports.
 ghost use Rattle.std.specs.Prelude.{◌≡◌, ◌<◌, ◌≤◌, All, IfOk, length, vec_len};
-ghost use Rattle.ir_model.specs.Network.{node_count};
+ghost use Rattle.ir_model.specs.Topology.{node_count};
 ghost use Rattle.ir_plan.specs.declared.TheConstants.{MOST_TOUR_NODES};
 
 use crate::MOST_TOUR_NODES;
@@ -31,8 +31,8 @@ impl Distances {
         plan: &Plan,
         most: Option<usize>,
     ) -> Result<Distances, AllocError>
-        requires { node_count plan.now.network ≤ MOST_TOUR_NODES }
-        ensures { IfOk result (λ far. far.nodes ≡ node_count plan.now.network) }
+        requires { node_count plan.now.topology ≤ MOST_TOUR_NODES }
+        ensures { IfOk result (λ far. far.nodes ≡ node_count plan.now.topology) }
     {
         let nodes = plan.nodes();
         let columns = columns_of(rt, alloc, plan, most)?;
@@ -71,9 +71,9 @@ fn columns_of(
     plan: &Plan,
     most: Option<usize>,
 ) -> Result<Vec<Vec<u16>>, AllocError>
-    ensures every { IfOk result (λ columns. length columns.items ≡ node_count plan.now.network) }
+    ensures every { IfOk result (λ columns. length columns.items ≡ node_count plan.now.topology) }
     ensures each { IfOk result (λ columns.
-        All (λ column. length column.items ≡ node_count plan.now.network) columns.items) }
+        All (λ column. length column.items ≡ node_count plan.now.topology) columns.items) }
 {
     let nodes = plan.nodes();
     (0..nodes)
@@ -81,8 +81,8 @@ fn columns_of(
         .with_min_len(rows_of_a_thread(nodes, most))
         .map(
             |d: usize| -> Result<Vec<u16>, AllocError>
-                requires { d < node_count plan.now.network }
-                ensures { IfOk result (λ column. length column.items ≡ node_count plan.entry.now.network) }
+                requires { d < node_count plan.now.topology }
+                ensures { IfOk result (λ column. length column.items ≡ node_count plan.entry.now.topology) }
             { column(alloc, plan, d) },
         )
         .collect::<Result<Vec<Vec<u16>>, AllocError>>(rt, alloc)?
@@ -90,8 +90,8 @@ fn columns_of(
 
 // The ports of all nodes to one, by their numbers.
 fn column(alloc: Global, plan: &Plan, d: usize) -> Result<Vec<u16>, AllocError>
-    requires { d < node_count plan.now.network }
-    ensures { IfOk result (λ column. length column.items ≡ node_count plan.now.network) }
+    requires { d < node_count plan.now.topology }
+    ensures { IfOk result (λ column. length column.items ≡ node_count plan.now.topology) }
 {
     let nodes = plan.nodes();
     let label = plan.label_of(d as u16);

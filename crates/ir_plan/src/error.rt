@@ -1,5 +1,5 @@
 ghost use Rattle.std.specs.Prelude.{◌≡◌};
-ghost use Rattle.ir_plan.specs.Refusals.{code_of, from_number, from_table};
+ghost use Rattle.ir_plan.specs.Refusals.{plan_code, from_number, from_table};
 ghost use Rattle.ir_plan.specs.declared.error.PlanError.TheVariants.{NoMemory};
 
 use ir_numbering::NumberError;
@@ -27,7 +27,7 @@ pub enum PlanError {
 impl PlanError {
     /// The number of the refusal: 1 NoNode, 2 Empty, 3 Disconnected, 4 NoMemory. For users of the library.
     pub fn code(self) -> u8
-        ensures { result ≡ code_of self }
+        ensures { result ≡ plan_code self }
     {
         match self {
             PlanError::NoNode => 1,

@@ -1,11 +1,11 @@
 ghost use Rattle.std.specs.Prelude.{◌-◌, ◌*◌, ◌≡◌, ◌≢◌, ◌↔◌, ◌<◌, ◌≤◌, Some, length, slice_index, sum_by, IfOk, IfErr, OnOk};
 ghost use Rattle.ir_model.specs.Numbering.{IsDepthFirst, neighbors_of};
-ghost use Rattle.ir_model.specs.Network.{node_count, port_at, ports_of};
+ghost use Rattle.ir_model.specs.Topology.{node_count, port_at, ports_of};
 ghost use Rattle.ir_model.specs.Walk.{IsConnected, IsDisconnected};
-ghost use Rattle.ir_model.specs.Scheme.{AreLabels, IsScheme, HasDepthFirst, by_label, label_in, node_in, table_port, row_in};
+ghost use Rattle.ir_model.specs.Plan.{AreLabels, IsPlan, HasDepthFirst, by_label, label_in, node_in, table_port, row_in};
 ghost use Rattle.ir_model.specs.Row.{intervals_of};
 ghost use Rattle.ir_model.specs.Compiled.{Fits, IsFewest};
-ghost use Rattle.ir_numbering.specs.Numbers.{IsListing, IsNumberingOf};
+ghost use Rattle.ir_numbering.specs.Numbering.{IsListing, IsNumberingOf};
 ghost use Rattle.ir_plan.specs.Shown.{StandForTable};
 ghost use Rattle.ir_plan.specs.CompactRows.{FitsTied, IsFewestOfTied};
 ghost use Rattle.ir_plan.specs.TreeRows.{HasTreeRow};
@@ -34,14 +34,14 @@ pub struct Plan {
 }
 
 impl Model for Plan {
-    ghost use Rattle.ir_model.specs.Scheme.{Scheme, IsScheme};
-    ghost use Rattle.ir_plan.specs.Views.{scheme_of};
+    ghost use Rattle.ir_model.specs.Plan.{Plan, IsPlan};
+    ghost use Rattle.ir_plan.specs.Views.{plan_view};
 
-    ghost Value = { Scheme };
+    ghost Value = { Plan };
 
-    ghost view = { scheme_of };
+    ghost view = { plan_view };
 
-    ghost invariant = { λ p. IsScheme (scheme_of p) };
+    ghost invariant = { λ p. IsPlan (plan_view p) };
 }
 
 impl Plan {
@@ -60,8 +60,8 @@ impl Plan {
     ) -> Result<Plan, (PlanError, Topology)>
         ensures kind { IfOk result (λ p. p.kind ≡ kind) }
         ensures root { IfOk result (λ p. p.root ≡ root) }
-        ensures network { IfOk result (λ p. p.network ≡ topology) }
-        ensures scheme { IfOk result (λ p. IsScheme p) }
+        ensures topology { IfOk result (λ p. p.topology ≡ topology) }
+        ensures plan { IfOk result (λ p. IsPlan p) }
         ensures numbers { IfOk result (λ p. HasDepthFirst p) }
         ensures back { IfErr result (λ e. e.1 ≡ topology) }
         ensures empty { IfErr result (λ e. (e.0 ≡ PlanError.Empty) ↔ (node_count topology ≡ 0)) }
@@ -95,8 +95,8 @@ impl Plan {
     ) -> Result<Plan, (PlanError, Topology)>
         ensures kind { IfOk result (λ p. p.kind ≡ kind) }
         ensures root { IfOk result (λ p. p.root ≡ root) }
-        ensures network { IfOk result (λ p. p.network ≡ topology) }
-        ensures scheme { IfOk result (λ p. IsScheme p) }
+        ensures topology { IfOk result (λ p. p.topology ≡ topology) }
+        ensures plan { IfOk result (λ p. IsPlan p) }
         ensures numbers { IfOk result (λ p. HasDepthFirst p) }
         ensures back { IfErr result (λ e. e.1 ≡ topology) }
         ensures empty { IfErr result (λ e. (e.0 ≡ PlanError.Empty) ↔ (node_count topology ≡ 0)) }
@@ -122,8 +122,8 @@ impl Plan {
     ) -> Result<Plan, (PlanError, Topology)>
         ensures kind { IfOk result (λ p. p.kind ≡ kind) }
         ensures root { IfOk result (λ p. p.root ≡ root) }
-        ensures network { IfOk result (λ p. p.network ≡ topology) }
-        ensures scheme { IfOk result (λ p. IsScheme p) }
+        ensures topology { IfOk result (λ p. p.topology ≡ topology) }
+        ensures plan { IfOk result (λ p. IsPlan p) }
         ensures numbers { IfOk result (λ p. HasDepthFirst p) }
         ensures back { IfErr result (λ e. e.1 ≡ topology) }
         ensures empty { IfErr result (λ e. (e.0 ≡ PlanError.Empty) ↔ (node_count topology ≡ 0)) }
@@ -158,8 +158,8 @@ impl Plan {
         requires order { IsListing (node_count topology) order.items }
         ensures kind { IfOk result (λ p. p.kind ≡ kind) }
         ensures order { IfOk result (λ p. p.order ≡ order.items) }
-        ensures network { IfOk result (λ p. p.network ≡ topology) }
-        ensures scheme { IfOk result (λ p. IsScheme p) }
+        ensures topology { IfOk result (λ p. p.topology ≡ topology) }
+        ensures plan { IfOk result (λ p. IsPlan p) }
         ensures back { IfErr result (λ e. e.1 ≡ topology) }
         ensures empty { IfErr result (λ e. (e.0 ≡ PlanError.Empty) ↔ (node_count topology ≡ 0)) }
         ensures no_node { IfErr result (λ e. e.0 ≢ PlanError.NoNode) }
@@ -195,8 +195,8 @@ impl Plan {
         requires order { IsListing (node_count topology) order.items }
         ensures kind { IfOk result (λ p. p.kind ≡ kind) }
         ensures order { IfOk result (λ p. p.order ≡ order.items) }
-        ensures network { IfOk result (λ p. p.network ≡ topology) }
-        ensures scheme { IfOk result (λ p. IsScheme p) }
+        ensures topology { IfOk result (λ p. p.topology ≡ topology) }
+        ensures plan { IfOk result (λ p. IsPlan p) }
         ensures back { IfErr result (λ e. e.1 ≡ topology) }
         ensures empty { IfErr result (λ e. (e.0 ≡ PlanError.Empty) ↔ (node_count topology ≡ 0)) }
         ensures no_node { IfErr result (λ e. e.0 ≢ PlanError.NoNode) }
@@ -221,8 +221,8 @@ impl Plan {
         requires order { IsListing (node_count topology) order.items }
         ensures kind { IfOk result (λ p. p.kind ≡ kind) }
         ensures order { IfOk result (λ p. p.order ≡ order.items) }
-        ensures network { IfOk result (λ p. p.network ≡ topology) }
-        ensures scheme { IfOk result (λ p. IsScheme p) }
+        ensures topology { IfOk result (λ p. p.topology ≡ topology) }
+        ensures plan { IfOk result (λ p. IsPlan p) }
         ensures back { IfErr result (λ e. e.1 ≡ topology) }
         ensures empty { IfErr result (λ e. (e.0 ≡ PlanError.Empty) ↔ (node_count topology ≡ 0)) }
         ensures no_node { IfErr result (λ e. e.0 ≢ PlanError.NoNode) }
@@ -260,9 +260,9 @@ impl Plan {
             numbering.labels made.items) }
         ensures kind { IfOk result (λ p. p.kind ≡ kind) }
         ensures root { IfOk result (λ p. p.root ≡ root) }
-        ensures network { IfOk result (λ p. p.network ≡ topology) }
+        ensures topology { IfOk result (λ p. p.topology ≡ topology) }
         ensures order { IfOk result (λ p. p.order ≡ numbering.order) }
-        ensures scheme { IfOk result (λ p. IsScheme p) }
+        ensures plan { IfOk result (λ p. IsPlan p) }
         ensures back { IfErr result (λ e. e.1 ≡ topology) }
         ensures memory { IfErr result (λ e. e.0 ≡ PlanError.NoMemory) }
     {
@@ -281,8 +281,8 @@ impl Plan {
 
     /// How many nodes there are.
     pub fn nodes(&self) -> usize
-        ensures count { result ≡ node_count self.now.network }
-        ensures scheme { IsScheme self.now }
+        ensures count { result ≡ node_count self.now.topology }
+        ensures plan { IsPlan self.now }
     {
         self.topology.nodes()
     }
@@ -303,14 +303,14 @@ impl Plan {
 
     /// The plan's own topology.
     pub fn topology(&self) -> &Topology
-        ensures { result.now ≡ self.now.network }
+        ensures { result.now ≡ self.now.topology }
     {
         &self.topology
     }
 
     /// The plan's own topology; the rest of the plan is let go.
     pub fn into_topology(self) -> Topology
-        ensures { result ≡ self.network }
+        ensures { result ≡ self.topology }
     {
         let Plan {
             topology,
@@ -323,16 +323,16 @@ impl Plan {
     }
 
     /// The label of a node: its place in the order of the nodes.
-    pub fn label_of(&self, u: u16) -> u16
-        requires { u < node_count self.now.network }
-        ensures { result ≡ label_in self.now u }
+    pub fn label_of(&self, node: u16) -> u16
+        requires { node < node_count self.now.topology }
+        ensures { result ≡ label_in self.now node }
     {
-        self.numbering.label_of(u)
+        self.numbering.label_of(node)
     }
 
     /// The node with a label. For users of the library.
     pub fn node_of(&self, label: u16) -> u16
-        requires { label < node_count self.now.network }
+        requires { label < node_count self.now.topology }
         ensures { result ≡ node_in self.now label }
     {
         self.numbering.node_of(label)
@@ -340,49 +340,49 @@ impl Plan {
 
     /// The port of a node to the node with a label, by the node's row: that of the full table. None at the own label.
     /// Takes O(log k), for k starts of the row.
-    pub fn port(&self, u: u16, address: u16) -> Option<u16>
-        requires node { u < node_count self.now.network }
-        requires label { address < node_count self.now.network }
-        ensures { result ≡ table_port self.now u (node_in self.now address) }
+    pub fn port(&self, node: u16, address: u16) -> Option<u16>
+        requires node { node < node_count self.now.topology }
+        requires label { address < node_count self.now.topology }
+        ensures { result ≡ table_port self.now node (node_in self.now address) }
     {
         let numbering = &self.numbering;
-        if address == numbering.label_of(u) {
+        if address == numbering.label_of(node) {
             return None;
         }
-        Some(self.rows[u as usize].find(address))
+        Some(self.rows[node as usize].find(address))
     }
 
     /// Where a port of a node leads.
-    pub fn hop(&self, u: u16, p: u16) -> Hop
-        requires node { u < node_count self.now.network }
-        requires port { p < length (ports_of self.now.network u) }
-        ensures { port_at self.now.network u p ≡ Some result }
+    pub fn hop(&self, node: u16, port: u16) -> Hop
+        requires node { node < node_count self.now.topology }
+        requires port { port < length (ports_of self.now.topology node) }
+        ensures { port_at self.now.topology node port ≡ Some result }
     {
-        self.topology.port(u, p)
+        self.topology.port(node, port)
     }
 
     /// The row of a node. It gives each address but the own its port in the full table, by the fewest intervals that do.
     /// In a tree plan it has exactly one start for each port to a son or the father, and no other (Santoro and Khatib
     /// 1985). In a compact plan each port leads nearer to its addresses' nodes, and no set of cyclic intervals is smaller that
     /// gives each address but the own such a port.
-    pub fn row(&self, u: u16) -> &Row
-        requires { u < node_count self.now.network }
-        ensures row { result.now ≡ row_in self.now u }
-        ensures fits { Fits (node_count self.now.network) (label_in self.now u) (by_label self.now u)
+    pub fn row(&self, node: u16) -> &Row
+        requires { node < node_count self.now.topology }
+        ensures row { result.now ≡ row_in self.now node }
+        ensures fits { Fits (node_count self.now.topology) (label_in self.now node) (by_label self.now node)
             (intervals_of result.now) }
-        ensures fewest { IsFewest (node_count self.now.network) (label_in self.now u) (by_label self.now u)
+        ensures fewest { IsFewest (node_count self.now.topology) (label_in self.now node) (by_label self.now node)
             (length result.now) }
-        ensures tree { self.now.kind ≡ Kind.Tree → HasTreeRow self.now u }
-        ensures tied { self.now.kind ≡ Kind.Compact → FitsTied self.now u (intervals_of result.now) }
-        ensures compact { self.now.kind ≡ Kind.Compact → IsFewestOfTied self.now u (length result.now) }
+        ensures tree { self.now.kind ≡ Kind.Tree → HasTreeRow self.now node }
+        ensures tied { self.now.kind ≡ Kind.Compact → FitsTied self.now node (intervals_of result.now) }
+        ensures compact { self.now.kind ≡ Kind.Compact → IsFewestOfTied self.now node (length result.now) }
     {
-        &self.rows[u as usize]
+        &self.rows[node as usize]
     }
 
     /// How many starts all rows have. In a tree plan of n nodes they are 2 (n - 1). Takes O(n).
     pub fn starts(&self) -> usize
         ensures starts { result ≡ sum_by length self.now.rows }
-        ensures tree { self.now.kind ≡ Kind.Tree → result ≡ 2 * (node_count self.now.network - 1) }
+        ensures tree { self.now.kind ≡ Kind.Tree → result ≡ 2 * (node_count self.now.topology - 1) }
     {
         let mut starts = 0;
         for row in &self.rows {

@@ -2,11 +2,11 @@
 
 ghost use Rattle.std.specs.Prelude.{◌≡◌, ◌<◌, IfOk, length, map, slice_index};
 ghost use Rattle.ir_model.specs.declared.Kind.TheVariants.{Tree, Shortest};
-ghost use Rattle.ir_model.specs.Network.{node_count};
+ghost use Rattle.ir_model.specs.Topology.{node_count};
 ghost use Rattle.ir_model.specs.Walk.{IsConnected};
-ghost use Rattle.ir_model.specs.Scheme.{AreLabels};
+ghost use Rattle.ir_model.specs.Plan.{AreLabels};
 ghost use Rattle.ir_model.specs.Compiled.{IsDestinations, IsCanonical};
-ghost use Rattle.ir_numbering.specs.Numbers.{IsNumberingOf};
+ghost use Rattle.ir_numbering.specs.Numbering.{IsNumberingOf};
 ghost use Rattle.ir_tables.specs.FromNode.{held_at};
 ghost use Rattle.ir_plan.specs.Shown.{StandForTable};
 ghost use Rattle.ir_plan.specs.NodeRows.{IsNodeRow};

@@ -1,10 +1,10 @@
 //! The plan over the order of a tour, where it has fewer starts than the depth-first plan, and the plan of either order.
 ghost use Rattle.std.specs.Prelude.{◌≡◌, ◌≢◌, ◌⊎◌, ◌↔◌, ◌<◌, ◌≤◌, IfOk, IfErr, IfSome, IsTrue, slice_index};
-ghost use Rattle.ir_model.specs.Network.{node_count};
-ghost use Rattle.ir_model.specs.Scheme.{HasDepthFirst, IsScheme};
+ghost use Rattle.ir_model.specs.Topology.{node_count};
+ghost use Rattle.ir_model.specs.Plan.{HasDepthFirst, IsPlan};
 ghost use Rattle.ir_model.specs.Walk.{IsDisconnected};
-ghost use Rattle.ir_numbering.specs.Numbers.{IsListing};
-ghost use Rattle.ir_plan.specs.Starts.{HasFewerStarts, HasNoMoreStarts, IsLabelledBy, starts_of};
+ghost use Rattle.ir_numbering.specs.Numbering.{IsListing};
+ghost use Rattle.ir_plan.specs.Starts.{HasFewerStarts, HasNoMoreStarts, IsLabelledBy, start_count};
 
 use crate::MOST_TOUR_NODES;
 use crate::distances::Distances;
@@ -42,8 +42,8 @@ pub fn plan_in_order(
 ) -> Result<Plan, (PlanError, Topology)>
     ensures kind { IfOk result (λ p. p.kind ≡ kind) }
     ensures root { IfOk result (λ p. p.root ≡ root) }
-    ensures network { IfOk result (λ p. p.network ≡ topology) }
-    ensures scheme { IfOk result (λ p. IsScheme p) }
+    ensures topology { IfOk result (λ p. p.topology ≡ topology) }
+    ensures plan { IfOk result (λ p. IsPlan p) }
     ensures labelled { IfOk result (λ p. IsLabelledBy labels p) }
     ensures back { IfErr result (λ e. e.1 ≡ topology) }
     ensures empty { IfErr result (λ e. (e.0 ≡ PlanError.Empty) ↔ (node_count topology ≡ 0)) }
@@ -73,8 +73,8 @@ pub fn plan_in_order_watched(
 ) -> Result<Plan, (PlanError, Topology)>
     ensures kind { IfOk result (λ p. p.kind ≡ kind) }
     ensures root { IfOk result (λ p. p.root ≡ root) }
-    ensures network { IfOk result (λ p. p.network ≡ topology) }
-    ensures scheme { IfOk result (λ p. IsScheme p) }
+    ensures topology { IfOk result (λ p. p.topology ≡ topology) }
+    ensures plan { IfOk result (λ p. IsPlan p) }
     ensures numbers { IfOk result (λ p. kind ≡ Kind.Tree → HasDepthFirst p) }
     ensures labelled { IfOk result (λ p. IsLabelledBy labels p) }
     ensures back { IfErr result (λ e. e.1 ≡ topology) }
@@ -116,8 +116,8 @@ pub fn tour_plan(
 ) -> Result<Plan, (PlanError, Topology)>
     ensures kind { IfOk result (λ p. p.kind ≡ kind) }
     ensures root { IfOk result (λ p. p.root ≡ root) }
-    ensures network { IfOk result (λ p. p.network ≡ topology) }
-    ensures scheme { IfOk result (λ p. IsScheme p) }
+    ensures topology { IfOk result (λ p. p.topology ≡ topology) }
+    ensures plan { IfOk result (λ p. IsPlan p) }
     ensures numbers { IfOk result (λ p. kind ≡ Kind.Tree → HasDepthFirst p) }
     ensures fewer { IfOk result (λ p. HasNoMoreStarts p) }
     ensures ties { IfOk result (λ p. HasDepthFirst p ⊎ HasFewerStarts p) }
@@ -154,9 +154,9 @@ fn plan_with_fewer(
     ensures other { IfOk result (λ found. IfSome found (λ _. plan.now.kind ≢ Kind.Tree)) }
     ensures kind { IfOk result (λ found. IfSome found (λ p. p.kind ≡ plan.now.kind)) }
     ensures root { IfOk result (λ found. IfSome found (λ p. p.root ≡ plan.now.root)) }
-    ensures network { IfOk result (λ found. IfSome found (λ p. p.network ≡ plan.now.network)) }
-    ensures scheme { IfOk result (λ found. IfSome found (λ p. IsScheme p)) }
-    ensures fewer { IfOk result (λ found. IfSome found (λ p. starts_of p < starts_of plan.now)) }
+    ensures topology { IfOk result (λ found. IfSome found (λ p. p.topology ≡ plan.now.topology)) }
+    ensures plan { IfOk result (λ found. IfSome found (λ p. IsPlan p)) }
+    ensures fewer { IfOk result (λ found. IfSome found (λ p. start_count p < start_count plan.now)) }
 {
     if labels == LabelOrder::DepthFirst {
         return Ok(None);
@@ -186,12 +186,12 @@ fn plan_over(
     watch: &(impl Watch + Sync),
 ) -> Result<Plan, AllocError>
     requires kind { plan.now.kind ≢ Kind.Tree }
-    requires order { IsListing (node_count plan.now.network) order.items }
+    requires order { IsListing (node_count plan.now.topology) order.items }
     requires root { slice_index order.items 0 ≡ plan.now.root }
     ensures kind { IfOk result (λ p. p.kind ≡ plan.now.kind) }
     ensures root { IfOk result (λ p. p.root ≡ plan.now.root) }
-    ensures network { IfOk result (λ p. p.network ≡ plan.now.network) }
-    ensures scheme { IfOk result (λ p. IsScheme p) }
+    ensures topology { IfOk result (λ p. p.topology ≡ plan.now.topology) }
+    ensures plan { IfOk result (λ p. IsPlan p) }
 {
     let topology = plan.topology().try_clone(alloc)?;
     match Plan::build_numbered_watched(rt, alloc, topology, plan.kind(), order, most, watch) {
@@ -208,7 +208,7 @@ fn tour(
     most: Option<usize>,
     watch: &(impl Watch + Sync),
 ) -> Result<Vec<u16>, AllocError>
-    requires { node_count plan.now.network ≤ MOST_TOUR_NODES }
+    requires { node_count plan.now.topology ≤ MOST_TOUR_NODES }
 {
     let _nodes = plan.nodes();
     let far = distances(rt, alloc, plan, most, watch)?;
@@ -225,8 +225,8 @@ fn distances(
     most: Option<usize>,
     watch: &(impl Watch + Sync),
 ) -> Result<Distances, AllocError>
-    requires { node_count plan.now.network ≤ MOST_TOUR_NODES }
-    ensures { IfOk result (λ far. far.nodes ≡ node_count plan.now.network) }
+    requires { node_count plan.now.topology ≤ MOST_TOUR_NODES }
+    ensures { IfOk result (λ far. far.nodes ≡ node_count plan.now.topology) }
 {
     if plan.kind() == Kind::Shortest {
         return Distances::of(rt, alloc, plan, most);

@@ -2,10 +2,10 @@
 
 ghost use Rattle.std.specs.Prelude.{◌≡◌, ◌<◌, ◌≤◌, IfOk, OnOk, length, slice_index};
 ghost use Rattle.ir_model.specs.declared.Kind.TheVariants.{Tree};
-ghost use Rattle.ir_model.specs.Network.{node_count, ports_of};
+ghost use Rattle.ir_model.specs.Topology.{node_count, ports_of};
 ghost use Rattle.ir_model.specs.Row.{Start};
 ghost use Rattle.ir_lookup.specs.Words.{start_of, starts_of};
-ghost use Rattle.ir_numbering.specs.Numbers.{IsNumberingOf};
+ghost use Rattle.ir_numbering.specs.Numbering.{IsNumberingOf};
 ghost use Rattle.ir_plan.specs.NodeRows.{IsNodeRow};
 ghost use Rattle.ir_plan.specs.SonStarts.{AreSonStarts, AreTreeStarts};
 

@@ -6,7 +6,7 @@ use Rattle.std.proofs.lemmas.List.Sorted.{Contains-permutation, IsPermutation-sy
 use Rattle.std.proofs.lemmas.List.{take_more}
 use Rattle.std.specs.List.{Contains}
 use Rattle.std.specs.List.Sorted.{IsPermutation}
-use Rattle.ir_prefix.specs.Joined.{is_among, is_named, IsShared, AreJoined}
+use Rattle.ir_prefix.specs.Joined.{is_among, is_named, IsShared, ArePortsOfBoth}
 use Rattle.ir_prefix.specs.Described.{IsJoin}
 
 pub among_at : (xs : List ℕ) (i p : ℕ) → i < length xs → get_or xs i 0 ≡ p → is_among xs p ≡ true
@@ -70,7 +70,7 @@ or_true true = refl
 or_true false = refl
 
 -- the names of two nodes that are not both free, joined
-pub joined_is_join : (a b c : List ℕ) → (0 < length a) ⊎ (0 < length b) → AreJoined a b c → IsJoin a b c
+pub joined_is_join : (a b c : List ℕ) → (0 < length a) ⊎ (0 < length b) → ArePortsOfBoth a b c → IsJoin a b c
 joined_is_join [] [] c n h = absurd (elim n [ inl l ↦ omega (arith, l) | inr l ↦ omega (arith, l) ])
 joined_is_join [] (y ∷ ys) [] n (inl s) = absurd (omega (arith, s.0))
 joined_is_join [] (y ∷ ys) (z ∷ zs) n (inl s) = let e = sym (head_among z zs) ∙ s.1 z in absurd cc
@@ -136,7 +136,7 @@ module _ (a ms xs : List ℕ) (i x : ℕ) (inside : i < length xs) (at : x ≡ g
       ]
 
 -- sorted, the ports of both lists, or those of one and then those of the other, are joined
-pub sorted_are_joined : (a b m s c : List ℕ) → IsShared a b m → ((length m ≡ 0) × (s ≡ a ++ b)) ⊎ ((0 < length m) × (s ≡ m)) → IsPermutation s c → AreJoined a b c
+pub sorted_are_joined : (a b m s c : List ℕ) → IsShared a b m → ((length m ≡ 0) × (s ≡ a ++ b)) ⊎ ((0 < length m) × (s ≡ m)) → IsPermutation s c → ArePortsOfBoth a b c
 sorted_are_joined a b [] s c shared (inl e) perm =
     inr (λ p. sym (shared p), λ p. among_permutation s c perm p ∙ ap (λ (l : List ℕ). is_among l p) e.1 ∙ among_append a b p)
 sorted_are_joined a b (x ∷ m) s c shared (inl e) perm = absurd (omega (arith, e.0))

@@ -11,7 +11,7 @@ use Rattle.std.specs.Int.Bits.{bit_and, bit_or}
 use Rattle.std.specs.List.Sorted.{IsNonDecreasing}
 use Rattle.ir_prefix.specs.Described.{IsJoin}
 use Rattle.ir_prefix.specs.Joined.{is_among, is_named}
-use Rattle.ir_prefix.specs.Marks.{low_ports, bit_of, AreBits, ports_in, joined_bits}
+use Rattle.ir_prefix.specs.Marks.{low_ports, bit_of, AreNameBits, ports_in, joined_bits}
 use Rattle.ir_prefix.proofs.AmongLemmas.{among_at, among_none, among_found, head_among, and_false, and_true}
 
 -- the low ports
@@ -126,7 +126,7 @@ least_is m fits some =
     omega (arith, le, up, at)
 
 -- numbers whose bits are the names
-pub ports_are_bits : (m p : ℕ) → bit_at m 63 ≡ 0 → p < 63 → bit_at m p ≡ 1 → AreBits (ports_in m) m
+pub ports_are_bits : (m p : ℕ) → bit_at m 63 ≡ 0 → p < 63 → bit_at m p ≡ 1 → AreNameBits (ports_in m) m
 ports_are_bits m p top low set = λ q.
     let some = some_in m p low set in
     elim q as (λ v. is_named (ports_in m) v ≡ (bit_at m (bit_of v) == 1)) [
@@ -138,14 +138,14 @@ ports_are_bits m p top low set = λ q.
           ]
     ]
 
-pub all_are_bits : AreBits [] (2 ^ 64 - 1)
+pub all_are_bits : AreNameBits [] (2 ^ 64 - 1)
 all_are_bits = λ q.
     elim q as (λ v. true ≡ (bit_at (2 ^ 64 - 1) (bit_of v) == 1)) [
       | None ↦ sym (eq-eqb (bit_at (2 ^ 64 - 1) 63) 1 (bit_at_ones 64 63 (omega arith)))
       | Some r ↦ sym (eq-eqb (bit_at (2 ^ 64 - 1) (min r 63)) 1 (bit_at_ones 64 (min r 63) (omega arith)))
     ]
 
-pub one_is_bits : (p : ℕ) → p < 63 → AreBits (p ∷ []) (2 ^ p)
+pub one_is_bits : (p : ℕ) → p < 63 → AreNameBits (p ∷ []) (2 ^ p)
 one_is_bits p l = λ q.
     elim q as (λ v. is_named (p ∷ []) v ≡ (bit_at (2 ^ p) (bit_of v) == 1)) [
       | None ↦ sym (ne_eqb (bit_at (2 ^ p) 63) 1 (λ e. let o = bit_at-pow_other p 63 (λ k. omega (arith, k)) in omega (arith, e, o)))
@@ -182,7 +182,7 @@ either_set (suc (suc x)) y a b = absurd (omega arith)
 either_set zero (suc (suc y)) a b = absurd (omega arith)
 either_set (suc zero) (suc (suc y)) a b = absurd (omega arith)
 
-module _ (xs ys : List ℕ) (a b : ℕ) (left : AreBits xs a) (right : AreBits ys b) where
+module _ (xs ys : List ℕ) (a b : ℕ) (left : AreNameBits xs a) (right : AreNameBits ys b) where
   shared_named : (q : Option ℕ) → (bit_at (bit_and a b) (bit_of q) == 1) ≡ (is_named xs q && is_named ys q)
   shared_named q =
       ap (λ k. k == 1) (bit_at_and a b (bit_of q)) ∙ both_set (bit_at a (bit_of q)) (bit_at b (bit_of q)) (bit_at-lt a (bit_of q)) (bit_at-lt b (bit_of q))
@@ -252,7 +252,7 @@ module _ (xs ys : List ℕ) (a b : ℕ) (left : AreBits xs a) (right : AreBits y
             ]
       ]
 
-  either_joins : bit_and a b ≡ 0 → (0 < length xs) ⊎ (0 < length ys) → IsJoin xs ys (ports_in (bit_or a b)) × AreBits (ports_in (bit_or a b)) (bit_or a b)
+  either_joins : bit_and a b ≡ 0 → (0 < length xs) ⊎ (0 < length ys) → IsJoin xs ys (ports_in (bit_or a b)) × AreNameBits (ports_in (bit_or a b)) (bit_or a b)
   either_joins e some =
       let l = left_some e some in
       let r = right_some e some in
@@ -268,7 +268,7 @@ module _ (xs ys : List ℕ) (a b : ℕ) (left : AreBits xs a) (right : AreBits y
       let bits = ports_are_bits (bit_or a b) p.0 top low here in
       (record { some = some_in (bit_or a b) p.0 low here; joins = inr (λ q. (shared_zero e q, bits q ∙ either_named q)) }, bits)
 
-  shared_joins : a < 2 ^ 64 → (bit_and a b ≡ 0 → ⊥) → (bit_at (bit_and a b) 63 ≡ 1 → ⊥) → IsJoin xs ys (ports_in (bit_and a b)) × AreBits (ports_in (bit_and a b)) (bit_and a b)
+  shared_joins : a < 2 ^ 64 → (bit_and a b ≡ 0 → ⊥) → (bit_at (bit_and a b) 63 ≡ 1 → ⊥) → IsJoin xs ys (ports_in (bit_and a b)) × AreNameBits (ports_in (bit_and a b)) (bit_and a b)
   shared_joins fits nonzero n =
       let top = unset (bit_and a b) 63 n in
       let le = and_le_l a b in
@@ -279,13 +279,13 @@ module _ (xs ys : List ℕ) (a b : ℕ) (left : AreBits xs a) (right : AreBits y
       (record { some = some_in (bit_and a b) z low t.1; joins = inl (λ q. bits q ∙ shared_named q) }, bits)
 
   -- the names of a node with several ports
-  pub joined_are_bits : a < 2 ^ 64 → (bit_at (bit_and a b) 63 ≡ 1 → ⊥) → IsJoin xs ys (ports_in (joined_bits a b)) × AreBits (ports_in (joined_bits a b)) (joined_bits a b)
+  pub joined_are_bits : a < 2 ^ 64 → (bit_at (bit_and a b) 63 ≡ 1 → ⊥) → IsJoin xs ys (ports_in (joined_bits a b)) × AreNameBits (ports_in (joined_bits a b)) (joined_bits a b)
   joined_are_bits fits n =
       elim (cases_eq (bit_and a b) 0) [
         | inl zeros ↦
             let e : joined_bits a b ≡ bit_or a b = grind (arith, common_steps, zeros) in
-            subst (λ m. IsJoin xs ys (ports_in m) × AreBits (ports_in m) m) (sym e) (either_joins zeros (some_names n))
+            subst (λ m. IsJoin xs ys (ports_in m) × AreNameBits (ports_in m) m) (sym e) (either_joins zeros (some_names n))
         | inr more ↦
             let e : joined_bits a b ≡ bit_and a b = grind (arith, common_steps, more) in
-            subst (λ m. IsJoin xs ys (ports_in m) × AreBits (ports_in m) m) (sym e) (shared_joins fits more n)
+            subst (λ m. IsJoin xs ys (ports_in m) × AreNameBits (ports_in m) m) (sym e) (shared_joins fits more n)
       ]

@@ -2,7 +2,7 @@
 use Rattle.std.proofs.Common.{◌≡◌, ℕ, ◌+◌, ◌-◌, ◌*◌, ◌<◌, ◌≤◌, ◌||◌, ◌&&◌, List, [], ◌∷◌, ◌++◌, length, length-append, get_or, Bool, true, false, refl, ap, sym, ◌∙◌, inl, inr, arith, Option}
 use Rattle.ir_prefix.specs.Joined.{is_named}
 use Rattle.ir_prefix.specs.Described.{names_of, IsJoin, Trie, Free, Alike, Fork}
-use Rattle.ir_prefix.specs.Cover.{prefix_at, told_unless, told, taken_unless, taken, cover_of, IsTrie}
+use Rattle.ir_prefix.specs.Cover.{prefix_at, told_unless, cover_told, taken_unless, taken, cover_of, IsTrie}
 use Rattle.ir_prefix.specs.declared.cover.Prefix.{Prefix}
 use Rattle.ir_prefix.proofs.AmongLemmas.{head_among}
 
@@ -25,7 +25,7 @@ length_cover bits Free h i q = refl
 length_cover bits (Alike p) h i q = length_told_unless (is_named (p ∷ []) q) (prefix_at bits h i p)
 length_cover bits (Fork names l r) h i q =
     let below = taken names q in
-    let here = told bits h i names q in
+    let here = cover_told bits h i names q in
     let cl = cover_of bits l (h - 1) (2 * i) below in
     let cr = cover_of bits r (h - 1) (2 * i + 1) below in
     let e = length_told_unless (is_named names q) (prefix_at bits h i (get_or names 0 0)) in

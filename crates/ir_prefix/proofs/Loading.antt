@@ -9,7 +9,7 @@ use Rattle.ir_model.specs.Compiled.{port_to}
 use Rattle.ir_prefix.specs.Described.{Trie, Free, Alike, Fork}
 use Rattle.ir_prefix.specs.Longest.{Holds, IsLongest, Forwards, IsBefore, IsLongestFirst, LoadsInOrder, AreLeast}
 use Rattle.ir_prefix.specs.Joined.{is_named}
-use Rattle.ir_prefix.specs.Cover.{prefix_at, told_unless, told, taken, cover_of}
+use Rattle.ir_prefix.specs.Cover.{prefix_at, told_unless, cover_told, taken, cover_of}
 use Rattle.ir_prefix.specs.declared.cover.Prefix.{Prefix}
 use Rattle.ir_prefix.proofs.Upper.{prefix_is_inside}
 
@@ -91,5 +91,5 @@ cover_least bits (Fork names l r) h i q le =
     let cl = cover_of bits l (h - 1) (2 * i) below in
     let cr = cover_of bits r (h - 1) (2 * i + 1) below in
     let P : Prefix → Type 0 = λ m. (x : ℕ) → Holds bits m x → m.value ≤ x in
-    All-append P (told bits h i names q) (cl ++ cr) (told_least bits h i (get_or names 0 0) (is_named names q) le)
+    All-append P (cover_told bits h i names q) (cl ++ cr) (told_least bits h i (get_or names 0 0) (is_named names q) le)
     (All-append P cl cr (cover_least bits l (h - 1) (2 * i) below (omega arith)) (cover_least bits r (h - 1) (2 * i + 1) below (omega arith)))

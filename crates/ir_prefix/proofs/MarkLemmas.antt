@@ -8,9 +8,9 @@ use Rattle.std.specs.Option.{option_to_list}
 use Rattle.std.specs.Int.{bit_at}
 use Rattle.std.specs.Int.Bits.{bit_and}
 use Rattle.ir_model.specs.Compiled.{port_to}
-use Rattle.ir_prefix.specs.Cover.{cover_of, taken, told}
+use Rattle.ir_prefix.specs.Cover.{cover_of, taken, cover_told}
 use Rattle.ir_prefix.specs.Described.{Describes, names_of, IsFree, IsJoin, Trie, Free, Alike, Fork}
-use Rattle.ir_prefix.specs.Marks.{AreLow, AreBits, AreMarks, IsMarked, joined_bits, ports_in}
+use Rattle.ir_prefix.specs.Marks.{AreLow, AreNameBits, AreMarks, IsNodeMarked, joined_bits, ports_in}
 use Rattle.ir_prefix.specs.declared.cover.Prefix.{Prefix}
 use Rattle.ir_prefix.specs.declared.marks.Mark.{Mark}
 use Rattle.ir_prefix.specs.declared.marks.Mark.TheVariants.{NoPort, OnePort, Pair, Several}
@@ -18,24 +18,24 @@ use Rattle.ir_prefix.proofs.BitLemmas.{all_are_bits, one_is_bits, both_free, all
 use Rattle.ir_prefix.proofs.TrieLemmas.{parent_describes}
 
 -- a node with no port, and one with one
-pub free_marked : (ports : List (Option ℕ)) (h i m : ℕ) (before after : List Mark) → Describes ports h i Free → m ≡ 2 ^ 64 - 1 → after ≡ before ++ NoPort ∷ [] → IsMarked ports h i m before after
+pub free_marked : (ports : List (Option ℕ)) (h i m : ℕ) (before after : List Mark) → Describes ports h i Free → m ≡ 2 ^ 64 - 1 → after ≡ before ++ NoPort ∷ [] → IsNodeMarked ports h i m before after
 free_marked ports h i m before after d e added = record {
   trie = Free;
   marks = NoPort ∷ [];
   describes = d;
   are = refl;
   added = added;
-  bits = subst (AreBits []) (sym e) all_are_bits;
+  bits = subst (AreNameBits []) (sym e) all_are_bits;
 }
 
-pub one_marked : (ports : List (Option ℕ)) (h i m p : ℕ) (before after : List Mark) → Describes ports h i (Alike p) → p < 63 → m ≡ 2 ^ p → after ≡ before ++ OnePort p ∷ [] → IsMarked ports h i m before after
+pub one_marked : (ports : List (Option ℕ)) (h i m p : ℕ) (before after : List Mark) → Describes ports h i (Alike p) → p < 63 → m ≡ 2 ^ p → after ≡ before ++ OnePort p ∷ [] → IsNodeMarked ports h i m before after
 one_marked ports h i m p before after d low e added = record {
   trie = Alike p;
   marks = OnePort p ∷ [];
   describes = d;
   are = refl;
   added = added;
-  bits = subst (AreBits (p ∷ [])) (sym e) (one_is_bits p low);
+  bits = subst (AreNameBits (p ∷ [])) (sym e) (one_is_bits p low);
 }
 
 free_from : (ports : List (Option ℕ)) (h i : ℕ) (t : Trie) → Describes ports h i t → length (names_of t) ≡ 0 → IsFree t
@@ -44,11 +44,11 @@ free_from ports h i (Alike p) d e = absurd (omega arith)
 free_from ports h i (Fork names l r) d e = let s = d.3.some in absurd (omega (arith, s, e))
 
 -- the node of two halves
-module _ (ports : List (Option ℕ)) (h i a b m before : ℕ) (old behind both after : List Mark) (some : 0 < h) (fits : a < 2 ^ 64) (right : IsMarked ports (h - 1) (2 * i + 1) b old behind) (left : IsMarked ports (h - 1) (2 * i) a behind both) where
+module _ (ports : List (Option ℕ)) (h i a b m before : ℕ) (old behind both after : List Mark) (some : 0 < h) (fits : a < 2 ^ 64) (right : IsNodeMarked ports (h - 1) (2 * i + 1) b old behind) (left : IsNodeMarked ports (h - 1) (2 * i) a behind both) where
   parts : both ≡ old ++ (right.marks ++ left.marks)
   parts = left.added ∙ ap (λ (xs : List Mark). xs ++ left.marks) right.added ∙ append_assoc old right.marks left.marks
 
-  pub freed_marked : bit_at (bit_and a b) 63 ≡ 1 → before ≡ length old → after ≡ take before both ++ NoPort ∷ [] → m ≡ bit_and a b → IsMarked ports h i m old after
+  pub freed_marked : bit_at (bit_and a b) 63 ≡ 1 → before ≡ length old → after ≡ take before both ++ NoPort ∷ [] → m ≡ bit_and a b → IsNodeMarked ports h i m old after
   freed_marked e n added is =
       let lengths = both_free (names_of left.trie) (names_of right.trie) a b left.bits right.bits e in
       let fl = free_from ports (h - 1) (2 * i) left.trie left.describes lengths.0 in
@@ -60,10 +60,10 @@ module _ (ports : List (Option ℕ)) (h i a b m before : ℕ) (old behind both a
         describes = parent_describes ports h i some left.trie right.trie Free left.describes right.describes (fl, fr);
         are = refl;
         added = added ∙ ap (λ (xs : List Mark). xs ++ NoPort ∷ []) front;
-        bits = subst (AreBits []) (sym is) (λ q. sym (all_shared (names_of left.trie) (names_of right.trie) a b left.bits right.bits lengths.0 lengths.1 q));
+        bits = subst (AreNameBits []) (sym is) (λ q. sym (all_shared (names_of left.trie) (names_of right.trie) a b left.bits right.bits lengths.0 lengths.1 q));
       }
 
-  pub joined_marked : (bit_at (bit_and a b) 63 ≡ 1 → ⊥) → after ≡ both ++ Several (joined_bits a b) ∷ [] → m ≡ joined_bits a b → IsMarked ports h i m old after
+  pub joined_marked : (bit_at (bit_and a b) 63 ≡ 1 → ⊥) → after ≡ both ++ Several (joined_bits a b) ∷ [] → m ≡ joined_bits a b → IsNodeMarked ports h i m old after
   joined_marked n added is =
       let names = ports_in (joined_bits a b) in
       let j = joined_are_bits (names_of left.trie) (names_of right.trie) a b left.bits right.bits fits n in
@@ -74,7 +74,7 @@ module _ (ports : List (Option ℕ)) (h i a b m before : ℕ) (old behind both a
         describes = (some, left.describes, right.describes, j.0, ports_rise (joined_bits a b));
         are = inl (joined_bits a b, left.marks, right.marks, refl, refl, left.are, right.are);
         added = added ∙ ap (λ (xs : List Mark). xs ++ own) parts ∙ append_assoc old (right.marks ++ left.marks) own;
-        bits = subst (AreBits names) (sym is) j.1;
+        bits = subst (AreNameBits names) (sym is) j.1;
       }
 
 -- the node of two numbers with a port each
@@ -85,14 +85,14 @@ leaf_describes : (ports : List (Option ℕ)) (x p : ℕ) → port_to ports x ≡
 leaf_describes ports x p e = (λ y r at o. let s : y ≡ x = sym (own_block y) ∙ at in let k = sym (subst (λ z. port_to ports z ≡ Some r) s o) ∙ e in cc, (x, own_block x, e))
 
 pub pair_marked : (ports : List (Option ℕ)) (h i m p q : ℕ) (before after : List Mark) → h ≡ 1 → port_to ports (2 * i) ≡ Some p → port_to ports (2 * i + 1) ≡ Some q → p < 63 → q < 63 → m ≡ joined_bits (2 ^ p) (2 ^ q)
-    → after ≡ before ++ Pair m p q ∷ [] → IsMarked ports h i m before after
+    → after ≡ before ++ Pair m p q ∷ [] → IsNodeMarked ports h i m before after
 pair_marked ports h i m p q before after one e f lp lq is added =
     let z : 0 ≡ h - 1 = omega arith in
     let names = ports_in m in
     let less : p < 64 = omega arith in let fits : 2 ^ p < 2 ^ 64 = pow-lt less in
     let apart : (bit_at (bit_and (2 ^ p) (2 ^ q)) 63 ≡ 1) → ⊥ = λ set. let k = both_free (p ∷ []) (q ∷ []) (2 ^ p) (2 ^ q) (one_is_bits p lp) (one_is_bits q lq) set in absurd (omega (arith, k.0)) in
     let j = joined_are_bits (p ∷ []) (q ∷ []) (2 ^ p) (2 ^ q) (one_is_bits p lp) (one_is_bits q lq) fits apart in
-    let k = subst (λ n. IsJoin (p ∷ []) (q ∷ []) (ports_in n) × AreBits (ports_in n) n) (sym is) j in
+    let k = subst (λ n. IsJoin (p ∷ []) (q ∷ []) (ports_in n) × AreNameBits (ports_in n) n) (sym is) j in
     record {
       trie = Fork names (Alike p) (Alike q);
       marks = Pair m p q ∷ [];
@@ -216,10 +216,10 @@ pair_ends (Fork names l r) m p q rest more all front (inr are) e f =
     )
 
 -- the prefixes of a node, and then those of its halves
-pub fork_covered : (bits h i m : ℕ) (above below : Option ℕ) (l r : Trie) (before own half after : List Prefix) → below ≡ taken (ports_in m) above → own ≡ before ++ told bits h i (ports_in m) above → half ≡ own ++ cover_of bits l (h - 1) (2 * i) below
+pub fork_covered : (bits h i m : ℕ) (above below : Option ℕ) (l r : Trie) (before own half after : List Prefix) → below ≡ taken (ports_in m) above → own ≡ before ++ cover_told bits h i (ports_in m) above → half ≡ own ++ cover_of bits l (h - 1) (2 * i) below
     → after ≡ half ++ cover_of bits r (h - 1) (2 * i + 1) below → after ≡ before ++ cover_of bits (Fork (ports_in m) l r) h i above
 fork_covered bits h i m above below l r before own half after b e f g =
-    let ts = told bits h i (ports_in m) above in
+    let ts = cover_told bits h i (ports_in m) above in
     let cl = cover_of bits l (h - 1) (2 * i) below in
     let cr = cover_of bits r (h - 1) (2 * i + 1) below in
     let whole : after ≡ before ++ (ts ++ (cl ++ cr)) =

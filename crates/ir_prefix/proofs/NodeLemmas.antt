@@ -4,14 +4,14 @@ use Rattle.std.proofs.Math.ListN.{get_or-append}
 use Rattle.std.proofs.Math.Seq.{drop-append_seam, take-append_seam}
 use Rattle.std.proofs.lemmas.List.{drop-append-le, take-append-le, length-append, length-drop, append-nil}
 use Rattle.std.specs.List.{slice_range}
-use Rattle.ir_prefix.specs.Described.{IsFree, IsAlike, IsParent, Trie, Free, Alike, Fork}
-use Rattle.ir_prefix.specs.Nodes.{Holds, IsMerged, Stands, Grows}
+use Rattle.ir_prefix.specs.Described.{IsFree, IsAlike, IsNodeOfHalves, Trie, Free, Alike, Fork}
+use Rattle.ir_prefix.specs.Nodes.{HoldsNode, IsMerged, Stands, Grows}
 use Rattle.ir_prefix.specs.declared.trie.Node.{Node}
 use Rattle.ir_prefix.specs.declared.trie.Node.TheVariants.{NoPort, OnePort, Several}
 use Rattle.ir_prefix.specs.declared.trie.Places.{Places}
 use Rattle.ir_prefix.specs.declared.trie.Nodes.{Nodes}
 
-holds_later : (list more : List Node) (place : ℕ) (node : Node) → Holds list place node → Holds (list ++ more) place node
+holds_later : (list more : List Node) (place : ℕ) (node : Node) → HoldsNode list place node → HoldsNode (list ++ more) place node
 holds_later list more place node h =
     let n = length-append list more in
     (omega (arith, n, h.0), get_or-append list more NoPort place h.0 ∙ h.1)
@@ -100,7 +100,7 @@ own_range names own =
 
 -- the node of two halves stands behind them
 pub fork_stands : (later : List Node) (names own after : List ℕ) (first end left right place : ℕ) (l r : Trie) → first ≡ length names → end ≡ length after → after ≡ names ++ own
-    → Holds later place (Several (record { first = first; end = end; left = left; right = right })) → Stands later after left l → Stands later after right r → Stands later after place (Fork own l r)
+    → HoldsNode later place (Several (record { first = first; end = end; left = left; right = right })) → Stands later after left l → Stands later after right r → Stands later after place (Fork own l r)
 fork_stands later names own after first end left right place l r e f whole holds sl sr =
     let n = length-append names own in
     let m : length after ≡ length (names ++ own) = ap (λ (xs : List ℕ). length xs) whole in
@@ -111,7 +111,7 @@ fork_stands later names own after first end left right place l r e f whole holds
 
 -- the node of two halves with no port or one
 pub merged_stands : (list later : List Node) (names after : List ℕ) (left right place : ℕ) (a b node : Node) (l r : Trie) → get_or list left NoPort ≡ a → get_or list right NoPort ≡ b → IsMerged a b node
-    → Stands list names left l → Stands list names right r → Holds later place node → (t : Trie) × IsParent l r t × Stands later after place t
+    → Stands list names left l → Stands list names right r → HoldsNode later place node → (t : Trie) × IsNodeOfHalves l r t × Stands later after place t
 merged_stands list later names after left right place a b NoPort l r ea eb is sl sr holds =
     let u = stands_free list names left l (ea ∙ is.0) sl in
     let v = stands_free list names right r (eb ∙ is.1) sr in

@@ -10,7 +10,7 @@ use Rattle.std.specs.List.Sorted.{IsPermutation}
 use Rattle.std.specs.Ordering.{nat_cmp, ordering_then, is_lt}
 use Rattle.ir_prefix.specs.Described.{Describes, Trie, Free, Alike, Fork}
 use Rattle.ir_prefix.specs.Longest.{IsBefore, IsLongestFirst}
-use Rattle.ir_prefix.specs.Cover.{prefix_at, told_unless, told, taken, cover_of, AreDistinct}
+use Rattle.ir_prefix.specs.Cover.{prefix_at, told_unless, cover_told, taken, cover_of, AreDistinct}
 use Rattle.ir_prefix.specs.Joined.{is_named}
 use Rattle.ir_prefix.specs.declared.cover.Prefix.{Prefix}
 use Rattle.ir_prefix.proofs.Tallies.{hit, tally, tally_some, tally_found}
@@ -73,7 +73,7 @@ module _ (bits : ℕ) (ports : List (Option ℕ)) (l v : ℕ) where
   cover_once (Alike p) h i q d le = (told_once (is_named (p ∷ []) q) (prefix_at bits h i p) l v).0
   cover_once (Fork names t r) h i q d le =
       let below = taken names q in
-      let here = told bits h i names q in
+      let here = cover_told bits h i names q in
       let cl = cover_of bits t (h - 1) (2 * i) below in
       let cr = cover_of bits r (h - 1) (2 * i + 1) below in
       let u = told_once (is_named names q) (prefix_at bits h i (get_or names 0 0)) l v in

@@ -10,9 +10,9 @@ use Rattle.ir_model.specs.Compiled.{port_to, IsDestinations}
 use Rattle.ir_prefix.specs.Joined.{is_named}
 use Rattle.ir_prefix.specs.Described.{names_of, IsJoin, Describes, Trie, Free, Alike, Fork}
 use Rattle.ir_prefix.specs.Longest.{HavePorts}
-use Rattle.ir_prefix.specs.Cover.{prefix_at, told_unless, told, taken, cover_of}
+use Rattle.ir_prefix.specs.Cover.{prefix_at, told_unless, cover_told, taken, cover_of}
 use Rattle.ir_prefix.specs.Forwarding.{NamesPorts}
-use Rattle.ir_prefix.specs.Extended.{port_of, line_of, extended_port}
+use Rattle.ir_prefix.specs.Extended.{prefix_port, line_of, extended_port}
 use Rattle.ir_prefix.specs.Parts.{Divides, pieces_of, Part}
 use Rattle.ir_prefix.specs.declared.cover.Prefix.{Prefix}
 use Rattle.ir_prefix.specs.declared.line.Line.{Line}
@@ -91,7 +91,7 @@ module _ (ports : List (Option ℕ)) where
       let cl = cover_of bits l (h - 1) (2 * i) below in
       let cr = cover_of bits r (h - 1) (2 * i + 1) below in
       let first = get_or names 0 0 in
-      elim (Contains-append_cases (told bits h i names q) (cl ++ cr) o c) [
+      elim (Contains-append_cases (cover_told bits h i names q) (cl ++ cr) o c) [
         | inl here ↦
             let e = told_is (is_named names q) (prefix_at bits h i first) o here in
             let w = named_port (Fork names l r) h i d d.3.some first (head_named names d.3.some) in
@@ -108,10 +108,10 @@ sorted_has_ports bits ports t set d perm = λ k e l.
     cover_port ports bits t bits 0 None d (get_or set k e) (Contains-permutation set (cover_of bits t bits 0 None) (get_or set k e) (IsPermutation-sym (cover_of bits t bits 0 None) set perm) (Contains-get_or set k e l))
 
 -- a line's port is its prefix's, unless it stands for unreachable
-port_of_is : (u c p : ℕ) → port_of u c ≡ Some p → (c ≡ p) × (c ≡ u → ⊥)
+port_of_is : (u c p : ℕ) → prefix_port u c ≡ Some p → (c ≡ p) × (c ≡ u → ⊥)
 port_of_is u c p e =
     elim (cases_eq c u) [
-      | inl same ↦ let f : port_of u c ≡ None = ap (port_of u) same ∙ port_of_same u in absurd (cc (e, f))
+      | inl same ↦ let f : prefix_port u c ≡ None = ap (prefix_port u) same ∙ port_of_same u in absurd (cc (e, f))
       | inr other ↦ let f = port_of_some u c other in (cc (e, f), other)
     ]
 

@@ -10,20 +10,20 @@ use Rattle.std.specs.Option.{unwrap_or}
 use Rattle.ir_model.specs.Compiled.{port_to, IsDestinations}
 use Rattle.ir_prefix.specs.Longest.{Forwards, IsFewestPrefixes, IsLongestFirst, AreLeast}
 use Rattle.ir_prefix.specs.Forwarding.{SendsBy, IsForwardingTable, IsFewestLines, IsWellFormed, StandsBefore, AreLongestFirst, KeepsMatches}
-use Rattle.ir_prefix.specs.Extended.{port_of, line_of, prefix_of, IsUnused, extended_port}
+use Rattle.ir_prefix.specs.Extended.{prefix_port, line_of, prefix_of, IsUnused, extended_port}
 use Rattle.ir_prefix.specs.declared.cover.Prefix.{Prefix}
 use Rattle.ir_prefix.specs.declared.line.Line.{Line}
 use Rattle.ir_prefix.proofs.Upper.{port_inside}
 use Rattle.ir_prefix.proofs.Tallies.{hit, tally, tally-le-length, tally_three, tally_some}
 use Rattle.ir_prefix.proofs.LineLemmas.{no_prefix, line_match, match_line, prefix_match, match_prefix, each_before, stands_once, keeps_matches, no_bits_past}
 
-pub port_of_some : (u p : ℕ) → p ≢ u → port_of u p ≡ Some p
+pub port_of_some : (u p : ℕ) → p ≢ u → prefix_port u p ≡ Some p
 port_of_some u p ne = grind (arith, common_steps, ne)
 
-pub port_of_same : (u : ℕ) → port_of u u ≡ None
+pub port_of_same : (u : ℕ) → prefix_port u u ≡ None
 port_of_same u = grind (arith, common_steps)
 
-read_back : (u : ℕ) (o : Option ℕ) → (o ≢ Some u) → port_of u (unwrap_or o u) ≡ o
+read_back : (u : ℕ) (o : Option ℕ) → (o ≢ Some u) → prefix_port u (unwrap_or o u) ≡ o
 read_back u None ne = port_of_same u
 read_back u (Some p) ne = port_of_some u p (λ e. ne (ap (λ (k : ℕ). Some k) e))
 
@@ -58,12 +58,12 @@ module _ (n own bits u : ℕ) (ports row : List (Option ℕ)) (dest : IsDestinat
   row_beyond x le lt = row_at x lt ∙ extended_beyond n u ports x le
 
   module _ (set : List Prefix) (fw : Forwards bits row set) where
-    sends : (x c : ℕ) (o : Option ℕ) → port_to row x ≡ Some c → port_of u c ≡ o → SendsBy bits (map (line_of u) set) x o
+    sends : (x c : ℕ) (o : Option ℕ) → port_to row x ≡ Some c → prefix_port u c ≡ o → SendsBy bits (map (line_of u) set) x o
     sends x c o at e = record {
       covered = let w = fw.covered x c at in (line_of u w.0, line_match bits u set x w.0 w.1);
       agrees = λ m match.
           let w = match_line bits u set x m match in
-          ap (λ (l : Line). l.port) w.2 ∙ ap (port_of u) (fw.agrees x c w.0 at w.1) ∙ e;
+          ap (λ (l : Line). l.port) w.2 ∙ ap (prefix_port u) (fw.agrees x c w.0 at w.1) ∙ e;
     }
 
     pub lines_forward : IsForwardingTable n bits ports (map (line_of u) set)

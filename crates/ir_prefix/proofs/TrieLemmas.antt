@@ -2,7 +2,7 @@
 use Rattle.std.proofs.Common.{◌≡◌, ℕ, ◌+◌, ◌-◌, ◌*◌, ◌/◌, ◌^◌, ◌<◌, List, [], ◌∷◌, length, get_or, ap, sym, ◌∙◌, subst, inl, inr, ◌⊎◌, arith, Option, Some}
 use Rattle.std.specs.List.Sorted.{IsNonDecreasing}
 use Rattle.ir_model.specs.Compiled.{port_to}
-use Rattle.ir_prefix.specs.Described.{names_of, IsFree, IsAlike, IsParent, IsJoin, Describes, Trie, Free, Alike, Fork}
+use Rattle.ir_prefix.specs.Described.{names_of, IsFree, IsAlike, IsNodeOfHalves, IsJoin, Describes, Trie, Free, Alike, Fork}
 use Rattle.ir_prefix.specs.Cover.{IsTrie}
 use Rattle.ir_prefix.proofs.AmongLemmas.{joined_is_join}
 use Rattle.ir_prefix.proofs.BlockLemmas.{halves, left_inside, right_inside}
@@ -33,7 +33,7 @@ one_port ports h i (Alike q) p f d x r e o = d.0 x r e o ∙ f
 one_port ports h i (Fork names l o) p f d x r e k = absurd f
 
 module _ (ports : List (Option ℕ)) (h i : ℕ) (some : 0 < h) where
-  pub parent_describes : (l r t : Trie) → Describes ports (h - 1) (2 * i) l → Describes ports (h - 1) (2 * i + 1) r → IsParent l r t → Describes ports h i t
+  pub parent_describes : (l r t : Trie) → Describes ports (h - 1) (2 * i) l → Describes ports (h - 1) (2 * i + 1) r → IsNodeOfHalves l r t → Describes ports h i t
   parent_describes l r Free dl dr is = λ x p e o.
       elim (halves x h i some e) [
         | inl a ↦ no_port ports (h - 1) (2 * i) l is.0 dl x p a o

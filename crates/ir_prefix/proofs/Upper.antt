@@ -10,7 +10,7 @@ use Rattle.ir_model.specs.Compiled.{port_to}
 use Rattle.ir_prefix.specs.Joined.{is_named}
 use Rattle.ir_prefix.specs.Described.{Describes, Trie, Free, Alike, Fork}
 use Rattle.ir_prefix.specs.Longest.{Holds, Forwards}
-use Rattle.ir_prefix.specs.Cover.{prefix_at, told_unless, told, taken_unless, taken, cover_of}
+use Rattle.ir_prefix.specs.Cover.{prefix_at, told_unless, cover_told, taken_unless, taken, cover_of}
 use Rattle.ir_prefix.specs.declared.cover.Prefix.{Prefix}
 use Rattle.ir_prefix.proofs.AmongLemmas.{among_found}
 use Rattle.ir_prefix.proofs.BlockLemmas.{halves, left_inside, right_inside, agree_higher}
@@ -65,7 +65,7 @@ module _ (bits : ℕ) (ports : List (Option ℕ)) where
       let below = taken names q in
       let cl = cover_of bits t (h - 1) (2 * i) below in
       let cr = cover_of bits r (h - 1) (2 * i + 1) below in
-      elim (Contains-append_cases (told bits h i names q) (cl ++ cr) o c) [
+      elim (Contains-append_cases (cover_told bits h i names q) (cl ++ cr) o c) [
         | inl here ↦ told_inside bits h i (get_or names 0 0) (is_named names q) l o here
         | inr under ↦
             elim (Contains-append_cases cl cr o under) [

@@ -3,6 +3,6 @@ use Rattle.std.specs.Prelude.{ℕ}
 use Rattle.ir_prefix.specs.declared.error.PrefixError.{PrefixError}
 use Rattle.ir_prefix.specs.declared.error.PrefixError.TheVariants.{BadRow, NoMemory}
 
-abbrev pub code_of : PrefixError → ℕ
-code_of BadRow = 1
-code_of NoMemory = 2
+abbrev pub prefix_code : PrefixError → ℕ
+prefix_code BadRow = 1
+prefix_code NoMemory = 2

@@ -14,8 +14,8 @@ abbrev pub told_unless : Bool → Prefix → List Prefix
 told_unless true m = []
 told_unless false m = m ∷ []
 
-abbrev pub told : ℕ → ℕ → ℕ → List ℕ → Option ℕ → List Prefix
-told bits h i names above = told_unless (is_named names above) (prefix_at bits h i (slice_index names 0))
+abbrev pub cover_told : ℕ → ℕ → ℕ → List ℕ → Option ℕ → List Prefix
+cover_told bits h i names above = told_unless (is_named names above) (prefix_at bits h i (slice_index names 0))
 
 -- what the node's halves find above them
 abbrev pub taken_unless : Bool → Option ℕ → ℕ → Option ℕ
@@ -27,9 +27,9 @@ taken names above = taken_unless (is_named names above) above (slice_index names
 
 abbrev pub cover_of : ℕ → Trie → ℕ → ℕ → Option ℕ → List Prefix
 cover_of bits Free h i above = []
-cover_of bits (Alike p) h i above = told bits h i (p ∷ []) above
+cover_of bits (Alike p) h i above = cover_told bits h i (p ∷ []) above
 cover_of bits (Fork names l r) h i above =
-    told bits h i names above ++ (cover_of bits l (h - 1) (2 * i) (taken names above) ++ cover_of bits r (h - 1) (2 * i + 1) (taken names above))
+    cover_told bits h i names above ++ (cover_of bits l (h - 1) (2 * i) (taken names above) ++ cover_of bits r (h - 1) (2 * i + 1) (taken names above))
 
 -- the prefixes that are told for a trie of these ports
 abbrev pub IsCover : List (Option ℕ) → ℕ → List Prefix → Type 0

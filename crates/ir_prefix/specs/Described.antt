@@ -2,7 +2,7 @@
 use Rattle.std.specs.Prelude.{◌≡◌, ℕ, ◌+◌, ◌-◌, ◌*◌, ◌/◌, ◌^◌, ◌<◌, ◌||◌, ◌&&◌, ◌⊎◌, List, [], ◌∷◌, length, false, Option, Some}
 use Rattle.std.specs.List.Sorted.{IsNonDecreasing}
 use Rattle.ir_model.specs.Compiled.{port_to}
-use Rattle.ir_prefix.specs.Joined.{is_named, AreJoined}
+use Rattle.ir_prefix.specs.Joined.{is_named, ArePortsOfBoth}
 
 -- A trie: no port lies below it, one port, or several. Of several, the names by which it needs the fewest prefixes,
 -- ascending, and its two halves.
@@ -28,10 +28,10 @@ IsAlike (Alike p) q = p ≡ q
 IsAlike (Fork names l r) q = ⊥
 
 -- the node of two halves
-abbrev pub IsParent : Trie → Trie → Trie → Type 0
-IsParent l r Free = IsFree l × IsFree r
-IsParent l r (Alike p) = IsAlike l p × IsAlike r p × ((l ≡ Alike p) ⊎ (r ≡ Alike p))
-IsParent l r (Fork names x y) = (x ≡ l) × (y ≡ r) × (IsFree l → IsFree r → ⊥) × AreJoined (names_of l) (names_of r) names × IsNonDecreasing names
+abbrev pub IsNodeOfHalves : Trie → Trie → Trie → Type 0
+IsNodeOfHalves l r Free = IsFree l × IsFree r
+IsNodeOfHalves l r (Alike p) = IsAlike l p × IsAlike r p × ((l ≡ Alike p) ⊎ (r ≡ Alike p))
+IsNodeOfHalves l r (Fork names x y) = (x ≡ l) × (y ≡ r) × (IsFree l → IsFree r → ⊥) × ArePortsOfBoth (names_of l) (names_of r) names × IsNonDecreasing names
 
 -- how the names of a node follow from those of its halves
 pub record IsJoin (a b c : List ℕ) : Type 0 where

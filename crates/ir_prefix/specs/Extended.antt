@@ -5,11 +5,11 @@ use Rattle.ir_prefix.specs.declared.cover.Prefix.{Prefix}
 use Rattle.ir_prefix.specs.declared.line.Line.{Line}
 
 -- the port of a line from that of a prefix
-abbrev pub port_of : ℕ → ℕ → Option ℕ
-port_of unreachable p = if p == unreachable then None else Some p
+abbrev pub prefix_port : ℕ → ℕ → Option ℕ
+prefix_port unreachable p = if p == unreachable then None else Some p
 
 abbrev pub line_of : ℕ → Prefix → Line
-line_of unreachable m = record { value = m.value; length = m.length; port = port_of unreachable m.port }
+line_of unreachable m = record { value = m.value; length = m.length; port = prefix_port unreachable m.port }
 
 abbrev pub prefix_of : ℕ → Line → Prefix
 prefix_of unreachable m = record { value = m.value; length = m.length; port = unwrap_or m.port unreachable }

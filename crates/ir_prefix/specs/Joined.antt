@@ -25,5 +25,5 @@ abbrev pub AreApart : List ℕ → List ℕ → Type 0
 AreApart a b = (p : ℕ) → (is_among a p && is_among b p) ≡ false
 
 -- the ports of both lists, or where there are none those of either
-abbrev pub AreJoined : List ℕ → List ℕ → List ℕ → Type 0
-AreJoined a b c = ((0 < length c) × IsShared a b c) ⊎ (AreApart a b × IsEither a b c)
+abbrev pub ArePortsOfBoth : List ℕ → List ℕ → List ℕ → Type 0
+ArePortsOfBoth a b c = ((0 < length c) × IsShared a b c) ⊎ (AreApart a b × IsEither a b c)

@@ -15,14 +15,14 @@ pub record IsLongest (bits : ℕ) (set : List Prefix) (x : ℕ) (m : Prefix) : T
   pub longest : All (λ (o : Prefix). Holds bits o x → o.length ≤ m.length) set
 
 -- each longest match of a label with a port names its port
-abbrev pub Agrees : ℕ → List (Option ℕ) → List Prefix → Type 0
-Agrees bits ports set = (d p : ℕ) (m : Prefix) → port_to ports d ≡ Some p → IsLongest bits set d m → m.port ≡ p
+abbrev pub NamesThePorts : ℕ → List (Option ℕ) → List Prefix → Type 0
+NamesThePorts bits ports set = (d p : ℕ) (m : Prefix) → port_to ports d ≡ Some p → IsLongest bits set d m → m.port ≡ p
 
 -- each label with a port has a longest match, and each longest match of it names its port
 pub record Forwards (bits : ℕ) (ports : List (Option ℕ)) (set : List Prefix) : Type 0 where
   pub within : All (λ (m : Prefix). (m.length ≤ bits) × (m.value < 2 ^ bits)) set
   pub covered : (d p : ℕ) → port_to ports d ≡ Some p → (m : Prefix) × IsLongest bits set d m
-  pub agrees : Agrees bits ports set
+  pub agrees : NamesThePorts bits ports set
 
 -- no set of prefixes that forwards has fewer members
 abbrev pub IsFewestPrefixes : ℕ → List (Option ℕ) → ℕ → Type 0
@@ -43,7 +43,7 @@ IsLongestFirst set = AllAdjacentBelow IsBefore set (length set)
 
 -- where only the first ones are there yet, a label with a port has no match or one that names its port
 abbrev pub LoadsInOrder : ℕ → List (Option ℕ) → List Prefix → Type 0
-LoadsInOrder bits ports set = (count : ℕ) → Agrees bits ports (take count set)
+LoadsInOrder bits ports set = (count : ℕ) → NamesThePorts bits ports (take count set)
 
 -- the value of each prefix is the least number that it holds: its further bits are 0
 abbrev pub AreLeast : ℕ → List Prefix → Type 0

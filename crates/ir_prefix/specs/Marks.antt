@@ -21,8 +21,8 @@ bit_of None = 63
 bit_of (Some p) = min p 63
 
 -- the bits of a number tell which names a node has
-abbrev pub AreBits : List ℕ → ℕ → Type 0
-AreBits names m = (q : Option ℕ) → is_named names q ≡ (bit_at m (bit_of q) == 1)
+abbrev pub AreNameBits : List ℕ → ℕ → Type 0
+AreNameBits names m = (q : Option ℕ) → is_named names q ≡ (bit_at m (bit_of q) == 1)
 
 -- the low ports whose bits are set, ascending
 abbrev pub ports_in : ℕ → List ℕ
@@ -46,10 +46,10 @@ abbrev pub EndsIn : Trie → List Mark → List Mark → Type 0
 EndsIn t rest marks = (more : List Mark) × AreMarks t more × (marks ≡ rest ++ more)
 
 -- the marks of the node so high, the index-th of its height, are added, and its names are those bits
-pub record IsMarked (ports : List (Option ℕ)) (h i m : ℕ) (before after : List Mark) : Type 0 where
+pub record IsNodeMarked (ports : List (Option ℕ)) (h i m : ℕ) (before after : List Mark) : Type 0 where
   pub trie : Trie
   pub marks : List Mark
   pub describes : Describes ports h i trie
   pub are : AreMarks trie marks
   pub added : after ≡ before ++ marks
-  pub bits : AreBits (names_of trie) m
+  pub bits : AreNameBits (names_of trie) m

@@ -8,8 +8,8 @@ use Rattle.ir_prefix.specs.declared.trie.Places.{Places}
 use Rattle.ir_prefix.specs.declared.trie.Nodes.{Nodes}
 
 -- the node at a place
-abbrev pub Holds : List Node → ℕ → Node → Type 0
-Holds list place node = (place < length list) × (slice_index_or list place NoPort ≡ node)
+abbrev pub HoldsNode : List Node → ℕ → Node → Type 0
+HoldsNode list place node = (place < length list) × (slice_index_or list place NoPort ≡ node)
 
 -- the node of two halves that have no port or one together
 abbrev pub IsMerged : Node → Node → Node → Type 0
@@ -19,10 +19,10 @@ IsMerged l r (Several f) = ⊥
 
 -- a trie stands at a place: its node with its names, and its halves where this tells
 abbrev pub Stands : List Node → List ℕ → ℕ → Trie → Type 0
-Stands list names place Free = Holds list place NoPort
-Stands list names place (Alike p) = Holds list place (OnePort p)
+Stands list names place Free = HoldsNode list place NoPort
+Stands list names place (Alike p) = HoldsNode list place (OnePort p)
 Stands list names place (Fork own l r) =
-    (f : Places) × Holds list place (Several f) × (f.first ≤ f.end) × (f.end ≤ length names) × (own ≡ slice_range names f.first f.end)
+    (f : Places) × HoldsNode list place (Several f) × (f.first ≤ f.end) × (f.end ≤ length names) × (own ≡ slice_range names f.first f.end)
     × Stands list names f.left l × Stands list names f.right r
 
 abbrev pub StandsIn : Nodes → ℕ → Trie → Type 0

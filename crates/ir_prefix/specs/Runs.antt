@@ -7,7 +7,7 @@ use Rattle.ir_prefix.specs.declared.runs.Block.TheVariants.{Beyond, Unsent, OneP
 
 -- The run from x on: no number before its first has a port, each before its end has the run's port or none, and its end,
 -- where there is one, another.
-pub record IsRun (ports : List (Option ℕ)) (x : ℕ) (run : Run) : Type 0 where
+pub record IsRunFrom (ports : List (Option ℕ)) (x : ℕ) (run : Run) : Type 0 where
   pub from : x ≤ run.first
   pub on : x ≤ run.end
   pub within : run.end ≤ length ports
@@ -20,7 +20,7 @@ pub record IsRun (ports : List (Option ℕ)) (x : ℕ) (run : Run) : Type 0 wher
 -- each number has its run, which ends behind it
 pub record AreRuns (ports : List (Option ℕ)) (runs : List Run) : Type 0 where
   pub every : length runs ≡ length ports
-  pub each : (x : ℕ) (none : Run) → x < length ports → IsRun ports x (slice_index_or runs x none) × (x < (slice_index_or runs x none).end)
+  pub each : (x : ℕ) (none : Run) → x < length ports → IsRunFrom ports x (slice_index_or runs x none) × (x < (slice_index_or runs x none).end)
 
 -- the block so high, the index-th of its height, has a number beyond the labels, or labels with two ports
 abbrev pub HasTwo : List (Option ℕ) → ℕ → ℕ → Type 0

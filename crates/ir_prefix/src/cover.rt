@@ -2,7 +2,7 @@
 
 ghost use Rattle.std.specs.Prelude.{◌≡◌, ◌<◌, ◌≤◌, ◌+◌, ◌*◌, ◌^◌, ◌++◌, length, IfOk, OnOk};
 ghost use Rattle.std.specs.List.Sorted.{IsNonDecreasing};
-ghost use Rattle.ir_prefix.specs.Cover.{IsCover, IsTrie, cover_of, prefix_at, taken, told};
+ghost use Rattle.ir_prefix.specs.Cover.{IsCover, IsTrie, cover_of, prefix_at, taken, cover_told};
 ghost use Rattle.ir_prefix.specs.Described.{Trie};
 ghost use Rattle.ir_prefix.specs.Nodes.{StandsIn};
 ghost use Rattle.ir_prefix.specs.Runs.{AreRuns};
@@ -104,7 +104,7 @@ fn tell(
     requires height { height ≤ bits }
     requires inside { (index + 1) * 2 ^ height ≤ 2 ^ 16 }
     ensures below { IfOk result (λ below. below ≡ taken names.now above) }
-    ensures told { OnOk result (prefixes.new.items ≡ prefixes.old.items ++ told bits height index names.now above) }
+    ensures told { OnOk result (prefixes.new.items ≡ prefixes.old.items ++ cover_told bits height index names.now above) }
 {
     if has_name(names, above) {
         return Ok(above);

@@ -1,5 +1,5 @@
 ghost use Rattle.std.specs.Prelude.{◌≡◌};
-ghost use Rattle.ir_prefix.specs.Code.{code_of};
+ghost use Rattle.ir_prefix.specs.Code.{prefix_code};
 ghost use Rattle.ir_prefix.specs.declared.error.PrefixError.TheVariants.{NoMemory};
 
 use std::alloc::AllocError;
@@ -19,7 +19,7 @@ pub enum PrefixError {
 impl PrefixError {
     /// The number of the refusal. For users of the library.
     pub fn code(self) -> u8
-        ensures { result ≡ code_of self }
+        ensures { result ≡ prefix_code self }
     {
         self as u8
     }

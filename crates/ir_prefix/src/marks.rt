@@ -5,10 +5,10 @@ ghost use Rattle.std.specs.Prelude.{◌≡◌, ◌≢◌, ◌↔◌, ◌==◌, �
 ghost use Rattle.std.specs.Int.{bit_at};
 ghost use Rattle.std.specs.Int.Bits.{bit_and};
 ghost use Rattle.ir_model.specs.Compiled.{port_to};
-ghost use Rattle.ir_prefix.specs.Cover.{IsCover, IsTrie, cover_of, taken, told};
+ghost use Rattle.ir_prefix.specs.Cover.{IsCover, IsTrie, cover_of, taken, cover_told};
 ghost use Rattle.ir_prefix.specs.Described.{Trie};
 ghost use Rattle.ir_prefix.specs.Joined.{is_named};
-ghost use Rattle.ir_prefix.specs.Marks.{AreLow, EndsIn, IsMarked, joined_bits, ports_in};
+ghost use Rattle.ir_prefix.specs.Marks.{AreLow, EndsIn, IsNodeMarked, joined_bits, ports_in};
 ghost use Rattle.ir_prefix.specs.Runs.{AreRuns};
 ghost use Rattle.ir_prefix.specs.declared.marks.Mark.TheVariants.{NoPort, OnePort, Pair, Several};
 
@@ -67,7 +67,7 @@ fn push_marks(
     requires runs { AreRuns ports.now runs.now }
     requires low { AreLow ports.now }
     requires inside { (index + 1) * 2 ^ height ≤ 2 ^ 16 }
-    ensures { IfOk result (λ names. IsMarked ports.now height index names marks.old.items marks.new.items) }
+    ensures { IfOk result (λ names. IsNodeMarked ports.now height index names marks.old.items marks.new.items) }
 {
     match block_of(ports, runs, height, index) {
         Block::Beyond => push_free(marks),
@@ -223,7 +223,7 @@ fn tell_port(
 ) -> Result<(), AllocError>
     requires height { height ≤ bits }
     requires inside { (index + 1) * 2 ^ height ≤ 2 ^ 16 }
-    ensures { OnOk result (prefixes.new.items ≡ prefixes.old.items ++ told bits height index (port ∷ []) above) }
+    ensures { OnOk result (prefixes.new.items ≡ prefixes.old.items ++ cover_told bits height index (port ∷ []) above) }
 {
     if above != Some(port) {
         prefixes.push(node_prefix(bits, height, index, port))?;
@@ -246,7 +246,7 @@ fn tell_bits(
     requires inside { (index + 1) * 2 ^ height ≤ 2 ^ 16 }
     ensures below { IfOk result (λ below. below ≡ taken (ports_in names) above) }
     ensures told { OnOk result (prefixes.new.items
-        ≡ prefixes.old.items ++ told bits height index (ports_in names) above) }
+        ≡ prefixes.old.items ++ cover_told bits height index (ports_in names) above) }
 {
     if has_port(names, above) {
         return Ok(above);

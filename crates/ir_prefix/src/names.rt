@@ -2,7 +2,7 @@
 
 ghost use Rattle.std.specs.Prelude.{◌≡◌, ◌<◌, ℕ, None, Some, length, OnOk};
 ghost use Rattle.std.specs.List.Sorted.{IsNonDecreasing};
-ghost use Rattle.ir_prefix.specs.Joined.{is_among, is_named, AreJoined, IsShared};
+ghost use Rattle.ir_prefix.specs.Joined.{is_among, is_named, ArePortsOfBoth, IsShared};
 
 use std::alloc::AllocError;
 
@@ -29,7 +29,7 @@ fn has_port(names: &[u16], port: u16) -> bool
 /// none.
 pub fn join(room: &mut Vec<u16>, left: &[u16], right: &[u16]) -> Result<(), AllocError>
     requires { IsNonDecreasing left.now }
-    ensures joined { OnOk result (AreJoined left.now right.now room.new.items) }
+    ensures joined { OnOk result (ArePortsOfBoth left.now right.now room.new.items) }
     ensures rising { OnOk result (IsNonDecreasing room.new.items) }
 {
     share(room, left, right)?;

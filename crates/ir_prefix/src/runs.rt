@@ -1,7 +1,7 @@
 //! Runs: numbers in a row of which each has the same port or none.
 
 ghost use Rattle.std.specs.Prelude.{◌≡◌, ◌<◌, ◌≤◌, ◌+◌, ◌*◌, ◌^◌, ℕ, length, IfOk};
-ghost use Rattle.ir_prefix.specs.Runs.{AreRuns, IsRun, LiesIn};
+ghost use Rattle.ir_prefix.specs.Runs.{AreRuns, IsRunFrom, LiesIn};
 
 use std::alloc::{AllocError, Global};
 
@@ -45,8 +45,8 @@ pub fn runs_of(alloc: Global, ports: &[Option<u16>]) -> Result<Vec<Run>, AllocEr
 // The run from a number on, given that from the next one on.
 fn run_before(ports: &[Option<u16>], x: usize, next: Run) -> Run
     requires label { x < length ports.now }
-    requires next { IsRun ports.now (x + 1) next }
-    ensures { IsRun ports.now x result }
+    requires next { IsRunFrom ports.now (x + 1) next }
+    ensures { IsRunFrom ports.now x result }
 {
     match ports[x] {
         None => next,

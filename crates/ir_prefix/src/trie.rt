@@ -2,8 +2,8 @@
 
 ghost use Rattle.std.specs.Prelude.{◌≡◌, ◌<◌, ◌≤◌, ◌+◌, ◌*◌, ◌^◌, ℕ, None, Some, length, IfOk, IfSome, OnOk};
 ghost use Rattle.std.specs.List.Sorted.{IsNonDecreasing};
-ghost use Rattle.ir_prefix.specs.Described.{Describes, IsFree, IsParent, Trie, names_of};
-ghost use Rattle.ir_prefix.specs.Nodes.{Grows, Holds, IsMerged, StandsIn};
+ghost use Rattle.ir_prefix.specs.Described.{Describes, IsFree, IsNodeOfHalves, Trie, names_of};
+ghost use Rattle.ir_prefix.specs.Nodes.{Grows, HoldsNode, IsMerged, StandsIn};
 ghost use Rattle.ir_prefix.specs.declared.trie.Node.TheVariants.{NoPort};
 ghost use Rattle.ir_prefix.specs.Runs.{AreRuns};
 
@@ -67,7 +67,7 @@ pub fn push_trie(
 // Adds a node, and answers its place.
 fn push_node(nodes: &mut Nodes, node: Node) -> Result<usize, AllocError>
     ensures grows { OnOk result (Grows nodes.old nodes.new) }
-    ensures holds { IfOk result (λ place. Holds nodes.new.list.items place node) }
+    ensures holds { IfOk result (λ place. HoldsNode nodes.new.list.items place node) }
     ensures names { OnOk result (nodes.new.names.items ≡ nodes.old.names.items) }
 {
     let place = nodes.list.len();
@@ -86,7 +86,7 @@ fn push_parent(
     requires right { (r : Trie) × StandsIn nodes.old right r }
     ensures grows { OnOk result (Grows nodes.old nodes.new) }
     ensures stands { IfOk result (λ place. (l r : Trie) → StandsIn nodes.old left l → StandsIn nodes.old right r
-        → (t : Trie) × IsParent l r t × StandsIn nodes.new place t) }
+        → (t : Trie) × IsNodeOfHalves l r t × StandsIn nodes.new place t) }
 {
     if let Some(node) = merged(nodes.list[left], nodes.list[right]) {
         return push_node(nodes, node);
@@ -119,7 +119,7 @@ fn push_fork(
     requires right { (r : Trie) × StandsIn nodes.old right r }
     ensures grows { OnOk result (Grows nodes.old nodes.new) }
     ensures stands { IfOk result (λ place. (l r : Trie) → StandsIn nodes.old left l
-        → StandsIn nodes.old right r → (IsFree l → IsFree r → ⊥) → (t : Trie) × IsParent l r t
+        → StandsIn nodes.old right r → (IsFree l → IsFree r → ⊥) → (t : Trie) × IsNodeOfHalves l r t
         × StandsIn nodes.new place t) }
 {
     join(room, names_at(nodes, left), names_at(nodes, right))?;

@@ -2,7 +2,7 @@
 use Rattle.std.proofs.Common.{◌≡◌, ◌<◌, ◌≤◌, ◌+◌, ℕ, List, [], ◌∷◌, ◌++◌, length, Option, None, Some, Result, Ok, Err, refl, sym, ap, subst, ◌∙◌, arith, append_assoc, option_to_list}
 use Rattle.std.proofs.lemmas.List.{append-nil, length_push}
 use Rattle.ir_model.specs.Graph.{Name}
-use Rattle.ir_model.specs.Network.{Network}
+use Rattle.ir_model.specs.Topology.{Topology}
 use Rattle.ir_model.specs.Text.{lines}
 use Rattle.ir_script.specs.declared.fault.ScriptFault.{ScriptFault}
 use Rattle.ir_script.specs.declared.fault.ScriptFault.TheVariants.{BadByte, BadCommand, BadNumber, UnknownNode, UnknownLink, NoMemory}
@@ -27,16 +27,16 @@ told line UnknownLink said e = e
 told line NoMemory said e = refl
 
 -- What a script says is these steps and lines, and then what the rest says, whose first line follows this one.
-pub record IsRead {A : Type 0} (says : List Name → Network → List ℕ → Result (Option A) ScriptFault) (nodes : List Name) (net : Network) (text : List ℕ) (steps : List A) (numbers : List ℕ) (line : ℕ) (rest : List ℕ) : Type 0 where
+pub record IsRead {A : Type 0} (says : List Name → Topology → List ℕ → Result (Option A) ScriptFault) (nodes : List Name) (net : Topology) (text : List ℕ) (steps : List A) (numbers : List ℕ) (line : ℕ) (rest : List ℕ) : Type 0 where
   pub same : listing_from says nodes net 1 (lines text) ≡ in_front steps numbers (listing_from says nodes net (line + 1) (lines rest))
   pub counted : line + length rest ≤ length text
   pub paired : length steps ≡ length numbers
 
 -- nothing is read yet
-pub read_none : {A : Type 0} (says : List Name → Network → List ℕ → Result (Option A) ScriptFault) (nodes : List Name) (net : Network) (text : List ℕ) → IsRead says nodes net text [] [] 0 text
+pub read_none : {A : Type 0} (says : List Name → Topology → List ℕ → Result (Option A) ScriptFault) (nodes : List Name) (net : Topology) (text : List ℕ) → IsRead says nodes net text [] [] 0 text
 read_none says nodes net text = record { same = sym (in_front-nil (listing_from says nodes net 1 (lines text))); counted = omega arith; paired = refl }
 
-module _ {A : Type 0} (says : List Name → Network → List ℕ → Result (Option A) ScriptFault) (nodes : List Name) (net : Network) (text : List ℕ) (steps : List A) (numbers : List ℕ) (line : ℕ) (rest current after : List ℕ) (is : IsRead says nodes net text steps numbers line rest)
+module _ {A : Type 0} (says : List Name → Topology → List ℕ → Result (Option A) ScriptFault) (nodes : List Name) (net : Topology) (text : List ℕ) (steps : List A) (numbers : List ℕ) (line : ℕ) (rest current after : List ℕ) (is : IsRead says nodes net text steps numbers line rest)
     (split : lines rest ≡ current ∷ lines after) (shorter : length after < length rest) where
   next_said : (said : Result (Option A) ScriptFault) → said ≡ says nodes net current → listing_from says nodes net 1 (lines text) ≡ in_front steps numbers (with_line (line + 1) said (listing_from says nodes net (line + 1 + 1) (lines after)))
   next_said said e =
@@ -67,7 +67,7 @@ module _ {A : Type 0} (says : List Name → Network → List ℕ → Result (Opt
       }
 
 -- all is read
-pub read_all : {A : Type 0} (says : List Name → Network → List ℕ → Result (Option A) ScriptFault) (nodes : List Name) (net : Network) (text : List ℕ) (steps : List A) (numbers : List ℕ) (line : ℕ) (rest : List ℕ) → IsRead says nodes net text steps numbers line rest → rest ≡ []
+pub read_all : {A : Type 0} (says : List Name → Topology → List ℕ → Result (Option A) ScriptFault) (nodes : List Name) (net : Topology) (text : List ℕ) (steps : List A) (numbers : List ℕ) (line : ℕ) (rest : List ℕ) → IsRead says nodes net text steps numbers line rest → rest ≡ []
     → listing_from says nodes net 1 (lines text) ≡ Ok (record { steps = steps; lines = numbers })
 read_all says nodes net text steps numbers line rest is e =
     is.same ∙ ap (λ bs. in_front steps numbers (listing_from says nodes net (line + 1) (lines bs))) e

@@ -8,7 +8,7 @@ use Rattle.ir_model.specs.declared.Hop.{Hop}
 use Rattle.ir_model.specs.declared.Kind.TheVariants.{Tree, Shortest, Compact}
 use Rattle.ir_model.specs.Graph.{Name}
 use Rattle.ir_model.specs.Text.{content, words, is_plain}
-use Rattle.ir_model.specs.Network.{Network, IsNetwork, node_count, ports_of}
+use Rattle.ir_model.specs.Topology.{Topology, IsTopology, node_count, ports_of}
 use Rattle.ir_core.specs.declared.event.Way.TheVariants.{Inbox, Link}
 use Rattle.ir_core.specs.declared.event.Event.{Event}
 use Rattle.ir_core.specs.declared.event.Event.TheVariants.{Inject, Learn, Take, Read, Act, Install, Retire, Down, Up}
@@ -16,9 +16,9 @@ use Rattle.ir_core.specs.declared.event.Step.{Step}
 use Rattle.ir_core.specs.declared.event.Step.TheVariants as step
 use Rattle.ir_script.specs.declared.fault.ScriptFault.{ScriptFault}
 use Rattle.ir_script.specs.declared.fault.ScriptFault.TheVariants.{BadByte, BadCommand}
-use Rattle.ir_script.specs.Command.{number_of, node_at, node_of, link_of_port, link_between, link_of_ends, link_of, of_one, of_two, event_of_one, event_of_two, event_of_three, as_step, step_of, line_step}
+use Rattle.ir_script.specs.Command.{number_of, node_at, node_of, link_of_port, link_towards, link_of_ends, named_link, of_one, of_two, event_of_one, event_of_two, event_of_three, as_step, step_of, line_step}
 use Rattle.ir_script.specs.Script.{Listing, with_line, listing_from, listing_of}
-use Rattle.ir_script.specs.Within.{is_node, is_link, is_event_within, is_within}
+use Rattle.ir_script.specs.Within.{is_node_of, is_link, is_event_within, is_step_within}
 
 -- the place of the first that passes is within the list
 pub place_within : (p : Name → Bool) (nodes : List Name) (u : ℕ) → position p nodes ≡ Some u → nat_lt u (length nodes) ≡ true
@@ -28,17 +28,17 @@ place_within p nodes u e = by (nat_lt (prefix_len (λ y. not (p y)) nodes) (leng
     by true h k = let same : prefix_len (λ y. not (p y)) nodes ≡ u = cc k in ap (λ n. nat_lt n (length nodes)) (sym same) ∙ h
     by false h k = absurd (cc k)
 
-module _ (nodes : List Name) (net : Network) (is_net : IsNetwork net) (count : length nodes ≡ node_count net) where
-  node_within : (word : Name) (u : ℕ) → node_of nodes word ≡ Ok u → is_node net u ≡ true
+module _ (nodes : List Name) (net : Topology) (is_net : IsTopology net) (count : length nodes ≡ node_count net) where
+  node_within : (word : Name) (u : ℕ) → node_of nodes word ≡ Ok u → is_node_of net u ≡ true
   node_within word u e = by (position (bytes_eq word) nodes) refl e
     where
-      by : (o : Option ℕ) → position (bytes_eq word) nodes ≡ o → node_at o ≡ Ok u → is_node net u ≡ true
+      by : (o : Option ℕ) → position (bytes_eq word) nodes ≡ o → node_at o ≡ Ok u → is_node_of net u ≡ true
       by None h k = absurd (cc k)
       by (Some v) h k =
           let same : v ≡ u = cc k in
           ap (nat_lt u) (sym count) ∙ place_within (bytes_eq word) nodes u (h ∙ ap Some same)
 
-  between_within : (u v l : ℕ) → link_between net u v ≡ Ok l → is_link net l ≡ true
+  between_within : (u v l : ℕ) → link_towards net u v ≡ Ok l → is_link net l ≡ true
   between_within u v l e = by (find (λ hop. hop.node == v) (ports_of net u)) refl e
     where
       by : (o : Option Hop) → find (λ hop. hop.node == v) (ports_of net u) ≡ o → link_of_port o ≡ Ok l → is_link net l ≡ true
@@ -48,7 +48,7 @@ module _ (nodes : List Name) (net : Network) (is_net : IsNetwork net) (count : l
           let port = is_net.ports u (position_or_len (λ hop. hop.node == v) (ports_of net u)) hop (sym (find_at (λ hop. hop.node == v) (ports_of net u)) ∙ h) in
           ap (is_link net) (sym same) ∙ lt-ltb hop.link (length net.links) (slice_get_within net.links hop.link port.0 port.1)
 
-  link_within : (a b : Name) (l : ℕ) → link_of nodes net a b ≡ Ok l → is_link net l ≡ true
+  link_within : (a b : Name) (l : ℕ) → named_link nodes net a b ≡ Ok l → is_link net l ≡ true
   link_within a b l e = by (node_of nodes a) (node_of nodes b) e
     where
       by : (u v : Result ℕ ScriptFault) → link_of_ends net u v ≡ Ok l → is_link net l ≡ true
@@ -83,8 +83,8 @@ module _ (nodes : List Name) (net : Network) (is_net : IsNetwork net) (count : l
   two_within : (word a b : Name) → EventWithin (event_of_two nodes net word a b)
   two_within word a b =
       either_within (bytes_eq word (codes "inject")) _ _ (of_two_within (λ u v. Inject u v) (node_of nodes a) (node_of nodes b) (λ u v hu hv. and_from _ _ (node_within a u hu) (node_within b v hv)))
-      (either_within (bytes_eq word (codes "down")) _ _ (of_one_within (λ l. Down l) (link_of nodes net a b) (link_within a b))
-      (either_within (bytes_eq word (codes "up")) _ _ (of_one_within (λ l. Up l) (link_of nodes net a b) (link_within a b))
+      (either_within (bytes_eq word (codes "down")) _ _ (of_one_within (λ l. Down l) (named_link nodes net a b) (link_within a b))
+      (either_within (bytes_eq word (codes "up")) _ _ (of_one_within (λ l. Up l) (named_link nodes net a b) (link_within a b))
       (either_within (bytes_eq word (codes "read")) _ _ (of_two_within (λ u k. Read u k) (node_of nodes a) (number_of b) (λ u k hu hk. node_within a u hu))
       (either_within (bytes_eq word (codes "take") && bytes_eq b (codes "inbox")) _ _ (of_one_within (λ u. Take u Inbox) (node_of nodes a) (λ u hu. and_from _ _ (node_within a u hu) refl))
       (either_within (bytes_eq word (codes "install") && bytes_eq a (codes "tree")) _ _ (of_one_within (λ r. Install Tree r) (node_of nodes b) (node_within b))
@@ -94,11 +94,11 @@ module _ (nodes : List Name) (net : Network) (is_net : IsNetwork net) (count : l
   three_within : (word a b c : Name) → EventWithin (event_of_three nodes net word a b c)
   three_within word a b c =
       either_within (bytes_eq word (codes "take") && bytes_eq b (codes "from")) _ _
-      (of_two_within (λ u l. Take u (Link l)) (node_of nodes a) (link_of nodes net a c) (λ u l hu hl. and_from _ _ (node_within a u hu) (link_within a c l hl))) tt
+      (of_two_within (λ u l. Take u (Link l)) (node_of nodes a) (named_link nodes net a c) (λ u l hu hl. and_from _ _ (node_within a u hu) (link_within a c l hl))) tt
 
   -- a step of the network, none, or a fault
   abbrev StepWithin : Result (Option Step) ScriptFault → Type 0
-  StepWithin (Ok (Some s)) = is_within net s ≡ true
+  StepWithin (Ok (Some s)) = is_step_within net s ≡ true
   StepWithin (Ok None) = Unit {0}
   StepWithin (Err e) = Unit {0}
 
@@ -122,7 +122,7 @@ module _ (nodes : List Name) (net : Network) (is_net : IsNetwork net) (count : l
   line_within line = choice_within (not (list_all is_plain (content line))) (Err BadByte) (step_of nodes net (words line)) tt (words_within (words line))
 
   abbrev ListingWithin : Result (Listing Step) (ℕ × ScriptFault) → Type 0
-  ListingWithin (Ok listing) = list_all (is_within net) listing.steps ≡ true
+  ListingWithin (Ok listing) = list_all (is_step_within net) listing.steps ≡ true
   ListingWithin (Err e) = Unit {0}
 
   front_within : (number : ℕ) (said : Result (Option Step) ScriptFault) (later : Result (Listing Step) (ℕ × ScriptFault)) → StepWithin said → ListingWithin later → ListingWithin (with_line number said later)
@@ -136,5 +136,5 @@ module _ (nodes : List Name) (net : Network) (is_net : IsNetwork net) (count : l
   from_within number (l ∷ ls) = front_within number (line_step nodes net l) (listing_from line_step nodes net (number + 1) ls) (line_within l) (from_within (number + 1) ls)
 
   -- the steps of a script name nodes and links of the network
-  pub steps_within : (ls : List (List ℕ)) (listing : Listing Step) → listing_of nodes net ls ≡ Ok listing → list_all (is_within net) listing.steps ≡ true
+  pub steps_within : (ls : List (List ℕ)) (listing : Listing Step) → listing_of nodes net ls ≡ Ok listing → list_all (is_step_within net) listing.steps ≡ true
   steps_within ls listing e = let P : Result (Listing Step) (ℕ × ScriptFault) → Type 0 = λ r. ListingWithin r in subst P e (from_within 1 ls)

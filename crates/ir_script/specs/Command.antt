@@ -6,7 +6,7 @@ use Rattle.ir_model.specs.declared.Kind.TheVariants.{Tree, Shortest, Compact}
 use Rattle.ir_model.specs.Graph.{Name}
 use Rattle.ir_model.specs.Text.{content, words, is_plain, is_empty}
 use Rattle.ir_model.specs.Edgelist.{is_digit, value_of}
-use Rattle.ir_model.specs.Network.{Network, ports_of}
+use Rattle.ir_model.specs.Topology.{Topology, ports_of}
 use Rattle.ir_core.specs.declared.event.Way.TheVariants.{Inbox, Link}
 use Rattle.ir_core.specs.declared.event.Event.{Event}
 use Rattle.ir_core.specs.declared.event.Event.TheVariants.{Inject, Learn, Take, Read, Act, Install, Retire, Down, Up}
@@ -43,18 +43,18 @@ link_of_port None = Err UnknownLink
 link_of_port (Some hop) = Ok hop.link
 
 -- the link by which a port of u leads to v
-abbrev pub link_between : Network → ℕ → ℕ → Result ℕ ScriptFault
-link_between net u v = link_of_port (find (λ hop. hop.node == v) (ports_of net u))
+abbrev pub link_towards : Topology → ℕ → ℕ → Result ℕ ScriptFault
+link_towards net u v = link_of_port (find (λ hop. hop.node == v) (ports_of net u))
 
 -- the link between two ends, where both are nodes
-abbrev pub link_of_ends : Network → Result ℕ ScriptFault → Result ℕ ScriptFault → Result ℕ ScriptFault
+abbrev pub link_of_ends : Topology → Result ℕ ScriptFault → Result ℕ ScriptFault → Result ℕ ScriptFault
 link_of_ends net (Err e) v = Err e
 link_of_ends net (Ok u) (Err e) = Err e
-link_of_ends net (Ok u) (Ok v) = link_between net u v
+link_of_ends net (Ok u) (Ok v) = link_towards net u v
 
 -- the link between the nodes that two words name
-abbrev pub link_of : List Name → Network → Name → Name → Result ℕ ScriptFault
-link_of nodes net first second = link_of_ends net (node_of nodes first) (node_of nodes second)
+abbrev pub named_link : List Name → Topology → Name → Name → Result ℕ ScriptFault
+named_link nodes net first second = link_of_ends net (node_of nodes first) (node_of nodes second)
 
 -- ---- the event of what words stand for
 
@@ -80,11 +80,11 @@ event_of_one nodes command first =
     else Err BadCommand
 
 -- `inject A B`, `down A B`, `up A B`, `read N K`, `take N inbox`, `install tree R`, `install shortest R`, `install compact R`
-abbrev pub event_of_two : List Name → Network → Name → Name → Name → Result Event ScriptFault
+abbrev pub event_of_two : List Name → Topology → Name → Name → Name → Result Event ScriptFault
 event_of_two nodes net command first second =
     if bytes_eq command (codes "inject") then of_two (λ u v. Inject u v) (node_of nodes first) (node_of nodes second)
-    else if bytes_eq command (codes "down") then of_one (λ l. Down l) (link_of nodes net first second)
-    else if bytes_eq command (codes "up") then of_one (λ l. Up l) (link_of nodes net first second)
+    else if bytes_eq command (codes "down") then of_one (λ l. Down l) (named_link nodes net first second)
+    else if bytes_eq command (codes "up") then of_one (λ l. Up l) (named_link nodes net first second)
     else if bytes_eq command (codes "read") then of_two (λ u k. Read u k) (node_of nodes first) (number_of second)
     else if bytes_eq command (codes "take") && bytes_eq second (codes "inbox") then of_one (λ u. Take u Inbox) (node_of nodes first)
     else if bytes_eq command (codes "install") && bytes_eq first (codes "tree") then of_one (λ r. Install Tree r) (node_of nodes second)
@@ -93,9 +93,9 @@ event_of_two nodes net command first second =
     else Err BadCommand
 
 -- `take N from M`
-abbrev pub event_of_three : List Name → Network → Name → Name → Name → Name → Result Event ScriptFault
+abbrev pub event_of_three : List Name → Topology → Name → Name → Name → Name → Result Event ScriptFault
 event_of_three nodes net command first second third =
-    if bytes_eq command (codes "take") && bytes_eq second (codes "from") then of_two (λ u l. Take u (Link l)) (node_of nodes first) (link_of nodes net first third)
+    if bytes_eq command (codes "take") && bytes_eq second (codes "from") then of_two (λ u l. Take u (Link l)) (node_of nodes first) (named_link nodes net first third)
     else Err BadCommand
 
 -- an event as the step of a line
@@ -104,7 +104,7 @@ as_step (Err e) = Err e
 as_step (Ok event) = Ok (Some (step.Event event))
 
 -- the step that the words of a line name: none where there is no word, and `drain` where there is that one
-abbrev pub step_of : List Name → Network → List Name → Result (Option Step) ScriptFault
+abbrev pub step_of : List Name → Topology → List Name → Result (Option Step) ScriptFault
 step_of nodes net [] = Ok None
 step_of nodes net (command ∷ []) = if bytes_eq command (codes "drain") then Ok (Some step.Drain) else Err BadCommand
 step_of nodes net (command ∷ first ∷ []) = as_step (event_of_one nodes command first)
@@ -113,7 +113,7 @@ step_of nodes net (command ∷ first ∷ second ∷ third ∷ []) = as_step (eve
 step_of nodes net (command ∷ first ∷ second ∷ third ∷ fourth ∷ more) = Err BadCommand
 
 -- what a line says: its bytes are looked at first
-abbrev pub line_step : List Name → Network → List ℕ → Result (Option Step) ScriptFault
+abbrev pub line_step : List Name → Topology → List ℕ → Result (Option Step) ScriptFault
 line_step nodes net line = if not (list_all is_plain (content line)) then Err BadByte else step_of nodes net (words line)
 
 -- ---- the commands of a live run
@@ -148,10 +148,10 @@ as_command (Ok (Some s)) = some_command (command_of s)
 
 -- the command that the words of a line name: none where there is no word. A line of a simulation alone is no command,
 -- whatever follows its first word; each other line names what it names in a simulation.
-abbrev pub command_named : List Name → Network → List Name → Result (Option Command) ScriptFault
+abbrev pub command_named : List Name → Topology → List Name → Result (Option Command) ScriptFault
 command_named nodes net [] = Ok None
 command_named nodes net (word ∷ more) = if is_of_simulation word then Err BadCommand else as_command (step_of nodes net (word ∷ more))
 
 -- what a line of a live run's script says
-abbrev pub line_command : List Name → Network → List ℕ → Result (Option Command) ScriptFault
+abbrev pub line_command : List Name → Topology → List ℕ → Result (Option Command) ScriptFault
 line_command nodes net line = if not (list_all is_plain (content line)) then Err BadByte else command_named nodes net (words line)

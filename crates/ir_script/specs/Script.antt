@@ -2,7 +2,7 @@
 -- step, in a live run a command.
 use Rattle.std.specs.Prelude.{◌≡◌, ℕ, ◌+◌, List, [], ◌∷◌, ◌++◌, Option, Some, None, Result, Ok, Err}
 use Rattle.ir_model.specs.Graph.{Name}
-use Rattle.ir_model.specs.Network.{Network}
+use Rattle.ir_model.specs.Topology.{Topology}
 use Rattle.ir_core.specs.declared.event.Step.{Step}
 use Rattle.ir_core.specs.declared.command.Command.{Command}
 use Rattle.ir_script.specs.Command.{line_step, line_command}
@@ -28,7 +28,7 @@ module _ {A : Type 0} where
   with_line n (Ok (Some s)) later = in_front (s ∷ []) (n ∷ []) later
 
   -- what the lines say of these nodes and links, the first of which has number n, by what a line says
-  abbrev pub listing_from : (List Name → Network → List ℕ → Result (Option A) ScriptFault) → List Name → Network → ℕ → List (List ℕ) → Result (Listing A) (ℕ × ScriptFault)
+  abbrev pub listing_from : (List Name → Topology → List ℕ → Result (Option A) ScriptFault) → List Name → Topology → ℕ → List (List ℕ) → Result (Listing A) (ℕ × ScriptFault)
   listing_from says nodes net n [] = Ok (record { steps = []; lines = [] })
   listing_from says nodes net n (l ∷ ls) = with_line n (says nodes net l) (listing_from says nodes net (n + 1) ls)
 
@@ -47,11 +47,11 @@ module _ {A : Type 0} where
   line_of (Some s) line = line ∷ []
 
 -- what a script of a simulation says of these nodes and the links between them; lines are counted from 1
-abbrev pub listing_of : List Name → Network → List (List ℕ) → Result (Listing Step) (ℕ × ScriptFault)
+abbrev pub listing_of : List Name → Topology → List (List ℕ) → Result (Listing Step) (ℕ × ScriptFault)
 listing_of nodes net ls = listing_from line_step nodes net 1 ls
 
 -- what a script of a live run says: its lines are of the commands alone
-abbrev pub live_listing_of : List Name → Network → List (List ℕ) → Result (Listing Command) (ℕ × ScriptFault)
+abbrev pub live_listing_of : List Name → Topology → List (List ℕ) → Result (Listing Command) (ℕ × ScriptFault)
 live_listing_of nodes net ls = listing_from line_command nodes net 1 ls
 
 -- the error for a fault in a line

@@ -1,7 +1,7 @@
 //! One line of a script.
 ghost use Rattle.std.specs.Prelude.{◌≡◌};
 ghost use Rattle.ir_model.specs.Graph.{names};
-ghost use Rattle.ir_model.specs.OfGraph.{network_of_graph};
+ghost use Rattle.ir_model.specs.OfGraph.{topology_of_graph};
 ghost use Rattle.ir_model.specs.Text.{words_of};
 ghost use Rattle.ir_script.specs.Command.{event_of_one, event_of_two, event_of_three, step_of, line_step, is_of_simulation, command_of, command_named, line_command};
 
@@ -36,7 +36,7 @@ fn event_of_two(
     first: &[u8],
     second: &[u8],
 ) -> Result<Event, ScriptFault>
-    requires { topology.now ≡ network_of_graph graph.now }
+    requires { topology.now ≡ topology_of_graph graph.now }
     ensures { result ≡ event_of_two (names graph.now) topology.now command.now first.now second.now }
 {
     if command == b"inject".as_slice() {
@@ -75,7 +75,7 @@ fn event_of_three(
     second: &[u8],
     third: &[u8],
 ) -> Result<Event, ScriptFault>
-    requires { topology.now ≡ network_of_graph graph.now }
+    requires { topology.now ≡ topology_of_graph graph.now }
     ensures { result ≡ event_of_three (names graph.now) topology.now command.now first.now second.now third.now }
 {
     if command == b"take".as_slice() && second == b"from".as_slice() {
@@ -88,7 +88,7 @@ fn event_of_three(
 
 /// The step that the words of a line name; none where it has no word.
 fn step_of(graph: &Graph, topology: &Topology, words: &[u8]) -> Result<Option<Step>, ScriptFault>
-    requires { topology.now ≡ network_of_graph graph.now }
+    requires { topology.now ≡ topology_of_graph graph.now }
     ensures { result ≡ step_of (names graph.now) topology.now (words_of words.now) }
 {
     let Some((command, rest)) = scan::next_word(words) else {
@@ -118,7 +118,7 @@ pub fn line_step(
     topology: &Topology,
     line: &[u8],
 ) -> Result<Option<Step>, ScriptFault>
-    requires { topology.now ≡ network_of_graph graph.now }
+    requires { topology.now ≡ topology_of_graph graph.now }
     ensures { result ≡ line_step (names graph.now) topology.now line.now }
 {
     let words = scan::without_comment(line);
@@ -161,7 +161,7 @@ fn command_named(
     topology: &Topology,
     words: &[u8],
 ) -> Result<Option<Command>, ScriptFault>
-    requires { topology.now ≡ network_of_graph graph.now }
+    requires { topology.now ≡ topology_of_graph graph.now }
     ensures { result ≡ command_named (names graph.now) topology.now (words_of words.now) }
 {
     let Some((word, _)) = scan::next_word(words) else {
@@ -182,7 +182,7 @@ pub fn line_command(
     topology: &Topology,
     line: &[u8],
 ) -> Result<Option<Command>, ScriptFault>
-    requires { topology.now ≡ network_of_graph graph.now }
+    requires { topology.now ≡ topology_of_graph graph.now }
     ensures { result ≡ line_command (names graph.now) topology.now line.now }
 {
     let words = scan::without_comment(line);

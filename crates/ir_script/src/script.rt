@@ -2,13 +2,13 @@
 ghost use Rattle.std.specs.Prelude.{◌≡◌, ℕ, ◌<◌, ◌++◌, List, Option, Result, Some, Ok, true, length, vec_len, option_to_list, OnOk, IfOk, IfErr, slice_get};
 ghost use Rattle.std.specs.List.{list_all};
 ghost use Rattle.ir_model.specs.Graph.{Name, names};
-ghost use Rattle.ir_model.specs.Network.{Network};
-ghost use Rattle.ir_model.specs.OfGraph.{network_of_graph};
+ghost use Rattle.ir_model.specs.Topology.{Topology};
+ghost use Rattle.ir_model.specs.OfGraph.{topology_of_graph};
 ghost use Rattle.ir_model.specs.Text.{lines};
 ghost use Rattle.ir_script.specs.declared.fault.ScriptFault.{ScriptFault};
 ghost use Rattle.ir_script.specs.Command.{line_step, line_command};
 ghost use Rattle.ir_script.specs.Script.{listing_from, listing_of, live_listing_of, ScriptTold, told_script, line_of};
-ghost use Rattle.ir_script.specs.Within.{is_within};
+ghost use Rattle.ir_script.specs.Within.{is_step_within};
 
 use crate::command::{line_command, line_step};
 use crate::fault::{ScriptError, ScriptFault};
@@ -35,13 +35,13 @@ impl<T> Script<T> {
         self.steps.as_slice()
     }
 
-    /// The number of the line of one of them, counted from 1 over all lines of the script. Condition: `i` is below the
+    /// The number of the line of one of them, counted from 1 over all lines of the script. Condition: `place` is below the
     /// number of steps.
-    pub fn line(&self, i: usize) -> usize
-        requires { i < length self.now.steps.items }
-        ensures { slice_get self.now.lines.items i ≡ Some result }
+    pub fn line(&self, place: usize) -> usize
+        requires { place < length self.now.steps.items }
+        ensures { slice_get self.now.lines.items place ≡ Some result }
     {
-        self.lines[i]
+        self.lines[place]
     }
 
     /// The numbers of their lines, in order: as many as there are steps.
@@ -56,11 +56,11 @@ impl<T> Script<T> {
 /// What a line of a script names: a step of a simulation, or a command of a live run.
 pub trait Named: Copy {
     // What a line says of these nodes and links.
-    ghost says: { List Name → Network → List ℕ → Result (Option Self) ScriptFault };
+    ghost says: { List Name → Topology → List ℕ → Result (Option Self) ScriptFault };
 
     /// What the line names of a graph and its topology: nothing where it has no word.
     fn named(graph: &Graph, topology: &Topology, line: &[u8]) -> Result<Option<Self>, ScriptFault>
-        requires { topology.now ≡ network_of_graph graph.now }
+        requires { topology.now ≡ topology_of_graph graph.now }
         ensures { result ≡ says (names graph.now) topology.now line.now };
 }
 
@@ -120,7 +120,7 @@ pub fn parse<T: Named>(
     graph: &Graph,
     topology: &Topology,
 ) -> Result<Script<T>, ScriptError>
-    requires { topology.now ≡ network_of_graph graph.now }
+    requires { topology.now ≡ topology_of_graph graph.now }
     ensures parsed { IfOk result (λ s. listing_from T.says (names graph.now) topology.now 1 (lines text.now)
         ≡ Ok (record { steps = s.steps.items; lines = s.lines.items })) }
     ensures fault { IfErr result (λ e. ScriptTold e
@@ -166,10 +166,10 @@ pub fn parse_script(
     graph: &Graph,
     topology: &Topology,
 ) -> Result<Script<Step>, ScriptError>
-    requires { topology.now ≡ network_of_graph graph.now }
+    requires { topology.now ≡ topology_of_graph graph.now }
     ensures parsed { IfOk result (λ s. listing_of (names graph.now) topology.now (lines text.now)
         ≡ Ok (record { steps = s.steps.items; lines = s.lines.items })) }
-    ensures within { IfOk result (λ s. list_all (is_within topology.now) s.steps.items ≡ true) }
+    ensures within { IfOk result (λ s. list_all (is_step_within topology.now) s.steps.items ≡ true) }
     ensures fault { IfErr result (λ e. ScriptTold e (listing_of (names graph.now) topology.now (lines text.now))) }
 {
     let _nodes = topology.nodes();
@@ -187,7 +187,7 @@ pub fn parse_live(
     graph: &Graph,
     topology: &Topology,
 ) -> Result<Script<Command>, ScriptError>
-    requires { topology.now ≡ network_of_graph graph.now }
+    requires { topology.now ≡ topology_of_graph graph.now }
     ensures parsed { IfOk result (λ s. live_listing_of (names graph.now) topology.now (lines text.now)
         ≡ Ok (record { steps = s.steps.items; lines = s.lines.items })) }
     ensures fault { IfErr result (λ e. ScriptTold e

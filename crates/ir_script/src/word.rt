@@ -3,10 +3,10 @@ ghost use Rattle.std.specs.Prelude.{◌≡◌, ◌+◌, ◌<◌, ◌==◌, find,
 ghost use Rattle.std.specs.List.{list_all};
 ghost use Rattle.ir_model.specs.Edgelist.{is_digit, value_of};
 ghost use Rattle.ir_model.specs.Graph.{names};
-ghost use Rattle.ir_model.specs.Network.{node_count};
-ghost use Rattle.ir_model.specs.OfGraph.{network_of_graph};
+ghost use Rattle.ir_model.specs.Topology.{node_count};
+ghost use Rattle.ir_model.specs.OfGraph.{topology_of_graph};
 ghost use Rattle.ir_script.specs.declared.TheConstants.{MAX_NUMBER};
-ghost use Rattle.ir_script.specs.Command.{number_of, node_of, link_between, link_of};
+ghost use Rattle.ir_script.specs.Command.{number_of, node_of, link_towards, named_link};
 
 use crate::fault::ScriptFault;
 use crate::{MAX_DIGITS, MAX_NUMBER};
@@ -43,7 +43,7 @@ pub fn node_of(graph: &Graph, word: &[u8]) -> Result<u16, ScriptFault>
 /// The link by which a port of a node leads to another.
 pub fn link_between(topology: &Topology, u: u16, v: u16) -> Result<u16, ScriptFault>
     requires { u < node_count topology.now }
-    ensures { result ≡ link_between topology.now u v }
+    ensures { result ≡ link_towards topology.now u v }
 {
     match topology.hop_to(u, v) {
         Some(hop) => Ok(hop.link),
@@ -58,8 +58,8 @@ pub fn link_of(
     first: &[u8],
     second: &[u8],
 ) -> Result<u16, ScriptFault>
-    requires { topology.now ≡ network_of_graph graph.now }
-    ensures { result ≡ link_of (names graph.now) topology.now first.now second.now }
+    requires { topology.now ≡ topology_of_graph graph.now }
+    ensures { result ≡ named_link (names graph.now) topology.now first.now second.now }
 {
     let u = node_of(graph, first)?;
     let v = node_of(graph, second)?;

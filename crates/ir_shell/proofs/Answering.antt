@@ -2,17 +2,17 @@
 use Rattle.std.proofs.Common.{◌≡◌, ℕ, List, Option, Some, None, Result, Ok, Err, MatchOption, MatchResult, string_bytes, sym, ap, subst}
 use Rattle.ir_model.specs.declared.Fault.{Fault}
 use Rattle.ir_model.specs.Graph.{Name, Adjacency, names}
-use Rattle.ir_model.specs.Network.{Network}
-use Rattle.ir_model.specs.OfGraph.{network_of_graph}
+use Rattle.ir_model.specs.Topology.{Topology}
+use Rattle.ir_model.specs.OfGraph.{topology_of_graph}
 use Rattle.ir_script.specs.declared.fault.ScriptFault.{ScriptFault}
 use Rattle.ir_script.specs.Script.{Listing, listing_from}
-use Rattle.ir_words.specs.declared.words.Format.{Format}
-use Rattle.ir_words.specs.declared.words.Words.{Words}
-use Rattle.ir_words.specs.declared.reply.Reply.{Reply}
-use Rattle.ir_words.specs.Answer.{Answer, Refused}
-use Rattle.ir_words.specs.Lines.{topology_line, script_line, opening_line}
-use Rattle.ir_words.specs.Openings.{topology_fault, topology_graph, root_name, root_in, no_root, AnswersTopology, AnswersRoot}
-use Rattle.ir_words.specs.Replies.{answer_of}
+use Rattle.ir_cli.specs.declared.words.Format.{Format}
+use Rattle.ir_cli.specs.declared.words.Words.{Words}
+use Rattle.ir_cli.specs.declared.reply.Reply.{Reply}
+use Rattle.ir_cli.specs.Answer.{Answer, Refused}
+use Rattle.ir_cli.specs.Lines.{topology_line, script_line, opening_line}
+use Rattle.ir_cli.specs.Openings.{topology_fault, topology_graph, root_name, root_in, no_root, AnswersTopology, AnswersRoot}
+use Rattle.ir_cli.specs.Replies.{answer_of}
 use Rattle.ir_shell.specs.declared.asking.Stop.{Stop}
 use Rattle.ir_shell.specs.declared.asking.Stop.TheVariants as stops
 use Rattle.ir_shell.specs.Stops.{StopsAs, Gives, AnswersScripted, IsAsked, RefusesAsked}
@@ -50,18 +50,18 @@ of_graph format ls answers answer sound holds =
     subst (λ (first : Option (ℕ × Fault)). MatchOption first (answers (topology_graph format ls) answer) (λ g. answer ≡ Refused (topology_line g))) (sym sound) holds
 
 -- ---- a script and a root
-module _ {A : Type 0} (says : List Name → Network → List ℕ → Result (Option A) ScriptFault) (words : Words) (script : List (List ℕ)) (g : Adjacency) where
+module _ {A : Type 0} (says : List Name → Topology → List ℕ → Result (Option A) ScriptFault) (words : Words) (script : List (List ℕ)) (g : Adjacency) where
   said : Result (Listing A) (ℕ × ScriptFault)
-  said = listing_from says (names g) (network_of_graph g) 1 script
+  said = listing_from says (names g) (topology_of_graph g) 1 script
 
   pub of_script_fault : (answers : Adjacency → Listing A → ℕ → Answer → Type 0) (line : List ℕ)
-      → (f : ℕ × ScriptFault) × (listing_from says (names g) (network_of_graph g) 1 script ≡ Err f) × (line ≡ script_line f)
+      → (f : ℕ × ScriptFault) × (listing_from says (names g) (topology_of_graph g) 1 script ≡ Err f) × (line ≡ script_line f)
       → AnswersScripted says words script answers g (Refused line)
   of_script_fault answers line (f, is, told) =
       subst (λ (found : Result (Listing A) (ℕ × ScriptFault)). MatchResult found (λ listing. AnswersRoot g (root_name words) (answers g listing) (Refused line)) (λ e. Refused line ≡ Refused (script_line e))) (sym is) (ap Refused told)
 
   pub of_script : (answers : Adjacency → Listing A → ℕ → Answer → Type 0) (answer : Answer) (listing : Listing A)
-      → listing_from says (names g) (network_of_graph g) 1 script ≡ Ok listing → AnswersRoot g (root_name words) (answers g listing) answer
+      → listing_from says (names g) (topology_of_graph g) 1 script ≡ Ok listing → AnswersRoot g (root_name words) (answers g listing) answer
       → AnswersScripted says words script answers g answer
   of_script answers answer listing is holds =
       subst (λ (found : Result (Listing A) (ℕ × ScriptFault)). MatchResult found (λ l. AnswersRoot g (root_name words) (answers g l) answer) (λ e. answer ≡ Refused (script_line e))) (sym is) holds
@@ -77,9 +77,9 @@ of_root g name answers answer u is holds =
     subst (λ (found : Option ℕ). MatchOption found (answer ≡ Refused (opening_line (no_root g))) (λ v. answers v answer)) (sym is) holds
 
 -- ---- what is asked for
-module _ {A : Type 0} (says : List Name → Network → List ℕ → Result (Option A) ScriptFault) (words : Words) (topology script : List (List ℕ)) where
+module _ {A : Type 0} (says : List Name → Topology → List ℕ → Result (Option A) ScriptFault) (words : Words) (topology script : List (List ℕ)) where
   -- an answer to what is asked for
-  pub of_asked : (answers : Adjacency → Listing A → ℕ → Answer → Type 0) (g : Adjacency) (net : Network) (listing : Listing A) (root : ℕ)
+  pub of_asked : (answers : Adjacency → Listing A → ℕ → Answer → Type 0) (g : Adjacency) (net : Topology) (listing : Listing A) (root : ℕ)
       → IsAsked says words topology script g net listing root → (answer : Answer) → answers g listing root answer
       → AnswersTopology words.format topology (AnswersScripted says words script answers) answer
   of_asked answers g net listing root asked answer holds =
@@ -93,13 +93,13 @@ module _ {A : Type 0} (says : List Name → Network → List ℕ → Result (Opt
   of_refusal answers line refuses =
       let g = topology_graph words.format topology in
       option_more (topology_fault words.format topology)
-      (result_more (listing_from says (names g) (network_of_graph g) 1 script)
+      (result_more (listing_from says (names g) (topology_of_graph g) 1 script)
       (λ listing. option_more (root_in (names g) (root_name words)) (λ (same : Refused line ≡ Refused (opening_line (no_root g))). same) (λ u none. absurd none))
       (λ f (same : Refused line ≡ Refused (script_line f)). same))
       (λ f (same : Refused line ≡ Refused (topology_line f)). same) refuses
 
   -- answers to what is asked for, and refusals
-  pub gives_asked : (answers : Adjacency → Listing A → ℕ → Answer → Type 0) (g : Adjacency) (net : Network) (listing : Listing A) (root : ℕ)
+  pub gives_asked : (answers : Adjacency → Listing A → ℕ → Answer → Type 0) (g : Adjacency) (net : Topology) (listing : Listing A) (root : ℕ)
       → IsAsked says words topology script g net listing root → (result : Result Reply Stop) → Gives (answers g listing root) result
       → Gives (AnswersTopology words.format topology (AnswersScripted says words script answers)) result
   gives_asked answers g net listing root asked result gives =

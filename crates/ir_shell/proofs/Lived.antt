@@ -4,17 +4,17 @@ use Rattle.std.specs.Prelude.{All}
 use Rattle.std.specs.List.{AllByRecursion}
 use Rattle.std.proofs.lemmas.Bool.{ltb-true, leb-true, and_parts}
 use Rattle.std.proofs.lemmas.Option.{same_Some, none-some, slice_get_within, get_or_from_slice_get}
-use Rattle.ir_model.specs.Network.{Network, IsNetwork, node_count}
+use Rattle.ir_model.specs.Topology.{Topology, IsTopology, node_count}
 use Rattle.ir_core.specs.declared.TheConstants.{MAX_NODES, MAX_LINKS, MAX_CAPACITY, MAX_PACKETS, MAX_RESTAMPS}
 use Rattle.ir_core.specs.declared.command.Command.{Command}
 use Rattle.ir_core.specs.declared.command.Command.TheVariants.{Inject, Install, Retire, Down, Up, Drain}
-use Rattle.ir_core.specs.Journey.{Journey}
+use Rattle.ir_core.specs.Record.{Record}
 use Rattle.ir_core.specs.Opened.{open_refused, is_small, is_within}
 use Rattle.ir_epochs.specs.declared.registry.Stamp.{Stamp}
 use Rattle.ir_epochs.specs.Stamps.{knows}
 use Rattle.ir_worker.specs.Account.{Head, head_of}
 use Rattle.ir_worker.specs.declared.parcel.Outcome.{Outcome}
-use Rattle.ir_worker.specs.Seen.{SeenParcel, stamps_of}
+use Rattle.ir_worker.specs.Seen.{Parcel, stamps_of}
 use Rattle.ir_control.specs.declared.injector.Accepted.{Accepted}
 use Rattle.ir_core.specs.declared.event.Refused.TheVariants.{NoNode, TooManyPackets}
 use Rattle.ir_core.specs.Refusals.{inject_refused}
@@ -28,7 +28,7 @@ use Rattle.ir_control.specs.Told.{IsOutcomeIn}
 use Rattle.ir_links.specs.Ends.{Word}
 use Rattle.ir_live.specs.declared.desk.Desk.{Desk}
 use Rattle.ir_live.specs.declared.live.Live.{Live}
-use Rattle.ir_live.specs.Answers.{Answer, accepted_by, accepted_from, epoch_after}
+use Rattle.ir_live.specs.Answers.{CommandAnswer, accepted_by, accepted_from, epoch_after}
 use Rattle.ir_live.specs.Carried.{IsCarriedOut, AreCarriedOut}
 use Rattle.ir_live.specs.Lives.{IsLive}
 use Rattle.ir_trace.specs.Written.{HasSegments, HaveSegments}
@@ -46,9 +46,9 @@ in_range n most count source dest e = by (nat_lt source n) (nat_lt dest n) refl 
     by true false a b h = absurd (cc h)
     by false u a b h = absurd (cc h)
 
-module _ (was_full : Word SeenParcel) {B : Type 0} (before next : Desk B) (n : ℕ) where
+module _ (was_full : Word Parcel) {B : Type 0} (before next : Desk B) (n : ℕ) where
   -- the injector stays that of its net
-  kept : (c : Command) (answer : Answer) → IsCarriedOut was_full c before answer next → next.injector.opening ≡ before.injector.opening
+  kept : (c : Command) (answer : CommandAnswer) → IsCarriedOut was_full c before answer next → next.injector.opening ≡ before.injector.opening
   kept (Inject source dest) answer k = k.1.opening
   kept (Install kind root) (Ok None) k = absurd k
   kept (Install kind root) (Ok (Some s)) k = k.learnt.opening
@@ -65,10 +65,10 @@ module _ (was_full : Word SeenParcel) {B : Type 0} (before next : Desk B) (n : �
   kept Drain answer k = ap (λ i. i.opening) k.1
 
   -- the packet that a command put in
-  one_entered : node_count (knows before.injector.opening).network ≡ n → (c : Command) (answer : Answer) (id epoch : ℕ) (later : List Accepted) → IsCarriedOut was_full c before answer next → AllByRecursion (IsEntered n) later
+  one_entered : node_count (knows before.injector.opening).topology ≡ n → (c : Command) (answer : CommandAnswer) (id epoch : ℕ) (later : List Accepted) → IsCarriedOut was_full c before answer next → AllByRecursion (IsEntered n) later
       → AllByRecursion (IsEntered n) (accepted_by id epoch c answer ++ later)
   one_entered e (Inject source dest) (Ok None) id epoch later k all =
-      (subst (λ (m : ℕ). (source < m) × (dest < m)) e (in_range (node_count (knows before.injector.opening).network) before.injector.max_packets (length before.injector.accepted.items) source dest k.0.0), all)
+      (subst (λ (m : ℕ). (source < m) × (dest < m)) e (in_range (node_count (knows before.injector.opening).topology) before.injector.max_packets (length before.injector.accepted.items) source dest k.0.0), all)
   one_entered e (Inject source dest) (Ok (Some s)) id epoch later k all = absurd k.0
   one_entered e (Inject source dest) (Err why) id epoch later k all = all
   one_entered e (Install kind root) answer id epoch later k all = all
@@ -78,14 +78,14 @@ module _ (was_full : Word SeenParcel) {B : Type 0} (before next : Desk B) (n : �
   one_entered e Drain answer id epoch later k all = all
 
 -- the packets that commands put in
-entered : (was_full : Word SeenParcel) {B : Type 0} (n : ℕ) (commands : List Command) (before : Desk B) (answers : List Answer) (after : Desk B) (id epoch : ℕ) → node_count (knows before.injector.opening).network ≡ n → AreCarriedOut was_full commands before answers after
+entered : (was_full : Word Parcel) {B : Type 0} (n : ℕ) (commands : List Command) (before : Desk B) (answers : List CommandAnswer) (after : Desk B) (id epoch : ℕ) → node_count (knows before.injector.opening).topology ≡ n → AreCarriedOut was_full commands before answers after
     → AllByRecursion (IsEntered n) (accepted_from id epoch commands answers)
 entered was_full n [] before [] after id epoch e k = tt
 entered was_full n [] before (answer ∷ answers) after id epoch e k = absurd k
 entered was_full n (c ∷ commands) before [] after id epoch e k = absurd k
 entered was_full n (c ∷ commands) before (answer ∷ answers) after id epoch e k =
     let next = k.0 in
-    let same = ap (λ (s : Stamp). node_count (knows s).network) (kept was_full before next n c answer k.1) ∙ e in
+    let same = ap (λ (s : Stamp). node_count (knows s).topology) (kept was_full before next n c answer k.1) ∙ e in
     let later = entered was_full n commands next answers after (id + length (accepted_by id epoch c answer)) (epoch_after epoch answer) same k.2 in
     one_entered was_full before next n e c answer id epoch (accepted_from (id + length (accepted_by id epoch c answer)) (epoch_after epoch answer) commands answers) k.1 later
 
@@ -102,7 +102,7 @@ ends_in n (x ∷ outcomes) (a ∷ accepted) e all zero o at =
     subst (λ (y : Outcome). (y.packet.source < n) × (y.packet.dest < n)) here (let k = all.0.0 in omega arith, let k = all.0.1 in omega arith)
 ends_in n (x ∷ outcomes) (a ∷ accepted) e all (suc i) o at = ends_in n outcomes accepted (cc e) all.1 i o at
 
-of_outcome : (outcomes : List Outcome) (i : ℕ) (r : Journey) → slice_get (map (λ o. o.packet) outcomes) i ≡ Some r → (o : Outcome) × (slice_get outcomes i ≡ Some o) × (o.packet ≡ r)
+of_outcome : (outcomes : List Outcome) (i : ℕ) (r : Record) → slice_get (map (λ o. o.packet) outcomes) i ≡ Some r → (o : Outcome) × (slice_get outcomes i ≡ Some o) × (o.packet ≡ r)
 of_outcome [] i r at = absurd (none-some r at)
 of_outcome (x ∷ outcomes) zero r at = (x, refl, same_Some x.packet r at)
 of_outcome (x ∷ outcomes) (suc i) r at = of_outcome outcomes i r at
@@ -111,19 +111,19 @@ all_at : {X : Type 0} (P : X → Type 0) (xs : List X) (i : ℕ) (x : X) → All
 all_at P xs i x all at = subst P (get_or_from_slice_get xs i x x at) (all i x (slice_get_within xs i x at))
 
 -- each record of a live run can be written over the network of its net's opening
-pub live_records : (was_full : Word SeenParcel) {B : Type 0} (net : Net) (commands : List Command) (live : Live) → IsLive B was_full net commands live → (over : Network) → IsNetwork over → node_count over ≤ MAX_NODES → (knows net.opening).network ≡ over
+pub live_records : (was_full : Word Parcel) {B : Type 0} (net : Net) (commands : List Command) (live : Live) → IsLive B was_full net commands live → (over : Topology) → IsTopology over → node_count over ≤ MAX_NODES → (knows net.opening).topology ≡ over
     → HaveSegments over live.report.records.items
 live_records was_full net commands live is over ok few opening i r at =
-    let found = of_outcome is.report.outcomes i r (ap (λ (rs : List Journey). slice_get rs i) (sym is.report.records) ∙ at) in
+    let found = of_outcome is.report.outcomes i r (ap (λ (rs : List Record). slice_get rs i) (sym is.report.records) ∙ at) in
     let o = found.0 in
     let there = found.1 in
-    let nodes : node_count (knows is.opened.injector.opening).network ≡ node_count over = ap (λ (s : Stamp). node_count (knows s).network) is.handed_out.injector_of.opening ∙ ap (λ (g : Network). length g.ports) opening in
+    let nodes : node_count (knows is.opened.injector.opening).topology ≡ node_count over = ap (λ (s : Stamp). node_count (knows s).topology) is.handed_out.injector_of.opening ∙ ap (λ (g : Topology). length g.ports) opening in
     let all = entered was_full (node_count over) commands is.opened is.answers is.closed 0 1 nodes is.carried_out in
     let every = subst (AllByRecursion (IsEntered (node_count over))) (sym is.accepted) all in
     let ends = ends_in (node_count over) is.report.outcomes is.closed.injector.accepted.items is.report.heads every i o there in
     let sound = all_at IsSoundOutcome is.report.outcomes i o is.report.sound there in
     let of_net = all_at (IsOutcomeIn net.opening) is.report.outcomes i o is.report.of_net there in
-    subst (λ (x : Journey). HasSegments over x) found.2 (has_segments over ok net.opening opening (stamps_of o.stamp o.later.items) o.packet few ends.0 ends.1 of_net sound.1)
+    subst (λ (x : Record). HasSegments over x) found.2 (has_segments over ok net.opening opening (stamps_of o.stamp o.later.items) o.packet few ends.0 ends.1 of_net sound.1)
 
 -- what is opened is a network of few nodes
 pub few_nodes : (opening : Opening) → open_refused opening ≡ None → node_count opening.topology ≤ MAX_NODES

@@ -2,23 +2,23 @@
 use Rattle.std.proofs.Common.{◌≡◌, ◌≢◌, ℕ, List, Option, Some, None, MatchOption, refl, sym, subst}
 use Rattle.ir_model.specs.declared.Kind.{Kind}
 use Rattle.ir_model.specs.Graph.{Name, Adjacency, names}
-use Rattle.ir_model.specs.Network.{Network}
-use Rattle.ir_model.specs.OfGraph.{network_of_graph}
-use Rattle.ir_model.specs.Scheme.{Scheme, IsScheme}
+use Rattle.ir_model.specs.Topology.{Topology}
+use Rattle.ir_model.specs.OfGraph.{topology_of_graph}
+use Rattle.ir_model.specs.Plan.{Plan, IsPlan}
 use Rattle.ir_model.specs.Text.{lines}
 use Rattle.ir_core.specs.declared.event.OpenError.{OpenError}
 use Rattle.ir_core.specs.declared.event.OpenError.TheVariants as errors
 use Rattle.ir_order.specs.Order.{order_fault, IsOrder}
 use Rattle.ir_order.specs.declared.fault.OrderFaultKind.{OrderFaultKind}
-use Rattle.ir_words.specs.declared.words.Words.{Words}
-use Rattle.ir_words.specs.Answer.{Answer, Ran, Found, Refused, NoThread}
-use Rattle.ir_words.specs.Lines.{numbering_line}
-use Rattle.ir_words.specs.Openings.{topology_fault, topology_graph, root_name, root_in, label_order, AnswersRoot, AnswersOrder}
+use Rattle.ir_cli.specs.declared.words.Words.{Words}
+use Rattle.ir_cli.specs.Answer.{Answer, Ran, Found, Refused, NoThread}
+use Rattle.ir_cli.specs.Lines.{numbering_line}
+use Rattle.ir_cli.specs.Openings.{topology_fault, topology_graph, root_name, root_in, label_order, AnswersRoot, AnswersOrder}
 use Rattle.ir_shell.specs.declared.look.Look.{Look}
-use Rattle.ir_shell.specs.declared.look.Look.TheVariants.{Plan, Walk, Stats, Draw, Prefixes}
+use Rattle.ir_shell.specs.declared.look.Look.TheVariants.{Plan as Planning, Walk, Stats, Draw, Prefixes}
 use Rattle.ir_shell.specs.declared.look.Show.{Show}
 use Rattle.ir_shell.specs.declared.look.Show.TheVariants.{Between, Drawing}
-use Rattle.ir_shell.specs.Looks.{from_name, to_name, Says, Shows, AnswersEnds, AnswersBothEnds, AnswersShow, AnswersAsked, AnswersLook, AnswersLabels, AreTexts, LookAnswers, IsNode, IsLabelling, IsDrawn, IsShow, RefusesLabels, RefusesEnds, RefusesShow}
+use Rattle.ir_shell.specs.Looks.{from_name, to_name, Says, AnswerShows, AnswersEnds, AnswersBothEnds, AnswersShow, AnswersAsked, AnswersLook, AnswersLabels, AreTexts, LookAnswers, IsNode, IsLabelling, IsDrawn, IsShow, RefusesLabels, RefusesEnds, RefusesShow}
 use Rattle.ir_shell.specs.Plans.{Labelling, FromRoot, ByList, IsLabelled, AnswersText, RefusesPlan, RefusesBuild}
 use Rattle.ir_shell.proofs.Answering.{option_more, of_graph, of_root}
 
@@ -64,7 +64,7 @@ of_drawn (Some from) (Some to) g answers show answer (a, b, first, second, same)
 
 of_show : (look : Look) (words : Words) (g : Adjacency) (answers : Show → Answer → Type 0) (show : Show) (answer : Answer)
     → IsShow look words g show → answers show answer → AnswersAsked look words g answers answer
-of_show Plan words g answers show answer same holds = subst (λ (s : Show). answers s answer) same holds
+of_show Planning words g answers show answer same holds = subst (λ (s : Show). answers s answer) same holds
 of_show Walk words g answers show answer (a, b, first, second, same) holds =
     of_ends g (from_name words) (to_name words) (λ x y. answers (Between x y)) answer a b first second (subst (λ (s : Show). answers s answer) same holds)
 of_show Stats words g answers show answer same holds = subst (λ (s : Show). answers s answer) same holds
@@ -79,7 +79,7 @@ refuses_drawn (Some from) (Some to) g answers line refuses = refuses_ends g (Som
 
 refuses_show : (look : Look) (words : Words) (g : Adjacency) (answers : Show → Answer → Type 0) (line : List ℕ)
     → RefusesShow look words g line → AnswersAsked look words g answers (Refused line)
-refuses_show Plan words g answers line refuses = absurd refuses
+refuses_show Planning words g answers line refuses = absurd refuses
 refuses_show Walk words g answers line refuses = refuses_ends g (from_name words) (to_name words) (λ x y. answers (Between x y)) line refuses
 refuses_show Stats words g answers line refuses = absurd refuses
 refuses_show Draw words g answers line refuses = refuses_drawn (from_name words) (to_name words) g answers line refuses
@@ -113,7 +113,7 @@ module _ (look : Look) (words : Words) (texts : List (List ℕ)) (topology : Lis
       by_graph answer (of_labels words order g (AnswersLook look words g) labels answer is (of_show look words g (AnswersShow words g labels) show answer shown holds))
 
 -- a refusal of a plan, other than for memory
-pub refused_plan : (net : Network) (labels : Labelling) (e : OpenError) → e ≢ errors.NoMemory → RefusesBuild net labels e → RefusesPlan net labels e
+pub refused_plan : (net : Topology) (labels : Labelling) (e : OpenError) → e ≢ errors.NoMemory → RefusesBuild net labels e → RefusesPlan net labels e
 refused_plan net labels errors.NoNode other refuses = refuses
 refused_plan net labels errors.Empty other refuses = refuses
 refused_plan net labels errors.Disconnected other refuses = refuses
@@ -122,10 +122,10 @@ refused_plan net labels errors.Used other refuses = refuses
 refused_plan net labels errors.NoMemory other refuses = absurd (other refl)
 
 -- what shows a plan is an answer
-pub shown_plan : (g : Adjacency) (kind : Kind) (labels : Labelling) (show : Show) (s : Scheme) → IsScheme s → IsLabelled labels s → s.network ≡ network_of_graph g → s.kind ≡ kind
-    → (answer : Answer) → Shows show (names g) s answer → AnswersText g kind labels (Says show (names g)) answer
+pub shown_plan : (g : Adjacency) (kind : Kind) (labels : Labelling) (show : Show) (s : Plan) → IsPlan s → IsLabelled labels s → s.topology ≡ topology_of_graph g → s.kind ≡ kind
+    → (answer : Answer) → AnswerShows show (names g) s answer → AnswersText g kind labels (Says show (names g)) answer
 shown_plan g kind labels show s valid labelled over of_kind (Ran text refusals) shows =
-    (record { scheme = s; valid = valid; labelled = labelled; over = over; of_kind = of_kind; said = shows.0 }, shows.1)
+    (record { plan = s; valid = valid; labelled = labelled; over = over; of_kind = of_kind; said = shows.0 }, shows.1)
 shown_plan g kind labels show s valid labelled over of_kind (Found text) shows = absurd shows
 shown_plan g kind labels show s valid labelled over of_kind (Refused line) shows = absurd shows
 shown_plan g kind labels show s valid labelled over of_kind NoThread shows = absurd shows

@@ -4,8 +4,8 @@ use Rattle.ir_core.specs.declared.built.Install.{Install}
 use Rattle.ir_core.specs.declared.event.Step.{Step}
 use Rattle.ir_model.specs.Graph.{Adjacency}
 use Rattle.ir_script.specs.Script.{Listing}
-use Rattle.ir_words.specs.declared.words.Words.{Words}
-use Rattle.ir_words.specs.Answer.{Answer, Ran, Found, Refused, NoThread}
+use Rattle.ir_cli.specs.declared.words.Words.{Words}
+use Rattle.ir_cli.specs.Answer.{Answer, Ran, Found, Refused, NoThread}
 use Rattle.ir_shell.specs.Checks.{AreReplayed, AnswersTrace, AnswersCheck}
 
 -- the answer to a trace, by the installs of a script

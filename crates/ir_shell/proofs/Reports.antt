@@ -11,8 +11,8 @@ use Rattle.std.proofs.lemmas.List.{length-append, length-drop, length-take-le, l
 use Rattle.std.proofs.lemmas.Option.{same_Some, none-some, slice_get_within}
 use Rattle.ir_model.specs.declared.Hop.{Hop}
 use Rattle.ir_model.specs.declared.Link.{Link}
-use Rattle.ir_model.specs.Network.{Network, IsNetwork, IsPort, node_count, port_at, ports_of, restrict}
-use Rattle.ir_model.specs.Scheme.{Scheme, table_port}
+use Rattle.ir_model.specs.Topology.{Topology, IsTopology, IsPort, node_count, port_at, ports_of, restrict}
+use Rattle.ir_model.specs.Plan.{Plan, table_port}
 use Rattle.ir_model.specs.Walk.{Linked, LeadsTo, IsWalk}
 use Rattle.ir_model.proofs.Restrict.{node_count-restrict, port_at-restrict}
 use Rattle.ir_model.proofs.Tables.{prescribed_unique}
@@ -21,9 +21,9 @@ use Rattle.ir_core.specs.declared.TheConstants.{MAX_NODES, MAX_RESTAMPS}
 use Rattle.ir_core.specs.declared.packet.Fate.{Fate}
 use Rattle.ir_core.specs.declared.packet.Fate.TheVariants.{Delivered, Retired, Down, Full, Left}
 use Rattle.ir_core.specs.declared.packet.Restamp.{Restamp}
-use Rattle.ir_core.specs.Journey.{Journey, segments, segments_in, present_in, until}
+use Rattle.ir_core.specs.Record.{Record, segments, segments_in, present_in, until}
 use Rattle.ir_core.specs.Sound.{IsSound, FateFits, LeadsOn, ArePlaces, last_of}
-use Rattle.ir_core.specs.State.{StepsTo}
+use Rattle.ir_core.specs.World.{StepsTo}
 use Rattle.ir_core.proofs.Segments.{places_more, last_drop, last_take}
 use Rattle.ir_core.proofs.Hops.{walk_append, walk_tail}
 use Rattle.ir_core.proofs.Routed.{most, most_within}
@@ -31,7 +31,7 @@ use Rattle.ir_core.proofs.Walks.{IsWalkFrom, walk_of, port_of}
 use Rattle.ir_core.proofs.Walks as table
 use Rattle.ir_epochs.specs.declared.registry.Stamp.{Stamp}
 use Rattle.ir_epochs.specs.Stamps.{knows}
-use Rattle.ir_worker.specs.Seen.{EachBy, IsSoundBy, IsSoundJourney, IsOfNet}
+use Rattle.ir_worker.specs.Seen.{EachBy, IsSoundByStamp, IsSoundByStamps, IsOfNet}
 use Rattle.ir_trace.specs.Written.{FateIsIn, HasSegments}
 
 -- ---- what is known to be there is found
@@ -50,15 +50,15 @@ first_to v (x ∷ xs) = by (x.node == v) refl (first_to v xs)
     by true e later = inl (0, x, refl, eqb-true x.node v e)
     by false e later = ⊎_elim (λ k. inl (suc k.0, k.1, k.2, k.3)) (λ away. inr (none e away)) later
 
-linked_out : (net : Network) (u v : ℕ) → ∥ Linked net u v ∥₁ → Linked net u v
+linked_out : (net : Topology) (u v : ℕ) → ∥ Linked net u v ∥₁ → Linked net u v
 linked_out net u v h = ⊎_elim (λ k. k) (λ later. absurd (∥∥₁_elim h (λ x y. absurd x) (λ k. later k.0 k.1 k.2 k.3))) (first_to v (ports_of net u))
 
-leads_out : (net : Network) (u d : ℕ) (rest : List ℕ) → ∥ LeadsTo net u d rest ∥₁ → LeadsTo net u d rest
+leads_out : (net : Topology) (u d : ℕ) (rest : List ℕ) → ∥ LeadsTo net u d rest ∥₁ → LeadsTo net u d rest
 leads_out net u d [] h = (∥∥₁_elim h (ℕ_set _ _) (λ k. k.0), ∥∥₁_elim h le_prop (λ k. k.1))
 leads_out net u d (v ∷ rest) h =
     (linked_out net u v (∥∥₁_elim h ∥∥₁_prop (λ k. ∣ k.0 ∣₁)), leads_out net v d rest (∥∥₁_elim h ∥∥₁_prop (λ k. ∣ k.1 ∣₁)))
 
-walk_out : (net : Network) (u d : ℕ) (hops : List ℕ) → ∥ IsWalk net u d hops ∥₁ → IsWalk net u d hops
+walk_out : (net : Topology) (u d : ℕ) (hops : List ℕ) → ∥ IsWalk net u d hops ∥₁ → IsWalk net u d hops
 walk_out net u d [] h = absurd (∥∥₁_elim h (λ x y. absurd x) (λ k. k))
 walk_out net u d (x ∷ rest) h = (∥∥₁_elim h (ℕ_set _ _) (λ k. k.0), leads_out net u d rest (∥∥₁_elim h ∥∥₁_prop (λ k. ∣ k.1 ∣₁)))
 
@@ -66,7 +66,7 @@ places_out : (n : ℕ) (latest : List Restamp) → ∥ ArePlaces n latest ∥₁
 places_out n [] h = tt
 places_out n (s ∷ older) h = (∥∥₁_elim h le_prop (λ k. k.0), places_out s.from older (∥∥₁_elim h ∥∥₁_prop (λ k. ∣ k.1 ∣₁)))
 
-fate_out : (net : Network) (fate : Fate) → ∥ FateIsIn net fate ∥₁ → FateIsIn net fate
+fate_out : (net : Topology) (fate : Fate) → ∥ FateIsIn net fate ∥₁ → FateIsIn net fate
 fate_out net Delivered h = tt
 fate_out net Retired h = tt
 fate_out net (Down l) h = ∥∥₁_elim h le_prop (λ k. k)
@@ -90,26 +90,26 @@ by_recursion P (x ∷ xs) all = (all 0 x (omega arith), by_recursion P xs (λ k 
 
 -- ---- where a walk ends
 
-leads_end : (net : Network) (u d : ℕ) (rest : List ℕ) → LeadsTo net u d rest → d < node_count net
+leads_end : (net : Topology) (u d : ℕ) (rest : List ℕ) → LeadsTo net u d rest → d < node_count net
 leads_end net u d [] k = k.1
 leads_end net u d (v ∷ rest) k = leads_end net v d rest k.1
 
-walk_end : (net : Network) (u d : ℕ) (hops : List ℕ) → IsWalk net u d hops → d < node_count net
+walk_end : (net : Topology) (u d : ℕ) (hops : List ℕ) → IsWalk net u d hops → d < node_count net
 walk_end net u d [] k = absurd k
 walk_end net u d (x ∷ rest) k = leads_end net u d rest k.1
 
 -- A segment between nodes of the network is a walk of it, and not long.
-abbrev IsLeg : Network → Journey → Type 0
+abbrev IsLeg : Topology → Record → Type 0
 IsLeg net g = g.source < node_count net → g.dest < node_count net → IsWalk net g.source (last_of g.hops) g.hops × (length g.hops ≤ node_count net)
 
-module _ (net : Network) (ok : IsNetwork net) where
+module _ (net : Topology) (ok : IsTopology net) where
   -- ---- a plan over links of the network
-  module _ (t : Scheme) (up : List Bool) (over : t.network ≡ restrict up net) where
-    port_in : (u p : ℕ) (hop : Hop) → port_at t.network u p ≡ Some hop → (q : ℕ) × (port_at net u q ≡ Some hop)
-    port_in u p hop at = let was = port_at-restrict up net u p hop (ap (λ (n : Network). port_at n u p) (sym over) ∙ at) in (was.0, was.1)
+  module _ (t : Plan) (up : List Bool) (over : t.topology ≡ restrict up net) where
+    port_in : (u p : ℕ) (hop : Hop) → port_at t.topology u p ≡ Some hop → (q : ℕ) × (port_at net u q ≡ Some hop)
+    port_in u p hop at = let was = port_at-restrict up net u p hop (ap (λ (n : Topology). port_at n u p) (sym over) ∙ at) in (was.0, was.1)
 
-    nodes_same : node_count t.network ≡ node_count net
-    nodes_same = ap (λ (n : Network). length n.ports) over ∙ node_count-restrict up net
+    nodes_same : node_count t.topology ≡ node_count net
+    nodes_same = ap (λ (n : Topology). length n.ports) over ∙ node_count-restrict up net
 
     step_linked : (u d v : ℕ) → StepsTo t d u v → Linked net u v
     step_linked u d v s = let from = port_of t u d s.0 s.1 in let at = port_in u from.0 s.0 from.1 in (at.0, s.0, at.1, s.2)
@@ -128,17 +128,17 @@ module _ (net : Network) (ok : IsNetwork net) where
         let same : x ≡ source = here.begins in
         (same, subst (λ (y : ℕ). LeadsTo net y (last_of (x ∷ front)) front) same (front_leads d x front rest (omega arith) here.steps))
 
-    leg : (g : Journey) → IsSound t g → IsLeg net g
+    leg : (g : Record) → IsSound t g → IsLeg net g
     leg g k source_in dest_in =
         let n = nodes_same in
-        let w = k.scheme.walks g.source g.dest (omega arith) (omega arith) in
-        let same : w.0 ≡ k.walk = prescribed_unique t.network (table_port t) g.source g.dest w.0 k.walk w.1 k.prescribed in
+        let w = k.plan.walks g.source g.dest (omega arith) (omega arith) in
+        let same : w.0 ≡ k.walk = prescribed_unique t.topology (table_port t) g.source g.dest w.0 k.walk w.1 k.prescribed in
         let lengths = ap length k.follows.1 in
         let walks = ap length same in
         (front_walk g.source g.dest g.hops k.follows.0 k.walk source_in k.not_empty k.follows.1 (walk_of t g.source g.dest k.walk k.prescribed), omega (arith, w.2, length-append g.hops k.follows.0, lengths, walks))
 
     -- the link along which the table leads on, and its end
-    link_on : (g : Journey) (l node : ℕ) → LeadsOn t g l node → (link : Link) × (slice_get net.links l ≡ Some link) × ((node ≡ link.low) ⊎ (node ≡ link.high))
+    link_on : (g : Record) (l node : ℕ) → LeadsOn t g l node → (link : Link) × (slice_get net.links l ≡ Some link) × ((node ≡ link.low) ⊎ (node ≡ link.high))
     link_on g l node on =
         let from = port_of t (last_of g.hops) g.dest on.0 on.1 in
         let at = port_in (last_of g.hops) from.0 on.0 from.1 in
@@ -148,7 +148,7 @@ module _ (net : Network) (ok : IsNetwork net) where
           ⊎_elim (λ ends. inr (sym on.3 ∙ sym ends.1)) (λ ends. inl (sym on.3 ∙ sym ends.0)) port.2,
         )
 
-    fate_in : (g : Journey) (walk : List ℕ) (fate : Fate) → FateFits t g walk fate → FateIsIn net fate
+    fate_in : (g : Record) (walk : List ℕ) (fate : Fate) → FateFits t g walk fate → FateIsIn net fate
     fate_in g walk Delivered fits = tt
     fate_in g walk Retired fits = tt
     fate_in g walk (Down l) fits = let link = link_on g l fits.0 fits.1.1 in slice_get_within net.links l link.0 link.1
@@ -156,7 +156,7 @@ module _ (net : Network) (ok : IsNetwork net) where
     fate_in g walk Left fits = tt
 
   -- ---- all segments of a record
-  walk_in : (latest : List Restamp) (r : Journey) (m : ℕ) → node_count net ≡ m + 1 → r.source < node_count net → r.dest < node_count net → ArePlaces (length r.hops) latest → AllByRecursion (IsLeg net) (segments_in latest r)
+  walk_in : (latest : List Restamp) (r : Record) (m : ℕ) → node_count net ≡ m + 1 → r.source < node_count net → r.dest < node_count net → ArePlaces (length r.hops) latest → AllByRecursion (IsLeg net) (segments_in latest r)
       → IsWalk net r.source (last_of r.hops) r.hops × (length r.hops ≤ most latest m + 1)
   walk_in [] r m n source_in dest_in places each = let k = each.0 source_in dest_in in (k.0, omega (arith, k.1))
   walk_in (s ∷ older) r m n source_in dest_in places each =
@@ -178,18 +178,18 @@ module _ (net : Network) (ok : IsNetwork net) where
       )
 
   -- ---- by the stamps of a record
-  module _ (opening : Stamp) (over : (knows opening).network ≡ net) where
+  module _ (opening : Stamp) (over : (knows opening).topology ≡ net) where
     abbrev AreOfNet : List Stamp → Type 0
     AreOfNet ss = AllByRecursion (IsOfNet opening) ss
 
-    legs : (ss : List Stamp) (gs : List Journey) → AreOfNet ss → EachBy IsSoundBy ss gs → ∥ AllByRecursion (IsLeg net) gs ∥₁
+    legs : (ss : List Stamp) (gs : List Record) → AreOfNet ss → EachBy IsSoundByStamp ss gs → ∥ AllByRecursion (IsLeg net) gs ∥₁
     legs [] [] a e = ∣ tt ∣₁
     legs [] (g ∷ gs) a e = absurd e
     legs (s ∷ ss) [] a e = absurd e
     legs (s ∷ ss) (g ∷ gs) a e =
         ∥∥₁_elim a.0.1 ∥∥₁_prop (λ w. ∥∥₁_elim (legs ss gs a.1 e.1) ∥∥₁_prop (λ rest. ∣ (leg (knows s) w.0 (w.2 ∙ ap (restrict w.0) over) g e.0.1, rest) ∣₁))
 
-    fates : (ss : List Stamp) (latest : List Restamp) (r : Journey) → AreOfNet ss → EachBy IsSoundBy ss (segments_in latest r) → ∥ FateIsIn net r.fate ∥₁
+    fates : (ss : List Stamp) (latest : List Restamp) (r : Record) → AreOfNet ss → EachBy IsSoundByStamp ss (segments_in latest r) → ∥ FateIsIn net r.fate ∥₁
     fates [] [] r a e = absurd e
     fates [] (x ∷ older) r a e = absurd e
     fates (s ∷ ss) [] r a e =
@@ -198,8 +198,8 @@ module _ (net : Network) (ok : IsNetwork net) where
         ∥∥₁_elim a.0.1 ∥∥₁_prop (λ w. ∣ fate_in (knows s) w.0 (w.2 ∙ ap (restrict w.0) over) (present_in (x ∷ older) r) e.0.1.walk r.fate e.0.1.fate ∣₁)
 
     -- a record that is sound by stamps of the net
-    pub has_segments : (ss : List Stamp) (r : Journey) → node_count net ≤ MAX_NODES → r.source < node_count net → r.dest < node_count net
-        → ∥ All (IsOfNet opening) ss ∥₁ → ∥ IsSoundJourney ss r ∥₁ → HasSegments net r
+    pub has_segments : (ss : List Stamp) (r : Record) → node_count net ≤ MAX_NODES → r.source < node_count net → r.dest < node_count net
+        → ∥ All (IsOfNet opening) ss ∥₁ → ∥ IsSoundByStamps ss r ∥₁ → HasSegments net r
     has_segments ss r few source_in dest_in every sound =
         let of_net : ∥ AreOfNet ss ∥₁ = ∥∥₁_elim every ∥∥₁_prop (λ a. ∣ by_recursion (IsOfNet opening) ss a ∣₁) in
         let latest = reverse r.restamps in

@@ -6,7 +6,7 @@ use Rattle.std.specs.List.{zip}
 use Rattle.ir_core.specs.declared.event.Reply.{Reply}
 use Rattle.ir_core.specs.declared.event.Refused.{Refused}
 use Rattle.ir_shell.specs.Lives.{refusal_line}
-use Rattle.ir_words.specs.Lines.{reply_line}
+use Rattle.ir_cli.specs.Lines.{reply_line}
 use Rattle.ir_shell.specs.Plays.{refused_text}
 
 -- one more reply

@@ -2,18 +2,18 @@
 use Rattle.std.specs.Prelude.{◌≡◌, ℕ, if◌then◌else◌, List, [], ◌∷◌}
 use Rattle.ir_model.specs.Text.{lines}
 use Rattle.ir_links.specs.Ends.{Word}
-use Rattle.ir_worker.specs.Seen.{SeenParcel}
-use Rattle.ir_words.specs.declared.words.Words.{Words}
-use Rattle.ir_words.specs.declared.read.Source.{Source}
-use Rattle.ir_words.specs.declared.read.Source.TheVariants.{Input, Topology, Script, Trace, Numbering}
-use Rattle.ir_words.specs.declared.words.Sub.{Sub}
-use Rattle.ir_words.specs.declared.words.Sub.TheVariants.{Plan, Walk, Stats, Draw, Prefixes, Sim, Live, Check}
+use Rattle.ir_worker.specs.Seen.{Parcel}
+use Rattle.ir_cli.specs.declared.words.Words.{Words}
+use Rattle.ir_cli.specs.declared.read.Source.{Source}
+use Rattle.ir_cli.specs.declared.read.Source.TheVariants.{Input, Topology, Script, Trace, Numbering}
+use Rattle.ir_cli.specs.declared.words.Sub.{Sub}
+use Rattle.ir_cli.specs.declared.words.Sub.TheVariants.{Plan, Walk, Stats, Draw, Prefixes, Sim, Live, Check}
 use Rattle.ir_shell.specs.declared.look.Look.TheVariants as look
 use Rattle.ir_shell.specs.Looks.{LookAnswers}
-use Rattle.ir_words.specs.Answer.{Answer}
-use Rattle.ir_words.specs.Words.{is_one_input, has_order}
-use Rattle.ir_words.specs.Cut.{topology_part, script_part, EndsWith}
-use Rattle.ir_words.specs.Openings.{AnswersTopology}
+use Rattle.ir_cli.specs.Answer.{Answer}
+use Rattle.ir_cli.specs.Words.{is_one_input, has_order}
+use Rattle.ir_cli.specs.Cut.{topology_part, script_part, EndsWithBytes}
+use Rattle.ir_cli.specs.Openings.{AnswersTopology}
 use Rattle.ir_shell.specs.Plays.{AnswersScript}
 use Rattle.ir_shell.specs.Lives.{AnswersLiveScript}
 use Rattle.ir_shell.specs.Checks.{AnswersChecked}
@@ -41,7 +41,7 @@ abbrev pub AreThree : List (List ℕ) → List ℕ → List ℕ → List ℕ →
 AreThree [] topology script trace = ⊥
 AreThree (input ∷ []) topology script trace =
     (lines topology ≡ topology_part (lines input)) × (lines script ≡ topology_part (script_part (lines input)))
-    × (lines trace ≡ script_part (script_part (lines input))) × EndsWith input trace
+    × (lines trace ≡ script_part (script_part (lines input))) × EndsWithBytes input trace
 AreThree (first ∷ second ∷ []) topology script trace = ⊥
 AreThree (first ∷ second ∷ third ∷ []) topology script trace = (topology ≡ first) × (script ≡ second) × (trace ≡ third)
 AreThree (first ∷ second ∷ third ∷ fourth ∷ texts) topology script trace = ⊥
@@ -52,7 +52,7 @@ SimAnswers words texts answer =
     (topology script : List ℕ) × AreTwo texts topology script
     × AnswersTopology words.format (lines topology) (AnswersScript words (lines script)) answer
 
-abbrev pub LiveAnswers : Type 0 → Word SeenParcel → Words → List (List ℕ) → Answer → Type 0
+abbrev pub LiveAnswers : Type 0 → Word Parcel → Words → List (List ℕ) → Answer → Type 0
 LiveAnswers B was_full words texts answer =
     (topology script : List ℕ) × AreTwo texts topology script
     × AnswersTopology words.format (lines topology) (AnswersLiveScript B was_full words (lines script)) answer
@@ -76,7 +76,7 @@ sources_by Check words = check_sources words
 abbrev pub sources_of : Words → List Source
 sources_of words = sources_by words.sub words
 
-module _ (B : Type 0) (was_full : Word SeenParcel) where
+module _ (B : Type 0) (was_full : Word Parcel) where
   abbrev pub AnswersBy : Sub → Words → List (List ℕ) → Answer → Type 0
   AnswersBy Plan words texts answer = LookAnswers look.Plan words texts answer
   AnswersBy Walk words texts answer = LookAnswers look.Walk words texts answer

@@ -2,7 +2,7 @@
 use Rattle.std.specs.Prelude.{◌≡◌, ◌≢◌, ℕ, Bool, true, false, List, None, flat_map, slice_index_or}
 use Rattle.std.specs.List.{list_any}
 use Rattle.ir_model.specs.Graph.{Adjacency, names}
-use Rattle.ir_model.specs.OfGraph.{network_of_graph}
+use Rattle.ir_model.specs.OfGraph.{topology_of_graph}
 use Rattle.ir_core.specs.declared.event.Refused.{Refused as Refusal}
 use Rattle.ir_core.specs.declared.event.Refused.TheVariants as refusals
 use Rattle.ir_core.specs.declared.event.OpenError.{OpenError}
@@ -13,15 +13,15 @@ use Rattle.ir_control.specs.declared.net.Net.{Net}
 use Rattle.ir_control.specs.Nets.{IsNetFor}
 use Rattle.ir_control.specs.Opened.{IsNetRefusal}
 use Rattle.ir_links.specs.Ends.{Word}
-use Rattle.ir_worker.specs.Seen.{SeenParcel}
+use Rattle.ir_worker.specs.Seen.{Parcel}
 use Rattle.ir_live.specs.declared.live.Live.{Live}
 use Rattle.ir_live.specs.Lives.{IsLive}
 use Rattle.ir_script.specs.Command.{line_command}
 use Rattle.ir_script.specs.Script.{Listing}
-use Rattle.ir_words.specs.declared.words.Words.{Words}
-use Rattle.ir_words.specs.Answer.{Answer, Ran, Found, Refused, NoThread}
-use Rattle.ir_words.specs.Lines.{opening_line, refused_line}
-use Rattle.ir_words.specs.Openings.{opening_by}
+use Rattle.ir_cli.specs.declared.words.Words.{Words}
+use Rattle.ir_cli.specs.Answer.{Answer, Ran, Found, Refused, NoThread}
+use Rattle.ir_cli.specs.Lines.{opening_line, refused_line}
+use Rattle.ir_cli.specs.Openings.{opening_by}
 use Rattle.ir_shell.specs.Stops.{AnswersScripted}
 use Rattle.ir_shell.specs.Plays.{run_text}
 
@@ -40,32 +40,32 @@ refusals_text lines refusals = flat_map (refusal_line lines) refusals
 
 -- A net that is opened over the network of the graph as the words say.
 pub record IsOpenedNet (g : Adjacency) (words : Words) (root : ℕ) (net : Net) : Type 0 where
-  pub accepted : open_refused (opening_by words (network_of_graph g) root) ≡ None
-  pub opened : IsNetFor (opening_by words (network_of_graph g) root) net
+  pub accepted : open_refused (opening_by words (topology_of_graph g) root) ≡ None
+  pub opened : IsNetFor (opening_by words (topology_of_graph g) root) net
 
 -- The commands of a script are carried out over such a net while its nodes turn on threads of their own, and none of them
 -- wants memory. The word tells of refused pushes. The text is the trace of the records that are reported, each of which is a
--- sound journey by the plans of its epochs: epoch 1 has the plan that the words ask for, and each other epoch the one that
+-- sound record by the plans of its epochs: epoch 1 has the plan that the words ask for, and each other epoch the one that
 -- the install of the script asked for which it is of. The refused lines are those of the commands that were refused.
-pub record IsLiveRun (B : Type 0) (was_full : Word SeenParcel) (g : Adjacency) (words : Words) (root : ℕ) (script : Listing Command) (text refused : List ℕ) : Type 0 where
+pub record IsLiveRun (B : Type 0) (was_full : Word Parcel) (g : Adjacency) (words : Words) (root : ℕ) (script : Listing Command) (text refused : List ℕ) : Type 0 where
   pub net : Net
   pub live : Live
   pub opened : IsOpenedNet g words root net
   pub ran : IsLive B was_full net script.steps live
   pub in_memory : list_any is_for_memory live.refusals.items ≡ false
-  pub trace : text ≡ run_text words.restamps (names g) (network_of_graph g) live.report.records.items
+  pub trace : text ≡ run_text words.restamps (names g) (topology_of_graph g) live.report.records.items
   pub told : refused ≡ refusals_text script.lines live.refusals.items
 
 -- the answer to a graph, a script and the number of a root: the script's live run, or the refusal of the opening; or a
 -- thread of a net that was opened was not started
-abbrev pub AnswersLive : Type 0 → Word SeenParcel → Adjacency → Words → Listing Command → ℕ → Answer → Type 0
+abbrev pub AnswersLive : Type 0 → Word Parcel → Adjacency → Words → Listing Command → ℕ → Answer → Type 0
 AnswersLive B was_full g words script root (Ran text refused) = IsLiveRun B was_full g words root script text refused
 AnswersLive B was_full g words script root (Found text) = ⊥
 AnswersLive B was_full g words script root (Refused line) =
-    (e : OpenError) × (e ≢ openings.NoMemory) × IsNetRefusal (opening_by words (network_of_graph g) root) e × (line ≡ opening_line e)
+    (e : OpenError) × (e ≢ openings.NoMemory) × IsNetRefusal (opening_by words (topology_of_graph g) root) e × (line ≡ opening_line e)
 AnswersLive B was_full g words script root NoThread = (net : Net) × IsOpenedNet g words root net
 
 -- the answer to a graph and the lines of a script: the script's first fault comes before the refusal of the opening
-abbrev pub AnswersLiveScript : Type 0 → Word SeenParcel → Words → List (List ℕ) → Adjacency → Answer → Type 0
+abbrev pub AnswersLiveScript : Type 0 → Word Parcel → Words → List (List ℕ) → Adjacency → Answer → Type 0
 AnswersLiveScript B was_full words script g answer =
     AnswersScripted line_command words script (λ g. AnswersLive B was_full g words) g answer

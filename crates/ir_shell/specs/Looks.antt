@@ -5,20 +5,20 @@ use Rattle.std.specs.Option.{option_map}
 use Rattle.std.specs.Borrow.{Bor}
 use Rattle.ir_model.specs.Graph.{Name, Adjacency, names}
 use Rattle.ir_model.specs.Text.{lines}
-use Rattle.ir_look.specs.PlanText.{plan_text}
-use Rattle.ir_look.specs.WalkText.{IsWalkOf}
+use Rattle.ir_show.specs.PlanText.{plan_text}
+use Rattle.ir_show.specs.WalkText.{IsWalkOf}
 use Rattle.ir_figures.specs.FiguresText.{AreFiguresOf}
-use Rattle.ir_look.specs.Drawing.{IsDrawingOf}
+use Rattle.ir_show.specs.Drawing.{IsDrawingOf}
 use Rattle.ir_lines.specs.PrefixesText.{IsPrefixesOf}
-use Rattle.ir_words.specs.declared.words.Words.{Words}
+use Rattle.ir_cli.specs.declared.words.Words.{Words}
 use Rattle.ir_shell.specs.declared.look.Show.{Show}
 use Rattle.ir_shell.specs.declared.look.Show.TheVariants.{Rows, Between, Figures, Drawing, Tables}
 use Rattle.ir_shell.specs.declared.look.Look.{Look}
-use Rattle.ir_shell.specs.declared.look.Look.TheVariants.{Plan, Walk, Stats, Draw, Prefixes}
+use Rattle.ir_shell.specs.declared.look.Look.TheVariants.{Plan as Planning, Walk, Stats, Draw, Prefixes}
 use Rattle.ir_order.specs.Order.{IsOrder}
-use Rattle.ir_words.specs.Answer.{Answer, Ran, Found, Refused, NoThread}
-use Rattle.ir_words.specs.Openings.{root_name, root_in, label_order, AnswersTopology, AnswersRoot, AnswersOrder}
-use Rattle.ir_model.specs.Scheme.{Scheme}
+use Rattle.ir_cli.specs.Answer.{Answer, Ran, Found, Refused, NoThread}
+use Rattle.ir_cli.specs.Openings.{root_name, root_in, label_order, AnswersTopology, AnswersRoot, AnswersOrder}
+use Rattle.ir_model.specs.Plan.{Plan}
 use Rattle.ir_shell.specs.Plans.{Labelling, FromRoot, ByList, AnswersText}
 
 -- the names of the ends of a walk, if the words have them
@@ -40,7 +40,7 @@ AnswersBothEnds g (Some from) None answers = answers None
 AnswersBothEnds g (Some from) (Some to) answers = AnswersEnds g (Some from) (Some to) (λ a b. answers (Some (a, b)))
 
 -- what a text of a plan says, by what is shown
-abbrev pub Says : Show → List Name → Scheme → List ℕ → Type 0
+abbrev pub Says : Show → List Name → Plan → List ℕ → Type 0
 Says Rows nodes s text = text ≡ plan_text nodes s
 Says (Between a b) nodes s text = IsWalkOf nodes s a b text
 Says Figures nodes s text = AreFiguresOf nodes s text
@@ -48,11 +48,11 @@ Says (Drawing ends) nodes s text = IsDrawingOf nodes s ends text
 Says (Tables is_disjoint) nodes s text = IsPrefixesOf is_disjoint nodes s text
 
 -- what an answer says of a plan, by what is shown
-abbrev pub Shows : Show → List Name → Scheme → Answer → Type 0
-Shows show nodes s (Ran text refusals) = Says show nodes s text × (refusals ≡ [])
-Shows show nodes s (Found text) = ⊥
-Shows show nodes s (Refused line) = ⊥
-Shows show nodes s NoThread = ⊥
+abbrev pub AnswerShows : Show → List Name → Plan → Answer → Type 0
+AnswerShows show nodes s (Ran text refusals) = Says show nodes s text × (refusals ≡ [])
+AnswerShows show nodes s (Found text) = ⊥
+AnswerShows show nodes s (Refused line) = ⊥
+AnswerShows show nodes s NoThread = ⊥
 
 -- the ends of what is shown, if it has any, are among so many nodes
 abbrev pub AreAmong : ℕ → Show → Type 0
@@ -69,7 +69,7 @@ AnswersShow words g labels show = AnswersText g words.kind labels (Says show (na
 -- The answer to a graph, by what is asked for: the refusal of an end that is no node, or else an answer to what is to be
 -- shown.
 abbrev pub AnswersAsked : Look → Words → Adjacency → (Show → Answer → Type 0) → Answer → Type 0
-AnswersAsked Plan words g answers = answers Rows
+AnswersAsked Planning words g answers = answers Rows
 AnswersAsked Walk words g answers = AnswersEnds g (from_name words) (to_name words) (λ a b. answers (Between a b))
 AnswersAsked Stats words g answers = answers Figures
 AnswersAsked Draw words g answers = AnswersBothEnds g (from_name words) (to_name words) (λ ends. answers (Drawing ends))
@@ -122,7 +122,7 @@ IsDrawn (Some from) (Some to) g show = (a b : ℕ) × IsNode g (Some from) a × 
 
 -- what the words ask to be shown
 abbrev pub IsShow : Look → Words → Adjacency → Show → Type 0
-IsShow Plan words g show = show ≡ Rows
+IsShow Planning words g show = show ≡ Rows
 IsShow Walk words g show = (a b : ℕ) × IsNode g (from_name words) a × IsNode g (to_name words) b × (show ≡ Between a b)
 IsShow Stats words g show = show ≡ Figures
 IsShow Draw words g show = IsDrawn (from_name words) (to_name words) g show

@@ -2,16 +2,16 @@
 use Rattle.std.specs.Prelude.{◌≡◌, ◌≢◌, ℕ, ◌==◌, if◌then◌else◌, Bool, true, false, List, None, Result, Ok, Err, flat_map}
 use Rattle.std.specs.List.{list_any, zip}
 use Rattle.ir_model.specs.Graph.{Name, Adjacency, names}
-use Rattle.ir_model.specs.Network.{Network}
-use Rattle.ir_model.specs.OfGraph.{network_of_graph}
+use Rattle.ir_model.specs.Topology.{Topology}
+use Rattle.ir_model.specs.OfGraph.{topology_of_graph}
 use Rattle.ir_core.specs.declared.event.OpenError.{OpenError}
 use Rattle.ir_core.specs.declared.event.OpenError.TheVariants as openings
 use Rattle.ir_core.specs.declared.event.Reply.{Reply}
 use Rattle.ir_core.specs.declared.event.Refused.{Refused as Refusal}
 use Rattle.ir_core.specs.declared.event.Refused.TheVariants as refusals
-use Rattle.ir_core.specs.Journey.{Journey}
+use Rattle.ir_core.specs.Record.{Record}
 use Rattle.ir_core.specs.Setting.{Setting}
-use Rattle.ir_core.specs.State.{State}
+use Rattle.ir_core.specs.World.{World}
 use Rattle.ir_core.specs.Opened.{IsOpenedWith, IsOpenRefusal, open_refused}
 use Rattle.ir_core.specs.Run.{IsPlayed}
 use Rattle.ir_script.specs.declared.script.Script.{Script}
@@ -19,10 +19,10 @@ use Rattle.ir_core.specs.declared.event.Step.{Step}
 use Rattle.ir_script.specs.Command.{line_step}
 use Rattle.ir_script.specs.Script.{Listing}
 use Rattle.ir_trace.specs.Written.{records_text, segments_text}
-use Rattle.ir_words.specs.declared.words.Words.{Words}
-use Rattle.ir_words.specs.Answer.{Answer, Ran, Found, Refused, NoThread}
-use Rattle.ir_words.specs.Lines.{opening_line, reply_line}
-use Rattle.ir_words.specs.Openings.{opening_by}
+use Rattle.ir_cli.specs.declared.words.Words.{Words}
+use Rattle.ir_cli.specs.Answer.{Answer, Ran, Found, Refused, NoThread}
+use Rattle.ir_cli.specs.Lines.{opening_line, reply_line}
+use Rattle.ir_cli.specs.Openings.{opening_by}
 use Rattle.ir_shell.specs.Stops.{AnswersScripted}
 
 -- the steps or commands of a script, and beside each the number of its line
@@ -40,29 +40,29 @@ abbrev pub refused_text : List ℕ → List (Result Reply Refusal) → List ℕ
 refused_text lines replies = flat_map reply_line (zip lines replies)
 
 -- the trace of records: that of their segments where packets may be restamped
-abbrev pub run_text : ℕ → List Name → Network → List Journey → List ℕ
+abbrev pub run_text : ℕ → List Name → Topology → List Record → List ℕ
 run_text restamps nodes net records = if restamps == 0 then records_text nodes net records else segments_text nodes net records
 
 -- The steps of a script are played in a world that is opened over the network of the graph as the words say, and none
 -- of them wants memory. The text is the trace of the world's records, and the refused lines are those of its replies.
-pub record IsRun (g : Adjacency) (words : Words) (root : ℕ) (script : Listing Step) (text refused : List ℕ) : Type 0 where
+pub record IsScriptRun (g : Adjacency) (words : Words) (root : ℕ) (script : Listing Step) (text refused : List ℕ) : Type 0 where
   pub setting : Setting
   pub replies : List (Result Reply Refusal)
-  pub world : State
-  pub accepted : open_refused (opening_by words (network_of_graph g) root) ≡ None
-  pub opened : IsOpenedWith (opening_by words (network_of_graph g) root) setting
+  pub world : World
+  pub accepted : open_refused (opening_by words (topology_of_graph g) root) ≡ None
+  pub opened : IsOpenedWith (opening_by words (topology_of_graph g) root) setting
   pub played : IsPlayed setting script.steps replies world
   pub in_memory : list_any wants_memory replies ≡ false
-  pub trace : text ≡ run_text words.restamps (names g) (network_of_graph g) world.records
+  pub trace : text ≡ run_text words.restamps (names g) (topology_of_graph g) world.records
   pub told : refused ≡ refused_text script.lines replies
 
 -- the answer to a graph, a script and the number of a root: the script's run, or the refusal of the opening
 abbrev pub AnswersRun : Adjacency → Words → Listing Step → ℕ → Answer → Type 0
-AnswersRun g words script root (Ran text refused) = IsRun g words root script text refused
+AnswersRun g words script root (Ran text refused) = IsScriptRun g words root script text refused
 AnswersRun g words script root (Found text) = ⊥
 AnswersRun g words script root NoThread = ⊥
 AnswersRun g words script root (Refused line) =
-    (e : OpenError) × (e ≢ openings.NoMemory) × IsOpenRefusal (opening_by words (network_of_graph g) root) e × (line ≡ opening_line e)
+    (e : OpenError) × (e ≢ openings.NoMemory) × IsOpenRefusal (opening_by words (topology_of_graph g) root) e × (line ≡ opening_line e)
 
 -- the answer to a graph and the lines of a script: the script's first fault comes before the refusal of the opening
 abbrev pub AnswersScript : Words → List (List ℕ) → Adjacency → Answer → Type 0

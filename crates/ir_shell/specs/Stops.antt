@@ -1,16 +1,16 @@
 -- What the texts of a topology and of a script, and the name of a root, come to before a run is opened over them.
 use Rattle.std.specs.Prelude.{◌≡◌, ℕ, List, Option, None, Some, Result, Ok, MatchResult, string_bytes}
 use Rattle.ir_model.specs.Graph.{Name, Adjacency, names}
-use Rattle.ir_model.specs.Network.{Network}
-use Rattle.ir_model.specs.OfGraph.{network_of_graph}
+use Rattle.ir_model.specs.Topology.{Topology}
+use Rattle.ir_model.specs.OfGraph.{topology_of_graph}
 use Rattle.ir_script.specs.declared.fault.ScriptFault.{ScriptFault}
 use Rattle.ir_script.specs.Script.{Listing, listing_from}
-use Rattle.ir_words.specs.declared.words.Words.{Words}
-use Rattle.ir_words.specs.declared.reply.Reply.{Reply}
-use Rattle.ir_words.specs.Answer.{Answer, Refused}
-use Rattle.ir_words.specs.Lines.{script_line}
-use Rattle.ir_words.specs.Openings.{topology_fault, topology_graph, root_name, root_in, AnswersTopology, AnswersRoot}
-use Rattle.ir_words.specs.Replies.{answer_of}
+use Rattle.ir_cli.specs.declared.words.Words.{Words}
+use Rattle.ir_cli.specs.declared.reply.Reply.{Reply}
+use Rattle.ir_cli.specs.Answer.{Answer, Refused}
+use Rattle.ir_cli.specs.Lines.{script_line}
+use Rattle.ir_cli.specs.Openings.{topology_fault, topology_graph, root_name, root_in, AnswersTopology, AnswersRoot}
+use Rattle.ir_cli.specs.Replies.{answer_of}
 use Rattle.ir_shell.specs.declared.asking.Stop.{Stop}
 use Rattle.ir_shell.specs.declared.asking.Stop.TheVariants as stops
 
@@ -23,21 +23,21 @@ StopsAs stops.NoMemory refuses = Unit {0}
 abbrev pub Gives : (Answer → Type 0) → Result Reply Stop → Type 0
 Gives answers result = MatchResult result (λ reply. answers (answer_of reply)) (λ stop. StopsAs stop (λ line. answers (Refused line)))
 
-module _ {A : Type 0} (says : List Name → Network → List ℕ → Result (Option A) ScriptFault) where
+module _ {A : Type 0} (says : List Name → Topology → List ℕ → Result (Option A) ScriptFault) where
   -- The answer to a graph and the lines of a script, by what a line says: the script's first fault, or else the refusal of a
   -- root that is no node, or else an answer to the script and the root.
   abbrev pub AnswersScripted : Words → List (List ℕ) → (Adjacency → Listing A → ℕ → Answer → Type 0) → Adjacency → Answer → Type 0
   AnswersScripted words script answers g answer =
-      MatchResult (listing_from says (names g) (network_of_graph g) 1 script)
+      MatchResult (listing_from says (names g) (topology_of_graph g) 1 script)
       (λ listing. AnswersRoot g (root_name words) (answers g listing) answer)
       (λ f. answer ≡ Refused (script_line f))
 
   -- The graph, network, steps and root that these texts and the words give.
-  pub record IsAsked (words : Words) (topology script : List (List ℕ)) (g : Adjacency) (net : Network) (listing : Listing A) (root : ℕ) : Type 0 where
+  pub record IsAsked (words : Words) (topology script : List (List ℕ)) (g : Adjacency) (net : Topology) (listing : Listing A) (root : ℕ) : Type 0 where
     pub sound : topology_fault words.format topology ≡ None
     pub graph : g ≡ topology_graph words.format topology
-    pub network : net ≡ network_of_graph g
-    pub said : listing_from says (names g) (network_of_graph g) 1 script ≡ Ok listing
+    pub over : net ≡ topology_of_graph g
+    pub said : listing_from says (names g) (topology_of_graph g) 1 script ≡ Ok listing
     pub root_is : root_in (names g) (root_name words) ≡ Some root
 
   -- the line of the first refusal that comes before any run: of the topology, of the script, or of the root

@@ -4,26 +4,26 @@ ghost use Rattle.std.specs.Prelude.{◌≡◌, ◌≢◌, ◌<◌, ◌∷◌, []
 ghost use Rattle.std.specs.Option.{option_map};
 ghost use Rattle.ir_model.specs.declared.Fault.{Fault};
 ghost use Rattle.ir_model.specs.Graph.{names};
-ghost use Rattle.ir_model.specs.OfGraph.{network_of_graph};
+ghost use Rattle.ir_model.specs.OfGraph.{topology_of_graph};
 ghost use Rattle.ir_model.specs.Text.{lines};
 ghost use Rattle.ir_core.specs.declared.event.OpenError.TheVariants.{NoMemory as OpenNoMemory};
 ghost use Rattle.ir_script.specs.declared.fault.ScriptFault.{ScriptFault};
 ghost use Rattle.ir_script.specs.Script.{listing_from};
-ghost use Rattle.ir_words.specs.Lines.{topology_line, script_line, opening_line};
-ghost use Rattle.ir_words.specs.Openings.{topology_fault, topology_graph, root_in, no_root};
-ghost use Rattle.ir_words.specs.Reading.{texts_of};
+ghost use Rattle.ir_cli.specs.Lines.{topology_line, script_line, opening_line};
+ghost use Rattle.ir_cli.specs.Openings.{topology_fault, topology_graph, root_in, no_root};
+ghost use Rattle.ir_cli.specs.Reading.{texts_of};
 ghost use Rattle.ir_shell.specs.Asked.{sim_sources, check_sources, AreTwo, AreThree};
 ghost use Rattle.ir_shell.specs.Stops.{StopsAs, IsAsked, RefusesAsked};
 
+use ir_cli::cut::cut;
+use ir_cli::lines::{opening_line, script_line, topology_line};
+use ir_cli::open::{no_root, read_topology, root_of};
+use ir_cli::words::{Format, Words};
 use ir_core::OpenError;
 use ir_graph::Graph;
 use ir_model::Fault;
 use ir_script::{Named, Script, ScriptFault, parse};
 use ir_tables::Topology;
-use ir_words::cut::cut;
-use ir_words::lines::{opening_line, script_line, topology_line};
-use ir_words::open::{no_root, read_topology, root_of};
-use ir_words::words::{Format, Words};
 use std::alloc::{AllocError, Global};
 
 /// Why a command comes to no more than a refusal.
@@ -50,7 +50,7 @@ impl From<AllocError> for Stop {
 #[derive(Drop)]
 pub struct Asked<T> {
     pub graph: Graph,
-    pub network: Topology,
+    pub topology: Topology,
     pub script: Script<T>,
     pub root: u16,
 }
@@ -89,16 +89,16 @@ pub fn read_node(alloc: Global, graph: &Graph, name: &Option<String>) -> Result<
 fn read_script<T: Named>(
     alloc: Global,
     graph: &Graph,
-    network: &Topology,
+    topology: &Topology,
     text: &[u8],
 ) -> Result<Script<T>, Stop>
-    requires { network.now ≡ network_of_graph graph.now }
-    ensures script { IfOk result (λ s. listing_from T.says (names graph.now) network.now 1 (lines text.now)
+    requires { topology.now ≡ topology_of_graph graph.now }
+    ensures script { IfOk result (λ s. listing_from T.says (names graph.now) topology.now 1 (lines text.now)
         ≡ Ok (record { steps = s.steps.items; lines = s.lines.items })) }
     ensures stop { IfErr result (λ s. StopsAs s (λ line. (f : ℕ × ScriptFault)
-        × (listing_from T.says (names graph.now) network.now 1 (lines text.now) ≡ Err f) × (line ≡ script_line f))) }
+        × (listing_from T.says (names graph.now) topology.now 1 (lines text.now) ≡ Err f) × (line ≡ script_line f))) }
 {
-    match parse(alloc, text, graph, network) {
+    match parse(alloc, text, graph, topology) {
         Ok(script) => Ok(script),
         Err(error) => match error.kind {
             ScriptFault::NoMemory => Err(Stop::NoMemory),
@@ -116,18 +116,18 @@ pub fn read_asked<T: Named>(
     script: &[u8],
 ) -> Result<Asked<T>, Stop>
     ensures asked { IfOk result (λ asked. IsAsked T.says words.now (lines topology.now) (lines script.now)
-        asked.graph asked.network (record { steps = asked.script.steps.items; lines = asked.script.lines.items })
+        asked.graph asked.topology (record { steps = asked.script.steps.items; lines = asked.script.lines.items })
         asked.root) }
     ensures stop { IfErr result (λ s. StopsAs s
         (RefusesAsked T.says words.now (lines topology.now) (lines script.now))) }
 {
     let graph = read_graph(alloc, words.format, topology)?;
-    let network = Topology::of(alloc, &graph)?;
-    let script = read_script(alloc, &graph, &network, script)?;
+    let topology = Topology::of(alloc, &graph)?;
+    let script = read_script(alloc, &graph, &topology, script)?;
     let root = read_node(alloc, &graph, &words.root)?;
     Ok(Asked {
         graph,
-        network,
+        topology,
         script,
         root,
     })

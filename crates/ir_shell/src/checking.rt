@@ -1,21 +1,21 @@
 //! A check of a trace, from the texts of a topology, a script and a trace.
 ghost use Rattle.std.specs.Prelude.{◌≡◌, MatchResult};
-ghost use Rattle.ir_model.specs.OfGraph.{network_of_graph};
+ghost use Rattle.ir_model.specs.OfGraph.{topology_of_graph};
 ghost use Rattle.ir_model.specs.Text.{lines};
 ghost use Rattle.ir_trace.specs.Checked.{AreInstalls};
-ghost use Rattle.ir_words.specs.Openings.{AnswersTopology};
+ghost use Rattle.ir_cli.specs.Openings.{AnswersTopology};
 ghost use Rattle.ir_shell.specs.Checks.{IsClean, IsFound, AnswersTrace, AnswersChecked};
 ghost use Rattle.ir_shell.specs.Stops.{Gives};
 
 use crate::asking::{Asked, Stop, opening_stop, read_asked};
+use ir_cli::lines::{finding_line, ok_line};
+use ir_cli::open::opening_of;
+use ir_cli::reply::Reply;
+use ir_cli::words::Words;
 use ir_core::{Install, Step, installs};
 use ir_graph::Graph;
 use ir_tables::Topology;
 use ir_trace::{Finding, FindingKind, check_trace, read_trace};
-use ir_words::lines::{finding_line, ok_line};
-use ir_words::open::opening_of;
-use ir_words::reply::Reply;
-use ir_words::words::Words;
 use std::alloc::Global;
 use std::thread::Threads;
 
@@ -28,7 +28,7 @@ fn rows_of(
     built: &[Install],
     trace: &[u8],
 ) -> Result<usize, Finding>
-    requires over { topology.now ≡ network_of_graph graph.now }
+    requires over { topology.now ≡ topology_of_graph graph.now }
     requires installs { AreInstalls topology.now built.now }
     ensures { MatchResult result (IsClean graph.now built.now trace.now) (IsFound graph.now built.now trace.now) }
 {
@@ -50,11 +50,11 @@ fn answer_trace(
     built: &[Install],
     trace: &[u8],
 ) -> Result<Reply, Stop>
-    requires over { asked.now.network ≡ network_of_graph asked.now.graph }
-    requires installs { AreInstalls asked.now.network built.now }
+    requires over { asked.now.topology ≡ topology_of_graph asked.now.graph }
+    requires installs { AreInstalls asked.now.topology built.now }
     ensures { Gives (AnswersTrace asked.now.graph trace.now built.now) result }
 {
-    match rows_of(rt, alloc, &asked.graph, &asked.network, built, trace) {
+    match rows_of(rt, alloc, &asked.graph, &asked.topology, built, trace) {
         Ok(rows) => Ok(Reply::Ran(ok_line(alloc, rows)?, String::new(alloc))),
         Err(finding) => match finding.kind {
             FindingKind::NoMemory => Err(Stop::NoMemory),
@@ -77,7 +77,7 @@ pub fn check(
         (AnswersChecked words.now (lines script.now) trace.now)) result }
 {
     let asked = read_asked::<Step>(alloc, words, topology, script)?;
-    let opening = opening_of(alloc, words, &asked.network, asked.root)?;
+    let opening = opening_of(alloc, words, &asked.topology, asked.root)?;
     match installs(rt, alloc, &opening, asked.script.steps()) {
         Ok(built) => answer_trace(rt, alloc, &asked, built.as_slice(), trace),
         Err(error) => Err(opening_stop(alloc, error)),

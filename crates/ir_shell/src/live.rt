@@ -3,16 +3,20 @@ ghost use Rattle.std.specs.Prelude.{◌≡◌, ◌≢◌, false, IfOk, slice_ind
 ghost use Rattle.std.specs.Borrow.{Bor};
 ghost use Rattle.std.specs.List.{list_any};
 ghost use Rattle.ir_model.specs.Graph.{names};
-ghost use Rattle.ir_model.specs.OfGraph.{network_of_graph};
+ghost use Rattle.ir_model.specs.OfGraph.{topology_of_graph};
 ghost use Rattle.ir_model.specs.Text.{lines};
 ghost use Rattle.ir_trace.specs.Written.{HaveSegments};
-ghost use Rattle.ir_words.specs.Openings.{AnswersTopology};
+ghost use Rattle.ir_cli.specs.Openings.{AnswersTopology};
 ghost use Rattle.ir_shell.specs.Lives.{is_for_memory, refusals_text, IsOpenedNet, AnswersLive, AnswersLiveScript};
 ghost use Rattle.ir_shell.specs.Plays.{listing_in, run_text};
 ghost use Rattle.ir_shell.specs.Stops.{StopsAs, Gives};
 
 use crate::asking::{Asked, Stop, opening_stop, read_asked};
 use crate::play::run_text;
+use ir_cli::lines::push_reply_line;
+use ir_cli::open::opening_of;
+use ir_cli::reply::Reply;
+use ir_cli::words::Words;
 use ir_control::Net;
 use ir_core::Refused;
 use ir_graph::Graph;
@@ -20,10 +24,6 @@ use ir_links::Moments;
 use ir_live::{Every, Live, LiveError, run_live};
 use ir_script::Command;
 use ir_tables::Topology;
-use ir_words::lines::push_reply_line;
-use ir_words::open::opening_of;
-use ir_words::reply::Reply;
-use ir_words::words::Words;
 use ir_worker::{Gate, Parcel};
 use std::alloc::{AllocError, Global};
 use std::thread::Threads;
@@ -78,7 +78,7 @@ fn live_texts(
     lines: &[usize],
     live: &Live,
 ) -> Result<(String, String), AllocError>
-    requires over { topology.now ≡ network_of_graph graph.now }
+    requires over { topology.now ≡ topology_of_graph graph.now }
     requires records { HaveSegments topology.now live.now.report.records.items }
     ensures in_memory { IfOk result (λ _. list_any is_for_memory live.now.refusals.items ≡ false) }
     ensures trace { IfOk result (λ texts. string_bytes texts.0
@@ -109,18 +109,18 @@ fn answer_net<T: Threads + Moments<Parcel> + Sync>(
     asked: &Asked<Command>,
     net: &Net,
 ) -> Result<Reply, Stop>
-    requires over { asked.now.network ≡ network_of_graph asked.now.graph }
+    requires over { asked.now.topology ≡ topology_of_graph asked.now.graph }
     requires opened { IsOpenedNet asked.now.graph words.now asked.now.root net.now }
     ensures { Gives (AnswersLive (Bor T) T.was_full asked.now.graph words.now (listing_in asked.now.script)
         asked.now.root) result }
 {
-    let _nodes = asked.network.nodes();
+    let _nodes = asked.topology.nodes();
     match run_live(rt, alloc, net, asked.script.steps(), &Open, &Every) {
         Ok(live) => {
             let (trace, refused) = live_texts(
                 alloc,
                 &asked.graph,
-                &asked.network,
+                &asked.topology,
                 words.restamps,
                 asked.script.lines(),
                 &live,
@@ -147,7 +147,7 @@ pub fn run_commands<T: Threads + Moments<Parcel> + Sync>(
         (AnswersLiveScript (Bor T) T.was_full words.now (lines script.now))) result }
 {
     let asked = read_asked::<Command>(alloc, words, topology, script)?;
-    let opening = opening_of(alloc, words, &asked.network, asked.root)?;
+    let opening = opening_of(alloc, words, &asked.topology, asked.root)?;
     match Net::new(rt, alloc, opening) {
         Ok(net) => answer_net(rt, alloc, words, &asked, &net),
         Err(error) => Err(opening_stop(alloc, error)),

@@ -1,29 +1,29 @@
 //! What is shown of a topology's plan, from the text of the topology.
 ghost use Rattle.std.specs.Prelude.{◌≡◌, ◌≢◌, ◌<◌, IfOk, IfErr, IsSome, length, string_bytes};
 ghost use Rattle.ir_model.specs.Graph.{names};
-ghost use Rattle.ir_model.specs.Network.{node_count};
+ghost use Rattle.ir_model.specs.Topology.{node_count};
 ghost use Rattle.ir_shell.specs.Asked.{look_sources};
-ghost use Rattle.ir_shell.specs.Looks.{from_name, to_name, AnswersShow, AreAmong, AreTexts, Says, Shows, order_in, IsNode, IsLabelling, IsShow, RefusesLabels, RefusesEnds, RefusesShow, LookAnswers};
+ghost use Rattle.ir_shell.specs.Looks.{from_name, to_name, AnswersShow, AreAmong, AreTexts, Says, AnswerShows, order_in, IsNode, IsLabelling, IsShow, RefusesLabels, RefusesEnds, RefusesShow, LookAnswers};
 ghost use Rattle.ir_shell.specs.Plans.{MayLabel, labelling_of};
 ghost use Rattle.ir_shell.specs.Stops.{StopsAs, Gives};
-ghost use Rattle.ir_words.specs.Reading.{texts_of};
-ghost use Rattle.ir_words.specs.Replies.{answer_of};
-ghost use Rattle.ir_words.specs.Words.{FitsItsKind};
+ghost use Rattle.ir_cli.specs.Reading.{texts_of};
+ghost use Rattle.ir_cli.specs.Replies.{answer_of};
+ghost use Rattle.ir_cli.specs.Words.{FitsItsKind};
 
 use crate::asking::{Stop, opening_stop, read_graph, read_node};
 use crate::plan::{Labels, build_plan};
+use ir_cli::lines::numbering_line;
+use ir_cli::open::label_order;
+use ir_cli::reply::Reply;
+use ir_cli::words::Words;
 use ir_figures::figures_text;
 use ir_graph::Graph;
 use ir_lines::prefixes_text_in_threads;
-use ir_look::plan_text::PlanText;
-use ir_look::{draw_text, walk_text};
 use ir_model::Kind;
 use ir_order::{OrderFaultKind, read_order};
 use ir_plan::{Plan, Watch};
-use ir_words::lines::numbering_line;
-use ir_words::open::label_order;
-use ir_words::reply::Reply;
-use ir_words::words::Words;
+use ir_show::plan_text::PlanText;
+use ir_show::{draw_text, walk_text};
 use std::alloc::{AllocError, Global};
 use std::thread::Threads;
 
@@ -64,7 +64,7 @@ fn text_of<T: Threads + Sync>(
     show: Show,
     most: Option<usize>,
 ) -> Result<String, AllocError>
-    requires nodes { node_count plan.now.network ≡ length graph.now }
+    requires nodes { node_count plan.now.topology ≡ length graph.now }
     requires ends { AreAmong (length graph.now) show }
     requires no_rows { show ≢ Show.Rows }
     ensures { IfOk result (λ text. Says show (names graph.now) plan.now (string_bytes text)) }
@@ -89,9 +89,9 @@ fn reply_of<T: Threads + Sync>(
     show: Show,
     most: Option<usize>,
 ) -> Result<Reply, AllocError>
-    requires nodes { node_count plan.network ≡ length graph }
+    requires nodes { node_count plan.topology ≡ length graph }
     requires ends { AreAmong (length graph) show }
-    ensures { IfOk result (λ reply. Shows show (names graph) plan (answer_of reply)) }
+    ensures { IfOk result (λ reply. AnswerShows show (names graph) plan (answer_of reply)) }
 {
     if show == Show::Rows {
         return Ok(Reply::Plan(PlanText::new(alloc, graph, plan)?));

@@ -1,8 +1,8 @@
 //! A plan over the network of a graph.
 ghost use Rattle.std.specs.Prelude.{◌≡◌, ◌≢◌, IfOk, IfErr, length};
-ghost use Rattle.ir_model.specs.OfGraph.{network_of_graph};
-ghost use Rattle.ir_model.specs.Scheme.{IsScheme};
-ghost use Rattle.ir_numbering.specs.Numbers.{IsListing};
+ghost use Rattle.ir_model.specs.OfGraph.{topology_of_graph};
+ghost use Rattle.ir_model.specs.Plan.{IsPlan};
+ghost use Rattle.ir_numbering.specs.Numbering.{IsListing};
 ghost use Rattle.ir_shell.specs.Plans.{FromRoot, ByList, MayLabel, IsLabelled, labelling_of, refusal_of, RefusesBuild};
 
 use ir_core::OpenError;
@@ -46,11 +46,11 @@ pub fn build_plan<T: Threads + Sync>(
     watch: &(impl Watch + Sync),
 ) -> Result<Plan, OpenError>
     requires { MayLabel graph.now kind (labelling_of labels) }
-    ensures scheme { IfOk result (λ plan. IsScheme plan) }
+    ensures plan { IfOk result (λ plan. IsPlan plan) }
     ensures labelled { IfOk result (λ plan. IsLabelled (labelling_of labels) plan) }
-    ensures over { IfOk result (λ plan. plan.network ≡ network_of_graph graph.now) }
+    ensures over { IfOk result (λ plan. plan.topology ≡ topology_of_graph graph.now) }
     ensures kind { IfOk result (λ plan. plan.kind ≡ kind) }
-    ensures refused { IfErr result (RefusesBuild (network_of_graph graph.now) (labelling_of labels)) }
+    ensures refused { IfErr result (RefusesBuild (topology_of_graph graph.now) (labelling_of labels)) }
 {
     match labels {
         Labels::FromRoot(order, root) => build_rooted(
@@ -71,11 +71,11 @@ fn build_rooted<T: Threads + Sync>(
     most: Option<usize>,
     watch: &(impl Watch + Sync),
 ) -> Result<Plan, OpenError>
-    ensures scheme { IfOk result (λ plan. IsScheme plan) }
+    ensures plan { IfOk result (λ plan. IsPlan plan) }
     ensures labelled { IfOk result (λ plan. IsLabelled (FromRoot order root) plan) }
-    ensures over { IfOk result (λ plan. plan.network ≡ network_of_graph graph.now) }
+    ensures over { IfOk result (λ plan. plan.topology ≡ topology_of_graph graph.now) }
     ensures kind { IfOk result (λ plan. plan.kind ≡ kind) }
-    ensures refused { IfErr result (RefusesBuild (network_of_graph graph.now) (FromRoot order root)) }
+    ensures refused { IfErr result (RefusesBuild (topology_of_graph graph.now) (FromRoot order root)) }
 {
     let Ok(topology) = Topology::of(alloc, graph) else {
         return Err(OpenError::NoMemory);
@@ -101,11 +101,11 @@ fn build_listed<T: Threads + Sync>(
 ) -> Result<Plan, OpenError>
     requires kind { kind ≢ Kind.Tree }
     requires listing { IsListing (length graph.now) list.items }
-    ensures scheme { IfOk result (λ plan. IsScheme plan) }
+    ensures plan { IfOk result (λ plan. IsPlan plan) }
     ensures labelled { IfOk result (λ plan. IsLabelled (ByList list.items) plan) }
-    ensures over { IfOk result (λ plan. plan.network ≡ network_of_graph graph.now) }
+    ensures over { IfOk result (λ plan. plan.topology ≡ topology_of_graph graph.now) }
     ensures kind { IfOk result (λ plan. plan.kind ≡ kind) }
-    ensures refused { IfErr result (RefusesBuild (network_of_graph graph.now) (ByList list.items)) }
+    ensures refused { IfErr result (RefusesBuild (topology_of_graph graph.now) (ByList list.items)) }
 {
     let Ok(topology) = Topology::of(alloc, graph) else {
         return Err(OpenError::NoMemory);

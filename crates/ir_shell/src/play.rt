@@ -2,22 +2,22 @@
 ghost use Rattle.std.specs.Prelude.{◌≡◌, false, IfOk, string_bytes};
 ghost use Rattle.std.specs.List.{list_any};
 ghost use Rattle.ir_model.specs.Graph.{names};
-ghost use Rattle.ir_model.specs.OfGraph.{network_of_graph};
+ghost use Rattle.ir_model.specs.OfGraph.{topology_of_graph};
 ghost use Rattle.ir_model.specs.Text.{lines};
 ghost use Rattle.ir_trace.specs.Written.{HaveSegments};
-ghost use Rattle.ir_words.specs.Openings.{AnswersTopology};
+ghost use Rattle.ir_cli.specs.Openings.{AnswersTopology};
 ghost use Rattle.ir_shell.specs.Plays.{wants_memory, refused_text, run_text, AnswersScript};
 ghost use Rattle.ir_shell.specs.Stops.{Gives};
 
 use crate::asking::{Stop, opening_stop, read_asked};
+use ir_cli::lines::push_reply_line;
+use ir_cli::open::opening_of;
+use ir_cli::reply::Reply;
+use ir_cli::words::Words;
 use ir_core::{Played, Record, Refused, Reply as Answered, Step, play};
 use ir_graph::Graph;
 use ir_tables::Topology;
 use ir_trace::{trace_text, trace_text_2};
-use ir_words::lines::push_reply_line;
-use ir_words::open::opening_of;
-use ir_words::reply::Reply;
-use ir_words::words::Words;
 use std::alloc::{AllocError, Global};
 use std::thread::Threads;
 
@@ -53,7 +53,7 @@ pub fn run_text(
     restamps: u8,
     records: &[Record],
 ) -> Result<String, AllocError>
-    requires over { topology.now ≡ network_of_graph graph.now }
+    requires over { topology.now ≡ topology_of_graph graph.now }
     requires records { HaveSegments topology.now records.now }
     ensures { IfOk result (λ text. string_bytes text
         ≡ run_text restamps (names graph.now) topology.now records.now) }
@@ -74,8 +74,8 @@ fn run_texts(
     lines: &[usize],
     played: Played,
 ) -> Result<(String, String), AllocError>
-    requires over { topology.now ≡ network_of_graph graph.now }
-    requires opened { played.world.opening.network ≡ topology.now }
+    requires over { topology.now ≡ topology_of_graph graph.now }
+    requires opened { played.world.opening.topology ≡ topology.now }
     ensures in_memory { IfOk result (λ _. list_any wants_memory played.replies.items ≡ false) }
     ensures trace { IfOk result (λ texts. string_bytes texts.0
         ≡ run_text restamps (names graph.now) topology.now played.world.records) }
@@ -105,13 +105,13 @@ pub fn simulate(
         (AnswersScript words.now (lines script.now))) result }
 {
     let asked = read_asked::<Step>(alloc, words, topology, script)?;
-    let opening = opening_of(alloc, words, &asked.network, asked.root)?;
+    let opening = opening_of(alloc, words, &asked.topology, asked.root)?;
     match play(rt, alloc, opening, asked.script.steps()) {
         Ok(played) => {
             let (trace, refused) = run_texts(
                 alloc,
                 &asked.graph,
-                &asked.network,
+                &asked.topology,
                 words.restamps,
                 asked.script.lines(),
                 played,

@@ -7,7 +7,7 @@ use Rattle.ir_streams.specs.declared.call.CallError.{CallError}
 use Rattle.ir_streams.specs.declared.call.CallError.TheVariants.{Interrupted, Failed}
 use Rattle.ir_streams.specs.declared.reading.NoInput.{NoInput}
 use Rattle.ir_streams.specs.declared.reading.NoInput.TheVariants.{Unreadable, TooLarge, NoMemory}
-use Rattle.ir_streams.specs.Reading.{Gives, IsRead, IsStopped, Refuses}
+use Rattle.ir_streams.specs.Reading.{Gives, IsRead, IsStopped, RefusesInput}
 
 consumes_none : (o : Option (List ℕ)) → Consumes o o []
 consumes_none None = tt
@@ -81,7 +81,7 @@ module _ {R : Type 0} (remaining : R → Option (List ℕ)) (gave : R → Result
 
     -- bytes that were not kept
     pub refused : (why : NoInput) (bytes : List ℕ) → 0 < length bytes → gave now (Ok bytes) last → Consumes (remaining now) (remaining last) bytes
-        → Refuses (length (text ++ bytes)) why → IsStopped remaining gave why first last
+        → RefusesInput (length (text ++ bytes)) why → IsStopped remaining gave why first last
     refused Unreadable bytes some call took why = absurd why
     refused TooLarge bytes some call took many = record {
       calls = Ok bytes ∷ is.calls;

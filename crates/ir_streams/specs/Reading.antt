@@ -12,10 +12,10 @@ abbrev pub GivesFrom : Option (List ℕ) → Option (List ℕ) → Result (List 
 GivesFrom old new given = MatchResult given (λ bytes. Consumes old new bytes × (bytes ≡ [] → IsAtEnd new)) (λ _. Keeps old new)
 
 -- an input of so many bytes is not kept
-abbrev pub Refuses : ℕ → NoInput → Type 0
-Refuses bytes Unreadable = ⊥
-Refuses bytes TooLarge = MAX_INPUT_BYTES < bytes
-Refuses bytes NoMemory = Unit {0}
+abbrev pub RefusesInput : ℕ → NoInput → Type 0
+RefusesInput bytes Unreadable = ⊥
+RefusesInput bytes TooLarge = MAX_INPUT_BYTES < bytes
+RefusesInput bytes NoMemory = Unit {0}
 
 module _ {R : Type 0} (remaining : R → Option (List ℕ)) (gave : R → Result (List ℕ) CallError → R → Type 0) where
   -- Calls of a reader one after another, the latest first. Each gave some bytes, or was interrupted and gave none.

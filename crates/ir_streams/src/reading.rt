@@ -1,6 +1,6 @@
 //! All that a reader gives.
 ghost use Rattle.std.specs.Prelude.{◌≡◌, ◌≤◌, ◌++◌, IfOk, IfErr, OnOk, length};
-ghost use Rattle.ir_streams.specs.Reading.{IsRead, IsStopped, Refuses};
+ghost use Rattle.ir_streams.specs.Reading.{IsRead, IsStopped, RefusesInput};
 
 use crate::call::CallError;
 use crate::reader::Reader;
@@ -25,7 +25,7 @@ pub enum NoInput {
 fn keep(text: &mut Vec<u8>, bytes: &[u8]) -> Result<(), NoInput>
     ensures kept { OnOk result (text.new.items ≡ text.old.items ++ bytes.now) }
     ensures small { OnOk result (length text.new.items ≤ MAX_INPUT_BYTES) }
-    ensures refused { IfErr result (Refuses (length (text.old.items ++ bytes.now))) }
+    ensures refused { IfErr result (RefusesInput (length (text.old.items ++ bytes.now))) }
 {
     if text.extend_from_slice(bytes).is_err() {
         return Err(NoInput::NoMemory);

@@ -2,16 +2,16 @@
 use Rattle.std.proofs.Common.{◌≡◌, ℕ, ◌+◌, ◌<◌, ◌≤◌, List, [], ◌∷◌, ◌++◌, length, map, Option, refl, sym, subst, ◌∙◌, arith, ⊎_elim, slice_index_or}
 use Rattle.std.proofs.lemmas.List.{get_or-map, length-map, get_or_append_left, get_or_push}
 use Rattle.std.proofs.lemmas.Bool.{cases_lt}
-use Rattle.ir_model.specs.Network.{Network, node_count, IsNetwork}
+use Rattle.ir_model.specs.Topology.{Topology, node_count, IsTopology}
 use Rattle.ir_model.specs.Walk.{IsConnected}
-use Rattle.ir_model.specs.Table.{FullTable, table_size, port_in, weight_in, IsSquare, IsShortest, IsRouted}
+use Rattle.ir_model.specs.Table.{Table, table_size, port_in, weight_in, IsSquare, IsShortest, IsRouted}
 use Rattle.ir_tables.specs.declared.table.Column.{Column}
 use Rattle.ir_tables.specs.Relaxation.{IsColumn}
 use Rattle.ir_tables.specs.Listed.{listed_port, IsPortList, IsListed, IsWay, IsListedColumn}
 use Rattle.ir_tables.proofs.Ways.{continues_agree, continues_short}
 
 -- the full table of its columns
-abbrev pub of_columns : List Column → FullTable
+abbrev pub of_columns : List Column → Table
 of_columns cols = record { ports = map (λ c. c.ports.items) cols; weights = map (λ c. c.weights.items) cols }
 
 -- a list within which k lies has an element to stand for one past its end
@@ -27,12 +27,12 @@ pub weight_row : (cols : List Column) (k : ℕ) (e : Column) → k < length cols
 weight_row cols k e lt = get_or-map (λ (c : Column). c.weights.items) cols k e [] lt
 
 -- each column is the shortest table's
-pub record AreColumns (net : Network) (cols : List Column) : Type 0 where
+pub record AreColumns (net : Topology) (cols : List Column) : Type 0 where
   pub len : length cols ≡ node_count net
   pub columns : (k : ℕ) (e : Column) → k < length cols → IsColumn net k (slice_index_or cols k e).ports.items (slice_index_or cols k e).weights.items
 
 -- the column for d, in the words of a table
-column_of : (net : Network) (cols : List Column) → AreColumns net cols → (d : ℕ) → d < length cols → IsColumn net d (slice_index_or (of_columns cols).ports d []) (slice_index_or (of_columns cols).weights d [])
+column_of : (net : Topology) (cols : List Column) → AreColumns net cols → (d : ℕ) → d < length cols → IsColumn net d (slice_index_or (of_columns cols).ports d []) (slice_index_or (of_columns cols).weights d [])
 column_of net cols are d lt =
     let e : Column = some_column cols d lt in
     rw (port_row cols d e lt, weight_row cols d e lt) (are.columns d e lt)
@@ -40,7 +40,7 @@ column_of net cols are d lt =
 pub size_of_columns : (cols : List Column) → table_size (of_columns cols) ≡ length cols
 size_of_columns cols = length-map cols (λ c. c.ports.items)
 
-pub columns_square : (net : Network) (cols : List Column) → AreColumns net cols → IsSquare (of_columns cols)
+pub columns_square : (net : Topology) (cols : List Column) → AreColumns net cols → IsSquare (of_columns cols)
 columns_square net cols are =
     let size : table_size (of_columns cols) ≡ length cols = size_of_columns cols in
     let weights : length (of_columns cols).weights ≡ length cols = length-map cols (λ c. c.weights.items) in
@@ -50,7 +50,7 @@ columns_square net cols are =
       weight_rows = λ d lt. (column_of net cols are d (omega (arith, size, lt))).weights_len ∙ (sym are.len ∙ sym size);
     }
 
-pub columns_shortest : (net : Network) (cols : List Column) → AreColumns net cols → IsShortest net (of_columns cols)
+pub columns_shortest : (net : Topology) (cols : List Column) → AreColumns net cols → IsShortest net (of_columns cols)
 columns_shortest net cols are = record {
   size = size_of_columns cols ∙ are.len;
   ports = record {
@@ -60,7 +60,7 @@ columns_shortest net cols are = record {
   weights = λ u d u_in d_in. (column_of net cols are d (omega (arith, are.len))).weight u u_in;
 }
 
-pub columns_connected : (net : Network) (cols : List Column) → AreColumns net cols → IsConnected net
+pub columns_connected : (net : Topology) (cols : List Column) → AreColumns net cols → IsConnected net
 columns_connected net cols are u d u_in d_in =
     let far = (columns_shortest net cols are).weights u d u_in d_in in (far.reached.0, far.reached.1)
 
@@ -81,16 +81,16 @@ columns_push P cols d column len before here k e lt =
 -- ---- columns of listed ports
 
 -- each column is that of the listed ports
-pub record AreListed (net : Network) (list : List (Option ℕ)) (cols : List Column) : Type 0 where
+pub record AreListed (net : Topology) (list : List (Option ℕ)) (cols : List Column) : Type 0 where
   pub len : length cols ≡ node_count net
   pub columns : (k : ℕ) (e : Column) → k < length cols → IsListedColumn net list k (slice_index_or cols k e).ports.items (slice_index_or cols k e).weights.items
 
-listed_of : (net : Network) (list : List (Option ℕ)) (cols : List Column) → AreListed net list cols → (d : ℕ) → d < length cols → IsListedColumn net list d (slice_index_or (of_columns cols).ports d []) (slice_index_or (of_columns cols).weights d [])
+listed_of : (net : Topology) (list : List (Option ℕ)) (cols : List Column) → AreListed net list cols → (d : ℕ) → d < length cols → IsListedColumn net list d (slice_index_or (of_columns cols).ports d []) (slice_index_or (of_columns cols).weights d [])
 listed_of net list cols are d lt =
     let e : Column = some_column cols d lt in
     rw (port_row cols d e lt, weight_row cols d e lt) (are.columns d e lt)
 
-pub listed_square : (net : Network) (list : List (Option ℕ)) (cols : List Column) → AreListed net list cols → IsSquare (of_columns cols)
+pub listed_square : (net : Topology) (list : List (Option ℕ)) (cols : List Column) → AreListed net list cols → IsSquare (of_columns cols)
 listed_square net list cols are =
     let size : table_size (of_columns cols) ≡ length cols = size_of_columns cols in
     let weights : length (of_columns cols).weights ≡ length cols = length-map cols (λ c. c.weights.items) in
@@ -100,13 +100,13 @@ listed_square net list cols are =
       weight_rows = λ d lt. (listed_of net list cols are d (omega (arith, size, lt))).weights_are.len ∙ (sym are.len ∙ sym size);
     }
 
-pub listed_table : (net : Network) (list : List (Option ℕ)) (cols : List Column) → AreListed net list cols → IsListed net list (of_columns cols)
+pub listed_table : (net : Topology) (list : List (Option ℕ)) (cols : List Column) → AreListed net list cols → IsListed net list (of_columns cols)
 listed_table net list cols are = record {
   size = size_of_columns cols ∙ are.len;
   held = λ u d u_in d_in. (listed_of net list cols are d (omega (arith, are.len))).held u u_in;
 }
 
-pub listed_routed : (net : Network) → IsNetwork net → (list : List (Option ℕ)) (cols : List Column) → IsPortList net list → AreListed net list cols → IsRouted net (of_columns cols)
+pub listed_routed : (net : Topology) → IsTopology net → (list : List (Option ℕ)) (cols : List Column) → IsPortList net list → AreListed net list cols → IsRouted net (of_columns cols)
 listed_routed net ok list cols is are =
     let table : IsListed net list (of_columns cols) = listed_table net list cols are in
     record {

@@ -9,7 +9,7 @@ use Rattle.std.proofs.lemmas.List.Sums.{sum_by-set}
 use Rattle.std.proofs.lemmas.List.Elements.{Contains-append_left, Contains-append_right, Contains-append_cases, Contains-get_or}
 use Rattle.std.proofs.lemmas.Grind.{get_or_default_zero}
 use Rattle.ir_model.specs.declared.Hop.{Hop}
-use Rattle.ir_model.specs.Network.{Network, node_count, ports_of, port_at, IsNetwork}
+use Rattle.ir_model.specs.Topology.{Topology, node_count, ports_of, port_at, IsTopology}
 use Rattle.ir_model.specs.Table.{LeadsNearer}
 use Rattle.ir_model.proofs.Walks.{PortFacts, port_facts}
 use Rattle.ir_tables.specs.FromNode.{AreFrom, AreLedBy, AreListed, IsTightStep, HasPassed, IsMarked, IsPassing, IsPassedOn, one_if_unmarked, unmarked}
@@ -67,7 +67,7 @@ module _ (marks : List Bool) (led : List ℕ) (y : ℕ) (inside : y < length mar
 
 -- ---- one node passes the port on
 
-pub passing_start : (net : Network) (weights : List ℕ) (x : ℕ) (marks : List Bool) (led : List ℕ) → AreListed marks led → IsPassing net weights x 0 marks led marks led
+pub passing_start : (net : Topology) (weights : List ℕ) (x : ℕ) (marks : List Bool) (led : List ℕ) → AreListed marks led → IsPassing net weights x 0 marks led marks led
 passing_start net weights x marks led listed = record {
   every = refl;
   listed = listed;
@@ -78,7 +78,7 @@ passing_start net weights x marks led listed = record {
   passed = λ q hop lt port_is tight. absurd (omega (arith, lt));
 }
 
-module _ (net : Network) (weights : List ℕ) (x i : ℕ) (old : List Bool) (before : List ℕ) (marks : List Bool) (led : List ℕ)
+module _ (net : Topology) (weights : List ℕ) (x i : ℕ) (old : List Bool) (before : List ℕ) (marks : List Bool) (led : List ℕ)
     (hop : Hop) (port_is : port_at net x i ≡ Some hop) (so_far : IsPassing net weights x i old before marks led) where
   -- the step of the first ports, and of the next one
   passed_next : (now : List ℕ) → ((y : ℕ) → Contains led y → Contains now y) → (IsTightStep weights x hop → Contains now hop.node)
@@ -127,7 +127,7 @@ module _ (net : Network) (weights : List ℕ) (x i : ℕ) (old : List Bool) (bef
 -- ---- the port goes on until each node has passed it on
 
 -- the list has nodes to which the port p of u leads nearer, the first step's among them, and the first i of them have passed the port on
-pub record IsFlooding (net : Network) (u : ℕ) (weights : List ℕ) (p start i : ℕ) (marks : List Bool) (led : List ℕ) : Type 0 where
+pub record IsFlooding (net : Topology) (u : ℕ) (weights : List ℕ) (p start i : ℕ) (marks : List Bool) (led : List ℕ) : Type 0 where
   pub every : length marks ≡ node_count net
   pub listed : AreListed marks led
   pub nearer : (y : ℕ) → Contains led y → (y < node_count net) × LeadsNearer net u y p
@@ -136,7 +136,7 @@ pub record IsFlooding (net : Network) (u : ℕ) (weights : List ℕ) (p start i 
   pub passed : (k : ℕ) → k < i → HasPassed net weights led (slice_index_or led k 0)
   pub first : Contains led start
 
-module _ (net : Network) (ok : IsNetwork net) (u : ℕ) (weights : List ℕ) (are : AreFrom net u weights) (p : ℕ) (hop : Hop) (port_is : port_at net u p ≡ Some hop) where
+module _ (net : Topology) (ok : IsTopology net) (u : ℕ) (weights : List ℕ) (are : AreFrom net u weights) (p : ℕ) (hop : Hop) (port_is : port_at net u p ≡ Some hop) where
   pub flooding_start : IsTightStep weights u hop → IsFlooding net u weights p hop.node 0 (set (no_marks (node_count net)) hop.node true) (hop.node ∷ [])
   flooding_start tight =
       let n : ℕ = node_count net in

@@ -6,15 +6,16 @@ use Rattle.std.proofs.lemmas.List.{get_or-replicate, get_or_past, length-replica
 use Rattle.std.proofs.lemmas.List.Sums.{sum_by-set}
 use Rattle.std.proofs.lemmas.List.Sorted.{All-permutation, Contains-permutation}
 use Rattle.ir_model.specs.declared.Hop.{Hop}
-use Rattle.ir_model.specs.Network.{Network, node_count, port_at, port_back, IsNetwork}
+use Rattle.ir_model.specs.Topology.{Topology, node_count, port_at, port_back, IsTopology}
 use Rattle.ir_model.specs.Walk.{link_weight}
 use Rattle.ir_model.proofs.Walks.{link_weight_at, port_facts, PortFacts}
 use Rattle.ir_tables.specs.Relaxation.{at}
-use Rattle.ir_tables.specs.Keys.{key_of, no_key, IsStepKey, IsKeyed, IsSpent, AreReached, AreKeys, Entry, entry, IsEntry, NoNode, Only, IsKeying}
+use Rattle.ir_tables.specs.Frontier.{NoNode, Only}
+use Rattle.ir_tables.specs.Keys.{key_of, no_key, IsStepKey, IsKeyed, IsSpentKey, AreKeysOfWays, AreKeys, KeyEntry, key_entry, IsEntry, IsKeying}
 use Rattle.ir_tables.proofs.Offering.{contains_head, contains_cons, contains_tail, all_cons, all_tail, set_le}
 
 -- a port of u begins a way to its neighbour
-keyed_first : (net : Network) → IsNetwork net → (u p : ℕ) (hop : Hop) (key : ℕ) → port_at net u p ≡ Some hop → key ≡ key_of hop.weight p → IsKeyed net u hop.node key
+keyed_first : (net : Topology) → IsTopology net → (u p : ℕ) (hop : Hop) (key : ℕ) → port_at net u p ≡ Some hop → key ≡ key_of hop.weight p → IsKeyed net u hop.node key
 keyed_first net ok u p hop key port is = record {
   p = p;
   hop = hop;
@@ -25,7 +26,7 @@ keyed_first net ok u p hop key port is = record {
 }
 
 -- a way goes on by a step
-keyed_on : (net : Network) → IsNetwork net → (u x q : ℕ) (h : Hop) (key on : ℕ) → IsKeyed net u x key → port_at net x q ≡ Some h → on ≡ key + key_of h.weight 0 → IsKeyed net u h.node on
+keyed_on : (net : Topology) → IsTopology net → (u x q : ℕ) (h : Hop) (key on : ℕ) → IsKeyed net u x key → port_at net x q ≡ Some h → on ≡ key + key_of h.weight 0 → IsKeyed net u h.node on
 keyed_on net ok u x q h key on keyed port is =
     let back = ok.paired x q h port in
     let link : link_weight net h.node x ≡ h.weight = link_weight_at net ok h.node back.0 (port_back x h) back.1 in
@@ -39,8 +40,8 @@ keyed_on net ok u x q h key on keyed port is =
     }
 
 -- a node gets a lesser key by way of x
-pub reached_lower : (net : Network) → IsNetwork net → (u x p : ℕ) (hop : Hop) (added : ℕ) → port_at net x p ≡ Some hop → IsStepKey u x p hop.weight added
-    → (keys : List ℕ) (key : ℕ) → key ≡ at keys x + added → key < at keys hop.node → AreReached net u keys → AreReached net u (set keys hop.node key)
+pub reached_lower : (net : Topology) → IsTopology net → (u x p : ℕ) (hop : Hop) (added : ℕ) → port_at net x p ≡ Some hop → IsStepKey u x p hop.weight added
+    → (keys : List ℕ) (key : ℕ) → key ≡ at keys x + added → key < at keys hop.node → AreKeysOfWays net u keys → AreKeysOfWays net u (set keys hop.node key)
 reached_lower net ok u x p hop added port step keys key is less so_far =
     let facts : PortFacts net x hop = port_facts net ok x p hop port in
     let y : ℕ = hop.node in
@@ -71,7 +72,7 @@ reached_lower net ok u x p hop added port step keys key is less so_far =
         (cases_eq x u)
 
 -- the first i ports of x are offered
-pub record IsOffering (net : Network) (u x own : ℕ) (old : List ℕ) (old_load : ℕ) (keys : List ℕ) (entries : List Entry) (load i : ℕ) : Type 0 where
+pub record IsOffering (net : Topology) (u x own : ℕ) (old : List ℕ) (old_load : ℕ) (keys : List ℕ) (entries : List KeyEntry) (load i : ℕ) : Type 0 where
   pub but : IsKeying net u (Only x) keys entries
   pub kept : at keys x ≡ own
   pub spent : (p : ℕ) (hop : Hop) (added : ℕ) → p < i → port_at net x p ≡ Some hop → IsStepKey u x p hop.weight added → at keys hop.node ≤ own + added
@@ -82,7 +83,7 @@ step_unique u x p weight a b one other =
     ⊎_elim (λ (e : x ≡ u). one.first e ∙ sym (other.first e)) (λ (ne : x ≢ u). one.later ne ∙ sym (other.later ne)) (cases_eq x u)
 
 -- one more port is spent
-spent_more : (net : Network) (u x own i : ℕ) (hop : Hop) (added : ℕ) (old keys : List ℕ) → port_at net x i ≡ Some hop → IsStepKey u x i hop.weight added
+spent_more : (net : Topology) (u x own i : ℕ) (hop : Hop) (added : ℕ) (old keys : List ℕ) → port_at net x i ≡ Some hop → IsStepKey u x i hop.weight added
     → ((v : ℕ) → at keys v ≤ at old v) → at keys hop.node ≤ own + added
     → ((p : ℕ) (h : Hop) (a : ℕ) → p < i → port_at net x p ≡ Some h → IsStepKey u x p h.weight a → at old h.node ≤ own + a)
     → (p : ℕ) (h : Hop) (a : ℕ) → p < i + 1 → port_at net x p ≡ Some h → IsStepKey u x p h.weight a → at keys h.node ≤ own + a
@@ -98,9 +99,9 @@ spent_more net u x own i hop added old keys port step le here before p h a lt at
     subst S e (omega (arith, here, one)))
     (cases_lt p i)
 
-pub offering_lower : (net : Network) → IsNetwork net → (u x own : ℕ) (old : List ℕ) (old_load : ℕ) (keys : List ℕ) (entries entries' : List Entry) (load load' i key added : ℕ) (hop : Hop)
+pub offering_lower : (net : Topology) → IsTopology net → (u x own : ℕ) (old : List ℕ) (old_load : ℕ) (keys : List ℕ) (entries entries' : List KeyEntry) (load load' i key added : ℕ) (hop : Hop)
     → port_at net x i ≡ Some hop → IsStepKey u x i hop.weight added → key ≡ own + added → key < at keys hop.node
-    → IsPermutation (entry key hop.node ∷ entries) entries' → load' ≤ load + 2
+    → IsPermutation (key_entry key hop.node ∷ entries) entries' → load' ≤ load + 2
     → IsOffering net u x own old old_load keys entries load i → IsOffering net u x own old old_load (set keys hop.node key) entries' load' (i + 1)
 offering_lower net ok u x own old old_load keys entries entries' load load' i key added hop port step is less moved loaded so_far =
     let facts : PortFacts net x hop = port_facts net ok x i hop port in
@@ -111,19 +112,19 @@ offering_lower net ok u x own old old_load keys entries entries' load load' i ke
     let lower : sum (set keys y key) + at keys y ≡ sum keys + key = sum_by-set (λ k. k) keys y key 0 y_in in
     let written : at (set keys y key) y ≡ key = get_or-set_same keys y key 0 y_in in
     let falls_to : (v : ℕ) → at (set keys y key) v ≤ at keys v = λ v. set_le keys y key v y_in (omega (arith, less)) in
-    let head : Contains entries' (entry key y) = Contains-permutation (entry key y ∷ entries) entries' (entry key y) moved (contains_head Entry (entry key y) entries) in
+    let head : Contains entries' (key_entry key y) = Contains-permutation (key_entry key y ∷ entries) entries' (key_entry key y) moved (contains_head KeyEntry (key_entry key y) entries) in
     record {
       but = record {
         ways = reached_lower net ok u x i hop added port step keys key exact less ways;
-        nodes = All-permutation (IsEntry net) (entry key y ∷ entries) entries' moved (all_cons Entry (IsEntry net) (entry key y) entries (key, y, facts.to, refl) so_far.but.nodes);
+        nodes = All-permutation (IsEntry net) (key_entry key y ∷ entries) entries' moved (all_cons KeyEntry (IsEntry net) (key_entry key y) entries (key, y, facts.to, refl) so_far.but.nodes);
         pending = λ v v_in out. ⊎_elim
-            (λ (e : v ≡ y). let P : ℕ → Type 0 = λ k. Contains entries' (entry k y) in
-            let Q : ℕ → Type 0 = λ k. Contains entries' (entry (at (set keys y key) k) k) in
+            (λ (e : v ≡ y). let P : ℕ → Type 0 = λ k. Contains entries' (key_entry k y) in
+            let Q : ℕ → Type 0 = λ k. Contains entries' (key_entry (at (set keys y key) k) k) in
             inr (subst Q (sym e) (subst P (sym written) head)))
             (λ (ne : v ≢ y). let same : at (set keys y key) v ≡ at keys v = get_or-set_other keys y v key 0 ne in
-            ⊎_elim (λ (spent : IsSpent net u keys v). inl (λ q h a at_q s. omega (arith, spent q h a at_q s, falls_to h.node, same)))
-            (λ (waits : Contains entries (entry (at keys v) v)). let P : ℕ → Type 0 = λ k. Contains entries' (entry k v) in
-            inr (subst P (sym same) (Contains-permutation (entry key y ∷ entries) entries' (entry (at keys v) v) moved (contains_cons Entry (entry key y) (entry (at keys v) v) entries waits))))
+            ⊎_elim (λ (spent : IsSpentKey net u keys v). inl (λ q h a at_q s. omega (arith, spent q h a at_q s, falls_to h.node, same)))
+            (λ (waits : Contains entries (key_entry (at keys v) v)). let P : ℕ → Type 0 = λ k. Contains entries' (key_entry k v) in
+            inr (subst P (sym same) (Contains-permutation (key_entry key y ∷ entries) entries' (key_entry (at keys v) v) moved (contains_cons KeyEntry (key_entry key y) (key_entry (at keys v) v) entries waits))))
             (so_far.but.pending v v_in out))
             (cases_eq v y);
       };
@@ -132,7 +133,7 @@ offering_lower net ok u x own old old_load keys entries entries' load load' i ke
       falls = omega (arith, so_far.falls, lower, loaded, less);
     }
 
-pub offering_keep : (net : Network) (u x own : ℕ) (old : List ℕ) (old_load : ℕ) (keys : List ℕ) (entries : List Entry) (load i added : ℕ) (hop : Hop)
+pub offering_keep : (net : Topology) (u x own : ℕ) (old : List ℕ) (old_load : ℕ) (keys : List ℕ) (entries : List KeyEntry) (load i added : ℕ) (hop : Hop)
     → port_at net x i ≡ Some hop → IsStepKey u x i hop.weight added → at keys hop.node ≤ own + added
     → IsOffering net u x own old old_load keys entries load i → IsOffering net u x own old old_load keys entries load (i + 1)
 offering_keep net u x own old old_load keys entries load i added hop port step le so_far = record {
@@ -143,47 +144,47 @@ offering_keep net u x own old old_load keys entries load i added hop port step l
 }
 
 -- once all ports of x are offered, x is spent
-pub offering_done : (net : Network) (u x own : ℕ) (old : List ℕ) (old_load : ℕ) (keys : List ℕ) (entries : List Entry) (load i : ℕ)
+pub offering_done : (net : Topology) (u x own : ℕ) (old : List ℕ) (old_load : ℕ) (keys : List ℕ) (entries : List KeyEntry) (load i : ℕ)
     → IsOffering net u x own old old_load keys entries load i → ((p : ℕ) (hop : Hop) → port_at net x p ≡ Some hop → p < i) → IsKeying net u NoNode keys entries
 offering_done net u x own old old_load keys entries load i so_far all = record {
   ways = so_far.but.ways;
   nodes = so_far.but.nodes;
   pending = λ v v_in out. ⊎_elim
-      (λ (e : v ≡ x). let P : ℕ → Type 0 = λ k. IsSpent net u keys k in
+      (λ (e : v ≡ x). let P : ℕ → Type 0 = λ k. IsSpentKey net u keys k in
       inl (subst P (sym e) (λ p hop a port step. omega (arith, so_far.spent p hop a (all p hop port) port step, so_far.kept))))
       (λ (ne : v ≢ x). so_far.but.pending v v_in ne) (cases_eq v x);
 }
 
 -- what an entry holds
-pub record Popped (net : Network) (waiting : ℕ) : Type 0 where
+pub record Popped (net : Topology) (waiting : ℕ) : Type 0 where
   pub node_in : waiting % 65536 < node_count net
   pub made : waiting ≡ key_of (waiting / 65536) (waiting % 65536)
 
-pub popped : (net : Network) → IsNetwork net → (u : ℕ) (keys : List ℕ) (old entries : List Entry) (e : Entry) → IsPermutation old (e ∷ entries) → IsKeying net u NoNode keys old → Popped net e.0
+pub popped : (net : Topology) → IsTopology net → (u : ℕ) (keys : List ℕ) (old entries : List KeyEntry) (e : KeyEntry) → IsPermutation old (e ∷ entries) → IsKeying net u NoNode keys old → Popped net e.0
 popped net ok u keys old entries e moved so_far =
     let few : node_count net ≤ 16384 = ok.few_nodes in
     let is = All-permutation (IsEntry net) old (e ∷ entries) moved so_far.nodes 0 e (omega arith) in
     record { node_in = omega (arith, few, is.2, is.3); made = omega arith }
 
 -- an entry leaves with the key of its node
-pub popped_fresh : (net : Network) → IsNetwork net → (u : ℕ) (keys : List ℕ) (old entries : List Entry) (e : Entry) → IsPermutation old (e ∷ entries)
+pub popped_fresh : (net : Topology) → IsTopology net → (u : ℕ) (keys : List ℕ) (old entries : List KeyEntry) (e : KeyEntry) → IsPermutation old (e ∷ entries)
     → IsKeying net u NoNode keys old → IsKeying net u (Only (e.0 % 65536)) keys entries
 popped_fresh net ok u keys old entries e moved so_far = record {
   ways = so_far.ways;
-  nodes = all_tail Entry (IsEntry net) e entries (All-permutation (IsEntry net) old (e ∷ entries) moved so_far.nodes);
+  nodes = all_tail KeyEntry (IsEntry net) e entries (All-permutation (IsEntry net) old (e ∷ entries) moved so_far.nodes);
   pending = λ v v_in out. ⊎_elim (λ spent. inl spent)
-      (λ waits. inr (contains_tail Entry e (entry (at keys v) v) entries (Contains-permutation old (e ∷ entries) (entry (at keys v) v) moved waits)
-      (λ same. out (let few : node_count net ≤ 16384 = ok.few_nodes in let is : key_of (at keys v) v ≡ e.0 = ap (λ (k : Entry). k.0) same in omega (arith, few, v_in, is)))))
+      (λ waits. inr (contains_tail KeyEntry e (key_entry (at keys v) v) entries (Contains-permutation old (e ∷ entries) (key_entry (at keys v) v) moved waits)
+      (λ same. out (let few : node_count net ≤ 16384 = ok.few_nodes in let is : key_of (at keys v) v ≡ e.0 = ap (λ (k : KeyEntry). k.0) same in omega (arith, few, v_in, is)))))
       (so_far.pending v v_in (λ none. none));
 }
 
 -- where nothing waits, the keys are the least
-pub keying_empty : (net : Network) → IsNetwork net → (u : ℕ) (keys : List ℕ) (entries : List Entry) → length entries ≡ 0 → IsKeying net u NoNode keys entries → AreKeys net u keys
+pub keying_empty : (net : Topology) → IsTopology net → (u : ℕ) (keys : List ℕ) (entries : List KeyEntry) → length entries ≡ 0 → IsKeying net u NoNode keys entries → AreKeys net u keys
 keying_empty net ok u keys entries none so_far = record {
   ways = so_far.ways;
   spent = λ x p hop a port step.
       let facts : PortFacts net x hop = port_facts net ok x p hop port in
-      ⊎_elim (λ (spent : IsSpent net u keys x). spent p hop a port step) (λ waits. absurd (omega (arith, waits.1, none))) (so_far.pending x facts.from (λ no_node. no_node));
+      ⊎_elim (λ (spent : IsSpentKey net u keys x). spent p hop a port step) (λ waits. absurd (omega (arith, waits.1, none))) (so_far.pending x facts.from (λ no_node. no_node));
 }
 
 -- so many times the key that stands for no way
@@ -198,12 +199,12 @@ no_keys_le n z =
     (cases_lt z n)
 
 -- the search starts at u
-pub keying_start : (net : Network) (u : ℕ) → u < node_count net → (none entries : List Entry) → none ≡ []
+pub keying_start : (net : Topology) (u : ℕ) → u < node_count net → (none entries : List KeyEntry) → none ≡ []
     → IsPermutation (record { 0 = u } ∷ none) entries → IsKeying net u NoNode (set (no_keys (node_count net)) u 0) entries
 keying_start net u u_in none entries empty moved =
     let n : ℕ = node_count net in
-    let first : Entry = record { 0 = u } in
-    let Q : List Entry → Type 0 = λ es. IsPermutation (first ∷ es) entries in
+    let first : KeyEntry = record { 0 = u } in
+    let Q : List KeyEntry → Type 0 = λ es. IsPermutation (first ∷ es) entries in
     let moved' : IsPermutation (first ∷ []) entries = subst Q empty moved in
     let ks : List ℕ = set (no_keys n) u 0 in
     let long : length (no_keys n) ≡ n = length-replicate n 140737488355328 in
@@ -218,11 +219,11 @@ keying_start net u u_in none entries empty moved =
         source = here;
         reached = λ v v_in other less. absurd (let k : at ks v ≡ 140737488355328 = away v v_in other in omega (arith, k, less));
       };
-      nodes = All-permutation (IsEntry net) (first ∷ []) entries moved' (all_cons Entry (IsEntry net) first [] (0, u, u_in, omega arith) (λ k e lt. absurd (omega (arith, lt))));
+      nodes = All-permutation (IsEntry net) (first ∷ []) entries moved' (all_cons KeyEntry (IsEntry net) first [] (0, u, u_in, omega arith) (λ k e lt. absurd (omega (arith, lt))));
       pending = λ v v_in out. ⊎_elim
-          (λ (e : v ≡ u). let R : ℕ → Type 0 = λ k. Contains entries (entry (at ks k) k) in
+          (λ (e : v ≡ u). let R : ℕ → Type 0 = λ k. Contains entries (key_entry (at ks k) k) in
           let S : ℕ → Type 0 = λ k. Contains entries (record { 0 = k }) in
           let is : u ≡ key_of (at ks u) u = omega (arith, here) in
-          inr (subst R (sym e) (subst S is (Contains-permutation (first ∷ []) entries first moved' (contains_head Entry first [])))))
+          inr (subst R (sym e) (subst S is (Contains-permutation (first ∷ []) entries first moved' (contains_head KeyEntry first [])))))
           (λ (ne : v ≢ u). inl (λ p hop a port step. let k : at ks v ≡ 140737488355328 = away v v_in ne in omega (arith, k, low hop.node))) (cases_eq v u);
     }

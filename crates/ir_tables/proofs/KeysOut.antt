@@ -4,7 +4,7 @@ use Rattle.std.proofs.lemmas.Bool.{cases_eq, cases_lt}
 use Rattle.std.proofs.lemmas.Option.{slice_get_within}
 use Rattle.std.proofs.lemmas.List.{get_or_append_left, get_or_push, length_push}
 use Rattle.ir_model.specs.declared.Hop.{Hop}
-use Rattle.ir_model.specs.Network.{Network, node_count, ports_of, port_at, port_back, IsNetwork}
+use Rattle.ir_model.specs.Topology.{Topology, node_count, ports_of, port_at, port_back, IsTopology}
 use Rattle.ir_model.specs.Walk.{link_weight, LeadsTo, IsWalk, weight_from, walk_weight, IsDistance, IsConnected}
 use Rattle.ir_model.specs.Table.{LeadsNearer, IsShortestPort}
 use Rattle.ir_model.proofs.Tables.{distance_unique, distance_way}
@@ -16,13 +16,13 @@ use Rattle.ir_tables.specs.Keys.{key_of, IsKeyed, AreKeys, AreWeightsIn, ArePort
 use Rattle.ir_tables.proofs.Settled.{distance_from_settled, settled_within}
 
 -- a port has a number of 16 bits
-pub port_small : (net : Network) → IsNetwork net → (x p : ℕ) (hop : Hop) → port_at net x p ≡ Some hop → p < 65536
+pub port_small : (net : Topology) → IsTopology net → (x p : ℕ) (hop : Hop) → port_at net x p ≡ Some hop → p < 65536
 port_small net ok x p hop port =
     let lt : p < length (ports_of net x) = slice_get_within (ports_of net x) p hop port in
     let few : node_count net ≤ 16384 = ok.few_nodes in
     omega (arith, lt, degree_bound net ok x, few)
 
-module _ (net : Network) (ok : IsNetwork net) (u : ℕ) (u_in : u < node_count net) (keys : List ℕ) (are : AreKeys net u keys) where
+module _ (net : Topology) (ok : IsTopology net) (u : ℕ) (u_in : u < node_count net) (keys : List ℕ) (are : AreKeys net u keys) where
   -- the weight in the key of a node
   abbrev weight_in : ℕ → ℕ
   weight_in v = at keys v / 65536

@@ -1,7 +1,7 @@
 -- Which ports lead nearer, told by the distances from one node.
 use Rattle.std.proofs.Common.{◌≡◌, ◌≢◌, ℕ, ◌+◌, ◌<◌, ◌≤◌, List, [], ◌∷◌, ◌++◌, Some, refl, ap, sym, subst, arith}
 use Rattle.ir_model.specs.declared.Hop.{Hop}
-use Rattle.ir_model.specs.Network.{Network, node_count, port_at, IsNetwork}
+use Rattle.ir_model.specs.Topology.{Topology, node_count, port_at, IsTopology}
 use Rattle.ir_model.specs.Walk.{link_weight, LeadsTo, IsWalk, weight_from, walk_weight, IsDistance}
 use Rattle.ir_model.specs.Table.{LeadsNearer}
 use Rattle.ir_model.proofs.Tables.{distance_unique, distance_own, distance_way}
@@ -11,11 +11,11 @@ use Rattle.ir_tables.specs.Relaxation.{at}
 use Rattle.ir_tables.specs.FromNode.{AreFrom, IsTightStep}
 
 -- what a list leads to is a node
-leads_to_node : (net : Network) (u d : ℕ) (rest : List ℕ) → LeadsTo net u d rest → d < node_count net
+leads_to_node : (net : Topology) (u d : ℕ) (rest : List ℕ) → LeadsTo net u d rest → d < node_count net
 leads_to_node net u d [] way = way.1
 leads_to_node net u d (v ∷ rest) way = leads_to_node net v d rest way.1
 
-module _ (net : Network) (ok : IsNetwork net) (u : ℕ) (weights : List ℕ) (are : AreFrom net u weights) where
+module _ (net : Topology) (ok : IsTopology net) (u : ℕ) (weights : List ℕ) (are : AreFrom net u weights) where
   own_weight : at weights u ≡ 0
   own_weight = distance_unique net u u (at weights u) 0 (are.each u are.node) (distance_own net u are.node)
 

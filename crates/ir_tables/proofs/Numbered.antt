@@ -7,9 +7,9 @@ use Rattle.std.specs.List.{find}
 use Rattle.ir_model.specs.declared.TheConstants.{MAX_NODES, MAX_EDGES, MAX_WEIGHT}
 use Rattle.ir_model.specs.declared.Link.{Link}
 use Rattle.ir_model.specs.declared.Hop.{Hop}
-use Rattle.ir_model.specs.Network.{Network, node_count, port_at, Joins, IsPort, IsNetwork, port_back}
+use Rattle.ir_model.specs.Topology.{Topology, node_count, port_at, Joins, IsPort, IsTopology, port_back}
 use Rattle.ir_graph.proofs.Joined.{place-append}
-use Rattle.ir_tables.specs.Numbered.{Numbers, links_at, links_from, joins_nodes, link_between, entry_port, ports_at, ports_from, network_of_rows}
+use Rattle.ir_tables.specs.Numbered.{Numbers, links_at, links_from, joins_nodes, link_between, entry_port, ports_at, ports_from, topology_of_rows}
 
 -- what a mapped filter gives comes from an element that passes
 kept_from : {A B : Type 0} (f : A → B) (t : A → Bool) (xs : List A) (p : ℕ) (y : B) → slice_get (map f (filter t xs)) p ≡ Some y
@@ -131,8 +131,8 @@ module _ (rows : List Numbers) where
   abbrev links : List Link
   links = links_from 0 rows
 
-  abbrev net : Network
-  net = network_of_rows rows
+  abbrev net : Topology
+  net = topology_of_rows rows
 
   -- where a port comes from
   port_from : (u p : ℕ) (hop : Hop) → port_at net u p ≡ Some hop → (i : ℕ) × (e : ℕ × ℕ) × (row_get rows u i ≡ Some e) × (e.0 ≢ u) × (entry_port links u e ≡ hop)
@@ -227,8 +227,8 @@ module _ (rows : List Numbers) where
     rows_count : node_count net ≡ length rows
     rows_count = length-ports_from links 0 rows
 
-    pub rows_network : length links ≤ MAX_EDGES → IsNetwork net
-    rows_network few = record {
+    pub rows_topology : length links ≤ MAX_EDGES → IsTopology net
+    rows_topology few = record {
       few_nodes = omega (arith, rows_count, ok.few);
       few_links = few;
       links = λ l link at. let edge : IsEdge link = link_edge l link at in record {

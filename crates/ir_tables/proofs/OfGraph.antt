@@ -14,15 +14,15 @@ use Rattle.ir_model.specs.declared.Link.{Link}
 use Rattle.ir_model.specs.declared.Hop.{Hop}
 use Rattle.ir_model.specs.Graph.{Name, Neighbors, Adjacency, names, among, has_node, edges_after, edges, is_weight, is_row, IsGraph}
 use Rattle.ir_model.specs.Made.{Pair, joins}
-use Rattle.ir_model.specs.Network.{Network, IsNetwork}
+use Rattle.ir_model.specs.Topology.{Topology, IsTopology}
 use Rattle.ir_model.proofs.Names.{same_names, bytes_eq-swap}
 use Rattle.ir_model.specs.Places.{place_of, neighbors_at, neighbor_at}
 use Rattle.ir_graph.proofs.Places.{place_of_at, at_place_of, neighbor_is_node, link_facts, link_back, neighbors_at-named}
 use Rattle.ir_graph.proofs.Joined.{one_place}
-use Rattle.ir_tables.specs.Numbered.{Numbers, links_at, links_from, joins_nodes, link_between, entry_port, ports_at, ports_from, network_of_rows}
-use Rattle.ir_model.specs.OfGraph.{link_edges, link_of, link_number, port_of, node_ports, network_of_graph}
-use Rattle.ir_tables.specs.ByPlace.{row_numbers, rows_of}
-use Rattle.ir_tables.proofs.Numbered.{row_get, IsNumbered, rows_network, ports_row, length-ports_from}
+use Rattle.ir_tables.specs.Numbered.{Numbers, links_at, links_from, joins_nodes, link_between, entry_port, ports_at, ports_from, topology_of_rows}
+use Rattle.ir_model.specs.OfGraph.{link_edges, link_of, link_number, port_of, node_ports, topology_of_graph}
+use Rattle.ir_tables.specs.ByPlace.{row_numbers, neighbor_rows}
+use Rattle.ir_tables.proofs.Numbered.{row_get, IsNumbered, rows_topology, ports_row, length-ports_from}
 
 -- ---- on numbers
 
@@ -112,7 +112,7 @@ module _ (g : Adjacency) (graph : IsGraph g) where
   abbrev graph_links : List Link
   graph_links = map (link_of g) (link_edges g)
 
-  links_rows : graph_links ≡ links_from 0 (rows_of g)
+  links_rows : graph_links ≡ links_from 0 (neighbor_rows g)
   links_rows = links_are [] 0 g (λ y. sym (le-ltb (place_of g y) 0 (omega arith))) (λ j v r eq at. let same : j ≡ v = omega arith in let P : ℕ → Type 0 = λ k. slice_get g k ≡ Some r in subst P same at)
 
   -- ---- ports
@@ -162,15 +162,15 @@ module _ (g : Adjacency) (graph : IsGraph g) where
       cc (here, later)
 
   -- the network of a graph, by numbers
-  pub graph_rows : network_of_graph g ≡ network_of_rows (rows_of g)
+  pub graph_rows : topology_of_graph g ≡ topology_of_rows (neighbor_rows g)
   graph_rows =
       let ports = ports_are 0 g (λ j v r eq at. let same : j ≡ v = omega arith in let P : ℕ → Type 0 = λ k. slice_get g k ≡ Some r in subst P same at) in
-      let moved : ports_from graph_links 0 (rows_of g) ≡ ports_from (links_from 0 (rows_of g)) 0 (rows_of g) = ap (λ ls. ports_from ls 0 (rows_of g)) links_rows in
+      let moved : ports_from graph_links 0 (neighbor_rows g) ≡ ports_from (links_from 0 (neighbor_rows g)) 0 (neighbor_rows g) = ap (λ ls. ports_from ls 0 (neighbor_rows g)) links_rows in
       cc (links_rows, ports ∙ moved)
 
   -- ---- the numbers make a network
 
-  get_link : (u i : ℕ) → row_get (rows_of g) u i ≡ neighbor_at g u i
+  get_link : (u i : ℕ) → row_get (neighbor_rows g) u i ≡ neighbor_at g u i
   get_link u i = ap (λ (xs : Numbers). slice_get xs i) (row_at g g u) ∙ slice_get-map {B = ℕ × ℕ} (λ (e : Name × ℕ). (place_of g e.0, e.1)) (neighbors_at g u) i
 
   -- an entry of a row, by name
@@ -182,7 +182,7 @@ module _ (g : Adjacency) (graph : IsGraph g) where
     pub place : place_of g entry.0 ≡ e.0
     pub weight : entry.1 ≡ e.1
 
-  entry_of : (u i : ℕ) (e : ℕ × ℕ) → row_get (rows_of g) u i ≡ Some e → IsEntryOf u i e
+  entry_of : (u i : ℕ) (e : ℕ × ℕ) → row_get (neighbor_rows g) u i ≡ Some e → IsEntryOf u i e
   entry_of u i e at = by (slice_get g u) refl (sym (get_link u i) ∙ at)
     where
       by_entry : (r : Name × Neighbors) → slice_get g u ≡ Some r → (o : Option (Name × ℕ)) → slice_get r.1 i ≡ o → option_map {U = ℕ × ℕ} (λ (e : Name × ℕ). (place_of g e.0, e.1)) o ≡ Some e → IsEntryOf u i e
@@ -198,13 +198,13 @@ module _ (g : Adjacency) (graph : IsGraph g) where
   all_at t (y ∷ xs) zero x all at = let same : y ≡ x = cc at in ap t (sym same) ∙ (and_parts (t y) (list_all t xs) all).0
   all_at t (y ∷ xs) (suc i) x all at = all_at t xs i x (and_parts (t y) (list_all t xs) all).1 at
 
-  entry_weight : (u i : ℕ) (e : ℕ × ℕ) → row_get (rows_of g) u i ≡ Some e → is_weight e.1 ≡ true
+  entry_weight : (u i : ℕ) (e : ℕ × ℕ) → row_get (neighbor_rows g) u i ≡ Some e → is_weight e.1 ≡ true
   entry_weight u i e at =
       let of : IsEntryOf u i e = entry_of u i e at in
       let row : is_row of.row ≡ true = all_at is_row g u of.row graph.rows of.row_is in
       ap is_weight (sym of.weight) ∙ all_at (λ (x : Name × ℕ). is_weight x.1) of.row.1 i of.entry (and_parts _ (list_all (λ (x : Name × ℕ). is_weight x.1) of.row.1) row).1 of.entry_is
 
-  pub graph_numbered : IsNumbered (rows_of g)
+  pub graph_numbered : IsNumbered (neighbor_rows g)
   graph_numbered = record {
     few = omega (arith, length-map g (λ (r : Name × Neighbors). row_numbers g r.1), graph.node_limit);
     reach = λ u i e at.
@@ -231,14 +231,14 @@ module _ (g : Adjacency) (graph : IsGraph g) where
           let differ : IsDistinct bytes_eq (keys_of (neighbors_at g u)) = subst P (sym (neighbors_at-named g graph.nodes_differ u a.row.0 (name_of_row u a.row a.row_is))) (graph.neighbors_differ a.row.0) in
           one_place (keys_of (neighbors_at g u)) i j b.entry.0 differ (key_i ∙ ap (λ (n : Name). Some n) one_name) key_j
 
-  pub graph_few : length (links_from 0 (rows_of g)) ≤ MAX_EDGES
+  pub graph_few : length (links_from 0 (neighbor_rows g)) ≤ MAX_EDGES
   graph_few =
       omega (arith, ap length links_rows, length-map (link_edges g) (link_of g), length-filter (λ (e : Pair). not (bytes_eq e.0 e.1)) (edges g), count_by-le-length (λ (e : Pair). not (bytes_eq e.0 e.1)) (edges g), graph.edge_limit)
 
-  pub graph_network : IsNetwork (network_of_graph g)
-  graph_network =
-      let P : Network → Type 0 = λ net. IsNetwork net in
-      subst P (sym graph_rows) (rows_network (rows_of g) graph_numbered graph_few)
+  pub graph_topology : IsTopology (topology_of_graph g)
+  graph_topology =
+      let P : Topology → Type 0 = λ net. IsTopology net in
+      subst P (sym graph_rows) (rows_topology (neighbor_rows g) graph_numbered graph_few)
 
 -- ---- steps of the loops
 
@@ -268,28 +268,28 @@ pub ports_same : (links : List Link) (u : ℕ) (row : Numbers) (i : ℕ) (e : �
 ports_same links u row i e at same = let skip : (e.0 == u) ≡ true = eq-eqb e.0 u same in (rw skip at (kept_more (entry_port links u) (λ e. not (e.0 == u)) row i e at)) ∙ append-nil (ports_at links u (take i row))
 
 -- the row of a node
-pub row_of_node : (g : Adjacency) (u : ℕ) → get_or (rows_of g) u [] ≡ row_numbers g (neighbors_at g u)
+pub row_of_node : (g : Adjacency) (u : ℕ) → get_or (neighbor_rows g) u [] ≡ row_numbers g (neighbors_at g u)
 row_of_node g u = row_at g g u
 
-pub length_rows : (g : Adjacency) → length (rows_of g) ≡ length g
+pub length_rows : (g : Adjacency) → length (neighbor_rows g) ≡ length g
 length_rows g = length-map g (λ (r : Name × Neighbors). row_numbers g r.1)
 
 -- the ports of one more node
 pub ports_step : (g : Adjacency) (links : List Link) (u : ℕ) → u < length g
-    → take (u + 1) (ports_from links 0 (rows_of g)) ≡ take u (ports_from links 0 (rows_of g)) ++ ports_at links u (row_numbers g (neighbors_at g u)) ∷ []
+    → take (u + 1) (ports_from links 0 (neighbor_rows g)) ≡ take u (ports_from links 0 (neighbor_rows g)) ++ ports_at links u (row_numbers g (neighbors_at g u)) ∷ []
 ports_step g links u lt =
-    let len : length (ports_from links 0 (rows_of g)) ≡ length g = length-ports_from links 0 (rows_of g) ∙ length-map g (λ (r : Name × Neighbors). row_numbers g r.1) in
-    let row : slice_index_or (ports_from links 0 (rows_of g)) u [] ≡ ports_at links u (row_numbers g (neighbors_at g u)) = ports_row links 0 u u (rows_of g) (omega arith) ∙ ap (ports_at links u) (row_at g g u) in
-    take_more (ports_from links 0 (rows_of g)) u [] (omega arith) ∙ ap (λ (x : List Hop). take u (ports_from links 0 (rows_of g)) ++ x ∷ []) row
+    let len : length (ports_from links 0 (neighbor_rows g)) ≡ length g = length-ports_from links 0 (neighbor_rows g) ∙ length-map g (λ (r : Name × Neighbors). row_numbers g r.1) in
+    let row : slice_index_or (ports_from links 0 (neighbor_rows g)) u [] ≡ ports_at links u (row_numbers g (neighbors_at g u)) = ports_row links 0 u u (neighbor_rows g) (omega arith) ∙ ap (ports_at links u) (row_at g g u) in
+    take_more (ports_from links 0 (neighbor_rows g)) u [] (omega arith) ∙ ap (λ (x : List Hop). take u (ports_from links 0 (neighbor_rows g)) ++ x ∷ []) row
 
 -- all of them
-pub ports_whole : (g : Adjacency) (links : List Link) (u : ℕ) → length g ≤ u → take u (ports_from links 0 (rows_of g)) ≡ ports_from links 0 (rows_of g)
+pub ports_whole : (g : Adjacency) (links : List Link) (u : ℕ) → length g ≤ u → take u (ports_from links 0 (neighbor_rows g)) ≡ ports_from links 0 (neighbor_rows g)
 ports_whole g links u ge =
-    let len : length (ports_from links 0 (rows_of g)) ≡ length g = length-ports_from links 0 (rows_of g) ∙ length-map g (λ (r : Name × Neighbors). row_numbers g r.1) in
-    take_all u (ports_from links 0 (rows_of g)) (omega arith)
+    let len : length (ports_from links 0 (neighbor_rows g)) ≡ length g = length-ports_from links 0 (neighbor_rows g) ∙ length-map g (λ (r : Name × Neighbors). row_numbers g r.1) in
+    take_all u (ports_from links 0 (neighbor_rows g)) (omega arith)
 
-pub graph_made : (g : Adjacency) → IsGraph g → (links : List Link) (ports : List (List Hop)) → links ≡ links_from 0 (rows_of g) → ports ≡ ports_from links 0 (rows_of g)
-    → ◌≡◌ {A = Network} (record { links = links; ports = ports }) (network_of_graph g)
+pub graph_made : (g : Adjacency) → IsGraph g → (links : List Link) (ports : List (List Hop)) → links ≡ links_from 0 (neighbor_rows g) → ports ≡ ports_from links 0 (neighbor_rows g)
+    → ◌≡◌ {A = Topology} (record { links = links; ports = ports }) (topology_of_graph g)
 graph_made g graph links ports same_links same_ports =
-    let moved : ports ≡ ports_from (links_from 0 (rows_of g)) 0 (rows_of g) = same_ports ∙ ap (λ ls. ports_from ls 0 (rows_of g)) same_links in
+    let moved : ports ≡ ports_from (links_from 0 (neighbor_rows g)) 0 (neighbor_rows g) = same_ports ∙ ap (λ ls. ports_from ls 0 (neighbor_rows g)) same_links in
     rw (moved, same_links) (sym (graph_rows g graph))

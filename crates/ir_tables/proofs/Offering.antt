@@ -6,10 +6,10 @@ use Rattle.std.proofs.lemmas.List.{get_or-replicate, get_or_past, length-replica
 use Rattle.std.proofs.lemmas.List.Sums.{sum_by-set}
 use Rattle.std.proofs.lemmas.List.Sorted.{All-permutation, Contains-permutation, length_permutation}
 use Rattle.ir_model.specs.declared.Hop.{Hop}
-use Rattle.ir_model.specs.Network.{Network, node_count, ports_of, port_at, IsNetwork, port_back}
+use Rattle.ir_model.specs.Topology.{Topology, node_count, ports_of, port_at, IsTopology, port_back}
 use Rattle.ir_model.proofs.Walks.{port_facts, PortFacts}
 use Rattle.ir_tables.specs.Relaxation.{IsReached, unreached, at, Offers, IsRelaxed}
-use Rattle.ir_tables.specs.Frontier.{Entry, entry, IsPending, NoNode, Only, IsFrontier}
+use Rattle.ir_tables.specs.Frontier.{WeightEntry, weight_entry, IsPending, NoNode, Only, IsFrontier}
 use Rattle.ir_tables.proofs.Rounds.{reached_set}
 
 pub contains_head : (A : Type 0) (e : A) (es : List A) → Contains (e ∷ es) e
@@ -40,9 +40,9 @@ set_le weights x weight z lt le =
     (λ (ne : z ≢ x). let w : at (set weights x weight) z ≡ at weights z = get_or-set_other weights x z weight 0 ne in omega (arith, w)) (cases_eq z x)
 
 -- a node takes a lower weight by way of v, and enters the frontier
-pub frontier_lower : (net : Network) → IsNetwork net → (d v p : ℕ) (hop : Hop) → port_at net v p ≡ Some hop
-    → (weights : List ℕ) (entries entries' : List Entry) (weight : ℕ) → weight ≡ hop.weight + at weights v → weight < at weights hop.node → weight < unreached
-    → IsPermutation (entry weight hop.node ∷ entries) entries'
+pub frontier_lower : (net : Topology) → IsTopology net → (d v p : ℕ) (hop : Hop) → port_at net v p ≡ Some hop
+    → (weights : List ℕ) (entries entries' : List WeightEntry) (weight : ℕ) → weight ≡ hop.weight + at weights v → weight < at weights hop.node → weight < unreached
+    → IsPermutation (weight_entry weight hop.node ∷ entries) entries'
     → IsFrontier net d (Only v) weights entries → IsFrontier net d (Only v) (set weights hop.node weight) entries'
 frontier_lower net ok d v p hop port weights entries entries' weight is less below moved so_far =
     let facts : PortFacts net v hop = port_facts net ok v p hop port in
@@ -50,38 +50,38 @@ frontier_lower net ok d v p hop port weights entries entries' weight is less bel
     let x_in : x < length weights = omega (arith, facts.to, so_far.len) in
     let back = ok.paired v p hop port in
     let offered : (q : ℕ) × Offers (ports_of net x) weights q weight = (back.0, (port_back v hop, back.1, is)) in
-    let head : Contains entries' (entry weight x) = Contains-permutation (entry weight x ∷ entries) entries' (entry weight x) moved (contains_head Entry (entry weight x) entries) in
+    let head : Contains entries' (weight_entry weight x) = Contains-permutation (weight_entry weight x ∷ entries) entries' (weight_entry weight x) moved (contains_head WeightEntry (weight_entry weight x) entries) in
     let written : at (set weights x weight) x ≡ weight = get_or-set_same weights x weight 0 x_in in
     record {
       len = length-set weights x weight ∙ so_far.len;
       reached = reached_set net ok d x weight weights so_far.len facts.to below offered so_far.reached;
       end = ⊎_elim (λ (e : d ≡ x). let P : ℕ → Type 0 = λ k. at weights k ≡ 0 in let zero_here : at weights x ≡ 0 = subst P e so_far.end in absurd (omega (arith, zero_here, less)))
           (λ (other : d ≢ x). get_or-set_other weights x d weight 0 other ∙ so_far.end) (cases_eq d x);
-      nodes = All-permutation (λ e. e.0.1 < node_count net) (entry weight x ∷ entries) entries' moved (all_cons Entry (λ e. e.0.1 < node_count net) (entry weight x) entries facts.to so_far.nodes);
+      nodes = All-permutation (λ e. e.0.1 < node_count net) (weight_entry weight x ∷ entries) entries' moved (all_cons WeightEntry (λ e. e.0.1 < node_count net) (weight_entry weight x) entries facts.to so_far.nodes);
       pending = λ y y_in out. ⊎_elim
           (λ (e : y ≡ x). let P : ℕ → Type 0 = λ k. IsPending net (set weights x weight) entries' k in
-          let Q : ℕ → Type 0 = λ w. Contains entries' (entry w x) in
+          let Q : ℕ → Type 0 = λ w. Contains entries' (weight_entry w x) in
           subst P (sym e) (inr (subst Q (sym written) head)))
           (λ (ne : y ≢ x).
           let same : at (set weights x weight) y ≡ at weights y = get_or-set_other weights x y weight 0 ne in
           ⊎_elim (λ spent. inl (λ q h at_q. omega (arith, spent q h at_q, set_le weights x weight h.node x_in (omega (arith, less)), same)))
-          (λ waits. let Q : ℕ → Type 0 = λ w. Contains entries' (entry w y) in
-          inr (subst Q (sym same) (Contains-permutation (entry weight x ∷ entries) entries' (entry (at weights y) y) moved (contains_cons Entry (entry weight x) (entry (at weights y) y) entries waits))))
+          (λ waits. let Q : ℕ → Type 0 = λ w. Contains entries' (weight_entry w y) in
+          inr (subst Q (sym same) (Contains-permutation (weight_entry weight x ∷ entries) entries' (weight_entry (at weights y) y) moved (contains_cons WeightEntry (weight_entry weight x) (weight_entry (at weights y) y) entries waits))))
           (so_far.pending y y_in out))
           (cases_eq y x);
     }
 
 -- the first i ports of v are offered
-pub record IsOffering (net : Network) (v own : ℕ) (old : List ℕ) (old_entries : List Entry) (weights : List ℕ) (entries : List Entry) (i : ℕ) : Type 0 where
+pub record IsOffering (net : Topology) (v own : ℕ) (old : List ℕ) (old_entries : List WeightEntry) (weights : List ℕ) (entries : List WeightEntry) (i : ℕ) : Type 0 where
   pub but : (d : ℕ) → IsFrontier net d (Only v) old old_entries → IsFrontier net d (Only v) weights entries
   pub len : length weights ≡ node_count net
   pub kept : at weights v ≡ own
   pub spent : (p : ℕ) (hop : Hop) → p < i → port_at net v p ≡ Some hop → at weights hop.node ≤ hop.weight + own
   pub falls : 2 * sum weights + length entries ≤ 2 * sum old + length old_entries
 
-pub offering_lower : (net : Network) → IsNetwork net → (v own : ℕ) (old : List ℕ) (old_entries : List Entry) (weights : List ℕ) (entries entries' : List Entry) (i weight : ℕ) (hop : Hop)
+pub offering_lower : (net : Topology) → IsTopology net → (v own : ℕ) (old : List ℕ) (old_entries : List WeightEntry) (weights : List ℕ) (entries entries' : List WeightEntry) (i weight : ℕ) (hop : Hop)
     → port_at net v i ≡ Some hop → weight ≡ min (own + hop.weight) 4294967295 → weight < at weights hop.node → at weights hop.node < 2 ^ 32
-    → IsPermutation (entry weight hop.node ∷ entries) entries'
+    → IsPermutation (weight_entry weight hop.node ∷ entries) entries'
     → IsOffering net v own old old_entries weights entries i → IsOffering net v own old old_entries (set weights hop.node weight) entries' (i + 1)
 offering_lower net ok v own old old_entries weights entries entries' i weight hop port is less fits moved so_far =
     let facts : PortFacts net v hop = port_facts net ok v i hop port in
@@ -89,7 +89,7 @@ offering_lower net ok v own old old_entries weights entries entries' i weight ho
     let x_in : x < length weights = omega (arith, facts.to, so_far.len) in
     let exact : weight ≡ hop.weight + at weights v = omega (arith, is, less, fits, so_far.kept) in
     let lower : sum (set weights x weight) + at weights x ≡ sum weights + weight = sum_by-set (λ k. k) weights x weight 0 x_in in
-    let longer : length entries' ≡ length entries + 1 = (let l : length entries' ≡ suc (length entries) = length_permutation (entry weight x ∷ entries) entries' moved in omega (arith, l)) in
+    let longer : length entries' ≡ length entries + 1 = (let l : length entries' ≡ suc (length entries) = length_permutation (weight_entry weight x ∷ entries) entries' moved in omega (arith, l)) in
     let written : at (set weights x weight) x ≡ weight = get_or-set_same weights x weight 0 x_in in
     record {
       but = λ d from. frontier_lower net ok d v i hop port weights entries entries' weight exact less (omega (arith, less, fits)) moved (so_far.but d from);
@@ -104,7 +104,7 @@ offering_lower net ok v own old old_entries weights entries entries' i weight ho
       falls = omega (arith, so_far.falls, lower, longer, less);
     }
 
-pub offering_keep : (net : Network) (v own : ℕ) (old : List ℕ) (old_entries : List Entry) (weights : List ℕ) (entries : List Entry) (i weight : ℕ) (hop : Hop)
+pub offering_keep : (net : Topology) (v own : ℕ) (old : List ℕ) (old_entries : List WeightEntry) (weights : List ℕ) (entries : List WeightEntry) (i weight : ℕ) (hop : Hop)
     → port_at net v i ≡ Some hop → weight ≡ min (own + hop.weight) 4294967295 → at weights hop.node ≤ weight
     → IsOffering net v own old old_entries weights entries i → IsOffering net v own old old_entries weights entries (i + 1)
 offering_keep net v own old old_entries weights entries i weight hop port is le so_far = record {
@@ -121,7 +121,7 @@ offering_keep net v own old old_entries weights entries i weight hop port is le 
 }
 
 -- once all ports of v are offered, v is spent
-pub offering_done : (net : Network) (d v own : ℕ) (old : List ℕ) (old_entries : List Entry) (weights : List ℕ) (entries : List Entry) (i : ℕ)
+pub offering_done : (net : Topology) (d v own : ℕ) (old : List ℕ) (old_entries : List WeightEntry) (weights : List ℕ) (entries : List WeightEntry) (i : ℕ)
     → IsOffering net v own old old_entries weights entries i → ((p : ℕ) (hop : Hop) → port_at net v p ≡ Some hop → p < i)
     → IsFrontier net d (Only v) old old_entries → IsFrontier net d NoNode weights entries
 offering_done net d v own old old_entries weights entries i so_far all from =
@@ -137,36 +137,36 @@ offering_done net d v own old old_entries weights entries i so_far all from =
     }
 
 -- the node of an entry that leaves
-pub popped_node : (net : Network) (d : ℕ) (weights : List ℕ) (old entries : List Entry) (e : Entry) → IsPermutation old (e ∷ entries) → IsFrontier net d NoNode weights old → e.0.1 < node_count net
+pub popped_node : (net : Topology) (d : ℕ) (weights : List ℕ) (old entries : List WeightEntry) (e : WeightEntry) → IsPermutation old (e ∷ entries) → IsFrontier net d NoNode weights old → e.0.1 < node_count net
 popped_node net d weights old entries e moved so_far = All-permutation (λ e. e.0.1 < node_count net) old (e ∷ entries) moved so_far.nodes 0 e (omega arith)
 
 -- an entry leaves with the weight of its node
-pub popped_fresh : (net : Network) (d : ℕ) (weights : List ℕ) (old entries : List Entry) (e : Entry) → IsPermutation old (e ∷ entries) → IsFrontier net d NoNode weights old → IsFrontier net d (Only e.0.1) weights entries
+pub popped_fresh : (net : Topology) (d : ℕ) (weights : List ℕ) (old entries : List WeightEntry) (e : WeightEntry) → IsPermutation old (e ∷ entries) → IsFrontier net d NoNode weights old → IsFrontier net d (Only e.0.1) weights entries
 popped_fresh net d weights old entries e moved so_far = record {
   len = so_far.len;
   reached = so_far.reached;
   end = so_far.end;
-  nodes = all_tail Entry (λ e. e.0.1 < node_count net) e entries (All-permutation (λ e. e.0.1 < node_count net) old (e ∷ entries) moved so_far.nodes);
+  nodes = all_tail WeightEntry (λ e. e.0.1 < node_count net) e entries (All-permutation (λ e. e.0.1 < node_count net) old (e ∷ entries) moved so_far.nodes);
   pending = λ y y_in out. ⊎_elim (λ spent. inl spent)
-      (λ waits. inr (contains_tail Entry e (entry (at weights y) y) entries (Contains-permutation old (e ∷ entries) (entry (at weights y) y) moved waits) (λ same. out (ap (λ (k : Entry). k.0.1) same))))
+      (λ waits. inr (contains_tail WeightEntry e (weight_entry (at weights y) y) entries (Contains-permutation old (e ∷ entries) (weight_entry (at weights y) y) moved waits) (λ same. out (ap (λ (k : WeightEntry). k.0.1) same))))
       (so_far.pending y y_in (λ none. none));
 }
 
 -- an entry leaves with another weight
-pub popped_stale : (net : Network) (d : ℕ) (weights : List ℕ) (old entries : List Entry) (e : Entry) → e.0.0 ≢ at weights e.0.1 → IsPermutation old (e ∷ entries) → IsFrontier net d NoNode weights old → IsFrontier net d NoNode weights entries
+pub popped_stale : (net : Topology) (d : ℕ) (weights : List ℕ) (old entries : List WeightEntry) (e : WeightEntry) → e.0.0 ≢ at weights e.0.1 → IsPermutation old (e ∷ entries) → IsFrontier net d NoNode weights old → IsFrontier net d NoNode weights entries
 popped_stale net d weights old entries e stale moved so_far = record {
   len = so_far.len;
   reached = so_far.reached;
   end = so_far.end;
-  nodes = all_tail Entry (λ e. e.0.1 < node_count net) e entries (All-permutation (λ e. e.0.1 < node_count net) old (e ∷ entries) moved so_far.nodes);
+  nodes = all_tail WeightEntry (λ e. e.0.1 < node_count net) e entries (All-permutation (λ e. e.0.1 < node_count net) old (e ∷ entries) moved so_far.nodes);
   pending = λ y y_in out. ⊎_elim (λ spent. inl spent)
-      (λ waits. inr (contains_tail Entry e (entry (at weights y) y) entries (Contains-permutation old (e ∷ entries) (entry (at weights y) y) moved waits)
-      (λ same. stale (let node : y ≡ e.0.1 = ap (λ (k : Entry). k.0.1) same in let weight : at weights y ≡ e.0.0 = ap (λ (k : Entry). k.0.0) same in sym weight ∙ ap (at weights) node))))
+      (λ waits. inr (contains_tail WeightEntry e (weight_entry (at weights y) y) entries (Contains-permutation old (e ∷ entries) (weight_entry (at weights y) y) moved waits)
+      (λ same. stale (let node : y ≡ e.0.1 = ap (λ (k : WeightEntry). k.0.1) same in let weight : at weights y ≡ e.0.0 = ap (λ (k : WeightEntry). k.0.0) same in sym weight ∙ ap (at weights) node))))
       (so_far.pending y y_in (λ none. none));
 }
 
 -- where nothing waits, the weights are settled
-pub frontier_empty : (net : Network) → IsNetwork net → (d : ℕ) (weights : List ℕ) (entries : List Entry) → length entries ≡ 0 → IsFrontier net d NoNode weights entries → IsRelaxed net d weights
+pub frontier_empty : (net : Topology) → IsTopology net → (d : ℕ) (weights : List ℕ) (entries : List WeightEntry) → length entries ≡ 0 → IsFrontier net d NoNode weights entries → IsRelaxed net d weights
 frontier_empty net ok d weights entries none so_far = record {
   len = so_far.len;
   reached = so_far.reached;
@@ -191,12 +191,12 @@ no_ways_le n z =
     (cases_lt z n)
 
 -- the search starts at d
-pub frontier_start : (net : Network) (d : ℕ) → d < node_count net → (none entries : List Entry) → none ≡ []
-    → IsPermutation (entry 0 d ∷ none) entries → IsFrontier net d NoNode (set (no_ways (node_count net)) d 0) entries
+pub frontier_start : (net : Topology) (d : ℕ) → d < node_count net → (none entries : List WeightEntry) → none ≡ []
+    → IsPermutation (weight_entry 0 d ∷ none) entries → IsFrontier net d NoNode (set (no_ways (node_count net)) d 0) entries
 frontier_start net d d_in none entries empty moved =
     let n : ℕ = node_count net in
-    let Q : List Entry → Type 0 = λ es. IsPermutation (entry 0 d ∷ es) entries in
-    let moved' : IsPermutation (entry 0 d ∷ []) entries = subst Q empty moved in
+    let Q : List WeightEntry → Type 0 = λ es. IsPermutation (weight_entry 0 d ∷ es) entries in
+    let moved' : IsPermutation (weight_entry 0 d ∷ []) entries = subst Q empty moved in
     let ws : List ℕ = set (no_ways n) d 0 in
     let long : length (no_ways n) ≡ n = length-replicate n 4294967295 in
     let d_in' : d < length (no_ways n) = omega (arith, long, d_in) in
@@ -208,9 +208,9 @@ frontier_start net d d_in none entries empty moved =
       reached = λ u u_in less. ⊎_elim (λ (e : u ≡ d). let R : ℕ → Type 0 = λ k. IsReached net d (at ws) k in subst R (sym e) ([], (refl, d_in), sym here))
           (λ (ne : u ≢ d). absurd (let w : at ws u ≡ 4294967295 = away u u_in ne in omega (arith, w, less))) (cases_eq u d);
       end = here;
-      nodes = All-permutation (λ e. e.0.1 < n) (entry 0 d ∷ []) entries moved' (all_cons Entry (λ e. e.0.1 < n) (entry 0 d) [] d_in (λ k e lt. absurd (omega (arith, lt))));
+      nodes = All-permutation (λ e. e.0.1 < n) (weight_entry 0 d ∷ []) entries moved' (all_cons WeightEntry (λ e. e.0.1 < n) (weight_entry 0 d) [] d_in (λ k e lt. absurd (omega (arith, lt))));
       pending = λ v v_in out. ⊎_elim
-          (λ (e : v ≡ d). let R : ℕ → Type 0 = λ k. IsPending net ws entries k in let S : ℕ → Type 0 = λ w. Contains entries (entry w d) in
-          subst R (sym e) (inr (subst S (sym here) (Contains-permutation (entry 0 d ∷ []) entries (entry 0 d) moved' (contains_head Entry (entry 0 d) [])))))
+          (λ (e : v ≡ d). let R : ℕ → Type 0 = λ k. IsPending net ws entries k in let S : ℕ → Type 0 = λ w. Contains entries (weight_entry w d) in
+          subst R (sym e) (inr (subst S (sym here) (Contains-permutation (weight_entry 0 d ∷ []) entries (weight_entry 0 d) moved' (contains_head WeightEntry (weight_entry 0 d) [])))))
           (λ (ne : v ≢ d). inl (λ p hop port. let w : at ws v ≡ 4294967295 = away v v_in ne in omega (arith, w, low hop.node))) (cases_eq v d);
     }

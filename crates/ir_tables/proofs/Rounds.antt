@@ -4,7 +4,7 @@ use Rattle.std.proofs.lemmas.Option.{get_or_from_slice_get, slice_get-get_or}
 use Rattle.std.proofs.lemmas.List.Sums.{sum_by-set}
 use Rattle.std.proofs.lemmas.Bool.{cases_eq, cases_lt, cases_Bool}
 use Rattle.ir_model.specs.declared.Hop.{Hop}
-use Rattle.ir_model.specs.Network.{Network, node_count, ports_of, port_at, IsNetwork}
+use Rattle.ir_model.specs.Topology.{Topology, node_count, ports_of, port_at, IsTopology}
 use Rattle.ir_model.specs.Walk.{link_weight}
 use Rattle.ir_model.proofs.Walks.{link_weight_at, port_facts, PortFacts}
 use Rattle.ir_tables.specs.Relaxation.{IsReached, unreached, at, AllReached, Offers}
@@ -66,7 +66,7 @@ none_more ports weights own i sum fits before e ne q lt o =
     ne (omega (arith, is, e, fits))) (cases_lt q i)
 
 -- a weight that a port of u offers is that of a way, once it stands at u
-pub reached_set : (net : Network) → IsNetwork net → (d u best : ℕ) (weights : List ℕ) → length weights ≡ node_count net → u < node_count net
+pub reached_set : (net : Topology) → IsTopology net → (d u best : ℕ) (weights : List ℕ) → length weights ≡ node_count net → u < node_count net
     → best < unreached → ((p : ℕ) × Offers (ports_of net u) weights p best) → AllReached net d weights → AllReached net d (set weights u best)
 reached_set net ok d u best weights len u_in below offered reached x x_in less =
     ⊎_elim (λ same. at_u same) (λ other. elsewhere other) (cases_eq x u)
@@ -89,7 +89,7 @@ reached_set net ok d u best weights len u_in below offered reached x x_in less =
         (way.0, way.1, way.2 ∙ sym kept)
 
 -- a round, up to node u
-pub record IsRound (net : Network) (old weights : List ℕ) (changed : Bool) (u : ℕ) : Type 0 where
+pub record IsRound (net : Topology) (old weights : List ℕ) (changed : Bool) (u : ℕ) : Type 0 where
   pub len : length weights ≡ node_count net
   pub reached : (d : ℕ) → AllReached net d old → AllReached net d weights
   pub end : (d : ℕ) → at old d ≡ 0 → at weights d ≡ 0
@@ -98,7 +98,7 @@ pub record IsRound (net : Network) (old weights : List ℕ) (changed : Bool) (u 
   pub falls : changed ≡ true → sum weights < sum old
 
 -- a node takes a lower weight
-pub round_lower : (net : Network) → IsNetwork net → (old weights : List ℕ) (changed : Bool) (u best : ℕ) → u < node_count net
+pub round_lower : (net : Topology) → IsTopology net → (old weights : List ℕ) (changed : Bool) (u best : ℕ) → u < node_count net
     → IsRound net old weights changed u → best < at weights u → at weights u < 2 ^ 32
     → ((p : ℕ) × Offers (ports_of net u) weights p best)
     → IsRound net old (set weights u best) true (u + 1)
@@ -118,7 +118,7 @@ round_lower net ok old weights changed u best u_in so_far less fits offered =
     }
 
 -- a node keeps its weight
-pub round_keep : (net : Network) (old weights : List ℕ) (changed : Bool) (u : ℕ)
+pub round_keep : (net : Topology) (old weights : List ℕ) (changed : Bool) (u : ℕ)
     → IsRound net old weights changed u
     → ((p offer : ℕ) → Offers (ports_of net u) weights p offer → at weights u ≤ offer)
     → IsRound net old weights changed (u + 1)

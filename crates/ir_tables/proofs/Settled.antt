@@ -3,7 +3,7 @@ use Rattle.std.proofs.Common.{◌≡◌, ◌≢◌, ℕ, ◌+◌, ◌*◌, ◌<�
 use Rattle.std.proofs.lemmas.Bool.{cases_lt}
 use Rattle.std.proofs.lemmas.List.{get_or_append_left, get_or_push}
 use Rattle.ir_model.specs.declared.Hop.{Hop}
-use Rattle.ir_model.specs.Network.{Network, node_count, ports_of, IsNetwork}
+use Rattle.ir_model.specs.Topology.{Topology, node_count, ports_of, IsTopology}
 use Rattle.ir_model.specs.Walk.{link_weight, LeadsTo, IsWalk, weight_from, walk_weight, IsDistance}
 use Rattle.ir_model.specs.Table.{LeadsNearer, IsShortestPort}
 use Rattle.ir_model.proofs.Tables.{distance_unique, distance_way}
@@ -11,7 +11,7 @@ use Rattle.ir_model.proofs.Walks.{link_weight_at, PortFacts, port_facts, leads_f
 use Rattle.ir_tables.specs.Relaxation.{IsSettled, IsReached, unreached, at, Offers, IsRelaxed, AreDistances, IsColumn}
 
 -- a settled f is below the weight of every way
-pub settled_below : (net : Network) → IsNetwork net → (d : ℕ) (f : ℕ → ℕ) → IsSettled net d f → (u : ℕ) (rest : List ℕ) → LeadsTo net u d rest → f u ≤ weight_from net u rest
+pub settled_below : (net : Topology) → IsTopology net → (d : ℕ) (f : ℕ → ℕ) → IsSettled net d f → (u : ℕ) (rest : List ℕ) → LeadsTo net u d rest → f u ≤ weight_from net u rest
 settled_below net ok d f done u [] way = let e : f u ≡ f d = ap f way.0 in omega (arith, e, done.end)
 settled_below net ok d f done u (v ∷ rest) way =
     let step : f u ≤ way.0.1.weight + f way.0.1.node = done.tight u way.0.0 way.0.1 way.0.2 in
@@ -22,7 +22,7 @@ settled_below net ok d f done u (v ∷ rest) way =
     omega (arith, step, later, here, weight)
 
 -- a settled f is the distance wherever it tells the weight of a way
-pub distance_from_settled : (net : Network) → IsNetwork net → (d : ℕ) (f : ℕ → ℕ) → IsSettled net d f → (u : ℕ) → IsReached net d f u → IsDistance net u d (f u)
+pub distance_from_settled : (net : Topology) → IsTopology net → (d : ℕ) (f : ℕ → ℕ) → IsSettled net d f → (u : ℕ) → IsReached net d f u → IsDistance net u d (f u)
 distance_from_settled net ok d f done u way =
     record { reached = (u ∷ way.0, (refl, way.1), way.2); least = least_of }
   where
@@ -33,7 +33,7 @@ distance_from_settled net ok d f done u way =
         omega (arith, e, settled_below net ok d f done x rest way')
 
 -- where a settled f tells the weight of a way at each node below the bound, each node with a way is below the bound
-pub settled_within : (net : Network) → IsNetwork net → (d bound : ℕ) (f : ℕ → ℕ) → IsSettled net d f → 65535 * node_count net < bound
+pub settled_within : (net : Topology) → IsTopology net → (d bound : ℕ) (f : ℕ → ℕ) → IsSettled net d f → 65535 * node_count net < bound
     → ((u : ℕ) → u < node_count net → f u < bound → IsReached net d f u)
     → (u : ℕ) (rest : List ℕ) → LeadsTo net u d rest → f u < bound
 settled_within net ok d bound f done large reached u [] way =
@@ -51,11 +51,11 @@ settled_within net ok d bound f done large reached u (v ∷ rest) way =
     omega (arith, step, here, weight, light, short, best.2, large)
 
 -- the weight that stands for no way is above every distance
-pub unreached_large : (net : Network) → IsNetwork net → 65535 * node_count net < unreached
+pub unreached_large : (net : Topology) → IsTopology net → 65535 * node_count net < unreached
 unreached_large net ok = let few : node_count net ≤ 16384 = ok.few_nodes in omega arith
 
 -- where relaxation ends with no way found, there is none
-pub no_walk : (net : Network) → IsNetwork net → (d : ℕ) (weights : List ℕ) → IsRelaxed net d weights → (u : ℕ) → at weights u ≡ unreached → (walk : List ℕ) → IsWalk net u d walk → ⊥
+pub no_walk : (net : Topology) → IsTopology net → (d : ℕ) (weights : List ℕ) → IsRelaxed net d weights → (u : ℕ) → at weights u ≡ unreached → (walk : List ℕ) → IsWalk net u d walk → ⊥
 no_walk net ok d weights done u none [] is = is
 no_walk net ok d weights done u none (x ∷ rest) is =
     let P : ℕ → Type 0 = λ y. LeadsTo net y d rest in
@@ -63,7 +63,7 @@ no_walk net ok d weights done u none (x ∷ rest) is =
     omega (arith, below, none)
 
 -- what relaxation ends with are the distances
-pub relaxed_distances : (net : Network) → IsNetwork net → (d : ℕ) (weights : List ℕ) → IsRelaxed net d weights → AreDistances net d weights
+pub relaxed_distances : (net : Topology) → IsTopology net → (d : ℕ) (weights : List ℕ) → IsRelaxed net d weights → AreDistances net d weights
 relaxed_distances net ok d weights done = record {
   len = done.len;
   near = λ u u_in below. distance_from_settled net ok d (at weights) done.settled u (done.reached u u_in below);
@@ -71,24 +71,24 @@ relaxed_distances net ok d weights done = record {
 }
 
 -- what a column holds at u
-pub record IsEntry (net : Network) (d : ℕ) (weights : List ℕ) (u : ℕ) (held : Option ℕ) : Type 0 where
+pub record IsEntry (net : Topology) (d : ℕ) (weights : List ℕ) (u : ℕ) (held : Option ℕ) : Type 0 where
   pub below : at weights u < unreached
   pub own : u ≡ d → held ≡ None
   pub port : u ≢ d → (p : ℕ) × (held ≡ Some p) × IsShortestPort net u d p
 
 -- weights below `unreached` are distances
-pub relaxed_distance : (net : Network) → IsNetwork net → (d : ℕ) (weights : List ℕ) → IsRelaxed net d weights → (u : ℕ) → u < node_count net → at weights u < unreached → IsDistance net u d (at weights u)
+pub relaxed_distance : (net : Topology) → IsTopology net → (d : ℕ) (weights : List ℕ) → IsRelaxed net d weights → (u : ℕ) → u < node_count net → at weights u < unreached → IsDistance net u d (at weights u)
 relaxed_distance net ok d weights done u u_in below = distance_from_settled net ok d (at weights) done.settled u (done.reached u u_in below)
 
 -- a port offers the weight of its node exactly where it leads nearer
-offers_nearer : (net : Network) → IsNetwork net → (d : ℕ) (weights : List ℕ) → IsRelaxed net d weights → (u : ℕ) → u < node_count net → at weights u < unreached
+offers_nearer : (net : Topology) → IsTopology net → (d : ℕ) (weights : List ℕ) → IsRelaxed net d weights → (u : ℕ) → u < node_count net → at weights u < unreached
     → (p : ℕ) → Offers (ports_of net u) weights p (at weights u) → LeadsNearer net u d p
 offers_nearer net ok d weights done u u_in below p o =
     let facts : PortFacts net u o.0 = port_facts net ok u p o.0 o.1 in
     let P : ℕ → Type 0 = λ w. IsDistance net u d w in
     (o.0, at weights o.0.node, o.1, relaxed_distance net ok d weights done o.0.node facts.to (omega (arith, o.2, below)), subst P o.2 (relaxed_distance net ok d weights done u u_in below))
 
-nearer_offers : (net : Network) → IsNetwork net → (d : ℕ) (weights : List ℕ) → IsRelaxed net d weights → (u : ℕ) → u < node_count net → at weights u < unreached
+nearer_offers : (net : Topology) → IsTopology net → (d : ℕ) (weights : List ℕ) → IsRelaxed net d weights → (u : ℕ) → u < node_count net → at weights u < unreached
     → (p : ℕ) → LeadsNearer net u d p → Offers (ports_of net u) weights p (at weights u)
 nearer_offers net ok d weights done u u_in below p near =
     let hop : Hop = near.0 in
@@ -100,7 +100,7 @@ nearer_offers net ok d weights done u u_in below p near =
     (hop, near.2, omega (arith, total, le, tight))
 
 -- away from d some port offers the weight
-some_offer : (net : Network) → IsNetwork net → (d : ℕ) (weights : List ℕ) → IsRelaxed net d weights → (u : ℕ) → u < node_count net → at weights u < unreached → u ≢ d
+some_offer : (net : Topology) → IsTopology net → (d : ℕ) (weights : List ℕ) → IsRelaxed net d weights → (u : ℕ) → u < node_count net → at weights u < unreached → u ≢ d
     → (p : ℕ) × Offers (ports_of net u) weights p (at weights u)
 some_offer net ok d weights done u u_in below other = by_way (done.reached u u_in below).0 (done.reached u u_in below).1 (done.reached u u_in below).2
   where
@@ -117,7 +117,7 @@ some_offer net ok d weights done u u_in below other = by_way (done.reached u u_i
         (way.0.0, (hop, way.0.2, omega (arith, e, weight', later, same, tight)))
 
 -- the first port that offers the weight is what a shortest table holds
-pub entry_here : (net : Network) → IsNetwork net → (d : ℕ) (weights : List ℕ) → IsRelaxed net d weights → (u : ℕ) → u < node_count net → at weights u < unreached
+pub entry_here : (net : Topology) → IsTopology net → (d : ℕ) (weights : List ℕ) → IsRelaxed net d weights → (u : ℕ) → u < node_count net → at weights u < unreached
     → (port : Option ℕ)
     → IfSome port (λ p. Offers (ports_of net u) weights p (at weights u))
     → IfSome port (λ p. (q : ℕ) → q < p → Offers (ports_of net u) weights q (at weights u) → ⊥)
@@ -144,7 +144,7 @@ entry_here net ok d weights done u u_in below None found least none = record {
 }
 
 -- one more entry
-pub entries_push : (net : Network) (d : ℕ) (weights : List ℕ) (held : List (Option ℕ)) (u : ℕ) (port : Option ℕ) → length held ≡ u
+pub entries_push : (net : Topology) (d : ℕ) (weights : List ℕ) (held : List (Option ℕ)) (u : ℕ) (port : Option ℕ) → length held ≡ u
     → ((v : ℕ) → v < u → IsEntry net d weights v (slice_index_or held v None)) → IsEntry net d weights u port
     → (v : ℕ) → v < u + 1 → IsEntry net d weights v (slice_index_or (held ++ port ∷ []) v None)
 entries_push net d weights held u port len before here v lt =
@@ -154,7 +154,7 @@ entries_push net d weights held u port len before here v lt =
     subst P (sym same) (rw (get_or_push held port None u len) here)) (cases_lt v u)
 
 -- all entries make the column
-pub column_done : (net : Network) → IsNetwork net → (d : ℕ) → d < node_count net → (weights : List ℕ) (held : List (Option ℕ)) → IsRelaxed net d weights → length held ≡ node_count net
+pub column_done : (net : Topology) → IsTopology net → (d : ℕ) → d < node_count net → (weights : List ℕ) (held : List (Option ℕ)) → IsRelaxed net d weights → length held ≡ node_count net
     → ((v : ℕ) → v < node_count net → IsEntry net d weights v (slice_index_or held v None)) → IsColumn net d held weights
 column_done net ok d d_in weights held done len entries = record {
   ports_len = len;

@@ -4,32 +4,33 @@ use Rattle.std.specs.Prelude.{Contains, IsPermutation}
 use Rattle.std.proofs.lemmas.List.{append_assoc}
 use Rattle.std.proofs.lemmas.List.Sorted.{All-permutation, Contains-permutation, IsPermutation-append_left, IsPermutation-append_right, IsPermutation-middle, IsPermutation-sym, IsPermutation-to_front, IsPermutation-trans}
 use Rattle.std.proofs.lemmas.Option.{get_or_from_slice_get, slice_get-get_or}
-use Rattle.ir_model.specs.Network.{Network, node_count, IsNetwork}
+use Rattle.ir_model.specs.Topology.{Topology, node_count, IsTopology}
 use Rattle.ir_tables.specs.Relaxation.{at}
-use Rattle.ir_tables.specs.Keys.{Entry, entry, key_of, IsEntry, IsFresh, KeepsFresh, IsSpent, NoNode, IsKeying}
+use Rattle.ir_tables.specs.Frontier.{NoNode}
+use Rattle.ir_tables.specs.Keys.{KeyEntry, key_entry, key_of, IsEntry, IsFresh, KeepsFresh, IsSpentKey, IsKeying}
 use Rattle.ir_tables.proofs.Offering.{all_tail, contains_tail}
 
 -- an entry is pushed to the near ones
-pub pushed_near : (e : Entry) (near near' far : List Entry) → IsPermutation (e ∷ near) near' → IsPermutation (e ∷ (near ++ far)) (near' ++ far)
+pub pushed_near : (e : KeyEntry) (near near' far : List KeyEntry) → IsPermutation (e ∷ near) near' → IsPermutation (e ∷ (near ++ far)) (near' ++ far)
 pushed_near e near near' far moved = IsPermutation-append_left far (e ∷ near) near' moved
 
 -- an entry is pushed to the far ones
-pub pushed_far : (e : Entry) (near far : List Entry) → IsPermutation (e ∷ (near ++ far)) (near ++ (far ++ (e ∷ [])))
+pub pushed_far : (e : KeyEntry) (near far : List KeyEntry) → IsPermutation (e ∷ (near ++ far)) (near ++ (far ++ (e ∷ [])))
 pushed_far e near far =
-    let P : List Entry → Type 0 = λ es. IsPermutation (e ∷ (near ++ far)) es in
+    let P : List KeyEntry → Type 0 = λ es. IsPermutation (e ∷ (near ++ far)) es in
     subst P (append_assoc near far (e ∷ [])) (IsPermutation-sym ((near ++ far) ++ (e ∷ [])) (e ∷ (near ++ far)) (IsPermutation-to_front (near ++ far) e))
 
 -- an entry leaves the near ones
-pub left_near : (e : Entry) (near near' far : List Entry) → IsPermutation near (e ∷ near') → IsPermutation (near ++ far) (e ∷ (near' ++ far))
+pub left_near : (e : KeyEntry) (near near' far : List KeyEntry) → IsPermutation near (e ∷ near') → IsPermutation (near ++ far) (e ∷ (near' ++ far))
 left_near e near near' far moved = IsPermutation-append_left far near (e ∷ near') moved
 
 -- an entry leaves the far ones
-pub left_far : (e : Entry) (near far far' : List Entry) → IsPermutation far (e ∷ far') → IsPermutation (near ++ far) (e ∷ (near ++ far'))
+pub left_far : (e : KeyEntry) (near far far' : List KeyEntry) → IsPermutation far (e ∷ far') → IsPermutation (near ++ far) (e ∷ (near ++ far'))
 left_far e near far far' moved =
     IsPermutation-trans (near ++ far) (near ++ (e ∷ far')) (e ∷ (near ++ far')) (IsPermutation-append_right near far (e ∷ far') moved) (IsPermutation-middle near e far')
 
 -- an entry comes near, or is gone where it is not fresh
-pub come_near : (keys : List ℕ) (e : Entry) (near near' far far' : List Entry) → IsPermutation far (e ∷ far') → IsPermutation (e ∷ near) near' → KeepsFresh keys (near ++ far) (near' ++ far')
+pub come_near : (keys : List ℕ) (e : KeyEntry) (near near' far far' : List KeyEntry) → IsPermutation far (e ∷ far') → IsPermutation (e ∷ near) near' → KeepsFresh keys (near ++ far) (near' ++ far')
 come_near keys e near near' far far' left pushed =
     let moved : IsPermutation (near ++ far) (near' ++ far') = IsPermutation-trans (near ++ far) (e ∷ (near ++ far')) (near' ++ far') (left_far e near far far' left) (pushed_near e near near' far' pushed) in
     record {
@@ -37,34 +38,34 @@ come_near keys e near near' far far' left pushed =
       fresh = λ z fresh has. Contains-permutation (near ++ far) (near' ++ far') z moved has;
     }
 
-pub gone : (keys : List ℕ) (e : Entry) (before after : List Entry) → IsPermutation before (e ∷ after) → (IsFresh keys e → ⊥) → KeepsFresh keys before after
+pub gone : (keys : List ℕ) (e : KeyEntry) (before after : List KeyEntry) → IsPermutation before (e ∷ after) → (IsFresh keys e → ⊥) → KeepsFresh keys before after
 gone keys e before after moved stale = record {
-  nodes = λ net all. all_tail Entry (IsEntry net) e after (All-permutation (IsEntry net) before (e ∷ after) moved all);
-  fresh = λ z fresh has. contains_tail Entry e z after (Contains-permutation before (e ∷ after) z moved has)
-      (λ same. let P : Entry → Type 0 = λ k. IsFresh keys k in stale (subst P same fresh));
+  nodes = λ net all. all_tail KeyEntry (IsEntry net) e after (All-permutation (IsEntry net) before (e ∷ after) moved all);
+  fresh = λ z fresh has. contains_tail KeyEntry e z after (Contains-permutation before (e ∷ after) z moved has)
+      (λ same. let P : KeyEntry → Type 0 = λ k. IsFresh keys k in stale (subst P same fresh));
 }
 
 -- an entry whose node has another key by now
-pub stale_key : (keys : List ℕ) (e : Entry) → (e.0 / 65536 ≡ at keys (e.0 % 65536) → ⊥) → IsFresh keys e → ⊥
+pub stale_key : (keys : List ℕ) (e : KeyEntry) → (e.0 / 65536 ≡ at keys (e.0 % 65536) → ⊥) → IsFresh keys e → ⊥
 stale_key keys e other fresh = other (sym (get_or_from_slice_get keys (e.0 % 65536) (e.0 / 65536) 0 fresh))
 
-pub keeps_more : (keys : List ℕ) (first second third : List Entry) → KeepsFresh keys first second → KeepsFresh keys second third → KeepsFresh keys first third
+pub keeps_more : (keys : List ℕ) (first second third : List KeyEntry) → KeepsFresh keys first second → KeepsFresh keys second third → KeepsFresh keys first third
 keeps_more keys first second third one other = record {
   nodes = λ net all. other.nodes net (one.nodes net all);
   fresh = λ z fresh has. other.fresh z fresh (one.fresh z fresh has);
 }
 
 -- the search goes on over what is kept
-pub keying_kept : (net : Network) → IsNetwork net → (u : ℕ) (keys : List ℕ) (before after : List Entry) → KeepsFresh keys before after → IsKeying net u NoNode keys before → IsKeying net u NoNode keys after
+pub keying_kept : (net : Topology) → IsTopology net → (u : ℕ) (keys : List ℕ) (before after : List KeyEntry) → KeepsFresh keys before after → IsKeying net u NoNode keys before → IsKeying net u NoNode keys after
 keying_kept net ok u keys before after kept so_far = record {
   ways = so_far.ways;
   nodes = kept.nodes net so_far.nodes;
-  pending = λ v v_in out. ⊎_elim (λ (spent : IsSpent net u keys v). inl spent)
-      (λ (waits : Contains before (entry (at keys v) v)). inr (kept.fresh (entry (at keys v) v) (is_fresh v v_in) waits))
+  pending = λ v v_in out. ⊎_elim (λ (spent : IsSpentKey net u keys v). inl spent)
+      (λ (waits : Contains before (key_entry (at keys v) v)). inr (kept.fresh (key_entry (at keys v) v) (is_fresh v v_in) waits))
       (so_far.pending v v_in out);
 }
   where
-    is_fresh : (v : ℕ) → v < node_count net → IsFresh keys (entry (at keys v) v)
+    is_fresh : (v : ℕ) → v < node_count net → IsFresh keys (key_entry (at keys v) v)
     is_fresh v v_in =
         let few : node_count net ≤ 16384 = ok.few_nodes in
         let node : key_of (at keys v) v % 65536 ≡ v = omega (arith, few, v_in) in

@@ -6,52 +6,52 @@ use Rattle.std.proofs.lemmas.Bool.{cases_eq, eqb-true, ne_eqb, or_cases}
 use Rattle.std.proofs.lemmas.Map.Steps.{length-le_from_distinct_below}
 use Rattle.ir_model.specs.declared.TheConstants.{MAX_NODES, MAX_WEIGHT}
 use Rattle.ir_model.specs.declared.Hop.{Hop}
-use Rattle.ir_model.specs.Network.{Network, node_count, port_at, IsNetwork}
+use Rattle.ir_model.specs.Topology.{Topology, node_count, port_at, IsTopology}
 use Rattle.ir_model.specs.Walk.{link_weight, LeadsTo, weight_from}
 use Rattle.ir_model.specs.Table.{next_node, Continues, IsPrescribedWalk}
 use Rattle.ir_model.proofs.Walks.{link_weight_at, PortFacts, port_facts, way_light}
 use Rattle.ir_tables.specs.Relaxation.{at, unreached}
-use Rattle.ir_tables.specs.Listed.{listed_port, hop_in, HasWalk, IsPortList, IsNext, IsWay, IsFilled}
+use Rattle.ir_tables.specs.Listed.{listed_port, hop_in, HasWalk, IsPortList, IsTableHop, IsWay, IsFilled}
 
 -- ---- ways
 
-pub next_of : (net : Network) (table : ℕ → ℕ → Option ℕ) (x d y : ℕ) → next_node net table x d ≡ Some y → (hop : Hop) × IsNext net table x d hop × (hop.node ≡ y)
+pub next_of : (net : Topology) (table : ℕ → ℕ → Option ℕ) (x d y : ℕ) → next_node net table x d ≡ Some y → (hop : Hop) × IsTableHop net table x d hop × (hop.node ≡ y)
 next_of net table x d y e = by (table x d) refl e
   where
-    by_port : (p : ℕ) → table x d ≡ Some p → (o : Option Hop) → port_at net x p ≡ o → option_map (λ (hop : Hop). hop.node) o ≡ Some y → (hop : Hop) × IsNext net table x d hop × (hop.node ≡ y)
+    by_port : (p : ℕ) → table x d ≡ Some p → (o : Option Hop) → port_at net x p ≡ o → option_map (λ (hop : Hop). hop.node) o ≡ Some y → (hop : Hop) × IsTableHop net table x d hop × (hop.node ≡ y)
     by_port p held None at h = absurd (cc h)
     by_port p held (Some hop) at h = (hop, record { port = p; held = held; there = at }, cc h)
 
-    by : (o : Option ℕ) → table x d ≡ o → option_and_then (λ p. option_map (λ (hop : Hop). hop.node) (port_at net x p)) o ≡ Some y → (hop : Hop) × IsNext net table x d hop × (hop.node ≡ y)
+    by : (o : Option ℕ) → table x d ≡ o → option_and_then (λ p. option_map (λ (hop : Hop). hop.node) (port_at net x p)) o ≡ Some y → (hop : Hop) × IsTableHop net table x d hop × (hop.node ≡ y)
     by None held h = absurd (cc h)
     by (Some p) held h = by_port p held (port_at net x p) refl h
 
-pub is_next : (net : Network) (table : ℕ → ℕ → Option ℕ) (x d : ℕ) (hop : Hop) → IsNext net table x d hop → next_node net table x d ≡ Some hop.node
+pub is_next : (net : Topology) (table : ℕ → ℕ → Option ℕ) (x d : ℕ) (hop : Hop) → IsTableHop net table x d hop → next_node net table x d ≡ Some hop.node
 is_next net table x d hop next = rw (next.held, next.there) refl
 
 -- what is held is next
-pub next_at : (net : Network) (table : ℕ → ℕ → Option ℕ) (x d : ℕ) (hop : Hop) → hop_in net table x d ≡ Some hop → IsNext net table x d hop
+pub next_at : (net : Topology) (table : ℕ → ℕ → Option ℕ) (x d : ℕ) (hop : Hop) → hop_in net table x d ≡ Some hop → IsTableHop net table x d hop
 next_at net table x d hop e = by (table x d) refl e
   where
-    by : (o : Option ℕ) → table x d ≡ o → option_and_then (λ p. port_at net x p) o ≡ Some hop → IsNext net table x d hop
+    by : (o : Option ℕ) → table x d ≡ o → option_and_then (λ p. port_at net x p) o ≡ Some hop → IsTableHop net table x d hop
     by None held h = absurd (cc h)
     by (Some p) held h = record { port = p; held = held; there = h }
 
 -- the table names one hop
-one_next : (net : Network) (table : ℕ → ℕ → Option ℕ) (x d : ℕ) (hop other : Hop) → IsNext net table x d hop → IsNext net table x d other → hop ≡ other
+one_next : (net : Topology) (table : ℕ → ℕ → Option ℕ) (x d : ℕ) (hop other : Hop) → IsTableHop net table x d hop → IsTableHop net table x d other → hop ≡ other
 one_next net table x d hop other a b =
     let ports : a.port ≡ b.port = cc (a.held, b.held) in
     let P : ℕ → Type 0 = λ p. port_at net x p ≡ Some hop in
     cc (subst P ports a.there, b.there)
 
 -- the next node is a node
-pub next_in : (net : Network) → IsNetwork net → (table : ℕ → ℕ → Option ℕ) (x d y : ℕ) → next_node net table x d ≡ Some y → y < node_count net
+pub next_in : (net : Topology) → IsTopology net → (table : ℕ → ℕ → Option ℕ) (x d y : ℕ) → next_node net table x d ≡ Some y → y < node_count net
 next_in net ok table x d y e =
     let next = next_of net table x d y e in
     omega (arith, (port_facts net ok x next.1.port next.0 next.1.there).to, next.2)
 
 -- tables that agree at the nodes go on alike
-pub continues_agree : (net : Network) → IsNetwork net → (table other : ℕ → ℕ → Option ℕ) (d : ℕ) → ((x : ℕ) → x < node_count net → table x d ≡ other x d)
+pub continues_agree : (net : Topology) → IsTopology net → (table other : ℕ → ℕ → Option ℕ) (d : ℕ) → ((x : ℕ) → x < node_count net → table x d ≡ other x d)
     → (x : ℕ) → x < node_count net → (rest : List ℕ) → Continues net table d x rest → Continues net other d x rest
 continues_agree net ok table other d agree x x_in [] way = way
 continues_agree net ok table other d agree x x_in (y ∷ rest) way =
@@ -59,7 +59,7 @@ continues_agree net ok table other d agree x x_in (y ∷ rest) way =
     (way.0, next, continues_agree net ok table other d agree y (next_in net ok table x d y way.1) rest way.2)
 
 -- what a way from x goes on with: nothing at d, and else the next node
-way_step : (net : Network) → IsNetwork net → (table : ℕ → ℕ → Option ℕ) (d x weight : ℕ) (hop : Hop) → x ≢ d → IsNext net table x d hop → (rest : List ℕ) → Continues net table d x rest → weight_from net x rest ≡ weight
+way_step : (net : Topology) → IsTopology net → (table : ℕ → ℕ → Option ℕ) (d x weight : ℕ) (hop : Hop) → x ≢ d → IsTableHop net table x d hop → (rest : List ℕ) → Continues net table d x rest → weight_from net x rest ≡ weight
     → (later : List ℕ) × (length rest ≡ 1 + length later) × Continues net table d hop.node later × (weight ≡ hop.weight + weight_from net hop.node later)
 way_step net ok table d x weight hop other next [] way e = absurd (other way)
 way_step net ok table d x weight hop other next (y ∷ rest) way e =
@@ -73,30 +73,30 @@ way_step net ok table d x weight hop other next (y ∷ rest) way e =
     (rest, omega arith, subst P (sym node) way.2, omega (arith, e, link, later))
 
 -- a way from the next node makes one from x
-pub way_back : (net : Network) → IsNetwork net → (table : ℕ → ℕ → Option ℕ) (d x weight : ℕ) (hop : Hop) → x ≢ d → IsNext net table x d hop → IsWay net table d hop.node weight → IsWay net table d x (hop.weight + weight)
+pub way_back : (net : Topology) → IsTopology net → (table : ℕ → ℕ → Option ℕ) (d x weight : ℕ) (hop : Hop) → x ≢ d → IsTableHop net table x d hop → IsWay net table d hop.node weight → IsWay net table d x (hop.weight + weight)
 way_back net ok table d x weight hop other next way =
     let link : link_weight net x hop.node ≡ hop.weight = link_weight_at net ok x next.port hop next.there in
     record { rest = hop.node ∷ way.rest; continues = (other, is_next net table x d hop next, way.continues); weighs = omega (arith, link, way.weighs) }
 
 -- the way on from the next node
-pub way_on : (net : Network) → IsNetwork net → (table : ℕ → ℕ → Option ℕ) (d x weight : ℕ) (hop : Hop) → x ≢ d → IsNext net table x d hop → IsWay net table d x weight → (hop.weight ≤ weight) × IsWay net table d hop.node (weight - hop.weight)
+pub way_on : (net : Topology) → IsTopology net → (table : ℕ → ℕ → Option ℕ) (d x weight : ℕ) (hop : Hop) → x ≢ d → IsTableHop net table x d hop → IsWay net table d x weight → (hop.weight ≤ weight) × IsWay net table d hop.node (weight - hop.weight)
 way_on net ok table d x weight hop other next way =
     let step = way_step net ok table d x weight hop other next way.rest way.continues way.weighs in
     (omega (arith, step.3), record { rest = step.0; continues = step.2; weighs = omega (arith, step.3) })
 
 -- a way that has at most so many steps
-pub record IsShortWay (net : Network) (table : ℕ → ℕ → Option ℕ) (d x steps : ℕ) : Type 0 where
+pub record IsShortWay (net : Topology) (table : ℕ → ℕ → Option ℕ) (d x steps : ℕ) : Type 0 where
   pub rest : List ℕ
   pub continues : Continues net table d x rest
   pub short : length rest ≤ steps
 
-pub short_on : (net : Network) → IsNetwork net → (table : ℕ → ℕ → Option ℕ) (d x steps : ℕ) (hop : Hop) → x ≢ d → IsNext net table x d hop → IsShortWay net table d x (steps + 1) → IsShortWay net table d hop.node steps
+pub short_on : (net : Topology) → IsTopology net → (table : ℕ → ℕ → Option ℕ) (d x steps : ℕ) (hop : Hop) → x ≢ d → IsTableHop net table x d hop → IsShortWay net table d x (steps + 1) → IsShortWay net table d hop.node steps
 short_on net ok table d x steps hop other next way =
     let step = way_step net ok table d x (weight_from net x way.rest) hop other next way.rest way.continues refl in
     record { rest = step.0; continues = step.2; short = omega (arith, step.1, way.short) }
 
 -- a way of no step is at its end
-pub short_end : (net : Network) (table : ℕ → ℕ → Option ℕ) (d x : ℕ) → IsShortWay net table d x 0 → x ≡ d
+pub short_end : (net : Topology) (table : ℕ → ℕ → Option ℕ) (d x : ℕ) → IsShortWay net table d x 0 → x ≡ d
 short_end net table d x way = by way.rest way.continues way.short
   where
     by : (rest : List ℕ) → Continues net table d x rest → length rest ≤ 0 → x ≡ d
@@ -106,7 +106,7 @@ short_end net table d x way = by way.rest way.continues way.short
 -- ---- a prescribed walk meets no node twice
 
 -- from one node the rest is the same
-continues_same : (net : Network) (table : ℕ → ℕ → Option ℕ) (d u : ℕ) (rest other : List ℕ) → Continues net table d u rest → Continues net table d u other → length rest ≡ length other
+continues_same : (net : Topology) (table : ℕ → ℕ → Option ℕ) (d u : ℕ) (rest other : List ℕ) → Continues net table d u rest → Continues net table d u other → length rest ≡ length other
 continues_same net table d u [] [] a b = refl
 continues_same net table d u [] (y ∷ other) a b = absurd (b.0 a)
 continues_same net table d u (v ∷ rest) [] a b = absurd (a.0 b)
@@ -116,29 +116,29 @@ continues_same net table d u (v ∷ rest) (y ∷ other) a b =
     ap suc (continues_same net table d v rest other a.2 (subst P (sym same) b.2))
 
 -- a node that goes on with a shorter rest is another node
-not_back : (net : Network) (table : ℕ → ℕ → Option ℕ) (d u x : ℕ) (rest all : List ℕ) → Continues net table d u all → Continues net table d x rest → length rest < length all → eqb u x ≡ false
+not_back : (net : Topology) (table : ℕ → ℕ → Option ℕ) (d u x : ℕ) (rest all : List ℕ) → Continues net table d u all → Continues net table d x rest → length rest < length all → eqb u x ≡ false
 not_back net table d u x rest all whole part less =
     ne_eqb u x (λ e. let P : ℕ → Type 0 = λ z. Continues net table d z all in omega (arith, continues_same net table d x all rest (subst P e whole) part, less))
 
-apart : (net : Network) (table : ℕ → ℕ → Option ℕ) (d u x : ℕ) (rest all : List ℕ) → Continues net table d u all → Continues net table d x rest → length rest < length all
+apart : (net : Topology) (table : ℕ → ℕ → Option ℕ) (d u x : ℕ) (rest all : List ℕ) → Continues net table d u all → Continues net table d x rest → length rest < length all
     → AllByRecursion (λ y. eqb u y ≡ false) (x ∷ rest)
 apart net table d u x [] all whole part less = (not_back net table d u x [] all whole part less, tt)
 apart net table d u x (y ∷ rest) all whole part less = (not_back net table d u x (y ∷ rest) all whole part less, apart net table d u y rest all whole part.2 (omega arith))
 
-continues_distinct : (net : Network) (table : ℕ → ℕ → Option ℕ) (d u : ℕ) (rest : List ℕ) → Continues net table d u rest → IsDistinct eqb (u ∷ rest)
+continues_distinct : (net : Topology) (table : ℕ → ℕ → Option ℕ) (d u : ℕ) (rest : List ℕ) → Continues net table d u rest → IsDistinct eqb (u ∷ rest)
 unfolding IsDistinct
 continues_distinct net table d u [] way = (tt, tt)
 continues_distinct net table d u (y ∷ rest) way = (apart net table d u y rest (y ∷ rest) way way.2 (omega arith), continues_distinct net table d y rest way.2)
 
 -- the way is one of links
-continues_leads : (net : Network) (table : ℕ → ℕ → Option ℕ) (d u : ℕ) → d < node_count net → (rest : List ℕ) → Continues net table d u rest → LeadsTo net u d rest
+continues_leads : (net : Topology) (table : ℕ → ℕ → Option ℕ) (d u : ℕ) → d < node_count net → (rest : List ℕ) → Continues net table d u rest → LeadsTo net u d rest
 continues_leads net table d u d_in [] way = (way, d_in)
 continues_leads net table d u d_in (y ∷ rest) way =
     let next = next_of net table u d y way.1 in
     ((next.1.port, next.0, next.1.there, next.2), continues_leads net table d y d_in rest way.2)
 
 -- its nodes are nodes
-nodes_in : (net : Network) → IsNetwork net → (table : ℕ → ℕ → Option ℕ) (d u : ℕ) → u < node_count net → (rest : List ℕ) → Continues net table d u rest → (q : ℕ) → list_any (eqb q) (u ∷ rest) ≡ true → q < node_count net
+nodes_in : (net : Topology) → IsTopology net → (table : ℕ → ℕ → Option ℕ) (d u : ℕ) → u < node_count net → (rest : List ℕ) → Continues net table d u rest → (q : ℕ) → list_any (eqb q) (u ∷ rest) ≡ true → q < node_count net
 nodes_in net ok table d u u_in [] way q any =
     ⊎_elim (λ here. let e : q ≡ u = eqb-true q u here in omega arith) (λ later. absurd (cc later)) (or_cases (eqb q u) false any)
 nodes_in net ok table d u u_in (y ∷ rest) way q any =
@@ -146,10 +146,10 @@ nodes_in net ok table d u u_in (y ∷ rest) way q any =
     ⊎_elim (λ here. let e : q ≡ u = eqb-true q u here in omega arith) (λ later. nodes_in net ok table d y y_in rest way.2 q later) (or_cases (eqb q u) (list_any (eqb q) (y ∷ rest)) any)
 
 -- so it has at most as many nodes as the network
-pub continues_short : (net : Network) → IsNetwork net → (table : ℕ → ℕ → Option ℕ) (d u : ℕ) → u < node_count net → (rest : List ℕ) → Continues net table d u rest → length (u ∷ rest) ≤ node_count net
+pub continues_short : (net : Topology) → IsTopology net → (table : ℕ → ℕ → Option ℕ) (d u : ℕ) → u < node_count net → (rest : List ℕ) → Continues net table d u rest → length (u ∷ rest) ≤ node_count net
 continues_short net ok table d u u_in rest way = length-le_from_distinct_below (u ∷ rest) (node_count net) (continues_distinct net table d u rest way) (nodes_in net ok table d u u_in rest way)
 
-pub way_bound : (net : Network) → IsNetwork net → (table : ℕ → ℕ → Option ℕ) (d u weight : ℕ) → u < node_count net → d < node_count net → IsWay net table d u weight → weight ≤ MAX_WEIGHT * MAX_NODES
+pub way_bound : (net : Topology) → IsTopology net → (table : ℕ → ℕ → Option ℕ) (d u weight : ℕ) → u < node_count net → d < node_count net → IsWay net table d u weight → weight ≤ MAX_WEIGHT * MAX_NODES
 way_bound net ok table d u weight u_in d_in way =
     let light : weight_from net u way.rest ≤ 65535 * length way.rest = way_light net ok u d way.rest (continues_leads net table d u d_in way.rest way.continues) in
     let short : length (u ∷ way.rest) ≤ node_count net = continues_short net ok table d u u_in way.rest way.continues in
@@ -159,20 +159,20 @@ way_bound net ok table d u weight u_in d_in way =
 -- ---- a list of ports
 
 -- away from d the list holds a port
-pub listed_next : (net : Network) (ports : List (Option ℕ)) → IsPortList net ports → (x d : ℕ) → x < node_count net → d < node_count net → x ≢ d
-    → (hop : Hop) × IsNext net (listed_port (node_count net) ports) x d hop
+pub listed_next : (net : Topology) (ports : List (Option ℕ)) → IsPortList net ports → (x d : ℕ) → x < node_count net → d < node_count net → x ≢ d
+    → (hop : Hop) × IsTableHop net (listed_port (node_count net) ports) x d hop
 listed_next net ports list x d x_in d_in other = by (list.walks x d x_in d_in).0 (list.walks x d x_in d_in).1
   where
-    by_rest : (rest : List ℕ) → Continues net (listed_port (node_count net) ports) d x rest → (hop : Hop) × IsNext net (listed_port (node_count net) ports) x d hop
+    by_rest : (rest : List ℕ) → Continues net (listed_port (node_count net) ports) d x rest → (hop : Hop) × IsTableHop net (listed_port (node_count net) ports) x d hop
     by_rest [] way = absurd (other way)
     by_rest (y ∷ rest) way = let next = next_of net (listed_port (node_count net) ports) x d y way.1 in (next.0, next.1)
 
-    by : (walk : List ℕ) → IsPrescribedWalk net (listed_port (node_count net) ports) x d walk → (hop : Hop) × IsNext net (listed_port (node_count net) ports) x d hop
+    by : (walk : List ℕ) → IsPrescribedWalk net (listed_port (node_count net) ports) x d walk → (hop : Hop) × IsTableHop net (listed_port (node_count net) ports) x d hop
     by [] is = absurd is
     by (y ∷ rest) is = by_rest rest is.1
 
 -- the way from u, after some steps that weigh `sum`: x is there, and few steps are left
-pub record IsWalked (net : Network) (table : ℕ → ℕ → Option ℕ) (d u x sum step : ℕ) : Type 0 where
+pub record IsWalked (net : Topology) (table : ℕ → ℕ → Option ℕ) (d u x sum step : ℕ) : Type 0 where
   pub in_net : x < node_count net
   pub light : sum ≤ MAX_WEIGHT * step
   pub left : ℕ
@@ -180,7 +180,7 @@ pub record IsWalked (net : Network) (table : ℕ → ℕ → Option ℕ) (d u x 
   pub short : IsShortWay net table d x left
   pub comes : (weight : ℕ) → IsWay net table d x weight → IsWay net table d u (sum + weight)
 
-pub walked_start : (net : Network) → IsNetwork net → (ports : List (Option ℕ)) → IsPortList net ports → (u d : ℕ) → u < node_count net → d < node_count net
+pub walked_start : (net : Topology) → IsTopology net → (ports : List (Option ℕ)) → IsPortList net ports → (u d : ℕ) → u < node_count net → d < node_count net
     → IsWalked net (listed_port (node_count net) ports) d u u 0 0
 walked_start net ok ports list u d u_in d_in = by (list.walks u d u_in d_in).0 (list.walks u d u_in d_in).1
   where
@@ -197,7 +197,7 @@ walked_start net ok ports list u d u_in d_in = by (list.walks u d u_in d_in).0 (
           comes = λ weight way. let P : ℕ → Type 0 = λ w. IsWay net (listed_port (node_count net) ports) d u w in let same : weight ≡ 0 + weight = omega arith in subst P same way;
         }
 
-pub walked_step : (net : Network) → IsNetwork net → (table : ℕ → ℕ → Option ℕ) (d u x sum step : ℕ) (hop : Hop) → IsWalked net table d u x sum step → x ≢ d → IsNext net table x d hop
+pub walked_step : (net : Topology) → IsTopology net → (table : ℕ → ℕ → Option ℕ) (d u x sum step : ℕ) (hop : Hop) → IsWalked net table d u x sum step → x ≢ d → IsTableHop net table x d hop
     → IsWalked net table d u hop.node (sum + hop.weight) (step + 1)
 walked_step net ok table d u x sum step hop so_far other next =
     let facts : PortFacts net x hop = port_facts net ok x next.port hop next.there in
@@ -219,7 +219,7 @@ walked_step net ok table d u x sum step hop so_far other next =
     }
 
 -- the walk from u, whose first nodes have their weights written: x is next, and `left` is the weight from there
-pub record IsWritten (net : Network) (table : ℕ → ℕ → Option ℕ) (d u x left step : ℕ) (old weights : List ℕ) : Type 0 where
+pub record IsWritten (net : Topology) (table : ℕ → ℕ → Option ℕ) (d u x left step : ℕ) (old weights : List ℕ) : Type 0 where
   pub in_net : x < node_count net
   pub filled : IsFilled net table d weights
   pub way : IsWay net table d x left
@@ -227,8 +227,8 @@ pub record IsWritten (net : Network) (table : ℕ → ℕ → Option ℕ) (d u x
   pub known : 0 < step → at weights u < unreached
   pub keeps : (v : ℕ) → at old v < unreached → at weights v < unreached
 
-pub written_step : (net : Network) → IsNetwork net → (table : ℕ → ℕ → Option ℕ) (d u x left step : ℕ) (old weights : List ℕ) (hop : Hop) → d < node_count net → IsWritten net table d u x left step old weights
-    → at weights x ≡ unreached → x ≢ d → IsNext net table x d hop
+pub written_step : (net : Topology) → IsTopology net → (table : ℕ → ℕ → Option ℕ) (d u x left step : ℕ) (old weights : List ℕ) (hop : Hop) → d < node_count net → IsWritten net table d u x left step old weights
+    → at weights x ≡ unreached → x ≢ d → IsTableHop net table x d hop
     → IsWritten net table d u hop.node (left - hop.weight) (step + 1) old (set weights x left)
 written_step net ok table d u x left step old weights hop d_in so_far new other next =
     let facts : PortFacts net x hop = port_facts net ok x next.port hop next.there in
@@ -260,12 +260,12 @@ written_step net ok table d u x left step old weights hop d_in so_far new other 
 -- ---- whether a list is one
 
 -- the walk from u, after some steps: x is there, a way from x makes one from u, and a way from u leaves a short one from x
-pub record IsFollowed (net : Network) (table : ℕ → ℕ → Option ℕ) (d u x step : ℕ) : Type 0 where
+pub record IsFollowed (net : Topology) (table : ℕ → ℕ → Option ℕ) (d u x step : ℕ) : Type 0 where
   pub in_net : x < node_count net
   pub comes : (rest : List ℕ) → Continues net table d x rest → (all : List ℕ) × Continues net table d u all
   pub goes : (all : List ℕ) → Continues net table d u all → (left : ℕ) × (left + step + 1 ≡ node_count net) × IsShortWay net table d x left
 
-pub followed_start : (net : Network) → IsNetwork net → (table : ℕ → ℕ → Option ℕ) (d u : ℕ) → u < node_count net → IsFollowed net table d u u 0
+pub followed_start : (net : Topology) → IsTopology net → (table : ℕ → ℕ → Option ℕ) (d u : ℕ) → u < node_count net → IsFollowed net table d u u 0
 followed_start net ok table d u u_in = record {
   in_net = u_in;
   comes = λ rest way. (rest, way);
@@ -273,10 +273,10 @@ followed_start net ok table d u u_in = record {
       (node_count net - 1, omega (arith, u_in), record { rest = all; continues = way; short = omega (arith, short) });
 }
 
-pub followed_step : (net : Network) → IsNetwork net → (table : ℕ → ℕ → Option ℕ) (d u x step : ℕ) (hop : Hop) → IsFollowed net table d u x step → x ≢ d → hop_in net table x d ≡ Some hop
+pub followed_step : (net : Topology) → IsTopology net → (table : ℕ → ℕ → Option ℕ) (d u x step : ℕ) (hop : Hop) → IsFollowed net table d u x step → x ≢ d → hop_in net table x d ≡ Some hop
     → IsFollowed net table d u hop.node (step + 1)
 followed_step net ok table d u x step hop so_far other at =
-    let next : IsNext net table x d hop = next_at net table x d hop at in
+    let next : IsTableHop net table x d hop = next_at net table x d hop at in
     record {
       in_net = (port_facts net ok x next.port hop next.there).to;
       comes = λ rest way. so_far.comes (hop.node ∷ rest) (other, is_next net table x d hop next, way);
@@ -290,11 +290,11 @@ followed_step net ok table d u x step hop so_far other at =
     }
 
 -- the way from u, where x is d
-pub followed_there : (net : Network) (table : ℕ → ℕ → Option ℕ) (d u x step : ℕ) → IsFollowed net table d u x step → x ≡ d → HasWalk net table u d
+pub followed_there : (net : Topology) (table : ℕ → ℕ → Option ℕ) (d u x step : ℕ) → IsFollowed net table d u x step → x ≡ d → HasWalk net table u d
 followed_there net table d u x step so_far same = let all = so_far.comes [] same in (u ∷ all.0, (refl, all.1))
 
 -- the rest of a prescribed walk
-pub walk_rest : (net : Network) (table : ℕ → ℕ → Option ℕ) (d u : ℕ) → HasWalk net table u d → (all : List ℕ) × Continues net table d u all
+pub walk_rest : (net : Topology) (table : ℕ → ℕ → Option ℕ) (d u : ℕ) → HasWalk net table u d → (all : List ℕ) × Continues net table d u all
 walk_rest net table d u walk = by walk.0 walk.1
   where
     by : (walk : List ℕ) → IsPrescribedWalk net table u d walk → (all : List ℕ) × Continues net table d u all
@@ -302,7 +302,7 @@ walk_rest net table d u walk = by walk.0 walk.1
     by (x ∷ rest) is = (rest, is.1)
 
 -- there is none where no hop is held at x
-pub followed_lost : (net : Network) (table : ℕ → ℕ → Option ℕ) (d u x step : ℕ) → IsFollowed net table d u x step → x ≢ d → hop_in net table x d ≡ None → HasWalk net table u d → ⊥
+pub followed_lost : (net : Topology) (table : ℕ → ℕ → Option ℕ) (d u x step : ℕ) → IsFollowed net table d u x step → x ≢ d → hop_in net table x d ≡ None → HasWalk net table u d → ⊥
 followed_lost net table d u x step so_far other at walk =
     let all = walk_rest net table d u walk in
     let way = (so_far.goes all.0 all.1).2 in

@@ -9,5 +9,5 @@ abbrev pub row_numbers : Adjacency → Neighbors → Numbers
 row_numbers g es = map {B = ℕ × ℕ} (λ e. (place_of g e.0, e.1)) es
 
 -- the neighbours of each node, by their places
-abbrev pub rows_of : Adjacency → List Numbers
-rows_of g = map (λ r. row_numbers g r.1) g
+abbrev pub neighbor_rows : Adjacency → List Numbers
+neighbor_rows g = map (λ r. row_numbers g r.1) g

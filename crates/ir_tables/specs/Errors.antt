@@ -3,7 +3,7 @@ use Rattle.std.specs.Prelude.{ℕ}
 use Rattle.ir_tables.specs.declared.table.TableError.{TableError}
 use Rattle.ir_tables.specs.declared.table.TableError.TheVariants.{Empty, Disconnected, NoMemory}
 
-abbrev pub code_of : TableError → ℕ
-code_of Empty = 1
-code_of Disconnected = 2
-code_of NoMemory = 3
+abbrev pub table_code : TableError → ℕ
+table_code Empty = 1
+table_code Disconnected = 2
+table_code NoMemory = 3

@@ -3,7 +3,7 @@ use Rattle.std.specs.Prelude.{◌≡◌, ℕ, ◌+◌, ◌<◌, ◌≤◌, true,
 use Rattle.std.specs.List.{position_or_len}
 use Rattle.ir_model.specs.declared.Link.{Link}
 use Rattle.ir_model.specs.declared.Hop.{Hop}
-use Rattle.ir_model.specs.Network.{Network}
+use Rattle.ir_model.specs.Topology.{Topology}
 
 -- neighbours by number, each with a weight
 abbrev pub Numbers : Type 0
@@ -48,5 +48,5 @@ abbrev pub ports_from : List Link → ℕ → List Numbers → List (List Hop)
 ports_from links u [] = []
 ports_from links u (es ∷ rows) = ports_at links u es ∷ ports_from links (u + 1) rows
 
-abbrev pub network_of_rows : List Numbers → Network
-network_of_rows rows = record { links = links_from 0 rows; ports = ports_from (links_from 0 rows) 0 rows }
+abbrev pub topology_of_rows : List Numbers → Topology
+topology_of_rows rows = record { links = links_from 0 rows; ports = ports_from (links_from 0 rows) 0 rows }

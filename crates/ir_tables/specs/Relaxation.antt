@@ -1,21 +1,21 @@
 -- Weights found by relaxation: what holds of them on the way, and at the end.
 use Rattle.std.specs.Prelude.{◌≡◌, ◌≢◌, ℕ, ◌+◌, ◌-◌, ◌^◌, ◌<◌, ◌≤◌, Option, Some, None, List, length, slice_get, slice_index, slice_index_or}
 use Rattle.ir_model.specs.declared.Hop.{Hop}
-use Rattle.ir_model.specs.Network.{Network, node_count, port_at}
+use Rattle.ir_model.specs.Topology.{Topology, node_count, port_at}
 use Rattle.ir_model.specs.Walk.{LeadsTo, IsWalk, weight_from, IsDistance}
 use Rattle.ir_model.specs.Table.{IsShortestPort}
 
 -- no port of any node offers less than f has there
-abbrev pub IsTight : Network → (ℕ → ℕ) → Type 0
+abbrev pub IsTight : Topology → (ℕ → ℕ) → Type 0
 IsTight net f = (u p : ℕ) (hop : Hop) → port_at net u p ≡ Some hop → f u ≤ hop.weight + f hop.node
 
 -- f is 0 at d, and no port of any node offers less than f has there
-pub record IsSettled (net : Network) (d : ℕ) (f : ℕ → ℕ) : Type 0 where
+pub record IsSettled (net : Topology) (d : ℕ) (f : ℕ → ℕ) : Type 0 where
   pub end : f d ≡ 0
   pub tight : IsTight net f
 
 -- f tells at u the weight of a way
-abbrev pub IsReached : Network → ℕ → (ℕ → ℕ) → ℕ → Type 0
+abbrev pub IsReached : Topology → ℕ → (ℕ → ℕ) → ℕ → Type 0
 IsReached net d f u = (rest : List ℕ) × LeadsTo net u d rest × (weight_from net u rest ≡ f u)
 
 -- the weight that stands for no way found yet
@@ -27,7 +27,7 @@ abbrev pub at : List ℕ → ℕ → ℕ
 at weights u = slice_index weights u
 
 -- each weight below `unreached` is that of a way to d
-abbrev pub AllReached : Network → ℕ → List ℕ → Type 0
+abbrev pub AllReached : Topology → ℕ → List ℕ → Type 0
 AllReached net d weights = (u : ℕ) → u < node_count net → at weights u < unreached → IsReached net d (at weights) u
 
 -- port p offers this weight
@@ -39,19 +39,19 @@ abbrev pub AllInRange : List Hop → List ℕ → Type 0
 AllInRange ports weights = (p : ℕ) (hop : Hop) → slice_get ports p ≡ Some hop → hop.node < length weights
 
 -- weights to d, by node, that relaxation has settled
-pub record IsRelaxed (net : Network) (d : ℕ) (weights : List ℕ) : Type 0 where
+pub record IsRelaxed (net : Topology) (d : ℕ) (weights : List ℕ) : Type 0 where
   pub len : length weights ≡ node_count net
   pub settled : IsSettled net d (at weights)
   pub reached : AllReached net d weights
 
 -- weights by node: distances to d, and `unreached` where there is no walk to d
-pub record AreDistances (net : Network) (d : ℕ) (weights : List ℕ) : Type 0 where
+pub record AreDistances (net : Topology) (d : ℕ) (weights : List ℕ) : Type 0 where
   pub len : length weights ≡ node_count net
   pub near : (u : ℕ) → u < node_count net → at weights u < unreached → IsDistance net u d (at weights u)
   pub far : (u : ℕ) → u < node_count net → at weights u ≡ unreached → (walk : List ℕ) → IsWalk net u d walk → ⊥
 
 -- the column of a shortest table for the destination d
-pub record IsColumn (net : Network) (d : ℕ) (ports : List (Option ℕ)) (weights : List ℕ) : Type 0 where
+pub record IsColumn (net : Topology) (d : ℕ) (ports : List (Option ℕ)) (weights : List ℕ) : Type 0 where
   pub ports_len : length ports ≡ node_count net
   pub weights_len : length weights ≡ node_count net
   pub weight : (u : ℕ) → u < node_count net → IsDistance net u d (slice_index weights u)
@@ -59,5 +59,5 @@ pub record IsColumn (net : Network) (d : ℕ) (ports : List (Option ℕ)) (weigh
   pub port : (u : ℕ) → u < node_count net → u ≢ d → (p : ℕ) × (slice_index_or ports u None ≡ Some p) × IsShortestPort net u d p
 
 -- some node has no walk to d
-abbrev pub HasNoWalk : Network → ℕ → Type 0
+abbrev pub HasNoWalk : Topology → ℕ → Type 0
 HasNoWalk net d = (u : ℕ) × (u < node_count net) × ((walk : List ℕ) → IsWalk net u d walk → ⊥)

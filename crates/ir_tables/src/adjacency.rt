@@ -3,7 +3,7 @@ ghost use Rattle.std.specs.Prelude.{◌≡◌, ◌+◌, ◌<◌, ◌≤◌, ◌+
 ghost use Rattle.ir_model.specs.declared.TheConstants.{MAX_EDGES};
 ghost use Rattle.ir_model.specs.Places.{neighbors_at};
 ghost use Rattle.ir_tables.specs.Numbered.{AreBegins, JoinsWithin, joins_nodes, link_between, links_at, links_from, ports_at};
-ghost use Rattle.ir_tables.specs.ByPlace.{row_numbers, rows_of};
+ghost use Rattle.ir_tables.specs.ByPlace.{row_numbers, neighbor_rows};
 
 use ir_graph::Graph;
 use ir_model::{Hop, Link};
@@ -54,8 +54,8 @@ fn push_links(graph: &Graph, u: usize, links: &mut Vec<Link>) -> Result<(), Allo
 /// The links of a graph in edge order, and the number of links before each node's own, with that of all links last. A
 /// node's own links are those to later nodes.
 pub fn links_of(alloc: Global, graph: &Graph) -> Result<(Vec<Link>, Vec<usize>), AllocError>
-    ensures links { IfOk result (λ found. found.0.items ≡ links_from 0 (rows_of graph.now)) }
-    ensures begins { IfOk result (λ found. AreBegins (rows_of graph.now) (length graph.now + 1) found.1.items) }
+    ensures links { IfOk result (λ found. found.0.items ≡ links_from 0 (neighbor_rows graph.now)) }
+    ensures begins { IfOk result (λ found. AreBegins (neighbor_rows graph.now) (length graph.now + 1) found.1.items) }
 {
     let mut links = Vec::with_capacity(alloc, graph.number_of_edges())?;
     let mut begins = Vec::new(alloc);
@@ -76,8 +76,8 @@ pub fn ports_of(
     u: usize,
 ) -> Result<Vec<Hop>, AllocError>
     requires node { u < length graph.now }
-    requires links { links.now ≡ links_from 0 (rows_of graph.now) }
-    requires begins { AreBegins (rows_of graph.now) (length graph.now + 1) begins.now }
+    requires links { links.now ≡ links_from 0 (neighbor_rows graph.now) }
+    requires begins { AreBegins (neighbor_rows graph.now) (length graph.now + 1) begins.now }
     requires few { length links.now ≤ MAX_EDGES }
     ensures { IfOk result (λ ports. ports.items
         ≡ ports_at links.now u (row_numbers graph.now (neighbors_at graph.now u))) }

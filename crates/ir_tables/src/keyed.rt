@@ -1,8 +1,9 @@
 //! Keys of the nodes from one node: the weight of a way, and behind it the port that begins it. The least key of a node
 //! tells its distance and the least port that leads nearer to it, in one run.
 ghost use Rattle.std.specs.Prelude.{◌≡◌, ◌↔◌, ℕ, ◌+◌, ◌*◌, ◌<◌, ◌≤◌, [], ◌∷◌, length, sum, IfOk, OnOk, IsTrue, IsPermutation};
-ghost use Rattle.ir_model.specs.Network.{node_count};
-ghost use Rattle.ir_tables.specs.Keys.{AreKeys, IsFresh, IsKeying, IsStepKey, KeepsFresh, NoNode, Only, load, waiting};
+ghost use Rattle.ir_model.specs.Topology.{node_count};
+ghost use Rattle.ir_tables.specs.Frontier.{NoNode, Only};
+ghost use Rattle.ir_tables.specs.Keys.{AreKeys, IsFresh, IsKeying, IsStepKey, KeepsFresh, load, keys_waiting};
 
 use crate::topology::Topology;
 use std::alloc::{AllocError, Global};
@@ -57,7 +58,7 @@ fn least_and_half(far: &[Reverse<u64>]) -> (usize, u64)
 
 impl Frontier {
     fn new(alloc: Global) -> Frontier
-        ensures { waiting result ≡ [] }
+        ensures { keys_waiting result ≡ [] }
     {
         Frontier {
             near: BinaryHeap::new(alloc),
@@ -67,14 +68,14 @@ impl Frontier {
     }
 
     fn is_empty(&self) -> bool
-        ensures { IsTrue result ↔ (length (waiting self.now) ≡ 0) }
+        ensures { IsTrue result ↔ (length (keys_waiting self.now) ≡ 0) }
     {
         self.near.is_empty() && self.far.is_empty()
     }
 
     /// An entry waits.
     fn push(&mut self, entry: Reverse<u64>) -> Result<(), AllocError>
-        ensures waits { OnOk result (IsPermutation (entry ∷ waiting self.old) (waiting self.new)) }
+        ensures waits { OnOk result (IsPermutation (entry ∷ keys_waiting self.old) (keys_waiting self.new)) }
         ensures load { OnOk result (load self.new ≤ load self.old + 2) }
     {
         if entry.0 <= self.limit {
@@ -88,7 +89,7 @@ impl Frontier {
     /// The far entry at a place comes near, or is gone where it is no longer fresh.
     fn bring(&mut self, at: usize, keys: &[u64]) -> Result<(), AllocError>
         requires place { at < length self.old.far.items }
-        ensures fresh { OnOk result (KeepsFresh keys.now (waiting self.old) (waiting self.new)) }
+        ensures fresh { OnOk result (KeepsFresh keys.now (keys_waiting self.old) (keys_waiting self.new)) }
         ensures far { length self.new.far.items + 1 ≡ length self.old.far.items }
         ensures load { OnOk result (load self.new < load self.old) }
         ensures limit { self.new.limit ≡ self.old.limit }
@@ -104,7 +105,7 @@ impl Frontier {
     /// a far entry.
     fn bring_near(&mut self, keys: &[u64]) -> Result<(), AllocError>
         requires far { 0 < length self.old.far.items }
-        ensures fresh { OnOk result (KeepsFresh keys.now (waiting self.old) (waiting self.new)) }
+        ensures fresh { OnOk result (KeepsFresh keys.now (keys_waiting self.old) (keys_waiting self.new)) }
         ensures load { OnOk result (load self.new < load self.old) }
     {
         let (least, limit) = least_and_half(self.far.as_slice());
@@ -145,8 +146,8 @@ fn offer(
     frontier: &mut Frontier,
 ) -> Result<(), AllocError>
     requires node { x < node_count topology.now }
-    requires so_far { IsKeying topology.now u (Only x) keys.old (waiting frontier.old) }
-    ensures offered { OnOk result (IsKeying topology.now u NoNode keys.new (waiting frontier.new)) }
+    requires so_far { IsKeying topology.now u (Only x) keys.old (keys_waiting frontier.old) }
+    ensures offered { OnOk result (IsKeying topology.now u NoNode keys.new (keys_waiting frontier.new)) }
     ensures falls { OnOk result (3 * sum keys.new + load frontier.new ≤ 3 * sum keys.old + load frontier.old) }
 {
     let own = keys[x as usize];

@@ -1,8 +1,8 @@
 //! The walks that a list of ports prescribes, and their weights.
 ghost use Rattle.std.specs.Prelude.{◌≡◌, ◌≢◌, ◌↔◌, ℕ, ◌<◌, ◌*◌, length, IsTrue, IfOk};
-ghost use Rattle.ir_model.specs.Network.{node_count};
+ghost use Rattle.ir_model.specs.Topology.{node_count};
 ghost use Rattle.ir_tables.specs.Relaxation.{at, unreached};
-ghost use Rattle.ir_tables.specs.Listed.{listed_port, hop_in, HasWalk, IsPortList, IsLedTo, IsNext, IsWay, IsFilled, AreWays};
+ghost use Rattle.ir_tables.specs.Listed.{listed_port, hop_in, HasWalk, IsPortList, IsLedTo, IsTableHop, IsWay, IsFilled, AreWays};
 
 use crate::relaxation::UNREACHED;
 use crate::topology::Topology;
@@ -15,7 +15,7 @@ fn hop_at(topology: &Topology, ports: &[Option<u16>], x: usize, d: usize) -> Hop
     requires node { x < node_count topology.now }
     requires end { d < node_count topology.now }
     requires other { x ≢ d }
-    ensures { IsNext topology.now (listed_port (node_count topology.now) ports.now) x d result }
+    ensures { IsTableHop topology.now (listed_port (node_count topology.now) ports.now) x d result }
 {
     let nodes = topology.nodes();
     let port = ports[x * nodes + d].unwrap();

@@ -1,7 +1,7 @@
 //! The shortest ways from one node: the distance to each node, and which ports lead nearer to it. They take memory for
 //! one node's worth, where a table takes that of all nodes.
 ghost use Rattle.std.specs.Prelude.{◌≡◌, ◌≢◌, ◌+◌, ◌<◌, ◌≤◌, ℕ, IfOk, OnOk, IsTrue, ◌↔◌, All, IsSome, length};
-ghost use Rattle.ir_model.specs.Network.{node_count, port_at, ports_of};
+ghost use Rattle.ir_model.specs.Topology.{node_count, port_at, ports_of};
 ghost use Rattle.ir_model.specs.Walk.{IsConnected};
 ghost use Rattle.ir_model.specs.Table.{LeadsNearer};
 ghost use Rattle.ir_tables.specs.Relaxation.{at};
@@ -22,10 +22,10 @@ pub struct Outward {
 }
 
 impl Model for Outward {
-    ghost use Rattle.ir_tables.specs.FromNode.{WaysOut};
+    ghost use Rattle.ir_tables.specs.FromNode.{Outward};
     ghost use Rattle.ir_tables.specs.Views.{ways_of};
 
-    ghost Value = { WaysOut };
+    ghost Value = { Outward };
 
     ghost view = { ways_of };
 }
@@ -33,19 +33,19 @@ impl Model for Outward {
 impl Outward {
     /// The ways from a node. Condition: it is a node, and each node has a walk to each node. It is refused for
     /// memory alone. Takes O((n + m) log n), for n nodes and m links.
-    pub fn from(alloc: Global, topology: &Topology, u: u16) -> Result<Outward, AllocError>
-        requires node { u < node_count topology.now }
+    pub fn from(alloc: Global, topology: &Topology, node: u16) -> Result<Outward, AllocError>
+        requires node { node < node_count topology.now }
         requires connected { IsConnected topology.now }
-        ensures source { IfOk result (λ ways. ways.source ≡ u) }
-        ensures distances { IfOk result (λ ways. AreFrom topology.now u ways.weights) }
-        ensures ports { IfOk result (λ ways. AreLeastPorts topology.now u ways.ports) }
+        ensures source { IfOk result (λ ways. ways.source ≡ node) }
+        ensures distances { IfOk result (λ ways. AreFrom topology.now node ways.weights) }
+        ensures ports { IfOk result (λ ways. AreLeastPorts topology.now node ways.ports) }
     {
         let _nodes = topology.nodes();
-        let keys = keys_from(alloc, topology, u)?;
+        let keys = keys_from(alloc, topology, node)?;
         let weights = weights_in(alloc, keys.as_slice())?;
-        let ports = ports_in(alloc, u, keys.as_slice())?;
+        let ports = ports_in(alloc, node, keys.as_slice())?;
         Ok(Outward {
-            source: u,
+            source: node,
             weights,
             ports,
         })
@@ -65,13 +65,13 @@ impl Outward {
         &self,
         alloc: Global,
         topology: &Topology,
-        p: usize,
+        port: usize,
     ) -> Result<Vec<u16>, AllocError>
         requires distances { AreFrom topology.now self.now.source self.now.weights }
-        requires port { p < length (ports_of topology.now self.now.source) }
-        ensures { IfOk result (λ nodes. AreLedBy topology.now self.now.source p nodes.items) }
+        requires port { port < length (ports_of topology.now self.now.source) }
+        ensures { IfOk result (λ nodes. AreLedBy topology.now self.now.source port nodes.items) }
     {
-        flood(alloc, topology, self.weights.as_slice(), self.source, p)
+        flood(alloc, topology, self.weights.as_slice(), self.source, port)
     }
 }
 

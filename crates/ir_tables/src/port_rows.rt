@@ -43,11 +43,11 @@ impl PortRows {
     }
 
     /// The ports of a node. Condition: the number is below `len()`.
-    pub fn row(&self, u: usize) -> &[Hop]
-        requires { u < length self.now }
-        ensures { result.now ≡ slice_index_or self.now u [] }
+    pub fn row(&self, node: usize) -> &[Hop]
+        requires { node < length self.now }
+        ensures { result.now ≡ slice_index_or self.now node [] }
     {
-        &self.hops[self.begins[u]..self.begins[u + 1]]
+        &self.hops[self.begins[node]..self.begins[node + 1]]
     }
 
     /// These ports, and those of the next node.

@@ -1,6 +1,6 @@
 ghost use Rattle.std.specs.Prelude.{◌≡◌, ◌≢◌, ℕ, ◌+◌, ◌-◌, ◌*◌, ◌^◌, ◌<◌, ◌≤◌, Some, None, true, false, length, slice_get, slice_index, IfOk, IfSome, IfNone, All, sum};
 ghost use Rattle.ir_model.specs.declared.Hop.{Hop};
-ghost use Rattle.ir_model.specs.Network.{node_count, port_at};
+ghost use Rattle.ir_model.specs.Topology.{node_count, port_at};
 ghost use Rattle.ir_tables.specs.Relaxation.{at, AllReached, IsTight, Offers, AllInRange, AreDistances};
 
 use crate::topology::Topology;

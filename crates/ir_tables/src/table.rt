@@ -1,5 +1,5 @@
 ghost use Rattle.std.specs.Prelude.{◌≡◌, ◌↔◌, ◌<◌, IfOk, IfSome, IfNone};
-ghost use Rattle.ir_model.specs.Network.{node_count};
+ghost use Rattle.ir_model.specs.Topology.{node_count};
 ghost use Rattle.ir_model.specs.Walk.{IsConnected, IsDisconnected};
 ghost use Rattle.ir_model.specs.Table.{table_size, port_in, weight_in, IsShortest, IsRouted};
 ghost use Rattle.ir_tables.specs.Relaxation.{IsColumn, HasNoWalk};
@@ -29,11 +29,11 @@ pub enum TableError {
 
 impl TableError {
     ghost use Rattle.std.specs.Prelude.{◌≡◌};
-    ghost use Rattle.ir_tables.specs.Errors.{code_of};
+    ghost use Rattle.ir_tables.specs.Errors.{table_code};
 
     /// The number of the error, from 1 to 3. For users of the library.
     pub fn code(self) -> u8
-        ensures { result ≡ code_of self }
+        ensures { result ≡ table_code self }
     {
         match self {
             TableError::Empty => 1,
@@ -79,9 +79,9 @@ pub struct Table {
 }
 
 impl Model for Table {
-    ghost use Rattle.ir_model.specs.Table.{FullTable, IsSquare};
+    ghost use Rattle.ir_model.specs.Table.{Table, IsSquare};
 
-    ghost Value = { FullTable };
+    ghost Value = { Table };
 
     ghost use Rattle.ir_tables.specs.Views.{table_of};
 
@@ -188,25 +188,25 @@ impl Table {
         Ok(Table { columns })
     }
 
-    /// The port that the table holds at node `u` for the destination `d`, and none where they are one node.
+    /// The port that the table holds at a node for a destination, and none where they are one node.
     /// Condition: both are nodes. For users of the library.
-    pub fn next(&self, u: u16, d: u16) -> Option<u16>
-        requires u { u < table_size self.now }
-        requires d { d < table_size self.now }
-        ensures { result ≡ port_in self.now u d }
+    pub fn next(&self, node: u16, dest: u16) -> Option<u16>
+        requires node { node < table_size self.now }
+        requires dest { dest < table_size self.now }
+        ensures { result ≡ port_in self.now node dest }
     {
-        let column = &self.columns[d as usize];
-        column.ports[u as usize]
+        let column = &self.columns[dest as usize];
+        column.ports[node as usize]
     }
 
-    /// The weight of the walk that the table prescribes from node `u` to the destination `d`. Condition: both are
-    /// nodes. For users of the library.
-    pub fn weight(&self, u: u16, d: u16) -> u32
-        requires u { u < table_size self.now }
-        requires d { d < table_size self.now }
-        ensures { result ≡ weight_in self.now u d }
+    /// The weight of the walk that the table prescribes from a node to a destination. Condition: both are nodes. For
+    /// users of the library.
+    pub fn weight(&self, node: u16, dest: u16) -> u32
+        requires node { node < table_size self.now }
+        requires dest { dest < table_size self.now }
+        ensures { result ≡ weight_in self.now node dest }
     {
-        let column = &self.columns[d as usize];
-        column.weights[u as usize]
+        let column = &self.columns[dest as usize];
+        column.weights[node as usize]
     }
 }

@@ -1,7 +1,7 @@
 ghost use Rattle.std.specs.Prelude.{◌≡◌, ℕ, ◌<◌, ◌≤◌, ◌==◌, Some, length, filter, find, slice_get, slice_index_or, IfOk, IfSome, IsSomeAnd};
-ghost use Rattle.ir_model.specs.Network.{Network, IsNetwork, node_count, ports_of, port_at, is_up, restrict};
+ghost use Rattle.ir_model.specs.Topology.{Topology, IsTopology, node_count, ports_of, port_at, is_up, restrict};
 ghost use Rattle.ir_model.specs.declared.Hop.{Hop};
-ghost use Rattle.ir_model.specs.OfGraph.{network_of_graph};
+ghost use Rattle.ir_model.specs.OfGraph.{topology_of_graph};
 ghost use Rattle.ir_model.specs.declared.TheConstants.{MAX_WEIGHT};
 
 use crate::adjacency::{links_of, ports_of};
@@ -21,15 +21,15 @@ pub struct Topology {
 
 impl Model for Topology {
     ghost use Rattle.std.specs.Prelude.{map};
-    ghost use Rattle.ir_model.specs.Network.{Network, IsNetwork};
+    ghost use Rattle.ir_model.specs.Topology.{Topology, IsTopology};
 
-    ghost Value = { Network };
+    ghost Value = { Topology };
 
-    ghost use Rattle.ir_tables.specs.Views.{network_of};
+    ghost use Rattle.ir_tables.specs.Views.{topology_view};
 
-    ghost view = { network_of };
+    ghost view = { topology_view };
 
-    ghost invariant = { λ t. IsNetwork (network_of t) };
+    ghost invariant = { λ t. IsTopology (topology_view t) };
 }
 
 impl Topology {
@@ -38,7 +38,7 @@ impl Topology {
     /// it is refused for memory alone. Takes O(n + q) on average, for n nodes and q the sum of the squares of the
     /// degrees.
     pub fn of(alloc: Global, graph: &Graph) -> Result<Topology, AllocError>
-        ensures { IfOk result (λ t. t ≡ network_of_graph graph.now) }
+        ensures { IfOk result (λ t. t ≡ topology_of_graph graph.now) }
     {
         let nodes = graph.number_of_nodes();
         let (links, begins) = links_of(alloc, graph)?;
@@ -53,7 +53,7 @@ impl Topology {
     /// How many nodes there are.
     pub fn nodes(&self) -> usize
         ensures count { result ≡ node_count self.now }
-        ensures network { IsNetwork self.now }
+        ensures topology { IsTopology self.now }
     {
         self.ports.len()
     }
@@ -66,50 +66,50 @@ impl Topology {
     }
 
     /// The two ends of a link, the smaller node first. Condition: the number is below `links()`.
-    pub fn ends(&self, l: u16) -> (u16, u16)
-        requires { l < length self.now.links }
-        ensures { IsSomeAnd (slice_get self.now.links l) (λ link. (result.0 ≡ link.low)
-            × (result.1 ≡ link.high)) }
+    pub fn ends(&self, link: u16) -> (u16, u16)
+        requires { link < length self.now.links }
+        ensures { IsSomeAnd (slice_get self.now.links link) (λ ends. (result.0 ≡ ends.low)
+            × (result.1 ≡ ends.high)) }
     {
-        let link = &self.links[l as usize];
-        (link.low, link.high)
+        let ends = &self.links[link as usize];
+        (ends.low, ends.high)
     }
 
     /// How many ports a node has. Condition: the number is below `nodes()`.
-    pub fn degree(&self, u: u16) -> usize
-        requires { u < node_count self.now }
-        ensures { result ≡ length (ports_of self.now u) }
+    pub fn degree(&self, node: u16) -> usize
+        requires { node < node_count self.now }
+        ensures { result ≡ length (ports_of self.now node) }
     {
-        self.ports.row(u as usize).len()
+        self.ports.row(node as usize).len()
     }
 
-    /// Where port `p` of node `u` leads: the neighbour, the link and its weight. Condition: `u` is below `nodes()` and
-    /// `p` below the degree of `u`.
-    pub fn port(&self, u: u16, p: u16) -> Hop
-        requires node { u < node_count self.now }
-        requires port { p < length (ports_of self.now u) }
-        ensures { port_at self.now u p ≡ Some result }
+    /// Where a port of a node leads: the neighbour, the link and its weight. Condition: `node` is below `nodes()`, and `port`
+    /// below its degree.
+    pub fn port(&self, node: u16, port: u16) -> Hop
+        requires node { node < node_count self.now }
+        requires port { port < length (ports_of self.now node) }
+        ensures { port_at self.now node port ≡ Some result }
     {
-        self.ports.row(u as usize)[p as usize]
+        self.ports.row(node as usize)[port as usize]
     }
 
     /// The ports of a node, in order. Condition: the number is below `nodes()`.
-    pub fn ports(&self, u: usize) -> &[Hop]
-        requires { u < node_count self.now }
-        ensures { result.now ≡ ports_of self.now u }
+    pub fn ports(&self, node: usize) -> &[Hop]
+        requires { node < node_count self.now }
+        ensures { result.now ≡ ports_of self.now node }
     {
-        self.ports.row(u)
+        self.ports.row(node)
     }
 
-    /// The first port of a node that leads to another one. Condition: `u` is below `nodes()`. Takes O(d), for d ports
-    /// of `u`.
-    pub fn hop_to(&self, u: u16, v: u16) -> Option<Hop>
-        requires { u < node_count self.now }
-        ensures first { result ≡ find (λ hop. hop.node == v) (ports_of self.now u) }
+    /// The first port of a node that leads to another one. Condition: `node` is below `nodes()`. Takes O(d), for d ports
+    /// of `node`.
+    pub fn hop_to(&self, node: u16, neighbor: u16) -> Option<Hop>
+        requires { node < node_count self.now }
+        ensures first { result ≡ find (λ hop. hop.node == neighbor) (ports_of self.now node) }
         ensures weight { IfSome result (λ hop. hop.weight ≤ MAX_WEIGHT) }
     {
         let _nodes = self.nodes();
-        first_to(self.ports(u as usize), v)
+        first_to(self.ports(node as usize), neighbor)
     }
 
     /// The topology over the links that are marked as up. Nodes and links keep their numbers, and `links()` and `ends`

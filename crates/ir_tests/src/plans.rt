@@ -1,7 +1,7 @@
 //! The plans of small networks: the label and the starts of each node.
 
 ghost use Rattle.std.specs.Prelude.{◌<◌};
-ghost use Rattle.ir_model.specs.Network.{node_count};
+ghost use Rattle.ir_model.specs.Topology.{node_count};
 
 use crate::networks::{Edge, HEAVY, PATH, RING, topology_of};
 use ir_plan::{Kind, Plan, PlanError};
@@ -11,7 +11,7 @@ use std::test::Fail;
 
 /// Whether a node has this label and these starts, each with its port.
 fn shows(plan: &Plan, u: u16, label: u16, starts: &[(u16, u16)]) -> bool
-    requires { u < node_count plan.now.network }
+    requires { u < node_count plan.now.topology }
 {
     let row = plan.row(u);
     if plan.label_of(u) != label || row.len() != starts.len() {

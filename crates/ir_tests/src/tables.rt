@@ -1,7 +1,7 @@
 //! Topologies and tables of graphs that were worked out by hand.
 
 ghost use Rattle.std.specs.Prelude.{◌≡◌};
-ghost use Rattle.ir_model.specs.Network.{node_count};
+ghost use Rattle.ir_model.specs.Topology.{node_count};
 ghost use Rattle.ir_model.specs.Table.{table_size};
 
 use crate::networks::{Edge, HEAVY, PATH, topology_of};

@@ -3,22 +3,22 @@ use Rattle.std.proofs.Common.{◌≡◌, ◌<◌, ◌≤◌, ◌-◌, ◌==◌, 
 use Rattle.std.specs.List.{list_all}
 use Rattle.std.proofs.lemmas.Bool.{and_parts, and_from, or_cases, eqb-true, eq-eqb, ltb-true, lt-ltb, leb-true, le-leb, both_ways}
 use Rattle.std.proofs.lemmas.Option.{slice_get-get_or}
-use Rattle.ir_model.specs.Network.{Network, node_count}
+use Rattle.ir_model.specs.Topology.{Topology, node_count}
 use Rattle.ir_model.specs.declared.Kind.{Kind}
 use Rattle.ir_model.specs.declared.Kind.TheVariants.{Tree, Shortest, Compact}
 use Rattle.ir_model.specs.Walk.{IsDistance, walk_weight}
 use Rattle.ir_model.specs.Table.{IsShortestTable, IsNearerTable}
 use Rattle.ir_model.specs.Compact.{IsCompactTable}
-use Rattle.ir_model.specs.Scheme.{Scheme, IsScheme, IsTableOf, table_port}
+use Rattle.ir_model.specs.Plan.{Plan, IsPlan, IsTableOf, table_port}
 use Rattle.ir_model.proofs.Tables.{prescribed_nearer, shortest_is_nearer}
 use Rattle.ir_core.specs.Sound.{last_of}
 use Rattle.ir_trace.specs.declared.row.RowFate.{RowFate}
 use Rattle.ir_trace.specs.declared.row.RowFate.TheVariants.{Delivered, Retired, Down, Full, Left}
 use Rattle.ir_trace.specs.declared.finding.FindingKind.{FindingKind}
 use Rattle.ir_trace.specs.declared.finding.FindingKind.TheVariants.{UnknownEpoch, NotAPrefix, NotAtDestination, BadWeight}
-use Rattle.ir_trace.specs.Row.{Part, Row}
+use Rattle.ir_trace.specs.Row.{Segment, TraceRow}
 use Rattle.ir_trace.specs.Checked.{plan_at, no_part, last_part, is_part_over, IsRowOver, KnowsEpochs, IsFrontOfWalk, IsWholeWalk, AreJoined, ArePair, GoesOn, FollowsWalks, HasArrived, Weighs, IsOfShortestWays, ArrivesShortest}
-use Rattle.ir_trace.specs.Inspect.{is_node, next_of, leads_through, follows_from, are_known, are_joined, fits_fate, goes_on, is_delivered, has_arrived, weight_of, first_of_four, found_of, AreOver, IsOverPlan, AreOverPlans}
+use Rattle.ir_trace.specs.Inspect.{is_node, next_of, leads_through, follows_from, are_known, are_joined, fits_fate, goes_on, is_delivered, has_arrived, segments_weight, first_of_four, found_of, AreOver, IsOverPlan, AreOverPlans}
 use Rattle.ir_trace.proofs.Inspecting.{part_facts}
 use Rattle.ir_trace.proofs.Fronts.{leads_through-push, front, front_back, whole, whole_back}
 
@@ -32,15 +32,15 @@ no b P t e p = both_ways b e (t.back p)
 
 -- ---- epochs
 
-known_tells : (n : ℕ) (parts : List Part) → are_known n parts ≡ true → (i : ℕ) (part : Part) → slice_get parts i ≡ Some part → (0 < part.epoch) × (part.epoch ≤ n)
+known_tells : (n : ℕ) (parts : List Segment) → are_known n parts ≡ true → (i : ℕ) (part : Segment) → slice_get parts i ≡ Some part → (0 < part.epoch) × (part.epoch ≤ n)
 known_tells n [] h i part at = absurd (cc at)
 known_tells n (p ∷ parts) h zero part at =
     let here = and_parts (nat_lt 0 p.epoch) (nat_le p.epoch n) (and_parts (nat_lt 0 p.epoch && nat_le p.epoch n) (are_known n parts) h).0 in
     let same : p ≡ part = cc at in
-    subst (λ (q : Part). (0 < q.epoch) × (q.epoch ≤ n)) same (ltb-true 0 p.epoch here.0, leb-true p.epoch n here.1)
+    subst (λ (q : Segment). (0 < q.epoch) × (q.epoch ≤ n)) same (ltb-true 0 p.epoch here.0, leb-true p.epoch n here.1)
 known_tells n (p ∷ parts) h (suc i) part at = known_tells n parts (and_parts (nat_lt 0 p.epoch && nat_le p.epoch n) (are_known n parts) h).1 i part at
 
-known_back : (n : ℕ) (parts : List Part) → ((i : ℕ) (part : Part) → slice_get parts i ≡ Some part → (0 < part.epoch) × (part.epoch ≤ n)) → are_known n parts ≡ true
+known_back : (n : ℕ) (parts : List Segment) → ((i : ℕ) (part : Segment) → slice_get parts i ≡ Some part → (0 < part.epoch) × (part.epoch ≤ n)) → are_known n parts ≡ true
 known_back n [] h = refl
 known_back n (p ∷ parts) h =
     let here = h 0 p refl in
@@ -48,16 +48,16 @@ known_back n (p ∷ parts) h =
 
 -- ---- parts
 
-pub all_at : (test : Part → Bool) (parts : List Part) → list_all test parts ≡ true → (i : ℕ) (part : Part) → slice_get parts i ≡ Some part → test part ≡ true
+pub all_at : (test : Segment → Bool) (parts : List Segment) → list_all test parts ≡ true → (i : ℕ) (part : Segment) → slice_get parts i ≡ Some part → test part ≡ true
 all_at test [] h i part at = absurd (cc at)
 all_at test (p ∷ parts) h zero part at = let same : p ≡ part = cc at in ap test (sym same) ∙ (and_parts (test p) (list_all test parts) h).0
 all_at test (p ∷ parts) h (suc i) part at = all_at test parts (and_parts (test p) (list_all test parts) h).1 i part at
 
 -- the parts of a row whose epochs are known
-pub over_plans : (n : ℕ) (plans : List Scheme) (d : ℕ) (parts : List Part) → AreOver n plans → are_known (length plans) parts ≡ true → list_all (is_part_over n) parts ≡ true → d < n → AreOverPlans plans d parts
+pub over_plans : (n : ℕ) (plans : List Plan) (d : ℕ) (parts : List Segment) → AreOver n plans → are_known (length plans) parts ≡ true → list_all (is_part_over n) parts ≡ true → d < n → AreOverPlans plans d parts
 over_plans n plans d parts over known parts_over d_in i part at =
     let epoch = known_tells (length plans) parts known i part at in
-    let nodes : node_count (plan_at plans part.epoch).network ≡ n = (over part.epoch epoch.0 epoch.1).1 in
+    let nodes : node_count (plan_at plans part.epoch).topology ≡ n = (over part.epoch epoch.0 epoch.1).1 in
     record {
       above = epoch.0;
       within = epoch.1;
@@ -65,24 +65,24 @@ over_plans n plans d parts over known parts_over d_in i part at =
       dest = omega (arith, nodes);
     }
 
-module _ (n : ℕ) (plans : List Scheme) (over : AreOver n plans) (d : ℕ) where
-  follows_tells : (u : ℕ) (part : Part) → IsOverPlan plans d part → Tells (follows_from (plan_at plans part.epoch) d u part.hops) ((slice_get part.hops 0 ≡ Some u) × IsFrontOfWalk (plan_at plans part.epoch) d part.hops)
-  follows_tells u part is = by part.hops (part_facts (node_count t.network) part is.hops).within
+module _ (n : ℕ) (plans : List Plan) (over : AreOver n plans) (d : ℕ) where
+  follows_tells : (u : ℕ) (part : Segment) → IsOverPlan plans d part → Tells (follows_from (plan_at plans part.epoch) d u part.hops) ((slice_get part.hops 0 ≡ Some u) × IsFrontOfWalk (plan_at plans part.epoch) d part.hops)
+  follows_tells u part is = by part.hops (part_facts (node_count t.topology) part is.hops).within
     where
-      t : Scheme
+      t : Plan
       t = plan_at plans part.epoch
 
-      by : (hops : List ℕ) → list_all (λ x. nat_lt x (node_count t.network)) hops ≡ true → Tells (follows_from t d u hops) ((slice_get hops 0 ≡ Some u) × IsFrontOfWalk t d hops)
+      by : (hops : List ℕ) → list_all (λ x. nat_lt x (node_count t.topology)) hops ≡ true → Tells (follows_from t d u hops) ((slice_get hops 0 ≡ Some u) × IsFrontOfWalk t d hops)
       by [] within = record { yes = λ e. absurd (cc e); back = λ p. absurd p.1 }
       by (x ∷ rest) within =
-          let scheme : IsScheme t = (over part.epoch is.above is.within).0 in
-          let x_in : x < node_count t.network = ltb-true x (node_count t.network) (and_parts (nat_lt x (node_count t.network)) (list_all (λ x. nat_lt x (node_count t.network)) rest) within).0 in
+          let plan : IsPlan t = (over part.epoch is.above is.within).0 in
+          let x_in : x < node_count t.topology = ltb-true x (node_count t.topology) (and_parts (nat_lt x (node_count t.topology)) (list_all (λ x. nat_lt x (node_count t.topology)) rest) within).0 in
           record {
-            yes = λ e. (let both = and_parts (x == u) (leads_through t d x rest) e in (ap (λ (y : ℕ). Some y) (eqb-true x u both.0), (front t scheme d is.dest x rest x_in both.1).front));
-            back = λ p. and_from (x == u) (leads_through t d x rest) (eq-eqb x u (let e : Some x ≡ Some u = p.0 in cc e)) (front_back t scheme d is.dest x rest p.1);
+            yes = λ e. (let both = and_parts (x == u) (leads_through t d x rest) e in (ap (λ (y : ℕ). Some y) (eqb-true x u both.0), (front t plan d is.dest x rest x_in both.1).front));
+            back = λ p. and_from (x == u) (leads_through t d x rest) (eq-eqb x u (let e : Some x ≡ Some u = p.0 in cc e)) (front_back t plan d is.dest x rest p.1);
           }
 
-  pub joined_tells : (u above : ℕ) (parts : List Part) → AreOverPlans plans d parts → Tells (are_joined plans d u above parts) (AreJoined plans d u above parts)
+  pub joined_tells : (u above : ℕ) (parts : List Segment) → AreOverPlans plans d parts → Tells (are_joined plans d u above parts) (AreJoined plans d u above parts)
   joined_tells u above [] is = record { yes = λ e. tt; back = λ p. refl }
   joined_tells u above (part ∷ parts) is =
       let here = follows_tells u part (is 0 part refl) in
@@ -96,30 +96,30 @@ module _ (n : ℕ) (plans : List Scheme) (over : AreOver n plans) (d : ℕ) wher
       }
 
   -- the table of its epoch leads through each part
-  pub record IsLed (part : Part) : Type 0 where
+  pub record IsLed (part : Segment) : Type 0 where
     pub first : ℕ
     pub rest : List ℕ
     pub hops : part.hops ≡ first ∷ rest
-    pub within : first < node_count (plan_at plans part.epoch).network
+    pub within : first < node_count (plan_at plans part.epoch).topology
     pub led : leads_through (plan_at plans part.epoch) d first rest ≡ true
 
-  led_from : (u : ℕ) (part : Part) → IsOverPlan plans d part → follows_from (plan_at plans part.epoch) d u part.hops ≡ true → IsLed part
-  led_from u part is h = by part.hops refl (part_facts (node_count t.network) part is.hops).within h
+  led_from : (u : ℕ) (part : Segment) → IsOverPlan plans d part → follows_from (plan_at plans part.epoch) d u part.hops ≡ true → IsLed part
+  led_from u part is h = by part.hops refl (part_facts (node_count t.topology) part is.hops).within h
     where
-      t : Scheme
+      t : Plan
       t = plan_at plans part.epoch
 
-      by : (hops : List ℕ) → part.hops ≡ hops → list_all (λ x. nat_lt x (node_count t.network)) hops ≡ true → follows_from t d u hops ≡ true → IsLed part
+      by : (hops : List ℕ) → part.hops ≡ hops → list_all (λ x. nat_lt x (node_count t.topology)) hops ≡ true → follows_from t d u hops ≡ true → IsLed part
       by [] e within f = absurd (cc f)
       by (x ∷ rest) e within f = record {
         first = x;
         rest = rest;
         hops = e;
-        within = ltb-true x (node_count t.network) (and_parts (nat_lt x (node_count t.network)) (list_all (λ x. nat_lt x (node_count t.network)) rest) within).0;
+        within = ltb-true x (node_count t.topology) (and_parts (nat_lt x (node_count t.topology)) (list_all (λ x. nat_lt x (node_count t.topology)) rest) within).0;
         led = (and_parts (x == u) (leads_through t d x rest) f).1;
       }
 
-  pub part_led : (u above : ℕ) (parts : List Part) → AreOverPlans plans d parts → are_joined plans d u above parts ≡ true → (i : ℕ) (part : Part) → slice_get parts i ≡ Some part → IsLed part
+  pub part_led : (u above : ℕ) (parts : List Segment) → AreOverPlans plans d parts → are_joined plans d u above parts ≡ true → (i : ℕ) (part : Segment) → slice_get parts i ≡ Some part → IsLed part
   part_led u above [] is h i part at = absurd (cc at)
   part_led u above (p ∷ parts) is h zero part at =
       let one = and_parts (nat_lt above p.epoch) (follows_from (plan_at plans p.epoch) d u p.hops && are_joined plans d (last_of p.hops) p.epoch parts) h in
@@ -131,22 +131,22 @@ module _ (n : ℕ) (plans : List Scheme) (over : AreOver n plans) (d : ℕ) wher
       let two = and_parts (follows_from (plan_at plans p.epoch) d u p.hops) (are_joined plans d (last_of p.hops) p.epoch parts) one.1 in
       part_led (last_of p.hops) p.epoch parts (λ j q e. is (suc j) q e) two.1 i part at
 
-  short_part : (part : Part) → IsOverPlan plans d part → IsLed part → nat_le (length part.hops) 16384 ≡ true
+  short_part : (part : Segment) → IsOverPlan plans d part → IsLed part → nat_le (length part.hops) 16384 ≡ true
   short_part part is led =
       let t = plan_at plans part.epoch in
-      let scheme : IsScheme t = (over part.epoch is.above is.within).0 in
-      le-leb (length part.hops) 16384 (omega (arith, (front t scheme d is.dest led.first led.rest led.within led.led).short, scheme.network.few_nodes, ap length led.hops))
+      let plan : IsPlan t = (over part.epoch is.above is.within).0 in
+      le-leb (length part.hops) 16384 (omega (arith, (front t plan d is.dest led.first led.rest led.within led.led).short, plan.topology.few_nodes, ap length led.hops))
 
-  pub short_parts : (u above : ℕ) (parts : List Part) → AreOverPlans plans d parts → are_joined plans d u above parts ≡ true → list_all (λ part. nat_le (length part.hops) 16384) parts ≡ true
+  pub short_parts : (u above : ℕ) (parts : List Segment) → AreOverPlans plans d parts → are_joined plans d u above parts ≡ true → list_all (λ part. nat_le (length part.hops) 16384) parts ≡ true
   short_parts u above parts is h = all parts (λ i part at. short_part part (is i part at) (part_led u above parts is h i part at))
     where
-      all : (ps : List Part) → ((i : ℕ) (part : Part) → slice_get ps i ≡ Some part → nat_le (length part.hops) 16384 ≡ true) → list_all (λ part. nat_le (length part.hops) 16384) ps ≡ true
+      all : (ps : List Segment) → ((i : ℕ) (part : Segment) → slice_get ps i ≡ Some part → nat_le (length part.hops) 16384 ≡ true) → list_all (λ part. nat_le (length part.hops) 16384) ps ≡ true
       all [] each = refl
       all (p ∷ ps) each = and_from (nat_le (length p.hops) 16384) (list_all (λ part. nat_le (length part.hops) 16384) ps) (each 0 p refl) (all ps (λ i part at. each (suc i) part at))
 
   -- ---- the end of the way
 
-  module _ (part : Part) (is : IsOverPlan plans d part) (led : IsLed part) where
+  module _ (part : Segment) (is : IsOverPlan plans d part) (led : IsLed part) where
     on_tells : (v : ℕ) → Tells (is_node (next_of (plan_at plans part.epoch) (last_of part.hops) d) v) (IsFrontOfWalk (plan_at plans part.epoch) d (part.hops ++ v ∷ []))
     on_tells v = subst (λ (hops : List ℕ). Tells (is_node (next_of (plan_at plans part.epoch) (last_of hops) d) v) (IsFrontOfWalk (plan_at plans part.epoch) d (hops ++ v ∷ []))) (sym led.hops) (record {
       yes = λ e. (front (plan_at plans part.epoch) (over part.epoch is.above is.within).0 d is.dest led.first (led.rest ++ v ∷ []) led.within
@@ -210,7 +210,7 @@ module _ (n : ℕ) (plans : List Scheme) (over : AreOver n plans) (d : ℕ) wher
 -- ---- rows
 
 -- what is found of a row alone
-abbrev pub IsFound : Network → List Scheme → Row → Option FindingKind → Type 0
+abbrev pub IsFound : Topology → List Plan → TraceRow → Option FindingKind → Type 0
 IsFound net plans row None = KnowsEpochs plans row.parts × FollowsWalks plans row × HasArrived plans row × Weighs net row
 IsFound net plans row (Some UnknownEpoch) = KnowsEpochs plans row.parts → ⊥
 IsFound net plans row (Some NotAPrefix) = KnowsEpochs plans row.parts × (FollowsWalks plans row → ⊥)
@@ -218,7 +218,7 @@ IsFound net plans row (Some NotAtDestination) = KnowsEpochs plans row.parts × F
 IsFound net plans row (Some BadWeight) = KnowsEpochs plans row.parts × FollowsWalks plans row × HasArrived plans row × (Weighs net row → ⊥)
 IsFound net plans row (Some kind) = ⊥
 
-module _ (net : Network) (plans : List Scheme) (row : Row) (over : AreOver (node_count net) plans) (is : IsRowOver (node_count net) row) where
+module _ (net : Topology) (plans : List Plan) (row : TraceRow) (over : AreOver (node_count net) plans) (is : IsRowOver (node_count net) row) where
   last_is : slice_get row.parts (length row.parts - 1) ≡ Some (last_part row.parts)
   last_is = slice_get-get_or row.parts (length row.parts - 1) no_part (let some = is.some in omega arith)
 
@@ -241,9 +241,9 @@ module _ (net : Network) (plans : List Scheme) (row : Row) (over : AreOver (node
       arrived_tells (node_count net) plans over row.dest last (each (length row.parts - 1) last last_is) (part_led (node_count net) plans over row.dest row.source 0 row.parts each h (length row.parts - 1) last last_is) row.fate
 
   pub found : IsFound net plans row (found_of net plans row)
-  found = by (are_known (length plans) row.parts) (are_joined plans row.dest row.source 0 row.parts && goes_on plans row.dest row.fate row.parts) (has_arrived row.dest row.fate row.parts) (weight_of net row.parts == row.weight) refl refl refl refl
+  found = by (are_known (length plans) row.parts) (are_joined plans row.dest row.source 0 row.parts && goes_on plans row.dest row.fate row.parts) (has_arrived row.dest row.fate row.parts) (segments_weight net row.parts == row.weight) refl refl refl refl
     where
-      by : (a b c e : Bool) → are_known (length plans) row.parts ≡ a → (are_joined plans row.dest row.source 0 row.parts && goes_on plans row.dest row.fate row.parts) ≡ b → has_arrived row.dest row.fate row.parts ≡ c → (weight_of net row.parts == row.weight) ≡ e
+      by : (a b c e : Bool) → are_known (length plans) row.parts ≡ a → (are_joined plans row.dest row.source 0 row.parts && goes_on plans row.dest row.fate row.parts) ≡ b → has_arrived row.dest row.fate row.parts ≡ c → (segments_weight net row.parts == row.weight) ≡ e
           → IsFound net plans row (first_of_four a b c e)
       by false b c e ha hb hc he = λ known. both_ways (are_known (length plans) row.parts) ha (known_back (length plans) row.parts known)
       by true false c e ha hb hc he = (known_tells (length plans) row.parts ha, no _ _ (follows ha) hb)
@@ -252,39 +252,39 @@ module _ (net : Network) (plans : List Scheme) (row : Row) (over : AreOver (node
           (known_tells (length plans) row.parts ha, (follows ha).yes hb, no _ _ (arrives ha joined) hc)
       by true true true false ha hb hc he =
           let joined = (and_parts (are_joined plans row.dest row.source 0 row.parts) (goes_on plans row.dest row.fate row.parts) hb).0 in
-          (known_tells (length plans) row.parts ha, (follows ha).yes hb, (arrives ha joined).yes hc, λ w. both_ways (weight_of net row.parts == row.weight) he (eq-eqb (weight_of net row.parts) row.weight (sym w)))
+          (known_tells (length plans) row.parts ha, (follows ha).yes hb, (arrives ha joined).yes hc, λ w. both_ways (segments_weight net row.parts == row.weight) he (eq-eqb (segments_weight net row.parts) row.weight (sym w)))
       by true true true true ha hb hc he =
           let joined = (and_parts (are_joined plans row.dest row.source 0 row.parts) (goes_on plans row.dest row.fate row.parts) hb).0 in
-          (known_tells (length plans) row.parts ha, (follows ha).yes hb, (arrives ha joined).yes hc, sym (eqb-true (weight_of net row.parts) row.weight he))
+          (known_tells (length plans) row.parts ha, (follows ha).yes hb, (arrives ha joined).yes hc, sym (eqb-true (segments_weight net row.parts) row.weight he))
 
   -- with a kind of shortest ways the whole of the last walk weighs the distance
   pub shortest : KnowsEpochs plans row.parts → HasArrived plans row → ArrivesShortest plans row
   shortest known arrived delivered kind = by (last_part row.parts).hops (part_facts (node_count net) (last_part row.parts) (all_at (is_part_over (node_count net)) row.parts is.parts (length row.parts - 1) (last_part row.parts) last_is)).within (arrived delivered)
     where
-      t : Scheme
+      t : Plan
       t = plan_at plans (last_part row.parts).epoch
 
-      scheme : IsScheme (plan_at plans (last_part row.parts).epoch)
-      scheme = let e = known (length row.parts - 1) (last_part row.parts) last_is in (over (last_part row.parts).epoch e.0 e.1).0
+      plan : IsPlan (plan_at plans (last_part row.parts).epoch)
+      plan = let e = known (length row.parts - 1) (last_part row.parts) last_is in (over (last_part row.parts).epoch e.0 e.1).0
 
-      nodes : node_count (plan_at plans (last_part row.parts).epoch).network ≡ node_count net
+      nodes : node_count (plan_at plans (last_part row.parts).epoch).topology ≡ node_count net
       nodes = let e = known (length row.parts - 1) (last_part row.parts) last_is in (over (last_part row.parts).epoch e.0 e.1).1
 
-      nearer : (k : Kind) → k ≡ (plan_at plans (last_part row.parts).epoch).kind → IsOfShortestWays k → IsNearerTable (plan_at plans (last_part row.parts).epoch).network (table_port (plan_at plans (last_part row.parts).epoch))
+      nearer : (k : Kind) → k ≡ (plan_at plans (last_part row.parts).epoch).kind → IsOfShortestWays k → IsNearerTable (plan_at plans (last_part row.parts).epoch).topology (table_port (plan_at plans (last_part row.parts).epoch))
       nearer Tree e short = absurd short
       nearer Shortest e short =
-          let table : IsShortestTable (plan_at plans (last_part row.parts).epoch).network (table_port (plan_at plans (last_part row.parts).epoch)) = subst (λ (k : Kind). IsTableOf k (plan_at plans (last_part row.parts).epoch).network (plan_at plans (last_part row.parts).epoch).order scheme.parents (table_port (plan_at plans (last_part row.parts).epoch))) (sym e) scheme.table in
-          shortest_is_nearer (plan_at plans (last_part row.parts).epoch).network (table_port (plan_at plans (last_part row.parts).epoch)) table
+          let table : IsShortestTable (plan_at plans (last_part row.parts).epoch).topology (table_port (plan_at plans (last_part row.parts).epoch)) = subst (λ (k : Kind). IsTableOf k (plan_at plans (last_part row.parts).epoch).topology (plan_at plans (last_part row.parts).epoch).order plan.parents (table_port (plan_at plans (last_part row.parts).epoch))) (sym e) plan.table in
+          shortest_is_nearer (plan_at plans (last_part row.parts).epoch).topology (table_port (plan_at plans (last_part row.parts).epoch)) table
       nearer Compact e short =
-          let table : IsCompactTable (plan_at plans (last_part row.parts).epoch).network (plan_at plans (last_part row.parts).epoch).order (table_port (plan_at plans (last_part row.parts).epoch)) = subst (λ (k : Kind). IsTableOf k (plan_at plans (last_part row.parts).epoch).network (plan_at plans (last_part row.parts).epoch).order scheme.parents (table_port (plan_at plans (last_part row.parts).epoch))) (sym e) scheme.table in
+          let table : IsCompactTable (plan_at plans (last_part row.parts).epoch).topology (plan_at plans (last_part row.parts).epoch).order (table_port (plan_at plans (last_part row.parts).epoch)) = subst (λ (k : Kind). IsTableOf k (plan_at plans (last_part row.parts).epoch).topology (plan_at plans (last_part row.parts).epoch).order plan.parents (table_port (plan_at plans (last_part row.parts).epoch))) (sym e) plan.table in
           table.nearer
 
-      table : IsNearerTable (plan_at plans (last_part row.parts).epoch).network (table_port (plan_at plans (last_part row.parts).epoch))
+      table : IsNearerTable (plan_at plans (last_part row.parts).epoch).topology (table_port (plan_at plans (last_part row.parts).epoch))
       table = nearer (plan_at plans (last_part row.parts).epoch).kind refl kind
 
       by : (hops : List ℕ) → list_all (λ u. nat_lt u (node_count net)) hops ≡ true → IsWholeWalk (plan_at plans (last_part row.parts).epoch) row.dest hops
-          → (u : ℕ) × (slice_get hops 0 ≡ Some u) × IsDistance (plan_at plans (last_part row.parts).epoch).network u row.dest (walk_weight (plan_at plans (last_part row.parts).epoch).network hops)
+          → (u : ℕ) × (slice_get hops 0 ≡ Some u) × IsDistance (plan_at plans (last_part row.parts).epoch).topology u row.dest (walk_weight (plan_at plans (last_part row.parts).epoch).topology hops)
       by [] within whole = absurd whole
       by (u ∷ rest) within whole =
           let u_in : u < node_count net = ltb-true u (node_count net) (and_parts (nat_lt u (node_count net)) (list_all (λ u. nat_lt u (node_count net)) rest) within).0 in
-          (u, refl, (prescribed_nearer (plan_at plans (last_part row.parts).epoch).network scheme.network (table_port (plan_at plans (last_part row.parts).epoch)) table u row.dest (omega (arith, u_in, nodes)) (omega (arith, is.dest, nodes)) (u ∷ rest) whole).1)
+          (u, refl, (prescribed_nearer (plan_at plans (last_part row.parts).epoch).topology plan.topology (table_port (plan_at plans (last_part row.parts).epoch)) table u row.dest (omega (arith, u_in, nodes)) (omega (arith, is.dest, nodes)) (u ∷ rest) whole).1)

@@ -4,15 +4,15 @@ use Rattle.std.specs.List.{list_any}
 use Rattle.std.proofs.lemmas.Bool.{both_ways, or_cases, eqb-true, eq-eqb}
 use Rattle.std.proofs.lemmas.List.{take_more, drop_more, length-take-le, take-append-drop}
 use Rattle.std.proofs.lemmas.List.Folds.{list_any_more}
-use Rattle.ir_model.specs.Network.{Network, node_count}
-use Rattle.ir_model.specs.Scheme.{Scheme}
+use Rattle.ir_model.specs.Topology.{Topology, node_count}
+use Rattle.ir_model.specs.Plan.{Plan}
 use Rattle.ir_model.proofs.Restrict.{node_count-restrict}
 use Rattle.ir_core.specs.declared.built.Install.{Install}
 use Rattle.ir_trace.specs.declared.finding.Finding.{Finding}
 use Rattle.ir_trace.specs.declared.finding.FindingKind.{FindingKind}
 use Rattle.ir_trace.specs.declared.finding.FindingKind.TheVariants.{NotTrace, BadRow, UnknownNode, UnknownEpoch, NotAPrefix, NotAtDestination, BadWeight, Repeated, NoMemory}
-use Rattle.ir_trace.specs.Row.{Row}
-use Rattle.ir_trace.specs.Checked.{plan_at, AreSchemesOf, IsRowOver, AreRowsOver, IsNew, IsFindingOf, IsFine, AreFine, IsFirstFinding, Finds}
+use Rattle.ir_trace.specs.Row.{TraceRow}
+use Rattle.ir_trace.specs.Checked.{plan_at, ArePlansOf, IsRowOver, AreRowsOver, HasNewId, IsFindingOf, IsFine, AreFine, IsFirstFinding, Finds}
 use Rattle.ir_trace.specs.Sound.{IsSoundTrace}
 use Rattle.ir_trace.proofs.CheckedSound.{sound_row}
 use Rattle.ir_trace.specs.Inspect.{found_of, AreOver, FindsBy}
@@ -20,14 +20,14 @@ use Rattle.ir_trace.proofs.CheckedRows.{IsFound, found, shortest}
 
 -- ---- ids
 
-any_there : (test : Row → Bool) (rows : List Row) → list_any test rows ≡ true → (i : ℕ) × (r : Row) × (slice_get rows i ≡ Some r) × (test r ≡ true)
+any_there : (test : TraceRow → Bool) (rows : List TraceRow) → list_any test rows ≡ true → (i : ℕ) × (r : TraceRow) × (slice_get rows i ≡ Some r) × (test r ≡ true)
 any_there test [] h = absurd (cc h)
 any_there test (r ∷ rows) h =
     ⊎_elim (λ (here : test r ≡ true). (0, r, refl, here))
     (λ (later : list_any test rows ≡ true). (let found = any_there test rows later in (suc found.0, found.1, found.2, found.3)))
     (or_cases (test r) (list_any test rows) h)
 
-there_any : (test : Row → Bool) (rows : List Row) (i : ℕ) (r : Row) → slice_get rows i ≡ Some r → test r ≡ true → list_any test rows ≡ true
+there_any : (test : TraceRow → Bool) (rows : List TraceRow) (i : ℕ) (r : TraceRow) → slice_get rows i ≡ Some r → test r ≡ true → list_any test rows ≡ true
 there_any test [] i r at h = absurd (cc at)
 there_any test (x ∷ rows) zero r at h = let same : x ≡ r = cc at in rw (ap test same ∙ h) refl
 there_any test (x ∷ rows) (suc i) r at h = by (test x) (there_any test rows i r at h)
@@ -37,33 +37,33 @@ there_any test (x ∷ rows) (suc i) r at h = by (test x) (there_any test rows i 
     by false e = e
 
 -- an earlier row has the id
-abbrev pub is_there : List Row → ℕ → Bool
+abbrev pub is_there : List TraceRow → ℕ → Bool
 is_there rows q = list_any (λ r. r.id == q) rows
 
-not_new : (earlier : List Row) (row : Row) → is_there earlier row.id ≡ true → IsNew earlier row → ⊥
+not_new : (earlier : List TraceRow) (row : TraceRow) → is_there earlier row.id ≡ true → HasNewId earlier row → ⊥
 not_new earlier row h new = let r = any_there (λ r. r.id == row.id) earlier h in new r.0 r.1 r.2 (eqb-true r.1.id row.id r.3)
 
-is_new : (earlier : List Row) (row : Row) → is_there earlier row.id ≡ false → IsNew earlier row
+is_new : (earlier : List TraceRow) (row : TraceRow) → is_there earlier row.id ≡ false → HasNewId earlier row
 is_new earlier row h i r at same = both_ways (is_there earlier row.id) h (there_any (λ r. r.id == row.id) earlier i r at (eq-eqb r.id row.id same))
 
 -- ---- fine rows
 
-get_push : (rows : List Row) (row : Row) (k : ℕ) (r : Row) → slice_get (rows ++ row ∷ []) k ≡ Some r → (P : List Row → Row → Type 0) → P rows row → (slice_get rows k ≡ Some r → P (take k rows) r) → P (take k (rows ++ row ∷ [])) r
+get_push : (rows : List TraceRow) (row : TraceRow) (k : ℕ) (r : TraceRow) → slice_get (rows ++ row ∷ []) k ≡ Some r → (P : List TraceRow → TraceRow → Type 0) → P rows row → (slice_get rows k ≡ Some r → P (take k rows) r) → P (take k (rows ++ row ∷ [])) r
 get_push [] row zero r at P new old = let same : row ≡ r = cc at in subst (P []) same new
 get_push [] row (suc k) r at P new old = absurd (cc at)
 get_push (x ∷ rows) row zero r at P new old = old at
 get_push (x ∷ rows) row (suc k) r at P new old = get_push rows row k r at (λ earlier q. P (x ∷ earlier) q) new old
 
-module _ (net : Network) (plans : List Scheme) where
-  fine_push : (rows : List Row) (row : Row) → AreFine net plans rows → IsFine net plans rows row → AreFine net plans (rows ++ row ∷ [])
+module _ (net : Topology) (plans : List Plan) where
+  fine_push : (rows : List TraceRow) (row : TraceRow) → AreFine net plans rows → IsFine net plans rows row → AreFine net plans (rows ++ row ∷ [])
   fine_push rows row are is k r at = get_push rows row k r at (λ earlier q. IsFine net plans earlier q) is (λ old. are k r old)
 
-  module _ (rows : List Row) (i : ℕ) (row : Row) (lt : i < length rows) (at : row ≡ get_or rows i row) where
+  module _ (rows : List TraceRow) (i : ℕ) (row : TraceRow) (lt : i < length rows) (at : row ≡ get_or rows i row) where
     more : take (i + 1) rows ≡ take i rows ++ row ∷ []
-    more = take_more rows i row lt ∙ ap (λ (r : Row). take i rows ++ r ∷ []) (sym at)
+    more = take_more rows i row lt ∙ ap (λ (r : TraceRow). take i rows ++ r ∷ []) (sym at)
 
     whole : rows ≡ take i rows ++ row ∷ drop (i + 1) rows
-    whole = sym (take-append-drop i rows) ∙ ap (λ (rs : List Row). take i rows ++ rs) (drop_more rows i row lt ∙ ap (λ (r : Row). r ∷ drop (i + 1) rows) (sym at))
+    whole = sym (take-append-drop i rows) ∙ ap (λ (rs : List TraceRow). take i rows ++ rs) (drop_more rows i row lt ∙ ap (λ (r : TraceRow). r ∷ drop (i + 1) rows) (sym at))
 
     module _ (fine : AreFine net plans (take i rows)) where
       first : (kind : FindingKind) → IsFindingOf net plans (take i rows) row kind → IsFirstFinding net plans rows (i + 2) kind
@@ -118,18 +118,18 @@ was_not_there false had e f = absurd (cc f)
 was_not_there true true e f = absurd (cc e)
 was_not_there true false e f = refl
 
-pub there_more : (rows : List Row) (i : ℕ) (row : Row) (q : ℕ) → i < length rows → row ≡ get_or rows i row → is_there (take (i + 1) rows) q ≡ (is_there (take i rows) q || (row.id == q))
-there_more rows i row q lt at = list_any_more (λ (r : Row). r.id == q) rows i row lt ∙ ap (λ (r : Row). is_there (take i rows) q || (r.id == q)) (sym at)
+pub there_more : (rows : List TraceRow) (i : ℕ) (row : TraceRow) (q : ℕ) → i < length rows → row ≡ get_or rows i row → is_there (take (i + 1) rows) q ≡ (is_there (take i rows) q || (row.id == q))
+there_more rows i row q lt at = list_any_more (λ (r : TraceRow). r.id == q) rows i row lt ∙ ap (λ (r : TraceRow). is_there (take i rows) q || (r.id == q)) (sym at)
 
--- ---- the schemes of the epochs
+-- ---- the plans of the epochs
 
-pub over_from : (net : Network) (installs : List Install) (plans : List Scheme) → AreSchemesOf net installs plans → AreOver (node_count net) plans
+pub over_from : (net : Topology) (installs : List Install) (plans : List Plan) → ArePlansOf net installs plans → AreOver (node_count net) plans
 over_from net installs plans are zero above le = absurd (omega arith)
 over_from net [] [] are (suc e) above le = absurd (omega arith)
 over_from net [] (t ∷ plans) are (suc e) above le = absurd are
 over_from net (i ∷ installs) [] are (suc e) above le = absurd are
 over_from net (i ∷ installs) (t ∷ plans) are (suc zero) above le =
-    (are.0.3, ap (λ (n : Network). node_count n) are.0.2 ∙ node_count-restrict i.up.items net)
+    (are.0.3, ap (λ (n : Topology). node_count n) are.0.2 ∙ node_count-restrict i.up.items net)
 over_from net (i ∷ installs) (t ∷ plans) are (suc (suc e)) above le =
     let back : suc (suc e) - 1 ≡ suc e = omega arith in
     let before : suc e - 1 ≡ e = omega arith in
@@ -137,23 +137,23 @@ over_from net (i ∷ installs) (t ∷ plans) are (suc (suc e)) above le =
     rw back (rw before at later)
 
 -- the links of each are those of the network
-links_from : (net : Network) (installs : List Install) (plans : List Scheme) → AreSchemesOf net installs plans → (e : ℕ) → 0 < e → e ≤ length plans → (plan_at plans e).network.links ≡ net.links
+links_from : (net : Topology) (installs : List Install) (plans : List Plan) → ArePlansOf net installs plans → (e : ℕ) → 0 < e → e ≤ length plans → (plan_at plans e).topology.links ≡ net.links
 links_from net installs plans are zero above le = absurd (omega arith)
 links_from net [] [] are (suc e) above le = absurd (omega arith)
 links_from net [] (t ∷ plans) are (suc e) above le = absurd are
 links_from net (i ∷ installs) [] are (suc e) above le = absurd are
-links_from net (i ∷ installs) (t ∷ plans) are (suc zero) above le = ap (λ (n : Network). n.links) are.0.2
+links_from net (i ∷ installs) (t ∷ plans) are (suc zero) above le = ap (λ (n : Topology). n.links) are.0.2
 links_from net (i ∷ installs) (t ∷ plans) are (suc (suc e)) above le =
     let back : suc (suc e) - 1 ≡ suc e = omega arith in
     let before : suc e - 1 ≡ e = omega arith in
     let later = links_from net installs plans are.1 (suc e) (omega arith) (omega arith) in
     rw back (rw before at later)
 
-module _ (net : Network) (installs : List Install) (plans : List Scheme) (are : AreSchemesOf net installs plans) (rows : List Row) where
+module _ (net : Topology) (installs : List Install) (plans : List Plan) (are : ArePlansOf net installs plans) (rows : List TraceRow) where
   pub sound_from : {U : Type 0} (r : Result U Finding) → AreRowsOver (node_count net) rows → IfOk r (λ _. AreFine net plans rows) → IfOk r (λ _. IsSoundTrace net installs rows)
   sound_from (Ok u) over fine = record {
     plans = plans;
-    schemes = are;
+    of_installs = are;
     fine = fine;
     sound = λ k row at. (let is : IsFine net plans (take k rows) row = fine k row at in sound_row net plans row (over_from net installs plans are) (links_from net installs plans are) (over k row at) is.epochs is.walks is.arrived);
     shortest = λ k row at. (let is : IsFine net plans (take k rows) row = fine k row at in shortest net plans row (over_from net installs plans are) (over k row at) is.epochs is.arrived);

@@ -4,13 +4,13 @@ use Rattle.std.specs.List.{list_all}
 use Rattle.std.proofs.lemmas.Bool.{and_parts, ltb-true}
 use Rattle.std.proofs.lemmas.List.{take_more}
 use Rattle.std.proofs.Math.Seq.{drop-cons}
-use Rattle.ir_model.specs.Network.{Network, restrict}
-use Rattle.ir_model.specs.Scheme.{Scheme}
+use Rattle.ir_model.specs.Topology.{Topology, restrict}
+use Rattle.ir_model.specs.Plan.{Plan}
 use Rattle.ir_core.specs.declared.built.Install.{Install}
 use Rattle.ir_core.specs.Meaning.{IsMade}
 use Rattle.ir_core.specs.Sound.{last_of}
-use Rattle.ir_trace.specs.Row.{Part}
-use Rattle.ir_trace.specs.Checked.{is_part_over, AreSchemesOf}
+use Rattle.ir_trace.specs.Row.{Segment}
+use Rattle.ir_trace.specs.Checked.{is_part_over, ArePlansOf}
 use Rattle.ir_trace.specs.Inspect.{is_node, next_of, leads_through}
 
 -- a list ends with its last element
@@ -22,7 +22,7 @@ last_at (x ∷ y ∷ xs) h =
     rw step (last_at (y ∷ xs) (omega arith))
 
 -- the table leads nowhere
-pub stops_at : (t : Scheme) (d u : ℕ) (rest : List ℕ) (i : ℕ) → i < length rest → None ≡ next_of t u d → false ≡ leads_through t d u (drop i rest)
+pub stops_at : (t : Plan) (d u : ℕ) (rest : List ℕ) (i : ℕ) → i < length rest → None ≡ next_of t u d → false ≡ leads_through t d u (drop i rest)
 stops_at t d u rest i lt none = rw (drop-cons rest i 0) (ap (λ (next : Option ℕ). is_node next (get_or rest i 0) && leads_through t d (get_or rest i 0) (drop (suc i) rest)) none)
 
 -- the last of some nodes is one
@@ -31,27 +31,27 @@ last_within n [] h some = absurd (omega arith)
 last_within n (x ∷ []) h some = ltb-true x n (and_parts (nat_lt x n) true h).0
 last_within n (x ∷ y ∷ hops) h some = last_within n (y ∷ hops) (and_parts (nat_lt x n) (list_all (λ u. nat_lt u n) (y ∷ hops)) h).1 (omega arith)
 
-pub record PartFacts (n : ℕ) (part : Part) : Type 0 where
+pub record PartFacts (n : ℕ) (part : Segment) : Type 0 where
   pub some : 0 < length part.hops
   pub within : list_all (λ u. nat_lt u n) part.hops ≡ true
   pub last : last_of part.hops < n
 
-pub part_facts : (n : ℕ) (part : Part) → is_part_over n part ≡ true → PartFacts n part
+pub part_facts : (n : ℕ) (part : Segment) → is_part_over n part ≡ true → PartFacts n part
 part_facts n part h =
     let both = and_parts (nat_lt 0 (length part.hops)) (list_all (λ u. nat_lt u n) part.hops) h in
     let some : 0 < length part.hops = ltb-true 0 (length part.hops) both.0 in
     record { some = some; within = both.1; last = last_within n part.hops both.1 some }
 
--- the scheme of one install more
-schemes_push : (net : Network) (installs : List Install) (plans : List Scheme) (install : Install) (t : Scheme) → AreSchemesOf net installs plans → IsMade install.labels install.kind install.root (restrict install.up.items net) (Some t)
-    → AreSchemesOf net (installs ++ install ∷ []) (plans ++ t ∷ [])
-schemes_push net [] [] install t are is = (is, tt)
-schemes_push net [] (s ∷ plans) install t are is = absurd are
-schemes_push net (i ∷ installs) [] install t are is = absurd are
-schemes_push net (i ∷ installs) (s ∷ plans) install t are is = (are.0, schemes_push net installs plans install t are.1 is)
+-- the plan of one install more
+plans_push : (net : Topology) (installs : List Install) (plans : List Plan) (install : Install) (t : Plan) → ArePlansOf net installs plans → IsMade install.labels install.kind install.root (restrict install.up.items net) (Some t)
+    → ArePlansOf net (installs ++ install ∷ []) (plans ++ t ∷ [])
+plans_push net [] [] install t are is = (is, tt)
+plans_push net [] (s ∷ plans) install t are is = absurd are
+plans_push net (i ∷ installs) [] install t are is = absurd are
+plans_push net (i ∷ installs) (s ∷ plans) install t are is = (are.0, plans_push net installs plans install t are.1 is)
 
-pub schemes_more : (net : Network) (installs : List Install) (k : ℕ) (install : Install) (plans : List Scheme) (t : Scheme) → k < length installs → install ≡ get_or installs k install
-    → AreSchemesOf net (take k installs) plans → IsMade install.labels install.kind install.root (restrict install.up.items net) (Some t) → AreSchemesOf net (take (k + 1) installs) (plans ++ t ∷ [])
-schemes_more net installs k install plans t lt at are is =
+pub plans_more : (net : Topology) (installs : List Install) (k : ℕ) (install : Install) (plans : List Plan) (t : Plan) → k < length installs → install ≡ get_or installs k install
+    → ArePlansOf net (take k installs) plans → IsMade install.labels install.kind install.root (restrict install.up.items net) (Some t) → ArePlansOf net (take (k + 1) installs) (plans ++ t ∷ [])
+plans_more net installs k install plans t lt at are is =
     let more : take (k + 1) installs ≡ take k installs ++ install ∷ [] = take_more installs k install lt ∙ ap (λ (x : Install). take k installs ++ x ∷ []) (sym at) in
-    rw more (schemes_push net (take k installs) plans install t are is)
+    rw more (plans_push net (take k installs) plans install t are is)

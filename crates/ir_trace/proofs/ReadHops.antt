@@ -5,7 +5,7 @@ use Rattle.std.proofs.lemmas.List.{take_more, map-append}
 use Rattle.ir_model.specs.Graph.{Name}
 use Rattle.ir_model.specs.Graph.{Adjacency, names}
 use Rattle.ir_trace.specs.declared.words.SegmentSpelling.{SegmentSpelling}
-use Rattle.ir_trace.specs.Row.{Part}
+use Rattle.ir_trace.specs.Row.{Segment}
 use Rattle.ir_trace.specs.Rows.{PartText}
 use Rattle.ir_trace.specs.Reading.{node_named, PartsAreReadAs}
 use Rattle.ir_trace.specs.Spelled.{texts, part_held, AreNoHops, AreNoPartsOf}
@@ -26,7 +26,7 @@ module _ (f : Name → Option ℕ) where
 
 -- ---- parts
 
-read_push : (g : Adjacency) (texts : List PartText) (parts : List Part) (text : PartText) (part : Part) → PartsAreReadAs g texts parts → part.epoch ≡ text.epoch → map (node_named (names g)) text.hops ≡ map (λ u. Some u) part.hops
+read_push : (g : Adjacency) (texts : List PartText) (parts : List Segment) (text : PartText) (part : Segment) → PartsAreReadAs g texts parts → part.epoch ≡ text.epoch → map (node_named (names g)) text.hops ≡ map (λ u. Some u) part.hops
     → PartsAreReadAs g (texts ++ text ∷ []) (parts ++ part ∷ [])
 read_push g [] [] text part are epoch hops = (epoch, hops, tt)
 read_push g [] (p ∷ parts) text part are epoch hops = absurd are
@@ -34,13 +34,13 @@ read_push g (t ∷ texts) [] text part are epoch hops = absurd are
 read_push g (t ∷ texts) (p ∷ parts) text part are epoch hops = (are.0, are.1, read_push g texts parts text part are.2 epoch hops)
 
 -- one part more
-pub parts_more : (g : Adjacency) (spellings : List SegmentSpelling) (i : ℕ) (d : SegmentSpelling) (parts items : List Part) (part : Part) → i < length spellings → items ≡ parts ++ part ∷ []
+pub parts_more : (g : Adjacency) (spellings : List SegmentSpelling) (i : ℕ) (d : SegmentSpelling) (parts items : List Segment) (part : Segment) → i < length spellings → items ≡ parts ++ part ∷ []
     → part.epoch ≡ (get_or spellings i d).epoch → map (node_named (names g)) (texts (get_or spellings i d).hops.now) ≡ map (λ u. Some u) part.hops
     → PartsAreReadAs g (map part_held (take i spellings)) parts → PartsAreReadAs g (map part_held (take (i + 1) spellings)) items
 parts_more g spellings i d parts items part lt pushed epoch hops are =
     let more : map part_held (take (i + 1) spellings) ≡ map part_held (take i spellings) ++ part_held (get_or spellings i d) ∷ [] =
     ap (map part_held) (take_more spellings i d lt) ∙ map-append part_held (take i spellings) (get_or spellings i d ∷ []) in
-    let P : List Part → Type 0 = λ ps. PartsAreReadAs g (map part_held (take (i + 1) spellings)) ps in
+    let P : List Segment → Type 0 = λ ps. PartsAreReadAs g (map part_held (take (i + 1) spellings)) ps in
     let Q : List PartText → Type 0 = λ ts. PartsAreReadAs g ts (parts ++ part ∷ []) in
     subst P (sym pushed) (subst Q (sym more) (read_push g (map part_held (take i spellings)) parts (part_held (get_or spellings i d)) part are epoch hops))
 

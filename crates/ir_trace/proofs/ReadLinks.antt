@@ -6,14 +6,14 @@ use Rattle.std.proofs.lemmas.List.{length-map}
 use Rattle.std.proofs.lemmas.Option.{slice_get-map, slice_get_within, get_or_from_slice_get}
 use Rattle.ir_model.specs.declared.Link.{Link}
 use Rattle.ir_model.specs.Graph.{Name, Adjacency, names, is_row, is_name, is_name_byte, has_edge, IsGraph}
-use Rattle.ir_model.specs.Network.{Network, node_count, IsLink}
-use Rattle.ir_model.specs.OfGraph.{network_of_graph}
+use Rattle.ir_model.specs.Topology.{Topology, node_count, IsLink}
+use Rattle.ir_model.specs.OfGraph.{topology_of_graph}
 use Rattle.ir_model.specs.Places as places
 use Rattle.ir_graph.proofs.Places.{name_there, place_of_at, link_facts}
 use Rattle.ir_tables.specs.Numbered.{Numbers}
-use Rattle.ir_tables.specs.ByPlace.{rows_of}
+use Rattle.ir_tables.specs.ByPlace.{neighbor_rows}
 use Rattle.ir_tables.proofs.Numbered.{row_get, each_link}
-use Rattle.ir_tables.proofs.OfGraph.{graph_rows, graph_network, row_of_node}
+use Rattle.ir_tables.proofs.OfGraph.{graph_rows, graph_topology, row_of_node}
 use Rattle.ir_trace.specs.Rows.{is_word, is_mark}
 use Rattle.ir_trace.specs.Reading.{node_named, AreLinkedAs}
 use Rattle.ir_trace.specs.Written.{name_at}
@@ -45,7 +45,7 @@ row_name (r ∷ g) zero x h at = let same : r.0 ≡ x = cc at in ap is_name (sym
 row_name (r ∷ g) (suc u) x h at = row_name g u x (and_parts (is_row r) (list_all is_row g) h).1 at
 
 module _ (g : Adjacency) (graph : IsGraph g) where
-  pub count : node_count (network_of_graph g) ≡ length g
+  pub count : node_count (topology_of_graph g) ≡ length g
   count = simp length-map
 
   pub name_is : (u : ℕ) → u < length g → slice_get (names g) u ≡ Some (name_at (names g) u)
@@ -65,7 +65,7 @@ module _ (g : Adjacency) (graph : IsGraph g) where
   plain_at u h = name_plain (name_at (names g) u) (row_name g u (name_at (names g) u) graph.rows (name_is u h))
 
   -- the ends of a link are linked by name
-  entry_linked : (v u i : ℕ) (e : ℕ × ℕ) → v ≡ 0 + u → row_get (rows_of g) u i ≡ Some e → v < e.0 → has_edge g (name_at (names g) v) (name_at (names g) e.0) ≡ true
+  entry_linked : (v u i : ℕ) (e : ℕ × ℕ) → v ≡ 0 + u → row_get (neighbor_rows g) u i ≡ Some e → v < e.0 → has_edge g (name_at (names g) v) (name_at (names g) e.0) ≡ true
   entry_linked v u i e eq at later =
       let entry : places.neighbor_at g u i ≡ Some e =
       sym (slice_get-map {B = ℕ × ℕ} (λ (e : Name × ℕ). (places.place_of g e.0, e.1)) (places.neighbors_at g u) i) ∙ sym (ap (λ (xs : Numbers). slice_get xs i) (row_of_node g u)) ∙ at in
@@ -75,9 +75,9 @@ module _ (g : Adjacency) (graph : IsGraph g) where
       let same : v ≡ u = omega arith in
       ap (λ n. has_edge g (name_at (names g) n) (name_at (names g) e.0)) same ∙ ap (λ x. has_edge g x (name_at (names g) e.0)) from ∙ ap (has_edge g facts.from) to ∙ ap is_some facts.weight
 
-  link_edge : (l : ℕ) (link : Link) → slice_get (network_of_graph g).links l ≡ Some link → has_edge g (name_at (names g) link.low) (name_at (names g) link.high) ≡ true
+  link_edge : (l : ℕ) (link : Link) → slice_get (topology_of_graph g).links l ≡ Some link → has_edge g (name_at (names g) link.low) (name_at (names g) link.high) ≡ true
   link_edge l link at =
-      each_link (λ (k : Link). has_edge g (name_at (names g) k.low) (name_at (names g) k.high) ≡ true) 0 (rows_of g) entry_linked l link (ap (λ (net : Network). slice_get net.links l) (sym (graph_rows g graph)) ∙ at)
+      each_link (λ (k : Link). has_edge g (name_at (names g) k.low) (name_at (names g) k.high) ≡ true) 0 (neighbor_rows g) entry_linked l link (ap (λ (net : Topology). slice_get net.links l) (sym (graph_rows g graph)) ∙ at)
 
   -- the ends of a link, by name
   pub record LinkNames (link : Link) : Type 0 where
@@ -86,9 +86,9 @@ module _ (g : Adjacency) (graph : IsGraph g) where
     pub forth : AreLinkedAs g (name_at (names g) link.low) (name_at (names g) link.high) link.low link.high
     pub back : AreLinkedAs g (name_at (names g) link.high) (name_at (names g) link.low) link.high link.low
 
-  pub link_names : (l : ℕ) (link : Link) → slice_get (network_of_graph g).links l ≡ Some link → LinkNames link
+  pub link_names : (l : ℕ) (link : Link) → slice_get (topology_of_graph g).links l ≡ Some link → LinkNames link
   link_names l link at =
-      let is : IsLink (node_count (network_of_graph g)) link = (graph_network g graph).links l link at in
+      let is : IsLink (node_count (topology_of_graph g)) link = (graph_topology g graph).links l link at in
       let high : link.high < length g = omega (arith, is.in_range, count) in
       let ordered : link.low < link.high = is.ordered in
       let low : link.low < length g = omega arith in

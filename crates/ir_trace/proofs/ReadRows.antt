@@ -14,7 +14,7 @@ use Rattle.ir_trace.specs.declared.row.Version.{Version}
 use Rattle.ir_trace.specs.declared.row.Version.TheVariants.{One, Two}
 use Rattle.ir_trace.specs.Rows.{FateText, Delivered, Retired, Down, Full, Left, PartText, RowText, IsRowText, row_words, part_words, first_part, mark, fate_words, fate_names, hop_names, is_word, is_part_text}
 use Rattle.ir_trace.specs.Spelled.{HasWords, HasNoWords, SpellsNothing}
-use Rattle.ir_trace.specs.Line.{Says}
+use Rattle.ir_trace.specs.Line.{LineSays}
 use Rattle.ir_trace.proofs.ReadSpellings.{first_word, words_behind, one_part, part_is, first_is}
 use Rattle.ir_trace.proofs.ReadLines.{is_word_byte, is_space, split-joined}
 use Rattle.std.specs.List.{slice_split}
@@ -85,7 +85,7 @@ row_words_all Two text is =
     (and_from (is_word text.dest) (list_all is_word (decimal text.weight ∷ rest)) (first_word text.dest tail from_dest)
     (and_from (is_word (decimal text.weight)) (list_all is_word rest) (decimal_word text.weight is.weight) behind)))
 
-pub says_words : (v : Version) (line : List ℕ) (text : RowText) → Says v line text → HasWords line (row_words v text)
+pub says_words : (v : Version) (line : List ℕ) (text : RowText) → LineSays v line text → HasWords line (row_words v text)
 says_words v line text is = record { some = some v; whole = is.words_are; each = row_words_all v text is.text_is }
   where
     some : (v : Version) → 0 < length (row_words v text)
@@ -93,7 +93,7 @@ says_words v line text is = record { some = some v; whole = is.words_are; each =
     some Two = omega arith
 
 -- a line that is no words says no row
-pub no_words_no_row : (v : Version) (line : List ℕ) → HasNoWords line → (text : RowText) → Says v line text → ⊥
+pub no_words_no_row : (v : Version) (line : List ℕ) → HasNoWords line → (text : RowText) → LineSays v line text → ⊥
 no_words_no_row v line other text is = other (row_words v text) (says_words v line text is)
 
 -- a line has one list of words
@@ -102,5 +102,5 @@ words_same line words more are are_more =
     sym (split-joined words are.some are.each) ∙ ap (slice_split is_space) (sym are.whole ∙ are_more.whole) ∙ split-joined more are_more.some are_more.each
 
 -- a line whose words spell no row says none
-pub nothing_no_row : (v : Version) (line : List ℕ) (words : List Name) → HasWords line words → SpellsNothing v words → (text : RowText) → Says v line text → ⊥
+pub nothing_no_row : (v : Version) (line : List ℕ) (words : List Name) → HasWords line words → SpellsNothing v words → (text : RowText) → LineSays v line text → ⊥
 nothing_no_row v line words are nothing text is = nothing text (record { text_is = is.text_is; words_are = words_same line (row_words v text) words (says_words v line text is) are })

@@ -9,7 +9,7 @@ use Rattle.ir_model.specs.Graph.{Name}
 use Rattle.ir_trace.specs.declared.TheConstants.{MAX_NUMBER}
 use Rattle.ir_trace.specs.declared.row.Version.TheVariants.{One, Two}
 use Rattle.ir_trace.specs.Rows.{FateText, Delivered, Retired, Down, Full, Left, PartText, RowText, IsRowText, row_words, part_words, first_part, mark, fate_words, fate_names, hop_names, is_word, is_part_text, fits_version}
-use Rattle.ir_trace.specs.Spelled.{texts, Spells, SpellsNothing, IsNoNumber, head_words, HasHead, HasNoHead, AreParts, AreNoParts}
+use Rattle.ir_trace.specs.Spelled.{texts, Spells, SpellsNothing, IsNoNumber, row_head, HasHead, HasNoHead, AreParts, AreNoParts}
 
 -- ---- the words of a fate tell it
 
@@ -157,7 +157,7 @@ five_words (a ∷ b ∷ c ∷ d ∷ e ∷ rest) h = ap (λ t. a.now ∷ b.now �
 
 module _ (words : List (Bor (List ℕ))) (long : 5 ≤ length words) where
   pub no_head_weight : IsNoNumber (at words 3) → HasNoHead (texts words)
-  no_head_weight other text rest is = let same : head_words text ++ rest ≡ at words 0 ∷ at words 1 ∷ at words 2 ∷ at words 3 ∷ at words 4 ∷ after words = is.whole ∙ five_words words long in other text.weight is.weight (cc same)
+  no_head_weight other text rest is = let same : row_head text ++ rest ≡ at words 0 ∷ at words 1 ∷ at words 2 ∷ at words 3 ∷ at words 4 ∷ after words = is.whole ∙ five_words words long in other text.weight is.weight (cc same)
 
   pub has_head : (fate : FateText) (held : List (Bor (List ℕ))) (id weight : ℕ) → fate_words fate ++ texts held ≡ at words 4 ∷ after words → id ≤ MAX_NUMBER → weight ≤ MAX_NUMBER → decimal id ≡ at words 0 → decimal weight ≡ at words 3
       → HasHead (texts words) (record { id = id; source = at words 1; dest = at words 2; weight = weight; fate = fate; parts = [] }) (texts held)
@@ -197,7 +197,7 @@ module _ (words : List Name) where
   module _ (head : RowText) (rest : List Name) (has : HasHead words head rest) where
     pub no_parts_row : AreNoParts rest → SpellsNothing Two words
     no_parts_row other text is =
-        let same : head_words text ++ flat_map part_words text.parts ≡ head_words head ++ rest = is.words_are ∙ sym has.whole in
+        let same : row_head text ++ flat_map part_words text.parts ≡ row_head head ++ rest = is.words_are ∙ sym has.whole in
         let tails = fate_words-same text.fate head.fate (flat_map part_words text.parts) rest (cc same) in
         other text.parts (record { words_are = tails.1; each = is.text_is.parts; version = is.text_is.version })
 
@@ -205,10 +205,10 @@ module _ (words : List Name) where
         → Spells Two words (record { id = head.id; source = head.source; dest = head.dest; weight = head.weight; fate = head.fate; parts = parts })
     parts_row parts are all = record {
       text_is = record { id = has.id; weight = has.weight; parts = are.each; version = are.version; words = names };
-      words_are = ap (λ t. head_words head ++ t) are.words_are ∙ has.whole;
+      words_are = ap (λ t. row_head head ++ t) are.words_are ∙ has.whole;
     }
       where
-        all_words : list_all is_word (head_words head ++ rest) ≡ true
+        all_words : list_all is_word (row_head head ++ rest) ≡ true
         all_words = ap (list_all is_word) has.whole ∙ all
 
         names : list_all is_word (head.source ∷ head.dest ∷ (fate_names head.fate ++ hop_names parts)) ≡ true

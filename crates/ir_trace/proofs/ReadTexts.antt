@@ -10,9 +10,9 @@ use Rattle.ir_trace.specs.declared.finding.FindingKind.TheVariants.{NotTrace, Ba
 use Rattle.ir_trace.specs.declared.row.Version.{Version}
 use Rattle.ir_trace.specs.declared.row.Version.TheVariants.{One, Two}
 use Rattle.ir_trace.specs.Rows.{RowText, IsRowText, row_words, row_line, header, trace_text}
-use Rattle.ir_trace.specs.Row.{Row}
-use Rattle.ir_trace.specs.Reading.{IsReadAs, AreReadAs, IsTraceIn, IsFaultOf, IsFirstFault, Tells}
-use Rattle.ir_trace.specs.Line.{HasNoFeed, CutsLine, Says, IsLineOf, LineTold}
+use Rattle.ir_trace.specs.Row.{TraceRow}
+use Rattle.ir_trace.specs.Reading.{IsReadAs, AreReadAs, IsTraceIn, IsFaultOf, IsFirstFault, TellsFinding}
+use Rattle.ir_trace.specs.Line.{HasNoFeed, CutsLine, LineSays, IsLineOf, LineTold}
 use Rattle.ir_trace.proofs.ReadLines.{is_word_byte, joined_all}
 use Rattle.ir_trace.proofs.ReadRows.{row_words_all}
 
@@ -47,17 +47,17 @@ pub row_no_feed : (v : Version) (text : RowText) → IsRowText v text → HasNoF
 row_no_feed v text is = joined_all is_text text_byte refl (row_words v text) (row_words_all v text is)
 
 -- a row's line at the front is the line at the front
-pub line_front : (v : Version) (rest line after : List ℕ) → CutsLine rest line after → (text : RowText) → IsRowText v text → (more : List ℕ) → rest ≡ row_line v text ++ more → Says v line text × (more ≡ after)
+pub line_front : (v : Version) (rest line after : List ℕ) → CutsLine rest line after → (text : RowText) → IsRowText v text → (more : List ℕ) → rest ≡ row_line v text ++ more → LineSays v line text × (more ≡ after)
 line_front v rest line after cut text is more e =
     let same = first_cut (join_with_byte 32 (row_words v text)) line more after (row_no_feed v text is) cut.inside (sym (append_assoc (join_with_byte 32 (row_words v text)) (10 ∷ []) more) ∙ sym e ∙ cut.whole) in
     (record { text_is = is; words_are = sym same.0 }, same.1)
 
-pub line_is_front : (v : Version) (rest line after : List ℕ) → CutsLine rest line after → (text : RowText) → Says v line text → rest ≡ row_line v text ++ after
+pub line_is_front : (v : Version) (rest line after : List ℕ) → CutsLine rest line after → (text : RowText) → LineSays v line text → rest ≡ row_line v text ++ after
 line_is_front v rest line after cut text says = cut.whole ∙ ap (λ t. t ++ 10 ∷ after) says.words_are ∙ sym (append_assoc (join_with_byte 32 (row_words v text)) (10 ∷ []) after)
 
 -- ---- the lines before this place are those of a trace, and so many
 
-pub record IsReadTo (v : Version) (g : Adjacency) (text : List ℕ) (rows : List Row) (line : ℕ) (rest : List ℕ) : Type 0 where
+pub record IsReadTo (v : Version) (g : Adjacency) (text : List ℕ) (rows : List TraceRow) (line : ℕ) (rest : List ℕ) : Type 0 where
   pub front : List ℕ
   pub whole : text ≡ front ++ rest
   pub before : IsTraceIn v g front rows
@@ -82,14 +82,14 @@ trace_text-push v texts text =
     ap (λ t. header v ++ t) (flat_map-append (row_line v) texts (text ∷ []) ∙ ap (λ t. flat_map (row_line v) texts ++ t) (append-nil (row_line v text)))
     ∙ sym (append_assoc (header v) (flat_map (row_line v) texts) (row_line v text))
 
-read_push : (v : Version) (g : Adjacency) (texts : List RowText) (rows : List Row) (text : RowText) (row : Row) → AreReadAs v g texts rows → IsRowText v text → IsReadAs g text row → AreReadAs v g (texts ++ text ∷ []) (rows ++ row ∷ [])
+read_push : (v : Version) (g : Adjacency) (texts : List RowText) (rows : List TraceRow) (text : RowText) (row : TraceRow) → AreReadAs v g texts rows → IsRowText v text → IsReadAs g text row → AreReadAs v g (texts ++ text ∷ []) (rows ++ row ∷ [])
 read_push v g [] [] text row are is read = (is, read, tt)
 read_push v g [] (r ∷ rows) text row are is read = absurd are
 read_push v g (t ∷ texts) [] text row are is read = absurd are
 read_push v g (t ∷ texts) (r ∷ rows) text row are is read = (are.0, are.1, read_push v g texts rows text row are.2 is read)
 
-module _ (v : Version) (g : Adjacency) (text : List ℕ) (rows : List Row) (line : ℕ) (rest : List ℕ) (read : IsReadTo v g text rows line rest) where
-  pub read_line : (current after : List ℕ) (row : Row) → CutsLine rest current after → IsLineOf v g current row → IsReadTo v g text (rows ++ row ∷ []) (line + 1) after
+module _ (v : Version) (g : Adjacency) (text : List ℕ) (rows : List TraceRow) (line : ℕ) (rest : List ℕ) (read : IsReadTo v g text rows line rest) where
+  pub read_line : (current after : List ℕ) (row : TraceRow) → CutsLine rest current after → IsLineOf v g current row → IsReadTo v g text (rows ++ row ∷ []) (line + 1) after
   read_line current after row cut of_line =
       let shown : rest ≡ row_line v of_line.0 ++ after = line_is_front v rest current after cut of_line.0 of_line.1 in
       record {
@@ -112,7 +112,7 @@ module _ (v : Version) (g : Adjacency) (text : List ℕ) (rows : List Row) (line
     pub no_line : HasNoFeed rest → IsFirstFault g text (line + 1) BadRow
     no_line none = first_fault BadRow (λ t is more e. no_feed_in (join_with_byte 32 (row_words v t)) more (subst HasNoFeed (e ∙ append_assoc (join_with_byte 32 (row_words v t)) (10 ∷ []) more) none))
 
-    pub line_told : (current after : List ℕ) → CutsLine rest current after → (told : ℕ) (kind : FindingKind) → LineTold v g current (line + 1) told kind → Tells g text told kind
+    pub line_told : (current after : List ℕ) → CutsLine rest current after → (told : ℕ) (kind : FindingKind) → LineTold v g current (line + 1) told kind → TellsFinding g text told kind
     line_told current after cut told NotTrace h = absurd h.1
     line_told current after cut told BadRow h =
         subst (λ n. IsFirstFault g text n BadRow) (sym h.0) (first_fault BadRow (λ t is more e. h.1 t (line_front v rest current after cut t is more e).0))

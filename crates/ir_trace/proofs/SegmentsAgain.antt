@@ -5,17 +5,17 @@ use Rattle.std.proofs.lemmas.Bool.{and_parts, and_from, le-leb, lt-ltb, ltb-true
 use Rattle.std.proofs.lemmas.List.{length-map, length-drop, length-take-le}
 use Rattle.std.proofs.lemmas.List.Folds.{list_all-append}
 use Rattle.ir_model.specs.Graph.{Adjacency, names, IsGraph}
-use Rattle.ir_model.specs.OfGraph.{network_of_graph}
+use Rattle.ir_model.specs.OfGraph.{topology_of_graph}
 use Rattle.ir_model.specs.Walk.{walk_weight}
 use Rattle.ir_core.specs.declared.packet.Restamp.{Restamp}
-use Rattle.ir_core.specs.Journey.{Journey}
+use Rattle.ir_core.specs.Record.{Record}
 use Rattle.ir_trace.specs.declared.TheConstants.{MAX_NUMBER, MAX_SEGMENTS}
 use Rattle.ir_trace.specs.declared.finding.Finding.{Finding}
 use Rattle.ir_trace.specs.declared.finding.FindingKind.TheVariants.{NoMemory}
 use Rattle.ir_trace.specs.declared.row.Version.TheVariants.{Two}
-use Rattle.ir_trace.specs.Row.{Part, Row}
+use Rattle.ir_trace.specs.Row.{Segment, TraceRow}
 use Rattle.ir_trace.specs.Rows.{PartText, IsRowText, fate_names, hop_names, is_word, is_mark, is_part_text}
-use Rattle.ir_trace.specs.Reading.{node_named, PartsAreReadAs, IsReadAs, AreReadAs, IsTrace, Tells}
+use Rattle.ir_trace.specs.Reading.{node_named, PartsAreReadAs, IsReadAs, AreReadAs, IsTrace, TellsFinding}
 use Rattle.ir_trace.specs.Written.{name_at, fate_text, parts_of, named, segments_row, HasSegments, HaveSegments}
 use Rattle.ir_trace.specs.Again.{segments_again, AreSegmentsNumbered, AreSegmentsOf}
 use Rattle.ir_trace.specs.Checked.{is_part_over}
@@ -67,13 +67,13 @@ module _ (g : Adjacency) (graph : IsGraph g) where
         back = cc (here, rest);
       }
 
-  record PartsFacts (parts : List Part) : Type 0 where
+  record PartsFacts (parts : List Segment) : Type 0 where
     each : list_all is_part_text (map (named (names g)) parts) ≡ true
     plain : list_all (λ part. list_all (λ w. not (is_mark w)) part.hops) (map (named (names g)) parts) ≡ true
     words : list_all is_word (hop_names (map (named (names g)) parts)) ≡ true
     read : PartsAreReadAs g (map (named (names g)) parts) parts
 
-  parts_facts : (parts : List Part) → list_all (is_part_over (length g)) parts ≡ true → list_all (λ part. nat_le part.epoch MAX_NUMBER) parts ≡ true → PartsFacts parts
+  parts_facts : (parts : List Segment) → list_all (is_part_over (length g)) parts ≡ true → list_all (λ part. nat_le part.epoch MAX_NUMBER) parts ≡ true → PartsFacts parts
   parts_facts [] over small = record { each = refl; plain = refl; words = refl; read = tt }
   parts_facts (part ∷ parts) over small =
       let both = and_parts (is_part_over (length g) part) (list_all (is_part_over (length g)) parts) over in
@@ -90,13 +90,13 @@ module _ (g : Adjacency) (graph : IsGraph g) where
         read = (refl, facts.back, later.read);
       }
 
-  record RowFacts (r : Journey) : Type 0 where
-    text_is : IsRowText Two (segments_row (names g) (network_of_graph g) r)
-    read : IsReadAs g (segments_row (names g) (network_of_graph g) r) (segments_again (network_of_graph g) r)
+  record RowFacts (r : Record) : Type 0 where
+    text_is : IsRowText Two (segments_row (names g) (topology_of_graph g) r)
+    read : IsReadAs g (segments_row (names g) (topology_of_graph g) r) (segments_again (topology_of_graph g) r)
 
-  row_facts : (r : Journey) → HasSegments (network_of_graph g) r → r.id ≤ MAX_NUMBER → list_all (λ part. nat_le part.epoch MAX_NUMBER) (parts_of r) ≡ true → RowFacts r
+  row_facts : (r : Record) → HasSegments (topology_of_graph g) r → r.id ≤ MAX_NUMBER → list_all (λ part. nat_le part.epoch MAX_NUMBER) (parts_of r) ≡ true → RowFacts r
   row_facts r has id small =
-      let net = network_of_graph g in
+      let net = topology_of_graph g in
       let is = has.writable in
       let hops = hops_facts g graph is.first is.last r.hops is.hops in
       let fate = fate_facts g graph r.fate is.fate in
@@ -104,10 +104,10 @@ module _ (g : Adjacency) (graph : IsGraph g) where
       let up = ascending (length r.hops) r.restamps has.places in
       let N : ℕ → Type 0 = λ n. list_all (λ u. nat_lt u n) r.hops ≡ true in
       let within : list_all (λ u. nat_lt u (length g)) r.hops ≡ true = subst N (count g graph) (walk_within net is.first is.last r.hops is.hops) in
-      let O : List Part → Type 0 = λ ps. list_all (is_part_over (length g)) ps ≡ true in
+      let O : List Segment → Type 0 = λ ps. list_all (is_part_over (length g)) ps ≡ true in
       let over = subst O (sym parts) (parts_over (length g) r.epoch 0 r.hops r.restamps within hops.some up) in
       let facts = parts_facts (parts_of r) over small in
-      let weight : sum_by (λ (part : Part). walk_weight net part.hops) (parts_of r) ≡ walk_weight net r.hops = ap (sum_by (λ (part : Part). walk_weight net part.hops)) parts ∙ parts_weigh net r.epoch 0 r.hops r.restamps up in
+      let weight : sum_by (λ (part : Segment). walk_weight net part.hops) (parts_of r) ≡ walk_weight net r.hops = ap (sum_by (λ (part : Segment). walk_weight net part.hops)) parts ∙ parts_weigh net r.epoch 0 r.hops r.restamps up in
       let many : length (map (named (names g)) (parts_of r)) ≡ suc (length r.restamps) = length-map (parts_of r) (named (names g)) ∙ ap length parts ∙ as_many r.epoch 0 r.hops r.restamps in
       let texts = map (named (names g)) (parts_of r) in
       let tail = fate_names (fate_text (names g) net r.fate) in
@@ -132,17 +132,17 @@ module _ (g : Adjacency) (graph : IsGraph g) where
         };
       }
 
-  rows_read : (records : List Journey) → HaveSegments (network_of_graph g) records → AreSegmentsNumbered records → AreReadAs Two g (map (segments_row (names g) (network_of_graph g)) records) (map (segments_again (network_of_graph g)) records)
+  rows_read : (records : List Record) → HaveSegments (topology_of_graph g) records → AreSegmentsNumbered records → AreReadAs Two g (map (segments_row (names g) (topology_of_graph g)) records) (map (segments_again (topology_of_graph g)) records)
   rows_read [] are numbered = tt
   rows_read (r ∷ records) are numbered =
       let small = numbered 0 r refl in
       let facts = row_facts r (are 0 r refl) small.0 small.1 in
       (facts.text_is, facts.read, rows_read records (λ i q at. are (suc i) q at) (λ i q at. numbered (suc i) q at))
 
-  written : (text : List ℕ) (records : List Journey) → AreSegmentsOf g text records → IsTrace g text (map (segments_again (network_of_graph g)) records)
-  written text records is = (Two, (map (segments_row (names g) (network_of_graph g)) records, is.whole, rows_read records is.writable is.numbered))
+  written : (text : List ℕ) (records : List Record) → AreSegmentsOf g text records → IsTrace g text (map (segments_again (topology_of_graph g)) records)
+  written text records is = (Two, (map (segments_row (names g) (topology_of_graph g)) records, is.whole, rows_read records is.writable is.numbered))
 
-  pub segments_read : (text : List ℕ) (r : Result (List Row) Finding) → IfOk r (λ rows. IsTrace g text rows) → IfErr r (λ e. Tells g text e.line e.kind) → (records : List Journey) → AreSegmentsOf g text records
-      → MatchResult r (λ rows. rows ≡ map (segments_again (network_of_graph g)) records) (λ e. e.kind ≡ NoMemory)
-  segments_read text (Ok rows) read told records is = trace_same g text rows (map (segments_again (network_of_graph g)) records) read (written text records is)
-  segments_read text (Err e) read told records is = trace_told g text (map (segments_again (network_of_graph g)) records) (written text records is) e.line e.kind told
+  pub segments_read : (text : List ℕ) (r : Result (List TraceRow) Finding) → IfOk r (λ rows. IsTrace g text rows) → IfErr r (λ e. TellsFinding g text e.line e.kind) → (records : List Record) → AreSegmentsOf g text records
+      → MatchResult r (λ rows. rows ≡ map (segments_again (topology_of_graph g)) records) (λ e. e.kind ≡ NoMemory)
+  segments_read text (Ok rows) read told records is = trace_same g text rows (map (segments_again (topology_of_graph g)) records) read (written text records is)
+  segments_read text (Err e) read told records is = trace_told g text (map (segments_again (topology_of_graph g)) records) (written text records is) e.line e.kind told

@@ -4,12 +4,12 @@ use Rattle.std.specs.List.{list_all}
 use Rattle.std.proofs.lemmas.Bool.{and_parts, and_from}
 use Rattle.std.proofs.lemmas.List.{reverse-append, reverse-reverse, drop-drop, length-drop, length-take-le}
 use Rattle.std.proofs.lemmas.List.Sums.{sum_by-cons}
-use Rattle.ir_model.specs.Network.{Network}
+use Rattle.ir_model.specs.Topology.{Topology}
 use Rattle.ir_model.specs.Walk.{weight_from, walk_weight}
 use Rattle.ir_core.specs.declared.packet.Restamp.{Restamp}
-use Rattle.ir_core.specs.Journey.{Journey, present_in, until, segments_in}
+use Rattle.ir_core.specs.Record.{Record, present_in, until, segments_in}
 use Rattle.ir_core.specs.Sound.{ArePlaces}
-use Rattle.ir_trace.specs.Row.{Part}
+use Rattle.ir_trace.specs.Row.{Segment}
 use Rattle.ir_trace.specs.Written.{parts_of}
 use Rattle.ir_trace.specs.Stretches.{parts_from, AreAscending}
 
@@ -25,25 +25,25 @@ all_take p (suc n) (x ∷ xs) h = let both = and_parts (p x) (list_all p xs) h i
 
 -- ---- weights
 
-split_from : (net : Network) (u : ℕ) (rest : List ℕ) (k : ℕ) → k ≤ length rest → weight_from net u (take k rest) + walk_weight net (drop k (u ∷ rest)) ≡ weight_from net u rest
+split_from : (net : Topology) (u : ℕ) (rest : List ℕ) (k : ℕ) → k ≤ length rest → weight_from net u (take k rest) + walk_weight net (drop k (u ∷ rest)) ≡ weight_from net u rest
 split_from net u rest zero le = omega arith
 split_from net u [] (suc k) le = absurd (omega arith)
 split_from net u (v ∷ rest) (suc k) le = omega (arith, split_from net v rest k (omega arith))
 
 -- two parts with one node in common weigh what the whole does
-split_weight : (net : Network) (xs : List ℕ) (k : ℕ) → k < length xs → walk_weight net (take (k + 1) xs) + walk_weight net (drop k xs) ≡ walk_weight net xs
+split_weight : (net : Topology) (xs : List ℕ) (k : ℕ) → k < length xs → walk_weight net (take (k + 1) xs) + walk_weight net (drop k xs) ≡ walk_weight net xs
 split_weight net [] k lt = absurd (omega arith)
 split_weight net (u ∷ rest) k lt =
     let one : k + 1 ≡ suc k = omega arith in
     rw one (split_from net u rest k (omega arith))
 
-abbrev weigh : Network → Part → ℕ
+abbrev weigh : Topology → Segment → ℕ
 weigh net part = walk_weight net part.hops
 
-pub parts_weigh : (net : Network) (epoch from : ℕ) (hops : List ℕ) (restamps : List Restamp) → AreAscending from (length hops) restamps → sum_by (λ part. walk_weight net part.hops) (parts_from epoch from hops restamps) ≡ walk_weight net (drop from hops)
+pub parts_weigh : (net : Topology) (epoch from : ℕ) (hops : List ℕ) (restamps : List Restamp) → AreAscending from (length hops) restamps → sum_by (λ part. walk_weight net part.hops) (parts_from epoch from hops restamps) ≡ walk_weight net (drop from hops)
 parts_weigh net epoch from hops [] up = omega (arith, sum_by-cons (weigh net) (record { epoch = epoch; hops = drop from hops }) [])
 parts_weigh net epoch from hops (s ∷ later) up =
-    let part : Part = record { epoch = epoch; hops = take ((s.from + 1) - from) (drop from hops) } in
+    let part : Segment = record { epoch = epoch; hops = take ((s.from + 1) - from) (drop from hops) } in
     let here = sum_by-cons (weigh net) part (parts_from s.epoch s.from hops later) in
     let rest = parts_weigh net s.epoch s.from hops later up.2 in
     let k = s.from - from in
@@ -109,21 +109,21 @@ parts_push epoch from m hops (x ∷ restamps) s up e =
     let hops_same : take ((x.from + 1) - from) (drop from (take (s.from + 1) hops)) ≡ take ((x.from + 1) - from) (drop from hops) = take_drop_take ((x.from + 1) - from) from (s.from + 1) hops (omega (arith, e)) in
     let later = parts_push x.epoch x.from m hops restamps s up.2 e in
     ap (λ (xs : List ℕ). record { epoch = epoch; hops = xs } ∷ parts_from x.epoch x.from hops (restamps ++ s ∷ [])) (sym hops_same)
-    ∙ ap (λ (ps : List Part). record { epoch = epoch; hops = take ((x.from + 1) - from) (drop from (take (s.from + 1) hops)) } ∷ ps) later
+    ∙ ap (λ (ps : List Segment). record { epoch = epoch; hops = take ((x.from + 1) - from) (drop from (take (s.from + 1) hops)) } ∷ ps) later
 
-seen : Journey → Part
+seen : Record → Segment
 seen g = record { epoch = g.epoch; hops = g.hops }
 
-segments_are : (latest : List Restamp) (r : Journey) → ArePlaces (length r.hops) latest → reverse (map (λ (g : Journey). record { epoch = g.epoch; hops = g.hops }) (segments_in latest r)) ≡ parts_from r.epoch 0 r.hops (reverse latest)
+segments_are : (latest : List Restamp) (r : Record) → ArePlaces (length r.hops) latest → reverse (map (λ (g : Record). record { epoch = g.epoch; hops = g.hops }) (segments_in latest r)) ≡ parts_from r.epoch 0 r.hops (reverse latest)
 segments_are [] r are = refl
 segments_are (s ∷ older) r are =
-    let f = λ (g : Journey). (let part : Part = record { epoch = g.epoch; hops = g.hops } in part) in
+    let f = λ (g : Record). (let part : Segment = record { epoch = g.epoch; hops = g.hops } in part) in
     let lt : s.from < length r.hops = are.0 in
     let long : length (until s r).hops ≡ s.from + 1 = length-take-le (s.from + 1) r.hops (omega arith) in
     let places : ArePlaces (length (until s r).hops) older = wider s.from (length (until s r).hops) older are.1 (omega (arith, long)) in
     let before = segments_are older (until s r) places in
     reverse-append (f (present_in (s ∷ older) r) ∷ []) (map f (segments_in older (until s r)))
-    ∙ ap (λ (ps : List Part). ps ++ record { epoch = s.epoch; hops = drop s.from r.hops } ∷ []) before
+    ∙ ap (λ (ps : List Segment). ps ++ record { epoch = s.epoch; hops = drop s.from r.hops } ∷ []) before
     ∙ sym (parts_push r.epoch 0 s.from r.hops (reverse older) s (ascending_from s.from older are.1) refl)
     ∙ ap (parts_from r.epoch 0 r.hops) (sym (reverse-append (s ∷ []) older))
   where
@@ -131,5 +131,5 @@ segments_are (s ∷ older) r are =
     wider m n [] are le = tt
     wider m n (x ∷ rs) are le = (let a : x.from < m = are.0 in omega arith, are.1)
 
-pub parts_are : (r : Journey) → ArePlaces (length r.hops) (reverse r.restamps) → parts_of r ≡ parts_from r.epoch 0 r.hops r.restamps
+pub parts_are : (r : Record) → ArePlaces (length r.hops) (reverse r.restamps) → parts_of r ≡ parts_from r.epoch 0 r.hops r.restamps
 parts_are r are = segments_are (reverse r.restamps) r are ∙ ap (parts_from r.epoch 0 r.hops) (reverse-reverse r.restamps)

@@ -10,10 +10,10 @@ use Rattle.ir_trace.specs.declared.finding.FindingKind.TheVariants.{NotTrace, Ba
 use Rattle.ir_trace.specs.declared.row.Version.{Version}
 use Rattle.ir_trace.specs.declared.row.Version.TheVariants.{One, Two}
 use Rattle.ir_trace.specs.Rows.{FateText, Delivered, Retired, Down, Full, Left, PartText, RowText, IsRowText, row_words, part_words, first_part, row_line, header}
-use Rattle.ir_trace.specs.Row.{Part, Row}
-use Rattle.ir_trace.specs.Reading.{FateIsReadAs, PartsAreReadAs, IsReadAs, AreReadAs, IsTraceIn, IsTrace, IsFirstFault, Tells}
+use Rattle.ir_trace.specs.Row.{Segment, TraceRow}
+use Rattle.ir_trace.specs.Reading.{FateIsReadAs, PartsAreReadAs, IsReadAs, AreReadAs, IsTraceIn, IsTrace, IsFirstFault, TellsFinding}
 use Rattle.ir_trace.specs.Spelled.{AreParts}
-use Rattle.ir_trace.specs.Line.{Says}
+use Rattle.ir_trace.specs.Line.{LineSays}
 use Rattle.ir_trace.proofs.ReadSpellings.{fate_words-same, one_part, first_is}
 use Rattle.ir_trace.proofs.ReadParts.{all_same}
 use Rattle.ir_trace.proofs.ReadRows.{says_words, words_same}
@@ -58,15 +58,15 @@ row_line-same v a b is is' more others e =
     let line = join_with_byte 32 (row_words v a) in
     let same = first_cut line (join_with_byte 32 (row_words v b)) more others (row_no_feed v a is) (row_no_feed v b is')
     (sym (append_assoc line (10 ∷ []) more) ∙ e ∙ append_assoc (join_with_byte 32 (row_words v b)) (10 ∷ []) others) in
-    let says : Says v line a = record { text_is = is; words_are = refl } in
-    let says' : Says v line b = record { text_is = is'; words_are = same.0 } in
+    let says : LineSays v line a = record { text_is = is; words_are = refl } in
+    let says' : LineSays v line b = record { text_is = is'; words_are = same.0 } in
     (row_words-same v a b is is' (words_same line (row_words v a) (row_words v b) (says_words v line a says) (says_words v line b says')), same.1)
 
 abbrev AreTexts : Version → List RowText → Type 0
 AreTexts v [] = Unit {0}
 AreTexts v (t ∷ ts) = IsRowText v t × AreTexts v ts
 
-are_texts : (v : Version) (g : Adjacency) (texts : List RowText) (rows : List Row) → AreReadAs v g texts rows → AreTexts v texts
+are_texts : (v : Version) (g : Adjacency) (texts : List RowText) (rows : List TraceRow) → AreReadAs v g texts rows → AreTexts v texts
 are_texts v g [] [] are = tt
 are_texts v g [] (r ∷ rows) are = absurd are
 are_texts v g (t ∷ texts) [] are = absurd are
@@ -123,7 +123,7 @@ fate_same g (Full x y) a b h k =
     cc (from, to, h.3, k.3)
 fate_same g Left a b h k = h ∙ sym k
 
-parts_same : (g : Adjacency) (texts : List PartText) (a b : List Part) → PartsAreReadAs g texts a → PartsAreReadAs g texts b → a ≡ b
+parts_same : (g : Adjacency) (texts : List PartText) (a b : List Segment) → PartsAreReadAs g texts a → PartsAreReadAs g texts b → a ≡ b
 parts_same g [] [] [] h k = refl
 parts_same g [] [] (y ∷ ys) h k = absurd k
 parts_same g [] (x ∷ xs) b h k = absurd h
@@ -136,7 +136,7 @@ parts_same g (t ∷ texts) (x ∷ xs) (y ∷ ys) h k =
     let tail = parts_same g texts xs ys h.2 k.2 in
     cc (part, tail)
 
-row_same : (g : Adjacency) (text : RowText) (a b : Row) → IsReadAs g text a → IsReadAs g text b → a ≡ b
+row_same : (g : Adjacency) (text : RowText) (a b : TraceRow) → IsReadAs g text a → IsReadAs g text b → a ≡ b
 row_same g text a b h k =
     let id : a.id ≡ b.id = h.id ∙ sym k.id in
     let source : a.source ≡ b.source = cc (h.source, k.source) in
@@ -146,7 +146,7 @@ row_same g text a b h k =
     let parts : a.parts ≡ b.parts = parts_same g text.parts a.parts b.parts h.parts k.parts in
     λ i. record { id = id i; source = source i; dest = dest i; weight = weight i; fate = fate i; parts = parts i }
 
-rows_same : (v : Version) (g : Adjacency) (texts : List RowText) (a b : List Row) → AreReadAs v g texts a → AreReadAs v g texts b → a ≡ b
+rows_same : (v : Version) (g : Adjacency) (texts : List RowText) (a b : List TraceRow) → AreReadAs v g texts a → AreReadAs v g texts b → a ≡ b
 rows_same v g [] [] [] h k = refl
 rows_same v g [] [] (y ∷ ys) h k = absurd k
 rows_same v g [] (x ∷ xs) b h k = absurd h
@@ -160,14 +160,14 @@ rows_same v g (t ∷ texts) (x ∷ xs) (y ∷ ys) h k = let head = row_same g t 
 same_version : (v w : Version) (text a b : List ℕ) → text ≡ header v ++ a → text ≡ header w ++ b → v ≡ w
 same_version v w text a b h k = one_version v w a b (sym h ∙ k)
 
-in_same : (v : Version) (g : Adjacency) (text : List ℕ) (a b : List Row) → IsTraceIn v g text a → IsTraceIn v g text b → a ≡ b
+in_same : (v : Version) (g : Adjacency) (text : List ℕ) (a b : List TraceRow) → IsTraceIn v g text a → IsTraceIn v g text b → a ≡ b
 in_same v g text a b h k =
     let lines : flat_map (row_line v) h.0 ≡ flat_map (row_line v) k.0 = behind_header v _ _ (sym h.1 ∙ k.1) in
     let found = front_rows v h.0 k.0 (are_texts v g h.0 a h.2) (are_texts v g k.0 b k.2) [] (append-nil (flat_map (row_line v) h.0) ∙ lines) in
     let one : k.0 ≡ h.0 = found.1 ∙ ap (λ m. h.0 ++ m) (no_rows v found.0 (sym found.2)) ∙ append-nil h.0 in
     rows_same v g h.0 a b h.2 (subst (λ ts. AreReadAs v g ts b) one k.2)
 
-pub trace_same : (g : Adjacency) (text : List ℕ) (a b : List Row) → IsTrace g text a → IsTrace g text b → a ≡ b
+pub trace_same : (g : Adjacency) (text : List ℕ) (a b : List TraceRow) → IsTrace g text a → IsTrace g text b → a ≡ b
 trace_same g text a b h k =
     let same : k.0 ≡ h.0 = same_version k.0 h.0 text (flat_map (row_line k.0) k.1.0) (flat_map (row_line h.0) h.1.0) k.1.1 h.1.1 in
     in_same h.0 g text a b h.1 (subst (λ (v : Version). IsTraceIn v g text b) same k.1)
@@ -175,20 +175,20 @@ trace_same g text a b h k =
 -- a row that can be read stands at the front
 record IsFront (v : Version) (g : Adjacency) (rest : List ℕ) : Type 0 where
   text : RowText
-  row : Row
+  row : TraceRow
   more : List ℕ
   text_is : IsRowText v text
   read : IsReadAs g text row
   shown : rest ≡ row_line v text ++ more
 
-front_of : (v : Version) (g : Adjacency) (front : List RowText) (rows : List Row) (t : RowText) (more : List RowText) → AreReadAs v g (front ++ t ∷ more) rows → (rest : List ℕ) → rest ≡ flat_map (row_line v) (t ∷ more) → IsFront v g rest
+front_of : (v : Version) (g : Adjacency) (front : List RowText) (rows : List TraceRow) (t : RowText) (more : List RowText) → AreReadAs v g (front ++ t ∷ more) rows → (rest : List ℕ) → rest ≡ flat_map (row_line v) (t ∷ more) → IsFront v g rest
 front_of v g [] [] t more are rest e = absurd are
 front_of v g [] (row ∷ rows) t more are rest e = record { text = t; row = row; more = flat_map (row_line v) more; text_is = are.0; read = are.1; shown = e }
 front_of v g (s ∷ front) [] t more are rest e = absurd are
 front_of v g (s ∷ front) (row ∷ rows) t more are rest e = front_of v g front rows t more are.2 rest e
 
 -- what a fault stands at begins with a row that can be read
-fault_front : (g : Adjacency) (text : List ℕ) (rows : List Row) → IsTrace g text rows → (line : ℕ) (kind : FindingKind) (fault : IsFirstFault g text line kind) → IsFront fault.version g fault.rest
+fault_front : (g : Adjacency) (text : List ℕ) (rows : List TraceRow) → IsTrace g text rows → (line : ℕ) (kind : FindingKind) (fault : IsFirstFault g text line kind) → IsFront fault.version g fault.rest
 fault_front g text rows all line kind fault = by found.0 found.1 found.2
   where
     v : Version
@@ -213,7 +213,7 @@ fault_front g text rows all line kind fault = by found.0 found.1 found.2
     by [] split e = absurd (omega (arith, fault.more, ap length e))
     by (t ∷ more) split e = front_of fault.version g fault.before.0 rows t more (subst (λ ts. AreReadAs fault.version g ts rows) split is.2) fault.rest e
 
-pub trace_told : (g : Adjacency) (text : List ℕ) (rows : List Row) → IsTrace g text rows → (line : ℕ) (kind : FindingKind) → Tells g text line kind → kind ≡ NoMemory
+pub trace_told : (g : Adjacency) (text : List ℕ) (rows : List TraceRow) → IsTrace g text rows → (line : ℕ) (kind : FindingKind) → TellsFinding g text line kind → kind ≡ NoMemory
 trace_told g text rows is line NotTrace h = absurd (h.1 is.0 (flat_map (row_line is.0) is.1.0) is.1.1)
 trace_told g text rows is line BadRow h = let front = fault_front g text rows is line BadRow h in absurd (h.fault front.text front.text_is front.more front.shown)
 trace_told g text rows is line UnknownNode h =

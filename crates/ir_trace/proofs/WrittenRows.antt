@@ -5,26 +5,26 @@ use Rattle.std.proofs.lemmas.Bool.{lt-ltb, cases_lt}
 use Rattle.std.proofs.lemmas.List.{append-nil, get_or_past}
 use Rattle.std.proofs.lemmas.Option.{slice_get_within}
 use Rattle.std.proofs.lemmas.Grind.{flat_map-append}
-use Rattle.ir_model.specs.Network.{Network, node_count, ports_of}
+use Rattle.ir_model.specs.Topology.{Topology, node_count, ports_of}
 use Rattle.ir_model.specs.Walk.{Linked, LeadsTo, IsWalk}
 use Rattle.ir_trace.specs.Rows.{spaced}
 
 -- a node with a port is a node
-linked_within : (net : Network) (u v : ℕ) → Linked net u v → u < node_count net
+linked_within : (net : Topology) (u v : ℕ) → Linked net u v → u < node_count net
 linked_within net u v step =
     let some : step.0 < length (ports_of net u) = slice_get_within (ports_of net u) step.0 step.1 step.2 in
     ⊎_elim (λ (lt : u < node_count net). lt)
     (λ (ge : node_count net ≤ u). let none : ports_of net u ≡ [] = get_or_past net.ports u [] ge in absurd (omega (arith, some, ap length none)))
     (cases_lt u (node_count net))
 
-leads_within : (net : Network) (u d : ℕ) (rest : List ℕ) → LeadsTo net u d rest → list_all (λ x. nat_lt x (node_count net)) (u ∷ rest) ≡ true
+leads_within : (net : Topology) (u d : ℕ) (rest : List ℕ) → LeadsTo net u d rest → list_all (λ x. nat_lt x (node_count net)) (u ∷ rest) ≡ true
 leads_within net u d [] way =
     let within : u < node_count net = omega (arith, way.0, way.1) in rw (lt-ltb u (node_count net) within) refl
 leads_within net u d (v ∷ rest) way =
     rw (lt-ltb u (node_count net) (linked_within net u v way.0)) (leads_within net v d rest way.1)
 
 -- each node of a walk is a node
-pub walk_within : (net : Network) (u d : ℕ) (hops : List ℕ) → IsWalk net u d hops → list_all (λ x. nat_lt x (node_count net)) hops ≡ true
+pub walk_within : (net : Topology) (u d : ℕ) (hops : List ℕ) → IsWalk net u d hops → list_all (λ x. nat_lt x (node_count net)) hops ≡ true
 walk_within net u d [] walk = absurd walk
 walk_within net u d (x ∷ rest) walk =
     let P : ℕ → Type 0 = λ y. list_all (λ z. nat_lt z (node_count net)) (y ∷ rest) ≡ true in

@@ -2,20 +2,20 @@
 use Rattle.std.specs.Prelude.{◌≡◌, ℕ, ◌≤◌, true, List, [], ◌∷◌, sum_by, nat_le, slice_get, Some}
 use Rattle.std.specs.List.{list_all}
 use Rattle.ir_model.specs.Graph.{Adjacency, names}
-use Rattle.ir_model.specs.Network.{Network}
-use Rattle.ir_model.specs.OfGraph.{network_of_graph}
+use Rattle.ir_model.specs.Topology.{Topology}
+use Rattle.ir_model.specs.OfGraph.{topology_of_graph}
 use Rattle.ir_model.specs.Walk.{walk_weight}
-use Rattle.ir_core.specs.Journey.{Journey}
+use Rattle.ir_core.specs.Record.{Record}
 use Rattle.ir_core.specs.declared.packet.Fate.{Fate}
 use Rattle.ir_core.specs.declared.packet.Fate.TheVariants as fate
 use Rattle.ir_trace.specs.declared.TheConstants.{MAX_NUMBER}
 use Rattle.ir_trace.specs.declared.row.RowFate.{RowFate}
 use Rattle.ir_trace.specs.declared.row.RowFate.TheVariants as read
-use Rattle.ir_trace.specs.Row.{Row}
+use Rattle.ir_trace.specs.Row.{TraceRow}
 use Rattle.ir_trace.specs.Written.{link_at, other_end, records_text, AreWritable, parts_of, segments_text, HaveSegments}
 
 -- the fate of a record, with the ends of its link
-abbrev pub fate_again : Network → Fate → RowFate
+abbrev pub fate_again : Topology → Fate → RowFate
 fate_again net fate.Delivered = read.Delivered
 fate_again net fate.Retired = read.Retired
 fate_again net (fate.Down l) = read.Down (link_at net l).low (link_at net l).high
@@ -23,7 +23,7 @@ fate_again net (fate.Full l to) = read.Full (other_end (link_at net l) to) to
 fate_again net fate.Left = read.Left
 
 -- the row of a record, as it is read: its weight is that of its hops
-abbrev pub row_again : Network → Journey → Row
+abbrev pub row_again : Topology → Record → TraceRow
 row_again net r = record {
   id = r.id;
   source = r.source;
@@ -34,19 +34,19 @@ row_again net r = record {
 }
 
 -- a row can hold the numbers of each record
-abbrev pub AreNumbered : List Journey → Type 0
-AreNumbered records = (i : ℕ) (r : Journey) → slice_get records i ≡ Some r → (r.id ≤ MAX_NUMBER) × (r.epoch ≤ MAX_NUMBER)
+abbrev pub AreHeldByRows : List Record → Type 0
+AreHeldByRows records = (i : ℕ) (r : Record) → slice_get records i ≡ Some r → (r.id ≤ MAX_NUMBER) × (r.epoch ≤ MAX_NUMBER)
 
 -- The text is the trace of these records over the graph, whose rows can be written.
-pub record IsTraceOf (g : Adjacency) (text : List ℕ) (records : List Journey) : Type 0 where
-  pub writable : AreWritable (network_of_graph g) records
-  pub numbered : AreNumbered records
-  pub whole : text ≡ records_text (names g) (network_of_graph g) records
+pub record IsTraceOf (g : Adjacency) (text : List ℕ) (records : List Record) : Type 0 where
+  pub writable : AreWritable (topology_of_graph g) records
+  pub numbered : AreHeldByRows records
+  pub whole : text ≡ records_text (names g) (topology_of_graph g) records
 
 -- ---- the second version
 
 -- the row of a record, as it is read: its parts are the segments
-abbrev pub segments_again : Network → Journey → Row
+abbrev pub segments_again : Topology → Record → TraceRow
 segments_again net r = record {
   id = r.id;
   source = r.source;
@@ -57,11 +57,11 @@ segments_again net r = record {
 }
 
 -- a row can hold the numbers of each record and of its segments
-abbrev pub AreSegmentsNumbered : List Journey → Type 0
-AreSegmentsNumbered records = (i : ℕ) (r : Journey) → slice_get records i ≡ Some r → (r.id ≤ MAX_NUMBER) × (list_all (λ part. nat_le part.epoch MAX_NUMBER) (parts_of r) ≡ true)
+abbrev pub AreSegmentsNumbered : List Record → Type 0
+AreSegmentsNumbered records = (i : ℕ) (r : Record) → slice_get records i ≡ Some r → (r.id ≤ MAX_NUMBER) × (list_all (λ part. nat_le part.epoch MAX_NUMBER) (parts_of r) ≡ true)
 
 -- The text is the trace of these records over the graph in the second version.
-pub record AreSegmentsOf (g : Adjacency) (text : List ℕ) (records : List Journey) : Type 0 where
-  pub writable : HaveSegments (network_of_graph g) records
+pub record AreSegmentsOf (g : Adjacency) (text : List ℕ) (records : List Record) : Type 0 where
+  pub writable : HaveSegments (topology_of_graph g) records
   pub numbered : AreSegmentsNumbered records
-  pub whole : text ≡ segments_text (names g) (network_of_graph g) records
+  pub whole : text ≡ segments_text (names g) (topology_of_graph g) records

@@ -3,12 +3,13 @@ use Rattle.std.specs.Prelude.{◌≡◌, ℕ, ◌+◌, ◌-◌, ◌<◌, ◌≤�
 use Rattle.std.specs.List.{list_all}
 use Rattle.ir_model.specs.declared.Kind.{Kind}
 use Rattle.ir_model.specs.declared.Kind.TheVariants.{Tree, Shortest, Compact}
-use Rattle.ir_model.specs.Network.{Network, node_count, restrict}
+use Rattle.ir_model.specs.Topology.{Topology, node_count, restrict}
 use Rattle.ir_model.specs.Walk.{IsConnected, IsDistance, walk_weight}
 use Rattle.ir_model.specs.Table.{IsPrescribedWalk}
-use Rattle.ir_model.specs.Scheme.{Scheme, table_port}
+use Rattle.ir_model.specs.Plan.{Plan, table_port}
 use Rattle.ir_core.specs.declared.built.Install.{Install}
 use Rattle.ir_core.specs.Meaning.{IsMade}
+use Rattle.ir_core.specs.Setting.{no_plan}
 use mathlib.Core.List.{IsPrefix}
 use Rattle.ir_core.specs.Sound.{last_of}
 use Rattle.ir_trace.specs.declared.TheConstants.{MAX_SEGMENTS}
@@ -16,75 +17,72 @@ use Rattle.ir_trace.specs.declared.row.RowFate.{RowFate}
 use Rattle.ir_trace.specs.declared.row.RowFate.TheVariants.{Delivered, Retired, Down, Full, Left}
 use Rattle.ir_trace.specs.declared.finding.FindingKind.{FindingKind}
 use Rattle.ir_trace.specs.declared.finding.FindingKind.TheVariants.{UnknownEpoch, NotAPrefix, NotAtDestination, BadWeight, Repeated, NoMemory}
-use Rattle.ir_trace.specs.Row.{Part, Row}
+use Rattle.ir_trace.specs.Row.{Segment, TraceRow}
 
 -- ---- the epochs
 
 -- What an epoch can be installed with: a mark for each link, of which those that are up join all nodes, and a root.
-pub record IsInstall (net : Network) (install : Install) : Type 0 where
+pub record IsInstall (net : Topology) (install : Install) : Type 0 where
   pub root : install.root < node_count net
   pub marks : length install.up.items ≡ length net.links
   pub joined : IsConnected (restrict install.up.items net)
 
-abbrev pub AreInstalls : Network → List Install → Type 0
+abbrev pub AreInstalls : Topology → List Install → Type 0
 AreInstalls net installs = (i : ℕ) (install : Install) → slice_get installs i ≡ Some install → IsInstall net install
 
--- a scheme for each epoch: of the kind and root of its install, over the links that were up
-abbrev pub AreSchemesOf : Network → List Install → List Scheme → Type 0
-AreSchemesOf net [] [] = Unit {0}
-AreSchemesOf net [] (t ∷ plans) = ⊥
-AreSchemesOf net (i ∷ installs) [] = ⊥
-AreSchemesOf net (i ∷ installs) (t ∷ plans) = IsMade i.labels i.kind i.root (restrict i.up.items net) (Some t) × AreSchemesOf net installs plans
+-- a plan for each epoch: of the kind and root of its install, over the links that were up
+abbrev pub ArePlansOf : Topology → List Install → List Plan → Type 0
+ArePlansOf net [] [] = Unit {0}
+ArePlansOf net [] (t ∷ plans) = ⊥
+ArePlansOf net (i ∷ installs) [] = ⊥
+ArePlansOf net (i ∷ installs) (t ∷ plans) = IsMade i.labels i.kind i.root (restrict i.up.items net) (Some t) × ArePlansOf net installs plans
 
-abbrev pub no_scheme : Scheme
-no_scheme = record { kind = Tree; root = 0; network = record { links = []; ports = [] }; order = []; labels = []; table = []; rows = [] }
-
--- the scheme of an epoch
-abbrev pub plan_at : List Scheme → ℕ → Scheme
-plan_at plans e = slice_index_or plans (e - 1) no_scheme
+-- the plan of an epoch
+abbrev pub plan_at : List Plan → ℕ → Plan
+plan_at plans e = slice_index_or plans (e - 1) no_plan
 
 -- ---- the rows that are checked
 
-abbrev pub no_part : Part
+abbrev pub no_part : Segment
 no_part = record { epoch = 0; hops = [] }
 
-abbrev pub last_part : List Part → Part
+abbrev pub last_part : List Segment → Segment
 last_part parts = slice_index_or parts (length parts - 1) no_part
 
 -- the nodes of a part are among so many, and there is one
-abbrev pub is_part_over : ℕ → Part → Bool
+abbrev pub is_part_over : ℕ → Segment → Bool
 is_part_over nodes part = nat_lt 0 (length part.hops) && list_all (λ u. nat_lt u nodes) part.hops
 
 -- A row over so many nodes: its nodes are among them, and it has a few parts, each with a hop.
-pub record IsRowOver (nodes : ℕ) (row : Row) : Type 0 where
+pub record IsRowOver (nodes : ℕ) (row : TraceRow) : Type 0 where
   pub source : row.source < nodes
   pub dest : row.dest < nodes
   pub some : 0 < length row.parts
   pub few : length row.parts ≤ MAX_SEGMENTS
   pub parts : list_all (is_part_over nodes) row.parts ≡ true
 
-abbrev pub AreRowsOver : ℕ → List Row → Type 0
-AreRowsOver nodes rows = (i : ℕ) (row : Row) → slice_get rows i ≡ Some row → IsRowOver nodes row
+abbrev pub AreRowsOver : ℕ → List TraceRow → Type 0
+AreRowsOver nodes rows = (i : ℕ) (row : TraceRow) → slice_get rows i ≡ Some row → IsRowOver nodes row
 
 -- ---- what a row is checked for
 
 -- the epoch of each part is one of these
-abbrev pub KnowsEpochs : List Scheme → List Part → Type 0
-KnowsEpochs plans parts = (i : ℕ) (part : Part) → slice_get parts i ≡ Some part → (0 < part.epoch) × (part.epoch ≤ length plans)
+abbrev pub KnowsEpochs : List Plan → List Segment → Type 0
+KnowsEpochs plans parts = (i : ℕ) (part : Segment) → slice_get parts i ≡ Some part → (0 < part.epoch) × (part.epoch ≤ length plans)
 
--- the hops are a prefix of the walk that the scheme prescribes from the first of them to d
-abbrev pub IsFrontOfWalk : Scheme → ℕ → List ℕ → Type 0
+-- the hops are a prefix of the walk that the plan prescribes from the first of them to d
+abbrev pub IsFrontOfWalk : Plan → ℕ → List ℕ → Type 0
 IsFrontOfWalk t d [] = ⊥
-IsFrontOfWalk t d (u ∷ rest) = (walk : List ℕ) × IsPrescribedWalk t.network (table_port t) u d walk × IsPrefix (u ∷ rest) walk
+IsFrontOfWalk t d (u ∷ rest) = (walk : List ℕ) × IsPrescribedWalk t.topology (table_port t) u d walk × IsPrefix (u ∷ rest) walk
 
 -- the hops are the whole walk
-abbrev pub IsWholeWalk : Scheme → ℕ → List ℕ → Type 0
+abbrev pub IsWholeWalk : Plan → ℕ → List ℕ → Type 0
 IsWholeWalk t d [] = ⊥
-IsWholeWalk t d (u ∷ rest) = IsPrescribedWalk t.network (table_port t) u d (u ∷ rest)
+IsWholeWalk t d (u ∷ rest) = IsPrescribedWalk t.topology (table_port t) u d (u ∷ rest)
 
 -- From node u on the parts are joined end to end; their epochs rise, from above this one; and each is a prefix of the
 -- walk to d that the full table of its own epoch prescribes.
-abbrev pub AreJoined : List Scheme → ℕ → ℕ → ℕ → List Part → Type 0
+abbrev pub AreJoined : List Plan → ℕ → ℕ → ℕ → List Segment → Type 0
 AreJoined plans d u above [] = Unit {0}
 AreJoined plans d u above (part ∷ parts) =
     (above < part.epoch) × (slice_get part.hops 0 ≡ Some u) × IsFrontOfWalk (plan_at plans part.epoch) d part.hops
@@ -95,7 +93,7 @@ abbrev pub ArePair : ℕ → ℕ → ℕ → ℕ → Type 0
 ArePair u v low high = ((u ≡ low) × (v ≡ high)) ⊎ ((u ≡ high) × (v ≡ low))
 
 -- the walk goes on after the hops, along the link that was down, or over the channel that was full
-abbrev pub GoesOn : Scheme → ℕ → List ℕ → RowFate → Type 0
+abbrev pub GoesOn : Plan → ℕ → List ℕ → RowFate → Type 0
 GoesOn t d hops Delivered = Unit {0}
 GoesOn t d hops Retired = Unit {0}
 GoesOn t d hops (Down low high) = (v : ℕ) × IsFrontOfWalk t d (hops ++ v ∷ []) × ArePair (last_of hops) v low high
@@ -103,12 +101,12 @@ GoesOn t d hops (Full from to) = IsFrontOfWalk t d (hops ++ to ∷ []) × (last_
 GoesOn t d hops Left = Unit {0}
 
 -- The row's parts follow the walks of their epochs from its source on, and the last walk goes on as the fate says.
-pub record FollowsWalks (plans : List Scheme) (row : Row) : Type 0 where
+pub record FollowsWalks (plans : List Plan) (row : TraceRow) : Type 0 where
   pub joined : AreJoined plans row.dest row.source 0 row.parts
   pub goes_on : GoesOn (plan_at plans (last_part row.parts).epoch) row.dest (last_part row.parts).hops row.fate
 
 -- a packet that is delivered has made the whole of the last walk
-abbrev pub HasArrived : List Scheme → Row → Type 0
+abbrev pub HasArrived : List Plan → TraceRow → Type 0
 HasArrived plans row = row.fate ≡ Delivered → IsWholeWalk (plan_at plans (last_part row.parts).epoch) row.dest (last_part row.parts).hops
 
 -- a kind of shortest ways
@@ -118,50 +116,50 @@ IsOfShortestWays Shortest = Unit {0}
 IsOfShortestWays Compact = Unit {0}
 
 -- with a kind of shortest ways, the last part of a packet that is delivered weighs the distance from its first node
-abbrev pub ArrivesShortest : List Scheme → Row → Type 0
+abbrev pub ArrivesShortest : List Plan → TraceRow → Type 0
 ArrivesShortest plans row = row.fate ≡ Delivered → IsOfShortestWays (plan_at plans (last_part row.parts).epoch).kind
     → (u : ℕ) × (slice_get (last_part row.parts).hops 0 ≡ Some u)
-    × IsDistance (plan_at plans (last_part row.parts).epoch).network u row.dest (walk_weight (plan_at plans (last_part row.parts).epoch).network (last_part row.parts).hops)
+    × IsDistance (plan_at plans (last_part row.parts).epoch).topology u row.dest (walk_weight (plan_at plans (last_part row.parts).epoch).topology (last_part row.parts).hops)
 
 -- the weight is the sum of the weights of the links between neighbours in the hops
-abbrev pub Weighs : Network → Row → Type 0
+abbrev pub Weighs : Topology → TraceRow → Type 0
 Weighs net row = row.weight ≡ sum_by (λ part. walk_weight net part.hops) row.parts
 
 -- no row before has the id
-abbrev pub IsNew : List Row → Row → Type 0
-IsNew earlier row = (i : ℕ) (other : Row) → slice_get earlier i ≡ Some other → other.id ≡ row.id → ⊥
+abbrev pub HasNewId : List TraceRow → TraceRow → Type 0
+HasNewId earlier row = (i : ℕ) (other : TraceRow) → slice_get earlier i ≡ Some other → other.id ≡ row.id → ⊥
 
 -- What a row is found to be, after the rows before it: the first of these that doesn't hold.
-abbrev pub IsFindingOf : Network → List Scheme → List Row → Row → FindingKind → Type 0
+abbrev pub IsFindingOf : Topology → List Plan → List TraceRow → TraceRow → FindingKind → Type 0
 IsFindingOf net plans earlier row UnknownEpoch = KnowsEpochs plans row.parts → ⊥
 IsFindingOf net plans earlier row NotAPrefix = KnowsEpochs plans row.parts × (FollowsWalks plans row → ⊥)
 IsFindingOf net plans earlier row NotAtDestination = KnowsEpochs plans row.parts × FollowsWalks plans row × (HasArrived plans row → ⊥)
 IsFindingOf net plans earlier row BadWeight = KnowsEpochs plans row.parts × FollowsWalks plans row × HasArrived plans row × (Weighs net row → ⊥)
-IsFindingOf net plans earlier row Repeated = KnowsEpochs plans row.parts × FollowsWalks plans row × HasArrived plans row × Weighs net row × (IsNew earlier row → ⊥)
+IsFindingOf net plans earlier row Repeated = KnowsEpochs plans row.parts × FollowsWalks plans row × HasArrived plans row × Weighs net row × (HasNewId earlier row → ⊥)
 IsFindingOf net plans earlier row kind = ⊥
 
 -- A row of which there is no finding.
-pub record IsFine (net : Network) (plans : List Scheme) (earlier : List Row) (row : Row) : Type 0 where
+pub record IsFine (net : Topology) (plans : List Plan) (earlier : List TraceRow) (row : TraceRow) : Type 0 where
   pub epochs : KnowsEpochs plans row.parts
   pub walks : FollowsWalks plans row
   pub arrived : HasArrived plans row
   pub weight : Weighs net row
-  pub new : IsNew earlier row
+  pub new : HasNewId earlier row
 
-abbrev pub AreFine : Network → List Scheme → List Row → Type 0
-AreFine net plans rows = (k : ℕ) (row : Row) → slice_get rows k ≡ Some row → IsFine net plans (take k rows) row
+abbrev pub AreFine : Topology → List Plan → List TraceRow → Type 0
+AreFine net plans rows = (k : ℕ) (row : TraceRow) → slice_get rows k ≡ Some row → IsFine net plans (take k rows) row
 
 -- The first finding of a trace: the rows before it are fine. Its line is counted from 1, and the first row is in line 2.
-pub record IsFirstFinding (net : Network) (plans : List Scheme) (rows : List Row) (line : ℕ) (kind : FindingKind) : Type 0 where
-  pub good : List Row
-  pub row : Row
-  pub after : List Row
+pub record IsFirstFinding (net : Topology) (plans : List Plan) (rows : List TraceRow) (line : ℕ) (kind : FindingKind) : Type 0 where
+  pub good : List TraceRow
+  pub row : TraceRow
+  pub after : List TraceRow
   pub whole : rows ≡ good ++ row ∷ after
   pub before : AreFine net plans good
   pub number : line ≡ length good + 2
   pub finding : IsFindingOf net plans good row kind
 
 -- What is found in the rows. Want of memory has line 0.
-abbrev pub Finds : Network → List Install → List Row → ℕ → FindingKind → Type 0
+abbrev pub Finds : Topology → List Install → List TraceRow → ℕ → FindingKind → Type 0
 Finds net installs rows line NoMemory = line ≡ 0
-Finds net installs rows line kind = (plans : List Scheme) × AreSchemesOf net installs plans × IsFirstFinding net plans rows line kind
+Finds net installs rows line kind = (plans : List Plan) × ArePlansOf net installs plans × IsFirstFinding net plans rows line kind

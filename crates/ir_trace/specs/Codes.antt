@@ -5,16 +5,16 @@ use Rattle.ir_trace.specs.declared.finding.FindingKind.TheVariants.{NotTrace, Ba
 use Rattle.ir_trace.specs.declared.outlet.TraceError.{TraceError}
 use Rattle.ir_trace.specs.declared.outlet.TraceError.TheVariants as writing
 
-abbrev pub code_of : FindingKind → ℕ
-code_of NotTrace = 1
-code_of BadRow = 2
-code_of UnknownNode = 3
-code_of UnknownEpoch = 4
-code_of NotAPrefix = 5
-code_of NotAtDestination = 6
-code_of BadWeight = 7
-code_of Repeated = 8
-code_of NoMemory = 9
+abbrev pub finding_code : FindingKind → ℕ
+finding_code NotTrace = 1
+finding_code BadRow = 2
+finding_code UnknownNode = 3
+finding_code UnknownEpoch = 4
+finding_code NotAPrefix = 5
+finding_code NotAtDestination = 6
+finding_code BadWeight = 7
+finding_code Repeated = 8
+finding_code NoMemory = 9
 
 abbrev pub error_code : TraceError → ℕ
 error_code writing.Unwritable = 1

@@ -2,40 +2,40 @@
 use Rattle.std.specs.Prelude.{◌≡◌, ℕ, ◌<◌, ◌≤◌, ◌==◌, Bool, true, false, not, ◌&&◌, ◌||◌, List, [], ◌∷◌, length, sum_by, nat_lt, nat_le, Option, Some, None, slice_get, if◌then◌else◌}
 use Rattle.std.specs.Option.{option_map_or}
 use Rattle.std.specs.List.{list_all}
-use Rattle.ir_model.specs.Network.{Network, node_count}
+use Rattle.ir_model.specs.Topology.{Topology, node_count}
 use Rattle.ir_model.specs.Walk.{walk_weight}
 use Rattle.ir_model.specs.Table.{next_node}
-use Rattle.ir_model.specs.Scheme.{Scheme, table_port, IsScheme}
+use Rattle.ir_model.specs.Plan.{Plan, table_port, IsPlan}
 use Rattle.ir_core.specs.Sound.{last_of}
 use Rattle.ir_trace.specs.declared.row.RowFate.{RowFate}
 use Rattle.ir_trace.specs.declared.row.RowFate.TheVariants.{Delivered, Retired, Down, Full, Left}
 use Rattle.ir_trace.specs.declared.finding.FindingKind.{FindingKind}
 use Rattle.ir_trace.specs.declared.finding.FindingKind.TheVariants.{UnknownEpoch, NotAPrefix, NotAtDestination, BadWeight, NoMemory}
-use Rattle.ir_trace.specs.Row.{Part, Row}
+use Rattle.ir_trace.specs.Row.{Segment, TraceRow}
 use Rattle.ir_trace.specs.Checked.{plan_at, last_part, is_part_over, IsFirstFinding}
 
 -- the node is this one
 abbrev pub is_node : Option ℕ → ℕ → Bool
 is_node next v = option_map_or (λ w. w == v) next false
 
--- the node that the scheme's table sends on to
-abbrev pub next_of : Scheme → ℕ → ℕ → Option ℕ
-next_of t u d = next_node t.network (table_port t) u d
+-- the node that the plan's table sends on to
+abbrev pub next_of : Plan → ℕ → ℕ → Option ℕ
+next_of t u d = next_node t.topology (table_port t) u d
 
 -- the table leads from u through these nodes
-abbrev pub leads_through : Scheme → ℕ → ℕ → List ℕ → Bool
+abbrev pub leads_through : Plan → ℕ → ℕ → List ℕ → Bool
 leads_through t d u [] = true
 leads_through t d u (v ∷ rest) = is_node (next_of t u d) v && leads_through t d v rest
 
 -- the hops begin with u, and the table leads through the others
-abbrev pub follows_from : Scheme → ℕ → ℕ → List ℕ → Bool
+abbrev pub follows_from : Plan → ℕ → ℕ → List ℕ → Bool
 follows_from t d u [] = false
 follows_from t d u (x ∷ rest) = (x == u) && leads_through t d x rest
 
-abbrev pub are_known : ℕ → List Part → Bool
+abbrev pub are_known : ℕ → List Segment → Bool
 are_known epochs parts = list_all (λ part. nat_lt 0 part.epoch && nat_le part.epoch epochs) parts
 
-abbrev pub are_joined : List Scheme → ℕ → ℕ → ℕ → List Part → Bool
+abbrev pub are_joined : List Plan → ℕ → ℕ → ℕ → List Segment → Bool
 are_joined plans d u above [] = true
 are_joined plans d u above (part ∷ parts) =
     nat_lt above part.epoch && (follows_from (plan_at plans part.epoch) d u part.hops && are_joined plans d (last_of part.hops) part.epoch parts)
@@ -48,7 +48,7 @@ fits_fate (Down low high) u next = ((u == low) && is_node next high) || ((u == h
 fits_fate (Full from to) u next = (u == from) && is_node next to
 fits_fate Left u next = true
 
-abbrev pub goes_on : List Scheme → ℕ → RowFate → List Part → Bool
+abbrev pub goes_on : List Plan → ℕ → RowFate → List Segment → Bool
 goes_on plans d fate parts =
     fits_fate fate (last_of (last_part parts).hops) (next_of (plan_at plans (last_part parts).epoch) (last_of (last_part parts).hops) d)
 
@@ -59,12 +59,12 @@ is_delivered (Down low high) = false
 is_delivered (Full from to) = false
 is_delivered Left = false
 
-abbrev pub has_arrived : ℕ → RowFate → List Part → Bool
+abbrev pub has_arrived : ℕ → RowFate → List Segment → Bool
 has_arrived d fate parts = not (is_delivered fate) || (last_of (last_part parts).hops == d)
 
 -- the sum of the weights of the parts
-abbrev pub weight_of : Network → List Part → ℕ
-weight_of net parts = sum_by (λ part. walk_weight net part.hops) parts
+abbrev pub segments_weight : Topology → List Segment → ℕ
+segments_weight net parts = sum_by (λ part. walk_weight net part.hops) parts
 
 -- the first that doesn't hold
 abbrev pub first_of_four : Bool → Bool → Bool → Bool → Option FindingKind
@@ -76,28 +76,28 @@ first_of_four known follows arrived weighs =
     else None
 
 -- what is found of a row alone
-abbrev pub found_of : Network → List Scheme → Row → Option FindingKind
+abbrev pub found_of : Topology → List Plan → TraceRow → Option FindingKind
 found_of net plans row = first_of_four
     (are_known (length plans) row.parts)
     (are_joined plans row.dest row.source 0 row.parts && goes_on plans row.dest row.fate row.parts)
     (has_arrived row.dest row.fate row.parts)
-    (weight_of net row.parts == row.weight)
+    (segments_weight net row.parts == row.weight)
 
--- the schemes of the epochs are over so many nodes
-abbrev pub AreOver : ℕ → List Scheme → Type 0
-AreOver nodes plans = (e : ℕ) → 0 < e → e ≤ length plans → IsScheme (plan_at plans e) × (node_count (plan_at plans e).network ≡ nodes)
+-- the plans of the epochs are over so many nodes
+abbrev pub AreOver : ℕ → List Plan → Type 0
+AreOver nodes plans = (e : ℕ) → 0 < e → e ≤ length plans → IsPlan (plan_at plans e) × (node_count (plan_at plans e).topology ≡ nodes)
 
--- the epoch of a part is known, and its nodes and d are nodes of that epoch's scheme
-pub record IsOverPlan (plans : List Scheme) (d : ℕ) (part : Part) : Type 0 where
+-- the epoch of a part is known, and its nodes and d are nodes of that epoch's plan
+pub record IsOverPlan (plans : List Plan) (d : ℕ) (part : Segment) : Type 0 where
   pub above : 0 < part.epoch
   pub within : part.epoch ≤ length plans
-  pub hops : is_part_over (node_count (plan_at plans part.epoch).network) part ≡ true
-  pub dest : d < node_count (plan_at plans part.epoch).network
+  pub hops : is_part_over (node_count (plan_at plans part.epoch).topology) part ≡ true
+  pub dest : d < node_count (plan_at plans part.epoch).topology
 
-abbrev pub AreOverPlans : List Scheme → ℕ → List Part → Type 0
-AreOverPlans plans d parts = (i : ℕ) (part : Part) → slice_get parts i ≡ Some part → IsOverPlan plans d part
+abbrev pub AreOverPlans : List Plan → ℕ → List Segment → Type 0
+AreOverPlans plans d parts = (i : ℕ) (part : Segment) → slice_get parts i ≡ Some part → IsOverPlan plans d part
 
--- what is found in rows, by the schemes of the epochs
-abbrev pub FindsBy : Network → List Scheme → List Row → ℕ → FindingKind → Type 0
+-- what is found in rows, by the plans of the epochs
+abbrev pub FindsBy : Topology → List Plan → List TraceRow → ℕ → FindingKind → Type 0
 FindsBy net plans rows line NoMemory = line ≡ 0
 FindsBy net plans rows line kind = IsFirstFinding net plans rows line kind

@@ -6,7 +6,7 @@ use Rattle.ir_trace.specs.declared.row.Version.{Version}
 use Rattle.ir_trace.specs.declared.finding.FindingKind.{FindingKind}
 use Rattle.ir_trace.specs.declared.finding.FindingKind.TheVariants.{BadRow, UnknownNode, NoMemory}
 use Rattle.ir_trace.specs.Rows.{RowText, IsRowText, row_words}
-use Rattle.ir_trace.specs.Row.{Row}
+use Rattle.ir_trace.specs.Row.{TraceRow}
 use Rattle.ir_trace.specs.Reading.{IsReadAs}
 use Rattle.ir_trace.specs.Spelled.{IsNoRowOf}
 
@@ -20,17 +20,17 @@ pub record CutsLine (text line after : List ℕ) : Type 0 where
   pub inside : HasNoFeed line
 
 -- the line says what the row says
-pub record Says (v : Version) (line : List ℕ) (text : RowText) : Type 0 where
+pub record LineSays (v : Version) (line : List ℕ) (text : RowText) : Type 0 where
   pub text_is : IsRowText v text
   pub words_are : line ≡ join_with_byte 32 (row_words v text)
 
 -- the line is read as the row
-abbrev pub IsLineOf : Version → Adjacency → List ℕ → Row → Type 0
-IsLineOf v g line row = (text : RowText) × Says v line text × IsReadAs g text row
+abbrev pub IsLineOf : Version → Adjacency → List ℕ → TraceRow → Type 0
+IsLineOf v g line row = (text : RowText) × LineSays v line text × IsReadAs g text row
 
 abbrev pub IsLineFault : Version → Adjacency → List ℕ → FindingKind → Type 0
-IsLineFault v g line BadRow = (text : RowText) → Says v line text → ⊥
-IsLineFault v g line UnknownNode = (text : RowText) × Says v line text × IsNoRowOf g text
+IsLineFault v g line BadRow = (text : RowText) → LineSays v line text → ⊥
+IsLineFault v g line UnknownNode = (text : RowText) × LineSays v line text × IsNoRowOf g text
 IsLineFault v g line kind = ⊥
 
 -- What a line is refused for. Want of memory has line 0.

@@ -7,14 +7,14 @@ use Rattle.ir_trace.specs.declared.outlet.TraceError.{TraceError}
 use Rattle.ir_trace.specs.declared.outlet.TraceError.TheVariants.{Unwritable, NoMemory}
 
 -- a writer, and whether it has failed
-pub record Sink (W : Type 0) : Type 0 where
+pub record Outlet (W : Type 0) : Type 0 where
   pub writer : W
   pub failed : Bool
 
 -- What a text that goes out has come to, by the bytes that the writer holds and by its calls. `Unwritable` is the one
 -- failure of the writer, and after `NoMemory` nothing went out.
 pub record IsWritten {W : Type 0} (contents : W → Option (List ℕ)) (wrote : W → List ℕ → Result ℕ CallError → W → Type 0) (settled : W → Result (Unit {0}) CallError → W → Type 0)
-    (old : Sink W) (text : List ℕ) (result : Result (Unit {0}) TraceError) (new : Sink W) : Type 0 where
+    (old : Outlet W) (text : List ℕ) (result : Result (Unit {0}) TraceError) (new : Outlet W) : Type 0 where
   pub sent : OnOk result (IsSent wrote settled old.writer text new.writer)
   pub ok : OnOk result (Appends (contents old.writer) (contents new.writer) text)
   pub broken : result ≡ Err Unwritable → HasFailed wrote settled old.writer text new.writer

@@ -87,8 +87,8 @@ abbrev pub hop_names : List PartText → List Name
 hop_names parts = flat_map (λ part. part.hops) parts
 
 -- the names in a row
-abbrev pub names_in : RowText → List Name
-names_in r = r.source ∷ r.dest ∷ fate_names r.fate ++ hop_names r.parts
+abbrev pub names_of_row : RowText → List Name
+names_of_row r = r.source ∷ r.dest ∷ fate_names r.fate ++ hop_names r.parts
 
 -- a word that begins with `#`
 abbrev pub is_mark : Name → Bool
@@ -111,4 +111,4 @@ pub record IsRowText (v : Version) (r : RowText) : Type 0 where
   pub weight : r.weight ≤ MAX_NUMBER
   pub parts : list_all is_part_text r.parts ≡ true
   pub version : fits_version v r.parts ≡ true
-  pub words : list_all is_word (names_in r) ≡ true
+  pub words : list_all is_word (names_of_row r) ≡ true

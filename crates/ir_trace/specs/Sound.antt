@@ -1,17 +1,17 @@
 -- A trace with no finding.
 use Rattle.std.specs.Prelude.{◌≡◌, ℕ, List, Some, slice_get}
-use Rattle.ir_model.specs.Network.{Network}
-use Rattle.ir_model.specs.Scheme.{Scheme}
+use Rattle.ir_model.specs.Topology.{Topology}
+use Rattle.ir_model.specs.Plan.{Plan}
 use Rattle.ir_core.specs.declared.built.Install.{Install}
-use Rattle.ir_trace.specs.Row.{Row}
-use Rattle.ir_trace.specs.Checked.{AreSchemesOf, AreFine, ArrivesShortest}
+use Rattle.ir_trace.specs.Row.{TraceRow}
+use Rattle.ir_trace.specs.Checked.{ArePlansOf, AreFine, ArrivesShortest}
 use Rattle.ir_trace.specs.SoundRows.{IsSoundRow}
 
--- There is no finding in the rows. So each part of each row is a sound journey of one epoch, in the words of the packet
+-- There is no finding in the rows. So each part of each row is a sound record of one epoch, in the words of the packet
 -- core, and a packet that was delivered in a shortest-path epoch went over its distance there.
-pub record IsSoundTrace (net : Network) (installs : List Install) (rows : List Row) : Type 0 where
-  pub plans : List Scheme
-  pub schemes : AreSchemesOf net installs plans
+pub record IsSoundTrace (net : Topology) (installs : List Install) (rows : List TraceRow) : Type 0 where
+  pub plans : List Plan
+  pub of_installs : ArePlansOf net installs plans
   pub fine : AreFine net plans rows
-  pub sound : (k : ℕ) (row : Row) → slice_get rows k ≡ Some row → IsSoundRow net plans row
-  pub shortest : (k : ℕ) (row : Row) → slice_get rows k ≡ Some row → ArrivesShortest plans row
+  pub sound : (k : ℕ) (row : TraceRow) → slice_get rows k ≡ Some row → IsSoundRow net plans row
+  pub shortest : (k : ℕ) (row : TraceRow) → slice_get rows k ≡ Some row → ArrivesShortest plans row

@@ -13,7 +13,7 @@ use Rattle.ir_trace.specs.declared.words.Head.{Head}
 use Rattle.ir_trace.specs.declared.words.SegmentSpelling.{SegmentSpelling}
 use Rattle.ir_trace.specs.declared.words.Spelling.{Spelling}
 use Rattle.ir_trace.specs.Rows.{FateText, Delivered, Retired, Down, Full, Left, PartText, RowText, IsRowText, row_words, part_words, mark, is_mark, fate_words, is_word, is_part_text, fits_version}
-use Rattle.ir_trace.specs.Row.{Part, Row}
+use Rattle.ir_trace.specs.Row.{Segment, TraceRow}
 use Rattle.ir_trace.specs.Reading.{node_named, AreLinkedAs, FateIsReadAs, PartsAreReadAs, IsReadAs}
 
 -- the texts that a list of words points to
@@ -53,14 +53,14 @@ pub record Spells (v : Version) (words : List Name) (text : RowText) : Type 0 wh
   pub words_are : row_words v text ≡ words
 
 -- the words of the second version before the parts
-abbrev pub head_words : RowText → List Name
-head_words r = decimal r.id ∷ r.source ∷ r.dest ∷ decimal r.weight ∷ fate_words r.fate
+abbrev pub row_head : RowText → List Name
+row_head r = decimal r.id ∷ r.source ∷ r.dest ∷ decimal r.weight ∷ fate_words r.fate
 
 -- the words begin with those of a row of the second version before its parts
 pub record HasHead (words : List Name) (text : RowText) (rest : List Name) : Type 0 where
   pub id : text.id ≤ MAX_NUMBER
   pub weight : text.weight ≤ MAX_NUMBER
-  pub whole : head_words text ++ rest ≡ words
+  pub whole : row_head text ++ rest ≡ words
 
 abbrev pub HasNoHead : List Name → Type 0
 HasNoHead words = (text : RowText) (rest : List Name) → HasHead words text rest → ⊥
@@ -123,8 +123,8 @@ AreNoHops g words = (hops : List ℕ) → AreHops g words hops → ⊥
 
 -- the parts are read as none
 abbrev pub AreNoPartsOf : Adjacency → List PartText → Type 0
-AreNoPartsOf g texts = (parts : List Part) → PartsAreReadAs g texts parts → ⊥
+AreNoPartsOf g texts = (parts : List Segment) → PartsAreReadAs g texts parts → ⊥
 
 -- the row is read as none
 abbrev pub IsNoRowOf : Adjacency → RowText → Type 0
-IsNoRowOf g text = (row : Row) → IsReadAs g text row → ⊥
+IsNoRowOf g text = (row : TraceRow) → IsReadAs g text row → ⊥

@@ -3,22 +3,22 @@ use Rattle.std.specs.Prelude.{◌≡◌, ℕ, ◌<◌, ◌≤◌, ◌⊎◌, Lis
 use Rattle.ir_model.specs.declared.TheConstants.{MAX_NODES}
 use Rattle.ir_model.specs.declared.Link.{Link}
 use Rattle.ir_model.specs.Graph.{Name}
-use Rattle.ir_model.specs.Network.{Network, node_count}
+use Rattle.ir_model.specs.Topology.{Topology, node_count}
 use Rattle.ir_model.specs.Walk.{IsWalk, walk_weight}
-use Rattle.ir_core.specs.Journey.{Journey, segments}
+use Rattle.ir_core.specs.Record.{Record, segments}
 use Rattle.ir_core.specs.Sound.{ArePlaces}
 use Rattle.ir_core.specs.declared.packet.Fate.{Fate}
 use Rattle.ir_core.specs.declared.packet.Fate.TheVariants as fate
 use Rattle.ir_trace.specs.declared.TheConstants.{MAX_SEGMENTS}
 use Rattle.ir_trace.specs.declared.row.Version.TheVariants.{One, Two}
-use Rattle.ir_trace.specs.Row.{Part}
+use Rattle.ir_trace.specs.Row.{Segment}
 use Rattle.ir_trace.specs.Rows.{FateText, Delivered, Retired, Down, Full, Left, PartText, RowText, trace_text}
 
 abbrev pub name_at : List Name → ℕ → Name
 name_at nodes u = slice_index_or nodes u []
 
 -- the link with a number
-abbrev pub link_at : Network → ℕ → Link
+abbrev pub link_at : Topology → ℕ → Link
 link_at net l = slice_index_or net.links l (record { low = 0; high = 0; weight = 0 })
 
 -- the end of a link that is not u
@@ -26,7 +26,7 @@ abbrev pub other_end : Link → ℕ → ℕ
 other_end link u = if link.low == u then link.high else link.low
 
 -- `down X Y` names the ends of the link, the smaller node number first; in `full X Y` the channel goes from X to Y
-abbrev pub fate_text : List Name → Network → Fate → FateText
+abbrev pub fate_text : List Name → Topology → Fate → FateText
 fate_text nodes net fate.Delivered = Delivered
 fate_text nodes net fate.Retired = Retired
 fate_text nodes net (fate.Down l) = Down (name_at nodes (link_at net l).low) (name_at nodes (link_at net l).high)
@@ -34,7 +34,7 @@ fate_text nodes net (fate.Full l to) = Full (name_at nodes (other_end (link_at n
 fate_text nodes net fate.Left = Left
 
 -- the row of a record: its weight is that of its hops
-abbrev pub row_of : List Name → Network → Journey → RowText
+abbrev pub row_of : List Name → Topology → Record → RowText
 row_of nodes net r = record {
   id = r.id;
   source = name_at nodes r.source;
@@ -45,11 +45,11 @@ row_of nodes net r = record {
 }
 
 -- a row for each record, in order
-abbrev pub records_text : List Name → Network → List Journey → List ℕ
+abbrev pub records_text : List Name → Topology → List Record → List ℕ
 records_text nodes net records = trace_text One (map (row_of nodes net) records)
 
 -- the link of a fate is a link of the network, and the node of a Full is an end of it
-abbrev pub FateIsIn : Network → Fate → Type 0
+abbrev pub FateIsIn : Topology → Fate → Type 0
 FateIsIn net fate.Delivered = Unit {0}
 FateIsIn net fate.Retired = Unit {0}
 FateIsIn net (fate.Down l) = l < length net.links
@@ -57,7 +57,7 @@ FateIsIn net (fate.Full l to) = (link : Link) × (slice_get net.links l ≡ Some
 FateIsIn net fate.Left = Unit {0}
 
 -- A record whose row can be written: its nodes and links are those of the network, and each hop is linked to the next.
-pub record IsWritable (net : Network) (r : Journey) : Type 0 where
+pub record IsWritable (net : Topology) (r : Record) : Type 0 where
   pub source : r.source < node_count net
   pub dest : r.dest < node_count net
   pub first : ℕ
@@ -66,21 +66,21 @@ pub record IsWritable (net : Network) (r : Journey) : Type 0 where
   pub few : length r.hops ≤ MAX_NODES
   pub fate : FateIsIn net r.fate
 
-abbrev pub AreWritable : Network → List Journey → Type 0
-AreWritable net records = (i : ℕ) (r : Journey) → slice_get records i ≡ Some r → IsWritable net r
+abbrev pub AreWritable : Topology → List Record → Type 0
+AreWritable net records = (i : ℕ) (r : Record) → slice_get records i ≡ Some r → IsWritable net r
 
 -- ---- the second version
 
 -- the segments of a record, in order
-abbrev pub parts_of : Journey → List Part
+abbrev pub parts_of : Record → List Segment
 parts_of r = reverse (map (λ g. record { epoch = g.epoch; hops = g.hops }) (segments r))
 
 -- a segment with names
-abbrev pub named : List Name → Part → PartText
+abbrev pub named : List Name → Segment → PartText
 named nodes part = record { epoch = part.epoch; hops = map (name_at nodes) part.hops }
 
 -- the row of a record in the second version: its weight is the sum over its segments
-abbrev pub segments_row : List Name → Network → Journey → RowText
+abbrev pub segments_row : List Name → Topology → Record → RowText
 segments_row nodes net r = record {
   id = r.id;
   source = name_at nodes r.source;
@@ -90,14 +90,14 @@ segments_row nodes net r = record {
   parts = map (named nodes) (parts_of r);
 }
 
-abbrev pub segments_text : List Name → Network → List Journey → List ℕ
+abbrev pub segments_text : List Name → Topology → List Record → List ℕ
 segments_text nodes net records = trace_text Two (map (segments_row nodes net) records)
 
 -- A record whose row of segments can be written: it has a few restamps, each at a place of its own in the hops.
-pub record HasSegments (net : Network) (r : Journey) : Type 0 where
+pub record HasSegments (net : Topology) (r : Record) : Type 0 where
   pub writable : IsWritable net r
   pub few : length r.restamps < MAX_SEGMENTS
   pub places : ArePlaces (length r.hops) (reverse r.restamps)
 
-abbrev pub HaveSegments : Network → List Journey → Type 0
-HaveSegments net records = (i : ℕ) (r : Journey) → slice_get records i ≡ Some r → HasSegments net r
+abbrev pub HaveSegments : Topology → List Record → Type 0
+HaveSegments net records = (i : ℕ) (r : Record) → slice_get records i ≡ Some r → HasSegments net r

@@ -1,11 +1,11 @@
 //! Traces checked against what each epoch was installed with.
 ghost use Rattle.std.specs.Prelude.{◌≡◌, ◌<◌, ◌≤◌, List, true, IfOk, IfErr, length, nat_lt, nat_le, ◌&&◌, ◌||◌, ◌==◌, not, Some};
 ghost use Rattle.std.specs.List.{list_all};
-ghost use Rattle.ir_model.specs.Network.{node_count};
+ghost use Rattle.ir_model.specs.Topology.{node_count};
 ghost use Rattle.ir_core.specs.Sound.{last_of};
 ghost use Rattle.ir_trace.specs.Checked.{plan_at, is_part_over, IsRowOver, AreRowsOver, AreInstalls, AreFine, Finds};
 ghost use Rattle.ir_trace.specs.Sound.{IsSoundTrace};
-ghost use Rattle.ir_trace.specs.Inspect.{is_node, next_of, leads_through, follows_from, are_known, are_joined, fits_fate, goes_on, is_delivered, has_arrived, weight_of, found_of, AreOver, IsOverPlan, AreOverPlans, FindsBy};
+ghost use Rattle.ir_trace.specs.Inspect.{is_node, next_of, leads_through, follows_from, are_known, are_joined, fits_fate, goes_on, is_delivered, has_arrived, segments_weight, found_of, AreOver, IsOverPlan, AreOverPlans, FindsBy};
 
 use crate::MAX_SEGMENTS;
 use crate::finding::{Finding, FindingKind};
@@ -25,9 +25,9 @@ use std::thread::Threads;
 
 /// Whether a plan leads from a node through these nodes.
 fn leads_through(plan: &Plan, first: u16, rest: &[u16], dest: u16) -> bool
-    requires first { first < node_count plan.now.network }
-    requires rest { list_all (λ u. nat_lt u (node_count plan.now.network)) rest.now ≡ true }
-    requires dest { dest < node_count plan.now.network }
+    requires first { first < node_count plan.now.topology }
+    requires rest { list_all (λ u. nat_lt u (node_count plan.now.topology)) rest.now ≡ true }
+    requires dest { dest < node_count plan.now.topology }
     ensures { result ≡ leads_through plan.now dest first rest.now }
 {
     let mut at = first;
@@ -45,8 +45,8 @@ fn leads_through(plan: &Plan, first: u16, rest: &[u16], dest: u16) -> bool
 
 /// Whether hops begin with a node, and a plan leads through the others.
 fn follows_from(plan: &Plan, from: u16, hops: &[u16], dest: u16) -> bool
-    requires hops { list_all (λ u. nat_lt u (node_count plan.now.network)) hops.now ≡ true }
-    requires dest { dest < node_count plan.now.network }
+    requires hops { list_all (λ u. nat_lt u (node_count plan.now.topology)) hops.now ≡ true }
+    requires dest { dest < node_count plan.now.topology }
     ensures { result ≡ follows_from plan.now dest from hops.now }
 {
     let [first, rest @ ..] = hops else {
@@ -115,7 +115,7 @@ fn weight_of(topology: &Topology, segments: &[Segment]) -> u32
     requires few { length segments.now ≤ MAX_SEGMENTS }
     requires segments { list_all (is_part_over (node_count topology.now)) segments.now ≡ true }
     requires short { list_all (λ part. nat_le (length part.hops) MAX_NODES) segments.now ≡ true }
-    ensures { result ≡ weight_of topology.now segments.now }
+    ensures { result ≡ segments_weight topology.now segments.now }
 {
     let mut sum = 0;
     for segment in segments {
@@ -156,7 +156,7 @@ fn found_of(topology: &Topology, plans: &[Plan], row: &TraceRow) -> Option<Findi
 /// first hop, or the last one's walk doesn't go on along the link that was down, or to the node whose channel was full;
 /// `NotAtDestination` where a packet is delivered and its last segment is not the whole walk; `BadWeight` where the weight
 /// is not that of the hops; `Repeated` where an earlier line has the id. Where there is none, each segment of each row is
-/// a sound journey of its epoch, and a delivered one of a shortest-path epoch went over its distance. The install of
+/// a sound record of its epoch, and a delivered one of a shortest-path epoch went over its distance. The install of
 /// epoch e stands at place e - 1.
 /// Plans of more than 256 nodes are made in threads, where they can be started.
 /// Condition: the trace was read over the topology's graph; each install has a mark for each link, a root that is a

@@ -1,6 +1,6 @@
 //! Why a trace is refused.
 ghost use Rattle.std.specs.Prelude.{◌≡◌};
-ghost use Rattle.ir_trace.specs.Codes.{code_of};
+ghost use Rattle.ir_trace.specs.Codes.{finding_code};
 
 use std::alloc::{AllocError, AllocFailed};
 use thiserror::Error;
@@ -48,7 +48,7 @@ pub struct Finding {
 impl Finding {
     /// The number of the kind, from 1 for `NotTrace` to 9 for `NoMemory`. For users of the library.
     pub fn code(self) -> u8
-        ensures { result ≡ code_of self.kind }
+        ensures { result ≡ finding_code self.kind }
     {
         self.kind as u8
     }

@@ -1,10 +1,10 @@
 //! What a check of a trace and the place where a row leaves its walks are judged by: the plans of epochs, and segments of
 //! rows beside them.
 ghost use Rattle.std.specs.Prelude.{◌≡◌, ◌<◌, ◌≤◌, IfOk, length, nat_lt, nat_le, ◌&&◌, Some};
-ghost use Rattle.ir_model.specs.Network.{node_count, restrict};
+ghost use Rattle.ir_model.specs.Topology.{node_count, restrict};
 ghost use Rattle.ir_core.specs.Meaning.{IsMade};
 ghost use Rattle.ir_core.specs.Sound.{last_of};
-ghost use Rattle.ir_trace.specs.Checked.{plan_at, last_part, IsInstall, AreInstalls, AreSchemesOf};
+ghost use Rattle.ir_trace.specs.Checked.{plan_at, last_part, IsInstall, AreInstalls, ArePlansOf};
 ghost use Rattle.ir_trace.specs.Inspect.{is_node, next_of, are_known, fits_fate};
 
 use crate::row::{RowFate, Segment};
@@ -23,7 +23,7 @@ pub fn plans_of(
     installs: &[Install],
 ) -> Result<Vec<Plan>, AllocError>
     requires { AreInstalls topology.now installs.now }
-    ensures { IfOk result (λ plans. AreSchemesOf topology.now installs.now plans.items) }
+    ensures { IfOk result (λ plans. ArePlansOf topology.now installs.now plans.items) }
 {
     let mut plans = Vec::with_capacity(alloc, installs.len())?;
     for install in installs {
@@ -62,8 +62,8 @@ pub fn plan_at(plans: &[Plan], epoch: u32) -> &Plan
 
 /// The node that a plan sends on to from a node; none at the destination. Takes O(log k), for k starts of the row.
 pub fn next_of(plan: &Plan, at: u16, dest: u16) -> Option<u16>
-    requires at { at < node_count plan.now.network }
-    requires dest { dest < node_count plan.now.network }
+    requires at { at < node_count plan.now.topology }
+    requires dest { dest < node_count plan.now.topology }
     ensures { result ≡ next_of plan.now at dest }
 {
     let _nodes = plan.nodes();

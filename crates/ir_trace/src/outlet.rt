@@ -49,9 +49,9 @@ pub struct Outlet<W> {
 }
 
 impl<W> Model for Outlet<W> {
-    ghost use Rattle.ir_trace.specs.Outlet.{Sink};
+    ghost use Rattle.ir_trace.specs.Outlet.{Outlet};
 
-    ghost Value = { Sink W };
+    ghost Value = { Outlet W };
 
     ghost view = { λ o. record { writer = o.writer; failed = o.failed } };
 }

@@ -1,10 +1,10 @@
 //! Traces as they are read.
 ghost use Rattle.std.specs.Prelude.{◌≡◌, ◌<◌, ◌++◌, List, Some, MatchOption, MatchResult, IfOk, IfErr, length, map, slice_get};
-ghost use Rattle.ir_model.specs.OfGraph.{network_of_graph};
-ghost use Rattle.ir_core.specs.Journey.{Journey};
+ghost use Rattle.ir_model.specs.OfGraph.{topology_of_graph};
+ghost use Rattle.ir_core.specs.Record.{Record};
 ghost use Rattle.ir_trace.specs.Rows.{header};
-ghost use Rattle.ir_trace.specs.Reading.{IsNoTrace, IsTrace, Tells};
-ghost use Rattle.ir_model.specs.Network.{node_count};
+ghost use Rattle.ir_trace.specs.Reading.{IsNoTrace, IsTrace, TellsFinding};
+ghost use Rattle.ir_model.specs.Topology.{node_count};
 ghost use Rattle.ir_trace.specs.Checked.{AreRowsOver};
 ghost use Rattle.ir_trace.specs.Again.{row_again, IsTraceOf, segments_again, AreSegmentsOf};
 ghost use Rattle.ir_trace.specs.Line.{HasNoFeed, CutsLine, IsLineOf, LineTold};
@@ -26,9 +26,9 @@ pub struct Trace {
 
 impl Model for Trace {
     ghost use Rattle.std.specs.Prelude.{List};
-    ghost use Rattle.ir_trace.specs.Row.{Row};
+    ghost use Rattle.ir_trace.specs.Row.{TraceRow};
 
-    ghost Value = { List Row };
+    ghost Value = { List TraceRow };
 
     ghost view = { λ t. t.rows.items };
 }
@@ -49,11 +49,11 @@ impl Trace {
     }
 
     /// The row at a place, counted from 0. Condition: the place is below `rows()`.
-    pub fn row(&self, i: usize) -> &TraceRow
-        requires { i < length self.now }
-        ensures { slice_get self.now i ≡ Some result.now }
+    pub fn row(&self, place: usize) -> &TraceRow
+        requires { place < length self.now }
+        ensures { slice_get self.now place ≡ Some result.now }
     {
-        &self.rows[i]
+        &self.rows[place]
     }
 }
 
@@ -108,7 +108,7 @@ fn version_of(text: &[u8]) -> Option<(Version, &[u8])>
 /// The trace that a text is over a graph, or its first fault.
 fn read_rows(alloc: Global, text: &[u8], graph: &Graph) -> Result<Trace, Finding>
     ensures read { IfOk result (λ trace. IsTrace graph.now text.now trace) }
-    ensures fault { IfErr result (λ e. Tells graph.now text.now e.line e.kind) }
+    ensures fault { IfErr result (λ e. TellsFinding graph.now text.now e.line e.kind) }
 {
     let Some((version, mut rest)) = version_of(text) else {
         return Err(Finding {
@@ -138,17 +138,17 @@ fn read_rows(alloc: Global, text: &[u8], graph: &Graph) -> Result<Trace, Finding
 /// of b bytes.
 pub fn read_trace(alloc: Global, text: &[u8], graph: &Graph) -> Result<Trace, Finding>
     ensures read { IfOk result (λ trace. IsTrace graph.now text.now trace) }
-    ensures fault { IfErr result (λ e. Tells graph.now text.now e.line e.kind) }
+    ensures fault { IfErr result (λ e. TellsFinding graph.now text.now e.line e.kind) }
 
     // The nodes are those of the graph's topology, as `check_trace` asks.
-    ensures within { IfOk result (λ trace. AreRowsOver (node_count (network_of_graph graph.now)) trace) }
+    ensures within { IfOk result (λ trace. AreRowsOver (node_count (topology_of_graph graph.now)) trace) }
 
     // What is written is read again: no fault but want of memory, and the rows of the records.
-    ensures again { (records : List Journey) → IsTraceOf graph.now text.now records
-        → MatchResult result (λ trace. trace ≡ map (row_again (network_of_graph graph.now)) records)
+    ensures again { (records : List Record) → IsTraceOf graph.now text.now records
+        → MatchResult result (λ trace. trace ≡ map (row_again (topology_of_graph graph.now)) records)
         (λ e. e.kind ≡ FindingKind.NoMemory) }
-    ensures segments_again { (records : List Journey) → AreSegmentsOf graph.now text.now records
-        → MatchResult result (λ trace. trace ≡ map (segments_again (network_of_graph graph.now)) records)
+    ensures segments_again { (records : List Record) → AreSegmentsOf graph.now text.now records
+        → MatchResult result (λ trace. trace ≡ map (segments_again (topology_of_graph graph.now)) records)
         (λ e. e.kind ≡ FindingKind.NoMemory) }
 {
     let _nodes = graph.number_of_nodes();

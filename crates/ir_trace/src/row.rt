@@ -33,9 +33,9 @@ pub struct Segment {
 }
 
 impl Model for Segment {
-    ghost use Rattle.ir_trace.specs.Row.{Part};
+    ghost use Rattle.ir_trace.specs.Row.{Segment};
 
-    ghost Value = { Part };
+    ghost Value = { Segment };
 
     ghost view = { λ s. record { epoch = s.epoch; hops = s.hops.items } };
 }
@@ -53,9 +53,9 @@ pub struct TraceRow {
 }
 
 impl Model for TraceRow {
-    ghost use Rattle.ir_trace.specs.Row.{Row};
+    ghost use Rattle.ir_trace.specs.Row.{TraceRow};
 
-    ghost Value = { Row };
+    ghost Value = { TraceRow };
 
     ghost view = { λ r. record {
       id = r.id;

@@ -32,19 +32,19 @@ pub fn push_word(text: &mut String, word: &str) -> Result<(), AllocError>
 }
 
 /// The name of a node. Condition: it is a node of the graph.
-pub fn name_of(graph: &Graph, u: u16) -> &str
-    requires { u < length graph.now }
-    ensures { result.now ≡ name_at (names graph.now) u }
+pub fn name_of(graph: &Graph, node: u16) -> &str
+    requires { node < length graph.now }
+    ensures { result.now ≡ name_at (names graph.now) node }
 {
-    graph.node(u as usize).unwrap()
+    graph.node(node as usize).unwrap()
 }
 
 /// Writes a space and the name of a node. Condition: it is a node of the graph.
-pub fn push_name(text: &mut String, graph: &Graph, u: u16) -> Result<(), AllocError>
-    requires { u < length graph.now }
-    ensures { OnOk result (string_bytes text.new ≡ string_bytes text.old ++ spaced (name_at (names graph.now) u)) }
+pub fn push_name(text: &mut String, graph: &Graph, node: u16) -> Result<(), AllocError>
+    requires { node < length graph.now }
+    ensures { OnOk result (string_bytes text.new ≡ string_bytes text.old ++ spaced (name_at (names graph.now) node)) }
 {
-    push_word(text, name_of(graph, u))
+    push_word(text, name_of(graph, node))
 }
 
 /// Writes a space and a name for each node of a list.

@@ -2,8 +2,8 @@
 ghost use Rattle.std.specs.Prelude.{◌≡◌, ◌<◌, true, false, [], ◌∷◌, ◌++◌, IfOk, OnOk, length, nat_lt, string_bytes, flat_map, map};
 ghost use Rattle.std.specs.List.{list_all};
 ghost use Rattle.ir_model.specs.Graph.{names};
-ghost use Rattle.ir_model.specs.Network.{node_count};
-ghost use Rattle.ir_model.specs.OfGraph.{network_of_graph};
+ghost use Rattle.ir_model.specs.Topology.{node_count};
+ghost use Rattle.ir_model.specs.OfGraph.{topology_of_graph};
 ghost use Rattle.ir_trace.specs.Rows.{spaced, fate_words, part_words, row_line};
 ghost use Rattle.ir_trace.specs.Outlet.{IsWritten};
 ghost use Rattle.ir_trace.specs.Written.{name_at, link_at, other_end, fate_text, row_of, records_text, FateIsIn, IsWritable, AreWritable, named, segments_row, segments_text, HasSegments, HaveSegments};
@@ -180,7 +180,7 @@ pub fn trace_text(
     topology: &Topology,
     records: &[Record],
 ) -> Result<String, AllocError>
-    requires network { topology.now ≡ network_of_graph graph.now }
+    requires topology { topology.now ≡ topology_of_graph graph.now }
     requires records { AreWritable topology.now records.now }
     ensures { IfOk result (λ text. string_bytes text ≡ records_text (names graph.now) topology.now records.now) }
 {
@@ -204,9 +204,9 @@ pub fn write_trace<W: Writer>(
     outlet: &mut Outlet<W>,
 ) -> Result<(), TraceError>
     requires open { outlet.old.failed ≡ false }
-    requires records { AreWritable (network_of_graph graph.now) records.now }
+    requires records { AreWritable (topology_of_graph graph.now) records.now }
     ensures { IsWritten W.contents W.wrote W.settled outlet.old
-        (records_text (names graph.now) (network_of_graph graph.now) records.now) result outlet.new }
+        (records_text (names graph.now) (topology_of_graph graph.now) records.now) result outlet.new }
 {
     let topology = Topology::of(alloc, graph)?;
     let text = trace_text(alloc, graph, &topology, records)?;
@@ -223,7 +223,7 @@ pub fn trace_text_2(
     topology: &Topology,
     records: &[Record],
 ) -> Result<String, AllocError>
-    requires network { topology.now ≡ network_of_graph graph.now }
+    requires topology { topology.now ≡ topology_of_graph graph.now }
     requires records { HaveSegments topology.now records.now }
     ensures { IfOk result (λ text. string_bytes text ≡ segments_text (names graph.now) topology.now records.now) }
 {
@@ -245,9 +245,9 @@ pub fn write_trace_2<W: Writer>(
     outlet: &mut Outlet<W>,
 ) -> Result<(), TraceError>
     requires open { outlet.old.failed ≡ false }
-    requires records { HaveSegments (network_of_graph graph.now) records.now }
+    requires records { HaveSegments (topology_of_graph graph.now) records.now }
     ensures { IsWritten W.contents W.wrote W.settled outlet.old
-        (segments_text (names graph.now) (network_of_graph graph.now) records.now) result outlet.new }
+        (segments_text (names graph.now) (topology_of_graph graph.now) records.now) result outlet.new }
 {
     let topology = Topology::of(alloc, graph)?;
     let text = trace_text_2(alloc, graph, &topology, records)?;

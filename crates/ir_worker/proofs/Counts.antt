@@ -5,15 +5,15 @@ use Rattle.std.proofs.lemmas.List.Sums.{sum_by-set, sum_by_push}
 use Rattle.std.proofs.lemmas.Option.{slice_get_within, get_or_from_slice_get}
 use Rattle.ir_model.specs.declared.Hop.{Hop}
 use Rattle.ir_worker.specs.declared.parcel.Outcome.{Outcome}
-use Rattle.ir_worker.specs.Seen.{SeenParcel}
-use Rattle.ir_core.specs.Journey.{Journey}
+use Rattle.ir_worker.specs.Seen.{Parcel}
+use Rattle.ir_core.specs.Record.{Record}
 use Rattle.ir_worker.specs.Account.{Head, head_of, one, weigh, weigh_sent, weigh_taken, weigh_settled, IsEven, IsBalanced}
 use Rattle.ir_worker.specs.Wires.{In, Out, after_taking, after_sending, TookAt, SentOver}
 
-more : (w : Journey → ℕ) (items : List SeenParcel) (p : SeenParcel) → weigh w (items ++ p ∷ []) ≡ weigh w items + w p.journey
-more w items p = sum_by_push (λ (x : SeenParcel). w x.journey) items p
+more : (w : Record → ℕ) (items : List Parcel) (p : Parcel) → weigh w (items ++ p ∷ []) ≡ weigh w items + w p.journey
+more w items p = sum_by_push (λ (x : Parcel). w x.journey) items p
 
-pub took_weighs : (w : Journey → ℕ) (inbox : In) (ins : List In) (inbox' : In) (ins' : List In) (p : SeenParcel) (k : ℕ) → TookAt inbox ins inbox' ins' p k →
+pub took_weighs : (w : Record → ℕ) (inbox : In) (ins : List In) (inbox' : In) (ins' : List In) (p : Parcel) (k : ℕ) → TookAt inbox ins inbox' ins' p k →
     weigh w inbox'.taken + weigh_taken w ins' ≡ weigh w inbox.taken + weigh_taken w ins + w p.journey
 took_weighs w inbox ins inbox' ins' p zero t =
     let a : weigh w inbox'.taken ≡ weigh w inbox.taken + w p.journey = ap (λ (x : In). weigh w x.taken) t.0 ∙ more w inbox.taken p in
@@ -30,7 +30,7 @@ took_weighs w inbox ins inbox' ins' p (suc j) t =
     let e = more w was.taken p in
     omega arith
 
-pub sent_weighs : (w : Journey → ℕ) (ports : List Hop) (outs outs' : List Out) (hop : Hop) (q : SeenParcel) → SentOver ports outs outs' hop q →
+pub sent_weighs : (w : Record → ℕ) (ports : List Hop) (outs outs' : List Out) (hop : Hop) (q : Parcel) → SentOver ports outs outs' hop q →
     weigh_sent w outs' ≡ weigh_sent w outs + w q.journey
 sent_weighs w ports outs outs' hop q s =
     let j = s.0 in
@@ -44,8 +44,8 @@ sent_weighs w ports outs outs' hop q s =
     omega arith
 
 -- a parcel that is taken and sent on, and weighs what it weighed, leaves all even
-pub even_sent : (w : Journey → ℕ) (inbox : In) (ins : List In) (inbox' : In) (ins' : List In) (outs outs' : List Out) (outcomes outcomes' : List Outcome) → IsEven w inbox ins outs outcomes →
-    (p q : SeenParcel) (k : ℕ) → TookAt inbox ins inbox' ins' p k → (ports : List Hop) (hop : Hop) → SentOver ports outs outs' hop q → w q.journey ≡ w p.journey → outcomes' ≡ outcomes →
+pub even_sent : (w : Record → ℕ) (inbox : In) (ins : List In) (inbox' : In) (ins' : List In) (outs outs' : List Out) (outcomes outcomes' : List Outcome) → IsEven w inbox ins outs outcomes →
+    (p q : Parcel) (k : ℕ) → TookAt inbox ins inbox' ins' p k → (ports : List Hop) (hop : Hop) → SentOver ports outs outs' hop q → w q.journey ≡ w p.journey → outcomes' ≡ outcomes →
     IsEven w inbox' ins' outs' outcomes'
 even_sent w inbox ins inbox' ins' outs outs' outcomes outcomes' ok p q k took ports hop sent same kept =
     let b = took_weighs w inbox ins inbox' ins' p k took in
@@ -54,8 +54,8 @@ even_sent w inbox ins inbox' ins' outs outs' outcomes outcomes' ok p q k took po
     omega arith
 
 -- and so does one that is taken and settled
-pub even_settled : (w : Journey → ℕ) (inbox : In) (ins : List In) (inbox' : In) (ins' : List In) (outs outs' : List Out) (outcomes outcomes' : List Outcome) → IsEven w inbox ins outs outcomes →
-    (p : SeenParcel) (k : ℕ) → TookAt inbox ins inbox' ins' p k → outs' ≡ outs → (o : Outcome) → outcomes' ≡ outcomes ++ o ∷ [] → w o.packet ≡ w p.journey →
+pub even_settled : (w : Record → ℕ) (inbox : In) (ins : List In) (inbox' : In) (ins' : List In) (outs outs' : List Out) (outcomes outcomes' : List Outcome) → IsEven w inbox ins outs outcomes →
+    (p : Parcel) (k : ℕ) → TookAt inbox ins inbox' ins' p k → outs' ≡ outs → (o : Outcome) → outcomes' ≡ outcomes ++ o ∷ [] → w o.packet ≡ w p.journey →
     IsEven w inbox' ins' outs' outcomes'
 even_settled w inbox ins inbox' ins' outs outs' outcomes outcomes' ok p k took sent o settled same =
     let b = took_weighs w inbox ins inbox' ins' p k took in
@@ -63,26 +63,26 @@ even_settled w inbox ins inbox' ins' outs outs' outcomes outcomes' ok p k took s
     let e : weigh_settled w outcomes' ≡ weigh_settled w outcomes + w o.packet = ap (weigh_settled w) settled ∙ sum_by_push (λ (x : Outcome). w x.packet) outcomes o in
     omega arith
 
-pub same_even : (w : Journey → ℕ) (inbox inbox' : In) (ins ins' : List In) (outs : List Out) (outcomes outcomes' : List Outcome) → IsEven w inbox ins outs outcomes → inbox' ≡ inbox → ins' ≡ ins → outcomes' ≡ outcomes → IsEven w inbox' ins' outs outcomes'
+pub same_even : (w : Record → ℕ) (inbox inbox' : In) (ins ins' : List In) (outs : List Out) (outcomes outcomes' : List Outcome) → IsEven w inbox ins outs outcomes → inbox' ≡ inbox → ins' ≡ ins → outcomes' ≡ outcomes → IsEven w inbox' ins' outs outcomes'
 same_even w inbox inbox' ins ins' outs outcomes outcomes' ok a b c =
     let x : weigh w inbox'.taken ≡ weigh w inbox.taken = ap (λ (i : In). weigh w i.taken) a in
     let y : weigh_taken w ins' ≡ weigh_taken w ins = ap (weigh_taken w) b in
     let z : weigh_settled w outcomes' ≡ weigh_settled w outcomes = ap (weigh_settled w) c in
     omega arith
 
--- a journey weighs 1 where its head passes the test
-abbrev pub head_weighs : (Head → Bool) → Journey → ℕ
+-- a record weighs 1 where its head passes the test
+abbrev pub head_weighs : (Head → Bool) → Record → ℕ
 head_weighs h r = one h (head_of r)
 
 -- so the account stays balanced
 pub balanced_sent : (inbox : In) (ins : List In) (inbox' : In) (ins' : List In) (outs outs' : List Out) (outcomes outcomes' : List Outcome) → IsBalanced inbox ins outs outcomes →
-    (p q : SeenParcel) (k : ℕ) → TookAt inbox ins inbox' ins' p k → (ports : List Hop) (hop : Hop) → SentOver ports outs outs' hop q → head_of q.journey ≡ head_of p.journey → outcomes' ≡ outcomes →
+    (p q : Parcel) (k : ℕ) → TookAt inbox ins inbox' ins' p k → (ports : List Hop) (hop : Hop) → SentOver ports outs outs' hop q → head_of q.journey ≡ head_of p.journey → outcomes' ≡ outcomes →
     IsBalanced inbox' ins' outs' outcomes'
 balanced_sent inbox ins inbox' ins' outs outs' outcomes outcomes' ok p q k took ports hop sent same kept h =
     even_sent (head_weighs h) inbox ins inbox' ins' outs outs' outcomes outcomes' (ok h) p q k took ports hop sent (ap (one h) same) kept
 
 pub balanced_settled : (inbox : In) (ins : List In) (inbox' : In) (ins' : List In) (outs outs' : List Out) (outcomes outcomes' : List Outcome) → IsBalanced inbox ins outs outcomes →
-    (p : SeenParcel) (k : ℕ) → TookAt inbox ins inbox' ins' p k → outs' ≡ outs → (o : Outcome) → outcomes' ≡ outcomes ++ o ∷ [] → head_of o.packet ≡ head_of p.journey →
+    (p : Parcel) (k : ℕ) → TookAt inbox ins inbox' ins' p k → outs' ≡ outs → (o : Outcome) → outcomes' ≡ outcomes ++ o ∷ [] → head_of o.packet ≡ head_of p.journey →
     IsBalanced inbox' ins' outs' outcomes'
 balanced_settled inbox ins inbox' ins' outs outs' outcomes outcomes' ok p k took sent o settled same h =
     even_settled (head_weighs h) inbox ins inbox' ins' outs outs' outcomes outcomes' (ok h) p k took sent o settled (ap (one h) same)

@@ -10,16 +10,16 @@ use Rattle.ir_model.specs.declared.Hop.{Hop}
 use Rattle.ir_core.specs.declared.board.Board.{Board}
 use Rattle.ir_core.specs.declared.event.Way.{Way}
 use Rattle.ir_core.specs.Sound.{last_of}
-use Rattle.ir_links.specs.Ends.{Line}
+use Rattle.ir_links.specs.Ends.{Channel}
 use Rattle.ir_epochs.specs.declared.registry.Stamp.{Stamp}
 use Rattle.ir_worker.specs.declared.parcel.Place.{Place}
 use Rattle.ir_worker.specs.declared.parcel.Outcome.{Outcome}
-use Rattle.ir_worker.specs.Seen.{SeenParcel, GoesTo, HasRoomOf, IsOfNet, place_of, stamps_of}
-use Rattle.ir_core.specs.State.{IsNew, InHand}
-use Rattle.ir_model.specs.Network.{Network}
+use Rattle.ir_worker.specs.Seen.{Parcel, GoesTo, HasRoomOf, IsOfNet, net_place, stamps_of}
+use Rattle.ir_core.specs.World.{IsNew, InHand}
+use Rattle.ir_model.specs.Topology.{Topology}
 use Rattle.ir_core.specs.declared.event.Verdict.{Verdict}
 use Rattle.ir_epochs.specs.declared.entry.Entry.{Entry}
-use Rattle.ir_epochs.specs.Entries.{registry_of, network_of, IsCurrent, board_of}
+use Rattle.ir_epochs.specs.Entries.{registry_of, topology_of, IsCurrent, board_of}
 use Rattle.ir_epochs.specs.Over.{IsOver}
 use Rattle.ir_epochs.specs.Stamps.{knows, registry_name}
 use Rattle.ir_worker.specs.Acts.{restamp_on, with_restamp, way_then, GoesOnAs, SettlesAs, CauseHolds}
@@ -29,11 +29,11 @@ use Rattle.ir_worker.specs.Ends.{CameBy}
 use Rattle.ir_worker.specs.Wires.{In, Out, TookAt, IsWayAt, AreEndsOf}
 use Rattle.ir_worker.proofs.Ways.{place_at}
 
-places_in : (ins : List In) → map (λ (t : In). t.line.place) ins ≡ map (λ (l : Line Place). l.place) (lines_in ins)
+places_in : (ins : List In) → map (λ (t : In). t.line.place) ins ≡ map (λ (l : Channel Place). l.place) (lines_in ins)
 places_in [] = refl
 places_in (t ∷ ins) = ap (λ (xs : List Place). t.line.place ∷ xs) (places_in ins)
 
-places_out : (outs : List Out) → map (λ (s : Out). s.line.place) outs ≡ map (λ (l : Line Place). l.place) (lines_out outs)
+places_out : (outs : List Out) → map (λ (s : Out). s.line.place) outs ≡ map (λ (l : Channel Place). l.place) (lines_out outs)
 places_out [] = refl
 places_out (s ∷ outs) = ap (λ (xs : List Place). s.line.place ∷ xs) (places_out outs)
 
@@ -45,13 +45,13 @@ ends_kept opening restamps u ports inbox ins outs inbox' ins' outs' k a b c = re
   few = k.few;
   few_restamps = k.few_restamps;
   all_ports = k.all_ports;
-  inbox_place = ap (λ (l : Line Place). l.place) a ∙ k.inbox_place;
-  in_places = places_in ins' ∙ ap (map (λ (l : Line Place). l.place)) b ∙ sym (places_in ins) ∙ k.in_places;
-  out_places = places_out outs' ∙ ap (map (λ (l : Line Place). l.place)) c ∙ sym (places_out outs) ∙ k.out_places;
+  inbox_place = ap (λ (l : Channel Place). l.place) a ∙ k.inbox_place;
+  in_places = places_in ins' ∙ ap (map (λ (l : Channel Place). l.place)) b ∙ sym (places_in ins) ∙ k.in_places;
+  out_places = places_out outs' ∙ ap (map (λ (l : Channel Place). l.place)) c ∙ sym (places_out outs) ∙ k.out_places;
 }
 
 -- a parcel that was taken goes to the node
-pub record IsTakenBy (opening : Stamp) (restamps u : ℕ) (ports : List Hop) (way : Way) (p : SeenParcel) : Type 0 where
+pub record IsTakenBy (opening : Stamp) (restamps u : ℕ) (ports : List Hop) (way : Way) (p : Parcel) : Type 0 where
   pub came : CameBy ports u way (last_of p.journey.hops) p.next
   pub of_net : All (λ s. IsOfNet opening s) (stamps_of p.first p.later)
   pub few : length p.journey.restamps ≤ restamps
@@ -59,14 +59,14 @@ pub record IsTakenBy (opening : Stamp) (restamps u : ℕ) (ports : List Hop) (wa
   pub is_new : IsNew p.journey (InHand u way)
 
 pub taken_place : (opening : Stamp) (restamps u : ℕ) (ports : List Hop) (inbox : In) (ins : List In) (outs : List Out) → AreEndsOf opening restamps u ports inbox ins outs →
-    (inbox' : In) (ins' : List In) (p : SeenParcel) (k : ℕ) → TookAt inbox ins inbox' ins' p k → (way : Way) → IsWayAt ports way k → IsTakenBy opening restamps u ports way p
+    (inbox' : In) (ins' : List In) (p : Parcel) (k : ℕ) → TookAt inbox ins inbox' ins' p k → (way : Way) → IsWayAt ports way k → IsTakenBy opening restamps u ports way p
 taken_place opening restamps u ports inbox ins outs is inbox' ins' p zero took way by =
-    let goes : GoesTo p (place_of opening restamps u u) = subst (λ (x : Place). GoesTo p x) is.inbox_place took.2 in
+    let goes : GoesTo p (net_place opening restamps u u) = subst (λ (x : Place). GoesTo p x) is.inbox_place took.2 in
     subst (λ (w : Way). IsTakenBy opening restamps u ports w p) (sym by) (record { came = (goes.last, goes.next); of_net = goes.of_net; few = goes.few; room = goes.room; is_new = goes.fresh refl })
 taken_place opening restamps u ports inbox ins outs is inbox' ins' p (suc j) took way by =
     let mine = by.0 in
-    let here = place_at (λ (t : In). t.line.place) ins (λ (h : Hop). place_of opening restamps h.node u) ports is.in_places j mine by.1 took.1.0 took.1.1 in
-    let goes : GoesTo p (place_of opening restamps mine.node u) = subst (λ (x : Place). GoesTo p x) here took.1.3 in
+    let here = place_at (λ (t : In). t.line.place) ins (λ (h : Hop). net_place opening restamps h.node u) ports is.in_places j mine by.1 took.1.0 took.1.1 in
+    let goes : GoesTo p (net_place opening restamps mine.node u) = subst (λ (x : Place). GoesTo p x) here took.1.3 in
     subst (λ (w : Way). IsTakenBy opening restamps u ports w p) (sym by.2) (record { came = (goes.next, (j, mine, by.1, refl, goes.last)); of_net = goes.of_net; few = goes.few; room = goes.room; is_new = tt })
 
 -- outcomes of one net
@@ -80,7 +80,7 @@ pub same_of_net : (opening : Stamp) (restamps : ℕ) (outcomes outcomes' : List 
 same_of_net opening restamps outcomes outcomes' is e = subst (λ (xs : List Outcome). ∥ AreOfNet opening restamps xs ∥₁) (sym e) is
 
 pub more_of_net : (opening : Stamp) (restamps : ℕ) (outcomes outcomes' : List Outcome) (o : Outcome) → ∥ AreOfNet opening restamps outcomes ∥₁ → outcomes' ≡ outcomes ++ o ∷ [] →
-    (p : SeenParcel) → All (λ s. IsOfNet opening s) (stamps_of p.first p.later) → length p.journey.restamps ≤ restamps → o.stamp ≡ p.first → o.later.items ≡ p.later → o.packet.restamps ≡ p.journey.restamps → ∥ AreOfNet opening restamps outcomes' ∥₁
+    (p : Parcel) → All (λ s. IsOfNet opening s) (stamps_of p.first p.later) → length p.journey.restamps ≤ restamps → o.stamp ≡ p.first → o.later.items ≡ p.later → o.packet.restamps ≡ p.journey.restamps → ∥ AreOfNet opening restamps outcomes' ∥₁
 more_of_net opening restamps outcomes outcomes' o is e p of few first later same =
     let here : IsOutcomeOf opening restamps o = record {
       of_net = subst (λ (x : List Stamp). All (λ (s : Stamp). IsOfNet opening s) x) (sym (ap (λ (x : Stamp). stamps_of x o.later.items) first ∙ ap (λ (x : List Stamp). stamps_of p.first x) later)) of;
@@ -89,30 +89,30 @@ more_of_net opening restamps outcomes outcomes' o is e p of few first later same
     ∥∥₁_elim is ∥∥₁_prop (λ all. ∣ subst (λ (xs : List Outcome). AreOfNet opening restamps xs) (sym e) (All-push (IsOutcomeOf opening restamps) outcomes o all here) ∣₁)
 
 -- the current stamp is of the net
-pub current_of_net : (opening : Stamp) (entries : List Entry) (s : Stamp) → IsCurrent entries s → registry_of entries ≡ registry_name opening → network_of entries ≡ (knows opening).network → IsOfNet opening s
+pub current_of_net : (opening : Stamp) (entries : List Entry) (s : Stamp) → IsCurrent entries s → registry_of entries ≡ registry_name opening → topology_of entries ≡ (knows opening).topology → IsOfNet opening s
 current_of_net opening entries s is a b =
-    (is.registry ∙ a, subst (λ (x : Network). IsOver x (knows s).network) b is.over)
+    (is.registry ∙ a, subst (λ (x : Topology). IsOver x (knows s).topology) b is.over)
 
 -- a restamp changes no head
-pub head_with : (x : Option ℕ) (current : Stamp) (way : Way) (u : ℕ) (p : SeenParcel) → head_of (with_restamp x current way u p).journey ≡ head_of p.journey
+pub head_with : (x : Option ℕ) (current : Stamp) (way : Way) (u : ℕ) (p : Parcel) → head_of (with_restamp x current way u p).journey ≡ head_of p.journey
 head_with None current way u p = refl
 head_with (Some e) current way u p = refl
 
 -- what was done by the board that was read
-pub goes_by_board : (b b' : Board) (allowed : ℕ) (p : SeenParcel) (current : Stamp) (way way' : Way) (u : ℕ) (p' : SeenParcel) (h : Hop) (q : SeenParcel) → b ≡ b' →
+pub goes_by_board : (b b' : Board) (allowed : ℕ) (p : Parcel) (current : Stamp) (way way' : Way) (u : ℕ) (p' : Parcel) (h : Hop) (q : Parcel) → b ≡ b' →
     p' ≡ with_restamp (restamp_on allowed p b way u) current way u p → way' ≡ way_then (restamp_on allowed p b way u) way → GoesOnAs b way' u p' h q →
     GoesOnAs b' (way_then (restamp_on allowed p b' way u) way) u (with_restamp (restamp_on allowed p b' way u) current way u p) h q
 goes_by_board b b' allowed p current way way' u p' h q e f g on =
     let here : GoesOnAs b (way_then (restamp_on allowed p b way u) way) u (with_restamp (restamp_on allowed p b way u) current way u p) h q =
-    subst (λ (w : Way). GoesOnAs b w u (with_restamp (restamp_on allowed p b way u) current way u p) h q) g (subst (λ (x : SeenParcel). GoesOnAs b way' u x h q) f on) in
+    subst (λ (w : Way). GoesOnAs b w u (with_restamp (restamp_on allowed p b way u) current way u p) h q) g (subst (λ (x : Parcel). GoesOnAs b way' u x h q) f on) in
     subst (λ (x : Board). GoesOnAs x (way_then (restamp_on allowed p x way u) way) u (with_restamp (restamp_on allowed p x way u) current way u p) h q) e here
 
-pub settles_by_board : (b b' : Board) (allowed : ℕ) (p : SeenParcel) (current : Stamp) (way way' : Way) (u : ℕ) (p' : SeenParcel) (refused : Bool) (v : Verdict) (o : Outcome) → b ≡ b' →
+pub settles_by_board : (b b' : Board) (allowed : ℕ) (p : Parcel) (current : Stamp) (way way' : Way) (u : ℕ) (p' : Parcel) (refused : Bool) (v : Verdict) (o : Outcome) → b ≡ b' →
     p' ≡ with_restamp (restamp_on allowed p b way u) current way u p → way' ≡ way_then (restamp_on allowed p b way u) way → SettlesAs b refused way' u p' v o →
     SettlesAs b' refused (way_then (restamp_on allowed p b' way u) way) u (with_restamp (restamp_on allowed p b' way u) current way u p) v o
 settles_by_board b b' allowed p current way way' u p' refused v o e f g on =
     let here : SettlesAs b refused (way_then (restamp_on allowed p b way u) way) u (with_restamp (restamp_on allowed p b way u) current way u p) v o =
-    subst (λ (w : Way). SettlesAs b refused w u (with_restamp (restamp_on allowed p b way u) current way u p) v o) g (subst (λ (x : SeenParcel). SettlesAs b refused way' u x v o) f on) in
+    subst (λ (w : Way). SettlesAs b refused w u (with_restamp (restamp_on allowed p b way u) current way u p) v o) g (subst (λ (x : Parcel). SettlesAs b refused way' u x v o) f on) in
     subst (λ (x : Board). SettlesAs x refused (way_then (restamp_on allowed p x way u) way) u (with_restamp (restamp_on allowed p x way u) current way u p) v o) e here
 
 -- what is known of a cause stays known

@@ -17,9 +17,9 @@ use Rattle.ir_epochs.specs.declared.entry.Entry.{Entry}
 use Rattle.ir_epochs.specs.declared.registry.Stamp.{Stamp}
 use Rattle.ir_epochs.specs.Entries.{board_of}
 use Rattle.ir_worker.specs.declared.parcel.Outcome.{Outcome}
-use Rattle.ir_worker.specs.Seen.{SeenParcel}
+use Rattle.ir_worker.specs.Seen.{Parcel}
 use Rattle.ir_worker.specs.Account.{restamps_with, NeverCurrent, AreRestampsKnown}
-use Rattle.ir_worker.specs.Acts.{restamp_on, with_restamp, verdict_on, GoesOnAs, SettlesAs}
+use Rattle.ir_worker.specs.Acts.{restamp_on, with_restamp, parcel_verdict, GoesOnAs, SettlesAs}
 use Rattle.ir_worker.specs.Wires.{In, Out, TookAt, SentOver}
 use Rattle.ir_worker.proofs.Counts.{even_sent, even_settled, same_even}
 
@@ -40,7 +40,7 @@ pub never_now : (p : ℕ → Bool) (entries : List Entry) → NeverCurrent p ent
 never_now p entries never = ap (λ (xs : List Entry). p (board_of xs).current) (sym (take_all (length entries) entries (omega arith))) ∙ never (length entries)
 
 -- a restamp is of the current epoch
-module _ (p : ℕ → Bool) (b : Board) (none : p b.current ≡ false) (x : SeenParcel) (current : Stamp) (way : Way) (u : ℕ) where
+module _ (p : ℕ → Bool) (b : Board) (none : p b.current ≡ false) (x : Parcel) (current : Stamp) (way : Way) (u : ℕ) where
   by_left : (r : Bool) → restamps_with p (with_restamp (cond r (Some b.current) None) current way u x).journey ≡ restamps_with p x.journey
   by_left true =
       let s : Restamp = record { epoch = b.current; from = length (hops_here way u x.journey.hops) - 1 } in
@@ -58,7 +58,7 @@ module _ (p : ℕ → Bool) (b : Board) (none : p b.current ≡ false) (x : Seen
   by_verdict k (GoesOn h) = refl
 
   pub ready_weighs : (allowed : ℕ) → restamps_with p (with_restamp (restamp_on allowed x b way u) current way u x).journey ≡ restamps_with p x.journey
-  ready_weighs allowed = by_verdict (allowed - length x.journey.restamps) (verdict_on x b false way u)
+  ready_weighs allowed = by_verdict (allowed - length x.journey.restamps) (parcel_verdict x b false way u)
 
 -- what a node keeps where it reads on
 pub known_later : (old new : List Entry) (inbox : In) (ins : List In) (outs : List Out) (outcomes outcomes' : List Outcome) → AreRestampsKnown old inbox ins outs outcomes → IsPrefix old new → outcomes' ≡ outcomes → AreRestampsKnown new inbox ins outs outcomes'
@@ -68,14 +68,14 @@ known_later old new inbox ins outs outcomes outcomes' known is same p never =
 pub known_same : (entries : List Entry) (inbox : In) (ins : List In) (outs : List Out) (outcomes outcomes' : List Outcome) → AreRestampsKnown entries inbox ins outs outcomes → outcomes' ≡ outcomes → AreRestampsKnown entries inbox ins outs outcomes'
 known_same entries inbox ins outs outcomes outcomes' known same p never = same_even (restamps_with p) inbox inbox ins ins outs outcomes outcomes' (known p never) refl refl same
 
-module _ (old new : List Entry) (is : IsPrefix old new) (b : Board) (board : b ≡ board_of new) (allowed : ℕ) (x x' : SeenParcel) (current : Stamp) (way : Way) (u : ℕ)
+module _ (old new : List Entry) (is : IsPrefix old new) (b : Board) (board : b ≡ board_of new) (allowed : ℕ) (x x' : Parcel) (current : Stamp) (way : Way) (u : ℕ)
     (ready : x' ≡ with_restamp (restamp_on allowed x b way u) current way u x) where
   weighs : (p : ℕ → Bool) → NeverCurrent p new → restamps_with p x'.journey ≡ restamps_with p x.journey
-  weighs p never = ap (λ (y : SeenParcel). restamps_with p y.journey) ready ∙ ready_weighs p b (ap (λ (z : Board). p z.current) board ∙ never_now p new never) x current way u allowed
+  weighs p never = ap (λ (y : Parcel). restamps_with p y.journey) ready ∙ ready_weighs p b (ap (λ (z : Board). p z.current) board ∙ never_now p new never) x current way u allowed
 
   -- a parcel that was taken and sent on
   pub known_sent : (inbox : In) (ins : List In) (inbox' : In) (ins' : List In) (outs outs' : List Out) (outcomes outcomes' : List Outcome) → AreRestampsKnown old inbox ins outs outcomes →
-      (k : ℕ) → TookAt inbox ins inbox' ins' x k → (way' : Way) (h : Hop) (q : SeenParcel) → GoesOnAs b way' u x' h q → (ports : List Hop) → SentOver ports outs outs' h q → outcomes' ≡ outcomes →
+      (k : ℕ) → TookAt inbox ins inbox' ins' x k → (way' : Way) (h : Hop) (q : Parcel) → GoesOnAs b way' u x' h q → (ports : List Hop) → SentOver ports outs outs' h q → outcomes' ≡ outcomes →
       AreRestampsKnown new inbox' ins' outs' outcomes'
   known_sent inbox ins inbox' ins' outs outs' outcomes outcomes' known k took way' h q on ports sent kept p never =
       even_sent (restamps_with p) inbox ins inbox' ins' outs outs' outcomes outcomes' (known p (never_earlier p old new is never)) x q k took ports h sent

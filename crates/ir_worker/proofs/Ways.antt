@@ -9,7 +9,7 @@ use Rattle.ir_core.specs.Sound.{last_of}
 use Rattle.ir_links.specs.Ends.{WasEmpty, FoundNone, Word}
 use Rattle.ir_epochs.specs.declared.registry.Stamp.{Stamp}
 use Rattle.ir_worker.specs.declared.parcel.Place.{Place}
-use Rattle.ir_worker.specs.Seen.{SeenParcel, GoesTo, HasRoomOf, IsOfNet, place_of, stamps_of}
+use Rattle.ir_worker.specs.Seen.{Parcel, GoesTo, HasRoomOf, IsOfNet, net_place, stamps_of}
 use Rattle.ir_worker.specs.Account.{lines_in, lines_out}
 use Rattle.ir_worker.specs.Wires.{In, Out, WasEmptyAt, after_taking, after_sending, TookAt, SentOver}
 
@@ -24,21 +24,21 @@ pub set_kept : {A : Type 0} (ins : List A) (i : ℕ) (new old : A) → old ≡ g
 set_kept {A = A} ins i new old read same = ap (λ t. slice_set ins i t) (same ∙ read) ∙ set-get_or ins i old
 
 -- what a port gave
-took_from : (inbox : In) (ins : List In) (w : ℕ) (new old : In) (p : SeenParcel) → w ≢ 0 → slice_get ins (w - 1) ≡ Some old → new ≡ after_taking old p → GoesTo p old.line.place →
+took_from : (inbox : In) (ins : List In) (w : ℕ) (new old : In) (p : Parcel) → w ≢ 0 → slice_get ins (w - 1) ≡ Some old → new ≡ after_taking old p → GoesTo p old.line.place →
     TookAt inbox ins inbox (slice_set ins (w - 1) new) p w
 took_from inbox ins zero new old p some at took goes = absurd (some refl)
 took_from inbox ins (suc j) new old p some at took goes =
     let same : suc j - 1 ≡ j = omega arith in
     (refl, (old, ap (λ k. slice_get ins k) (sym same) ∙ at, ap (λ k. slice_set ins k new) same ∙ ap (λ t. slice_set ins j t) took, goes))
 
-pub took_port : (inbox : In) (ins : List In) (w : ℕ) (new old : In) (answer : Option SeenParcel) → w ≢ 0 → w - 1 < length ins → old ≡ get_or ins (w - 1) old →
+pub took_port : (inbox : In) (ins : List In) (w : ℕ) (new old : In) (answer : Option Parcel) → w ≢ 0 → w - 1 < length ins → old ≡ get_or ins (w - 1) old →
     MatchOption answer ((new ≡ old) × WasEmpty GoesTo old) (λ p. (new ≡ record old { taken = old.taken ++ p ∷ [] }) × GoesTo p old.line.place) →
     MatchOption answer ((inbox ≡ inbox) × (slice_set ins (w - 1) new ≡ ins)) (λ p. TookAt inbox ins inbox (slice_set ins (w - 1) new) p w)
 took_port inbox ins w new old None some lt read h = (refl, set_kept ins (w - 1) new old read h.0)
 took_port inbox ins w new old (Some p) some lt read h = took_from inbox ins w new old p some (slice_get_read ins (length ins) (w - 1) old refl lt read) h.0 h.1
 
 -- a port gave nothing since its pop was refused
-pub empty_port : (was_empty : Word SeenParcel) (inbox : In) (ins : List In) (w : ℕ) (old : In) (answer : Option SeenParcel) → w ≢ 0 → w - 1 < length ins → old ≡ get_or ins (w - 1) old → IfNone answer (FoundNone was_empty GoesTo old) →
+pub empty_port : (was_empty : Word Parcel) (inbox : In) (ins : List In) (w : ℕ) (old : In) (answer : Option Parcel) → w ≢ 0 → w - 1 < length ins → old ≡ get_or ins (w - 1) old → IfNone answer (FoundNone was_empty GoesTo old) →
     IfNone answer (WasEmptyAt was_empty inbox ins w)
 empty_port was_empty inbox ins w old (Some p) some lt read found = tt
 empty_port was_empty inbox ins zero old None some lt read found = absurd (some refl)
@@ -55,18 +55,18 @@ pub as_many : {A : Type 0} (place : A → Place) (ends : List A) (f : Hop → Pl
 as_many place ends f ports same = sym (length-map ends place) ∙ ap length same ∙ length-map ports f
 
 -- one parcel more was sent
-pub sent_over : (ports : List Hop) (outs : List Out) (j : ℕ) (h : Hop) (old new : Out) (q : SeenParcel) → slice_get ports j ≡ Some h → j < length outs → old ≡ get_or outs j old → new ≡ after_sending old q →
+pub sent_over : (ports : List Hop) (outs : List Out) (j : ℕ) (h : Hop) (old new : Out) (q : Parcel) → slice_get ports j ≡ Some h → j < length outs → old ≡ get_or outs j old → new ≡ after_sending old q →
     SentOver ports outs (slice_set outs j new) h q
 sent_over ports outs j h old new q at lt read sent = (j, old, at, slice_get_read outs (length outs) j old refl lt read, ap (λ (s : Out). slice_set outs j s) sent)
 
 -- what a node sends over a port goes to the port's place
-pub goes_out : (opening : Stamp) (restamps u : ℕ) (ports : List Hop) (outs : List Out) → map (λ (x : Out). x.line.place) outs ≡ map (λ (h : Hop). place_of opening restamps u h.node) ports →
-    (p q : SeenParcel) → All (λ s. IsOfNet opening s) (stamps_of p.first p.later) → length p.journey.restamps ≤ restamps → HasRoomOf opening restamps p → (h : Hop) (j : ℕ) (out : Out) → (u ≡ h.node → ⊥) →
+pub goes_out : (opening : Stamp) (restamps u : ℕ) (ports : List Hop) (outs : List Out) → map (λ (x : Out). x.line.place) outs ≡ map (λ (h : Hop). net_place opening restamps u h.node) ports →
+    (p q : Parcel) → All (λ s. IsOfNet opening s) (stamps_of p.first p.later) → length p.journey.restamps ≤ restamps → HasRoomOf opening restamps p → (h : Hop) (j : ℕ) (out : Out) → (u ≡ h.node → ⊥) →
     q.first ≡ p.first → q.later ≡ p.later → q.journey.restamps ≡ p.journey.restamps → q.journey.room ≡ p.journey.room → last_of q.journey.hops ≡ u → q.next ≡ h.node → slice_get ports j ≡ Some h → j < length outs → out ≡ get_or outs j out → GoesTo q out.line.place
 goes_out opening restamps u ports outs places p q of few roomy h j out apart first later same kept last next at lt read =
     let there : slice_get outs j ≡ Some out = slice_get_read outs (length outs) j out refl lt read in
-    let here : out.line.place ≡ place_of opening restamps u h.node = place_at (λ (x : Out). x.line.place) outs (λ (h : Hop). place_of opening restamps u h.node) ports places j h at out there in
-    let goes : GoesTo q (place_of opening restamps u h.node) = record {
+    let here : out.line.place ≡ net_place opening restamps u h.node = place_at (λ (x : Out). x.line.place) outs (λ (h : Hop). net_place opening restamps u h.node) ports places j h at out there in
+    let goes : GoesTo q (net_place opening restamps u h.node) = record {
       last = last;
       next = next;
       of_net = subst (λ (x : List Stamp). All (λ (s : Stamp). IsOfNet opening s) x) (sym (ap (λ (x : Stamp). stamps_of x q.later) first ∙ ap (λ (x : List Stamp). stamps_of p.first x) later)) of;

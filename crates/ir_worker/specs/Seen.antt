@@ -1,118 +1,118 @@
 -- What contracts see of a parcel, and where it goes.
 use Rattle.std.specs.Prelude.{◌≡◌, ◌⊎◌, ℕ, ◌<◌, ◌≤◌, List, [], ◌∷◌, ◌++◌, Some, All, length, reverse, slice_get}
-use Rattle.ir_model.specs.Network.{node_count}
-use Rattle.ir_model.specs.Scheme.{Scheme, label_in}
+use Rattle.ir_model.specs.Topology.{node_count}
+use Rattle.ir_model.specs.Plan.{Plan, label_in}
 use Rattle.ir_core.specs.declared.TheConstants.{MAX_NODES, MAX_RESTAMPS}
 use Rattle.ir_core.specs.declared.packet.Fate.TheVariants.{Left}
-use Rattle.ir_core.specs.Journey.{Journey, hop_room, segments, joined, present}
+use Rattle.ir_core.specs.Record.{Record, hop_room, segments, joined, present}
 use Rattle.std.specs.List.{AllByRecursion}
 use Rattle.ir_core.specs.Sound.{IsSound, AreRising, AreLinked, ArePlaces, last_of}
-use Rattle.ir_core.specs.State.{IsBeginning, StepsTo}
+use Rattle.ir_core.specs.World.{IsBeginning, StepsTo}
 use Rattle.ir_epochs.specs.declared.registry.Stamp.{Stamp}
 use Rattle.ir_epochs.specs.Stamps.{knows, registry_name}
 use Rattle.ir_epochs.specs.Over.{IsOver}
 use Rattle.ir_worker.specs.declared.parcel.Place.{Place}
 
 -- A packet's record so far, its first stamp and those of its later segments, and the node that it goes to.
-pub record SeenParcel : Type 0 where
-  pub journey : Journey
+pub record Parcel : Type 0 where
+  pub journey : Record
   pub first : Stamp
   pub later : List Stamp
   pub next : ℕ
 
 -- of stamps, the latest first: the latest, or the first of all where there is no other
-abbrev pub stamp_in : List Stamp → Stamp → Stamp
-stamp_in [] first = first
-stamp_in (s ∷ older) first = s
+abbrev pub latest_stamp : List Stamp → Stamp → Stamp
+latest_stamp [] first = first
+latest_stamp (s ∷ older) first = s
 
 -- all stamps, the latest first, and the stamp of the present segment
 abbrev pub stamps_of : Stamp → List Stamp → List Stamp
 stamps_of first later = reverse later ++ first ∷ []
 
 abbrev pub present_stamp : Stamp → List Stamp → Stamp
-present_stamp first later = stamp_in (reverse later) first
+present_stamp first later = latest_stamp (reverse later) first
 
-abbrev pub stamp_now : SeenParcel → Stamp
+abbrev pub stamp_now : Parcel → Stamp
 stamp_now p = present_stamp p.first p.later
 
 -- each segment with its stamp, the latest first
-abbrev pub EachBy : (Stamp → Journey → Type 0) → List Stamp → List Journey → Type 0
+abbrev pub EachBy : (Stamp → Record → Type 0) → List Stamp → List Record → Type 0
 EachBy P [] [] = Unit {0}
 EachBy P [] (g ∷ gs) = ⊥
 EachBy P (s ∷ ss) [] = ⊥
 EachBy P (s ∷ ss) (g ∷ gs) = P s g × EachBy P ss gs
 
 -- A segment is a beginning of the walk that the plan of its stamp prescribes from its first node to the destination.
-pub record IsStretch (s : Stamp) (g : Journey) : Type 0 where
+pub record IsStretchBy (s : Stamp) (g : Record) : Type 0 where
   pub epoch : g.epoch ≡ s.epoch
-  pub source_in : g.source < node_count (knows s).network
-  pub dest_in : g.dest < node_count (knows s).network
-  pub few : node_count (knows s).network ≤ MAX_NODES
+  pub source_in : g.source < node_count (knows s).topology
+  pub dest_in : g.dest < node_count (knows s).topology
+  pub few : node_count (knows s).topology ≤ MAX_NODES
   pub begins : slice_get g.hops 0 ≡ Some g.source
   pub follows : IsBeginning (knows s) g.dest g.hops
 
--- The segments of a journey are such, one for each stamp; their epochs rise, and each restamp stands at a place of its
+-- The segments of a record are such, one for each stamp; their epochs rise, and each restamp stands at a place of its
 -- own.
-pub record IsRouted (stamps : List Stamp) (r : Journey) : Type 0 where
+pub record IsRoutedBy (stamps : List Stamp) (r : Record) : Type 0 where
   pub few : length r.restamps ≤ MAX_RESTAMPS
   pub places : ArePlaces (length r.hops) (reverse r.restamps)
   pub rising : AreRising (segments r)
-  pub each : EachBy IsStretch stamps (segments r)
+  pub each : EachBy IsStretchBy stamps (segments r)
 
 -- A segment is sound by the plan of its stamp.
-abbrev pub IsSoundBy : Stamp → Journey → Type 0
-IsSoundBy s g = (g.epoch ≡ s.epoch) × IsSound (knows s) g
+abbrev pub IsSoundByStamp : Stamp → Record → Type 0
+IsSoundByStamp s g = (g.epoch ≡ s.epoch) × IsSound (knows s) g
 
--- A journey is sound by its stamps: each segment is, the segments joined end to end are its hops, each begins where the
+-- A record is sound by its stamps: each segment is, the segments joined end to end are its hops, each begins where the
 -- one before it ended, their epochs rise, and each restamp stands at a place of its own.
-pub record IsSoundJourney (stamps : List Stamp) (r : Journey) : Type 0 where
+pub record IsSoundByStamps (stamps : List Stamp) (r : Record) : Type 0 where
   pub few : length r.restamps ≤ MAX_RESTAMPS
   pub places : ArePlaces (length r.hops) (reverse r.restamps)
   pub joined : joined (segments r) ≡ r.hops
   pub linked : AreLinked (segments r)
   pub rising : AreRising (segments r)
-  pub each : EachBy IsSoundBy stamps (segments r)
+  pub each : EachBy IsSoundByStamp stamps (segments r)
 
 -- the node that follows the hops of a segment, or its first node while the packet is there
-abbrev pub IsNext : Scheme → Journey → ℕ → Type 0
-IsNext t g next = ((g.hops ≡ g.source ∷ []) × (next ≡ g.source)) ⊎ StepsTo t g.dest (last_of g.hops) next
+abbrev pub IsNextNode : Plan → Record → ℕ → Type 0
+IsNextNode t g next = ((g.hops ≡ g.source ∷ []) × (next ≡ g.source)) ⊎ StepsTo t g.dest (last_of g.hops) next
 
 -- a segment under way: a beginning of its walk, and the node that it goes to
-pub record IsUnderWay (t : Scheme) (g : Journey) (next : ℕ) : Type 0 where
-  pub source_in : g.source < node_count t.network
-  pub dest_in : g.dest < node_count t.network
-  pub few : node_count t.network ≤ MAX_NODES
+pub record IsSegmentUnderWay (t : Plan) (g : Record) (next : ℕ) : Type 0 where
+  pub source_in : g.source < node_count t.topology
+  pub dest_in : g.dest < node_count t.topology
+  pub few : node_count t.topology ≤ MAX_NODES
   pub begins : slice_get g.hops 0 ≡ Some g.source
   pub follows : IsBeginning t g.dest g.hops
-  pub goes : IsNext t g next
+  pub goes : IsNextNode t g next
   pub left : g.fate ≡ Left
 
 -- all plans that the stamps know are over so many nodes
 abbrev pub AreOverNodes : ℕ → List Stamp → Type 0
-AreOverNodes nodes stamps = AllByRecursion (λ s. node_count (knows s).network ≡ nodes) stamps
+AreOverNodes nodes stamps = AllByRecursion (λ s. node_count (knows s).topology ≡ nodes) stamps
 
 -- What is true of every parcel. Its record has room for the hops of as many restamps as it has had.
-pub record IsKept (first : Stamp) (later : List Stamp) (r : Journey) (next address : ℕ) : Type 0 where
-  pub routed : IsRouted (stamps_of first later) r
+pub record IsParcelKept (first : Stamp) (later : List Stamp) (r : Record) (next address : ℕ) : Type 0 where
+  pub routed : IsRoutedBy (stamps_of first later) r
   pub first_epoch : r.epoch ≡ first.epoch
   pub labelled : address ≡ label_in (knows (present_stamp first later)) r.dest
-  pub goes : IsNext (knows (present_stamp first later)) (present r) next
+  pub goes : IsNextNode (knows (present_stamp first later)) (present r) next
   pub left : r.fate ≡ Left
-  pub nodes : AreOverNodes (node_count (knows first).network) (stamps_of first later)
-  pub room : hop_room (length r.restamps) (node_count (knows first).network) ≤ r.room
+  pub nodes : AreOverNodes (node_count (knows first).topology) (stamps_of first later)
+  pub room : hop_room (length r.restamps) (node_count (knows first).topology) ≤ r.room
 
 -- a stamp of the net of the opening's stamp: of its registry, with a plan over links of its network
 abbrev pub IsOfNet : Stamp → Stamp → Type 0
-IsOfNet opening s = (registry_name s ≡ registry_name opening) × IsOver (knows opening).network (knows s).network
+IsOfNet opening s = (registry_name s ≡ registry_name opening) × IsOver (knows opening).topology (knows s).topology
 
 -- the record has the room of a net of the opening's stamp that allows so many restamps
-abbrev pub HasRoomOf : Stamp → ℕ → SeenParcel → Type 0
-HasRoomOf opening restamps p = p.journey.room ≡ hop_room restamps (node_count (knows opening).network)
+abbrev pub HasRoomOf : Stamp → ℕ → Parcel → Type 0
+HasRoomOf opening restamps p = p.journey.room ≡ hop_room restamps (node_count (knows opening).topology)
 
 -- A parcel goes to a place of its net if its last hop is the place's first node and the node that it goes to the
 -- second, all its stamps are of the net, its record has the room of the net, and it has had no more restamps than the net
 -- allows, and none in an inbox.
-pub record GoesTo (p : SeenParcel) (place : Place) : Type 0 where
+pub record GoesTo (p : Parcel) (place : Place) : Type 0 where
   pub last : last_of p.journey.hops ≡ place.from
   pub next : p.next ≡ place.to
   pub of_net : All (λ s. IsOfNet place.opening s) (stamps_of p.first p.later)
@@ -121,5 +121,5 @@ pub record GoesTo (p : SeenParcel) (place : Place) : Type 0 where
   pub fresh : place.from ≡ place.to → p.journey.restamps ≡ []
 
 -- a place of the net of the opening's stamp, which allows so many restamps
-abbrev pub place_of : Stamp → ℕ → ℕ → ℕ → Place
-place_of opening restamps from to = record { from = from; to = to; restamps = restamps; opening = opening }
+abbrev pub net_place : Stamp → ℕ → ℕ → ℕ → Place
+net_place opening restamps from to = record { from = from; to = to; restamps = restamps; opening = opening }

@@ -6,7 +6,7 @@ use Rattle.ir_core.specs.declared.board.Board.{Board}
 use Rattle.ir_core.specs.declared.event.Way.{Way}
 use Rattle.ir_core.specs.declared.event.Verdict.{Verdict}
 use Rattle.ir_core.specs.declared.event.Verdict.TheVariants.{Arrives}
-use Rattle.ir_core.specs.Journey.{stamp_of}
+use Rattle.ir_core.specs.Record.{stamp_of}
 use Rattle.ir_links.specs.Ends.{Word}
 use Rattle.ir_epochs.specs.declared.registry.Stamp.{Stamp}
 use Rattle.ir_epochs.specs.Entries.{board_of, Rises, IsCurrent}
@@ -15,7 +15,7 @@ use Rattle.ir_worker.specs.declared.parcel.Outcome.{Outcome}
 use Rattle.ir_worker.specs.declared.node.Node.{Node}
 use Rattle.ir_worker.specs.declared.node.Turn.{Turn}
 use Rattle.ir_worker.specs.declared.node.Turn.TheVariants.{Idle, Sent, Settled}
-use Rattle.ir_worker.specs.Seen.{SeenParcel}
+use Rattle.ir_worker.specs.Seen.{Parcel}
 use Rattle.ir_worker.specs.Acts.{restamp_on, with_restamp, way_then, GoesOnAs, SettlesAs, CauseHolds}
 use Rattle.ir_worker.specs.Wires.{way_after, TookAt, IsWayAt, SentOver, WasFullFor, WasEmptyAt}
 use Rattle.ir_worker.specs.Same.{IsSameNode}
@@ -32,33 +32,33 @@ pub record HoldsAll (a b : Node) : Type 0 where
   pub outcomes : b.outcomes.items ≡ a.outcomes.items
 
 -- one parcel was taken on the way whose turn it was, and nothing on the others
-pub record Takes (a b : Node) (p : SeenParcel) (way : Way) : Type 0 where
+pub record Takes (a b : Node) (p : Parcel) (way : Way) : Type 0 where
   pub took : TookAt a.entrances.inbox a.entrances.ports.items b.entrances.inbox b.entrances.ports.items p a.entrances.next
   pub by : IsWayAt a.ports.items way a.entrances.next
 
 -- The epoch that a parcel is restamped with, by the board that was read; the parcel after that; and the way by which it
 -- is then judged.
-abbrev pub restamp_in : Node → Node → SeenParcel → Way → Option ℕ
+abbrev pub restamp_in : Node → Node → Parcel → Way → Option ℕ
 restamp_in a b p way = restamp_on a.restamps p (board_in b) way a.index
 
-abbrev pub in_hand : Node → Node → SeenParcel → Way → Stamp → SeenParcel
+abbrev pub in_hand : Node → Node → Parcel → Way → Stamp → Parcel
 in_hand a b p way current = with_restamp (restamp_in a b p way) current way a.index p
 
-abbrev pub way_in : Node → Node → SeenParcel → Way → Way
+abbrev pub way_in : Node → Node → Parcel → Way → Way
 way_in a b p way = way_then (restamp_in a b p way) way
 
 -- The parcel that was taken was restamped, where that is due, with the stamp that is current on the board that was read,
 -- and sent on by the core's verdict by that board: to this node, and over no other port. Its present segment is of no epoch that the
 -- node knew to be retired before.
 pub record Sends (a b : Node) (id to : ℕ) : Type 0 where
-  pub parcel : SeenParcel
+  pub parcel : Parcel
   pub way : Way
   pub takes : Takes a b parcel way
   pub number : parcel.journey.id ≡ id
   pub current : Stamp
   pub is_current : IsCurrent (known b.reader) current
   pub hop : Hop
-  pub onward : SeenParcel
+  pub onward : Parcel
   pub goes : GoesOnAs (board_in b) (way_in a b parcel way) a.index (in_hand a b parcel way current) hop onward
   pub node : hop.node ≡ to
   pub sent : SentOver a.ports.items a.outs.items b.outs.items hop onward
@@ -73,12 +73,12 @@ pub record IsUntouched (a b : Node) : Type 0 where
   pub holds : HoldsAll a b
 
 -- In the words for a refused push and a refused pop.
-module _ (was_full was_empty : Word SeenParcel) where
+module _ (was_full was_empty : Word Parcel) where
   -- The parcel that was taken was restamped, where that is due, and settled by the core's verdict by the board that was
   -- read, whose version the outcome holds, and on which the cause that it names held; the earlier outcomes stay. If it was delivered, its present segment is of no
   -- epoch that the node knew to be retired before.
   pub record Settles (a b : Node) (id : ℕ) : Type 0 where
-    pub parcel : SeenParcel
+    pub parcel : Parcel
     pub way : Way
     pub takes : Takes a b parcel way
     pub number : parcel.journey.id ≡ id

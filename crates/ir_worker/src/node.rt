@@ -2,10 +2,10 @@
 ghost use Rattle.std.specs.Prelude.{◌≡◌, ◌≤◌, ℕ, [], length, map, All};
 ghost use Rattle.std.specs.Arc.{arc_value};
 ghost use Rattle.ir_epochs.specs.Stamps.{IsOf, knows, registry_name};
-ghost use Rattle.ir_epochs.specs.Entries.{registry_of, network_of};
+ghost use Rattle.ir_epochs.specs.Entries.{registry_of, topology_of};
 ghost use Rattle.ir_epochs.specs.Handles.{known};
 ghost use Rattle.ir_worker.specs.Outcomes.{IsOutcomeOf, IsCauseKnown};
-ghost use Rattle.ir_core.specs.Journey.{Journey};
+ghost use Rattle.ir_core.specs.Record.{Record};
 ghost use Rattle.ir_worker.specs.Account.{IsBalanced, IsEven, AreRestampsKnown};
 ghost use Rattle.ir_worker.specs.Wires.{AreEndsOf};
 
@@ -48,7 +48,7 @@ pub struct Node {
     settled: Arc<AtomicU32, Global>,
     ghost of_registry: { IsOf (arc_value registry) opening },
     ghost of_board: { (registry_of (known reader) ≡ registry_name opening)
-        × (network_of (known reader) ≡ (knows opening).network) },
+        × (topology_of (known reader) ≡ (knows opening).topology) },
     ghost ends: { AreEndsOf opening restamps index ports.items entrances.inbox entrances.ports.items outs.items },
     ghost account: { IsBalanced entrances.inbox entrances.ports.items outs.items outcomes.items },
     ghost restamped: { AreRestampsKnown (known reader) entrances.inbox entrances.ports.items outs.items
@@ -69,7 +69,7 @@ pub struct Ends {
 impl Node {
     ghost use Rattle.std.specs.Prelude.{◌<◌, MatchResult};
     ghost use mathlib.Core.List.{IsPrefix};
-    ghost use Rattle.ir_model.specs.Network.{node_count, ports_of};
+    ghost use Rattle.ir_model.specs.Topology.{node_count, ports_of};
     ghost use Rattle.ir_epochs.specs.Entries.{board_of, Rises};
     ghost use Rattle.ir_epochs.specs.Handles.{told, published, reader_board, writer_board, receipt_board};
     ghost use Rattle.ir_worker.specs.Same.{IsSameNode};
@@ -93,9 +93,9 @@ impl Node {
     ) -> Node
         requires registry { IsOf (arc_value registry) opening }
         requires board { (registry_of (known reader) ≡ registry_name opening)
-            × (network_of (known reader) ≡ (knows opening).network) }
+            × (topology_of (known reader) ≡ (knows opening).topology) }
         requires ends { AreEndsOf opening restamps index ports.items inbox ins.items outs.items }
-        requires fresh { (w : Journey → ℕ) → IsEven w inbox ins.items outs.items [] }
+        requires fresh { (w : Record → ℕ) → IsEven w inbox ins.items outs.items [] }
         ensures node { (result.index ≡ index) × (result.registry ≡ registry) × (result.opening ≡ opening)
             × (result.restamps ≡ restamps) × (result.ports ≡ ports) × (result.reader ≡ reader) }
         ensures ends { (result.entrances.inbox ≡ inbox) × (result.entrances.ports ≡ ins)

@@ -1,16 +1,16 @@
 //! Parcels, where they go, and what they come to.
 ghost use Rattle.std.specs.Prelude.{◌≡◌, ◌+◌, ◌<◌, ◌≤◌, [], ◌∷◌, ◌++◌, length, IfOk, MatchResult, Some, false, vec_capacity};
-ghost use Rattle.ir_model.specs.Network.{node_count};
-ghost use Rattle.ir_model.specs.Scheme.{IsScheme, label_in, next_hop};
+ghost use Rattle.ir_model.specs.Topology.{node_count};
+ghost use Rattle.ir_model.specs.Plan.{IsPlan, label_in, next_hop};
 ghost use Rattle.ir_core.specs.declared.TheConstants.{MAX_NODES, MAX_RESTAMPS};
 ghost use Rattle.ir_core.specs.declared.event.Verdict.{Verdict};
 ghost use Rattle.ir_core.specs.declared.packet.Fate.TheVariants.{Full, Left};
-ghost use Rattle.ir_core.specs.Journey.{hop_room, present, stamp_of};
+ghost use Rattle.ir_core.specs.Record.{hop_room, present, stamp_of};
 ghost use Rattle.ir_core.specs.Entry.{judged, restamped, fresh};
 ghost use Rattle.ir_core.specs.Sound.{LeadsOn, last_of};
-ghost use Rattle.ir_core.specs.State.{IsDue, IsNew, InHand};
+ghost use Rattle.ir_core.specs.World.{IsDue, IsNew, InHand};
 ghost use Rattle.ir_epochs.specs.Stamps.{IsOf, knows};
-ghost use Rattle.ir_worker.specs.Seen.{IsUnderWay, IsSoundJourney, stamps_of, stamp_now};
+ghost use Rattle.ir_worker.specs.Seen.{IsSegmentUnderWay, IsSoundByStamps, stamps_of, stamp_now};
 
 use ir_core::{Board, Hop, MAX_RESTAMPS, Record, Ruling, Verdict, Way, hop_room, judge};
 use ir_epochs::{Registry, Stamp};
@@ -51,9 +51,9 @@ struct Body {
 impl Model for Parcel {
     ghost use Rattle.std.specs.Prelude.{◌≡◌, ◌≤◌, length, vec_capacity};
     ghost use Rattle.ir_core.specs.declared.TheConstants.{MAX_RESTAMPS};
-    ghost use Rattle.ir_worker.specs.Seen.{SeenParcel, IsKept};
+    ghost use Rattle.ir_worker.specs.Seen.{Parcel, IsParcelKept};
 
-    ghost Value = { SeenParcel };
+    ghost Value = { Parcel };
 
     ghost view = { λ p. record {
       journey = p.body.value.packet;
@@ -62,8 +62,8 @@ impl Model for Parcel {
       next = p.body.value.next;
     } };
 
-    ghost invariant = { λ p. IsKept p.body.value.first p.body.value.later.items p.body.value.packet p.body.value.next
-        p.body.value.address × (MAX_RESTAMPS ≤ vec_capacity p.body.value.later)
+    ghost invariant = { λ p. IsParcelKept p.body.value.first p.body.value.later.items p.body.value.packet
+        p.body.value.next p.body.value.address × (MAX_RESTAMPS ≤ vec_capacity p.body.value.later)
         × (length p.body.value.later.items ≡ length p.body.value.packet.restamps) };
 }
 
@@ -90,11 +90,11 @@ pub struct Outcome {
     pub later: Vec<Stamp>,
     pub version: u32,
     ghost epoch: { packet.epoch ≡ stamp.epoch },
-    ghost sound: { ∥ IsSoundJourney (stamps_of stamp later.items) packet ∥₁ },
+    ghost sound: { ∥ IsSoundByStamps (stamps_of stamp later.items) packet ∥₁ },
 }
 
 impl Parcel {
-    ghost use Rattle.ir_worker.specs.Acts.{GoesOnAs, SettlesAs, verdict_on};
+    ghost use Rattle.ir_worker.specs.Acts.{GoesOnAs, SettlesAs, parcel_verdict};
 
     /// A new packet at its source, of a net that allows so many restamps. It has room for all hops and restamps that it can
     /// have.
@@ -108,11 +108,11 @@ impl Parcel {
         restamps: u8,
     ) -> Result<Parcel, AllocError>
         requires registry { IsOf registry.now stamp }
-        requires source { source < node_count (knows stamp).network }
-        requires dest { dest < node_count (knows stamp).network }
-        requires few { node_count (knows stamp).network ≤ MAX_NODES }
+        requires source { source < node_count (knows stamp).topology }
+        requires dest { dest < node_count (knows stamp).topology }
+        requires few { node_count (knows stamp).topology ≤ MAX_NODES }
         ensures { IfOk result (λ p. p ≡ record {
-          journey = fresh id stamp.epoch source dest (hop_room restamps (node_count (knows stamp).network));
+          journey = fresh id stamp.epoch source dest (hop_room restamps (node_count (knows stamp).topology));
           first = stamp;
           later = [];
           next = source;
@@ -181,7 +181,7 @@ impl Parcel {
     pub fn stamp(&self) -> &Stamp
         ensures stamp { result.now ≡ stamp_now self.now }
         ensures epoch { stamp_of self.now.journey ≡ result.now.epoch }
-        ensures under_way { IsUnderWay (knows (stamp_now self.now)) (present self.now.journey) self.now.next }
+        ensures under_way { IsSegmentUnderWay (knows (stamp_now self.now)) (present self.now.journey) self.now.next }
         ensures last { last_of (present self.now.journey).hops ≡ last_of self.now.journey.hops }
     {
         match self.body.later.as_slice().last() {
@@ -200,8 +200,8 @@ impl Parcel {
     // What comes of it at a node that took it by this way, where each channel has room.
     pub(crate) fn judge(&self, plan: &Plan, board: &Board, way: Way, at: u16) -> Verdict
         requires plan { plan.now ≡ knows (stamp_now self.now) }
-        requires at_in { at < node_count (knows (stamp_now self.now)).network }
-        ensures { result ≡ verdict_on self.now board.now false way at }
+        requires at_in { at < node_count (knows (stamp_now self.now)).topology }
+        ensures { result ≡ parcel_verdict self.now board.now false way at }
     {
         let _nodes = plan.nodes();
         let body = &self.body;
@@ -211,13 +211,13 @@ impl Parcel {
     // A new segment of it begins at a node, of this stamp.
     pub(crate) fn restamp(mut self, stamp: Stamp, plan: &Plan, way: Way, at: u16) -> Parcel
         requires plan { plan.now ≡ knows stamp }
-        requires at_in { at < node_count (knows stamp).network }
-        requires nodes { node_count (knows stamp).network ≡ node_count (knows (stamp_now self)).network }
+        requires at_in { at < node_count (knows stamp).topology }
+        requires nodes { node_count (knows stamp).topology ≡ node_count (knows (stamp_now self)).topology }
         requires due { IsDue (knows (stamp_now self)) (present self.journey) at way }
         requires is_new { IsNew self.journey (InHand at way) }
         requires above { stamp_of self.journey < stamp.epoch }
         requires left { length self.journey.restamps < MAX_RESTAMPS }
-        requires room { hop_room (length self.journey.restamps + 1) (node_count (knows stamp).network)
+        requires room { hop_room (length self.journey.restamps + 1) (node_count (knows stamp).topology)
             ≤ self.journey.room }
         ensures { result ≡ record {
           journey = restamped at way stamp.epoch self.journey;
@@ -245,7 +245,7 @@ impl Parcel {
         at: u16,
     ) -> Result<(Parcel, Hop), Outcome>
         requires plan { plan.now ≡ knows (stamp_now self) }
-        requires at_in { at < node_count (knows (stamp_now self)).network }
+        requires at_in { at < node_count (knows (stamp_now self)).topology }
         requires due { IsDue (knows (stamp_now self)) (present self.journey) at way }
         ensures acts { MatchResult result (λ r. GoesOnAs board.now way at self r.1 r.0)
             (λ o. (v : Verdict) × SettlesAs board.now false way at self v o) }

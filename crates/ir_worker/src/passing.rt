@@ -1,13 +1,13 @@
 //! What a node does with a parcel in its hand.
 ghost use Rattle.std.specs.Prelude.{◌≡◌, ◌<◌, ◌≤◌, ℕ, Bool, Some, All, map, length, slice_get, MatchResult};
 ghost use Rattle.ir_model.specs.declared.Hop.{Hop};
-ghost use Rattle.ir_model.specs.Network.{node_count, ports_of};
+ghost use Rattle.ir_model.specs.Topology.{node_count, ports_of};
 ghost use Rattle.ir_core.specs.declared.event.Verdict.{Verdict};
 ghost use Rattle.ir_core.specs.declared.TheConstants.{MAX_RESTAMPS};
 ghost use Rattle.ir_core.specs.Sound.{last_of};
-ghost use Rattle.ir_core.specs.State.{IsNew, InHand};
+ghost use Rattle.ir_core.specs.World.{IsNew, InHand};
 ghost use Rattle.ir_epochs.specs.Stamps.{IsOf, knows};
-ghost use Rattle.ir_worker.specs.Seen.{SeenParcel, HasRoomOf, IsOfNet, place_of, stamps_of};
+ghost use Rattle.ir_worker.specs.Seen.{Parcel, HasRoomOf, IsOfNet, net_place, stamps_of};
 ghost use Rattle.ir_worker.specs.Account.{lines_out};
 ghost use Rattle.ir_worker.specs.Acts.{restamp_on, with_restamp, way_then, GoesOnAs, SettlesAs};
 ghost use Rattle.ir_worker.specs.Ends.{CameBy};
@@ -45,8 +45,8 @@ pub fn ready(
     parcel: Parcel,
 ) -> (Parcel, Way)
     requires registry { IsOf registry.now opening.now }
-    requires node_in { at < node_count (knows opening.now).network }
-    requires ports { ports.now ≡ ports_of (knows opening.now).network at }
+    requires node_in { at < node_count (knows opening.now).topology }
+    requires ports { ports.now ≡ ports_of (knows opening.now).topology at }
     requires allowed { restamps ≤ MAX_RESTAMPS }
     requires current { IsOfNet opening.now current }
     requires epoch { current.epoch ≡ board.now.current }
@@ -90,16 +90,16 @@ pub fn pass_on<R: Moments<Parcel>>(
     parcel: Parcel,
 ) -> Result<u16, Outcome>
     requires registry { IsOf registry.now opening.now }
-    requires node_in { at < node_count (knows opening.now).network }
-    requires ports { ports.now ≡ ports_of (knows opening.now).network at }
+    requires node_in { at < node_count (knows opening.now).topology }
+    requires ports { ports.now ≡ ports_of (knows opening.now).topology at }
     requires outs { map (λ (s : Out). s.line.place) outs.old.items
-        ≡ map (λ (h : Hop). place_of opening.now restamps at h.node) ports.now }
+        ≡ map (λ (h : Hop). net_place opening.now restamps at h.node) ports.now }
     requires of_net { All (λ s. IsOfNet opening.now s) (stamps_of parcel.first parcel.later) }
     requires few { length parcel.journey.restamps ≤ restamps }
     requires room { HasRoomOf opening.now restamps parcel }
     requires came { CameBy ports.now at way (last_of parcel.journey.hops) parcel.next }
     ensures acts { MatchResult result
-        (λ to. (h : Hop) × (q : SeenParcel) × GoesOnAs board.now way at parcel h q × (h.node ≡ to)
+        (λ to. (h : Hop) × (q : Parcel) × GoesOnAs board.now way at parcel h q × (h.node ≡ to)
         × SentOver ports.now outs.old.items outs.new.items h q)
         (λ o. (refused : Bool) × (v : Verdict) × SettlesAs board.now refused way at parcel v o
         × (outs.new.items ≡ outs.old.items) × WasFullFor R.was_full ports.now outs.old.items v) }

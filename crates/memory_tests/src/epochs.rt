@@ -1,6 +1,6 @@
 //! A registry of plans, and a board.
 ghost use Rattle.std.specs.Prelude.{◌≡◌, ◌≤◌, All, IfOk, length};
-ghost use Rattle.ir_epochs.specs.Entries.{IsSameOpening, links_of};
+ghost use Rattle.ir_epochs.specs.Entries.{IsSameOpening, opening_links};
 ghost use Rattle.ir_epochs.specs.Handles.{published, reader_board, receipt_board, writer_board};
 ghost use Rattle.ir_epochs.specs.Stamps.{IsOf, knows};
 
@@ -51,8 +51,8 @@ fn opened<'a, R: Wait>(
     opening: &Stamp,
 ) -> Result<(BoardWriter<&'a R>, BoardReader), &'static str>
     requires epoch { opening.now.epoch ≡ 1 }
-    requires links { length (knows opening.now).network.links ≡ 2 }
-    ensures links { IfOk result (λ b. links_of (published b.0) ≡ 2) }
+    requires links { length (knows opening.now).topology.links ≡ 2 }
+    ensures links { IfOk result (λ b. opening_links (published b.0) ≡ 2) }
     ensures board { IfOk result (λ b. reader_board b.1 ≡ writer_board b.0) }
 {
     let first = match board(rt, alloc, opening, 2, 1) {
@@ -85,7 +85,7 @@ fn register_again(registry: &Registry, epoch: u32, plan: Plan) -> Result<(), &'s
 
 /// Marks link 0 as down, or as up again, which takes no memory.
 fn mark<R: Wait>(writer: &mut BoardWriter<&R>, up: bool) -> Result<Receipt, &'static str>
-    requires { links_of (published writer.old) ≡ 2 }
+    requires { opening_links (published writer.old) ≡ 2 }
     ensures opening { IsSameOpening (published writer.old) (published writer.new) }
     ensures same { writer_board writer.new ≡ writer_board writer.old }
     ensures receipt { IfOk result (λ t. receipt_board t ≡ writer_board writer.old) }
@@ -115,7 +115,7 @@ fn changed_and_read<R: Wait>(
     writer: &mut BoardWriter<&R>,
     reader: &mut BoardReader,
 ) -> Result<(), &'static str>
-    requires links { links_of (published writer.old) ≡ 2 }
+    requires links { opening_links (published writer.old) ≡ 2 }
     requires board { reader_board reader.old ≡ writer_board writer.old }
 {
     let receipt = mark(writer, false)?;

@@ -1,6 +1,6 @@
 //! A net, turn by turn.
 ghost use Rattle.std.specs.Prelude.{◌≡◌, IfOk};
-ghost use Rattle.ir_model.specs.Network.{node_count};
+ghost use Rattle.ir_model.specs.Topology.{node_count};
 ghost use Rattle.ir_worker.specs.Same.{IsSameNode};
 ghost use Rattle.ir_control.specs.Parts.{AreFirstNodes, AreFreshParts, AreNodesOf, IsInjectorOf};
 

@@ -4,12 +4,12 @@ use Rattle.std.specs.Global.{Global}
 use Rattle.std.specs.List.{list_any}
 
 -- a word of the command line is this one
-abbrev pub is_word : List ℕ → String Global → Bool
-is_word option word = bytes_eq (string_bytes word) option
+abbrev pub is_this_word : List ℕ → String Global → Bool
+is_this_word option word = bytes_eq (string_bytes word) option
 
 -- an option stands among the words: before a word `--`, behind which all are files
 abbrev pub is_given : List ℕ → List (String Global) → Bool
-is_given option words = list_any (is_word option) (take_while (λ word. not (is_word (codes "--") word)) words)
+is_given option words = list_any (is_this_word option) (take_while (λ word. not (is_this_word (codes "--") word)) words)
 
 -- sentences are asked for, or standard error is a terminal and no word forbids them
 abbrev pub are_wanted : Bool → Bool → List (String Global) → Bool

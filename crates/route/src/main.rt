@@ -8,7 +8,7 @@
 
 ghost use Rattle.std.specs.Prelude.{◌≡◌, IfOk, length};
 ghost use Rattle.ir_shell.specs.Asked.{sources_of};
-ghost use Rattle.ir_words.specs.Words.{FitsItsKind};
+ghost use Rattle.ir_cli.specs.Words.{FitsItsKind};
 
 mod input;
 mod keeping;

@@ -2,7 +2,7 @@
 //! writers that fail, that are interrupted, or that keep nothing before they are flushed.
 
 ghost use Rattle.std.specs.Prelude.{IfOk};
-ghost use Rattle.ir_words.specs.Words.{FitsItsKind};
+ghost use Rattle.ir_cli.specs.Words.{FitsItsKind};
 
 use ir_shell::{Unwatched, Words, WordsError, read_words, run, sources_of};
 use std::alloc::Global;

@@ -7,7 +7,7 @@
 mod hostile;
 
 ghost use Rattle.std.specs.Prelude.{◌≡◌, length};
-ghost use Rattle.ir_words.specs.Words.{FitsItsKind};
+ghost use Rattle.ir_cli.specs.Words.{FitsItsKind};
 
 use anyhow::Error;
 use ir_shell::{Unwatched, Words, read_words, run, sources_of};

@@ -1,6 +1,6 @@
 use Rattle.std.proofs.Common.{◌≡◌, ◌∙◌, Option, Some, None, IfSome, List, [], ◌∷◌, Bool, true, length, sym, ap, subst}
-use Rattle.ir_model.specs.Network.{Network, restrict}
-use Rattle.ir_model.specs.Scheme.{Scheme}
+use Rattle.ir_model.specs.Topology.{Topology, restrict}
+use Rattle.ir_model.specs.Plan.{Plan}
 use Rattle.ir_epochs.specs.declared.registry.Stamp.{Stamp}
 use Rattle.ir_epochs.specs.Over.{IsOver}
 use Rattle.ir_epochs.specs.Stamps.{knows, IsOf}
@@ -13,13 +13,13 @@ if_there P Q each (Some x) h = each x h
 
 pub returns-clause-over : goal.returns-clause-over
 returns-clause-over c =
-    let opening : Network = (knows c.args.opening.now).network in
-    let plan : Scheme = c.in-Ok-build.plan in
-    let whole : c.topology-whole.result.now ≡ opening = c.topology-whole.ensures ∙ ap (λ (p : Scheme). p.network) c.plan.ensures in
+    let opening : Topology = (knows c.args.opening.now).topology in
+    let plan : Plan = c.in-Ok-build.plan in
+    let whole : c.topology-whole.result.now ≡ opening = c.topology-whole.ensures ∙ ap (λ (p : Plan). p.topology) c.plan.ensures in
     let all : List Bool = true ∷ true ∷ [] in
-    let made : plan.network ≡ restrict all opening = c.in-Ok-build.ensures.network ∙ c.in-Ok.ensures ∙ ap (restrict all) whole in
-    let marks : length all ≡ length opening.links = sym c.if-links-ne2.false ∙ c.links.ensures.count ∙ ap (λ (net : Network). length net.links) whole in
-    let over : IsOver opening plan.network = ∣ (all, marks, made) ∣₁ in
-    if_there (λ (s : Stamp). IsOf c.args.registry.now s × (s.epoch ≡ c.args.epoch) × (knows s ≡ plan)) (λ (s : Stamp). IsOver opening (knows s).network)
-    (λ s told. let P : Scheme → Type 0 = λ p. IsOver opening p.network in subst P (sym told.2) over)
+    let made : plan.topology ≡ restrict all opening = c.in-Ok-build.ensures.topology ∙ c.in-Ok.ensures ∙ ap (restrict all) whole in
+    let marks : length all ≡ length opening.links = sym c.if-links-ne2.false ∙ c.links.ensures.count ∙ ap (λ (net : Topology). length net.links) whole in
+    let over : IsOver opening plan.topology = ∣ (all, marks, made) ∣₁ in
+    if_there (λ (s : Stamp). IsOf c.args.registry.now s × (s.epoch ≡ c.args.epoch) × (knows s ≡ plan)) (λ (s : Stamp). IsOver opening (knows s).topology)
+    (λ s told. let P : Plan → Type 0 = λ p. IsOver opening p.topology in subst P (sym told.2) over)
     c.registered.result c.registered.ensures

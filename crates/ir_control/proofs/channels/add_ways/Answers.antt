@@ -1,14 +1,14 @@
 use Rattle.std.specs.Prelude.{ℕ}
 use Rattle.ir_model.specs.declared.Hop.{Hop}
-use Rattle.ir_links.specs.Ends.{Line}
+use Rattle.ir_links.specs.Ends.{Channel}
 use Rattle.ir_epochs.specs.declared.registry.Stamp.{Stamp}
 use Rattle.ir_worker.specs.declared.parcel.Place.{Place}
-use Rattle.ir_control.specs.Wired.{IsWay}
+use Rattle.ir_control.specs.Wired.{IsNetChannel}
 use Rattle.ir_control.proofs.Rows.{one_more, row_done}
 use Rattle.ir_control.proofs.channels.add_ways.Goals as goal
 
-abbrev has_way : Stamp → ℕ → ℕ → ℕ → Hop → Line Place → Type 0
-has_way opening restamps capacity v hop line = IsWay opening restamps capacity v hop.node line
+abbrev has_way : Stamp → ℕ → ℕ → ℕ → Hop → Channel Place → Type 0
+has_way opening restamps capacity v hop line = IsNetChannel opening restamps capacity v hop.node line
 
 pub loop-hop-preserved : goal.loop-hop-preserved
 loop-hop-preserved c =

@@ -1,6 +1,6 @@
 use Rattle.ir_control.specs.Places.{IsFilledTo}
-use Rattle.ir_control.specs.Wired.{IsWay}
+use Rattle.ir_control.specs.Wired.{IsNetChannel}
 use Rattle.ir_control.proofs.channels.add_ways.Given as goal
 
 abbrev pub invariant-loop-hop : goal.invariant-loop-hop
-invariant-loop-hop l = IsFilledTo l.topology (λ v hop line. IsWay l.opening l.restamps l.capacity v hop.node line) l.u l.hop-index l.ways.items
+invariant-loop-hop l = IsFilledTo l.topology (λ v hop line. IsNetChannel l.opening l.restamps l.capacity v hop.node line) l.u l.hop-index l.ways.items

@@ -3,25 +3,25 @@ use Rattle.std.specs.Prelude.{ℕ, ◌≡◌, ◌+◌, ◌∷◌, [], ◌++◌, 
 use Rattle.std.proofs.Common.{◌∙◌, subst, sym, arith, inl, inr}
 use Rattle.std.proofs.lemmas.List.{length_push}
 use Rattle.ir_core.proofs.Lists.{get_push}
-use Rattle.ir_links.specs.Ends.{Line}
+use Rattle.ir_links.specs.Ends.{Channel}
 use Rattle.ir_epochs.specs.declared.registry.Stamp.{Stamp}
 use Rattle.ir_worker.specs.declared.parcel.Place.{Place}
-use Rattle.ir_control.specs.Wired.{IsWay}
+use Rattle.ir_control.specs.Wired.{IsNetChannel}
 
-abbrev AreSoFar : Stamp → ℕ → ℕ → ℕ → List (Line Place) → Type 0
-AreSoFar opening restamps capacity u lines = (length lines ≡ u) × ((v : ℕ) (line : Line Place) → slice_get lines v ≡ Some line → IsWay opening restamps capacity v v line)
+abbrev AreSoFar : Stamp → ℕ → ℕ → ℕ → List (Channel Place) → Type 0
+AreSoFar opening restamps capacity u lines = (length lines ≡ u) × ((v : ℕ) (line : Channel Place) → slice_get lines v ≡ Some line → IsNetChannel opening restamps capacity v v line)
 
-more : (opening : Stamp) (restamps capacity u : ℕ) (lines : List (Line Place)) (line : Line Place) → AreSoFar opening restamps capacity u lines → IsWay opening restamps capacity u u line
+more : (opening : Stamp) (restamps capacity u : ℕ) (lines : List (Channel Place)) (line : Channel Place) → AreSoFar opening restamps capacity u lines → IsNetChannel opening restamps capacity u u line
     → AreSoFar opening restamps capacity (u + 1) (lines ++ line ∷ [])
 more opening restamps capacity u lines line far here = (
   (let n = length_push lines line in let m = far.0 in omega (arith, n, m)),
   λ v x got. elim (get_push lines v line x got) [
-    | inl e ↦ subst (λ (x : Line Place). IsWay opening restamps capacity v v x) e.1 (subst (λ (w : ℕ). IsWay opening restamps capacity w w line) (sym (e.0 ∙ far.0)) here)
+    | inl e ↦ subst (λ (x : Channel Place). IsNetChannel opening restamps capacity v v x) e.1 (subst (λ (w : ℕ). IsNetChannel opening restamps capacity w w line) (sym (e.0 ∙ far.0)) here)
     | inr e ↦ far.1 v x e.1
   ],
 )
 
 pub loop-u-preserved : goal.loop-u-preserved
 loop-u-preserved c =
-    subst (λ (lines : List (Line Place)). AreSoFar c.args.opening.now c.args.restamps c.args.capacity (c.loop-u.u + 1) lines) (sym c.in_ok-push.ensures.items)
+    subst (λ (lines : List (Channel Place)). AreSoFar c.args.opening.now c.args.restamps c.args.capacity (c.loop-u.u + 1) lines) (sym c.in_ok-push.ensures.items)
     (more c.args.opening.now c.args.restamps c.args.capacity c.loop-u.u c.loop-u.inboxes.items c.in_ok-channel.field-0 c.loop-u.invariant c.in_ok-channel.ensures)

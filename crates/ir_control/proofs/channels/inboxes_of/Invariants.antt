@@ -1,9 +1,9 @@
 use Rattle.std.specs.Prelude.{◌≡◌, ℕ, Some, length, slice_get}
-use Rattle.ir_links.specs.Ends.{Line}
+use Rattle.ir_links.specs.Ends.{Channel}
 use Rattle.ir_worker.specs.declared.parcel.Place.{Place}
-use Rattle.ir_control.specs.Wired.{IsWay}
+use Rattle.ir_control.specs.Wired.{IsNetChannel}
 use Rattle.ir_control.proofs.channels.inboxes_of.Given as goal
 
 abbrev pub invariant-loop-u : goal.invariant-loop-u
 invariant-loop-u l = (length l.inboxes.items ≡ l.u)
-    × ((v : ℕ) (line : Line Place) → slice_get l.inboxes.items v ≡ Some line → IsWay l.opening l.restamps l.capacity v v line)
+    × ((v : ℕ) (line : Channel Place) → slice_get l.inboxes.items v ≡ Some line → IsNetChannel l.opening l.restamps l.capacity v v line)

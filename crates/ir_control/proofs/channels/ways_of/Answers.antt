@@ -2,16 +2,16 @@ use Rattle.std.specs.Prelude.{ℕ, ◌≡◌}
 use Rattle.std.proofs.Common.{arith}
 use Rattle.std.proofs.lemmas.Grind.{common_steps}
 use Rattle.ir_model.specs.declared.Hop.{Hop}
-use Rattle.ir_model.specs.Network.{node_count}
-use Rattle.ir_links.specs.Ends.{Line}
+use Rattle.ir_model.specs.Topology.{node_count}
+use Rattle.ir_links.specs.Ends.{Channel}
 use Rattle.ir_epochs.specs.declared.registry.Stamp.{Stamp}
 use Rattle.ir_worker.specs.declared.parcel.Place.{Place}
-use Rattle.ir_control.specs.Wired.{IsWay}
+use Rattle.ir_control.specs.Wired.{IsNetChannel}
 use Rattle.ir_control.proofs.Rows.{filled_none, filled_all}
 use Rattle.ir_control.proofs.channels.ways_of.Goals as goal
 
-abbrev has_way : Stamp → ℕ → ℕ → ℕ → Hop → Line Place → Type 0
-has_way opening restamps capacity v hop line = IsWay opening restamps capacity v hop.node line
+abbrev has_way : Stamp → ℕ → ℕ → ℕ → Hop → Channel Place → Type 0
+has_way opening restamps capacity v hop line = IsNetChannel opening restamps capacity v hop.node line
 
 pub loop-u-init : goal.loop-u-init
 loop-u-init c = (

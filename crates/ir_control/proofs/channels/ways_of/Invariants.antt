@@ -1,9 +1,9 @@
 use Rattle.std.specs.Prelude.{◌≡◌, ◌<◌, ℕ, length, slice_index}
 use Rattle.ir_control.specs.Places.{IsFilledTo, offset}
-use Rattle.ir_control.specs.Wired.{IsWay}
+use Rattle.ir_control.specs.Wired.{IsNetChannel}
 use Rattle.ir_control.proofs.channels.ways_of.Given as goal
 
 abbrev pub invariant-loop-u : goal.invariant-loop-u
 invariant-loop-u l = (length l.offsets.items ≡ l.u)
     × ((v : ℕ) → v < l.u → slice_index l.offsets.items v ≡ offset l.topology v)
-    × IsFilledTo l.topology (λ v hop line. IsWay l.opening l.restamps l.capacity v hop.node line) l.u 0 l.ways.items
+    × IsFilledTo l.topology (λ v hop line. IsNetChannel l.opening l.restamps l.capacity v hop.node line) l.u 0 l.ways.items

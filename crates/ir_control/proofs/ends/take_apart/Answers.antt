@@ -2,7 +2,7 @@ use Rattle.std.specs.Prelude.{◌≡◌, ◌<◌, [], All, length, sum_by}
 use Rattle.std.proofs.Common.{arith, sym, ap, ◌∙◌, subst}
 use Rattle.std.proofs.lemmas.List.{length_push}
 use Rattle.std.proofs.lemmas.List.Sums.{sum_by_push}
-use Rattle.ir_model.specs.Network.{node_count}
+use Rattle.ir_model.specs.Topology.{node_count}
 use Rattle.ir_worker.specs.declared.parcel.Outcome.{Outcome}
 use Rattle.std.proofs.lemmas.List.Elements.{All-push}
 use Rattle.ir_control.specs.Told.{IsOutcomeIn}

@@ -1,9 +1,9 @@
 use Rattle.std.specs.Prelude.{◌≡◌, ◌++◌, ℕ, List, Option, Some, length, map, sum_by}
 use Rattle.std.proofs.Common.{arith, refl, sym, ap, ◌∙◌, subst}
-use Rattle.ir_model.specs.Network.{node_count}
-use Rattle.ir_links.specs.Ends.{Remaining}
+use Rattle.ir_model.specs.Topology.{node_count}
+use Rattle.ir_links.specs.Ends.{Remains}
 use Rattle.ir_worker.specs.declared.parcel.Place.{Place}
-use Rattle.ir_worker.specs.Seen.{SeenParcel}
+use Rattle.ir_worker.specs.Seen.{Parcel}
 use Rattle.ir_worker.specs.Wires.{Out}
 use Rattle.ir_control.specs.Pairs.{ArePaired}
 use Rattle.ir_control.specs.Parts.{node_number}
@@ -69,6 +69,6 @@ returns-clause-gathered c = record {
       let outs_are : c.append_slots.new.into.items ≡ map (λ (s : Out). Some s) c.args.injected.items = c.append_slots.ensures.items ∙ ap (λ (xs : List (Option Out)). xs ++ map (λ (s : Out). Some s) c.args.injected.items) c.requires.rows.outs.0 in
       let o = ap (times_in_slots w) outs_are ∙ slots_weigh (slot_sent w) c.args.injected.items in
       let account = c.gather.ensures.account w in
-      let empty = ap (λ (rs : List (Remaining Place SeenParcel)). sum_by w (left_in rs)) c.requires.empty in
+      let empty = ap (λ (rs : List (Remains Place Parcel)). sum_by w (left_in rs)) c.requires.empty in
       omega (arith, t, t1, tz, s, s1, sz, o, account, empty));
 }

@@ -1,7 +1,7 @@
 use Rattle.std.specs.Prelude.{◌≡◌, ◌+◌, ℕ, All, length, sum_by}
 use Rattle.ir_core.specs.declared.packet.Fate.TheVariants.{Left}
 use Rattle.ir_control.specs.Slots.{slot_weight, AllAt, AllIn, left_in}
-use Rattle.ir_control.specs.Told.{Told, told, told_left, outcome_number, IsOutcomeIn}
+use Rattle.ir_control.specs.Told.{Told, outcome_told, told_left, outcome_number, IsOutcomeIn}
 use Rattle.ir_control.specs.Whole.{IsParcelOf}
 use Rattle.ir_control.proofs.outcomes.place_left.Given as goal
 
@@ -19,7 +19,7 @@ invariant-loop-channel g l = IsPlacing
     (AllAt outcome_number l.slots.items)
     (AllIn (λ o. IsOutcomeIn l.opening o) l.slots.items)
     (All (λ x. IsParcelOf l.opening x) (left_in l.channels.items))
-    ((w : Told → ℕ) → sum_by (slot_weight (λ o. w (told o))) l.slots.items + sum_by (λ x. w (told_left x)) (left_in l.channels.items) ≡ sum_by (slot_weight (λ o. w (told o))) l.fn.slots.items + sum_by (λ x. w (told_left x)) (left_in l.fn.channels.items))
+    ((w : Told → ℕ) → sum_by (slot_weight (λ o. w (outcome_told o))) l.slots.items + sum_by (λ x. w (told_left x)) (left_in l.channels.items) ≡ sum_by (slot_weight (λ o. w (outcome_told o))) l.fn.slots.items + sum_by (λ x. w (told_left x)) (left_in l.fn.channels.items))
     (All (λ x. x.journey.fate ≡ Left) (left_in l.channels.items) → All (λ x. x.journey.fate ≡ Left) (left_in l.fn.channels.items))
 
 abbrev pub decreases-loop-channel : goal.decreases-loop-channel

@@ -1,7 +1,7 @@
 use Rattle.std.specs.Prelude.{◌≡◌, ◌+◌, ℕ, All, length, sum_by}
 use Rattle.ir_core.specs.declared.packet.Fate.TheVariants.{Left}
 use Rattle.ir_control.specs.Slots.{slot_weight, AllAt, AllIn}
-use Rattle.ir_control.specs.Told.{Told, told, told_left, outcome_number, IsOutcomeIn}
+use Rattle.ir_control.specs.Told.{Told, outcome_told, told_left, outcome_number, IsOutcomeIn}
 use Rattle.ir_control.specs.Whole.{IsParcelOf}
 use Rattle.ir_control.proofs.outcomes.place_rest.Given as goal
 
@@ -19,5 +19,5 @@ invariant-loop g l = IsPlacing
     (AllAt outcome_number l.slots.items)
     (AllIn (λ o. IsOutcomeIn l.opening o) l.slots.items)
     (All (λ x. IsParcelOf l.opening x) l.channel.left)
-    ((w : Told → ℕ) → sum_by (slot_weight (λ o. w (told o))) l.slots.items + sum_by (λ x. w (told_left x)) l.channel.left ≡ sum_by (slot_weight (λ o. w (told o))) l.fn.slots.items + sum_by (λ x. w (told_left x)) l.fn.channel.left)
+    ((w : Told → ℕ) → sum_by (slot_weight (λ o. w (outcome_told o))) l.slots.items + sum_by (λ x. w (told_left x)) l.channel.left ≡ sum_by (slot_weight (λ o. w (outcome_told o))) l.fn.slots.items + sum_by (λ x. w (told_left x)) l.fn.channel.left)
     (All (λ x. x.journey.fate ≡ Left) l.channel.left → All (λ x. x.journey.fate ≡ Left) l.fn.channel.left)

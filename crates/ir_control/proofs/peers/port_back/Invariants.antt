@@ -1,6 +1,6 @@
 use Rattle.std.specs.Prelude.{◌≡◌, ◌<◌, ℕ, Some, slice_get}
 use Rattle.ir_model.specs.declared.Hop.{Hop}
-use Rattle.ir_model.specs.Network.{ports_of}
+use Rattle.ir_model.specs.Topology.{ports_of}
 use Rattle.ir_control.proofs.peers.port_back.Given as goal
 
 abbrev pub invariant-loop-q : goal.invariant-loop-q

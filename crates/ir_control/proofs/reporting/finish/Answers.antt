@@ -1,6 +1,6 @@
 use Rattle.std.specs.Prelude.{◌≡◌, ◌<◌, ℕ, List, sum_by}
 use Rattle.std.proofs.Common.{arith}
-use Rattle.ir_model.specs.Network.{node_count}
+use Rattle.ir_model.specs.Topology.{node_count}
 use Rattle.ir_worker.specs.declared.node.Node.{Node}
 use Rattle.ir_control.specs.Parts.{node_number}
 use Rattle.ir_control.specs.Slots.{hit}

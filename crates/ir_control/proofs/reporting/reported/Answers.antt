@@ -5,7 +5,7 @@ use Rattle.ir_worker.specs.Account.{head_of, one}
 use Rattle.ir_worker.specs.Wires.{Out}
 use Rattle.ir_control.specs.Rowed.{node_settled}
 use Rattle.ir_control.specs.Slots.{slot_weight, hit, once, left_in}
-use Rattle.ir_control.specs.Told.{Told, told, told_left, outcome_number, IsOutcomeIn}
+use Rattle.ir_control.specs.Told.{Told, outcome_told, told_left, outcome_number, IsOutcomeIn}
 use Rattle.ir_control.proofs.Conserved.{conserved, once_each, heads_are, numbers_are, all_told, all_sound, told_count, full_here, outcome_weight}
 use Rattle.ir_control.proofs.Few.{few_told}
 use Rattle.ir_control.proofs.Leftover.{none_weigh}
@@ -39,12 +39,12 @@ told_in_order-requires-clause-full g c = λ k lt.
 pub returns : goal.returns
 returns g c =
     let t = c.told_in_order.ensures in
-    let told_are : (w : Told → ℕ) → sum_by (λ o. w (told o)) t.0 ≡ sum_by (node_settled (λ o. w (told o))) c.args.nodes.items + sum_by (λ x. w (told_left x)) (left_in c.left_over-settled.new.channels.items) = λ w.
-    (let none = none_weigh c.args.room.slots.items c.requires.room.slots_empty (λ (o : Outcome). w (told o)) in
-    let all = c.left_over-settled.ensures.gathered.settlings (λ (o : Outcome). w (told o)) in
-    let put = c.place_rows.ensures.weighs (λ (o : Outcome). w (told o)) in
+    let told_are : (w : Told → ℕ) → sum_by (λ o. w (outcome_told o)) t.0 ≡ sum_by (node_settled (λ o. w (outcome_told o))) c.args.nodes.items + sum_by (λ x. w (told_left x)) (left_in c.left_over-settled.new.channels.items) = λ w.
+    (let none = none_weigh c.args.room.slots.items c.requires.room.slots_empty (λ (o : Outcome). w (outcome_told o)) in
+    let all = c.left_over-settled.ensures.gathered.settlings (λ (o : Outcome). w (outcome_told o)) in
+    let put = c.place_rows.ensures.weighs (λ (o : Outcome). w (outcome_told o)) in
     let more = c.place_left.ensures.weighs w in
-    let sum = ap (sum_by (slot_weight (λ (o : Outcome). w (told o)))) t.1 ∙ slots_weigh (slot_weight (λ (o : Outcome). w (told o))) t.0 in
+    let sum = ap (sum_by (slot_weight (λ (o : Outcome). w (outcome_told o)))) t.1 ∙ slots_weigh (slot_weight (λ (o : Outcome). w (outcome_told o))) t.0 in
     omega (arith, none, all, put, more, sum)) in
     let len = told_count c.place_left.new.slots.items t.0 t.1 ∙ c.place_left.ensures.length ∙ c.place_rows.ensures.length ∙ c.requires.room.slots_count in
     record {

@@ -1,5 +1,5 @@
 use Rattle.std.proofs.Common.{sym, subst}
-use Rattle.ir_model.specs.Network.{node_count}
+use Rattle.ir_model.specs.Topology.{node_count}
 use Rattle.ir_trace.specs.Inspect.{AreOver}
 use Rattle.ir_trace.proofs.CheckedTrace.{over_from}
 use Rattle.ir_departure.proofs.departing.departure.Goals as goal

@@ -1,5 +1,5 @@
 use Rattle.std.proofs.Common.{◌+◌, ◌<◌, ℕ, List, sym, subst, arith}
-use Rattle.ir_model.specs.Network.{node_count}
+use Rattle.ir_model.specs.Topology.{node_count}
 use Rattle.ir_figures.specs.Exits.{AreExits, AreNextExits}
 use Rattle.ir_figures.proofs.Offsets.{before_le, exits_more}
 use Rattle.ir_figures.proofs.exits.exits_of.Goals as goal
@@ -8,7 +8,7 @@ pub overflow_cast-len : goal.overflow_cast-len
 overflow_cast-len c =
     let net = c.args.topology.now in
     let lt : c.loop-u.u < node_count net = omega (arith, c.loop-u-test.true, c.nodes-u-end.ensures.count) in
-    omega (arith, lt, c.len.ensures, c.loop-u.nodes.ok, c.loop-u.invariant.all, before_le net c.nodes.ensures.network c.loop-u.u (omega (arith, lt)), c.nodes.ensures.network.few_nodes)
+    omega (arith, lt, c.len.ensures, c.loop-u.nodes.ok, c.loop-u.invariant.all, before_le net c.nodes.ensures.topology c.loop-u.u (omega (arith, lt)), c.nodes.ensures.topology.few_nodes)
 
 pub loop-u-preserved : goal.loop-u-preserved
 loop-u-preserved c =

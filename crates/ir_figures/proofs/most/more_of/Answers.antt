@@ -1,5 +1,5 @@
 use Rattle.std.proofs.Common.{◌≡◌, ap, ◌∙◌}
-use Rattle.ir_model.specs.Scheme.{row_in}
+use Rattle.ir_model.specs.Plan.{row_in}
 use Rattle.ir_figures.specs.Compactness.{intervals_at}
 use Rattle.ir_figures.proofs.Counted.{most_first, most_next, most_stays}
 use Rattle.ir_figures.proofs.most.more_of.Goals as goal

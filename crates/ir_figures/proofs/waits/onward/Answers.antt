@@ -1,7 +1,7 @@
 use Rattle.std.proofs.Common.{◌≡◌, ◌≢◌, ◌+◌, ◌<◌, Bool, true, Some, sym, subst, ◌∙◌, arith}
 use Rattle.std.specs.Global.{Vec}
-use Rattle.ir_model.specs.Network.{node_count}
-use Rattle.ir_model.specs.Scheme.{node_in, table_port}
+use Rattle.ir_model.specs.Topology.{node_count}
+use Rattle.ir_model.specs.Plan.{node_in, table_port}
 use Rattle.ir_figures.specs.Exits.{AreOnward}
 use Rattle.ir_figures.proofs.Onward.{onward_marked, onward_passed_by}
 use Rattle.ir_figures.proofs.waits.onward.Goals as goal
@@ -10,7 +10,7 @@ use Rattle.ir_figures.proofs.waits.onward.Goals.{then-goes_by, else-goes_by}
 pub loop-a-preserved : goal.loop-a-preserved
 loop-a-preserved c =
     let s = c.args.plan.now in
-    let a_in : c.loop-a.a < node_count s.network = omega (arith, c.loop-a-test.true, c.nodes-a-end.ensures.count) in
+    let a_in : c.loop-a.a < node_count s.topology = omega (arith, c.loop-a-test.true, c.nodes-a-end.ensures.count) in
     let here = c.requires.ports.each c.loop-a.a a_in in
     elim c.if-goes_by.branch [
       | then-goes_by w ↦

@@ -1,5 +1,5 @@
 use Rattle.std.proofs.Common.{◌≡◌, ◌<◌, ℕ, None, vec_len, slice_index_or}
-use Rattle.ir_model.specs.Scheme.{table_port, node_in}
+use Rattle.ir_model.specs.Plan.{table_port, node_in}
 use Rattle.ir_figures.proofs.waits.ports_by_label.Given as goal
 
 abbrev pub invariant-loop-a : goal.invariant-loop-a

@@ -4,4 +4,4 @@ use Rattle.ir_figures.specs.Exits.{exits_before, AreLinks}
 use Rattle.ir_figures.proofs.waits.push_links.Given as goal
 
 abbrev pub invariant-loop-p : goal.invariant-loop-p
-invariant-loop-p l = AreLinks l.plan l.links.begins.items (marks_of l.links.marks.items) (exits_before l.plan.network l.u + l.p)
+invariant-loop-p l = AreLinks l.plan l.links.begins.items (marks_of l.links.marks.items) (exits_before l.plan.topology l.u + l.p)

@@ -1,5 +1,5 @@
 use Rattle.std.proofs.Common.{List, subst, ap}
-use Rattle.ir_model.specs.Network.{Network}
+use Rattle.ir_model.specs.Topology.{Topology}
 use Rattle.ir_core.specs.declared.built.Install.{Install}
 use Rattle.ir_core.specs.declared.opening.Opening.{Opening}
 use Rattle.ir_trace.specs.Checked.{AreInstalls}
@@ -9,5 +9,5 @@ use Rattle.ir_given.proofs.departing.installs_of.Goals as goal
 pub returns-in-Ok-installs : goal.returns-in-Ok-installs
 returns-in-Ok-installs g c =
     let built : List Install = c.in-Ok-installs.built.items in
-    subst (λ (n : Network). AreInstalls n built) (ap (λ (o : Opening). o.topology) c.in_ok-opening.ensures)
+    subst (λ (n : Topology). AreInstalls n built) (ap (λ (o : Opening). o.topology) c.in_ok-opening.ensures)
     (replayed c.in_ok-opening.opening c.steps.result.now built c.in-Ok-installs.ensures.built)

@@ -2,7 +2,7 @@ use Rattle.std.proofs.Common.{◌≡◌, ◌<◌, ◌∙◌, sym, ap, subst, len
 use Rattle.std.proofs.lemmas.Bool.{eqb-true}
 use Rattle.ir_model.specs.Graph.{IsGraph}
 use Rattle.ir_graph.specs.View.{rows_view}
-use Rattle.ir_graph.specs.Paths.{IsConnected}
+use Rattle.ir_graph.specs.Paths.{IsConnectedGraph}
 use Rattle.ir_graph.proofs.Reaching.{connected_full, full_connected}
 use Rattle.ir_graph.proofs.Graph.is_connected.Goals as goal
 
@@ -13,7 +13,7 @@ returns-in-Ok-clause-connected c =
     let nodes : c.number_of_nodes-nodes.result ≡ length g = c.number_of_nodes-nodes.ensures.len ∙ ap length (sym c.self.view_is) in
     let some : 0 < length g = omega arith in
     let places = c.in-Ok.reached.keys in
-    subst (λ h. IsTrue (nat_eq c.len.result c.number_of_nodes-nodes.result) ↔ IsConnected h) c.self.view_is (
+    subst (λ h. IsTrue (nat_eq c.len.result c.number_of_nodes-nodes.result) ↔ IsConnectedGraph h) c.self.view_is (
       (λ t. connected_full g graph places c.in-Ok.ensures.reached (sym c.len.ensures.len ∙ eqb-true c.len.result c.number_of_nodes-nodes.result t ∙ nodes)),
       (λ connected. eq-eqb c.len.result c.number_of_nodes-nodes.result (c.len.ensures.len ∙ full_connected g graph places c.in-Ok.ensures.reached c.in-Ok.ensures.closed c.in-Ok.ensures.first some connected ∙ sym nodes)),
     )

@@ -3,7 +3,7 @@ use Rattle.std.specs.List.{IsDistinct}
 use Rattle.std.proofs.lemmas.Option.{none-some, same_Some}
 use Rattle.ir_graph.specs.View.{rows_view}
 use Rattle.ir_model.specs.Places.{neighbor_at}
-use Rattle.ir_graph.specs.Reached.{HasPlace, AreReached, GoesOn}
+use Rattle.ir_graph.specs.Reached.{HasPlace, AreReached, HasMoreBehind}
 use Rattle.ir_graph.proofs.Reaching.{IsPut, goes_on_put, has_put, kept_place, reached_put, neighbors_more, goes_on_none}
 use Rattle.ir_graph.proofs.reach.reach_neighbors.Goals as goal
 use Rattle.ir_graph.proofs.reach.reach_neighbors.Goals.{in-Some+in_ok-insert, in_default}
@@ -29,10 +29,10 @@ loop-place-preserved c =
           })
       | in_default w ↦
           (let keys : after ≡ before = ap (λ s. s.keys) w.reached-is in
-          let on : GoesOn before after = subst (GoesOn before) (sym keys) (goes_on_none before) in
+          let on : HasMoreBehind before after = subst (HasMoreBehind before) (sym keys) (goes_on_none before) in
           record {
             after = subst (AreReached g) (sym keys) c.loop-place.invariant.after;
-            kept = subst (GoesOn c.args.reached.now.keys) (sym keys) c.loop-place.invariant.kept;
+            kept = subst (HasMoreBehind c.args.reached.now.keys) (sym keys) c.loop-place.invariant.kept;
             all = neighbors_more g c.requires.graph before after c.args.node c.loop-place.place on c.loop-place.invariant.all (λ j v e. absurd (none-some _ (w.in_default.ensures.at ∙ e)));
             end = c.loop-place.invariant.end;
           })

@@ -1,7 +1,7 @@
 use Rattle.std.proofs.Common.{◌≡◌, ◌+◌, ◌∙◌, sym, ap, subst, nat_eq, arith, [], ◌∷◌, length, slice_get}
 use Rattle.indexmap.specs.IndexSet.{insert_key}
 use Rattle.ir_graph.specs.View.{rows_view}
-use Rattle.ir_graph.specs.Reached.{HasPlace, HasNeighbors, AreReached, GoesOn}
+use Rattle.ir_graph.specs.Reached.{HasPlace, HasNeighbors, AreReached, HasMoreBehind}
 use Rattle.ir_model.specs.Places.{neighbors_at}
 use Rattle.ir_graph.proofs.Views.{length-rows_view}
 use Rattle.ir_graph.proofs.Reaching.{ClosedBefore, place_there, kept_place, reached_first, closed_more, closed_past, closed_all}
@@ -29,7 +29,7 @@ loop-turn-preserved c =
     elim c.match-get_index.branch [
       | in-Some+in_ok-reach_neighbors w ↦
           (let keys : after ≡ w.reach_neighbors.new.reached.keys = ap (λ s. s.keys) w.reached-is in
-          let on : GoesOn before after = subst (GoesOn before) (sym keys) w.in_ok-reach_neighbors.ensures.kept in
+          let on : HasMoreBehind before after = subst (HasMoreBehind before) (sym keys) w.in_ok-reach_neighbors.ensures.kept in
           record {
             reached = subst (AreReached g) (sym keys) w.in_ok-reach_neighbors.ensures.after;
             closed = closed_more g c.requires.graph before after c.loop-turn.turn w.in-Some.node.now on c.loop-turn.invariant.closed (sym w.in-Some.ensures.key)

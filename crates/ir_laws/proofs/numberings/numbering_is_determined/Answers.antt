@@ -1,4 +1,4 @@
-use Rattle.ir_model.specs.Network.{node_count}
+use Rattle.ir_model.specs.Topology.{node_count}
 use Rattle.ir_model.specs.Numbering.{neighbors_of}
 use Rattle.ir_laws.proofs.Ranked.{order_same, parents_same}
 use Rattle.ir_laws.proofs.numberings.numbering_is_determined.Goals as goal

@@ -5,7 +5,7 @@ use Rattle.ir_lines.proofs.table.disjoint_lines.Goals as goal
 
 pub returns-in-Ok-clause-lines : goal.returns-in-Ok-clause-lines
 returns-in-Ok-clause-lines c =
-    let few = c.nodes-nodes.ensures.scheme.network.few_nodes in
+    let few = c.nodes-nodes.ensures.plan.topology.few_nodes in
     disjoint_from c.args.plan.now c.args.u _ c.as_slice.result.now c.in-Ok.table.items (omega (arith, few)) (c.as_slice.ensures.value ∙ c.in_ok-ports.ensures)
     c.in-Ok.ensures.well c.in-Ok.ensures.disjoint c.in-Ok.ensures.fewest c.in-Ok.ensures.ports c.in-Ok.ensures.order
 
@@ -15,6 +15,6 @@ returns-in-Ok-clause-ports c =
 
 pub unreachable-requires : goal.unreachable-requires
 unreachable-requires c =
-    let few = c.nodes-nodes.ensures.scheme.network.few_nodes in
+    let few = c.nodes-nodes.ensures.plan.topology.few_nodes in
     c.disjoint.ensures.bad_row.0 (c.in-Err-BadRow.is ∙ ap Err c.in-Err-BadRow.field-0-is)
-    (are_destinations c.args.plan.now c.nodes-nodes.ensures.scheme c.args.u _ c.label_of.result c.as_slice.result.now c.requires (omega (arith, few)) c.label_of.ensures (c.as_slice.ensures.value ∙ c.in_ok-ports.ensures))
+    (are_destinations c.args.plan.now c.nodes-nodes.ensures.plan c.args.u _ c.label_of.result c.as_slice.result.now c.requires (omega (arith, few)) c.label_of.ensures (c.as_slice.ensures.value ∙ c.in_ok-ports.ensures))

@@ -1,5 +1,5 @@
 use Rattle.std.proofs.Common.{◌≡◌, take}
-use Rattle.ir_model.specs.Scheme.{by_label}
+use Rattle.ir_model.specs.Plan.{by_label}
 use Rattle.ir_lines.specs.Before.{AreBelow}
 use Rattle.ir_lines.proofs.table.ports_by_label.Given as goal
 

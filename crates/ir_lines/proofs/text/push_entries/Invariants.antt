@@ -5,4 +5,4 @@ use Rattle.ir_lines.specs.PrefixesText.{entry_words}
 use Rattle.ir_lines.proofs.text.push_entries.Given as goal
 
 abbrev pub invariant-loop-line : goal.invariant-loop-line
-invariant-loop-line l = string_bytes l.text ≡ string_bytes l.fn.text ++ flat_map spaced (flat_map (entry_words (names l.graph) l.plan.network l.u) (take l.line-index l.table))
+invariant-loop-line l = string_bytes l.text ≡ string_bytes l.fn.text ++ flat_map spaced (flat_map (entry_words (names l.graph) l.plan.topology l.u) (take l.line-index l.table))

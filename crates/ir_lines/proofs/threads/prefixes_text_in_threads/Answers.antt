@@ -2,7 +2,7 @@ use Rattle.std.proofs.Common.{◌≡◌, ◌≤◌, ◌∙◌, ◌++◌, ℕ, Ok
 use Rattle.std.specs.Prelude.{All, IfOk}
 use Rattle.std.specs.declared.result.Result.{Result}
 use Rattle.ir_model.specs.Graph.{names}
-use Rattle.ir_model.specs.Network.{node_count}
+use Rattle.ir_model.specs.Topology.{node_count}
 use Rattle.ir_lines.specs.Before.{AreWritten}
 use Rattle.ir_lines.specs.NodeTexts.{bytes_of, lines_of}
 use Rattle.ir_lines.specs.declared.threads.NodeText.{NodeText}
@@ -12,7 +12,7 @@ use Rattle.ir_lines.proofs.threads.prefixes_text_in_threads.Goals as goal
 pub push_texts-requires : goal.push_texts-requires
 push_texts-requires g c =
     let s = c.args.plan.now in
-    texts_short c.args.is_disjoint (names c.args.graph.now) s 0 (node_count s.network) c.in_ok-made.made.items c.in_ok-made.ensures
+    texts_short c.args.is_disjoint (names c.args.graph.now) s 0 (node_count s.topology) c.in_ok-made.made.items c.in_ok-made.ensures
 
 -- what holds of the value in an `Ok`
 of_ok : {T E : Type 0} (r : Result T E) (P R : T → Type 0) → IfOk r P → ((v : T) → P v → R v) → IfOk r R
@@ -23,7 +23,7 @@ pub returns : goal.returns
 returns g c =
     let s = c.args.plan.now in
     let nodes = names c.args.graph.now in
-    let n = node_count s.network in
+    let n = node_count s.topology in
     let sum : c.in_ok-lines.lines ≡ sum_by lines_of c.in_ok-made.made.items = c.in_ok-lines.ensures.lines in
     let bytes : string_bytes c.push_texts.new.text ≡ [] ++ flat_map bytes_of c.in_ok-made.made.items =
     c.in_ok-lines.ensures.bytes ∙ ap (λ (t : List ℕ). t ++ flat_map bytes_of c.in_ok-made.made.items) c.new-tables.ensures.bytes in

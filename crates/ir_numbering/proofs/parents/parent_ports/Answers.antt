@@ -1,6 +1,6 @@
 use Rattle.std.proofs.Common.{◌≡◌, ◌++◌, ◌∷◌, [], arith, None}
 use Rattle.std.proofs.lemmas.List.{length_push}
-use Rattle.ir_numbering.specs.Numbers.{IsParentPort}
+use Rattle.ir_numbering.specs.Numbering.{IsParentPort}
 use Rattle.ir_numbering.proofs.Lists.{each_push}
 use Rattle.ir_numbering.proofs.parents.parent_ports.Goals as goal
 

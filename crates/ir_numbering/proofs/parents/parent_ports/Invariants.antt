@@ -1,6 +1,6 @@
 use Rattle.std.proofs.Common.{◌≡◌, ◌<◌, ℕ, length, None}
 use Rattle.std.specs.Prelude.{slice_index_or}
-use Rattle.ir_numbering.specs.Numbers.{IsParentPort}
+use Rattle.ir_numbering.specs.Numbering.{IsParentPort}
 use Rattle.ir_numbering.proofs.parents.parent_ports.Given as goal
 
 abbrev pub invariant-loop-u : goal.invariant-loop-u

@@ -1,7 +1,7 @@
 use Rattle.std.proofs.Common.{◌≡◌, ◌<◌, ◌++◌, ℕ, [], ◌∷◌, length, arith, rules, ap, ◌∙◌, replicate, true, false}
 use Rattle.std.specs.Prelude.{slice_set}
 use Rattle.std.proofs.lemmas.List.{length_push, nil_from_length}
-use Rattle.ir_model.specs.Network.{node_count}
+use Rattle.ir_model.specs.Topology.{node_count}
 use Rattle.ir_model.specs.Numbering.{neighbors_of}
 use Rattle.ir_numbering.specs.Search.{AllMarked, IsFirstUnmarked}
 use Rattle.ir_numbering.proofs.Traversal.{begun, passed_none, goes_back, goes_on, marks_one, marks_more, walk_is_seen, some_unseen}
@@ -31,7 +31,7 @@ search-preserved c =
     let none : AllMarked c.search.marked.items (neighbors_of c.args.topology.now c.index.result.now) = c.in_default-mark_next.ensures.first in
     let same : c.mark_next.new.marked.items ≡ c.search.marked.items = c.in_default-mark_next.ensures.marks in
     record {
-      traversal = goes_back _ c.nodes-n.ensures.network _ _ _ _ _ _ _ _ t.traversal t.marks c.in-Some.ensures.items c.index.ensures none;
+      traversal = goes_back _ c.nodes-n.ensures.topology _ _ _ _ _ _ _ _ t.traversal t.marks c.in-Some.ensures.items c.index.ensures none;
       marks = rw same t.marks;
       passed = c.in_default-mark_next.ensures.passed;
       within = t.within;
@@ -54,7 +54,7 @@ search-preserved-in-Continue-branch-9 c =
     let len = c.len.ensures in
     let n = c.nodes-n.ensures.count in
     record {
-      traversal = rw (nodes, parents, stack2, stack1, here) (goes_on _ c.nodes-n.ensures.network _ _ _ _ _ _ _ _ t.traversal t.marks c.in-Some.ensures.items c.index.ensures x label first);
+      traversal = rw (nodes, parents, stack2, stack1, here) (goes_on _ c.nodes-n.ensures.topology _ _ _ _ _ _ _ _ t.traversal t.marks c.in-Some.ensures.items c.index.ensures x label first);
       marks = rw (nodes, marked) (marks_more _ _ _ t.marks x label);
       passed = c.in-Some-mark_next.ensures.passed;
       within = rw nodes (omega arith);

@@ -1,5 +1,5 @@
 use Rattle.std.proofs.Common.{◌≤◌, ◌+◌, ◌-◌, ◌*◌, length}
-use Rattle.ir_model.specs.Network.{node_count}
+use Rattle.ir_model.specs.Topology.{node_count}
 use Rattle.ir_model.specs.Numbering.{neighbors_of}
 use Rattle.ir_numbering.specs.Search.{ArePassed}
 use Rattle.ir_numbering.proofs.Traversal.{IsTraversal, IsMarked}

@@ -3,7 +3,7 @@ use Rattle.std.specs.Prelude.{IfSome}
 use Rattle.std.proofs.lemmas.List.{length-map}
 use Rattle.ir_model.specs.Graph.{Adjacency, Name, names}
 use Rattle.ir_model.specs.Text.{lines}
-use Rattle.ir_numbering.specs.Numbers.{IsListing}
+use Rattle.ir_numbering.specs.Numbering.{IsListing}
 use Rattle.ir_order.specs.declared.fault.OrderFault.{OrderFault}
 use Rattle.ir_order.specs.declared.fault.OrderFaultKind.{OrderFaultKind}
 use Rattle.ir_order.specs.Order.{order_fault, OrderTold}

@@ -1,7 +1,7 @@
 use Rattle.std.proofs.Common.{◌<◌, arith}
 use Rattle.std.proofs.lemmas.Result.{IfOk-weaker}
 use Rattle.std.specs.Prelude.{slice_index}
-use Rattle.ir_model.specs.Network.{node_count}
+use Rattle.ir_model.specs.Topology.{node_count}
 use Rattle.ir_model.proofs.Steps.{longest_are_steps, steps_are_chosen}
 use Rattle.ir_plan.specs.CompactRows.{MayTake}
 use Rattle.ir_plan.proofs.CompactRows.{tied_choices, may_choices, chosen_of_may}
@@ -18,7 +18,7 @@ ports_of_runs-requires-clause-steps c =
     let n = node_count net in
     let own = slice_index numbers.labels u in
     let named = c.requires.labels in
-    let ok = c.nodes-nodes.ensures.network in
+    let ok = c.nodes-nodes.ensures.topology in
     let two : 1 < n = omega (arith, c.requires.node, c.nodes-nodes.ensures.count, c.if-nodes-eq1.false) in
     let tied = tied_choices net ok numbers.order numbers.labels named u c.in_ok-ways.ways.weights c.in_ok-ways.ensures.distances in
     let valid = may_choices net ok numbers.order numbers.labels named u c.requires.node tied in
@@ -33,7 +33,7 @@ returns c =
     let n = node_count net in
     let own = slice_index numbers.labels u in
     let named = c.requires.labels in
-    let ok = c.nodes-nodes.ensures.network in
+    let ok = c.nodes-nodes.ensures.topology in
     let two : 1 < n = omega (arith, c.requires.node, c.nodes-nodes.ensures.count, c.if-nodes-eq1.false) in
     let tied = tied_choices net ok numbers.order numbers.labels named u c.in_ok-ways.ways.weights c.in_ok-ways.ensures.distances in
     let valid = may_choices net ok numbers.order numbers.labels named u c.requires.node tied in

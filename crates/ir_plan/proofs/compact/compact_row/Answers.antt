@@ -2,7 +2,7 @@ use Rattle.std.proofs.Common.{List}
 use Rattle.std.proofs.lemmas.Result.{IfOk-weaker}
 use Rattle.std.specs.Prelude.{slice_index}
 use Rattle.ir_model.specs.declared.Kind.TheVariants.{Compact}
-use Rattle.ir_model.specs.Network.{node_count}
+use Rattle.ir_model.specs.Topology.{node_count}
 use Rattle.ir_model.specs.Row.{Start}
 use Rattle.ir_model.specs.Compact.{IsTied}
 use Rattle.ir_model.specs.Compiled.{IsCanonical}

@@ -2,7 +2,7 @@ use Rattle.std.proofs.Common.{◌≡◌, ◌∙◌, ℕ, Bool, List, length, dro
 use Rattle.std.proofs.lemmas.Bool.{eqb-true}
 use Rattle.std.proofs.lemmas.List.{take_at}
 use Rattle.std.specs.Prelude.{slice_index}
-use Rattle.ir_model.specs.Network.{node_count, ports_of}
+use Rattle.ir_model.specs.Topology.{node_count, ports_of}
 use Rattle.ir_model.proofs.Walks.{degree_bound}
 use Rattle.ir_model.proofs.Best.{IsBestBelow, best_more, best_all}
 use Rattle.ir_tables.specs.FromNode.{AreLedBy}
@@ -13,8 +13,8 @@ use Rattle.ir_plan.proofs.compact.longest_runs.Goals.{then-not-is_empty+in_ok-ma
 
 pub overflow_cast-p : goal.overflow_cast-p
 overflow_cast-p c =
-    let degree = degree_bound c.args.topology.now c.nodes-nodes.ensures.network c.args.u in
-    let few = c.nodes-nodes.ensures.network.few_nodes in
+    let degree = degree_bound c.args.topology.now c.nodes-nodes.ensures.topology c.args.u in
+    let few = c.nodes-nodes.ensures.topology.few_nodes in
     let ports = c.degree-p-end.ensures in
     let below = c.loop-p-test.true in
     omega arith
@@ -55,7 +55,7 @@ loop-p-preserved c =
             best = λ a l off.
                 let k = longer a l in
                 best_more n own may p a (slice_index c.loop-p.counts.items a) (slice_index c.loop-p.ports.items a) k.run (slice_index counts a) (slice_index ports a) marks
-                (v.best a l off) k.longest (marks_may net c.nodes-nodes.ensures.network numbers.order numbers.labels named u node p marks tied) k.better;
+                (v.best a l off) k.longest (marks_may net c.nodes-nodes.ensures.topology numbers.order numbers.labels named u node p marks tied) k.better;
           })
       | else-not-is_empty w ↦
           rw (w.counts-is, w.ports-is)
@@ -64,7 +64,7 @@ loop-p-preserved c =
             ports_len = v.ports_len;
             best = λ a l off.
                 best_same n own may p a (slice_index c.loop-p.counts.items a) (slice_index c.loop-p.ports.items a) off
-                (none_may net c.nodes-nodes.ensures.network numbers.order numbers.labels named u node p led by (let none = eqb-true _ _ (sym c.is_empty.ensures ∙ w.if-not-is_empty.false) in omega (arith, none, c.in_ok-led.led.ok.0))) (v.best a l off);
+                (none_may net c.nodes-nodes.ensures.topology numbers.order numbers.labels named u node p led by (let none = eqb-true _ _ (sym c.is_empty.ensures ∙ w.if-not-is_empty.false) in omega (arith, none, c.in_ok-led.led.ok.0))) (v.best a l off);
           })
     ]
 
@@ -79,5 +79,5 @@ returns-clause-longest c =
     let last : c.loop-p.p ≡ length (ports_of net u) = let e = c.loop-p.auto.p-end in let d = c.degree-p-end.ensures in omega (arith, c.loop-p-test.false) in
     λ a l off.
     best_all n own may (length (ports_of net u)) a (slice_index c.loop-p.counts.items a) (slice_index c.loop-p.ports.items a) off
-    (no_port_past net c.nodes-nodes.ensures.network numbers.order numbers.labels c.requires.labels u c.requires.distances.node)
+    (no_port_past net c.nodes-nodes.ensures.topology numbers.order numbers.labels c.requires.labels u c.requires.distances.node)
     (subst (λ (p : ℕ). IsBestBelow n own may p a (slice_index c.loop-p.counts.items a) (slice_index c.loop-p.ports.items a)) last (c.loop-p.invariant.best a l off))

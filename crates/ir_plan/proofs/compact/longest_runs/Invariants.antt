@@ -1,6 +1,6 @@
 use Rattle.std.proofs.Common.{◌≡◌, ◌≢◌, ◌<◌, ℕ, length}
 use Rattle.std.specs.Prelude.{slice_index}
-use Rattle.ir_model.specs.Network.{node_count}
+use Rattle.ir_model.specs.Topology.{node_count}
 use Rattle.ir_model.proofs.Best.{IsBestBelow}
 use Rattle.ir_plan.specs.CompactRows.{MayTake}
 use Rattle.ir_plan.proofs.compact.longest_runs.Given as goal

@@ -6,20 +6,20 @@ use Rattle.std.specs.declared.result.Result.{Result}
 use Rattle.std.specs.declared.alloc.AllocError.{AllocError}
 use Rattle.rayon.specs.Numbers.{nat_range}
 use Rattle.rayon.proofs.ToStd.{nat_range-All}
-use Rattle.ir_model.specs.Network.{node_count}
+use Rattle.ir_model.specs.Topology.{node_count}
 use Rattle.ir_plan.proofs.Lists.{made_for_range, of_match}
 use Rattle.ir_plan.proofs.distances.columns_of.Goals as goal
 
 pub collect-requires-clause-ready : goal.collect-requires-clause-ready
 collect-requires-clause-ready g c κs within =
     let ends = c.into_par_iter.ensures in
-    let inside = nat_range-All (λ (k : ℕ). k < node_count c.args.plan.now.network) 0 c.nodes-nodes.result (λ i low high. omega (arith, high, c.nodes-nodes.ensures.count)) in
+    let inside = nat_range-All (λ (k : ℕ). k < node_count c.args.plan.now.topology) 0 c.nodes-nodes.result (λ i low high. omega (arith, high, c.nodes-nodes.ensures.count)) in
     rw (c.map.ensures.base, c.map.ensures.f, c.with_min_len.ensures.base, ends.0, ends.1) (λ k d lt. (inside k d lt, λ y p. tt))
 
 pub returns : goal.returns
 returns g c =
     let ends = c.into_par_iter.ensures in
-    let n = node_count c.args.plan.now.network in
+    let n = node_count c.args.plan.now.topology in
     let P : Vec ℕ → Type 0 = λ made. length made.items ≡ n in
     let h = rw (c.map.ensures.base, c.map.ensures.f, c.with_min_len.ensures.base) at c.in_ok-collect.ensures in
     let chain = h.1 in

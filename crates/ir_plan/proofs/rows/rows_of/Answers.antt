@@ -1,5 +1,5 @@
 use Rattle.std.proofs.Common.{◌≡◌, ℕ, subst, arith}
-use Rattle.ir_model.specs.Network.{node_count}
+use Rattle.ir_model.specs.Topology.{node_count}
 use Rattle.ir_plan.specs.NodeRows.{AreNodeRows}
 use Rattle.ir_plan.proofs.NodeRows.{node_rows_more, node_rows_stand}
 use Rattle.ir_plan.proofs.rows.rows_of.Goals as goal
@@ -17,5 +17,5 @@ returns c =
     let count = c.nodes-nodes.ensures.count in
     let end = c.loop-u.auto.u-end in
     let last : c.loop-u.u ≡ node_count net = omega (arith, c.loop-u-test.false) in
-    node_rows_stand net c.nodes-nodes.ensures.network numbers c.requires.labels c.loop-u.rows.items c.args.kind c.requires.tree
+    node_rows_stand net c.nodes-nodes.ensures.topology numbers c.requires.labels c.loop-u.rows.items c.args.kind c.requires.tree
     (subst (λ (k : ℕ). AreNodeRows c.args.kind net numbers.order numbers.parents numbers.labels k c.loop-u.rows.items) last c.loop-u.invariant)

@@ -3,7 +3,7 @@ use Rattle.std.proofs.lemmas.Result.{IfOk-weaker}
 use Rattle.std.specs.Prelude.{slice_index}
 use Rattle.ir_model.specs.declared.Kind.TheVariants.{Shortest}
 use Rattle.ir_model.specs.Row.{Start}
-use Rattle.ir_model.specs.Network.{node_count}
+use Rattle.ir_model.specs.Topology.{node_count}
 use Rattle.ir_model.specs.Compiled.{IsCanonical}
 use Rattle.ir_tables.specs.FromNode.{held_at, AreLeastPorts}
 use Rattle.ir_plan.specs.NodeRows.{IsNodeRow}

@@ -5,12 +5,12 @@ use Rattle.std.specs.declared.result.Result.{Result}
 use Rattle.std.specs.declared.alloc.AllocError.{AllocError}
 use Rattle.rayon.specs.Numbers.{nat_range}
 use Rattle.rayon.proofs.ToStd.{nat_range-All}
-use Rattle.ir_model.specs.Network.{node_count}
+use Rattle.ir_model.specs.Topology.{node_count}
 use Rattle.ir_model.specs.Walk.{IsConnected}
-use Rattle.ir_model.specs.Scheme.{AreLabels}
+use Rattle.ir_model.specs.Plan.{AreLabels}
 use Rattle.ir_model.specs.declared.Kind.TheVariants.{Tree}
 use Rattle.ir_model.specs.Row.{Start}
-use Rattle.ir_numbering.specs.Numbers.{IsNumberingOf}
+use Rattle.ir_numbering.specs.Numbering.{IsNumberingOf}
 use Rattle.ir_plan.specs.NodeRows.{IsNodeRow}
 use Rattle.ir_plan.proofs.NodeRows.{rows_of_range, node_rows_stand}
 use Rattle.ir_plan.proofs.threads.rows_in_threads.Goals as goal
@@ -39,7 +39,7 @@ returns g c =
     let places = chain.1 ∙ (λ i. nat_range (ends.0 i) (ends.1 i)) ∙ ap (range_with_len 0) count in
     let kind = c.args.kind in
     of_match c.in_ok-collect.field-0 _ _ _ h.2 (λ v m.
-    rw m.2 (node_rows_stand net c.nodes-nodes.ensures.network numbers c.requires.labels m.0 kind c.requires.tree
+    rw m.2 (node_rows_stand net c.nodes-nodes.ensures.topology numbers c.requires.labels m.0 kind c.requires.tree
     (rows_of_range kind net numbers.order numbers.parents numbers.labels h.0 m.0
     (subst (λ (us : List ℕ). AllZip (λ (u : ℕ) (one : Result (List Start) AllocError). IfOk one (λ (row : List Start). IsNodeRow kind net numbers.order numbers.parents (slice_index numbers.labels u) row)) us h.0) places chain.2)
     m.1)))

@@ -1,6 +1,6 @@
 use Rattle.std.proofs.Common.{◌≡◌, ◌<◌, ◌≤◌, ℕ, length}
 use Rattle.std.specs.Prelude.{slice_index_or}
-use Rattle.ir_prefix.specs.Runs.{IsRun}
+use Rattle.ir_prefix.specs.Runs.{IsRunFrom}
 use Rattle.ir_prefix.specs.declared.runs.Run.{Run}
 use Rattle.ir_prefix.proofs.runs.runs_of.Given as goal
 
@@ -8,8 +8,8 @@ abbrev pub invariant-loop-x : goal.invariant-loop-x
 invariant-loop-x l = record {
   inside : l.x ≤ length l.ports;
   every : length l.runs.items ≡ length l.ports;
-  ahead : IsRun l.ports l.x l.run;
-  done : (d : ℕ) (none : Run) → l.x ≤ d → d < length l.ports → IsRun l.ports d (slice_index_or l.runs.items d none) × (d < (slice_index_or l.runs.items d none).end);
+  ahead : IsRunFrom l.ports l.x l.run;
+  done : (d : ℕ) (none : Run) → l.x ≤ d → d < length l.ports → IsRunFrom l.ports d (slice_index_or l.runs.items d none) × (d < (slice_index_or l.runs.items d none).end);
 }
 
 abbrev pub decreases-loop-x : goal.decreases-loop-x

@@ -1,6 +1,6 @@
 use Rattle.std.proofs.Common.{◌≡◌, ◌++◌, ◌∙◌, ℕ, List, length, refl, sym, ap, subst, arith}
 use Rattle.ir_prefix.specs.Described.{Fork, names_of}
-use Rattle.ir_prefix.specs.Joined.{AreJoined}
+use Rattle.ir_prefix.specs.Joined.{ArePortsOfBoth}
 use Rattle.ir_prefix.specs.Nodes.{Grows}
 use Rattle.ir_prefix.proofs.NodeLemmas.{stands_on, fork_stands}
 use Rattle.ir_prefix.proofs.trie.push_fork.Goals as goal
@@ -12,7 +12,7 @@ returns-clause-stands c = λ l r sl sr several.
     let own = c.join.new.room.items in
     let whole : after.names.items ≡ before.names.items ++ own = c.in_ok-place.ensures.names ∙ c.in_ok-extend_from_slice.ensures.items ∙ ap (λ (xs : List ℕ). before.names.items ++ xs) c.as_slice.ensures.value in
     let grows : Grows before after = record { nodes = c.in_ok-place.ensures.grows.nodes; names = (own, whole) } in
-    let joined = subst (λ (xs : List ℕ). AreJoined xs (names_of r) own) (c.names_at.ensures l sl) (subst (λ (ys : List ℕ). AreJoined c.names_at.result.now ys own) (c.names_at-2.ensures r sr) c.in_ok-join.ensures.joined) in
+    let joined = subst (λ (xs : List ℕ). ArePortsOfBoth xs (names_of r) own) (c.names_at.ensures l sl) (subst (λ (ys : List ℕ). ArePortsOfBoth c.names_at.result.now ys own) (c.names_at-2.ensures r sr) c.in_ok-join.ensures.joined) in
     let first : c.len-first.result ≡ length before.names.items = omega (arith, c.len-first.ensures, before.names.ok) in
     let extended : c.len-end.result ≡ length c.extend_from_slice.new.self.items = omega (arith, c.len-end.ensures, c.extend_from_slice.new.self.ok) in
     let end : c.len-end.result ≡ length after.names.items = extended ∙ ap (λ (xs : List ℕ). length xs) (sym c.in_ok-place.ensures.names) in (

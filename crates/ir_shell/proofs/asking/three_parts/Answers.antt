@@ -1,6 +1,6 @@
 use Rattle.std.proofs.Common.{◌∙◌, ap}
-use Rattle.ir_words.specs.Cut.{topology_part, script_part}
-use Rattle.ir_words.proofs.Ends.{end_of_end}
+use Rattle.ir_cli.specs.Cut.{topology_part, script_part}
+use Rattle.ir_cli.proofs.Ends.{end_of_end}
 use Rattle.ir_shell.proofs.asking.three_parts.Goals as goal
 
 pub returns : goal.returns

@@ -1,7 +1,7 @@
 use Rattle.std.proofs.Common.{◌∙◌, ◌++◌, ap, arith, flat_map, get_or, string_bytes}
 use Rattle.std.proofs.lemmas.List.{take_all}
 use Rattle.ir_core.specs.declared.event.Refused.TheVariants.{NoNode}
-use Rattle.ir_words.specs.Lines.{refused_line}
+use Rattle.ir_cli.specs.Lines.{refused_line}
 use Rattle.ir_shell.specs.Lives.{refusal_line}
 use Rattle.ir_shell.proofs.Texts.{refusals_more}
 use Rattle.ir_shell.proofs.live.refusals_text.Goals as goal

@@ -1,6 +1,6 @@
 use Rattle.std.proofs.Common.{ℕ, List}
-use Rattle.ir_words.specs.Answer.{Refused}
-use Rattle.ir_words.specs.Reading.{texts_of}
+use Rattle.ir_cli.specs.Answer.{Refused}
+use Rattle.ir_cli.specs.Reading.{texts_of}
 use Rattle.ir_shell.specs.Looks.{order_in, AnswersShow, RefusesShow, LookAnswers}
 use Rattle.ir_shell.specs.Plans.{labelling_of}
 use Rattle.ir_shell.proofs.Answering.{stops_more, gives_more}

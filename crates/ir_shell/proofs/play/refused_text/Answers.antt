@@ -1,6 +1,6 @@
 use Rattle.std.proofs.Common.{◌∙◌, ◌++◌, ap, arith, get_or, Ok}
 use Rattle.ir_core.specs.declared.event.Reply.TheVariants.{Injected}
-use Rattle.ir_words.specs.Lines.{reply_line}
+use Rattle.ir_cli.specs.Lines.{reply_line}
 use Rattle.ir_shell.proofs.Texts.{replies_more, replies_all}
 use Rattle.ir_shell.proofs.play.refused_text.Goals as goal
 

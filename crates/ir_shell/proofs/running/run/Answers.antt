@@ -1,8 +1,8 @@
 use Rattle.std.proofs.Common.{◌≡◌, ℕ, List, refl, subst}
 use Rattle.ir_shell.specs.Asked.{sources_of, Answers}
-use Rattle.ir_words.specs.declared.read.Source.{Source}
-use Rattle.ir_words.specs.Reading.{AreRead, IsUnread}
-use Rattle.ir_words.specs.Told.{Sends, Tells}
+use Rattle.ir_cli.specs.declared.read.Source.{Source}
+use Rattle.ir_cli.specs.Reading.{AreRead, IsUnread}
+use Rattle.ir_cli.specs.Told.{Sends, Tells}
 use Rattle.ir_shell.proofs.Runs.{given_up}
 use Rattle.ir_shell.proofs.running.run.Goals as goal
 

@@ -4,7 +4,7 @@ use Rattle.ir_model.specs.declared.Link.{Link}
 use Rattle.ir_model.specs.declared.Hop.{Hop}
 use Rattle.ir_model.specs.Places.{neighbors_at}
 use Rattle.ir_tables.specs.Numbered.{Numbers, link_between, links_from, ports_at}
-use Rattle.ir_tables.specs.ByPlace.{row_numbers, rows_of}
+use Rattle.ir_tables.specs.ByPlace.{row_numbers, neighbor_rows}
 use Rattle.ir_tables.proofs.OfGraph.{next_entry, ports_more, ports_same, row_of_node, graph_numbered}
 use Rattle.ir_tables.proofs.Numbered.{port_link}
 use Rattle.ir_tables.proofs.Runs.{begins_within, joins_in_run}
@@ -19,21 +19,21 @@ overflow_cast-link c =
     let row : Numbers = row_numbers g (neighbors_at g u) in
     let entry : slice_get row c.loop-place.place ≡ Some c.unwrap-v.result = next_entry g u c.loop-place.place c.unwrap-v.result (sym c.neighbor_at.ensures.at ∙ c.unwrap-v.ensures) in
     let P : Numbers → Type 0 = λ es. slice_get es c.loop-place.place ≡ Some c.unwrap-v.result in
-    let link = port_link (rows_of g) (graph_numbered g graph) u c.loop-place.place c.unwrap-v.result (subst P (sym (row_of_node g u)) entry) c.if-v-u.true in
+    let link = port_link (neighbor_rows g) (graph_numbered g graph) u c.loop-place.place c.unwrap-v.result (subst P (sym (row_of_node g u)) entry) c.if-v-u.true in
     let Q : List Link → Type 0 = λ links. link_between links u c.unwrap-v.result.0 < length links in
     let within : link_between c.args.links.now u c.unwrap-v.result.0 < length c.args.links.now =
-    subst Q (sym c.requires.links) (slice_get_within (links_from 0 (rows_of g)) (link_between (links_from 0 (rows_of g)) u c.unwrap-v.result.0) link.0 link.1) in
+    subst Q (sym c.requires.links) (slice_get_within (links_from 0 (neighbor_rows g)) (link_between (links_from 0 (neighbor_rows g)) u c.unwrap-v.result.0) link.0 link.1) in
     omega (arith, within, c.link_between-link.ensures, c.requires.few)
 
 pub link_between-link-requires-clause-within : goal.link_between-link-requires-clause-within
 link_between-link-requires-clause-within c = let g = c.args.graph.now in
     let low : c.min-low.result + 1 < length g + 1 = omega (arith, c.min-low.ensures, c.requires.node) in
-    omega (arith, begins_within (rows_of g) (length g + 1) c.args.begins.now (c.min-low.result + 1) c.requires.begins low, ap length c.requires.links)
+    omega (arith, begins_within (neighbor_rows g) (length g + 1) c.args.begins.now (c.min-low.result + 1) c.requires.begins low, ap length c.requires.links)
 
 pub link_between-link-requires-clause-run : goal.link_between-link-requires-clause-run
 link_between-link-requires-clause-run c = let g = c.args.graph.now in
     let low : c.min-low.result + 1 < length g + 1 = omega (arith, c.min-low.ensures, c.requires.node) in
-    rw (c.min-low.ensures, c.requires.links) (joins_in_run (rows_of g) (length g + 1) c.args.begins.now c.args.u c.unwrap-v.result.0 c.requires.begins (omega (arith, low, c.min-low.ensures)))
+    rw (c.min-low.ensures, c.requires.links) (joins_in_run (neighbor_rows g) (length g + 1) c.args.begins.now c.args.u c.unwrap-v.result.0 c.requires.begins (omega (arith, low, c.min-low.ensures)))
 
 pub loop-place-preserved : goal.loop-place-preserved
 loop-place-preserved c =

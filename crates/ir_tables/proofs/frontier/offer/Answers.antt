@@ -2,7 +2,7 @@ use Rattle.std.proofs.Common.{◌≡◌, ◌<◌, ℕ, List, Some, length, arith
 use Rattle.std.proofs.lemmas.Option.{slice_get_within, slice_get-get_or}
 use Rattle.std.specs.BinaryHeap.{heap_items}
 use Rattle.ir_model.specs.declared.Hop.{Hop}
-use Rattle.ir_model.specs.Network.{Network, ports_of, port_at}
+use Rattle.ir_model.specs.Topology.{Topology, ports_of, port_at}
 use Rattle.ir_tables.proofs.Rounds.{past}
 use Rattle.ir_tables.proofs.Offering.{offering_lower, offering_keep, offering_done}
 use Rattle.ir_tables.proofs.frontier.offer.Goals as goal
@@ -10,7 +10,7 @@ use Rattle.ir_tables.proofs.frontier.offer.Goals.{then-through-weights+in_ok-pus
 
 pub loop-hop-preserved : goal.loop-hop-preserved
 loop-hop-preserved c =
-    let net : Network = c.args.topology.now in
+    let net : Topology = c.args.topology.now in
     let i : ℕ = c.loop-hop.hop-index in
     let hop : Hop = get_or c.ports-hop-items.result.now i past in
     let P : List Hop → Type 0 = λ xs. slice_get xs i ≡ Some hop in
@@ -18,7 +18,7 @@ loop-hop-preserved c =
     let own : ℕ = get_or c.args.weights.now c.args.v 0 in
     elim c.if-through-weights.branch [
       | then-through-weights+in_ok-push w ↦
-          rw (w.weights-is, w.frontier-is) (offering_lower net c.nodes-nodes.ensures.network c.args.v own c.args.weights.now (heap_items c.args.frontier.now) c.loop-hop.weights (heap_items c.loop-hop.frontier) (heap_items w.push.new.self) i
+          rw (w.weights-is, w.frontier-is) (offering_lower net c.nodes-nodes.ensures.topology c.args.v own c.args.weights.now (heap_items c.args.frontier.now) c.loop-hop.weights (heap_items c.loop-hop.frontier) (heap_items w.push.new.self) i
           c.saturating_add-through.result hop port c.saturating_add-through.ensures w.if-through-weights.true (omega arith) w.in_ok-push.ensures.permutation c.loop-hop.invariant)
       | else-through-weights w ↦
           rw (w.weights-is, w.frontier-is) (offering_keep net c.args.v own c.args.weights.now (heap_items c.args.frontier.now) c.loop-hop.weights (heap_items c.loop-hop.frontier) i

@@ -1,9 +1,9 @@
 use Rattle.std.proofs.Common.{◌≡◌, ℕ, List, length, drop, replicate, arith, subst, sym, ap, ◌∙◌}
 use Rattle.std.proofs.lemmas.List.{take_at, get_or_read}
 use Rattle.std.specs.BinaryHeap.{heap_items}
-use Rattle.ir_model.specs.Network.{node_count}
+use Rattle.ir_model.specs.Topology.{node_count}
 use Rattle.ir_tables.specs.Relaxation.{at}
-use Rattle.ir_tables.specs.Frontier.{Entry, IsFrontier, Only}
+use Rattle.ir_tables.specs.Frontier.{WeightEntry, IsFrontier, Only}
 use Rattle.ir_tables.proofs.Offering.{frontier_start, popped_node, popped_fresh, popped_stale, frontier_empty}
 use Rattle.ir_tables.proofs.frontier.weights_to.Goals as goal
 
@@ -17,7 +17,7 @@ loop-weight-init c =
 pub loop-weight-preserved : goal.loop-weight-preserved
 loop-weight-preserved c =
     let ws : List ℕ = c.loop-weight.weights.items in
-    let e : Entry = c.in-Some.field-0 in
+    let e : WeightEntry = c.in-Some.field-0 in
     let in_net = popped_node c.args.topology.now c.args.d ws (heap_items c.loop-weight.frontier) (heap_items c.pop.new.self) e c.in-Some.ensures.permutation c.loop-weight.invariant in
     let read : c.index.result.now ≡ at ws e.0.1 = get_or_read ws e.0.1 c.index.result.now (omega (arith, in_net, c.loop-weight.invariant.len)) c.index.ensures 0 in
     popped_stale c.args.topology.now c.args.d ws (heap_items c.loop-weight.frontier) (heap_items c.pop.new.self) e (λ same. c.if-weight-index.false (same ∙ sym read)) c.in-Some.ensures.permutation c.loop-weight.invariant
@@ -25,7 +25,7 @@ loop-weight-preserved c =
 pub loop-weight-preserved-in-Continue-branch-3 : goal.loop-weight-preserved-in-Continue-branch-3
 loop-weight-preserved-in-Continue-branch-3 c =
     let ws : List ℕ = c.loop-weight.weights.items in
-    let e : Entry = c.in-Some.field-0 in
+    let e : WeightEntry = c.in-Some.field-0 in
     let len : length c.offer.new.weights ≡ length ws = c.offer.auto.weights ∙ ap length c.as_mut_slice.ensures.value in
     let back = take_at c.offer.new.weights (drop (length c.offer.new.weights) ws) c.loop-weight.weights.len (omega (arith, len, c.loop-weight.weights.ok.0)) in
     let but : IsFrontier c.args.topology.now c.args.d (Only e.0.1) ws (heap_items c.pop.new.self) =
@@ -35,4 +35,4 @@ loop-weight-preserved-in-Continue-branch-3 c =
 
 pub returns : goal.returns
 returns c =
-    frontier_empty c.args.topology.now c.nodes.ensures.network c.args.d c.loop-weight.weights.items (heap_items c.loop-weight.frontier) (omega (arith, c.in_default.ensures.none, c.loop-weight.frontier.data.ok.0)) c.loop-weight.invariant
+    frontier_empty c.args.topology.now c.nodes.ensures.topology c.args.d c.loop-weight.weights.items (heap_items c.loop-weight.frontier) (omega (arith, c.in_default.ensures.none, c.loop-weight.frontier.data.ok.0)) c.loop-weight.invariant

@@ -1,6 +1,6 @@
 use Rattle.std.proofs.Common.{◌≡◌, ◌<◌, Some, length, refl, sym, ap, ◌∙◌, arith}
 use Rattle.std.proofs.lemmas.Option.{slice_get_within, slice_get-get_or}
-use Rattle.ir_model.specs.Network.{node_count, ports_of}
+use Rattle.ir_model.specs.Topology.{node_count, ports_of}
 use Rattle.ir_tables.specs.Listed.{listed_port}
 use Rattle.ir_tables.proofs.Ways.{listed_next}
 use Rattle.ir_tables.proofs.listed.hop_at.Goals as goal

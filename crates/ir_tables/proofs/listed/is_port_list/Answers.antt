@@ -1,12 +1,12 @@
 use Rattle.std.proofs.Common.{◌≡◌, ◌<◌, ◌≤◌, ℕ, refl, ap, subst, ◌∙◌, ◌*◌, arith, ⊎_elim}
 use Rattle.std.proofs.lemmas.Bool.{cases_lt}
-use Rattle.ir_model.specs.Network.{Network, node_count}
+use Rattle.ir_model.specs.Topology.{Topology, node_count}
 use Rattle.ir_tables.specs.Listed.{listed_port, IsLedTo}
 use Rattle.ir_tables.proofs.listed.is_port_list.Goals as goal
 
 pub loop-d-preserved : goal.loop-d-preserved
 loop-d-preserved c = λ e lt.
-    let net : Network = c.args.topology.now in
+    let net : Topology = c.args.topology.now in
     let P : ℕ → Type 0 = λ k. IsLedTo net (listed_port (node_count net) c.args.ports.now) k in
     ⊎_elim (λ (less : e < c.loop-d.d). c.loop-d.invariant e less)
     (λ (ge : c.loop-d.d ≤ e). let same : c.loop-d.d ≡ e = omega arith in subst P same (c.all_lead.ensures.0 c.if-not-all_lead.false)) (cases_lt e c.loop-d.d)

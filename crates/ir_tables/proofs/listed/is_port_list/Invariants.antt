@@ -1,5 +1,5 @@
 use Rattle.std.proofs.Common.{ℕ, ◌<◌}
-use Rattle.ir_model.specs.Network.{node_count}
+use Rattle.ir_model.specs.Topology.{node_count}
 use Rattle.ir_tables.specs.Listed.{listed_port, IsLedTo}
 use Rattle.ir_tables.proofs.listed.is_port_list.Given as goal
 

@@ -1,4 +1,4 @@
-use Rattle.ir_model.specs.Network.{node_count}
+use Rattle.ir_model.specs.Topology.{node_count}
 use Rattle.ir_tables.specs.Listed.{listed_port}
 use Rattle.ir_tables.proofs.Ways.{IsFollowed}
 use Rattle.ir_tables.proofs.listed.leads.Given as goal

@@ -1,5 +1,5 @@
 use Rattle.std.proofs.Common.{◌≡◌, ◌≢◌, ◌<◌, ℕ, Option, ap, arith}
-use Rattle.ir_model.specs.Network.{Network, node_count, IsNetwork}
+use Rattle.ir_model.specs.Topology.{Topology, node_count, IsTopology}
 use Rattle.ir_model.proofs.Walks.{PortFacts, port_facts}
 use Rattle.ir_tables.specs.Relaxation.{at, unreached}
 use Rattle.ir_tables.specs.Listed.{listed_port}
@@ -7,12 +7,12 @@ use Rattle.ir_tables.proofs.Ways.{walked_start, walked_step, way_bound}
 use Rattle.ir_tables.proofs.listed.weight_of_walk.Goals as goal
 
 pub loop-step-init : goal.loop-step-init
-loop-step-init c = walked_start c.args.topology.now c.nodes-step-end.ensures.network c.args.ports.now c.requires.list c.args.u c.args.d c.requires.node c.requires.end
+loop-step-init c = walked_start c.args.topology.now c.nodes-step-end.ensures.topology c.args.ports.now c.requires.list c.args.u c.args.d c.requires.node c.requires.end
 
 pub overflow_add-result : goal.overflow_add-result
 overflow_add-result c =
-    let net : Network = c.args.topology.now in
-    let ok : IsNetwork net = c.nodes-step-end.ensures.network in
+    let net : Topology = c.args.topology.now in
+    let ok : IsTopology net = c.nodes-step-end.ensures.topology in
     let table : ℕ → ℕ → Option ℕ = listed_port (node_count net) c.args.ports.now in
     let below : at c.args.weights.now c.loop-step.x < unreached = omega arith in
     let bound = way_bound net ok table c.args.d c.loop-step.x (at c.args.weights.now c.loop-step.x) c.loop-step.invariant.in_net c.requires.end (c.requires.filled.ways c.loop-step.x c.loop-step.invariant.in_net below) in
@@ -20,14 +20,14 @@ overflow_add-result c =
 
 pub overflow_add-sum : goal.overflow_add-sum
 overflow_add-sum c =
-    let net : Network = c.args.topology.now in
-    let ok : IsNetwork net = c.nodes-step-end.ensures.network in
+    let net : Topology = c.args.topology.now in
+    let ok : IsTopology net = c.nodes-step-end.ensures.topology in
     let next = c.hop_at-hop.ensures in
     let facts : PortFacts net c.loop-step.x c.hop_at-hop.result = port_facts net ok c.loop-step.x next.port c.hop_at-hop.result next.there in
     omega (arith, facts.bounded, c.loop-step.invariant.light, c.loop-step.invariant.left_is, ok.few_nodes)
 
 pub loop-step-preserved : goal.loop-step-preserved
 loop-step-preserved c =
-    let net : Network = c.args.topology.now in
+    let net : Topology = c.args.topology.now in
     let other : c.loop-step.x ≢ c.args.d = λ e. (let same : at c.args.weights.now c.loop-step.x ≡ at c.args.weights.now c.args.d = ap (at c.args.weights.now) e in omega (arith, same, c.requires.filled.end, c.if-known.false)) in
-    walked_step net c.nodes-step-end.ensures.network (listed_port (node_count net) c.args.ports.now) c.args.d c.args.u c.loop-step.x c.loop-step.sum c.loop-step._step c.hop_at-hop.result c.loop-step.invariant other c.hop_at-hop.ensures
+    walked_step net c.nodes-step-end.ensures.topology (listed_port (node_count net) c.args.ports.now) c.args.d c.args.u c.loop-step.x c.loop-step.sum c.loop-step._step c.hop_at-hop.result c.loop-step.invariant other c.hop_at-hop.ensures

@@ -1,4 +1,4 @@
-use Rattle.ir_model.specs.Network.{node_count}
+use Rattle.ir_model.specs.Topology.{node_count}
 use Rattle.ir_tables.specs.Listed.{listed_port}
 use Rattle.ir_tables.proofs.Ways.{IsWritten}
 use Rattle.ir_tables.proofs.listed.write_walk.Given as goal

@@ -8,22 +8,22 @@ use Rattle.ir_tables.proofs.outward.flood.Goals as goal
 
 pub overflow_cast-p : goal.overflow_cast-p
 overflow_cast-p c =
-    let degree = degree_bound c.args.topology.now c.nodes-nodes.ensures.network c.args.u in
-    let few = c.nodes-nodes.ensures.network.few_nodes in
+    let degree = degree_bound c.args.topology.now c.nodes-nodes.ensures.topology c.args.u in
+    let few = c.nodes-nodes.ensures.topology.few_nodes in
     let port = c.requires.port in
     omega arith
 
 pub returns-then-not-is_tight : goal.returns-then-not-is_tight
 returns-then-not-is_tight c =
     rw c.new.ensures.items
-    (nothing_led c.args.topology.now c.nodes-nodes.ensures.network c.args.u c.args.weights.now c.requires.distances c.args.p c.port-first.result c.port-first.ensures
+    (nothing_led c.args.topology.now c.nodes-nodes.ensures.topology c.args.u c.args.weights.now c.requires.distances c.args.p c.port-first.result c.port-first.ensures
     (λ tight. let t = c.is_tight.ensures.1 tight in cc (t, c.if-not-is_tight.true)))
 
 pub loop-passed-init : goal.loop-passed-init
 loop-passed-init c =
     let bare = c.in_ok-marks.ensures.items_if_clones_equal (λ y e. e) ∙ ap no_marks c.nodes-nodes.ensures.count in
     rw (c.in_ok-push.ensures.items, c.in_ok-led.ensures.items, bare)
-    (flooding_start c.args.topology.now c.nodes-nodes.ensures.network c.args.u c.args.weights.now c.requires.distances c.args.p c.port-first.result c.port-first.ensures
+    (flooding_start c.args.topology.now c.nodes-nodes.ensures.topology c.args.u c.args.weights.now c.requires.distances c.args.p c.port-first.result c.port-first.ensures
     (c.is_tight.ensures.0 c.if-not-is_tight.false))
 
 pub pass_on-requires-clause-node : goal.pass_on-requires-clause-node
@@ -38,11 +38,11 @@ loop-passed-preserved c =
     let led : List ℕ = c.loop-passed.led.items in
     let inside : c.loop-passed.passed < length led = omega (arith, c.loop-passed-test.true, c.len.ensures) in
     let x = get_or_read led c.loop-passed.passed c.index-x.result.now inside c.index-x.ensures 0 in
-    flooding_step c.args.topology.now c.nodes-nodes.ensures.network c.args.u c.args.weights.now c.requires.distances c.args.p c.port-first.result c.port-first.ensures
+    flooding_step c.args.topology.now c.nodes-nodes.ensures.topology c.args.u c.args.weights.now c.requires.distances c.args.p c.port-first.result c.port-first.ensures
     c.port-first.result.node c.loop-passed.passed c.index-x.result.now c.loop-passed.marks.items c.pass_on.new.marks.items led c.pass_on.new.led.items
     inside x c.in_ok-pass_on.ensures c.loop-passed.invariant
 
 pub returns : goal.returns
 returns c =
-    flooding_done c.args.topology.now c.nodes-nodes.ensures.network c.args.u c.args.weights.now c.requires.distances c.args.p c.port-first.result c.port-first.ensures
+    flooding_done c.args.topology.now c.nodes-nodes.ensures.topology c.args.u c.args.weights.now c.requires.distances c.args.p c.port-first.result c.port-first.ensures
     c.loop-passed.passed c.loop-passed.marks.items c.loop-passed.led.items (omega (arith, c.loop-passed-test.false, c.len.ensures)) c.loop-passed.invariant

@@ -1,5 +1,5 @@
 use Rattle.std.proofs.Common.{◌-◌}
-use Rattle.ir_model.specs.Network.{node_count}
+use Rattle.ir_model.specs.Topology.{node_count}
 use Rattle.ir_tables.proofs.Flooding.{IsFlooding}
 use Rattle.ir_tables.proofs.outward.flood.Given as goal
 

@@ -2,7 +2,7 @@ use Rattle.std.proofs.Common.{◌≡◌, ◌<◌, ℕ, List, Some, length, arith
 use Rattle.std.proofs.lemmas.List.{get_or_read}
 use Rattle.std.proofs.lemmas.Option.{slice_get-get_or}
 use Rattle.ir_model.specs.declared.Hop.{Hop}
-use Rattle.ir_model.specs.Network.{Network, ports_of, port_at}
+use Rattle.ir_model.specs.Topology.{Topology, ports_of, port_at}
 use Rattle.ir_model.proofs.Walks.{PortFacts, port_facts}
 use Rattle.ir_tables.specs.FromNode.{IsPassing}
 use Rattle.ir_tables.proofs.Rounds.{past}
@@ -15,12 +15,12 @@ loop-hop-init c = passing_start c.args.topology.now c.args.weights.now c.args.x 
 
 pub loop-hop-preserved : goal.loop-hop-preserved
 loop-hop-preserved c =
-    let net : Network = c.args.topology.now in
+    let net : Topology = c.args.topology.now in
     let i : ℕ = c.loop-hop.hop-index in
     let hop : Hop = get_or c.ports-hop-items.result.now i past in
     let P : List Hop → Type 0 = λ xs. slice_get xs i ≡ Some hop in
     let port : port_at net c.args.x i ≡ Some hop = subst P c.ports-hop-items.ensures (slice_get-get_or c.ports-hop-items.result.now i past c.loop-hop-test.true) in
-    let facts : PortFacts net c.args.x hop = port_facts net c.nodes-nodes.ensures.network c.args.x i hop port in
+    let facts : PortFacts net c.args.x hop = port_facts net c.nodes-nodes.ensures.topology c.args.x i hop port in
     let y_in : hop.node < length c.loop-hop.marks.items = let e = c.loop-hop.invariant.every in omega (arith, facts.to, c.requires.marks, e) in
     elim c.if-is_tight.branch [
       | then-is_tight+then-not-index+in_ok-push w ↦
@@ -38,7 +38,7 @@ loop-hop-preserved c =
 
 pub returns : goal.returns
 returns c =
-    let net : Network = c.args.topology.now in
+    let net : Topology = c.args.topology.now in
     let P : List Hop → Type 0 = λ xs. c.loop-hop.hop-index ≡ length xs in
     let all : c.loop-hop.hop-index ≡ length (ports_of net c.args.x) = subst P c.ports-hop-items.ensures (omega (arith, c.loop-hop-test.false, c.loop-hop.auto.hop-index-end)) in
     subst (λ (k : ℕ). IsPassing net c.args.weights.now c.args.x k c.args.marks.now.items c.args.led.now.items c.loop-hop.marks.items c.loop-hop.led.items) all c.loop-hop.invariant

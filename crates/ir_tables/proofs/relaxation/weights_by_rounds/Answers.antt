@@ -25,7 +25,7 @@ returns-then-not-changed c =
     let P : List ℕ → Type 0 = λ ws. AllReached c.args.topology.now c.args.d ws in
     let Q : List ℕ → Type 0 = λ ws. at ws c.args.d ≡ 0 in
     let R : List ℕ → Type 0 = λ ws. AreDistances c.args.topology.now c.args.d ws in
-    subst R (sym back) (relaxed_distances c.args.topology.now c.nodes.ensures.network c.args.d c.relax-changed.new.weights (record {
+    subst R (sym back) (relaxed_distances c.args.topology.now c.nodes.ensures.topology c.args.d c.relax-changed.new.weights (record {
       len = len ∙ inv.len;
       settled = record {
         end = c.relax-changed.ensures.end c.args.d (subst Q (sym c.as_mut_slice.ensures.value) inv.end);

@@ -1,5 +1,5 @@
 use Rattle.std.proofs.Common.{◌≡◌, length, sum}
-use Rattle.ir_model.specs.Network.{node_count}
+use Rattle.ir_model.specs.Topology.{node_count}
 use Rattle.ir_tables.specs.Relaxation.{at, AllReached}
 use Rattle.ir_tables.proofs.relaxation.weights_by_rounds.Given as goal
 

@@ -1,6 +1,6 @@
 use Rattle.std.proofs.Common.{◌≡◌, ℕ, ◌<◌, None, length, slice_index_or}
 use Rattle.ir_tables.specs.Listed.{listed_port}
-use Rattle.ir_model.specs.Network.{node_count}
+use Rattle.ir_model.specs.Topology.{node_count}
 use Rattle.ir_tables.proofs.table.listed_column.Given as goal
 
 abbrev pub invariant-loop-u : goal.invariant-loop-u

@@ -1,6 +1,6 @@
 use Rattle.std.proofs.Common.{◌∙◌, ap, sym}
 use Rattle.std.specs.List.{list_all}
-use Rattle.ir_model.specs.Network.{node_count}
+use Rattle.ir_model.specs.Topology.{node_count}
 use Rattle.ir_trace.specs.Checked.{is_part_over}
 use Rattle.ir_trace.proofs.CheckedRows.{over_plans, short_parts}
 use Rattle.ir_trace.proofs.checking.found_of.Goals as goal

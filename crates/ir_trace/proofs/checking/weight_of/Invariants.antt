@@ -1,9 +1,9 @@
 use Rattle.std.proofs.Common.{◌≡◌, ◌≤◌, ◌*◌, take}
-use Rattle.ir_trace.specs.Inspect.{weight_of}
+use Rattle.ir_trace.specs.Inspect.{segments_weight}
 use Rattle.ir_trace.proofs.checking.weight_of.Given as goal
 
 abbrev pub invariant-loop-segment : goal.invariant-loop-segment
 invariant-loop-segment l = record {
-  weight : l.sum ≡ weight_of l.topology (take l.segment-index l.segments);
+  weight : l.sum ≡ segments_weight l.topology (take l.segment-index l.segments);
   light : l.sum ≤ 1073725440 * l.segment-index;
 }

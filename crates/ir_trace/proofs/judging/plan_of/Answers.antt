@@ -1,5 +1,5 @@
 use Rattle.std.proofs.Common.{◌≡◌, ◌∙◌, ap}
-use Rattle.ir_model.specs.Network.{restrict}
+use Rattle.ir_model.specs.Topology.{restrict}
 use Rattle.ir_model.specs.Walk.{IsConnected}
 use Rattle.ir_trace.proofs.judging.plan_of.Goals as goal
 

@@ -1,12 +1,12 @@
 use Rattle.std.proofs.Common.{◌≡◌, ◌∙◌, ◌++◌, ◌∷◌, [], ℕ, List, true, ap, sym, subst, decimal, string_bytes, flat_map, map, nat_lt, length, sum_by}
 use Rattle.std.specs.List.{list_all}
 use Rattle.ir_model.specs.Graph.{Name, names}
-use Rattle.ir_model.specs.Network.{Network, node_count}
+use Rattle.ir_model.specs.Topology.{Topology, node_count}
 use Rattle.ir_model.specs.Walk.{walk_weight}
-use Rattle.ir_core.specs.Journey.{Journey}
-use Rattle.ir_core.specs.Recorded.{journey_of}
+use Rattle.ir_core.specs.Record.{Record}
+use Rattle.ir_core.specs.Recorded.{record_of}
 use Rattle.ir_trace.specs.declared.row.Version.TheVariants.{Two}
-use Rattle.ir_trace.specs.Row.{Part}
+use Rattle.ir_trace.specs.Row.{Segment}
 use Rattle.ir_trace.specs.Rows.{spaced, fate_words, part_words, RowText, row_line}
 use Rattle.ir_trace.specs.Written.{parts_of, named, segments_row}
 use Rattle.ir_trace.specs.Stretches.{parts_from, AreAscending}
@@ -16,14 +16,14 @@ use Rattle.ir_trace.proofs.writing.push_segments_row.Goals as goal
 
 pub walk_weight-requires-clause-within : goal.walk_weight-requires-clause-within
 walk_weight-requires-clause-within c =
-    let net : Network = c.args.topology.now in
+    let net : Topology = c.args.topology.now in
     let has = rw (← c.packet.view_is) at c.requires.packet in
     let P : List ℕ → Type 0 = λ xs. list_all (λ x. nat_lt x (node_count net)) xs ≡ true in
     subst P (sym c.as_slice-nodes.ensures.value) (walk_within net has.writable.first has.writable.last c.packet.inside.hops.items has.writable.hops)
 
 pub push_segments-requires-clause-hops : goal.push_segments-requires-clause-hops
 push_segments-requires-clause-hops c =
-    let net : Network = c.args.topology.now in
+    let net : Topology = c.args.topology.now in
     let has = rw (← c.packet.view_is) at c.requires.packet in
     let P : List ℕ → Type 0 = λ xs. list_all (λ x. nat_lt x (node_count net)) xs ≡ true in
     let Q : ℕ → Type 0 = λ n. list_all (λ x. nat_lt x n) c.as_slice-nodes.result.now ≡ true in
@@ -32,26 +32,26 @@ push_segments-requires-clause-hops c =
 pub push_segments-requires-clause-places : goal.push_segments-requires-clause-places
 push_segments-requires-clause-places c =
     let has = rw (← c.packet.view_is) at c.requires.packet in
-    let r : Journey = journey_of c.packet.inside in
+    let r : Record = record_of c.packet.inside in
     let up : AreAscending 0 (length r.hops) r.restamps = ascending (length r.hops) r.restamps has.places in
     rw (c.as_slice-nodes.ensures.value, c.as_slice.ensures.value) up
 
 pub returns : goal.returns
 returns c =
     let nodes : List Name = names c.args.graph.now in
-    let net : Network = c.args.topology.now in
+    let net : Topology = c.args.topology.now in
     let old : List ℕ = string_bytes c.args.text.now in
-    let r : Journey = journey_of c.packet.inside in
+    let r : Record = record_of c.packet.inside in
     let has = rw (← c.packet.view_is) at c.requires.packet in
     let row : RowText = segments_row nodes net r in
     let parts : parts_of r ≡ parts_from r.epoch 0 r.hops r.restamps = parts_are r has.places in
-    let weight : row.weight ≡ walk_weight net r.hops = ap (sum_by (λ (part : Part). walk_weight net part.hops)) parts ∙ parts_weigh net r.epoch 0 r.hops r.restamps (ascending (length r.hops) r.restamps has.places) in
+    let weight : row.weight ≡ walk_weight net r.hops = ap (sum_by (λ (part : Segment). walk_weight net part.hops)) parts ∙ parts_weigh net r.epoch 0 r.hops r.restamps (ascending (length r.hops) r.restamps has.places) in
     let words : List (List ℕ) = flat_map part_words (map (named nodes) (parts_of r)) in
-    let P : Journey → Type 0 = λ q. string_bytes c.push_str.new.self ≡ old ++ row_line Two (segments_row nodes net q) in
+    let P : Record → Type 0 = λ q. string_bytes c.push_str.new.self ≡ old ++ row_line Two (segments_row nodes net q) in
     subst P c.packet.view_is
     (c.in_ok-push_str.ensures.bytes
     ∙ ap (λ t. t ++ 10 ∷ []) (c.in_ok-push_segments.ensures
-    ∙ rw (c.as_slice-nodes.ensures.value, c.as_slice.ensures.value) (ap (λ (ps : List Part). string_bytes c.push_fate.new.text ++ flat_map spaced (flat_map part_words (map (named nodes) ps))) (sym parts))
+    ∙ rw (c.as_slice-nodes.ensures.value, c.as_slice.ensures.value) (ap (λ (ps : List Segment). string_bytes c.push_fate.new.text ++ flat_map spaced (flat_map part_words (map (named nodes) ps))) (sym parts))
     ∙ ap (λ t. t ++ flat_map spaced words) (c.in_ok-push_fate.ensures
     ∙ ap (λ t. t ++ flat_map spaced (fate_words row.fate)) (c.in_ok-push_next_number.ensures ∙ ap (λ w. string_bytes c.push_name-2.new.text ++ spaced (decimal w)) (c.walk_weight.ensures.weight ∙ ap (walk_weight net) c.as_slice-nodes.ensures.value ∙ sym weight)
     ∙ ap (λ t. t ++ spaced (decimal row.weight)) (c.in_ok-push_name-2.ensures

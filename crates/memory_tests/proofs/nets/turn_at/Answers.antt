@@ -1,6 +1,6 @@
 use Rattle.std.proofs.Common.{refl, arith, length}
 use Rattle.std.proofs.lemmas.Option.{slice_get_read}
-use Rattle.ir_model.specs.Network.{node_count}
+use Rattle.ir_model.specs.Topology.{node_count}
 use Rattle.memory_tests.proofs.Turned.{first_turned}
 use Rattle.memory_tests.proofs.nets.turn_at.Goals as goal
 

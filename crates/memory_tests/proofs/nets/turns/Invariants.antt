@@ -1,4 +1,4 @@
-use Rattle.ir_model.specs.Network.{node_count}
+use Rattle.ir_model.specs.Topology.{node_count}
 use Rattle.ir_control.specs.Parts.{AreFirstNodes}
 use Rattle.memory_tests.proofs.nets.turns.Given as goal
 

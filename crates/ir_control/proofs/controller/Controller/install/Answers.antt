@@ -1,12 +1,12 @@
 use Rattle.std.specs.Prelude.{Some}
 use Rattle.std.proofs.Common.{subst, sym, ap, ◌∙◌}
 use Rattle.std.specs.Arc.{arc_value}
-use Rattle.ir_model.specs.Scheme.{Scheme}
+use Rattle.ir_model.specs.Plan.{Plan}
 use Rattle.ir_core.specs.Meaning.{IsMade}
 use Rattle.ir_epochs.specs.declared.registry.Registry.{Registry}
 use Rattle.ir_epochs.specs.Handles.{published}
 use Rattle.ir_epochs.specs.Stamps.{IsOf}
-use Rattle.ir_control.specs.Changes.{network_up}
+use Rattle.ir_control.specs.Changes.{topology_up}
 use Rattle.ir_control.proofs.Nets.{fits_install}
 use Rattle.ir_control.proofs.controller.Controller.install.Goals as goal
 
@@ -15,8 +15,8 @@ change-requires-clause-fits g c =
     let s = c.in-Ok-register.stamp in
     let of : IsOf (arc_value c.args.self.now.registry) s = subst (λ (r : Registry). IsOf r s) c.deref.ensures c.in-Ok-register.ensures.0 in
     fits_install c.args.self.now.opening s (published c.args.self.now.writer) c.args.self.now.used c.args.self.now.used_up.0 c.in-Ok-register.ensures.1
-    (of ∙ sym c.args.self.now.of_registry) c.args.self.now.registry_is c.args.self.now.network_is c.args.self.now.few_links
-    (ap (λ (t : Scheme). t.network) c.in-Ok-register.ensures.2 ∙ c.in-Ok.ensures.2)
+    (of ∙ sym c.args.self.now.of_registry) c.args.self.now.registry_is c.args.self.now.topology_is c.args.self.now.few_links
+    (ap (λ (t : Plan). t.topology) c.in-Ok-register.ensures.2 ∙ c.in-Ok.ensures.2)
 
 pub returns-in-Ok-change : goal.returns-in-Ok-change
 returns-in-Ok-change g c =
@@ -26,7 +26,7 @@ returns-in-Ok-change g c =
       stamp = s;
       epoch = c.in-Ok-register.ensures.1;
       registered = subst (λ (r : Registry). IsOf r s) c.deref.ensures c.in-Ok-register.ensures.0;
-      plan = subst (λ (t : Scheme). IsMade c.args.self.now.labels c.args.kind c.args.root (network_up c.args.self.now) (Some t)) (sym c.in-Ok-register.ensures.2) c.in-Ok.ensures;
+      plan = subst (λ (t : Plan). IsMade c.args.self.now.labels c.args.kind c.args.root (topology_up c.args.self.now) (Some t)) (sym c.in-Ok-register.ensures.2) c.in-Ok.ensures;
       publishes = record {
         published_is = c.in-Ok-change.ensures.answer.0;
         told_is = c.in-Ok-change.ensures.answer.1;

@@ -2,12 +2,12 @@ use Rattle.std.specs.Prelude.{◌≡◌, ◌∷◌, [], ◌++◌, List, ℕ, len
 use Rattle.std.proofs.Common.{subst, sym, ap, ◌∙◌, arith}
 use Rattle.ir_epochs.specs.declared.registry.Stamp.{Stamp}
 use Rattle.std.proofs.lemmas.List.{length-map}
-use Rattle.ir_model.specs.Network.{node_count}
+use Rattle.ir_model.specs.Topology.{node_count}
 use Rattle.ir_epochs.specs.Stamps.{knows}
 use Rattle.ir_epochs.proofs.Overs.{over_nodes}
-use Rattle.ir_core.specs.Journey.{hop_room}
+use Rattle.ir_core.specs.Record.{hop_room}
 use Rattle.ir_core.specs.Entry.{fresh}
-use Rattle.ir_worker.specs.Seen.{SeenParcel}
+use Rattle.ir_worker.specs.Seen.{Parcel}
 use Rattle.ir_worker.specs.Account.{head_of, times_sent, weigh_sent, restamps_with}
 use Rattle.ir_control.specs.declared.injector.Accepted.{Accepted}
 use Rattle.ir_control.specs.Heads.{head_at, times_injected, AreNumbered}
@@ -19,32 +19,32 @@ use Rattle.ir_control.proofs.injector.Injector.inject.Goals as goal
 abbrev entry : ℕ → ℕ → ℕ → ℕ → Accepted
 entry id epoch source dest = record { id = id; epoch = epoch; source = source; dest = dest }
 
-abbrev parcel_of : ℕ → ℕ → ℕ → Stamp → ℕ → ℕ → SeenParcel
+abbrev parcel_of : ℕ → ℕ → ℕ → Stamp → ℕ → ℕ → Parcel
 parcel_of nodes restamps id s source dest = record { journey = fresh id s.epoch source dest (hop_room restamps nodes); first = s; later = []; next = source }
 
 pub send_to-requires-clause-stamp : goal.send_to-requires-clause-stamp
 send_to-requires-clause-stamp g c =
-    parcel_of_net c.args.self.now.opening c.in-Ok.parcel c.args.self.now.newest (ap (λ (p : SeenParcel). p.first) c.in-Ok.ensures ∙ c.again.ensures) (ap (λ (p : SeenParcel). p.later) c.in-Ok.ensures) c.args.self.now.newest_of
+    parcel_of_net c.args.self.now.opening c.in-Ok.parcel c.args.self.now.newest (ap (λ (p : Parcel). p.first) c.in-Ok.ensures ∙ c.again.ensures) (ap (λ (p : Parcel). p.later) c.in-Ok.ensures) c.args.self.now.newest_of
 
 pub send_to-requires-clause-room : goal.send_to-requires-clause-room
 send_to-requires-clause-room g c =
     let n = c.args.self.now in
-    ap (λ (p : SeenParcel). p.journey.room) c.in-Ok.ensures
-    ∙ ap (λ (s : Stamp). hop_room n.restamps (node_count (knows s).network)) c.again.ensures
-    ∙ ap (λ (k : ℕ). hop_room n.restamps k) (over_nodes (knows n.opening).network (knows n.newest).network n.newest_of.1)
+    ap (λ (p : Parcel). p.journey.room) c.in-Ok.ensures
+    ∙ ap (λ (s : Stamp). hop_room n.restamps (node_count (knows s).topology)) c.again.ensures
+    ∙ ap (λ (k : ℕ). hop_room n.restamps k) (over_nodes (knows n.opening).topology (knows n.newest).topology n.newest_of.1)
 
 pub invariant_of-self-2-clause-account : goal.invariant_of-self-2-clause-account
 invariant_of-self-2-clause-account g c =
     let a : Accepted = entry c.len-count.result c.epoch-epoch.result c.args.source c.args.dest in
     account_more c.args.self.now.outs.items c.send_to.new.outs.items c.args.source c.in-Ok.parcel c.args.self.now.accepted.items c.push_reserved.new.self.items a
     c.if-not-send_to.ensures.sent (c.push_reserved.ensures.items ∙ ap (λ (xs : List Accepted). xs ++ a ∷ []) c.reserve.ensures.items)
-    (ap (λ (p : SeenParcel). head_of p.journey) c.in-Ok.ensures
+    (ap (λ (p : Parcel). head_of p.journey) c.in-Ok.ensures
     ∙ ap (λ (e : ℕ). head_at (entry c.len-count.result e c.args.source c.args.dest)) (ap (λ (s : Stamp). s.epoch) c.again.ensures ∙ sym c.epoch-epoch.ensures.value))
     c.args.self.now.account
 
 pub invariant_of-self-2-clause-fresh : goal.invariant_of-self-2-clause-fresh
 invariant_of-self-2-clause-fresh g c =
-    fresh_more c.args.self.now.outs.items c.send_to.new.outs.items c.args.source c.in-Ok.parcel c.if-not-send_to.ensures.sent (ap (λ (p : SeenParcel). p.journey.restamps) c.in-Ok.ensures) c.args.self.now.fresh
+    fresh_more c.args.self.now.outs.items c.send_to.new.outs.items c.args.source c.in-Ok.parcel c.if-not-send_to.ensures.sent (ap (λ (p : Parcel). p.journey.restamps) c.in-Ok.ensures) c.args.self.now.fresh
 
 pub invariant_of-self-then-not-send_to-clause-fresh : goal.invariant_of-self-then-not-send_to-clause-fresh
 invariant_of-self-then-not-send_to-clause-fresh g c = λ p. ap (weigh_sent (restamps_with p)) c.if-not-send_to.ensures.sent.0 ∙ c.args.self.now.fresh p
@@ -65,16 +65,16 @@ invariant_of-self-2-clause-numbered g c =
 
 pub returns-clause-answer : goal.returns-clause-answer
 returns-clause-answer g c =
-    let nodes : length c.args.self.now.outs.items ≡ node_count (knows c.args.self.now.opening).network = sym (length-map c.args.self.now.outs.items _) ∙ c.args.self.now.ends.count in
+    let nodes : length c.args.self.now.outs.items ≡ node_count (knows c.args.self.now.opening).topology = sym (length-map c.args.self.now.outs.items _) ∙ c.args.self.now.ends.count in
     let a : Accepted = entry c.len-count.result c.epoch-epoch.result c.args.source c.args.dest in (
-      not_refused (node_count (knows c.args.self.now.opening).network) c.args.self.now.max_packets (length c.args.self.now.accepted.items) c.args.source c.args.dest (omega (arith, nodes)) (omega (arith, nodes)) (omega arith),
+      not_refused (node_count (knows c.args.self.now.opening).topology) c.args.self.now.max_packets (length c.args.self.now.accepted.items) c.args.source c.args.dest (omega (arith, nodes)) (omega (arith, nodes)) (omega arith),
       record {
         number = (let n = c.len-count.ensures in omega (arith, n));
         accepted = c.push_reserved.ensures.items ∙ ap (λ (xs : List Accepted). xs ++ a ∷ []) c.reserve.ensures.items
             ∙ ap (λ (e : ℕ). c.args.self.now.accepted.items ++ entry c.len-count.result e c.args.source c.args.dest ∷ []) c.epoch-epoch.ensures.value;
-        sent = subst (λ (x : SeenParcel). SentTo c.args.self.now.outs.items c.send_to.new.outs.items c.args.source x)
-            (c.in-Ok.ensures ∙ ap (λ (s : Stamp). parcel_of (node_count (knows s).network) c.args.self.now.restamps c.len-count.result s c.args.source c.args.dest) c.again.ensures
+        sent = subst (λ (x : Parcel). SentTo c.args.self.now.outs.items c.send_to.new.outs.items c.args.source x)
+            (c.in-Ok.ensures ∙ ap (λ (s : Stamp). parcel_of (node_count (knows s).topology) c.args.self.now.restamps c.len-count.result s c.args.source c.args.dest) c.again.ensures
             ∙ ap (λ (k : ℕ). parcel_of k c.args.self.now.restamps c.len-count.result c.args.self.now.newest c.args.source c.args.dest)
-            (over_nodes (knows c.args.self.now.opening).network (knows c.args.self.now.newest).network c.args.self.now.newest_of.1)) c.if-not-send_to.ensures.sent;
+            (over_nodes (knows c.args.self.now.opening).topology (knows c.args.self.now.newest).topology c.args.self.now.newest_of.1)) c.if-not-send_to.ensures.sent;
       },
     )

@@ -8,4 +8,4 @@ use Rattle.ir_control.proofs.injector.Injector.learn.Goals as goal
 pub invariant_of-self-clause-newest_of : goal.invariant_of-self-clause-newest_of
 invariant_of-self-clause-newest_of c =
     subst (λ (s : Stamp). IsOfNet c.args.self.now.opening s) (sym c.again.ensures)
-    (current_of_net c.args.self.now.opening (told c.args.receipt.now) c.in-Some.stamp.now c.in-Some.ensures.current c.requires.registry c.requires.network)
+    (current_of_net c.args.self.now.opening (told c.args.receipt.now) c.in-Some.stamp.now c.in-Some.ensures.current c.requires.registry c.requires.topology)

@@ -2,7 +2,7 @@ use Rattle.std.specs.Prelude.{◌≡◌, ◌<◌, List, All, length}
 use Rattle.std.proofs.Common.{subst, sym, ap, ◌∙◌, arith}
 use Rattle.std.proofs.lemmas.List.Elements.{All-push}
 use Rattle.ir_epochs.specs.declared.handles.BoardReader.{BoardReader}
-use Rattle.ir_epochs.specs.Entries.{registry_of, network_of}
+use Rattle.ir_epochs.specs.Entries.{registry_of, topology_of}
 use Rattle.ir_epochs.specs.Handles.{known, published, reader_board, writer_board}
 use Rattle.ir_worker.specs.declared.node.Node.{Node}
 use Rattle.ir_epochs.specs.declared.entry.Entry.{Entry}
@@ -29,7 +29,7 @@ node-requires-clause-inbox_new g c =
 pub node-requires-clause-reader : goal.node-requires-clause-reader
 node-requires-clause-reader g c =
     let last = all_last (λ (x : BoardReader). (known x ≡ published c.args.writer.now) × (reader_board x ≡ writer_board c.args.writer.now)) c.pop.new.self.items c.loop-u.readers.items c.in-Some-pop.reader c.in-Some-pop.ensures.items c.loop-u.invariant.readers in
-    (ap registry_of (last.0 ∙ c.requires.opening), ap network_of (last.0 ∙ c.requires.opening))
+    (ap registry_of (last.0 ∙ c.requires.opening), ap topology_of (last.0 ∙ c.requires.opening))
 
 pub loop-u-preserved : goal.loop-u-preserved
 loop-u-preserved g c =

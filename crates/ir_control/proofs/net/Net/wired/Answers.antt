@@ -4,7 +4,7 @@ use Rattle.ir_control.proofs.net.Net.wired.Goals as goal
 pub invariant_of-result-clause-ways_are : goal.invariant_of-result-clause-ways_are
 invariant_of-result-clause-ways_are c =
     wired c.args.opening.topology c.args.first c.args.opening.restamps c.args.opening.capacity c.in_ok-ways.ways.items c.in_ok-peers.peers.items
-    c.nodes-nodes.ensures.network c.in_ok-ways.ensures.ways c.in_ok-peers.ensures
+    c.nodes-nodes.ensures.topology c.in_ok-ways.ensures.ways c.in_ok-peers.ensures
 
 pub invariant_of-result-clause-offsets_are : goal.invariant_of-result-clause-offsets_are
 invariant_of-result-clause-offsets_are c = record { count = c.in_ok-ways.ensures.offsets.0; each = c.in_ok-ways.ensures.offsets.1 }

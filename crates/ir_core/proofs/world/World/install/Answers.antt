@@ -1,22 +1,22 @@
 use Rattle.std.proofs.Common.{arith, refl, sym, ap, length, take, [], ◌∷◌, ◌++◌, ◌+◌, ◌∙◌}
 use Rattle.ir_core.specs.declared.board.Board.{Board}
-use Rattle.ir_core.specs.Inside.{state_of}
+use Rattle.ir_core.specs.Inside.{world_of}
 use Rattle.ir_core.proofs.Keeps.{newest_known, installed_at}
 use Rattle.ir_core.proofs.Refusals.{none_there, install_free}
-use Rattle.ir_core.proofs.Installing.{refused_here, asked_here, disconnected_here, made_plan, installed_here, installed_state}
+use Rattle.ir_core.proofs.Installing.{refused_here, asked_here, disconnected_here, made_plan, installed_here, installed_world}
 use Rattle.ir_core.proofs.world.World.install.Goals as goal
 
 pub returns-in-Some : goal.returns-in-Some
 returns-in-Some g c =
     let n = newest_known _ _ c.self.view_is c.newest-newest.result c.newest-newest.ensures.value in
-    let asked = asked_here (state_of c.self.inside) c.nodes.result c.len-epochs.result c.newest-newest.result c.args.root c.install_refusal.result c.nodes.ensures.count (omega (arith, c.self.inside.plans.ok.0, c.len-epochs.ensures)) n c.install_refusal.ensures in
-    refused_here (state_of c.self.inside) _ c.self.view_is c.args.kind c.args.root _ (asked ∙ c.in-Some.is)
+    let asked = asked_here (world_of c.self.inside) c.nodes.result c.len-epochs.result c.newest-newest.result c.args.root c.install_refusal.result c.nodes.ensures.count (omega (arith, c.self.inside.plans.ok.0, c.len-epochs.ensures)) n c.install_refusal.ensures in
+    refused_here (world_of c.self.inside) _ c.self.view_is c.args.kind c.args.root _ (asked ∙ c.in-Some.is)
 
 pub returns-in-Err-Disconnected : goal.returns-in-Err-Disconnected
 returns-in-Err-Disconnected g c =
     let n = newest_known _ _ c.self.view_is c.newest-newest.result c.newest-newest.ensures.value in
-    let asked = asked_here (state_of c.self.inside) c.nodes.result c.len-epochs.result c.newest-newest.result c.args.root c.install_refusal.result c.nodes.ensures.count (omega (arith, c.self.inside.plans.ok.0, c.len-epochs.ensures)) n c.install_refusal.ensures in
-    disconnected_here (state_of c.self.inside) _ c.self.view_is c.args.kind c.args.root c.newest-newest.result n (asked ∙ none_there c.install_refusal.result c.in_default.not-Some)
+    let asked = asked_here (world_of c.self.inside) c.nodes.result c.len-epochs.result c.newest-newest.result c.args.root c.install_refusal.result c.nodes.ensures.count (omega (arith, c.self.inside.plans.ok.0, c.len-epochs.ensures)) n c.install_refusal.ensures in
+    disconnected_here (world_of c.self.inside) _ c.self.view_is c.args.kind c.args.root c.newest-newest.result n (asked ∙ none_there c.install_refusal.result c.in_default.not-Some)
     (c.plan_up.ensures.disconnected (cc (c.in-Err-Disconnected.is, c.in-Err-Disconnected.field-0-is)))
 
 pub invariant_of-self-2 : goal.invariant_of-self-2
@@ -24,7 +24,7 @@ invariant_of-self-2 g c =
     let n = newest_known _ _ c.self.view_is c.newest-newest.result c.newest-newest.ensures.value in
     let free = install_free c.nodes.result c.len-epochs.result c.newest-newest.result c.args.root (sym c.install_refusal.ensures ∙ none_there c.install_refusal.result c.in_default.not-Some) in
     record {
-      state = installed_at (state_of c.self.inside) c.self.invariant.state refl (c.len-epochs.result + 1) c.newest-newest.result c.installed.result c.in-Ok.plan c.reserve.new.self.items c.push-2.new.self.items c.push.new.self.items
+      world = installed_at (world_of c.self.inside) c.self.invariant.world refl (c.len-epochs.result + 1) c.newest-newest.result c.installed.result c.in-Ok.plan c.reserve.new.self.items c.push-2.new.self.items c.push.new.self.items
           n (omega (arith, c.self.inside.plans.ok.0, c.len-epochs.ensures, free.1)) free.2 (omega (arith, c.self.inside.plans.ok.0, c.len-epochs.ensures))
           (made_plan _ c.args.kind c.args.root (take (length c.self.inside.topology.links) c.newest-newest.result.up) c.in-Ok.plan c.in-Ok.ensures.made) c.installed.ensures c.reserve.ensures.items (c.in-Ok-push-2.ensures.items ∙ ap (λ (b : Board). c.reserve.new.self.items ++ b ∷ []) c.in-Ok-new.ensures) c.in-Ok-push.ensures.items;
       room = c.self.invariant.room;
@@ -33,9 +33,9 @@ invariant_of-self-2 g c =
 pub returns : goal.returns
 returns g c =
     let n = newest_known _ _ c.self.view_is c.newest-newest.result c.newest-newest.ensures.value in
-    let asked = asked_here (state_of c.self.inside) c.nodes.result c.len-epochs.result c.newest-newest.result c.args.root c.install_refusal.result c.nodes.ensures.count (omega (arith, c.self.inside.plans.ok.0, c.len-epochs.ensures)) n c.install_refusal.ensures in
-    installed_here (state_of c.self.inside) _ c.self.view_is c.args.kind c.args.root (c.len-epochs.result + 1) c.newest-newest.result c.in-Ok.plan _ n
+    let asked = asked_here (world_of c.self.inside) c.nodes.result c.len-epochs.result c.newest-newest.result c.args.root c.install_refusal.result c.nodes.ensures.count (omega (arith, c.self.inside.plans.ok.0, c.len-epochs.ensures)) n c.install_refusal.ensures in
+    installed_here (world_of c.self.inside) _ c.self.view_is c.args.kind c.args.root (c.len-epochs.result + 1) c.newest-newest.result c.in-Ok.plan _ n
     (asked ∙ none_there c.install_refusal.result c.in_default.not-Some)
     c.in-Ok.ensures.made (omega (arith, c.self.inside.plans.ok.0, c.len-epochs.ensures))
-    (installed_state (state_of c.self.inside) c.self.invariant.state.plans.some refl (c.len-epochs.result + 1) c.newest-newest.result c.installed.result c.in-Ok.plan c.reserve.new.self.items c.push-2.new.self.items c.push.new.self.items
+    (installed_world (world_of c.self.inside) c.self.invariant.world.plans.some refl (c.len-epochs.result + 1) c.newest-newest.result c.installed.result c.in-Ok.plan c.reserve.new.self.items c.push-2.new.self.items c.push.new.self.items
     c.installed.ensures c.reserve.ensures.items (c.in-Ok-push-2.ensures.items ∙ ap (λ (b : Board). c.reserve.new.self.items ++ b ∷ []) c.in-Ok-new.ensures) c.in-Ok-push.ensures.items)

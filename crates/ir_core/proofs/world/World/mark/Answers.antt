@@ -1,5 +1,5 @@
 use Rattle.std.proofs.Common.{arith, ap, sym, ◌∙◌}
-use Rattle.ir_core.specs.Inside.{state_of}
+use Rattle.ir_core.specs.Inside.{world_of}
 use Rattle.ir_core.specs.declared.board.Board.{Board}
 use Rattle.ir_core.proofs.Refusals.{none_there, mark_free}
 use Rattle.ir_core.proofs.Keeps.{keep_change, newest_known}
@@ -11,11 +11,11 @@ invariant_of-self-2 c =
     let version = ap (λ (b : Board). b.version) n in
     let current = ap (λ (b : Board). b.current) n in
     let floor = ap (λ (b : Board). b.floor) n in
-    let epochs = c.self.invariant.state.boards.current in
-    let live = c.self.invariant.state.boards.floor in
+    let epochs = c.self.invariant.world.boards.current in
+    let live = c.self.invariant.world.boards.floor in
     let free = mark_free c.links.result c.newest-newest.result c.args.link c.args.up (sym c.mark_refusal.ensures ∙ none_there c.mark_refusal.result c.in_default.not-Some) in
     record {
-      state = rw (c.in-Ok.ensures.kept, c.marked.ensures)
-          (keep_change (state_of c.self.inside) c.self.invariant.state _ (omega (arith, version)) (omega (arith, version, free.1)) current (omega (arith, current, floor, epochs, live)));
+      world = rw (c.in-Ok.ensures.kept, c.marked.ensures)
+          (keep_change (world_of c.self.inside) c.self.invariant.world _ (omega (arith, version)) (omega (arith, version, free.1)) current (omega (arith, current, floor, epochs, live)));
       room = c.self.invariant.room;
     }

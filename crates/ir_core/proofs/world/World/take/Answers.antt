@@ -1,8 +1,8 @@
 use Rattle.std.proofs.Common.{List, Option, ℕ, arith, sym, subst, ◌∙◌, slice_set, Some, Ok}
 use Rattle.ir_core.specs.declared.packet.Held.{Held}
 use Rattle.ir_core.specs.Queue.{ids_of}
-use Rattle.ir_core.specs.Inside.{state_of}
-use Rattle.ir_core.specs.State.{IsState, IsAnswer, sight_in}
+use Rattle.ir_core.specs.Inside.{world_of}
+use Rattle.ir_core.specs.World.{IsWorld, IsAnswer, sight_in}
 use Rattle.ir_core.specs.Meaning.{takes}
 use Rattle.ir_core.specs.declared.event.Reply.TheVariants.{Taken}
 use Rattle.ir_core.proofs.Keeps.{keep_take_at, take_done}
@@ -15,8 +15,8 @@ invariant_of-self c =
     let channel = c.in-Some.channel in
     let hand : Option Held = Some (record { id = c.in-Some-first.id; way = c.args.way }) in
     record {
-      state = subst (λ (channels : List (List ℕ)). IsState (record (state_of c.self.inside) { hands = slice_set c.self.inside.hands.items c.args.node hand; channels = channels })) (sym (ids_set queues channel c.pop.new.self))
-          (keep_take_at (state_of c.self.inside) c.self.invariant.state c.args.node c.args.way channel c.in-Some-first.id (ids_of c.index-2.result.now) (ids_of c.index_mut.result.now) (ids_of c.pop.new.self)
+      world = subst (λ (channels : List (List ℕ)). IsWorld (record (world_of c.self.inside) { hands = slice_set c.self.inside.hands.items c.args.node hand; channels = channels })) (sym (ids_set queues channel c.pop.new.self))
+          (keep_take_at (world_of c.self.inside) c.self.invariant.world c.args.node c.args.way channel c.in-Some-first.id (ids_of c.index-2.result.now) (ids_of c.index_mut.result.now) (ids_of c.pop.new.self)
           (omega arith) c.in-Some.ensures (ids_read queues channel c.index-2.result.now c.index-2.ensures) c.in-Some-first.ensures (ids_read queues channel c.index_mut.result.now c.index_mut.ensures.value) c.pop.ensures.rest
           c.index.result.now c.index.ensures (sym c.is_some.ensures ∙ c.if-is_some.false));
       room = room_set c.self.inside.capacity queues channel c.index_mut.result.now c.pop.new.self c.self.invariant.room c.index_mut.ensures.value c.pop.ensures.room;
@@ -28,8 +28,8 @@ returns c =
     let channel = c.in-Some.channel in
     let hand : Option Held = Some (record { id = c.in-Some-first.id; way = c.args.way }) in
     let now = c.args.self.now in
-    subst (λ (channels : List (List ℕ)). IsAnswer now (record (state_of c.self.inside) { hands = slice_set c.self.inside.hands.items c.args.node hand; channels = channels }) (takes now.opening (sight_in now) c.args.node c.args.way) (Ok (Taken c.in-Some-first.id)))
+    subst (λ (channels : List (List ℕ)). IsAnswer now (record (world_of c.self.inside) { hands = slice_set c.self.inside.hands.items c.args.node hand; channels = channels }) (takes now.opening (sight_in now) c.args.node c.args.way) (Ok (Taken c.in-Some-first.id)))
     (sym (ids_set queues channel c.pop.new.self))
-    (take_done (state_of c.self.inside) _ c.self.view_is c.self.invariant.state c.args.node c.args.way channel c.in-Some-first.id (ids_of c.index-2.result.now) (ids_of c.index_mut.result.now) (ids_of c.pop.new.self)
+    (take_done (world_of c.self.inside) _ c.self.view_is c.self.invariant.world c.args.node c.args.way channel c.in-Some-first.id (ids_of c.index-2.result.now) (ids_of c.index_mut.result.now) (ids_of c.pop.new.self)
     (omega arith) c.in-Some.ensures (ids_read queues channel c.index-2.result.now c.index-2.ensures) c.in-Some-first.ensures (ids_read queues channel c.index_mut.result.now c.index_mut.ensures.value) c.pop.ensures.rest
     c.index.result.now c.index.ensures (sym c.is_some.ensures ∙ c.if-is_some.false))

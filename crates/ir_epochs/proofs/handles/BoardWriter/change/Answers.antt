@@ -1,6 +1,6 @@
 use Rattle.std.proofs.Common.{◌<◌, ◌∷◌, [], length, sym, subst, rules, arith}
 use Rattle.ir_epochs.specs.declared.published.Published.{Published}
-use Rattle.ir_epochs.specs.Entries.{Fits}
+use Rattle.ir_epochs.specs.Entries.{MayComeNext}
 use Rattle.ir_epochs.specs.declared.entry.Entry.TheVariants.{Changed}
 use Rattle.ir_epochs.proofs.Lasts.{installed_last, made_more, opening_kept}
 use Rattle.ir_epochs.proofs.handles.BoardWriter.change.Goals as goal
@@ -9,7 +9,7 @@ pub invariant_of-next : goal.invariant_of-next
 invariant_of-next g c =
     let now = c.published-now.result.now in
     let change = c.args.change in
-    let fits : Fits now.front.log change = subst (λ (p : Published). Fits p.front.log change) (sym c.published-now.ensures) c.requires.fits in
+    let fits : MayComeNext now.front.log change = subst (λ (p : Published). MayComeNext p.front.log change) (sym c.published-now.ensures) c.requires.fits in
     record { made = rw (c.record-front.ensures.added, c.applied-board.ensures, c.stamp_after-stamp.ensures) (made_more now.front.log now.board now.stamp change now.made fits) }
 
 pub invariant_of-receipt : goal.invariant_of-receipt

@@ -1,6 +1,6 @@
 use Rattle.std.proofs.Common.{◌≡◌, ◌∙◌, ℕ, ap, sym, List, [], ◌∷◌, length, drop, Option, Some, None, MatchOption}
 use Rattle.atomic_table.specs.Seated.{TableId}
-use Rattle.ir_links.specs.Ends.{Remaining}
+use Rattle.ir_links.specs.Ends.{Remains}
 use Rattle.std.specs.Arc.{arc_value}
 use Rattle.crossbeam_queue.specs.Passes.{view as pass_view, ruled_capacity}
 use Rattle.ir_links.proofs.Keeps.{empties, learns_account, kept_both, left_after}
@@ -26,10 +26,10 @@ invariant_of-self g c =
     ((same.0 ∙ is.0, same.2 ∙ is.1), both.0, both.1)
 
 same_remaining : {P T : Type 0} (place : P) (cap : ℕ) (name_0 name_1 : TableId) (left_0 left_1 : List T) → name_1 ≡ name_0 → left_1 ≡ left_0
-    → ◌≡◌ {A = Remaining P T} (record { line = record { name = name_1; place = place; capacity = cap }; left = left_1 }) (record { line = record { name = name_0; place = place; capacity = cap }; left = left_0 })
+    → ◌≡◌ {A = Remains P T} (record { line = record { name = name_1; place = place; capacity = cap }; left = left_1 }) (record { line = record { name = name_0; place = place; capacity = cap }; left = left_0 })
 same_remaining place cap name_0 name_1 left_0 left_1 names lefts = (cc)
 
-module _ {P T : Type 0} (now : Remaining P T) (old : List T) (new : Remaining P T) where
+module _ {P T : Type 0} (now : Remains P T) (old : List T) (new : Remains P T) where
   taken : (r : Option T) (V : Type 0) → old ≡ now.left → (V → new ≡ now) → MatchOption r ((old ≡ []) × V) (λ x. old ≡ x ∷ new.left) → MatchOption r ((now.left ≡ []) × (new ≡ now)) (λ x. now.left ≡ x ∷ new.left)
   taken None V is same h = (sym is ∙ h.0, same h.1)
   taken (Some x) V is same h = sym is ∙ h

@@ -1,21 +1,21 @@
 use Rattle.std.specs.Prelude.{◌≡◌, Ok, None, Option}
 use Rattle.std.proofs.Common.{refl, sym, subst}
 use Rattle.ir_links.specs.Ends.{Word}
-use Rattle.ir_worker.specs.Seen.{SeenParcel}
+use Rattle.ir_worker.specs.Seen.{Parcel}
 use Rattle.ir_core.specs.declared.event.Refused.{Refused}
 use Rattle.ir_core.specs.declared.command.Command.{Command}
 use Rattle.ir_core.specs.declared.command.Command.TheVariants as command
 use Rattle.ir_epochs.specs.declared.entry.Change.TheVariants as change
 use Rattle.ir_live.specs.declared.desk.Desk.{Desk}
-use Rattle.ir_live.specs.Answers.{Answer, answer_of}
+use Rattle.ir_live.specs.Answers.{CommandAnswer, command_answer}
 use Rattle.ir_live.specs.Carried.{IsCarriedOut}
 use Rattle.ir_live.proofs.Commanded.{injected_as, changed_as}
 use Rattle.ir_live.proofs.desk.Desk.carry_out.Goals as goal
 
 -- a command that is known to be this one
-known : (was_full : Word SeenParcel) {B : Type 0} (command named : Command) (before after : Desk B) (r : Option Refused) (answer : Answer) → answer ≡ answer_of r → command ≡ named → IsCarriedOut was_full named before (answer_of r) after → IsCarriedOut was_full command before answer after
+known : (was_full : Word Parcel) {B : Type 0} (command named : Command) (before after : Desk B) (r : Option Refused) (answer : CommandAnswer) → answer ≡ command_answer r → command ≡ named → IsCarriedOut was_full named before (command_answer r) after → IsCarriedOut was_full command before answer after
 known was_full command named before after r answer told is done =
-    subst (λ (k : Command). IsCarriedOut was_full k before answer after) (sym is) (subst (λ (x : Answer). IsCarriedOut was_full named before x after) (sym told) done)
+    subst (λ (k : Command). IsCarriedOut was_full k before answer after) (sym is) (subst (λ (x : CommandAnswer). IsCarriedOut was_full named before x after) (sym told) done)
 
 pub returns-in-Inject : goal.returns-in-Inject
 returns-in-Inject g c = known g.R.Moments.was_full _ (command.Inject c.in-Inject.source c.in-Inject.dest) c.args.self.now _ c.err.result c.answered.result c.answered.ensures c.in-Inject.is (

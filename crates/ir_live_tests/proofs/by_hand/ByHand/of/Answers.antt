@@ -1,4 +1,4 @@
-use Rattle.ir_model.specs.Network.{node_count}
+use Rattle.ir_model.specs.Topology.{node_count}
 use Rattle.ir_control.specs.declared.net.Parts.{Parts}
 use Rattle.ir_control.specs.Parts.{AreFreshParts}
 use Rattle.ir_control.proofs.Returned.{first_apart}

@@ -6,5 +6,5 @@ use Rattle.ir_lookup.proofs.plain.PlainRow.find.Goals as goal
 pub returns : goal.returns
 returns c n label =
     let place = c.place_of-place.ensures in
-    subst (λ (p : ℕ). HasPort n c.args.self.now c.args.d p) (sym c.port.ensures)
-    (HasPort-from_place n _ place.ascending c.args.d _ label place.place)
+    subst (λ (p : ℕ). HasPort n c.args.self.now c.args.label p) (sym c.port.ensures)
+    (HasPort-from_place n _ place.ascending c.args.label _ label place.place)

@@ -7,7 +7,7 @@ pub returns-clause-port : goal.returns-clause-port
 returns-clause-port g c n label =
     let place = c.place_counted-place.ensures in
     let k = c.place_counted-place.result.0 in
-    let found = HasPort-from_place n _ place.ascending c.args.d k label place.place in
+    let found = HasPort-from_place n _ place.ascending c.args.label k label place.place in
     let port = ap (λ (row : List Start). port_of_start row k) c.self.view_is ∙ sym c.port.ensures in
-    subst (λ (row : List Start). HasPort n row c.args.d c.port.result) c.self.view_is
-    (subst (λ (p : ℕ). HasPort n c.self.inside.starts c.args.d p) port found)
+    subst (λ (row : List Start). HasPort n row c.args.label c.port.result) c.self.view_is
+    (subst (λ (p : ℕ). HasPort n c.self.inside.starts c.args.label p) port found)

@@ -1,8 +1,8 @@
 use Rattle.std.proofs.Common.{ℕ, arith, subst, sym}
-use Rattle.ir_model.specs.Network.{node_count}
+use Rattle.ir_model.specs.Topology.{node_count}
 use Rattle.ir_model.specs.Numbering.{neighbors_of}
 use Rattle.ir_model.specs.Subtree.{IsNested}
-use Rattle.ir_model.specs.Scheme.{AreLabels}
+use Rattle.ir_model.specs.Plan.{AreLabels}
 use Rattle.ir_numbering.proofs.Nested.{depth_first_nests}
 use Rattle.ir_numbering.proofs.ParentPorts.{sound_numbers}
 use Rattle.ir_numbering.proofs.Ways.{tree_connects}
@@ -22,7 +22,7 @@ invariant_of-result c =
     let there = subst (λ (k : ℕ). AreLabels k c.in_ok-order.field-0.nodes.items c.in_ok-labels.labels.items) is.every labels in
     let ports = rw (c.as_slice-2.ensures.value, c.as_slice-3.ensures.value) at c.in_ok-ports.ensures in
     let sizes = rw c.as_slice-5.ensures.value at c.in_ok-sizes.ensures in (
-      sound_numbers c.args.topology.now c.nodes-2.ensures.network c.args.root c.in_ok-order.field-0.nodes.items c.in_ok-order.field-0.parents.items c.in_ok-labels.labels.items is there c.in_ok-ports.ports.items ports,
+      sound_numbers c.args.topology.now c.nodes-2.ensures.topology c.args.root c.in_ok-order.field-0.nodes.items c.in_ok-order.field-0.parents.items c.in_ok-labels.labels.items is there c.in_ok-ports.ports.items ports,
       sizes,
     )
 
@@ -41,4 +41,4 @@ returns-clause-connected c =
     let is = c.in_ok-order.ensures.all (omega arith) in
     let labels = rw c.as_slice.ensures.value at c.in_ok-labels.ensures in
     let there = subst (λ (k : ℕ). AreLabels k c.in_ok-order.field-0.nodes.items c.in_ok-labels.labels.items) is.every labels in
-    tree_connects c.args.topology.now c.nodes-2.ensures.network c.args.root c.in_ok-order.field-0.nodes.items c.in_ok-order.field-0.parents.items is c.in_ok-labels.labels.items there
+    tree_connects c.args.topology.now c.nodes-2.ensures.topology c.args.root c.in_ok-order.field-0.nodes.items c.in_ok-order.field-0.parents.items is c.in_ok-labels.labels.items there

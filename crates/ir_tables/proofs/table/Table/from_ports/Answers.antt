@@ -1,6 +1,6 @@
 use Rattle.std.proofs.Common.{◌≡◌, ◌+◌, ◌++◌, ◌∷◌, [], ℕ, List, Option, arith, subst, ap, ◌∙◌}
 use Rattle.std.proofs.lemmas.List.{length_push}
-use Rattle.ir_model.specs.Network.{node_count}
+use Rattle.ir_model.specs.Topology.{node_count}
 use Rattle.ir_tables.specs.declared.table.Column.{Column}
 use Rattle.ir_tables.specs.Listed.{IsListedColumn}
 use Rattle.ir_tables.proofs.Columns.{AreListed, columns_push, listed_square, listed_table, listed_routed}
@@ -32,4 +32,4 @@ pub returns-clause-routed : goal.returns-clause-routed
 returns-clause-routed c =
     let all : c.loop-d.d ≡ node_count c.args.topology.now = omega (arith, c.nodes-nodes.ensures.count) in
     let are : AreListed c.args.topology.now c.args.ports.items c.loop-d.columns.items = record { len = c.loop-d.invariant.len ∙ all; columns = λ k e lt. c.loop-d.invariant.columns k e (omega (arith, c.loop-d.invariant.len, lt)) } in
-    listed_routed c.args.topology.now c.nodes-nodes.ensures.network c.args.ports.items c.loop-d.columns.items c.requires are
+    listed_routed c.args.topology.now c.nodes-nodes.ensures.topology c.args.ports.items c.loop-d.columns.items c.requires are

@@ -9,7 +9,7 @@ index-requires c =
     let cols : List Column = c.self.inside.columns.items in
     let column : Column = c.index-column.result.now in
     let size : table_size (of_columns cols) ≡ table_size c.args.self.now = ap table_size c.self.view_is in
-    let lt : c.args.d < length cols = omega (arith, size, size_of_columns cols, c.requires.d) in
-    let row : slice_index_or (of_columns cols).ports c.args.d [] ≡ column.ports.items = port_row cols c.args.d column lt ∙ ap (λ k. k.ports.items) (sym c.index-column.ensures) in
-    let long : length (slice_index_or (of_columns cols).ports c.args.d []) ≡ table_size (of_columns cols) = c.self.invariant.port_rows c.args.d (omega (arith, size, c.requires.d)) in
-    omega (arith, long, ap length row, size, c.requires.u, column.ports.ok.0)
+    let lt : c.args.dest < length cols = omega (arith, size, size_of_columns cols, c.requires.dest) in
+    let row : slice_index_or (of_columns cols).ports c.args.dest [] ≡ column.ports.items = port_row cols c.args.dest column lt ∙ ap (λ k. k.ports.items) (sym c.index-column.ensures) in
+    let long : length (slice_index_or (of_columns cols).ports c.args.dest []) ≡ table_size (of_columns cols) = c.self.invariant.port_rows c.args.dest (omega (arith, size, c.requires.dest)) in
+    omega (arith, long, ap length row, size, c.requires.node, column.ports.ok.0)

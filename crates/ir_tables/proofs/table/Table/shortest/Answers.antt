@@ -1,6 +1,6 @@
 use Rattle.std.proofs.Common.{◌≡◌, ◌+◌, ◌++◌, ◌∷◌, [], arith, ap, ◌∙◌}
 use Rattle.std.proofs.lemmas.List.{length_push}
-use Rattle.ir_model.specs.Network.{node_count}
+use Rattle.ir_model.specs.Topology.{node_count}
 use Rattle.ir_model.proofs.Tables.{shortest_routed}
 use Rattle.ir_tables.specs.Relaxation.{IsColumn}
 use Rattle.ir_tables.proofs.Columns.{of_columns, AreColumns, columns_push, columns_square, columns_shortest, columns_connected}
@@ -31,7 +31,7 @@ pub returns-clause-routed : goal.returns-clause-routed
 returns-clause-routed c =
     let all : c.loop-d.d ≡ node_count c.args.topology.now = omega (arith, c.nodes-nodes.ensures.count) in
     let are : AreColumns c.args.topology.now c.loop-d.columns.items = record { len = c.loop-d.invariant.len ∙ all; columns = λ k e lt. c.loop-d.invariant.columns k e (omega (arith, c.loop-d.invariant.len, lt)) } in
-    shortest_routed c.args.topology.now c.nodes-nodes.ensures.network (of_columns c.loop-d.columns.items) (columns_shortest c.args.topology.now c.loop-d.columns.items are)
+    shortest_routed c.args.topology.now c.nodes-nodes.ensures.topology (of_columns c.loop-d.columns.items) (columns_shortest c.args.topology.now c.loop-d.columns.items are)
 
 pub returns-clause-connected : goal.returns-clause-connected
 returns-clause-connected c =

@@ -2,11 +2,11 @@ use Rattle.std.proofs.Common.{◌≡◌, ◌++◌, ◌∷◌, [], ℕ, List, len
 use Rattle.ir_model.specs.declared.Link.{Link}
 use Rattle.ir_model.specs.declared.Hop.{Hop}
 use Rattle.ir_model.specs.Graph.{Adjacency}
-use Rattle.ir_model.specs.Network.{Network, IsNetwork}
+use Rattle.ir_model.specs.Topology.{Topology, IsTopology}
 use Rattle.ir_model.specs.Places.{neighbors_at}
 use Rattle.ir_tables.specs.Numbered.{ports_at, ports_from}
-use Rattle.ir_tables.specs.ByPlace.{row_numbers, rows_of}
-use Rattle.ir_tables.proofs.OfGraph.{graph_few, graph_network, graph_made, ports_step, ports_whole}
+use Rattle.ir_tables.specs.ByPlace.{row_numbers, neighbor_rows}
+use Rattle.ir_tables.proofs.OfGraph.{graph_few, graph_topology, graph_made, ports_step, ports_whole}
 use Rattle.ir_tables.proofs.topology.Topology.of.Goals as goal
 
 pub ports_of-requires-clause-few : goal.ports_of-requires-clause-few
@@ -24,7 +24,7 @@ loop-u-preserved c =
     c.in_ok-ports-2.ensures
     ∙ ap (λ x. c.loop-u.ports ++ x ∷ []) c.as_slice-in-loop-u-2.ensures.value
     ∙ ap (λ xs. xs ++ row ∷ []) c.loop-u.invariant
-    ∙ ap (λ x. take u (ports_from links 0 (rows_of g)) ++ x ∷ []) here
+    ∙ ap (λ x. take u (ports_from links 0 (neighbor_rows g)) ++ x ∷ []) here
     ∙ sym step
 
 pub invariant_of-result : goal.invariant_of-result
@@ -33,8 +33,8 @@ invariant_of-result c =
     let links : List Link = c.in_ok-links.links.items in
     let ports = c.loop-u.invariant ∙ ports_whole g links c.loop-u.u (omega (arith, c.number_of_nodes-nodes.ensures.len)) in
     let made = graph_made g c.number_of_nodes-nodes.ensures.graph links c.loop-u.ports c.in_ok-links.ensures.links ports in
-    let P : Network → Type 0 = λ net. IsNetwork net in
-    subst P (sym made) (graph_network g c.number_of_nodes-nodes.ensures.graph)
+    let P : Topology → Type 0 = λ net. IsTopology net in
+    subst P (sym made) (graph_topology g c.number_of_nodes-nodes.ensures.graph)
 
 pub returns : goal.returns
 returns c =

@@ -1,5 +1,5 @@
 use Rattle.std.proofs.Common.{◌≡◌, filter, take, map}
-use Rattle.ir_model.specs.Network.{is_up}
+use Rattle.ir_model.specs.Topology.{is_up}
 use Rattle.ir_tables.proofs.topology.Topology.only.Given as goal
 
 abbrev pub invariant-loop-u : goal.invariant-loop-u

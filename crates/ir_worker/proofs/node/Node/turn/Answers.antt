@@ -1,11 +1,11 @@
 use Rattle.std.proofs.Common.{◌∙◌, subst, sym, ap, refl, List, ◌+◌}
 use Rattle.ir_model.specs.declared.Hop.{Hop}
-use Rattle.ir_core.specs.Journey.{Journey}
+use Rattle.ir_core.specs.Record.{Record}
 use Rattle.ir_core.specs.Sound.{last_of}
 use Rattle.ir_core.specs.declared.board.Board.{Board}
 use Rattle.ir_epochs.specs.Entries.{board_of}
 use Rattle.ir_epochs.specs.Handles.{known}
-use Rattle.ir_worker.specs.Seen.{SeenParcel}
+use Rattle.ir_worker.specs.Seen.{Parcel}
 use Rattle.ir_worker.specs.Account.{head_of}
 use Rattle.ir_worker.specs.Acts.{restamp_on, with_restamp, way_then, CauseHolds}
 use Rattle.ir_worker.specs.Ends.{CameBy}
@@ -39,7 +39,7 @@ invariant_of-self-clause-causes g c =
 pub ready-parcel-requires-clause-current : goal.ready-parcel-requires-clause-current
 ready-parcel-requires-clause-current g c =
     let n = c.args.self.now in
-    current_of_net n.opening (known c.read-board.new.self) c.stamp.result c.stamp.ensures (c.read-board.ensures.opening.registry ∙ n.of_board.0) (c.read-board.ensures.opening.network ∙ n.of_board.1)
+    current_of_net n.opening (known c.read-board.new.self) c.stamp.result c.stamp.ensures (c.read-board.ensures.opening.registry ∙ n.of_board.0) (c.read-board.ensures.opening.topology ∙ n.of_board.1)
 
 pub ready-parcel-requires-clause-of_net : goal.ready-parcel-requires-clause-of_net
 ready-parcel-requires-clause-of_net g c =
@@ -73,11 +73,11 @@ invariant_of-self-in-Ok-1 g c =
     let p = c.in-Some.parcel in
     let b = c.read-board.result in
     let x = restamp_on n.restamps p b c.way-way.result n.index in
-    let same = ap (λ (y : SeenParcel). head_of y.journey) c.ready-parcel.ensures.parcel ∙ head_with x c.stamp.result c.way-way.result n.index p in
+    let same = ap (λ (y : Parcel). head_of y.journey) c.ready-parcel.ensures.parcel ∙ head_with x c.stamp.result c.way-way.result n.index p in
     let a = c.in-Ok.ensures.acts in
     record {
       of_registry = n.of_registry;
-      of_board = (c.read-board.ensures.opening.registry ∙ n.of_board.0, c.read-board.ensures.opening.network ∙ n.of_board.1);
+      of_board = (c.read-board.ensures.opening.registry ∙ n.of_board.0, c.read-board.ensures.opening.topology ∙ n.of_board.1);
       ends = ends_kept n.opening n.restamps n.index n.ports.items n.entrances.inbox n.entrances.ports.items n.outs.items c.poll.new.self.inbox c.poll.new.self.ports.items c.pass_on.new.outs.items n.ends
           c.poll.ensures.inbox c.poll.ensures.ins c.pass_on.ensures.lines;
       account = balanced_sent n.entrances.inbox n.entrances.ports.items c.poll.new.self.inbox c.poll.new.self.ports.items n.outs.items c.pass_on.new.outs.items n.outcomes.items c.reserve.new.self.items n.account
@@ -95,12 +95,12 @@ invariant_of-self-in-Err g c =
     let p = c.in-Some.parcel in
     let b = c.read-board.result in
     let x = restamp_on n.restamps p b c.way-way.result n.index in
-    let same = ap (λ (y : SeenParcel). head_of y.journey) c.ready-parcel.ensures.parcel ∙ head_with x c.stamp.result c.way-way.result n.index p in
+    let same = ap (λ (y : Parcel). head_of y.journey) c.ready-parcel.ensures.parcel ∙ head_with x c.stamp.result c.way-way.result n.index p in
     let a = c.in-Err.ensures.acts in
     let behind = settled_behind n.outcomes.items c.reserve.new.self.items c.push_reserved.new.self.items c.in-Err.outcome c.push_reserved.ensures.items c.reserve.ensures.items in
     record {
       of_registry = n.of_registry;
-      of_board = (c.read-board.ensures.opening.registry ∙ n.of_board.0, c.read-board.ensures.opening.network ∙ n.of_board.1);
+      of_board = (c.read-board.ensures.opening.registry ∙ n.of_board.0, c.read-board.ensures.opening.topology ∙ n.of_board.1);
       ends = ends_kept n.opening n.restamps n.index n.ports.items n.entrances.inbox n.entrances.ports.items n.outs.items c.poll.new.self.inbox c.poll.new.self.ports.items c.pass_on.new.outs.items n.ends
           c.poll.ensures.inbox c.poll.ensures.ins c.pass_on.ensures.lines;
       account = balanced_settled n.entrances.inbox n.entrances.ports.items c.poll.new.self.inbox c.poll.new.self.ports.items n.outs.items c.pass_on.new.outs.items n.outcomes.items c.push_reserved.new.self.items n.account
@@ -109,7 +109,7 @@ invariant_of-self-in-Err g c =
           n.entrances.inbox n.entrances.ports.items c.poll.new.self.inbox c.poll.new.self.ports.items n.outs.items c.pass_on.new.outs.items n.outcomes.items c.push_reserved.new.self.items n.restamped
           n.entrances.next c.in-Some.ensures.took a.3 c.ready-parcel.result.1 a.0 a.1 c.in-Err.outcome a.2 behind;
       of_net = more_of_net n.opening n.restamps n.outcomes.items c.push_reserved.new.self.items c.in-Err.outcome n.of_net behind c.ready-parcel.result.0 c.ready-parcel.ensures.of_net c.ready-parcel.ensures.few
-          a.2.first a.2.later (ap (λ (r : Journey). r.restamps) a.2.packet);
+          a.2.first a.2.later (ap (λ (r : Record). r.restamps) a.2.packet);
       causes = causes_more (known n.reader) (known c.read-board.new.self) n.outcomes.items c.push_reserved.new.self.items c.in-Err.outcome n.causes c.read-board.ensures.later behind (ap (λ k. k + 1) a.2.version ∙ c.read-board.ensures.version)
           (subst (λ (x : Board). CauseHolds x c.in-Err.outcome.packet c.in-Err.outcome.packet.fate) c.read-board.ensures.board (cause_here c.read-board.result a.0 c.ready-parcel.result.1 n.index c.ready-parcel.result.0 a.1 c.in-Err.outcome a.2));
     }

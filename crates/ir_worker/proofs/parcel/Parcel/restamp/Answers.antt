@@ -1,7 +1,7 @@
 use Rattle.std.proofs.Common.{ap, ◌∙◌, ◌≡◌, ◌++◌, ◌∷◌, [], length, arith, List, ℕ}
 use Rattle.std.proofs.lemmas.List.{length_push}
-use Rattle.ir_model.specs.Scheme.{Scheme, label_in}
-use Rattle.ir_core.specs.Journey.{Journey}
+use Rattle.ir_model.specs.Plan.{Plan, label_in}
+use Rattle.ir_core.specs.Record.{Record}
 use Rattle.ir_core.specs.Entry.{restamped}
 use Rattle.ir_core.specs.declared.packet.Restamp.{Restamp}
 use Rattle.ir_epochs.specs.declared.registry.Stamp.{Stamp}
@@ -29,11 +29,11 @@ invariant_of-self c =
     let made : c.restamp.new.self ≡ restamped c.args.at c.args.way c.args.stamp.epoch i.packet =
     c.restamp.ensures ∙ ap (λ (e : ℕ). restamped c.args.at c.args.way e i.packet) c.epoch.ensures.value in
     let label : c.label_of-body.result ≡ label_in (knows c.args.stamp) i.packet.dest =
-    c.label_of-body.ensures ∙ ap (λ (t : Scheme). label_in t c.destination.result) c.requires.plan ∙ ap (λ (d : ℕ). label_in (knows c.args.stamp) d) (c.destination.ensures ∙ ap (λ (r : Journey). r.dest) made) in
+    c.label_of-body.ensures ∙ ap (λ (t : Plan). label_in t c.destination.result) c.requires.plan ∙ ap (λ (d : ℕ). label_in (knows c.args.stamp) d) (c.destination.ensures ∙ ap (λ (r : Record). r.dest) made) in
     let capacity = c.push_reserved.ensures.capacity in
     let was = is.1.1 in (
       restamp_kept i.first i.later.items c.args.stamp c.args.at c.args.way i.packet i.next i.address is.1.0 c.requires.at_in c.args.self is.0 may
           c.label_of-body.result label c.push_reserved.new.self.items c.push_reserved.ensures.items c.restamp.new.self made,
       omega arith,
-      one_more i.later.items c.push_reserved.new.self.items c.args.stamp i.packet.restamps c.restamp.new.self.restamps _ is.1.2 c.push_reserved.ensures.items (ap (λ (r : Journey). r.restamps) made),
+      one_more i.later.items c.push_reserved.new.self.items c.args.stamp i.packet.restamps c.restamp.new.self.restamps _ is.1.2 c.push_reserved.ensures.items (ap (λ (r : Record). r.restamps) made),
     )

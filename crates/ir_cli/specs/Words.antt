@@ -1,0 +1,48 @@
+-- What the words of the command line say of their files, and the numbers of their refusals.
+use Rattle.std.specs.Prelude.{◌≡◌, ◌≢◌, ℕ, Bool, true, false, List, [], ◌∷◌, ◌||◌, ◌-◌, if◌then◌else◌, bytes_eq, codes, string_bytes, map, length, drop}
+use Rattle.ir_model.specs.Graph.{Name}
+use Rattle.ir_model.specs.declared.Kind.TheVariants.{Tree}
+use Rattle.ir_cli.specs.declared.words.Numbering.{Numbering}
+use Rattle.ir_cli.specs.declared.words.Numbering.TheVariants.{DepthFirst, Tour, File}
+use Rattle.ir_cli.specs.declared.words.Words.{Words}
+use Rattle.ir_cli.specs.declared.words.Format.{Format}
+use Rattle.ir_cli.specs.declared.words.Format.TheVariants.{AdjList, EdgeList}
+use Rattle.ir_cli.specs.declared.words.WordsError.{WordsError}
+use Rattle.ir_cli.specs.declared.words.WordsError.TheVariants as refused
+
+-- the files are the one word `-`
+abbrev pub is_dash : List Name → Bool
+is_dash [] = false
+is_dash (file ∷ []) = bytes_eq file (codes "-")
+is_dash (file ∷ other ∷ files) = false
+
+-- `-` stands for one input of all texts
+abbrev pub is_one_input : Words → Bool
+is_one_input words = is_dash (map string_bytes words.files.items)
+
+-- a name ends in these letters
+abbrev pub ends_in : Name → Name → Bool
+ends_in name ending = bytes_eq ending (drop (length name - length ending) name)
+
+-- the format of a file, by its name
+abbrev pub format_of_name : Name → Format
+format_of_name name = if ends_in name (codes ".edgelist") || ends_in name (codes ".wel") then EdgeList else AdjList
+
+-- the numbering is that of a file
+abbrev pub is_file : Numbering → Bool
+is_file DepthFirst = false
+is_file Tour = false
+is_file (File name) = true
+
+abbrev pub has_order : Words → Bool
+has_order words = is_file words.numbering
+
+-- a file's numbering is of no tree
+abbrev pub FitsItsKind : Words → Type 0
+FitsItsKind words = has_order words ≡ true → words.kind ≢ Tree
+
+-- the numbers of the refusals of words
+abbrev pub words_code : WordsError → ℕ
+words_code (refused.Usage text) = 1
+words_code (refused.Help text) = 2
+words_code refused.NoMemory = 3

@@ -1,0 +1,379 @@
+//! The words of the command line.
+
+ghost use Rattle.std.specs.Prelude.{◌≡◌, true, None, IfOk};
+ghost use Rattle.ir_cli.specs.Words.{format_of_name, FitsItsKind};
+
+use crate::command::route_command;
+use clap::ArgMatches;
+use clap::error::ErrorKind;
+use ir_model::Kind;
+use std::alloc::{AllocError, AllocFailed, Global};
+use thiserror::Error;
+
+/// A subcommand of `route`.
+#[derive(Clone, Copy, Debug, PartialEq, Eq)]
+pub enum Sub {
+    Plan,
+    Walk,
+    Stats,
+    Draw,
+    Prefixes,
+    Sim,
+    Live,
+    Check,
+}
+
+/// The format of a topology text.
+#[derive(Clone, Copy, Debug, PartialEq, Eq)]
+pub enum Format {
+    AdjList,
+    EdgeList,
+}
+
+/// How the nodes of a plan are numbered.
+#[derive(Debug, Drop)]
+pub enum Numbering {
+    /// Depth first, from the root.
+    DepthFirst,
+    /// In the order of a tour from the root, or depth first, by which has fewer starts.
+    Tour,
+    /// In the order of a file of this name; the root is the first node of it.
+    File(String),
+}
+
+/// What the words ask for. The files are the one word `-`, which stands for standard input with all texts, or else one
+/// for each text: the topology for `plan`, `walk`, `stats`, `draw` and `prefixes`, the topology and the script for
+/// `sim` and `live`, and the trace too for `check`. No other number of files is read, and `-` beside another file is
+/// refused.
+#[derive(Drop)]
+pub struct Words {
+    pub sub: Sub,
+    pub format: Format,
+    pub kind: Kind,
+    /// The name of the root; the first node where there is none.
+    pub root: Option<String>,
+    /// Other than depth first where the kind is not Tree alone; a file's for `plan`, `walk`, `stats`, `draw` and `prefixes`
+    /// alone, where no root is named.
+    pub numbering: Numbering,
+    /// The capacity of each channel and inbox, from 1 to 1,024.
+    pub capacity: usize,
+    /// The most packets, from 1 to 4,096.
+    pub packets: usize,
+    /// The most restamps of a packet, from 0 to 3.
+    pub restamps: u8,
+    /// The most threads that make the rows of a plan, from 1 to 256; as many as suit the processors where there is none.
+    pub threads: Option<usize>,
+    /// The names of the nodes that a walk goes from and to: both for `walk`, both or none for `draw`.
+    pub from: Option<String>,
+    pub to: Option<String>,
+    /// Whether no number is to match two lines of a node, for `prefixes`.
+    pub disjoint: bool,
+    /// Whether sentences for people are to stand behind the lines of faults.
+    pub explain: bool,
+    pub files: Vec<String>,
+}
+
+impl Words {
+    ghost use Rattle.std.specs.Prelude.{◌≡◌};
+    ghost use Rattle.ir_cli.specs.Words.{is_one_input, has_order};
+
+    /// Whether the files are the one word `-`.
+    pub fn is_one_input(&self) -> bool
+        ensures { result ≡ is_one_input self.now }
+    {
+        self.files.len() == 1 && self.files[0].as_str() == "-"
+    }
+
+    /// Whether the numbering is that of a file.
+    pub fn has_order(&self) -> bool
+        ensures { result ≡ has_order self.now }
+    {
+        match self.numbering {
+            Numbering::DepthFirst | Numbering::Tour => false,
+            Numbering::File(_) => true,
+        }
+    }
+}
+
+/// Why there are no words to follow: a text for standard error, a text for standard output, or want of memory.
+#[derive(Debug, Drop, Error)]
+pub enum WordsError {
+    #[error("{0}")]
+    Usage(String),
+    #[error("{0}")]
+    Help(String),
+    #[error("out of memory")]
+    NoMemory,
+}
+
+impl WordsError {
+    ghost use Rattle.std.specs.Prelude.{◌≡◌};
+    ghost use Rattle.ir_cli.specs.Words.{words_code};
+
+    /// Its number: 1 for `Usage`, 2 for `Help`, 3 for `NoMemory`.
+    pub fn code(&self) -> u8
+        ensures { result ≡ words_code self.now }
+    {
+        match self {
+            WordsError::Usage(_) => 1,
+            WordsError::Help(_) => 2,
+            WordsError::NoMemory => 3,
+        }
+    }
+}
+
+impl<T: Drop> From<AllocFailed<T>> for WordsError {
+    fn from(_error: AllocFailed<T>) -> WordsError {
+        WordsError::NoMemory
+    }
+}
+
+impl From<AllocError> for WordsError {
+    fn from(_error: AllocError) -> WordsError {
+        WordsError::NoMemory
+    }
+}
+
+static SIM_FILES: &str = "\
+error: 'route sim' takes the files of a topology and of a script, or '-' alone
+
+Usage: route sim [OPTIONS] <TOPOLOGY> <SCRIPT>
+       route sim [OPTIONS] -
+
+For more information, try '--help'.
+";
+
+static LIVE_FILES: &str = "\
+error: 'route live' takes the files of a topology and of a script, or '-' alone
+
+Usage: route live [OPTIONS] <TOPOLOGY> <SCRIPT>
+       route live [OPTIONS] -
+
+For more information, try '--help'.
+";
+
+static CHECK_FILES: &str = "\
+error: 'route check' takes the files of a topology, of a script and of a trace, or '-' alone
+
+Usage: route check [OPTIONS] <TOPOLOGY> <SCRIPT> <TRACE>
+       route check [OPTIONS] -
+
+For more information, try '--help'.
+";
+
+static TREE_NUMBERING: &str = "\
+error: '--kind tree' takes '--numbering depth-first' alone
+
+For more information, try '--help'.
+";
+
+static ROOT_NUMBERING: &str = "\
+error: '--root' does not go with a file's '--numbering', of which the first node is the root
+
+For more information, try '--help'.
+";
+
+static INPUT_NUMBERING: &str = "\
+error: '--numbering' takes 'depth-first', 'tour' or a file, not '-'
+
+For more information, try '--help'.
+";
+
+/// An error of the parser as the text to print.
+fn refused(alloc: Global, error: &clap::Error) -> WordsError {
+    if error.kind() == ErrorKind::OutOfMemory {
+        return WordsError::NoMemory;
+    }
+    match error.to_string(alloc) {
+        Err(_) => WordsError::NoMemory,
+        Ok(text) if error.use_stderr() => WordsError::Usage(text),
+        Ok(text) => WordsError::Help(text),
+    }
+}
+
+/// The most restamps that are asked for.
+fn restamps_of(found: &ArgMatches<'_>) -> u8 {
+    match found.get_str("restamps") {
+        Some("1") => 1,
+        Some("2") => 2,
+        Some("3") => 3,
+        _ => 0,
+    }
+}
+
+/// The word of an option, if there is one.
+fn word_of(
+    alloc: Global,
+    found: &ArgMatches<'_>,
+    name: &str,
+) -> Result<Option<String>, AllocError> {
+    match found.get_str(name) {
+        Some(word) => Ok(Some(String::from_str(alloc, word)?)),
+        None => Ok(None),
+    }
+}
+
+/// The format of a file by its name: that of edge lists where it ends in `.edgelist`, as `.weighted.edgelist` does, or in
+/// `.wel`, else that of adjacency lists.
+fn format_of_file(name: &str) -> Format
+    ensures { result ≡ format_of_name name.now }
+{
+    let bytes = name.as_bytes();
+    if bytes.ends_with(b".edgelist") || bytes.ends_with(b".wel") {
+        Format::EdgeList
+    } else {
+        Format::AdjList
+    }
+}
+
+/// The format that the words name, else that of the topology's file.
+fn format_of(found: &ArgMatches<'_>) -> Format {
+    match found.get_str("format") {
+        Some("edgelist") => Format::EdgeList,
+        Some(_) => Format::AdjList,
+        None => format_of_file(found.get_str("topology").unwrap_or("-")),
+    }
+}
+
+/// The numbering that is asked for.
+fn numbering_of(alloc: Global, found: &ArgMatches<'_>) -> Result<Numbering, AllocError> {
+    match found.get_str("numbering") {
+        None | Some("depth-first") => Ok(Numbering::DepthFirst),
+        Some("tour") => Ok(Numbering::Tour),
+        Some(file) => Ok(Numbering::File(String::from_str(alloc, file)?)),
+    }
+}
+
+/// The words of a subcommand.
+fn words_of(alloc: Global, sub: Sub, found: &ArgMatches<'_>) -> Result<Words, AllocError> {
+    let kind = match found.get_str("kind") {
+        Some("tree") => Kind::Tree,
+        Some("compact") => Kind::Compact,
+        _ => Kind::Shortest,
+    };
+    let root = word_of(alloc, found, "root")?;
+    let from = word_of(alloc, found, "from")?;
+    let to = word_of(alloc, found, "to")?;
+    let mut files = Vec::new(alloc);
+    for name in ["topology", "script", "trace"] {
+        if let Some(file) = word_of(alloc, found, name)? {
+            files.push(file)?;
+        }
+    }
+    Ok(Words {
+        sub,
+        format: format_of(found),
+        kind,
+        root,
+        numbering: numbering_of(alloc, found)?,
+        capacity: found.get_one::<usize>("capacity").unwrap_or(16),
+        packets: found.get_one::<usize>("packets").unwrap_or(4096),
+        restamps: restamps_of(found),
+        threads: found.get_one::<usize>("threads"),
+        from,
+        to,
+        disjoint: found.get_flag("disjoint"),
+        explain: found.get_flag("explain") && !found.get_flag("no-explain"),
+        files,
+    })
+}
+
+/// Whether the files are `-` alone, or one for each text with no `-` among them.
+fn has_its_files(words: &Words) -> bool {
+    let texts = match words.sub {
+        Sub::Plan | Sub::Walk | Sub::Stats | Sub::Draw | Sub::Prefixes => 1,
+        Sub::Sim | Sub::Live => 2,
+        Sub::Check => 3,
+    };
+    words.is_one_input()
+        || (words.files.len() == texts && words.files.iter().all(|file| file.as_str() != "-"))
+}
+
+/// Whether the numbering may be that of a plan of this kind.
+fn fits_its_kind(words: &Words) -> bool
+    ensures { result ≡ true → FitsItsKind words.now }
+{
+    !words.has_order() || words.kind != Kind::Tree
+}
+
+/// What is wrong with the numbering of the words, as a text for standard error, if anything is.
+fn numbering_fault(words: &Words) -> Option<&'static str> {
+    match &words.numbering {
+        Numbering::DepthFirst => None,
+        Numbering::Tour if words.kind == Kind::Tree => Some(TREE_NUMBERING),
+        Numbering::Tour => None,
+        Numbering::File(name) if name.as_str() == "-" => Some(INPUT_NUMBERING),
+        Numbering::File(_) if words.root.is_some() => Some(ROOT_NUMBERING),
+        Numbering::File(_) => None,
+    }
+}
+
+/// The subcommand of a name, and what is told of a number of files that it does not take.
+fn sub_of(name: &str) -> (Sub, &'static str) {
+    match name {
+        "sim" => (Sub::Sim, SIM_FILES),
+        "live" => (Sub::Live, LIVE_FILES),
+        "check" => (Sub::Check, CHECK_FILES),
+        "walk" => (Sub::Walk, SIM_FILES),
+        "stats" => (Sub::Stats, SIM_FILES),
+        "draw" => (Sub::Draw, SIM_FILES),
+        "prefixes" => (Sub::Prefixes, SIM_FILES),
+        _ => (Sub::Plan, SIM_FILES),
+    }
+}
+
+/// What is wrong with words, as a text for standard error, if anything is. Of files it is the given text.
+fn fault_of(words: &Words, files: &'static str) -> Option<&'static str>
+    ensures { result ≡ None → FitsItsKind words.now }
+{
+    if !has_its_files(words) {
+        return Some(files);
+    }
+    if let Some(fault) = numbering_fault(words) {
+        return Some(fault);
+    }
+    if fits_its_kind(words) {
+        None
+    } else {
+        Some(TREE_NUMBERING)
+    }
+}
+
+/// The words of a subcommand's name and its matches, if nothing is wrong with them.
+fn words_found(alloc: Global, name: &str, found: &ArgMatches<'_>) -> Result<Words, WordsError>
+    ensures { IfOk result (λ words. FitsItsKind words) }
+{
+    let (sub, files) = sub_of(name);
+    let words = words_of(alloc, sub, found)?;
+    match fault_of(&words, files) {
+        None => Ok(words),
+        Some(fault) => Err(WordsError::Usage(String::from_str(alloc, fault)?)),
+    }
+}
+
+/// The program's name and the words behind it.
+fn all_words<'a>(alloc: Global, words: &'a [String]) -> Result<Vec<&'a str>, AllocError> {
+    let mut all: Vec<&str> = Vec::with_capacity(alloc, words.len() + 1)?;
+    all.push("route")?;
+    for word in words {
+        all.push(word.as_str())?;
+    }
+    Ok(all)
+}
+
+/// What the words behind the program's name ask for. Words that are refused give the text for standard error, `--help` and
+/// `--version` the text for standard output. Refused are also a number of files that the subcommand does not take, and `-`
+/// beside another file; a numbering other than depth first of a tree; and a file's numbering beside a root, on standard
+/// input, or of a run.
+pub fn read_words(alloc: Global, words: &[String]) -> Result<Words, WordsError>
+    ensures { IfOk result (λ words. FitsItsKind words) }
+{
+    let all = all_words(alloc, words)?;
+    match route_command(alloc)?.try_get_matches_from(all.as_slice()) {
+        Ok(found) => match found.subcommand() {
+            Some((name, inner)) => words_found(alloc, name, inner),
+            None => Err(WordsError::NoMemory),
+        },
+        Err(error) => Err(refused(alloc, &error)),
+    }
+}

@@ -1,5 +1,0 @@
-use Rattle.ir_look.proofs.Determined.{one_stats_text}
-use Rattle.ir_look.proofs.laws.stats_text_is_determined.Goals as goal
-
-pub returns : goal.returns
-returns c nodes s text other x y = one_stats_text nodes s text other x y

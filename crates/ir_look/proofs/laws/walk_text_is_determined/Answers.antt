@@ -1,5 +1,0 @@
-use Rattle.ir_look.proofs.Determined.{one_walk_text}
-use Rattle.ir_look.proofs.laws.walk_text_is_determined.Goals as goal
-
-pub returns : goal.returns
-returns c nodes s a b text other x y = one_walk_text nodes s a b text other x y

@@ -1,5 +1,0 @@
-use Rattle.ir_look.proofs.WalkLines.{IsWalkSoFar}
-use Rattle.ir_look.proofs.walk.walk_between.Given as goal
-
-abbrev pub invariant-loop-step : goal.invariant-loop-step
-invariant-loop-step l = IsWalkSoFar l.plan l.from l.to l.at l.weight l._step l.walk.items

@@ -1,6 +1,0 @@
-use Rattle.ir_model.specs.Scheme.{table_port}
-use Rattle.ir_tables.proofs.Ways.{IsWalked}
-use Rattle.ir_look.proofs.weights.weight_of_walk.Given as goal
-
-abbrev pub invariant-loop-step : goal.invariant-loop-step
-invariant-loop-step l = IsWalked l.plan.network (table_port l.plan) l.d l.u l.x l.sum l._step

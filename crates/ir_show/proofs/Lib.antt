@@ -1,0 +1,9 @@
+pub mod PlanLines
+pub mod Pieces
+pub mod WalkLines
+pub mod StatsSums
+pub mod Pairs
+pub mod Destinations
+pub mod Determined
+pub mod Drawn
+pub mod Escapes

@@ -1,0 +1,341 @@
+//! The drawing of a plan, for Graphviz.
+ghost use Rattle.std.specs.Prelude.{◌≡◌, ◌<◌, ◌++◌, true, [], if◌then◌else◌, nat_lt, IfOk, IfSome, OnOk, length, slice_index_or, string_bytes, flat_map};
+ghost use Rattle.std.specs.List.{range_with_len, list_all};
+ghost use Rattle.ir_model.specs.Graph.{names};
+ghost use Rattle.ir_model.specs.Topology.{node_count};
+ghost use Rattle.ir_model.specs.Row.{intervals_of};
+ghost use Rattle.ir_model.specs.Plan.{IsPlan, row_in};
+ghost use Rattle.ir_trace.specs.Rows.{is_word, spaced};
+ghost use Rattle.ir_trace.specs.Written.{name_at};
+ghost use Rattle.ir_show.specs.WalkText.{no_interval};
+ghost use Rattle.ir_show.specs.Quoted.{escaped_byte, escaped, quoted};
+ghost use Rattle.ir_show.specs.Before.{separated};
+ghost use Rattle.ir_show.specs.Drawing.{node_line, span_text, interval_text, goes_by, intervals_text, are_ends, passes, edge_style, edge_ends, edge_labels, edge_line, edge_lines, IsBold, IsDrawingOf};
+
+use crate::walk::{end_of, walk_between};
+use ir_graph::Graph;
+use ir_model::Hop;
+use ir_plan::Plan;
+use ir_trace::text::{name_of, push_next_number};
+use std::alloc::{AllocError, Global};
+
+/// Writes a byte of a text between quotes.
+fn push_escaped_byte(text: &mut String, byte: u8) -> Result<(), AllocError>
+    requires { byte < 128 }
+    ensures { OnOk result (string_bytes text.new ≡ string_bytes text.old ++ escaped_byte byte) }
+{
+    if byte == b'"' || byte == b'\\' {
+        text.push('\\')?;
+    }
+    text.push(byte as char)?;
+    Ok(())
+}
+
+/// Writes a word as it stands between quotes.
+fn push_escaped(text: &mut String, word: &str) -> Result<(), AllocError>
+    requires { is_word word.now ≡ true }
+    ensures { OnOk result (string_bytes text.new ≡ string_bytes text.old ++ escaped word.now) }
+{
+    let bytes = word.as_bytes();
+    for byte in bytes {
+        push_escaped_byte(text, *byte)?;
+    }
+    Ok(())
+}
+
+/// Writes the name of a node as it stands between quotes.
+fn push_escaped_name(text: &mut String, graph: &Graph, u: u16) -> Result<(), AllocError>
+    requires { u < length graph.now }
+    ensures { OnOk result (string_bytes text.new ≡ string_bytes text.old ++ escaped (name_at (names graph.now) u)) }
+{
+    let _nodes = graph.number_of_nodes();
+    push_escaped(text, name_of(graph, u))?;
+    Ok(())
+}
+
+/// Writes the name of a node between quotes.
+fn push_quoted(text: &mut String, graph: &Graph, u: u16) -> Result<(), AllocError>
+    requires { u < length graph.now }
+    ensures { OnOk result (string_bytes text.new ≡ string_bytes text.old ++ quoted (name_at (names graph.now) u)) }
+{
+    text.push_str("\"")?;
+    push_escaped_name(text, graph, u)?;
+    text.push_str("\"")?;
+    Ok(())
+}
+
+/// Writes the line of a node.
+fn push_node(text: &mut String, graph: &Graph, plan: &Plan, u: u16) -> Result<(), AllocError>
+    requires nodes { node_count plan.now.topology ≡ length graph.now }
+    requires node { u < length graph.now }
+    ensures { OnOk result (string_bytes text.new ≡ string_bytes text.old ++ node_line (names graph.now) plan.now u) }
+{
+    text.push_str("  ")?;
+    push_quoted(text, graph, u)?;
+    text.push_str(" [label=\"")?;
+    push_escaped_name(text, graph, u)?;
+    push_next_number(text, plan.label_of(u) as usize)?;
+    text.push_str("\"];\n")?;
+    Ok(())
+}
+
+/// Whether the port of an interval of a node's row is by a link.
+fn goes_by(plan: &Plan, u: u16, link: u16, i: usize) -> bool
+    requires plan { IsPlan plan.now }
+    requires node { u < node_count plan.now.topology }
+    requires place { i < length (row_in plan.now u) }
+    ensures { result ≡ goes_by plan.now.topology u link
+        (slice_index_or (intervals_of (row_in plan.now u)) i no_interval) }
+{
+    let port = plan.row(u).port(i);
+    let hop = plan.hop(u, port);
+    hop.link == link
+}
+
+/// Writes a cyclic interval.
+fn push_span(text: &mut String, start: u16, end: u16) -> Result<(), AllocError>
+    ensures { OnOk result (string_bytes text.new ≡ string_bytes text.old ++ span_text start end) }
+{
+    write!(text, "[{start},{end})")
+}
+
+/// Writes an interval of a node's row.
+fn push_interval(text: &mut String, plan: &Plan, u: u16, i: usize) -> Result<(), AllocError>
+    requires node { u < node_count plan.now.topology }
+    requires place { i < length (row_in plan.now u) }
+    ensures { OnOk result (string_bytes text.new ≡ string_bytes text.old
+        ++ interval_text (slice_index_or (intervals_of (row_in plan.now u)) i no_interval)) }
+{
+    let row = plan.row(u);
+    let start = row.start(i);
+    let end = end_of(row, i);
+    push_span(text, start, end)?;
+    Ok(())
+}
+
+/// Writes an interval of a node's row, behind a space if it is not the first.
+fn push_next_interval(
+    text: &mut String,
+    plan: &Plan,
+    u: u16,
+    i: usize,
+    first: bool,
+) -> Result<(), AllocError>
+    requires node { u < node_count plan.now.topology }
+    requires place { i < length (row_in plan.now u) }
+    ensures { OnOk result (string_bytes text.new ≡ string_bytes text.old
+        ++ separated first (interval_text (slice_index_or (intervals_of (row_in plan.now u)) i no_interval))) }
+{
+    if !first {
+        text.push_str(" ")?;
+    }
+    push_interval(text, plan, u, i)?;
+    Ok(())
+}
+
+/// Writes the intervals of a node's row whose port is by a link.
+fn push_intervals(text: &mut String, plan: &Plan, u: u16, link: u16) -> Result<(), AllocError>
+    requires plan { IsPlan plan.now }
+    requires node { u < node_count plan.now.topology }
+    ensures { OnOk result (string_bytes text.new ≡ string_bytes text.old ++ intervals_text plan.now u link) }
+{
+    let mut first = true;
+    let count = plan.row(u).len();
+    for i in 0..count {
+        if goes_by(plan, u, link, i) {
+            push_next_interval(text, plan, u, i, first)?;
+            first = false;
+        }
+    }
+    Ok(())
+}
+
+/// Whether two nodes are two others, in one order or the other.
+fn are_ends(u: u16, v: u16, x: u16, y: u16) -> bool
+    ensures { result ≡ are_ends u v x y }
+{
+    (x == u && y == v) || (x == v && y == u)
+}
+
+/// Whether two nodes that follow one another on a walk are these.
+fn passes(u: u16, v: u16, walk: &[u16]) -> bool
+    ensures { result ≡ passes u v walk.now }
+{
+    for i in 1..walk.len() {
+        if are_ends(u, v, walk[i - 1], walk[i]) {
+            return true;
+        }
+    }
+    false
+}
+
+/// The style of a link: bold where a walk passes it.
+fn edge_style(u: u16, v: u16, walk: &[u16]) -> &'static str
+    ensures { result.now ≡ edge_style u v walk.now }
+{
+    if passes(u, v, walk) {
+        ", style=bold"
+    } else {
+        ""
+    }
+}
+
+/// Writes the two ends of a link.
+fn push_ends(text: &mut String, graph: &Graph, u: u16, v: u16) -> Result<(), AllocError>
+    requires u { u < length graph.now }
+    requires v { v < length graph.now }
+    ensures { OnOk result (string_bytes text.new ≡ string_bytes text.old ++ edge_ends (names graph.now) u v) }
+{
+    text.push_str("  ")?;
+    push_quoted(text, graph, u)?;
+    text.push_str(" -- ")?;
+    push_quoted(text, graph, v)?;
+    Ok(())
+}
+
+/// Writes the weight of a link of a node, and the intervals of its port at each end.
+fn push_labels(text: &mut String, plan: &Plan, u: u16, hop: Hop) -> Result<(), AllocError>
+    requires plan { IsPlan plan.now }
+    requires node { u < node_count plan.now.topology }
+    requires other { hop.node < node_count plan.now.topology }
+    ensures { OnOk result (string_bytes text.new ≡ string_bytes text.old ++ edge_labels plan.now u hop) }
+{
+    let weight = hop.weight;
+    write!(text, " [label=\"{weight}\", taillabel=\"")?;
+    push_intervals(text, plan, u, hop.link)?;
+    text.push_str("\", headlabel=\"")?;
+    push_intervals(text, plan, hop.node, hop.link)?;
+    text.push_str("\"")?;
+    Ok(())
+}
+
+/// Writes the line of a link of a node.
+fn push_edge(
+    text: &mut String,
+    graph: &Graph,
+    plan: &Plan,
+    walk: &[u16],
+    u: u16,
+    hop: Hop,
+) -> Result<(), AllocError>
+    requires nodes { node_count plan.now.topology ≡ length graph.now }
+    requires plan { IsPlan plan.now }
+    requires node { u < length graph.now }
+    requires other { hop.node < length graph.now }
+    ensures { OnOk result (string_bytes text.new ≡ string_bytes text.old
+        ++ edge_line (names graph.now) plan.now walk.now u hop) }
+{
+    push_ends(text, graph, u, hop.node)?;
+    push_labels(text, plan, u, hop)?;
+    text.push_str(edge_style(u, hop.node, walk))?;
+    text.push_str("];\n")?;
+    Ok(())
+}
+
+/// Writes the line of a link of a node, if it leads to a later node.
+fn push_later_edge(
+    text: &mut String,
+    graph: &Graph,
+    plan: &Plan,
+    walk: &[u16],
+    u: u16,
+    hop: Hop,
+) -> Result<(), AllocError>
+    requires nodes { node_count plan.now.topology ≡ length graph.now }
+    requires plan { IsPlan plan.now }
+    requires node { u < length graph.now }
+    requires other { hop.node < length graph.now }
+    ensures { OnOk result (string_bytes text.new ≡ string_bytes text.old
+        ++ (if nat_lt u hop.node then edge_line (names graph.now) plan.now walk.now u hop else [])) }
+{
+    if u < hop.node {
+        push_edge(text, graph, plan, walk, u, hop)
+    } else {
+        Ok(())
+    }
+}
+
+/// Writes the lines of a node's links to later nodes.
+fn push_edges(
+    text: &mut String,
+    graph: &Graph,
+    plan: &Plan,
+    walk: &[u16],
+    u: u16,
+) -> Result<(), AllocError>
+    requires nodes { node_count plan.now.topology ≡ length graph.now }
+    requires plan { IsPlan plan.now }
+    requires node { u < length graph.now }
+    ensures { OnOk result (string_bytes text.new ≡ string_bytes text.old
+        ++ edge_lines (names graph.now) plan.now walk.now u) }
+{
+    let ports = plan.topology().ports(u as usize);
+    for hop in ports {
+        push_later_edge(text, graph, plan, walk, u, *hop)?;
+    }
+    Ok(())
+}
+
+/// Writes the lines of all nodes.
+fn push_all_nodes(text: &mut String, graph: &Graph, plan: &Plan) -> Result<(), AllocError>
+    requires { node_count plan.now.topology ≡ length graph.now }
+    ensures { OnOk result (string_bytes text.new ≡ string_bytes text.old
+        ++ flat_map (node_line (names graph.now) plan.now) (range_with_len 0 (node_count plan.now.topology))) }
+{
+    for u in 0..plan.nodes() {
+        push_node(text, graph, plan, u as u16)?;
+    }
+    Ok(())
+}
+
+/// Writes the lines of all links.
+fn push_all_edges(
+    text: &mut String,
+    graph: &Graph,
+    plan: &Plan,
+    walk: &[u16],
+) -> Result<(), AllocError>
+    requires { node_count plan.now.topology ≡ length graph.now }
+    ensures { OnOk result (string_bytes text.new ≡ string_bytes text.old ++ flat_map
+        (edge_lines (names graph.now) plan.now walk.now) (range_with_len 0 (node_count plan.now.topology))) }
+{
+    for u in 0..plan.nodes() {
+        push_edges(text, graph, plan, walk, u as u16)?;
+    }
+    Ok(())
+}
+
+/// The walk to be drawn in bold: that between the ends, if there are any.
+fn bold_walk(alloc: Global, plan: &Plan, ends: Option<(u16, u16)>) -> Result<Vec<u16>, AllocError>
+    requires { IfSome ends (λ e. (e.0 < node_count plan.now.topology) × (e.1 < node_count plan.now.topology)) }
+    ensures { IfOk result (λ walk. IsBold plan.now ends walk.items) }
+{
+    let Some((from, to)) = ends else {
+        return Ok(Vec::new(alloc));
+    };
+    let (walk, _weight) = walk_between(alloc, plan, from, to)?;
+    Ok(walk)
+}
+
+/// The drawing of a plan for Graphviz: a `graph` with a statement for each node, with its name and label, and one for each
+/// link, with its weight and at each end the intervals of its port; the links of the walk from the first of the ends to the
+/// second are bold. Condition: the plan is over the graph's network, and the ends are nodes. It is refused for memory
+/// alone. Takes O(n + m (k + w)), for n nodes and m links, at most k starts in a row, and w nodes on the bold walk.
+pub fn draw_text(
+    alloc: Global,
+    graph: &Graph,
+    plan: &Plan,
+    ends: Option<(u16, u16)>,
+) -> Result<String, AllocError>
+    requires nodes { node_count plan.now.topology ≡ length graph.now }
+    requires ends { IfSome ends (λ e. (e.0 < length graph.now) × (e.1 < length graph.now)) }
+    ensures { IfOk result (λ text. IsDrawingOf (names graph.now) plan.now ends (string_bytes text)) }
+{
+    let walk = bold_walk(alloc, plan, ends)?;
+    let mut text = String::new(alloc);
+    text.push_str("graph {\n")?;
+    push_all_nodes(&mut text, graph, plan)?;
+    push_all_edges(&mut text, graph, plan, walk.as_slice())?;
+    text.push_str("}\n")?;
+    Ok(text)
+}

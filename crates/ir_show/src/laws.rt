@@ -1,0 +1,31 @@
+//! Laws of the texts, each the contract of a function with an empty body.
+ghost use Rattle.std.specs.Prelude.{◌≡◌, ℕ, ◌∷◌, ◌++◌, Option, Some, List};
+ghost use Rattle.ir_model.specs.Graph.{Name};
+ghost use Rattle.ir_model.specs.Plan.{Plan};
+ghost use Rattle.ir_show.specs.WalkText.{IsWalkOf};
+ghost use Rattle.ir_show.specs.StatsText.{IsStatsOf};
+ghost use Rattle.ir_show.specs.Quoted.{escaped, read_quoted};
+ghost use Rattle.ir_show.specs.Drawing.{IsDrawingOf};
+
+/// A plan has one text of the walk from a node to a node.
+pub fn walk_text_is_determined()
+    ensures { (nodes : List Name) (s : Plan) (a b : ℕ) (text other : List ℕ) → IsWalkOf nodes s a b text
+        → IsWalkOf nodes s a b other → text ≡ other }
+{}
+
+/// A plan has one text of its figures.
+pub fn stats_text_is_determined()
+    ensures { (nodes : List Name) (s : Plan) (text other : List ℕ) → IsStatsOf nodes s text
+        → IsStatsOf nodes s other → text ≡ other }
+{}
+
+/// A plan has one drawing for each choice of ends.
+pub fn drawing_is_determined()
+    ensures { (nodes : List Name) (s : Plan) (ends : Option (ℕ × ℕ)) (text other : List ℕ)
+        → IsDrawingOf nodes s ends text → IsDrawingOf nodes s ends other → text ≡ other }
+{}
+
+/// What is escaped has no quote of its own that ends it, and is read again as it was.
+pub fn escaped_text_is_read_again()
+    ensures { (text rest : List ℕ) → read_quoted (escaped text ++ 34 ∷ rest) ≡ Some (text, rest) }
+{}

@@ -1,0 +1,223 @@
+//! The text of a plan, which is not built: its words are written as they are made.
+ghost use Rattle.std.specs.Prelude.{◌≡◌, ◌<◌, [], ◌∷◌, IfOk, length, flat_map, slice_index_or, decimal, string_bytes};
+ghost use Rattle.ir_model.specs.Graph.{names};
+ghost use Rattle.ir_model.specs.Topology.{node_count};
+ghost use Rattle.ir_model.specs.Plan.{row_in};
+ghost use Rattle.ir_streams.specs.Pouring.{Pours};
+ghost use Rattle.ir_streams.specs.Writing.{Calls, Writes};
+ghost use Rattle.ir_trace.specs.Rows.{spaced};
+ghost use Rattle.ir_trace.specs.Written.{name_at};
+ghost use Rattle.ir_show.specs.Held.{ArePieces, AreSpaced};
+ghost use Rattle.ir_show.specs.PlanText.{kind_text, start_words, plan_head, node_words, plan_text};
+ghost use Rattle.ir_show.specs.Words.{line_text};
+
+use ir_graph::Graph;
+use ir_model::Kind;
+use ir_plan::Plan;
+use ir_streams::{Parts, Writer};
+use ir_trace::text::{name_of, push_name, push_next_number};
+use itoa::Buffer;
+use std::alloc::{AllocError, Global};
+use std::marker::Model;
+
+/// The word of a kind.
+pub fn kind_text(kind: Kind) -> &'static str
+    ensures { result.now ≡ kind_text kind }
+{
+    match kind {
+        Kind::Tree => "tree",
+        Kind::Shortest => "shortest",
+        Kind::Compact => "compact",
+    }
+}
+
+/// Writes a space and a word.
+fn pour_word<W: Writer>(parts: &mut Parts, writer: &mut W, word: &str)
+    ensures { Pours W.contents W.wrote W.settled writer.old parts.old (spaced word.now) writer.new parts.new }
+{
+    parts.push(writer, b" ");
+    parts.push(writer, word.as_bytes());
+}
+
+/// Writes a space and a number.
+fn pour_number<W: Writer>(parts: &mut Parts, writer: &mut W, n: usize)
+    ensures { Pours W.contents W.wrote W.settled writer.old parts.old (spaced (decimal n)) writer.new parts.new }
+{
+    let mut digits = Buffer::new();
+    pour_word(parts, writer, digits.format(n));
+}
+
+/// What the text of a plan is made of: for each label and each node the piece that stands for it in a row, which is made
+/// once, since rows name them again and again.
+#[derive(Drop)]
+pub struct Pieces {
+    graph: Graph,
+    plan: Plan,
+    /// A space and a number, for each number below that of the nodes.
+    numbers: Vec<String>,
+    /// A space and a name, for each node.
+    names: Vec<String>,
+}
+
+/// A space and a number.
+fn spaced_number(alloc: Global, n: usize) -> Result<String, AllocError>
+    ensures { IfOk result (λ text. string_bytes text ≡ spaced (decimal n)) }
+{
+    let mut text = String::new(alloc);
+    push_next_number(&mut text, n)?;
+    Ok(text)
+}
+
+/// A space and the name of a node.
+fn spaced_name(alloc: Global, graph: &Graph, u: u16) -> Result<String, AllocError>
+    requires { u < length graph.now }
+    ensures { IfOk result (λ text. string_bytes text ≡ spaced (name_at (names graph.now) u)) }
+{
+    let mut text = String::new(alloc);
+    push_name(&mut text, graph, u)?;
+    Ok(text)
+}
+
+/// A space and the number, for each number below this one.
+fn spaced_numbers(alloc: Global, count: usize) -> Result<Vec<String>, AllocError>
+    ensures { IfOk result (λ texts. AreSpaced decimal count texts.items) }
+{
+    let mut texts = Vec::with_capacity(alloc, count)?;
+    for n in 0..count {
+        texts.push(spaced_number(alloc, n)?)?;
+    }
+    Ok(texts)
+}
+
+/// A space and the name, for each node.
+fn spaced_names(alloc: Global, graph: &Graph) -> Result<Vec<String>, AllocError>
+    ensures { IfOk result (λ texts. AreSpaced (name_at (names graph.now)) (length graph.now) texts.items) }
+{
+    let count = graph.number_of_nodes();
+    let mut texts = Vec::with_capacity(alloc, count)?;
+    for u in 0..count {
+        texts.push(spaced_name(alloc, graph, u as u16)?)?;
+    }
+    Ok(texts)
+}
+
+/// Writes a start of a node's row, and the name of the neighbour at its port.
+fn pour_start<W: Writer>(parts: &mut Parts, writer: &mut W, pieces: &Pieces, u: u16, i: usize)
+    requires pieces { ArePieces pieces.now }
+    requires node { u < length pieces.now.graph }
+    requires place { i < length (row_in pieces.now.plan u) }
+    ensures { Pours W.contents W.wrote W.settled writer.old parts.old
+        (flat_map spaced (start_words (names pieces.now.graph) pieces.now.plan.topology u
+        (slice_index_or (row_in pieces.now.plan u) i (record { label = 0; port = 0 })))) writer.new parts.new }
+{
+    let row = pieces.plan.row(u);
+    parts.push(writer, pieces.numbers[row.start(i) as usize].as_bytes());
+    let hop = pieces.plan.hop(u, row.port(i));
+    parts.push(writer, pieces.names[hop.node as usize].as_bytes());
+}
+
+/// Writes the starts of a node's row.
+fn pour_starts<W: Writer>(parts: &mut Parts, writer: &mut W, pieces: &Pieces, u: u16)
+    requires pieces { ArePieces pieces.now }
+    requires node { u < length pieces.now.graph }
+    ensures { Pours W.contents W.wrote W.settled writer.old parts.old
+        (flat_map spaced (flat_map (start_words (names pieces.now.graph) pieces.now.plan.topology u)
+        (row_in pieces.now.plan u))) writer.new parts.new }
+{
+    let count = pieces.plan.row(u).len();
+    for i in 0..count {
+        pour_start(parts, writer, pieces, u, i);
+    }
+}
+
+/// Writes the line of a node. None is made once a write failed.
+fn pour_node<W: Writer>(parts: &mut Parts, writer: &mut W, pieces: &Pieces, u: u16)
+    requires pieces { ArePieces pieces.now }
+    requires node { u < length pieces.now.graph }
+    ensures { Pours W.contents W.wrote W.settled writer.old parts.old
+        (line_text (node_words (names pieces.now.graph) pieces.now.plan u)) writer.new parts.new }
+{
+    if parts.has_failed() {
+        return;
+    }
+    parts.push(writer, name_of(&pieces.graph, u).as_bytes());
+    pour_number(parts, writer, pieces.plan.label_of(u) as usize);
+    pour_starts(parts, writer, pieces, u);
+    parts.push(writer, b"\n");
+}
+
+/// Writes the first line.
+fn pour_head<W: Writer>(parts: &mut Parts, writer: &mut W, plan: &Plan)
+    ensures { Pours W.contents W.wrote W.settled writer.old parts.old (line_text (plan_head plan.now))
+        writer.new parts.new }
+{
+    parts.push(writer, b"plan");
+    pour_word(parts, writer, kind_text(plan.kind()));
+    pour_number(parts, writer, plan.nodes());
+    pour_number(parts, writer, plan.starts());
+    parts.push(writer, b"\n");
+}
+
+/// Writes the text of a plan over a graph's network.
+fn pour_plan<W: Writer>(parts: &mut Parts, writer: &mut W, pieces: &Pieces)
+    requires { ArePieces pieces.now }
+    ensures { Pours W.contents W.wrote W.settled writer.old parts.old
+        (plan_text (names pieces.now.graph) pieces.now.plan) writer.new parts.new }
+{
+    pour_head(parts, writer, &pieces.plan);
+    for u in 0..pieces.plan.nodes() {
+        pour_node(parts, writer, pieces, u as u16);
+    }
+}
+
+/// The text of a plan over a graph's network. It is not built: beside the graph and the plan it holds the memory that its
+/// writing wants.
+#[derive(Drop)]
+pub struct PlanText {
+    pieces: Pieces,
+    parts: Parts,
+}
+
+impl Model for PlanText {
+    ghost use Rattle.std.specs.Prelude.{List, ℕ};
+
+    ghost Value = { List ℕ };
+
+    ghost use Rattle.ir_show.specs.Held.{plan_text_held, IsHeld};
+
+    ghost view = { plan_text_held };
+
+    ghost invariant = { IsHeld };
+}
+
+impl PlanText {
+    /// The text of a plan over the graph's network. It is refused for memory alone, and its writing takes none. Takes O(n),
+    /// for n nodes.
+    pub fn new(alloc: Global, graph: Graph, plan: Plan) -> Result<PlanText, AllocError>
+        requires { node_count plan.topology ≡ length graph }
+        ensures { IfOk result (λ text. text ≡ plan_text (names graph) plan) }
+    {
+        let parts = Parts::new(alloc)?;
+        let numbers = spaced_numbers(alloc, plan.nodes())?;
+        let names = spaced_names(alloc, &graph)?;
+        let pieces = Pieces {
+            graph,
+            plan,
+            numbers,
+            names,
+        };
+        Ok(PlanText { pieces, parts })
+    }
+
+    /// Writes the text, in writes of at most `ir_streams::PART_BYTES` bytes, and answers whether the writer took and flushed
+    /// it. Nothing is written after a call that failed, and the answer is false only where one did. What went out is a front
+    /// of the text. Takes O(n + s), for n nodes and s starts, beside the calls of the writer.
+    pub fn write<W: Writer>(self, writer: &mut W) -> bool
+        ensures calls { Calls W.wrote W.settled result writer.old self writer.new }
+        ensures bytes { Writes result (W.contents writer.old) (W.contents writer.new) self }
+    {
+        let PlanText { pieces, mut parts } = self;
+        pour_plan(&mut parts, writer, &pieces);
+        parts.finish(writer)
+    }
+}
