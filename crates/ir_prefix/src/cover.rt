@@ -104,7 +104,8 @@ fn tell(
     requires height { height ≤ bits }
     requires inside { (index + 1) * 2 ^ height ≤ 2 ^ 16 }
     ensures below { IfOk result (λ below. below ≡ taken names.now above) }
-    ensures told { OnOk result (prefixes.new.items ≡ prefixes.old.items ++ cover_told bits height index names.now above) }
+    ensures told { OnOk result (prefixes.new.items
+        ≡ prefixes.old.items ++ cover_told bits height index names.now above) }
 {
     if has_name(names, above) {
         return Ok(above);

@@ -223,7 +223,8 @@ fn tell_port(
 ) -> Result<(), AllocError>
     requires height { height ≤ bits }
     requires inside { (index + 1) * 2 ^ height ≤ 2 ^ 16 }
-    ensures { OnOk result (prefixes.new.items ≡ prefixes.old.items ++ cover_told bits height index (port ∷ []) above) }
+    ensures { OnOk result (prefixes.new.items
+        ≡ prefixes.old.items ++ cover_told bits height index (port ∷ []) above) }
 {
     if above != Some(port) {
         prefixes.push(node_prefix(bits, height, index, port))?;

@@ -4,7 +4,7 @@ use Rattle.std.specs.Global.{Global}
 use Rattle.std.specs.List.{range_with_len}
 use Rattle.std.proofs.lemmas.List.{map-append, length-map, get_or-map}
 use Rattle.std.proofs.lemmas.List.FromFn.{get_or-map-range_with_len, length-map-range_with_len}
-use Rattle.ir_model.specs.Row.{Start, labels, start_ports}
+use Rattle.ir_model.specs.Row.{Start}
 use Rattle.ir_model.proofs.Rows.{no_start}
 use Rattle.ir_trace.specs.Rows.{spaced}
 use Rattle.ir_show.specs.Held.{AreSpaced}
@@ -31,11 +31,7 @@ module _ (word : ℕ → List ℕ) (count : ℕ) (texts : List (String Global)) 
       sym (get_or-map string_bytes texts k d [] there) ∙ ap (λ (ts : List (List ℕ)). get_or ts k []) are
       ∙ get_or-map-range_with_len (λ i. spaced (word i)) 0 count k k [] within from
 
--- what was read of a start of a row
-pub label_read : (row found : List Start) (i label : ℕ) → label ≡ slice_index (labels found) i → found ≡ row → i < length row → label ≡ (get_or row i no_start).label
-label_read row found i label read is within =
-    read ∙ ap (λ (r : List Start). slice_index (labels r) i) is ∙ get_or-map (λ (t : Start). t.label) row i no_start 0 within
-
-pub port_read : (row found : List Start) (i port : ℕ) → port ≡ slice_index (start_ports found) i → found ≡ row → i < length row → port ≡ (get_or row i no_start).port
-port_read row found i port read is within =
-    read ∙ ap (λ (r : List Start). slice_index (start_ports r) i) is ∙ get_or-map (λ (t : Start). t.port) row i no_start 0 within
+-- what was read of a start of a row, its label or its port
+pub start_read : (of : Start → ℕ) (row found : List Start) (i x : ℕ) → x ≡ slice_index (map of found) i → found ≡ row → i < length row → x ≡ of (get_or row i no_start)
+start_read of row found i x read is within =
+    read ∙ ap (λ (r : List Start). slice_index (map of r) i) is ∙ get_or-map of row i no_start 0 within

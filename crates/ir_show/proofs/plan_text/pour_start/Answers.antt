@@ -9,7 +9,7 @@ use Rattle.ir_trace.specs.Written.{name_at}
 use Rattle.ir_streams.proofs.Poured.{pours_on}
 use Rattle.ir_show.specs.PlanText.{start_words}
 use Rattle.ir_show.proofs.PlanLines.{leads, start_line}
-use Rattle.ir_show.proofs.Pieces.{label_read, port_read, spaced_at, spaced_count}
+use Rattle.ir_show.proofs.Pieces.{start_read, spaced_at, spaced_count}
 use Rattle.ir_show.proofs.plan_text.pour_start.Goals as goal
 
 pub index-requires : goal.index-requires
@@ -17,7 +17,7 @@ index-requires g c =
     let p = c.args.pieces.now in
     let is = c.requires.pieces in
     let row = row_in p.plan c.args.u in
-    let label = label_read row c.row-row.result.now c.args.i c.start.result c.start.ensures c.row-row.ensures.row c.requires.place in
+    let label = start_read (λ t. t.label) row c.row-row.result.now c.args.i c.start.result c.start.ensures c.row-row.ensures.row c.requires.place in
     let within = (leads p.plan is.plan c.args.u c.args.i (rw is.nodes c.requires.node) c.requires.place).label in
     let count = spaced_count decimal (length p.graph) p.numbers.items is.numbers in
     let nodes = is.nodes in
@@ -28,7 +28,7 @@ hop-hop-requires-clause-port g c =
     let p = c.args.pieces.now in
     let is = c.requires.pieces in
     let row = row_in p.plan c.args.u in
-    let port = port_read row c.row-row.result.now c.args.i c.port.result c.port.ensures c.row-row.ensures.row c.requires.place in
+    let port = start_read (λ t. t.port) row c.row-row.result.now c.args.i c.port.result c.port.ensures c.row-row.ensures.row c.requires.place in
     subst (λ (q : ℕ). q < length (ports_of p.plan.topology c.args.u)) (sym port) (leads p.plan is.plan c.args.u c.args.i (rw is.nodes c.requires.node) c.requires.place).port
 
 pub index-requires-2 : goal.index-requires-2
@@ -47,8 +47,8 @@ returns g c =
     let s = p.plan in
     let row = row_in s c.args.u in
     let start = get_or row c.args.i no_start in
-    let label = label_read row c.row-row.result.now c.args.i c.start.result c.start.ensures c.row-row.ensures.row c.requires.place in
-    let port = port_read row c.row-row.result.now c.args.i c.port.result c.port.ensures c.row-row.ensures.row c.requires.place in
+    let label = start_read (λ t. t.label) row c.row-row.result.now c.args.i c.start.result c.start.ensures c.row-row.ensures.row c.requires.place in
+    let port = start_read (λ t. t.port) row c.row-row.result.now c.args.i c.port.result c.port.ensures c.row-row.ensures.row c.requires.place in
     let within = (leads s is.plan c.args.u c.args.i (rw is.nodes c.requires.node) c.requires.place).label in
     let to = (port_facts s.topology is.plan.topology c.args.u c.port.result c.hop-hop.result c.hop-hop.ensures).to in
     let nodes = is.nodes in
