@@ -1,6 +1,5 @@
 //! Decimal digits.
-ghost use Rattle.std.specs.Prelude.{◌≡◌, ◌+◌, ◌≤◌, min};
-ghost use Rattle.std.specs.List.{list_all};
+ghost use Rattle.std.specs.{Prelude.{◌≡◌, ◌+◌, ◌≤◌, min}, List.list_all};
 ghost use Rattle.ir_model.specs.Edgelist.{is_digit, value_of};
 
 fn is_digit(byte: u8) -> bool

@@ -1,7 +1,6 @@
 //! One line of a weighted edge list.
 ghost use Rattle.std.specs.Prelude.{◌≡◌, Ok, Some, ◌∷◌, true, OnOk, IfErr};
-ghost use Rattle.ir_model.specs.Graph.{is_name, is_weight};
-ghost use Rattle.ir_model.specs.Text.{words_of};
+ghost use Rattle.ir_model.specs.{Graph.{is_name, is_weight}, Text.words_of};
 ghost use Rattle.ir_adjlist.specs.Steps.{edge_run, ending_run, edge_line_run, Fails};
 
 use crate::{rows, scan, weights};

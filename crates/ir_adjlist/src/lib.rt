@@ -6,12 +6,10 @@
 #![tactic(auto)]
 
 ghost use Rattle.std.specs.Prelude.{◌≡◌, [], None, IfOk, IfErr};
-ghost use Rattle.ir_model.specs.Made.{graph_of};
-ghost use Rattle.ir_model.specs.Text.{lines, names_in, pairs_in, first_fault};
+ghost use Rattle.ir_model.specs.{Made.graph_of, Text.{lines, names_in, pairs_in, first_fault}};
 ghost use Rattle.ir_model.specs.Edgelist.{edges_in, graph_of_edges, first_edge_fault};
-ghost use Rattle.ir_adjlist.specs.RoundTrip.{IsReadAsAdjlist, IsReadAsEdgelist};
-ghost use Rattle.ir_adjlist.specs.Told.{Tells, told_at};
-ghost use Rattle.ir_adjlist.specs.Written.{adjlist_text, edgelist_text};
+ghost use Rattle.ir_adjlist.specs.{RoundTrip.{IsReadAsAdjlist, IsReadAsEdgelist}, Told.{Tells, told_at}};
+ghost use Rattle.ir_adjlist.specs.{Written.{adjlist_text, edgelist_text}, Told.text_code};
 
 pub mod digits;
 mod edges;
@@ -34,8 +32,6 @@ pub struct TextError {
 }
 
 impl TextError {
-    ghost use Rattle.ir_adjlist.specs.Told.{text_code};
-
     /// The number of the kind, from 1 for `BadByte` to 7 for `NoMemory`. For users of the library.
     pub fn code(self) -> u8
         ensures { result ≡ text_code self.kind }

@@ -1,8 +1,6 @@
 //! One line of an adjacency list.
-ghost use Rattle.std.specs.Prelude.{◌≡◌, List, ◌∷◌, Ok, true, OnOk, IfErr};
-ghost use Rattle.std.specs.List.{list_all};
-ghost use Rattle.ir_model.specs.Graph.{Name, is_name};
-ghost use Rattle.ir_model.specs.Text.{words_of};
+ghost use Rattle.std.specs.{Prelude.{◌≡◌, List, ◌∷◌, Ok, true, OnOk, IfErr}, List.list_all};
+ghost use Rattle.ir_model.specs.{Graph.{Name, is_name}, Text.words_of};
 ghost use Rattle.ir_adjlist.specs.Steps.{targets_run, row_run, line_run, Fails, fault_of};
 
 use crate::scan;

@@ -1,6 +1,5 @@
 //! The weight that a word spells.
-ghost use Rattle.std.specs.Prelude.{◌≡◌, ◌+◌, ◌==◌, min};
-ghost use Rattle.std.specs.List.{list_all};
+ghost use Rattle.std.specs.{Prelude.{◌≡◌, ◌+◌, ◌==◌, min}, List.list_all};
 ghost use Rattle.ir_model.specs.declared.TheConstants.{MAX_WEIGHT};
 ghost use Rattle.ir_model.specs.Edgelist.{value_of, is_zero_fraction, whole, is_decimal, spelled_weight};
 

@@ -1,8 +1,6 @@
 //! The texts that a graph is written as, line by line.
 ghost use Rattle.std.specs.Prelude.{ℕ, ◌≡◌, ◌≤◌, ◌++◌, ◌∷◌, [], length, flat_map, filter, map, option_map, slice_get, take, bytes_eq, OnOk};
-ghost use Rattle.std.specs.List.{IsDistinct};
-ghost use Rattle.std.specs.Map.{keys_of};
-ghost use Rattle.std.specs.Option.{option_to_list};
+ghost use Rattle.std.specs.{List.IsDistinct, Map.keys_of, Option.option_to_list};
 ghost use Rattle.ir_model.specs.Graph.{Name, among, names, neighbors, weight_of};
 ghost use Rattle.ir_adjlist.specs.Written.{row_text, edge_text};
 ghost use Rattle.ir_adjlist.specs.Writing.{spaced_words, unwritten, node_row, unwritten_links, node_edges};

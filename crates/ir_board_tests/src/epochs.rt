@@ -1,9 +1,8 @@
 //! The registry and the board over the path a, b, c, whose two links have weight 1.
 ghost use Rattle.std.specs.Prelude.{◌≡◌, ◌≤◌, ◌<◌, length, All, IfOk, IfSome};
 ghost use Rattle.ir_epochs.specs.Entries.{opening_links, topology_of, registry_of, IsSameOpening};
-ghost use Rattle.ir_epochs.specs.Handles.{published, writer_board, reader_board, receipt_board};
-ghost use Rattle.ir_epochs.specs.Over.{IsOver};
 ghost use Rattle.ir_epochs.specs.Stamps.{IsOf, knows, registry_name};
+ghost use Rattle.ir_epochs.specs.{Handles.{published, writer_board, reader_board, receipt_board}, Over.IsOver};
 
 use ir_core::Board;
 use ir_epochs::{BoardReader, BoardWriter, Change, Receipt, RegisterError, Registry, Stamp, board};

@@ -4,7 +4,7 @@
 use ir_graph::Graph;
 use ir_model::Kind;
 use ir_numbering::check_order;
-use ir_plan::{Plan, PlanError, tour_plan};
+use ir_plan::{LabelOrder, Plan, PlanError, Unwatched, plan_in_order};
 use ir_tables::Topology;
 use std::alloc::Global;
 use std::thread::Threads;
@@ -28,6 +28,26 @@ fn chain(alloc: Global, nodes: u16) -> Option<Topology> {
     Topology::of(alloc, &graph).ok()
 }
 
+/// The plan of shortest ways that a tour from a root labels.
+fn toured(
+    rt: &(impl Threads + Sync),
+    alloc: Global,
+    topology: Topology,
+    root: u16,
+    most: Option<usize>,
+) -> Result<Plan, (PlanError, Topology)> {
+    plan_in_order(
+        rt,
+        alloc,
+        topology,
+        LabelOrder::Tour,
+        Kind::Shortest,
+        root,
+        most,
+        &Unwatched,
+    )
+}
+
 /// How many starts a plan of a chain has by depth-first numbers, and by a tour; both made in at most so many threads. A
 /// plain program in another language counted the same.
 fn starts(
@@ -38,7 +58,7 @@ fn starts(
 ) -> Option<(usize, usize)> {
     let (first, second) = (chain(alloc, nodes)?, chain(alloc, nodes)?);
     let plan = Plan::build_in_threads(rt, alloc, first, Kind::Shortest, 5, most).ok()?;
-    let tour = tour_plan(rt, alloc, second, Kind::Shortest, 5, most).ok()?;
+    let tour = toured(rt, alloc, second, 5, most).ok()?;
     Some((plan.starts(), tour.starts()))
 }
 
@@ -55,7 +75,7 @@ fn comes_back(rt: &(impl Threads + Sync), alloc: Global, is_tour: bool) -> Optio
     let nodes = topology.nodes();
     let root = nodes as u16;
     let made = if is_tour {
-        tour_plan(rt, alloc, topology, Kind::Shortest, root, None)
+        toured(rt, alloc, topology, root, None)
     } else {
         Plan::build_in_threads(rt, alloc, topology, Kind::Shortest, root, None)
     };
@@ -91,7 +111,16 @@ fn over_an_order(rt: &(impl Threads + Sync), alloc: Global, is_in_threads: bool)
         return None;
     };
     if is_in_threads {
-        Plan::build_numbered_in_threads(rt, alloc, topology, Kind::Compact, order, Some(2)).ok()
+        Plan::build_numbered_watched(
+            rt,
+            alloc,
+            topology,
+            Kind::Compact,
+            order,
+            Some(2),
+            &Unwatched,
+        )
+        .ok()
     } else {
         Plan::build_numbered(alloc, topology, Kind::Compact, order).ok()
     }

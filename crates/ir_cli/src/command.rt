@@ -9,14 +9,14 @@ use std::alloc::{AllocError, Global};
 enum Takes {
     /// Nothing: it is a flag.
     Nothing,
-    /// Any word.
-    Word,
+    /// Any word, which help calls so.
+    Word(&'static str),
     /// One of these words.
-    WordOf(&'static [&'static str]),
+    WordOf(&'static str, &'static [&'static str]),
     /// A number from one to another.
-    Number(u16, u16),
+    Number(&'static str, u16, u16),
     /// The name of a file, which stands by itself.
-    File,
+    File(&'static str),
 }
 
 /// Whether an argument is to be given.
@@ -36,19 +36,16 @@ enum Need {
 #[derive(Clone, Copy)]
 struct Taken {
     name: &'static str,
-    value: &'static str,
     help: &'static str,
     takes: Takes,
     need: Need,
 }
 
-/// A subcommand: what stands in its help, and its arguments behind those that all have. A usage that is empty is the one that
-/// follows from the arguments.
+/// A subcommand: what stands in its help, and its arguments behind those that all have.
 #[derive(Clone, Copy)]
 struct Spelled {
     name: &'static str,
     about: &'static str,
-    usage: &'static str,
     lines: &'static str,
     args: &'static [Taken],
     own: &'static [Taken],
@@ -106,49 +103,42 @@ Lines of a script:
 const COMMON: [Taken; 7] = [
     Taken {
         name: "format",
-        value: "FORMAT",
         help: "The format of the topology; edgelist by default for a file that ends in .edgelist or .wel, else adjlist",
-        takes: Takes::WordOf(&["adjlist", "edgelist"]),
+        takes: Takes::WordOf("FORMAT", &["adjlist", "edgelist"]),
         need: Need::Free,
     },
     Taken {
         name: "kind",
-        value: "KIND",
         help: "How the first plan routes",
-        takes: Takes::WordOf(&["tree", "shortest", "compact"]),
+        takes: Takes::WordOf("KIND", &["tree", "shortest", "compact"]),
         need: Need::Else("shortest"),
     },
     Taken {
         name: "root",
-        value: "NAME",
         help: "The root of the first plan; the first node by default",
-        takes: Takes::Word,
+        takes: Takes::Word("NAME"),
         need: Need::Free,
     },
     Taken {
         name: "capacity",
-        value: "C",
         help: "The capacity of each channel and inbox",
-        takes: Takes::Number(1, MAX_CAPACITY as u16),
+        takes: Takes::Number("C", 1, MAX_CAPACITY as u16),
         need: Need::Else("16"),
     },
     Taken {
         name: "packets",
-        value: "M",
         help: "The most packets",
-        takes: Takes::Number(1, MAX_PACKETS as u16),
+        takes: Takes::Number("M", 1, MAX_PACKETS as u16),
         need: Need::Else("4096"),
     },
     Taken {
         name: "explain",
-        value: "",
         help: "Sentences behind the lines of faults, on standard error: where, what and why",
         takes: Takes::Nothing,
         need: Need::Free,
     },
     Taken {
         name: "no-explain",
-        value: "",
         help: "No such sentences, on a terminal either",
         takes: Takes::Nothing,
         need: Need::Free,
@@ -159,23 +149,20 @@ const COMMON: [Taken; 7] = [
 const SHOWN: [Taken; 3] = [
     Taken {
         name: "threads",
-        value: "T",
         help: "The most threads that make rows; as many as suit the processors by default",
-        takes: Takes::Number(1, MAX_THREADS),
+        takes: Takes::Number("T", 1, MAX_THREADS),
         need: Need::Free,
     },
     Taken {
         name: "numbering",
-        value: "NUMBERING",
         help: "How nodes are numbered: depth-first, tour (for fewer intervals), or a file with a node a line, in order",
-        takes: Takes::Word,
+        takes: Takes::Word("NUMBERING"),
         need: Need::Else("depth-first"),
     },
     Taken {
         name: "topology",
-        value: "TOPOLOGY",
         help: "The file of the topology, or - for standard input",
-        takes: Takes::File,
+        takes: Takes::File("TOPOLOGY"),
         need: Need::Must,
     },
 ];
@@ -184,16 +171,14 @@ const SHOWN: [Taken; 3] = [
 const ENDS: [Taken; 2] = [
     Taken {
         name: "from",
-        value: "A",
         help: "The node that the walk goes from",
-        takes: Takes::Word,
+        takes: Takes::Word("A"),
         need: Need::Must,
     },
     Taken {
         name: "to",
-        value: "B",
         help: "The node that the walk goes to",
-        takes: Takes::Word,
+        takes: Takes::Word("B"),
         need: Need::Must,
     },
 ];
@@ -202,16 +187,14 @@ const ENDS: [Taken; 2] = [
 const DRAWN: [Taken; 2] = [
     Taken {
         name: "from",
-        value: "A",
         help: "The node from which a walk is drawn in bold",
-        takes: Takes::Word,
+        takes: Takes::Word("A"),
         need: Need::Beside("to"),
     },
     Taken {
         name: "to",
-        value: "B",
         help: "The node to which it goes",
-        takes: Takes::Word,
+        takes: Takes::Word("B"),
         need: Need::Beside("from"),
     },
 ];
@@ -219,7 +202,6 @@ const DRAWN: [Taken; 2] = [
 /// The flag of prefixes.
 const PREFIXED: [Taken; 1] = [Taken {
     name: "disjoint",
-    value: "",
     help: "Prefixes of which no two of a node hold one label",
     takes: Takes::Nothing,
     need: Need::Free,
@@ -228,18 +210,16 @@ const PREFIXED: [Taken; 1] = [Taken {
 /// How the nodes of the plans of a run are numbered.
 const RUN_NUMBERING: Taken = Taken {
     name: "numbering",
-    value: "NUMBERING",
     help: "How each plan's nodes are numbered, from its root; a tour is for fewer intervals",
-    takes: Takes::WordOf(&["depth-first", "tour"]),
+    takes: Takes::WordOf("NUMBERING", &["depth-first", "tour"]),
     need: Need::Else("depth-first"),
 };
 
 /// The script of a run.
 const SCRIPT: Taken = Taken {
     name: "script",
-    value: "SCRIPT",
     help: "The file of the script",
-    takes: Takes::File,
+    takes: Takes::File("SCRIPT"),
     need: Need::Free,
 };
 
@@ -248,16 +228,14 @@ const PLAYED: [Taken; 4] = [
     RUN_NUMBERING,
     Taken {
         name: "restamps",
-        value: "R",
         help: "The most restamps of a packet; above 0 the trace has its segments",
-        takes: Takes::Number(0, MAX_RESTAMPS as u16),
+        takes: Takes::Number("R", 0, MAX_RESTAMPS as u16),
         need: Need::Else("0"),
     },
     Taken {
         name: "topology",
-        value: "TOPOLOGY",
         help: "The file of the topology, or - for standard input with both texts, cut at the line %%",
-        takes: Takes::File,
+        takes: Takes::File("TOPOLOGY"),
         need: Need::Must,
     },
     SCRIPT,
@@ -268,17 +246,15 @@ const CHECKED: [Taken; 4] = [
     RUN_NUMBERING,
     Taken {
         name: "topology",
-        value: "TOPOLOGY",
         help: "The file of the topology, or - for standard input with all three texts, cut at the first two lines %%",
-        takes: Takes::File,
+        takes: Takes::File("TOPOLOGY"),
         need: Need::Must,
     },
     SCRIPT,
     Taken {
         name: "trace",
-        value: "TRACE",
         help: "The file of the trace",
-        takes: Takes::File,
+        takes: Takes::File("TRACE"),
         need: Need::Free,
     },
 ];
@@ -288,7 +264,6 @@ static SUBCOMMANDS: [Spelled; 8] = [
     Spelled {
         name: "plan",
         about: "Prints the labels and rows of a topology's nodes",
-        usage: "",
         lines: "",
         args: &SHOWN,
         own: &[],
@@ -296,7 +271,6 @@ static SUBCOMMANDS: [Spelled; 8] = [
     Spelled {
         name: "walk",
         about: "Prints the walk from one node to another, and the interval by which each node sends on",
-        usage: "",
         lines: "",
         args: &SHOWN,
         own: &ENDS,
@@ -304,7 +278,6 @@ static SUBCOMMANDS: [Spelled; 8] = [
     Spelled {
         name: "stats",
         about: "Prints the figures of a topology's plan: its starts, its greatest row, its walks",
-        usage: "",
         lines: "",
         args: &SHOWN,
         own: &[],
@@ -312,7 +285,6 @@ static SUBCOMMANDS: [Spelled; 8] = [
     Spelled {
         name: "draw",
         about: "Prints a drawing of a topology's plan for Graphviz",
-        usage: "",
         lines: "",
         args: &SHOWN,
         own: &DRAWN,
@@ -320,7 +292,6 @@ static SUBCOMMANDS: [Spelled; 8] = [
     Spelled {
         name: "prefixes",
         about: "Prints the fewest prefixes of labels by which each node sends on, for longest prefix match",
-        usage: "",
         lines: PREFIXES_LINES,
         args: &SHOWN,
         own: &PREFIXED,
@@ -328,7 +299,6 @@ static SUBCOMMANDS: [Spelled; 8] = [
     Spelled {
         name: "sim",
         about: "Plays the lines of a script, and prints what became of its packets",
-        usage: "route sim [OPTIONS] <TOPOLOGY> <SCRIPT>\n       route sim [OPTIONS] -",
         lines: SCRIPT_LINES,
         args: &PLAYED,
         own: &[],
@@ -336,7 +306,6 @@ static SUBCOMMANDS: [Spelled; 8] = [
     Spelled {
         name: "live",
         about: "Plays the lines of a script while each node runs in a thread of its own, and prints what became of its packets",
-        usage: "route live [OPTIONS] <TOPOLOGY> <SCRIPT>\n       route live [OPTIONS] -",
         lines: LIVE_LINES,
         args: &PLAYED,
         own: &[],
@@ -344,7 +313,6 @@ static SUBCOMMANDS: [Spelled; 8] = [
     Spelled {
         name: "check",
         about: "Checks the rows of a trace against the walks that the script's plans prescribe",
-        usage: "route check [OPTIONS] <TOPOLOGY> <SCRIPT> <TRACE>\n       route check [OPTIONS] -",
         lines: "",
         args: &CHECKED,
         own: &[],
@@ -355,22 +323,22 @@ static SUBCOMMANDS: [Spelled; 8] = [
 fn named<'a>(alloc: Global, taken: &Taken) -> Arg<'a> {
     let arg = Arg::new(alloc, taken.name).help(taken.help);
     match taken.takes {
-        Takes::File => arg.value_name(taken.value),
+        Takes::File(value) => arg.value_name(value),
         Takes::Nothing => arg.long(taken.name).action(ArgAction::SetTrue),
-        Takes::Word | Takes::WordOf(_) | Takes::Number(_, _) => arg
-            .long(taken.name)
-            .value_name(taken.value),
+        Takes::Word(value) | Takes::WordOf(value, _) | Takes::Number(value, _, _) => {
+            arg.long(taken.name).value_name(value)
+        }
     }
 }
 
 /// The same with the values that it takes.
 fn valued<'a>(arg: Arg<'a>, taken: &Taken) -> Arg<'a> {
     match taken.takes {
-        Takes::WordOf(words) => arg.value_parser(words),
-        Takes::Number(least, most) => arg.value_parser(clap::value_parser!(u16).range(
+        Takes::WordOf(_, words) => arg.value_parser(words),
+        Takes::Number(_, least, most) => arg.value_parser(clap::value_parser!(u16).range(
             least as i64..=most as i64,
         )),
-        Takes::Nothing | Takes::Word | Takes::File => arg,
+        Takes::Nothing | Takes::Word(_) | Takes::File(_) => arg,
     }
 }
 
@@ -398,28 +366,28 @@ fn with_args<'a>(
     Ok(command)
 }
 
-/// A command with a usage of its own, if there is one.
-fn used<'a>(command: Command<'a>, usage: &'static str) -> Command<'a> {
-    if usage.is_empty() {
-        command
-    } else {
-        command.override_usage(usage)
-    }
-}
-
-/// A command with lines behind its help, if there are any.
-fn lined<'a>(command: Command<'a>, lines: &'static str) -> Command<'a> {
-    if lines.is_empty() {
-        command
-    } else {
-        command.after_help(lines)
+/// How the words of a subcommand of several texts are to look; nothing for another, where it follows from the arguments.
+pub(crate) fn usage_of(name: &str) -> &'static str {
+    match name {
+        "sim" => "route sim [OPTIONS] <TOPOLOGY> <SCRIPT>\n       route sim [OPTIONS] -",
+        "live" => "route live [OPTIONS] <TOPOLOGY> <SCRIPT>\n       route live [OPTIONS] -",
+        "check" =>
+            "route check [OPTIONS] <TOPOLOGY> <SCRIPT> <TRACE>\n       route check [OPTIONS] -",
+        _ => "",
     }
 }
 
 /// What stands in the help of a subcommand.
 fn told<'a>(alloc: Global, spelled: &Spelled) -> Command<'a> {
     let command = Command::new(alloc, spelled.name).about(spelled.about);
-    lined(used(command, spelled.usage), spelled.lines)
+    let command = match usage_of(spelled.name) {
+        "" => command,
+        usage => command.override_usage(usage),
+    };
+    match spelled.lines {
+        "" => command,
+        lines => command.after_help(lines),
+    }
 }
 
 /// A subcommand.

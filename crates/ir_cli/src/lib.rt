@@ -3,11 +3,23 @@
 #![tactic(auto)]
 
 mod command;
-pub mod cut;
-pub mod ending;
-pub mod lines;
-pub mod open;
-pub mod read;
-pub mod reply;
-pub mod words;
-pub mod write;
+mod ending;
+mod lines;
+mod open;
+mod parting;
+mod read;
+mod reply;
+mod words;
+mod write;
+
+pub use ending::{Ending, status_of};
+pub use lines::{
+    finding_line, numbering_line, ok_line, opening_line, push_reply_line, script_line,
+    too_large_line, topology_line, unreadable_line,
+};
+pub use open::{label_order, no_root, opening_of, read_topology, root_of};
+pub use parting::cut;
+pub use read::{Source, Unread, read_inputs};
+pub use reply::{Reply, tell_unread, write_reply};
+pub use words::{Format, Numbering, Sub, Words, WordsError, read_words};
+pub use write::tell;

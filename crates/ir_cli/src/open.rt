@@ -1,8 +1,7 @@
 //! The graph of a topology text, its root, and what a run over it is opened with.
 ghost use Rattle.std.specs.Prelude.{◌≡◌, ◌<◌, None, IfOk, IfErr, IfSome, OnOk, length, string_bytes};
 ghost use Rattle.std.specs.Option.{option_map};
-ghost use Rattle.ir_model.specs.Graph.{names};
-ghost use Rattle.ir_model.specs.Text.{lines};
+ghost use Rattle.ir_model.specs.{Graph.names, Text.lines};
 ghost use Rattle.ir_adjlist.specs.Told.{Tells};
 ghost use Rattle.ir_cli.specs.Openings.{topology_fault, topology_graph, root_in, no_root, label_order, opening_by};
 

@@ -1,8 +1,6 @@
 //! What the inputs come to, and writing it.
 ghost use Rattle.std.specs.Prelude.{◌≡◌};
-ghost use Rattle.ir_cli.specs.Replied.{RepliesAs, UnreadAs};
-ghost use Rattle.ir_cli.specs.Replies.{answer_of};
-ghost use Rattle.ir_cli.specs.Told.{Sends, Tells};
+ghost use Rattle.ir_cli.specs.{Replied.{RepliesAs, UnreadAs}, Replies.answer_of, Told.{Sends, Tells}};
 
 use crate::ending::Ending;
 use crate::lines::{too_large_line, unreadable_line};

@@ -1,9 +1,9 @@
 //! The words of the command line.
 
 ghost use Rattle.std.specs.Prelude.{◌≡◌, true, None, IfOk};
-ghost use Rattle.ir_cli.specs.Words.{format_of_name, FitsItsKind};
+ghost use Rattle.ir_cli.specs.Words.{format_of_name, FitsItsKind, is_one_input, has_order, words_code};
 
-use crate::command::route_command;
+use crate::command::{route_command, usage_of};
 use clap::ArgMatches;
 use clap::error::ErrorKind;
 use ir_model::Kind;
@@ -74,14 +74,27 @@ pub struct Words {
 }
 
 impl Words {
-    ghost use Rattle.std.specs.Prelude.{◌≡◌};
-    ghost use Rattle.ir_cli.specs.Words.{is_one_input, has_order};
-
     /// Whether the files are the one word `-`.
     pub fn is_one_input(&self) -> bool
         ensures { result ≡ is_one_input self.now }
     {
         self.files.len() == 1 && self.files[0].as_str() == "-"
+    }
+
+    /// The name of the file at a place; `-` where there is none.
+    pub fn file(&self, place: usize) -> &str {
+        match self.files.get(place) {
+            Some(name) => name.as_str(),
+            None => "-",
+        }
+    }
+
+    /// The name of the file of an order of nodes; `-` where there is none.
+    pub fn order_file(&self) -> &str {
+        match &self.numbering {
+            Numbering::File(name) => name.as_str(),
+            Numbering::DepthFirst | Numbering::Tour => "-",
+        }
     }
 
     /// Whether the numbering is that of a file.
@@ -107,9 +120,6 @@ pub enum WordsError {
 }
 
 impl WordsError {
-    ghost use Rattle.std.specs.Prelude.{◌≡◌};
-    ghost use Rattle.ir_cli.specs.Words.{words_code};
-
     /// Its number: 1 for `Usage`, 2 for `Help`, 3 for `NoMemory`.
     pub fn code(&self) -> u8
         ensures { result ≡ words_code self.now }
@@ -134,51 +144,6 @@ impl From<AllocError> for WordsError {
     }
 }
 
-static SIM_FILES: &str = "\
-error: 'route sim' takes the files of a topology and of a script, or '-' alone
-
-Usage: route sim [OPTIONS] <TOPOLOGY> <SCRIPT>
-       route sim [OPTIONS] -
-
-For more information, try '--help'.
-";
-
-static LIVE_FILES: &str = "\
-error: 'route live' takes the files of a topology and of a script, or '-' alone
-
-Usage: route live [OPTIONS] <TOPOLOGY> <SCRIPT>
-       route live [OPTIONS] -
-
-For more information, try '--help'.
-";
-
-static CHECK_FILES: &str = "\
-error: 'route check' takes the files of a topology, of a script and of a trace, or '-' alone
-
-Usage: route check [OPTIONS] <TOPOLOGY> <SCRIPT> <TRACE>
-       route check [OPTIONS] -
-
-For more information, try '--help'.
-";
-
-static TREE_NUMBERING: &str = "\
-error: '--kind tree' takes '--numbering depth-first' alone
-
-For more information, try '--help'.
-";
-
-static ROOT_NUMBERING: &str = "\
-error: '--root' does not go with a file's '--numbering', of which the first node is the root
-
-For more information, try '--help'.
-";
-
-static INPUT_NUMBERING: &str = "\
-error: '--numbering' takes 'depth-first', 'tour' or a file, not '-'
-
-For more information, try '--help'.
-";
-
 /// An error of the parser as the text to print.
 fn refused(alloc: Global, error: &clap::Error) -> WordsError {
     if error.kind() == ErrorKind::OutOfMemory {
@@ -188,16 +153,6 @@ fn refused(alloc: Global, error: &clap::Error) -> WordsError {
         Err(_) => WordsError::NoMemory,
         Ok(text) if error.use_stderr() => WordsError::Usage(text),
         Ok(text) => WordsError::Help(text),
-    }
-}
-
-/// The most restamps that are asked for.
-fn restamps_of(found: &ArgMatches<'_>) -> u8 {
-    match found.get_str("restamps") {
-        Some("1") => 1,
-        Some("2") => 2,
-        Some("3") => 3,
-        _ => 0,
     }
 }
 
@@ -251,6 +206,7 @@ fn words_of(alloc: Global, sub: Sub, found: &ArgMatches<'_>) -> Result<Words, Al
         Some("compact") => Kind::Compact,
         _ => Kind::Shortest,
     };
+    let restamps = found.get_one::<usize>("restamps").unwrap_or(0);
     let root = word_of(alloc, found, "root")?;
     let from = word_of(alloc, found, "from")?;
     let to = word_of(alloc, found, "to")?;
@@ -268,7 +224,7 @@ fn words_of(alloc: Global, sub: Sub, found: &ArgMatches<'_>) -> Result<Words, Al
         numbering: numbering_of(alloc, found)?,
         capacity: found.get_one::<usize>("capacity").unwrap_or(16),
         packets: found.get_one::<usize>("packets").unwrap_or(4096),
-        restamps: restamps_of(found),
+        restamps: u8::try_from(restamps).unwrap_or(0),
         threads: found.get_one::<usize>("threads"),
         from,
         to,
@@ -296,38 +252,55 @@ fn fits_its_kind(words: &Words) -> bool
     !words.has_order() || words.kind != Kind::Tree
 }
 
-/// What is wrong with the numbering of the words, as a text for standard error, if anything is.
+/// That a tree takes another numbering than depth first.
+static TREE_NUMBERING: &str = "'--kind tree' takes '--numbering depth-first' alone";
+
+/// What is wrong with the numbering of the words, if anything is.
 fn numbering_fault(words: &Words) -> Option<&'static str> {
     match &words.numbering {
-        Numbering::DepthFirst => None,
         Numbering::Tour if words.kind == Kind::Tree => Some(TREE_NUMBERING),
-        Numbering::Tour => None,
-        Numbering::File(name) if name.as_str() == "-" => Some(INPUT_NUMBERING),
-        Numbering::File(_) if words.root.is_some() => Some(ROOT_NUMBERING),
-        Numbering::File(_) => None,
+        Numbering::File(name) if name.as_str() == "-" => {
+            Some("'--numbering' takes 'depth-first', 'tour' or a file, not '-'")
+        }
+        Numbering::File(_) if words.root.is_some() => {
+            Some(
+                "'--root' does not go with a file's '--numbering', of which the first node is the root",
+            )
+        }
+        Numbering::DepthFirst | Numbering::Tour | Numbering::File(_) => None,
     }
 }
 
-/// The subcommand of a name, and what is told of a number of files that it does not take.
-fn sub_of(name: &str) -> (Sub, &'static str) {
+/// The subcommand of a name.
+fn sub_of(name: &str) -> Sub {
     match name {
-        "sim" => (Sub::Sim, SIM_FILES),
-        "live" => (Sub::Live, LIVE_FILES),
-        "check" => (Sub::Check, CHECK_FILES),
-        "walk" => (Sub::Walk, SIM_FILES),
-        "stats" => (Sub::Stats, SIM_FILES),
-        "draw" => (Sub::Draw, SIM_FILES),
-        "prefixes" => (Sub::Prefixes, SIM_FILES),
-        _ => (Sub::Plan, SIM_FILES),
+        "sim" => Sub::Sim,
+        "live" => Sub::Live,
+        "check" => Sub::Check,
+        "walk" => Sub::Walk,
+        "stats" => Sub::Stats,
+        "draw" => Sub::Draw,
+        "prefixes" => Sub::Prefixes,
+        _ => Sub::Plan,
     }
 }
 
-/// What is wrong with words, as a text for standard error, if anything is. Of files it is the given text.
-fn fault_of(words: &Words, files: &'static str) -> Option<&'static str>
+/// What a subcommand of several texts takes.
+fn files_wanted(sub: Sub) -> &'static str {
+    match sub {
+        Sub::Live => "'route live' takes the files of a topology and of a script, or '-' alone",
+        Sub::Check =>
+            "'route check' takes the files of a topology, of a script and of a trace, or '-' alone",
+        _ => "'route sim' takes the files of a topology and of a script, or '-' alone",
+    }
+}
+
+/// What is wrong with words, if anything is.
+fn fault_of(words: &Words) -> Option<&'static str>
     ensures { result ≡ None → FitsItsKind words.now }
 {
     if !has_its_files(words) {
-        return Some(files);
+        return Some(files_wanted(words.sub));
     }
     if let Some(fault) = numbering_fault(words) {
         return Some(fault);
@@ -339,15 +312,24 @@ fn fault_of(words: &Words, files: &'static str) -> Option<&'static str>
     }
 }
 
+/// The text for standard error that says what is wrong with words of a subcommand of this name.
+fn fault_text(alloc: Global, words: &Words, name: &str, fault: &str) -> Result<String, AllocError> {
+    let mut text = format!(in alloc; "error: {fault}\n\n")?;
+    if !has_its_files(words) {
+        write!(text, "Usage: {}\n\n", usage_of(name))?;
+    }
+    text.push_str("For more information, try '--help'.\n")?;
+    Ok(text)
+}
+
 /// The words of a subcommand's name and its matches, if nothing is wrong with them.
 fn words_found(alloc: Global, name: &str, found: &ArgMatches<'_>) -> Result<Words, WordsError>
     ensures { IfOk result (λ words. FitsItsKind words) }
 {
-    let (sub, files) = sub_of(name);
-    let words = words_of(alloc, sub, found)?;
-    match fault_of(&words, files) {
+    let words = words_of(alloc, sub_of(name), found)?;
+    match fault_of(&words) {
         None => Ok(words),
-        Some(fault) => Err(WordsError::Usage(String::from_str(alloc, fault)?)),
+        Some(fault) => Err(WordsError::Usage(fault_text(alloc, &words, name, fault)?)),
     }
 }
 

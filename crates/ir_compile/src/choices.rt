@@ -1,12 +1,10 @@
 //! One port for each label, of the several that it may take, such that the fewest intervals tell the ports.
 
 ghost use Rattle.std.specs.Prelude.{◌≡◌, ◌≢◌, ◌<◌, ◌≤◌, ◌↔◌, ℕ, All, List, Option, length, IsTrue, IfOk, OnOk};
-ghost use Rattle.ir_model.specs.Row.{intervals_of};
-ghost use Rattle.ir_model.specs.Compiled.{IsCanonical};
+ghost use Rattle.ir_model.specs.{Row.intervals_of, Compiled.IsCanonical};
 ghost use Rattle.ir_model.specs.Choices.{FitsChoices, IsFewestOfChoices, AreChosen};
 ghost use Rattle.ir_model.proofs.Steps.{AreLongest, AreSteps, HaveRoundPorts};
-ghost use Rattle.ir_compile.specs.Allowed.{rows_of, Allows, IsChoiceTable};
-ghost use Rattle.ir_compile.specs.Runs.{HasLabels};
+ghost use Rattle.ir_compile.specs.{Allowed.{rows_of, Allows, IsChoiceTable}, Runs.HasLabels};
 
 use crate::error::CompileError;
 use crate::round::{first_near, label_at, round_ports};

@@ -1,6 +1,5 @@
 ghost use Rattle.std.specs.Prelude.{◌≡◌};
-ghost use Rattle.ir_compile.specs.Code.{compile_code};
-ghost use Rattle.ir_compile.specs.declared.error.CompileError.TheVariants.{NoMemory};
+ghost use Rattle.ir_compile.specs.{Code.compile_code, declared.error.CompileError.TheVariants.NoMemory};
 
 use std::alloc::AllocError;
 use thiserror::Error;

@@ -1,8 +1,7 @@
 //! The round by the longest runs: how many there are from a label on, where they are fewest, and the ports that they give.
 
 ghost use Rattle.std.specs.Prelude.{◌≡◌, ◌≢◌, ◌<◌, ◌≤◌, ◌+◌, ℕ, None, Some, length, IfOk, slice_index};
-ghost use Rattle.ir_model.specs.Compiled.{port_to};
-ghost use Rattle.ir_model.specs.Choices.{label_from};
+ghost use Rattle.ir_model.specs.{Compiled.port_to, Choices.label_from};
 ghost use Rattle.ir_model.proofs.Steps.{AreSteps, Steps, HaveStepPorts, IsFirstNear, IsPlaceAfter};
 
 use std::alloc::{AllocError, Global};

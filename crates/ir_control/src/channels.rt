@@ -1,8 +1,7 @@
 //! The channels of a net.
 ghost use Rattle.std.specs.Prelude.{◌≡◌, ℕ, ◌+◌, ◌^◌, ◌<◌, IfOk, length, slice_index};
 ghost use Rattle.ir_model.specs.Topology.{node_count};
-ghost use Rattle.ir_control.specs.Places.{offset, way_count, IsFilled, IsFilledTo};
-ghost use Rattle.ir_control.specs.Wired.{IsNetChannel, AreInboxes};
+ghost use Rattle.ir_control.specs.{Places.{offset, way_count, IsFilled, IsFilledTo}, Wired.{IsNetChannel, AreInboxes}};
 
 use ir_epochs::Stamp;
 use ir_links::Channel;

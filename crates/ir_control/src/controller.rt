@@ -1,14 +1,11 @@
 //! The controller: it registers plans and changes the board.
 ghost use Rattle.std.specs.Prelude.{◌≡◌, ◌⊎◌, ◌+◌, ◌<◌, ◌≤◌, ◌∷◌, ◌++◌, [], IfOk, MatchResult, Some, None, Err, length};
 ghost use Rattle.std.specs.Arc.{arc_value};
-ghost use Rattle.ir_model.specs.Topology.{node_count};
-ghost use Rattle.ir_model.specs.Walk.{IsDisconnected};
-ghost use Rattle.ir_core.specs.declared.TheConstants.{MAX_LINKS, MAX_EPOCHS};
-ghost use Rattle.ir_core.specs.Meaning.{IsMade};
+ghost use Rattle.ir_model.specs.{Topology.node_count, Walk.IsDisconnected};
+ghost use Rattle.ir_core.specs.{declared.TheConstants.{MAX_LINKS, MAX_EPOCHS, MAX_CHANGES}, Meaning.IsMade};
 ghost use Rattle.ir_epochs.specs.Stamps.{IsOf, knows, registry_name};
 ghost use Rattle.ir_epochs.specs.Entries.{registry_of, topology_of, opening_links, board_of, changed, MayComeNext};
 ghost use Rattle.ir_epochs.specs.declared.entry.Entry.TheVariants.{Opened, Changed};
-ghost use Rattle.ir_core.specs.declared.TheConstants.{MAX_CHANGES};
 ghost use Rattle.ir_epochs.specs.Handles.{published, known, writer_board, reader_board, told, receipt_board};
 ghost use mathlib.Core.List.{IsPrefix};
 

@@ -1,9 +1,7 @@
 //! All nodes' ends in rows.
 ghost use Rattle.std.specs.Prelude.{◌≡◌, ◌≤◌, ◌<◌, ◌+◌, ◌++◌, ◌∷◌, [], All, Some, length, map, sum_by, vec_len, vec_capacity};
 ghost use Rattle.ir_model.specs.Topology.{node_count};
-ghost use Rattle.ir_control.specs.Places.{way_count};
-ghost use Rattle.ir_control.specs.Rowed.{AreEndRows, AreSlotsFrom, AreWeighed};
-ghost use Rattle.ir_control.specs.Told.{IsOutcomeIn};
+ghost use Rattle.ir_control.specs.{Places.way_count, Rowed.{AreEndRows, AreSlotsFrom, AreWeighed}, Told.IsOutcomeIn};
 
 use crate::net::Net;
 use ir_links::{Sender, Taker};

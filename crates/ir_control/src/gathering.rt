@@ -1,8 +1,7 @@
 //! What is left in all channels of a net.
 ghost use Rattle.std.specs.Prelude.{◌≡◌, ◌≤◌, ◌+◌, ℕ, All, sum_by, length, vec_len, vec_capacity};
 ghost use Rattle.ir_worker.specs.Seen.{Parcel};
-ghost use Rattle.ir_control.specs.Whole.{IsParcelOf, IsFew};
-ghost use Rattle.ir_control.specs.Slots.{times_in_slots, weight_taken, left_in};
+ghost use Rattle.ir_control.specs.{Whole.{IsParcelOf, IsFew}, Slots.{times_in_slots, weight_taken, left_in}};
 ghost use Rattle.ir_control.specs.Pairs.{ArePaired};
 
 use crate::settling::join_all;

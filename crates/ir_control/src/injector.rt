@@ -4,13 +4,10 @@ ghost use Rattle.std.specs.Arc.{arc_value};
 ghost use Rattle.ir_model.specs.Topology.{node_count};
 ghost use Rattle.ir_core.specs.declared.TheConstants.{MAX_NODES, MAX_PACKETS};
 ghost use Rattle.ir_epochs.specs.Stamps.{IsOf, knows, registry_name};
-ghost use Rattle.ir_epochs.specs.Entries.{registry_of, topology_of, installed_by};
-ghost use Rattle.ir_epochs.specs.Handles.{told};
+ghost use Rattle.ir_epochs.specs.{Entries.{registry_of, topology_of, installed_by}, Handles.told};
 ghost use Rattle.ir_worker.specs.Seen.{HasRoomOf, IsOfNet};
-ghost use Rattle.ir_control.specs.Whole.{IsParcelOf};
 ghost use Rattle.ir_worker.specs.Account.{Head, times_sent, weigh_sent, restamps_with, lines_out};
-ghost use Rattle.ir_control.specs.Heads.{times_injected, AreNumbered};
-ghost use Rattle.ir_control.specs.Outs.{AreEntryEnds, IsSent};
+ghost use Rattle.ir_control.specs.{Whole.IsParcelOf, Heads.{times_injected, AreNumbered}, Outs.{AreEntryEnds, IsSent}};
 
 use ir_core::Refused;
 use ir_epochs::{Receipt, Registry, Stamp};
@@ -81,9 +78,8 @@ fn send_to<R: Moments<Parcel>>(
 }
 
 impl Injector {
-    ghost use Rattle.ir_control.specs.Accepted.{IsInjected, stamp_after_learning};
+    ghost use Rattle.ir_control.specs.{Accepted.{IsInjected, stamp_after_learning}, Refusals.IsInjectRefusal};
     ghost use Rattle.ir_core.specs.Refusals.{inject_refused};
-    ghost use Rattle.ir_control.specs.Refusals.{IsInjectRefusal};
 
     // An injector that accepted nothing, and learnt epoch 1.
     pub(crate) fn new(

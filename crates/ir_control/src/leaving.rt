@@ -2,11 +2,8 @@
 ghost use Rattle.std.specs.Prelude.{◌≡◌, ◌≤◌, ◌+◌, [], All, IfOk, sum_by, vec_capacity};
 ghost use Rattle.ir_model.specs.Topology.{node_count};
 ghost use Rattle.ir_worker.specs.Account.{lines_out};
-ghost use Rattle.ir_control.specs.Parts.{AreNodesOf};
-ghost use Rattle.ir_control.specs.Places.{way_count};
-ghost use Rattle.ir_control.specs.Reported.{AreEmptyRows, AreAllThere, IsGathered};
-ghost use Rattle.ir_control.specs.Slots.{left_in};
-ghost use Rattle.ir_control.specs.Told.{IsOutcomeIn};
+ghost use Rattle.ir_control.specs.{Parts.AreNodesOf, Places.way_count};
+ghost use Rattle.ir_control.specs.{Reported.{AreEmptyRows, AreAllThere, IsGathered}, Slots.left_in, Told.IsOutcomeIn};
 ghost use Rattle.ir_control.specs.Whole.{IsParcelOf, IsFew};
 
 use crate::ends::{append_slots, take_apart};

@@ -1,15 +1,10 @@
 //! A net: its registry, its channels, and what its parts are made of.
-ghost use Rattle.std.specs.Prelude.{◌≡◌, ◌⊎◌, ◌<◌, ◌≤◌, IfOk, IfErr, None, Some, length};
-ghost use Rattle.std.specs.Arc.{arc_value};
-ghost use Rattle.ir_model.specs.Topology.{node_count};
-ghost use Rattle.ir_model.specs.Walk.{IsDisconnected};
-ghost use Rattle.ir_core.specs.Meaning.{IsMade};
-ghost use Rattle.ir_core.specs.declared.TheConstants.{MAX_PACKETS, MAX_RESTAMPS};
-ghost use Rattle.ir_control.specs.Places.{offset};
-ghost use Rattle.ir_epochs.specs.Stamps.{IsOf, knows};
-ghost use Rattle.ir_core.specs.Opened.{open_refused};
-ghost use Rattle.ir_control.specs.Opened.{IsNetRefusal};
+ghost use Rattle.std.specs.{Prelude.{◌≡◌, ◌⊎◌, ◌<◌, ◌≤◌, IfOk, IfErr, None, Some, length}, Arc.arc_value};
+ghost use Rattle.ir_model.specs.{Topology.node_count, Walk.IsDisconnected};
+ghost use Rattle.ir_core.specs.{Meaning.IsMade, declared.TheConstants.{MAX_PACKETS, MAX_RESTAMPS}, Opened.open_refused};
+ghost use Rattle.ir_control.specs.{Places.offset, Opened.IsNetRefusal};
 ghost use Rattle.ir_control.specs.Wired.{AreInboxes, AreWiredWays, AreEntries, AreOffsets, IsOpening};
+ghost use Rattle.ir_epochs.specs.Stamps.{IsOf, knows};
 
 use crate::channels::{inboxes_of, ways_of};
 use crate::controller::Controller;
@@ -182,11 +177,9 @@ impl Net {
 
 impl Net {
     ghost use Rattle.std.specs.Prelude.{IfSome, slice_get, []};
-    ghost use Rattle.ir_epochs.specs.Stamps.{registry_name};
-    ghost use Rattle.ir_epochs.specs.Entries.{registry_of, topology_of};
+    ghost use Rattle.ir_epochs.specs.{Stamps.registry_name, Entries.{registry_of, topology_of}};
     ghost use Rattle.ir_epochs.specs.Handles.{known, reader_board};
-    ghost use Rattle.ir_control.specs.Fresh.{AreFreshOuts, AreFreshIns};
-    ghost use Rattle.ir_control.specs.Parts.{IsNodeOf, IsFreshNode};
+    ghost use Rattle.ir_control.specs.{Fresh.{AreFreshOuts, AreFreshIns}, Parts.{IsNodeOf, IsFreshNode}};
 
     /// The registry of its plans.
     pub fn registry(&self) -> &Registry
@@ -276,8 +269,7 @@ impl Net {
     ghost use Rattle.std.specs.Prelude.{All, [], ◌∷◌, IfSome};
     ghost use Rattle.ir_epochs.specs.declared.entry.Entry.TheVariants.{Opened};
     ghost use Rattle.ir_epochs.specs.Handles.{known, published, reader_board, writer_board};
-    ghost use Rattle.ir_control.specs.Fresh.{AreFreshIns};
-    ghost use Rattle.ir_control.specs.Parts.{AreFirstNodes, IsFreshNode, AreFreshParts};
+    ghost use Rattle.ir_control.specs.{Fresh.AreFreshIns, Parts.{AreFirstNodes, IsFreshNode, AreFreshParts}};
 
     // All nodes, by number.
     fn nodes<R: Wait + Drop>(

@@ -3,8 +3,8 @@ ghost use Rattle.std.specs.Prelude.{◌≡◌, ◌≤◌, ◌<◌, ◌+◌, [], 
 ghost use Rattle.ir_core.specs.declared.packet.Fate.TheVariants.{Left};
 ghost use Rattle.ir_worker.specs.declared.parcel.Outcome.{Outcome};
 ghost use Rattle.ir_control.specs.Slots.{slot_weight, hit, once, AllAt, AllIn, left_in};
-ghost use Rattle.ir_control.specs.Told.{Told, outcome_told, told_left, outcome_number, IsOutcomeIn};
-ghost use Rattle.ir_control.specs.Whole.{IsParcelOf};
+ghost use Rattle.ir_control.specs.Parts.{node_number, IsNodeOf};
+ghost use Rattle.ir_control.specs.{Told.{Told, outcome_told, told_left, outcome_number, IsOutcomeIn}, Whole.IsParcelOf};
 
 use crate::net::Net;
 use crate::placing::{Member, place, place_all};
@@ -18,8 +18,6 @@ use std::sync::Wait;
 impl Member for Outcome {
     type Whole = Stamp;
 
-    ghost use Rattle.ir_control.specs.Told.{outcome_number, IsOutcomeIn};
-
     ghost key_of = { outcome_number };
 
     ghost belongs = { λ o opening. IsOutcomeIn opening o };
@@ -31,8 +29,6 @@ impl Member for Outcome {
 
 impl Member for Node {
     type Whole = Net;
-
-    ghost use Rattle.ir_control.specs.Parts.{node_number, IsNodeOf};
 
     ghost key_of = { node_number };
 

@@ -1,7 +1,7 @@
 //! The report at the end.
 ghost use Rattle.std.specs.Prelude.{◌≡◌, ◌≤◌, ◌<◌, ℕ, true, false, MatchOption, sum_by};
-ghost use Rattle.ir_control.specs.Parts.{node_number};
-ghost use Rattle.ir_control.specs.Slots.{hit};
+ghost use Rattle.ir_control.specs.{Parts.node_number, Slots.hit};
+ghost use Rattle.ir_control.specs.Reports.{finish_code};
 
 use crate::leaving::Rows;
 use ir_core::Record;
@@ -71,8 +71,6 @@ pub(crate) fn missing(nodes: &Vec<Node>, count: usize) -> Option<u16>
 }
 
 impl FinishError {
-    ghost use Rattle.ir_control.specs.Reports.{finish_code};
-
     /// Its number: 1 Missing, 2 NoMemory.
     pub fn code(self) -> u8
         ensures { result ≡ finish_code self }

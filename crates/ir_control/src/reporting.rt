@@ -1,9 +1,7 @@
 //! Finishing a net.
 ghost use Rattle.std.specs.Prelude.{◌≡◌, ◌<◌, ◌+◌, MatchResult, IfOk, length};
 ghost use Rattle.ir_model.specs.Topology.{node_count};
-ghost use Rattle.ir_control.specs.Parts.{AreNodesOf, IsInjectorOf};
-ghost use Rattle.ir_control.specs.Places.{way_count};
-ghost use Rattle.ir_control.specs.Reported.{AreAllThere};
+ghost use Rattle.ir_control.specs.{Parts.{AreNodesOf, IsInjectorOf}, Places.way_count, Reported.AreAllThere};
 ghost use Rattle.ir_control.specs.Reports.{HasReportRoom, IsReport, IsFinishRefusal};
 
 use crate::injector::Injector;

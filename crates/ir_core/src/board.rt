@@ -1,4 +1,8 @@
 ghost use Rattle.std.specs.Prelude.{◌≡◌, ◌<◌, ◌≤◌, IfOk, length, take};
+ghost use Rattle.ir_core.specs.declared.TheConstants.{MAX_LINKS, MAX_CHANGES};
+ghost use Rattle.ir_core.specs.Board.{opening_board, is_link_up, marked, retired_below, installed};
+ghost use Rattle.ir_core.specs.Refusals.{change_refused, retire_refused, mark_refused, install_refused};
+ghost use Rattle.ir_core.specs.{declared.board.Board.Board, Kept.{kept_board, IsKeptBoard}};
 
 use crate::event::Refused;
 use crate::marks::Marks;
@@ -16,10 +20,6 @@ pub struct Board {
 }
 
 impl Board {
-    ghost use Rattle.ir_core.specs.declared.TheConstants.{MAX_LINKS, MAX_CHANGES};
-    ghost use Rattle.ir_core.specs.Board.{opening_board, is_link_up, marked, retired_below, installed};
-    ghost use Rattle.ir_core.specs.Refusals.{change_refused, retire_refused, mark_refused, install_refused};
-
     /// The board before any change: version 0, epoch 1 current and live, all links up.
     pub fn opening() -> Board
         ensures { result ≡ opening_board }
@@ -165,11 +165,7 @@ pub struct KeptBoard {
 }
 
 impl Model for KeptBoard {
-    ghost use Rattle.ir_core.specs.declared.board.Board.{Board};
-
     ghost Value = { Board };
-
-    ghost use Rattle.ir_core.specs.Kept.{kept_board, IsKeptBoard};
 
     ghost view = { kept_board };
 

@@ -1,11 +1,8 @@
 ghost use Rattle.std.specs.Prelude.{◌≡◌, ◌≢◌, [], List, IfOk, IfErr, Some, None, Err, is_ok};
 ghost use Rattle.ir_core.specs.declared.event.Event.TheVariants as event;
 ghost use Rattle.ir_core.specs.declared.event.Step.TheVariants as step;
-ghost use Rattle.ir_core.specs.declared.event.Refused.TheVariants.{NoMemory};
-ghost use Rattle.ir_core.specs.declared.built.Install.{Install};
-ghost use Rattle.ir_core.specs.Meaning.{IsMade};
-ghost use Rattle.ir_core.specs.History.{plans};
-ghost use Rattle.ir_core.specs.Shows.{Shows};
+ghost use Rattle.ir_core.specs.{declared.event.Refused.TheVariants.NoMemory, declared.built.Install.Install};
+ghost use Rattle.ir_core.specs.{Meaning.IsMade, History.plans, Shows.Shows};
 ghost use Rattle.ir_core.specs.Opened.{IsOpenedWith, IsOpenRefusal, open_refused};
 ghost use Rattle.ir_core.specs.Installed.{AreInstallsOf, AreBuiltFrom, ControlsOn, IsPlainChange};
 

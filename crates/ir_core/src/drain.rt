@@ -1,8 +1,6 @@
 ghost use Rattle.std.specs.Prelude.{◌≡◌, ℕ, ◌<◌, true, false, ◌||◌, List, Some};
 ghost use Rattle.ir_model.specs.Topology.{ports_of};
-ghost use Rattle.ir_core.specs.Setting.{nodes_of, channel_of};
-ghost use Rattle.ir_core.specs.Entry.{Entry};
-ghost use Rattle.ir_core.specs.Shows.{Shows};
+ghost use Rattle.ir_core.specs.{Setting.{nodes_of, channel_of}, Entry.Entry, Shows.Shows};
 ghost use Rattle.ir_core.specs.Drain.{after_read, after_act, after_way, after_ports, after_visit, after_round};
 ghost use Rattle.ir_core.specs.Quiet.{IsHandEmpty, IsUpToDate, IsEmptyAt, ArePortsEmpty, IsQuietAt, IsQuiet, IsNoneLeft, Moves, ShowsDrained};
 

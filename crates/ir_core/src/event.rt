@@ -1,3 +1,6 @@
+ghost use Rattle.std.specs.Prelude.{◌≡◌};
+ghost use Rattle.ir_core.specs.Codes.{refusal_code, open_code};
+
 use ir_model::{Hop, Kind};
 use thiserror::Error;
 
@@ -93,9 +96,6 @@ pub enum Refused {
 }
 
 impl Refused {
-    ghost use Rattle.std.specs.Prelude.{◌≡◌};
-    ghost use Rattle.ir_core.specs.Codes.{refusal_code};
-
     /// The refusal's number.
     pub fn code(self) -> u8
         ensures { result ≡ refusal_code self }
@@ -145,9 +145,6 @@ pub enum OpenError {
 }
 
 impl OpenError {
-    ghost use Rattle.std.specs.Prelude.{◌≡◌};
-    ghost use Rattle.ir_core.specs.Codes.{open_code};
-
     /// The refusal's number.
     pub fn code(self) -> u8
         ensures { result ≡ open_code self }

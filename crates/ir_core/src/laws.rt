@@ -1,21 +1,12 @@
 ghost use Rattle.std.specs.Prelude.{◌≡◌, ◌≢◌, ℕ, List, Result, None};
-ghost use Rattle.ir_core.specs.declared.event.Way.{Way};
-ghost use Rattle.ir_core.specs.Record.{Record};
-ghost use Rattle.ir_core.specs.Setting.{Setting};
-ghost use Rattle.ir_core.specs.declared.event.Action.TheVariants.{Restamp};
-ghost use Rattle.ir_core.specs.declared.event.Verdict.{Verdict};
-ghost use Rattle.ir_core.specs.declared.board.Board.{Board};
-ghost use Rattle.ir_model.specs.Plan.{Plan};
-ghost use Rattle.ir_core.specs.Entry.{Entry, ruled, acted, decided};
-ghost use Rattle.ir_core.specs.Meaning.{Sight};
-ghost use Rattle.ir_core.specs.Plain.{IsPlainVerdict, IsPlainAct};
-ghost use Rattle.ir_core.specs.declared.opening.Opening.{Opening};
-ghost use Rattle.ir_core.specs.declared.built.Install.{Install};
-ghost use Rattle.ir_core.specs.declared.event.Refused.{Refused};
-ghost use Rattle.ir_core.specs.declared.event.Reply.{Reply};
-ghost use Rattle.ir_core.specs.declared.event.Step.{Step};
-ghost use Rattle.ir_core.specs.World.{World};
+ghost use Rattle.ir_core.specs.{declared.event.Way.Way, Record.Record, Setting.Setting};
+ghost use Rattle.ir_core.specs.{declared.event.Action.TheVariants.Restamp, declared.event.Verdict.Verdict};
+ghost use Rattle.ir_core.specs.{declared.board.Board.Board, Entry.{Entry, ruled, acted, decided}, Meaning.Sight};
+ghost use Rattle.ir_core.specs.{Plain.{IsPlainVerdict, IsPlainAct}, declared.opening.Opening.Opening};
+ghost use Rattle.ir_core.specs.{declared.built.Install.Install, declared.event.Refused.Refused};
+ghost use Rattle.ir_core.specs.{declared.event.Reply.Reply, declared.event.Step.Step, World.World};
 ghost use Rattle.ir_core.specs.Installed.{AreEpochsOf};
+ghost use Rattle.ir_model.specs.Plan.{Plan};
 
 /// A law of the definitions: a network that allows no restamp reads as one that knows of none. What a node makes of a packet
 /// of one epoch is the verdict by that epoch; so an Act after a history without restamps comes to that verdict, with no

@@ -1,6 +1,6 @@
-ghost use Rattle.std.specs.Prelude.{◌≡◌, ◌-◌, ◌<◌, ◌≤◌, true, get_or, length, replicate, slice_set, drop, take, IfOk};
-ghost use Rattle.ir_core.specs.declared.TheConstants.{MAX_LINKS};
-ghost use Rattle.ir_core.specs.Marks.{EndsDown, marks_in, word_up, with_rest_up};
+ghost use Rattle.std.specs.Prelude.{◌≡◌, ◌-◌, ◌<◌, ◌≤◌, true, get_or, length, replicate, slice_set, drop, take, IfOk, List, Bool};
+ghost use Rattle.ir_core.specs.{declared.TheConstants.MAX_LINKS, Marks.{EndsDown, marks_in, word_up, with_rest_up}};
+ghost use Rattle.ir_core.specs.{Marks.{words_in, AreWords}, MarkLaws.{words_in-marks_in}};
 
 use crate::MAX_LINKS;
 use std::alloc::{AllocError, Global};
@@ -19,12 +19,7 @@ pub struct Marks {
 }
 
 impl Model for Marks {
-    ghost use Rattle.std.specs.Prelude.{List, Bool};
-
     ghost Value = { List Bool };
-
-    ghost use Rattle.ir_core.specs.Marks.{marks_in, words_in, AreWords};
-    ghost use Rattle.ir_core.specs.MarkLaws.{words_in-marks_in};
 
     ghost view = { λ m. marks_in m.words };
 

@@ -1,4 +1,6 @@
-ghost use Rattle.ir_core.specs.Record.{hop_room};
+ghost use Rattle.ir_core.specs.{Record.{hop_room, Record, stamp_of}, Recorded.{record_of, HasRoom, HasRoomHere}};
+ghost use Rattle.ir_core.specs.declared.TheConstants.{MAX_RESTAMPS};
+ghost use Rattle.ir_core.specs.Entry.{restamped, ruled, fresh, fate_of, is_hop, restamp_by};
 ghost use Rattle.std.specs.Prelude.{◌≡◌, ℕ, ◌<◌, [], ◌∷◌, ◌++◌, length, Some, IfOk};
 
 use crate::MAX_RESTAMPS;
@@ -50,11 +52,7 @@ pub struct Record {
 }
 
 impl Model for Record {
-    ghost use Rattle.ir_core.specs.Record.{Record};
-
     ghost Value = { Record };
-
-    ghost use Rattle.ir_core.specs.Recorded.{record_of, HasRoom};
 
     ghost view = { record_of };
 
@@ -69,11 +67,6 @@ pub struct Held {
 }
 
 impl Record {
-    ghost use Rattle.ir_core.specs.declared.TheConstants.{MAX_RESTAMPS};
-    ghost use Rattle.ir_core.specs.Record.{stamp_of};
-    ghost use Rattle.ir_core.specs.Entry.{restamped, ruled, fresh};
-    ghost use Rattle.ir_core.specs.Recorded.{HasRoomHere};
-
     /// The record of a new packet, with room for so many hops.
     pub fn start(
         alloc: Global,
@@ -170,8 +163,6 @@ impl Record {
 }
 
 impl Verdict {
-    ghost use Rattle.ir_core.specs.Entry.{fate_of, is_hop, restamp_by};
-
     /// Whether the node becomes a hop of the packet that it took by this way.
     pub fn is_hop(&self, way: Way) -> bool
         ensures { result ≡ is_hop way self.now }

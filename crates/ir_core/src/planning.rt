@@ -1,13 +1,12 @@
 //! Plans of a network within the limits.
 ghost use Rattle.std.specs.Prelude.{◌≡◌, ◌<◌, ◌≤◌, length, IfOk, take, Some, None, Err};
 ghost use Rattle.ir_model.specs.Topology.{node_count, restrict};
-ghost use Rattle.ir_core.specs.declared.TheConstants.{MAX_LINKS};
-ghost use Rattle.ir_core.specs.Meaning.{IsMade};
+ghost use Rattle.ir_core.specs.{declared.TheConstants.MAX_LINKS, Meaning.IsMade};
 
 use crate::MAX_LINKS;
 use crate::board::Board;
 use ir_model::Kind;
-use ir_plan::{LabelOrder, Plan, PlanError, plan_in_order};
+use ir_plan::{LabelOrder, Plan, PlanError, Unwatched, plan_in_order};
 use ir_tables::Topology;
 use std::alloc::Global;
 use std::thread::Threads;
@@ -46,7 +45,7 @@ pub fn plan_over(
     } else {
         Some(1)
     };
-    match plan_in_order(rt, alloc, topology, labels, kind, root, most) {
+    match plan_in_order(rt, alloc, topology, labels, kind, root, most, &Unwatched) {
         Ok(plan) => Ok(plan),
         Err((error, _)) => match error {
             PlanError::Disconnected => Err(BuildError::Disconnected),

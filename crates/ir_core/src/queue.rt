@@ -1,4 +1,5 @@
 ghost use Rattle.std.specs.Prelude.{◌≡◌, ◌<◌, [], ◌∷◌, ◌++◌, length, drop, IfOk, slice_get};
+ghost use Rattle.ir_core.specs.Queue.{ids_of, room_of};
 
 use std::alloc::{AllocError, Global};
 use std::collections::VecDeque;
@@ -10,8 +11,6 @@ pub struct Queue {
 }
 
 impl Queue {
-    ghost use Rattle.ir_core.specs.Queue.{ids_of, room_of};
-
     pub fn new(alloc: Global, room: usize) -> Result<Queue, AllocError>
         ensures ids { IfOk result (λ q. ids_of q ≡ []) }
         ensures room { IfOk result (λ q. room_of q ≡ room) }

@@ -1,6 +1,5 @@
 ghost use Rattle.std.specs.Prelude.{◌≡◌, IfOk, IfErr, None};
-ghost use Rattle.ir_core.specs.Opened.{IsOpenedWith, IsOpenRefusal, open_refused};
-ghost use Rattle.ir_core.specs.Run.{IsPlayed};
+ghost use Rattle.ir_core.specs.{Opened.{IsOpenedWith, IsOpenRefusal, open_refused}, Run.IsPlayed};
 
 use crate::event::{OpenError, Refused, Reply, Step};
 use crate::opening::{Opening, open_refusal};

@@ -1,6 +1,5 @@
 ghost use Rattle.std.specs.Prelude.{◌≡◌, ◌<◌, false};
-ghost use Rattle.ir_model.specs.Topology.{node_count};
-ghost use Rattle.ir_model.specs.Plan.{node_in};
+ghost use Rattle.ir_model.specs.{Topology.node_count, Plan.node_in};
 ghost use Rattle.ir_core.specs.Entry.{judged, decided, way_of};
 
 use crate::board::Board;

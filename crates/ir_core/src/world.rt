@@ -1,10 +1,14 @@
 ghost use Rattle.std.specs.Prelude.{◌≡◌, ℕ, ◌+◌, ◌-◌, ◌<◌, ◌≤◌, List, [], length, map, All, replicate, IfOk, IfErr, take, ◌++◌, ◌∷◌, slice_get, slice_index, slice_index_or, unwrap_or, option_copied, Some, None};
 ghost use Rattle.ir_model.specs.Topology.{ports_of};
 ghost use Rattle.ir_core.specs.declared.TheConstants.{MAX_LINKS, MAX_CHANGES};
-ghost use Rattle.ir_core.specs.declared.event.Way.TheVariants.{Link as WayLink};
-ghost use Rattle.ir_core.specs.Opened.{open_refused};
-ghost use Rattle.ir_core.specs.Setting.{channel_in, channel_of};
-ghost use Rattle.ir_core.specs.Queue.{ids_of, room_of};
+ghost use Rattle.ir_core.specs.World.{World, IsWorld, IsBoard, sight_in, IsAnswer, open_verdict_on, LeadsIn};
+ghost use Rattle.ir_core.specs.{Inside.{world_of, IsWorldKept}, Setting.{IsSetting, nodes_of, links_of}};
+ghost use Rattle.ir_core.specs.Opened.{IsOpenedWith, IsOpenRefusal, setting_of};
+ghost use Rattle.ir_core.specs.Meaning.{newest, learns, reads, takes, acts, retires, marks, injects, verdict_on, ruling_on, record_at, board_at, is_full_towards, plan_of};
+ghost use Rattle.ir_core.specs.{Record.stamp_of, Entry.Entry, History.boards, Shows.{Shows, AnswersAfter}};
+ghost use Rattle.ir_core.specs.{Run.StepsAfter, Sound.AllSound, Handled.{IsAnswerOr, IsAnswerTo, IsInstallAnswer}};
+ghost use Rattle.ir_core.specs.{declared.event.Way.TheVariants.{Link as WayLink}, Opened.open_refused};
+ghost use Rattle.ir_core.specs.{Setting.{channel_in, channel_of}, Queue.{ids_of, room_of}};
 
 use crate::board::{Board, KeptBoard};
 use crate::event::{Event, OpenError, Refused, Reply, Ruling, Step, Verdict, Way};
@@ -40,11 +44,7 @@ pub struct World {
 }
 
 impl Model for World {
-    ghost use Rattle.ir_core.specs.World.{World};
-
     ghost Value = { World };
-
-    ghost use Rattle.ir_core.specs.Inside.{world_of, IsWorldKept};
 
     ghost view = { world_of };
 
@@ -52,18 +52,6 @@ impl Model for World {
 }
 
 impl World {
-    ghost use Rattle.ir_core.specs.Setting.{IsSetting, nodes_of, links_of};
-    ghost use Rattle.ir_core.specs.Opened.{IsOpenedWith, IsOpenRefusal, setting_of};
-    ghost use Rattle.ir_core.specs.Meaning.{newest, learns, reads, takes, acts, retires, marks, injects, verdict_on, ruling_on, record_at, board_at, is_full_towards, plan_of};
-    ghost use Rattle.ir_core.specs.Record.{stamp_of};
-    ghost use Rattle.ir_core.specs.Entry.{Entry};
-    ghost use Rattle.ir_core.specs.History.{boards};
-    ghost use Rattle.ir_core.specs.Shows.{Shows, AnswersAfter};
-    ghost use Rattle.ir_core.specs.Run.{StepsAfter};
-    ghost use Rattle.ir_core.specs.Sound.{AllSound};
-    ghost use Rattle.ir_core.specs.World.{IsWorld, IsBoard, sight_in, IsAnswer, open_verdict_on, LeadsIn};
-    ghost use Rattle.ir_core.specs.Handled.{IsAnswerOr, IsAnswerTo, IsInstallAnswer};
-
     /// The world of the empty history. Epoch 1 has a plan of the opening's kind and root over all links of the topology.
     /// Refused are, in this order: no node (`Empty`), a root that is no node, more than 1,024 nodes or 8,192 links or another
     /// number out of its range (`TooLarge`), some node without a walk to some node, want of memory. Plans over more than 256

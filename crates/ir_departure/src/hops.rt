@@ -1,9 +1,7 @@
 //! The hops of one segment beside the walk of its plan.
-ghost use Rattle.std.specs.Prelude.{◌≡◌, ◌<◌, true, length, nat_lt, IfNone, IfSome};
-ghost use Rattle.std.specs.List.{list_all};
+ghost use Rattle.std.specs.{Prelude.{◌≡◌, ◌<◌, true, length, nat_lt, IfNone, IfSome}, List.list_all};
 ghost use Rattle.ir_model.specs.Topology.{node_count};
-ghost use Rattle.ir_trace.specs.Checked.{IsFrontOfWalk};
-ghost use Rattle.ir_trace.specs.Inspect.{is_node, next_of};
+ghost use Rattle.ir_trace.specs.{Checked.IsFrontOfWalk, Inspect.{is_node, next_of}};
 ghost use Rattle.ir_departure.specs.Leaving.{IsStray};
 
 use ir_plan::Plan;

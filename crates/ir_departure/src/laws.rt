@@ -1,12 +1,9 @@
 //! Laws of the definitions, each the contract of a function with an empty body.
 ghost use Rattle.std.specs.Prelude.{◌≡◌, List, Option};
-ghost use Rattle.ir_model.specs.Topology.{Topology, node_count};
-ghost use Rattle.ir_model.specs.Plan.{Plan};
+ghost use Rattle.ir_model.specs.{Topology.{Topology, node_count}, Plan.Plan};
 ghost use Rattle.ir_core.specs.declared.built.Install.{Install};
-ghost use Rattle.ir_trace.specs.Row.{TraceRow};
-ghost use Rattle.ir_trace.specs.Checked.{IsRowOver, ArePlansOf};
-ghost use Rattle.ir_departure.specs.declared.departures.Departure.{Departure};
-ghost use Rattle.ir_departure.specs.Leaving.{IsDeparture};
+ghost use Rattle.ir_trace.specs.{Row.TraceRow, Checked.{IsRowOver, ArePlansOf}};
+ghost use Rattle.ir_departure.specs.{declared.departures.Departure.Departure, Leaving.IsDeparture};
 
 /// By the plans of its epochs a row leaves their walks first at one place, or at none. So a row that follows them leaves
 /// them nowhere.

@@ -1,7 +1,6 @@
 //! The segments of a row beside the walks of their epochs.
 ghost use Rattle.std.specs.Prelude.{◌≡◌, ◌<◌, IfNone, IfSome};
-ghost use Rattle.ir_trace.specs.Checked.{plan_at, AreJoined};
-ghost use Rattle.ir_trace.specs.Inspect.{fits_fate, IsOverPlan, AreOverPlans};
+ghost use Rattle.ir_trace.specs.{Checked.{plan_at, AreJoined}, Inspect.{fits_fate, IsOverPlan, AreOverPlans}};
 ghost use Rattle.ir_departure.specs.Leaving.{left_by_fate, LeavesAmong, LeavesIn};
 
 use crate::departures::Departure;

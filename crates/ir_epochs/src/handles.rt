@@ -3,8 +3,7 @@ ghost use Rattle.std.specs.Prelude.{◌≡◌, ◌+◌, ◌<◌, ◌≤◌, [], 
 ghost use mathlib.Core.List.{IsPrefix};
 ghost use Rattle.left_right.specs.Sides.{view};
 ghost use Rattle.ir_core.specs.declared.TheConstants.{MAX_LINKS, MAX_CHANGES};
-ghost use Rattle.ir_epochs.specs.Stamps.{knows};
-ghost use Rattle.ir_epochs.specs.Entries.{board_of, installed_by, IsSameOpening, Rises};
+ghost use Rattle.ir_epochs.specs.{Stamps.knows, Entries.{board_of, installed_by, IsSameOpening, Rises}};
 ghost use Rattle.ir_epochs.specs.Seats.{Below, IsNoted};
 
 use crate::chronicle::{Chronicle, Front};
@@ -282,8 +281,7 @@ impl<R: Wait + Drop> BoardWriter<R> {
 }
 
 impl Receipt {
-    ghost use Rattle.ir_epochs.specs.Entries.{IsCurrent};
-    ghost use Rattle.ir_epochs.specs.Handles.{told, receipt_board};
+    ghost use Rattle.ir_epochs.specs.{Entries.IsCurrent, Handles.{told, receipt_board}};
 
     // The list up to its change.
     pub(crate) fn told(&self) -> &Front

@@ -1,8 +1,7 @@
 //! A board with its writer and its readers.
 ghost use Rattle.std.specs.Prelude.{◌≡◌, ◌≤◌, [], ◌∷◌, length, All, IfOk};
 ghost use Rattle.ir_core.specs.declared.TheConstants.{MAX_LINKS};
-ghost use Rattle.ir_epochs.specs.Stamps.{knows};
-ghost use Rattle.ir_epochs.specs.declared.entry.Entry.TheVariants.{Opened};
+ghost use Rattle.ir_epochs.specs.{Stamps.knows, declared.entry.Entry.TheVariants.Opened};
 ghost use Rattle.ir_epochs.specs.Handles.{published, known, writer_board, reader_board};
 
 use crate::error::BoardError;

@@ -8,12 +8,8 @@ use crate::opening::explain_opening;
 use crate::refusal::explain_refusal;
 use crate::script::explain_script;
 use crate::topology::explain_topology;
-use ir_adjlist::scan;
-use ir_cli::open::read_topology;
-use ir_cli::words::{Sub, Words};
-use ir_given::lines::{Told, told_of};
-use ir_given::parts::{Given, Part, Parts, Trouble, parts_of};
-use ir_given::sentence::begin;
+use ir_cli::{Sub, Words, read_topology};
+use ir_given::{Given, Part, Parts, Run, Told, Trouble, begin, lines_of, parts_of, told_of};
 use ir_graph::Graph;
 use ir_model::Fault;
 use ir_streams::MAX_INPUT_BYTES;
@@ -56,43 +52,23 @@ fn explain_unread(text: &mut String, part: &Part<'_>, kind: &str) -> Result<(), 
     })
 }
 
-/// Explains what is wrong with a text or a step, over the graph of the topology.
-fn explain_over_graph(
-    rt: &(impl Threads + Sync),
-    alloc: Global,
-    text: &mut String,
-    words: &Words,
-    parts: &Parts<'_>,
-    told: Told<'_>,
-) -> Result<(), AllocError> {
-    let graph = graph_of(alloc, words, &parts.topology)?;
-    let is_live = words.sub == Sub::Live;
-    match told.what {
-        "script" => explain_script(alloc, text, &graph, parts, told.line, told.kind, is_live),
-        "numbering" => explain_numbering(alloc, text, &graph, parts, told.line, told.kind),
-        "finding" => explain_finding(rt, alloc, text, &graph, words, parts, told.line, told.kind),
-        _ => explain_opening(alloc, text, &graph, words, &parts.topology, told.kind),
-    }
-}
-
 /// Explains a line of faults.
 fn explain_line(
     rt: &(impl Threads + Sync),
-    alloc: Global,
     text: &mut String,
-    words: &Words,
-    parts: &Parts<'_>,
+    run: &Run<'_>,
     told: Told<'_>,
 ) -> Result<(), AllocError> {
     if told.kind == "unreadable" || told.kind == "too" {
-        return explain_unread(text, &part_of(parts, told.what), told.kind);
+        return explain_unread(text, &part_of(&run.parts, told.what), told.kind);
     }
     match told.what {
-        "topology" => explain_topology(alloc, text, &parts.topology, told.line, told.kind),
-        "script" | "numbering" | "finding" | "opening" => {
-            explain_over_graph(rt, alloc, text, words, parts, told)
-        }
-        "refused" => explain_refusal(alloc, text, &parts.script, told.line, told.kind),
+        "topology" => explain_topology(text, run, told),
+        "script" => explain_script(text, run, told),
+        "numbering" => explain_numbering(text, run, told),
+        "opening" => explain_opening(text, run, told.kind),
+        "finding" => explain_finding(rt, text, run, told),
+        "refused" => explain_refusal(text, run, told),
         "output" => text.push_str("route: standard output: it could not be written\n"),
         "no" => text.push_str("route: no further thread was started\n"),
         "out" => text.push_str("route: memory was refused\n"),
@@ -103,30 +79,25 @@ fn explain_line(
 /// Explains lines of faults, as many as are explained.
 fn explain_lines(
     rt: &(impl Threads + Sync),
-    alloc: Global,
     text: &mut String,
-    words: &Words,
-    parts: &Parts<'_>,
-    lines: &[u8],
+    run: &Run<'_>,
+    faults: &[u8],
 ) -> Result<(), AllocError> {
-    let mut rest = lines;
-    for _turn in 0..MOST_EXPLAINED {
-        if rest.is_empty() {
-            return Ok(());
+    for (place, line) in lines_of(run.alloc, faults, MOST_EXPLAINED + 1)?
+        .iter()
+        .enumerate()
+    {
+        if place == MOST_EXPLAINED {
+            return text.push_str("route: further lines are not explained\n");
         }
-        let (line, after) = scan::next_line(rest);
-        explain_line(rt, alloc, text, words, parts, told_of(alloc, line)?)?;
-        rest = after;
-    }
-    if !rest.is_empty() {
-        text.push_str("route: further lines are not explained\n")?;
+        explain_line(rt, text, run, told_of(run.alloc, line)?)?;
     }
     Ok(())
 }
 
 /// The explanation of a run: a line `route: ..` for each line of faults that it wrote and for a finding on its output,
 /// and one for a topology that looks like another format. `given` is what was given of the inputs, in their order.
-/// Refused for want of memory alone.
+/// Refused for want of memory alone. Where there is something to explain, it reads the topology once more.
 pub fn explanation(
     rt: &(impl Threads + Sync),
     alloc: Global,
@@ -137,9 +108,17 @@ pub fn explanation(
 ) -> Result<String, AllocError> {
     let parts = parts_of(words, given);
     let mut text = String::new(alloc);
-    explain_lines(rt, alloc, &mut text, words, &parts, faults)?;
-    if words.sub == Sub::Check {
-        explain_lines(rt, alloc, &mut text, words, &parts, output)?;
+    let found = if words.sub == Sub::Check { output } else { &[] };
+    if !faults.is_empty() || !found.is_empty() {
+        let graph = &graph_of(alloc, words, &parts.topology)?;
+        let run = Run {
+            alloc,
+            graph,
+            words,
+            parts,
+        };
+        explain_lines(rt, &mut text, &run, faults)?;
+        explain_lines(rt, &mut text, &run, found)?;
     }
     push_note(alloc, &mut text, words.format, &parts.topology)?;
     Ok(text)

@@ -14,11 +14,10 @@ mod numbering;
 mod opening;
 mod refusal;
 mod script;
-mod table;
 mod topology;
 
 pub use explain::explanation;
-pub use ir_given::parts::{Given, Trouble};
+pub use ir_given::{Given, Trouble};
 
 /// The most lines of faults that are explained.
 pub const MOST_EXPLAINED: usize = 64;

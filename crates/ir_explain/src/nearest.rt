@@ -16,11 +16,11 @@ fn nearer<'a>(
     found: Near<'a>,
     name: &'a str,
 ) -> Result<Near<'a>, AllocError> {
+    if word.len() > MAX_NAME_BYTES {
+        return Ok(found);
+    }
     let edits = generic_levenshtein(alloc, word, name.as_bytes())?;
-    let least = match found {
-        Some((least, _)) => least,
-        None => MOST_EDITS + 1,
-    };
+    let least = found.map_or(MOST_EDITS + 1, |near| near.0);
     if edits < least && edits < word.len() {
         Ok(Some((edits, name)))
     } else {
@@ -29,14 +29,11 @@ fn nearer<'a>(
 }
 
 /// The node whose name is nearest to a word, the first such.
-pub(crate) fn nearest_node<'a>(
+pub fn nearest_node<'a>(
     alloc: Global,
     graph: &'a Graph,
     word: &[u8],
 ) -> Result<Option<&'a str>, AllocError> {
-    if word.len() > MAX_NAME_BYTES {
-        return Ok(None);
-    }
     let mut found = None;
     for place in 0..graph.number_of_nodes().min(MOST_NAMES) {
         if let Some(name) = graph.node(place) {
@@ -47,14 +44,11 @@ pub(crate) fn nearest_node<'a>(
 }
 
 /// The name of a list that is nearest to a word, the first such.
-pub(crate) fn nearest_of<'a>(
+pub fn nearest_of<'a>(
     alloc: Global,
     names: &[&'a str],
     word: &[u8],
 ) -> Result<Option<&'a str>, AllocError> {
-    if word.len() > MAX_NAME_BYTES {
-        return Ok(None);
-    }
     let mut found = None;
     for name in names {
         found = nearer(alloc, word, found, *name)?;
@@ -63,7 +57,7 @@ pub(crate) fn nearest_of<'a>(
 }
 
 /// Asks whether a name was meant, if there is one.
-pub(crate) fn push_near(text: &mut String, near: Option<&str>) -> Result<(), AllocError> {
+pub fn push_near(text: &mut String, near: Option<&str>) -> Result<(), AllocError> {
     match near {
         Some(name) => write!(text, " (did you mean '{name}'?)"),
         None => Ok(()),

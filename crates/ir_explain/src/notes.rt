@@ -1,11 +1,8 @@
 //! Topologies that look like another format.
 
 use ir_adjlist::digits::all_digits;
-use ir_adjlist::scan;
-use ir_cli::words::Format;
-use ir_given::lines::{word_at, words_of};
-use ir_given::parts::Part;
-use ir_given::sentence::{begin, push_file};
+use ir_cli::Format;
+use ir_given::{FileName, Part, begin, lines_of, word_at, words_of};
 use std::alloc::{AllocError, Global};
 
 /// The most lines that are looked at.
@@ -13,6 +10,8 @@ const MOST_LINES: usize = 1_024;
 
 /// The most bytes at the front of a text in which a tag is looked for.
 const MOST_FRONT: usize = 4_096;
+
+static DOT: &str = "this looks like DOT, which is not read";
 
 static ATTRIBUTES: &str =
     "each line has attributes in braces, as write_edgelist of NetworkX writes them: they are read as names";
@@ -53,26 +52,6 @@ fn is_cut(word: &[u8]) -> bool {
     word.starts_with(b"\"") && (word.len() == 1 || word[word.len() - 1] != b'"')
 }
 
-/// Whether a line has a name in quotes that a blank cuts.
-fn has_cut_name(words: &[&[u8]]) -> bool {
-    for word in words {
-        if is_cut(word) {
-            return true;
-        }
-    }
-    false
-}
-
-/// Whether a line has an arrow for a word.
-fn has_arrow(words: &[&[u8]]) -> bool {
-    for word in words {
-        if *word == b"->".as_slice() {
-            return true;
-        }
-    }
-    false
-}
-
 /// What was seen, with a further line of these words.
 fn seen_with(seen: Seen, words: &[&[u8]]) -> Seen {
     if words.is_empty() {
@@ -85,8 +64,8 @@ fn seen_with(seen: Seen, words: &[&[u8]]) -> Seen {
         has_weights: seen.has_weights && words.len() == 3 && is_number(third),
         has_braces: seen.has_braces && third.starts_with(b"{"),
         is_gml: seen.is_gml || is_graph,
-        has_cut_name: seen.has_cut_name || has_cut_name(words),
-        has_arrow: seen.has_arrow || has_arrow(words),
+        has_cut_name: seen.has_cut_name || words.iter().any(|word| is_cut(word)),
+        has_arrow: seen.has_arrow || words.iter().any(|word| *word == b"->".as_slice()),
     }
 }
 
@@ -100,27 +79,21 @@ fn seen_of(alloc: Global, text: &[u8]) -> Result<Seen, AllocError> {
         has_cut_name: false,
         has_arrow: false,
     };
-    let mut rest = text;
-    for _turn in 0..MOST_LINES {
-        if rest.is_empty() {
-            break;
-        }
-        let (line, after) = scan::next_line(rest);
+    for line in lines_of(alloc, text, MOST_LINES)?.iter() {
         seen = seen_with(seen, words_of(alloc, line)?.as_slice());
-        rest = after;
     }
     Ok(seen)
 }
 
 /// What follows the blanks at the front of a text, and the blank lines.
 fn from_first_word(text: &[u8]) -> &[u8] {
-    for place in 0..text.len() {
-        let byte = text[place];
-        if byte != b' ' && byte != b'\t' && byte != b'\r' && byte != b'\n' {
-            return &text[place..];
-        }
+    match text
+        .iter()
+        .position(|byte| !matches!(*byte, b' ' | b'\t' | b'\r' | b'\n'))
+    {
+        Some(place) => &text[place..],
+        None => &[],
     }
-    &[]
 }
 
 /// Whether the front of a text has a word in it.
@@ -166,20 +139,26 @@ fn is_dot(text: &[u8]) -> bool {
 /// Says that a topology is one of another format, which is converted.
 fn push_converted(text: &mut String, file: &str, name: &str) -> Result<(), AllocError> {
     begin(text, file)?;
-    write!(text, "this looks like {name}; python -m bentzolu convert ")?;
-    push_file(text, if file == "-" { "FILE" } else { file })?;
-    text.push_str(" makes an edge list of it\n")
+    let file = FileName(if file == "-" { "FILE" } else { file });
+    write!(
+        text,
+        "this looks like {name}; python -m bentzolu convert {file} makes an edge list of it\n"
+    )
 }
 
-/// Says that a topology is one of another format.
-fn push_other(text: &mut String, file: &str, what: &str) -> Result<(), AllocError> {
-    begin(text, file)?;
-    text.push_str(what)?;
-    text.push_str("\n")
+/// What is told of lines that were seen to be this, read in this format; nothing where they look like it.
+fn note_on(seen: Seen, format: Format) -> &'static str {
+    match format {
+        _ if seen.has_arrow => ARROWS,
+        _ if seen.has_cut_name => QUOTES,
+        Format::AdjList if seen.lines > 0 && seen.has_braces => ATTRIBUTES,
+        Format::AdjList if seen.lines > 1 && seen.has_weights => WEIGHTS,
+        Format::AdjList | Format::EdgeList => "",
+    }
 }
 
 /// Says so where a topology looks like one of another format than it is read in.
-pub(crate) fn push_note(
+pub fn push_note(
     alloc: Global,
     text: &mut String,
     format: Format,
@@ -189,31 +168,15 @@ pub(crate) fn push_note(
     if !name.is_empty() {
         return push_converted(text, topology.file, name);
     }
-    if is_dot(topology.bytes) {
-        return push_other(
-            text,
-            topology.file,
-            "this looks like DOT, which is not read",
-        );
-    }
     let seen = seen_of(alloc, topology.bytes)?;
-    if seen.is_gml {
+    let is_dot = is_dot(topology.bytes);
+    if seen.is_gml && !is_dot {
         return push_converted(text, topology.file, "GML");
     }
-    if seen.has_arrow {
-        return push_other(text, topology.file, ARROWS);
-    }
-    if seen.has_cut_name {
-        return push_other(text, topology.file, QUOTES);
-    }
-    if seen.lines == 0 || format == Format::EdgeList {
+    let note = if is_dot { DOT } else { note_on(seen, format) };
+    if note.is_empty() {
         return Ok(());
     }
-    if seen.has_braces {
-        return push_other(text, topology.file, ATTRIBUTES);
-    }
-    if seen.has_weights && seen.lines > 1 {
-        return push_other(text, topology.file, WEIGHTS);
-    }
-    Ok(())
+    begin(text, topology.file)?;
+    write!(text, "{note}\n")
 }

@@ -1,63 +1,35 @@
 //! Why nothing was opened over a topology.
 
-use crate::nearest::{nearest_node, push_near};
-use ir_cli::words::{Format, Words};
+use crate::script::push_no_node;
+use ir_cli::{Format, Words};
 use ir_core::{MAX_LINKS, MAX_NODES};
-use ir_given::parts::Part;
-use ir_given::sentence::{begin, push_file, push_quoted};
+use ir_given::{Run, begin};
 use ir_graph::Graph;
 use std::alloc::{AllocError, Global};
 
-/// An option that names a node, and the name.
-type Named<'a> = Option<(&'static str, &'a str)>;
-
-/// An option that names no node of a graph, where this one does not.
-fn unknown_in<'a>(graph: &Graph, option: &'static str, name: &'a Option<String>) -> Named<'a> {
-    match name {
-        Some(name) if !graph.has_node(name.as_str()) => Some((option, name.as_str())),
-        _ => None,
+/// The first option that names no node of the graph, and the name.
+fn unknown_option<'a>(graph: &Graph, words: &'a Words) -> (&'static str, &'a str) {
+    for (option, name) in [
+        ("--root", &words.root),
+        ("--from", &words.from),
+        ("--to", &words.to),
+    ] {
+        if let Some(name) = name
+            && !graph.has_node(name.as_str())
+        {
+            return (option, name.as_str());
+        }
     }
+    ("--root", "")
 }
 
-/// The first option that names no node.
-fn unknown_option<'a>(graph: &Graph, words: &'a Words) -> Named<'a> {
-    let root = unknown_in(graph, "--root", &words.root);
-    if root.is_some() {
-        return root;
-    }
-    let from = unknown_in(graph, "--from", &words.from);
-    if from.is_some() {
-        return from;
-    }
-    unknown_in(graph, "--to", &words.to)
-}
-
-/// Says which option names no node.
-fn explain_no_node(
-    alloc: Global,
-    text: &mut String,
-    graph: &Graph,
-    words: &Words,
-    topology: &Part<'_>,
-) -> Result<(), AllocError> {
-    let (option, name) = unknown_option(graph, words).unwrap_or(("--root", ""));
-    write!(text, "route: {option}: no node ")?;
-    push_quoted(text, name.as_bytes())?;
-    text.push_str(" in ")?;
-    push_file(text, topology.file)?;
-    push_near(text, nearest_node(alloc, graph, name.as_bytes())?)
-}
-
-/// Says that a topology has no node, and why.
-fn push_empty(text: &mut String, format: Format, topology: &Part<'_>) -> Result<(), AllocError> {
-    text.push_str("no nodes: ")?;
-    if topology.bytes.is_empty() {
-        return text.push_str("it is empty");
-    }
-    match format {
-        Format::AdjList => text.push_str("each line is blank or a comment"),
-        Format::EdgeList => text.push_str("no line names two"),
-    }
+/// Says that the topology has no node, and why.
+fn push_empty(text: &mut String, run: &Run<'_>) -> Result<(), AllocError> {
+    text.push_str(match run.words.format {
+        _ if run.parts.topology.bytes.is_empty() => "no nodes: it is empty",
+        Format::AdjList => "no nodes: each line is blank or a comment",
+        Format::EdgeList => "no nodes: no line names two",
+    })
 }
 
 /// Marks a node, and answers whether it was not marked before.
@@ -148,61 +120,55 @@ fn root_of(graph: &Graph, words: &Words) -> usize {
     }
 }
 
-/// Says between which nodes there is no path, and into how many parts a graph falls.
-fn push_disconnected(
-    alloc: Global,
-    text: &mut String,
-    graph: &Graph,
-    words: &Words,
-) -> Result<(), AllocError> {
-    let root = root_of(graph, words);
-    let found = parts_from(alloc, graph, root)?;
+/// Says between which nodes there is no path, and into how many parts the graph falls.
+fn push_disconnected(text: &mut String, run: &Run<'_>) -> Result<(), AllocError> {
+    let root = root_of(run.graph, run.words);
+    let found = parts_from(run.alloc, run.graph, root)?;
+    let name = run.graph.node(root).unwrap_or("");
+    let outside = run.graph.node(found.outside).unwrap_or("");
     let (parts, largest) = (found.parts, found.largest);
-    push_quoted(text, graph.node(root).unwrap_or("").as_bytes())?;
-    text.push_str(" has no path to ")?;
-    push_quoted(text, graph.node(found.outside).unwrap_or("").as_bytes())?;
     let plural = if largest == 1 { "" } else { "s" };
     write!(
         text,
-        ": {parts} parts, the largest has {largest} node{plural}"
+        "'{name}' has no path to '{outside}': {parts} parts, the largest has {largest} node{plural}"
     )
 }
 
-/// Says what is too large for packets.
-fn push_too_large(text: &mut String, graph: &Graph) -> Result<(), AllocError> {
-    let (nodes, links) = (graph.number_of_nodes(), graph.number_of_edges());
-    if nodes > MAX_NODES {
-        return write!(
-            text,
-            "{nodes} nodes; where packets travel there are at most {MAX_NODES}"
-        );
-    }
+/// Says that the graph has more of something than it may have where packets travel.
+fn push_too_many(
+    text: &mut String,
+    count: usize,
+    what: &str,
+    most: usize,
+) -> Result<(), AllocError> {
     write!(
         text,
-        "{links} links; where packets travel there are at most {MAX_LINKS}"
+        "{count} {what}; where packets travel there are at most {most}"
     )
 }
 
-/// Explains why nothing was opened over a topology.
-pub(crate) fn explain_opening(
-    alloc: Global,
-    text: &mut String,
-    graph: &Graph,
-    words: &Words,
-    topology: &Part<'_>,
-    kind: &str,
-) -> Result<(), AllocError> {
-    if kind == "NoNode" {
-        explain_no_node(alloc, text, graph, words, topology)?;
-        return text.push_str("\n");
-    }
-    begin(text, topology.file)?;
+/// Says why nothing was opened over the topology.
+fn push_reason(text: &mut String, run: &Run<'_>, kind: &str) -> Result<(), AllocError> {
+    let (nodes, links) = (run.graph.number_of_nodes(), run.graph.number_of_edges());
     match kind {
-        "Empty" => push_empty(text, words.format, topology)?,
-        "Disconnected" => push_disconnected(alloc, text, graph, words)?,
-        "TooLarge" => push_too_large(text, graph)?,
-        "Used" => text.push_str("a fresh cell of the registry refused its plan")?,
-        _ => text.push_str("memory was refused while the topology was opened")?,
+        "Empty" => push_empty(text, run),
+        "Disconnected" => push_disconnected(text, run),
+        "TooLarge" if nodes > MAX_NODES => push_too_many(text, nodes, "nodes", MAX_NODES),
+        "TooLarge" => push_too_many(text, links, "links", MAX_LINKS),
+        "Used" => text.push_str("a fresh cell of the registry refused its plan"),
+        _ => text.push_str("memory was refused while the topology was opened"),
+    }
+}
+
+/// Explains why nothing was opened over the topology.
+pub fn explain_opening(text: &mut String, run: &Run<'_>, kind: &str) -> Result<(), AllocError> {
+    if kind == "NoNode" {
+        let (option, name) = unknown_option(run.graph, run.words);
+        write!(text, "route: {option}: ")?;
+        push_no_node(text, run, name.as_bytes())?;
+    } else {
+        begin(text, run.parts.topology.file)?;
+        push_reason(text, run, kind)?;
     }
     text.push_str("\n")
 }

@@ -2,12 +2,12 @@
 
 use crate::bytes::push_bad_byte;
 use crate::nearest::{nearest_node, nearest_of, push_near};
-use crate::table::text_for;
-use ir_given::lines::{line_at, text_of, word_at, words_of};
-use ir_given::parts::{Part, Parts};
-use ir_given::sentence::{begin_at, joined, push_file, push_quoted};
+use ir_cli::Sub;
+use ir_given::{
+    FileName, Quoted, Run, Told, begin_at, joined, line_at, text_of, word_at, words_of,
+};
 use ir_graph::Graph;
-use std::alloc::{AllocError, Global};
+use std::alloc::AllocError;
 
 /// The first words of the lines of a live run's script, and behind them those of a simulation alone.
 static COMMANDS: [&str; 10] = [
@@ -20,65 +20,69 @@ const LIVE_COMMANDS: usize = 6;
 /// The kinds of plans.
 static KINDS: [&str; 3] = ["tree", "shortest", "compact"];
 
-/// How the lines of commands look.
-static FORMS: [(&str, &str); 10] = [
-    ("inject", "inject A B"),
-    ("drain", "drain"),
-    ("down", "down A B"),
-    ("up", "up A B"),
-    ("install", "install KIND ROOT"),
-    ("retire", "retire EPOCH"),
-    ("learn", "learn EPOCH"),
-    ("take", "take NODE inbox' or 'take NODE from NEIGHBOUR"),
-    ("read", "read NODE VERSION"),
-    ("act", "act NODE"),
-];
+/// How the line of a command looks; nothing where the word is none.
+fn form_of(command: &str) -> &'static str {
+    match command {
+        "inject" => "inject A B",
+        "drain" => "drain",
+        "down" => "down A B",
+        "up" => "up A B",
+        "install" => "install KIND ROOT",
+        "retire" => "retire EPOCH",
+        "learn" => "learn EPOCH",
+        "take" => "take NODE inbox' or 'take NODE from NEIGHBOUR",
+        "read" => "read NODE VERSION",
+        "act" => "act NODE",
+        _ => "",
+    }
+}
 
 /// Whether a command is of a simulation alone.
 fn is_of_simulation(command: &str) -> bool {
-    command == "learn" || command == "take" || command == "read" || command == "act"
+    matches!(command, "learn" | "take" | "read" | "act")
 }
 
 /// Says that a first word is no command.
-fn push_unknown(
-    alloc: Global,
-    text: &mut String,
-    command: &[u8],
-    is_live: bool,
-) -> Result<(), AllocError> {
-    let names = if is_live {
+fn push_unknown(text: &mut String, run: &Run<'_>, command: &[u8]) -> Result<(), AllocError> {
+    let names = if run.words.sub == Sub::Live {
         &COMMANDS[..LIVE_COMMANDS]
     } else {
         COMMANDS.as_slice()
     };
-    text.push_str("unknown command ")?;
-    push_quoted(text, command)?;
-    push_near(text, nearest_of(alloc, names, command)?)
+    write!(text, "unknown command {}", Quoted(command))?;
+    push_near(text, nearest_of(run.alloc, names, command)?)
+}
+
+/// Says that a word is no kind of plan.
+fn push_no_kind(text: &mut String, run: &Run<'_>, kind: &[u8]) -> Result<(), AllocError> {
+    let word = Quoted(kind);
+    write!(
+        text,
+        "{word} is no kind of plan: tree, shortest or compact is wanted"
+    )?;
+    push_near(text, nearest_of(run.alloc, KINDS.as_slice(), kind)?)
 }
 
 /// Says why the words of a line are no command.
-fn push_bad_command(
-    alloc: Global,
-    text: &mut String,
-    words: &[&[u8]],
-    is_live: bool,
-) -> Result<(), AllocError> {
+fn push_bad_command(text: &mut String, run: &Run<'_>, words: &[&[u8]]) -> Result<(), AllocError> {
     let command = word_at(words, 0);
     let name = text_of(command);
-    let Some(form) = text_for(FORMS.as_slice(), name) else {
-        return push_unknown(alloc, text, command, is_live);
-    };
-    if is_live && is_of_simulation(name) {
+    let form = form_of(name);
+    if form.is_empty() {
+        return push_unknown(text, run, command);
+    }
+    if run.words.sub == Sub::Live && is_of_simulation(name) {
         return write!(text, "'{name}' is a command of 'route sim' alone");
     }
     if name == "install" && words.len() == 3 {
-        let kind = word_at(words, 1);
-        push_quoted(text, kind)?;
-        text.push_str(" is no kind of plan: tree, shortest or compact is wanted")?;
-        return push_near(text, nearest_of(alloc, KINDS.as_slice(), kind)?);
+        return push_no_kind(text, run, word_at(words, 1));
     }
-    push_quoted(text, joined(alloc, words)?.as_slice())?;
-    write!(text, " is not of the form '{form}'")
+    let line = joined(run.alloc, words)?;
+    write!(
+        text,
+        "{} is not of the form '{form}'",
+        Quoted(line.as_slice())
+    )
 }
 
 /// The places of the words of a line that are to name nodes.
@@ -91,9 +95,9 @@ fn node_places(command: &str) -> &'static [usize] {
     }
 }
 
-/// The first of a line's words for nodes that names none.
-fn unknown_word<'a>(graph: &Graph, words: &[&'a [u8]]) -> &'a [u8] {
-    for place in node_places(text_of(word_at(words, 0))) {
+/// The first of a line's words at these places that names no node; nothing where each names one.
+pub fn unknown_word<'a>(graph: &Graph, words: &[&'a [u8]], places: &[usize]) -> &'a [u8] {
+    for place in places {
         let word = word_at(words, *place);
         if !graph.has_node(text_of(word)) {
             return word;
@@ -102,87 +106,55 @@ fn unknown_word<'a>(graph: &Graph, words: &[&'a [u8]]) -> &'a [u8] {
     &[]
 }
 
-/// Says that a word names no node of a topology.
-pub(crate) fn push_no_node(
-    alloc: Global,
-    text: &mut String,
-    graph: &Graph,
-    topology: &Part<'_>,
-    word: &[u8],
-) -> Result<(), AllocError> {
-    text.push_str("no node ")?;
-    push_quoted(text, word)?;
-    text.push_str(" in ")?;
-    push_file(text, topology.file)?;
-    push_near(text, nearest_node(alloc, graph, word)?)
-}
-
-/// Says that the two nodes of a line are not linked.
-fn push_no_link(text: &mut String, words: &[&[u8]]) -> Result<(), AllocError> {
-    let other = if text_of(word_at(words, 0)) == "take" {
-        3
-    } else {
-        2
-    };
-    text.push_str("no link between ")?;
-    push_quoted(text, word_at(words, 1))?;
-    text.push_str(" and ")?;
-    push_quoted(text, word_at(words, other))
-}
-
-/// Says that a word of a line is no number.
-fn push_no_number(text: &mut String, words: &[&[u8]]) -> Result<(), AllocError> {
-    let place = if text_of(word_at(words, 0)) == "read" {
-        2
-    } else {
-        1
-    };
-    push_quoted(text, word_at(words, place))?;
-    text.push_str(
-        " is no number: a whole number from 0 to 65535, of at most five digits, is wanted",
-    )
+/// Says that a word names no node of the topology.
+pub fn push_no_node(text: &mut String, run: &Run<'_>, word: &[u8]) -> Result<(), AllocError> {
+    let file = FileName(run.parts.topology.file);
+    write!(text, "no node {} in {file}", Quoted(word))?;
+    push_near(text, nearest_node(run.alloc, run.graph, word)?)
 }
 
 /// Says what is wrong with the words of a line.
 fn push_fault(
-    alloc: Global,
     text: &mut String,
-    graph: &Graph,
-    topology: &Part<'_>,
+    run: &Run<'_>,
     words: &[&[u8]],
     kind: &str,
-    is_live: bool,
 ) -> Result<(), AllocError> {
+    let command = text_of(word_at(words, 0));
     match kind {
         "BadByte" => push_bad_byte(text, words, "scripts are"),
-        "BadCommand" => push_bad_command(alloc, text, words, is_live),
-        "BadNumber" => push_no_number(text, words),
-        "UnknownNode" => { push_no_node(alloc, text, graph, topology, unknown_word(graph, words)) }
-        "UnknownLink" => push_no_link(text, words),
+        "BadCommand" => push_bad_command(text, run, words),
+        "BadNumber" => {
+            let word = Quoted(word_at(words, if command == "read" { 2 } else { 1 }));
+            write!(
+                text,
+                "{word} is no number: a whole number from 0 to 65535, of at most five digits, is wanted"
+            )
+        }
+        "UnknownNode" => {
+            push_no_node(
+                text,
+                run,
+                unknown_word(run.graph, words, node_places(command)),
+            )
+        }
+        "UnknownLink" => {
+            let other = Quoted(word_at(words, if command == "take" { 3 } else { 2 }));
+            write!(
+                text,
+                "no link between {} and {other}",
+                Quoted(word_at(words, 1))
+            )
+        }
         _ => text.push_str("memory was refused while the script was read"),
     }
 }
 
 /// Explains a fault of a script.
-pub(crate) fn explain_script(
-    alloc: Global,
-    text: &mut String,
-    graph: &Graph,
-    parts: &Parts<'_>,
-    line: usize,
-    kind: &str,
-    is_live: bool,
-) -> Result<(), AllocError> {
-    let words = words_of(alloc, line_at(parts.script.bytes, line))?;
-    begin_at(text, &parts.script, line)?;
-    push_fault(
-        alloc,
-        text,
-        graph,
-        &parts.topology,
-        words.as_slice(),
-        kind,
-        is_live,
-    )?;
+pub fn explain_script(text: &mut String, run: &Run<'_>, told: Told<'_>) -> Result<(), AllocError> {
+    let script = &run.parts.script;
+    let words = words_of(run.alloc, line_at(script.bytes, told.line))?;
+    begin_at(text, script, told.line)?;
+    push_fault(text, run, words.as_slice(), told.kind)?;
     text.push_str("\n")
 }

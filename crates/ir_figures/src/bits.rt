@@ -1,7 +1,6 @@
 //! How many bits the rows of a plan take, and full tables.
 ghost use Rattle.std.specs.Prelude.{◌≡◌, ◌+◌, ◌*◌, ◌<◌, ◌≤◌};
-ghost use Rattle.ir_model.specs.Topology.{node_count};
-ghost use Rattle.ir_model.specs.Plan.{IsPlan};
+ghost use Rattle.ir_model.specs.{Topology.node_count, Plan.IsPlan};
 ghost use Rattle.ir_prefix.specs.Longest.{IsWidth};
 ghost use Rattle.ir_figures.specs.RowBits.{AreBitsBefore};
 

@@ -1,7 +1,6 @@
 //! Laws of links that wait for each other.
 ghost use Rattle.std.specs.Prelude.{◌≡◌, ℕ, List};
-ghost use Rattle.ir_model.specs.declared.Kind.TheVariants.{Tree};
-ghost use Rattle.ir_model.specs.Plan.{Plan, IsPlan};
+ghost use Rattle.ir_model.specs.{declared.Kind.TheVariants.Tree, Plan.{Plan, IsPlan}};
 ghost use Rattle.ir_figures.specs.Waits.{IsWithoutRing, IsWaitingRing};
 
 /// Where the links can be numbered such that each waits for greater ones alone, no links wait for each other in a ring.

@@ -1,7 +1,6 @@
 //! The port that the most intervals of a plan go by.
 ghost use Rattle.std.specs.Prelude.{◌≡◌, ◌+◌, ◌<◌};
-ghost use Rattle.ir_model.specs.Topology.{node_count};
-ghost use Rattle.ir_model.specs.Plan.{IsPlan};
+ghost use Rattle.ir_model.specs.{Topology.node_count, Plan.IsPlan};
 ghost use Rattle.ir_figures.specs.Compactness.{intervals_at, HasPortNumber, AreMostBefore, AreMost};
 
 use ir_lookup::Row;

@@ -1,10 +1,8 @@
 //! The text of a plan's figures, those of the field among them.
 ghost use Rattle.std.specs.Prelude.{◌≡◌, ◌<◌, ◌++◌, ℕ, IfOk, IfSome, OnOk, flat_map, length, map, slice_index, string_bytes};
 ghost use Rattle.std.specs.Option.{option_map};
-ghost use Rattle.ir_model.specs.Graph.{names};
-ghost use Rattle.ir_model.specs.Topology.{node_count};
-ghost use Rattle.ir_trace.specs.Rows.{spaced};
-ghost use Rattle.ir_trace.specs.Written.{name_at};
+ghost use Rattle.ir_model.specs.{Graph.names, Topology.node_count};
+ghost use Rattle.ir_trace.specs.{Rows.spaced, Written.name_at};
 ghost use Rattle.ir_figures.specs.Compactness.{HasPortNumber};
 ghost use Rattle.ir_figures.specs.FiguresText.{most_line, bits_line, ring_line, AreFiguresOf};
 

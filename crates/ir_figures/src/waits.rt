@@ -1,7 +1,6 @@
 //! Rings of directed links that wait for each other.
 ghost use Rattle.std.specs.Prelude.{◌≡◌, ◌↔◌, ◌+◌, ◌<◌, ℕ, List, Some, IsTrue, IfNone, IfOk, IfSome, OnOk, length, slice_index};
-ghost use Rattle.ir_model.specs.Topology.{node_count, ports_of};
-ghost use Rattle.ir_model.specs.Plan.{IsPlan};
+ghost use Rattle.ir_model.specs.{Topology.{node_count, ports_of}, Plan.IsPlan};
 ghost use Rattle.ir_cycles.specs.Arcs.{marks_of};
 ghost use Rattle.ir_figures.specs.Waits.{IsWithoutRing, IsWaitingRing};
 ghost use Rattle.ir_figures.specs.Exits.{exits_before, AreExits, ArePortsByLabel, AreOnward, IsMarkedFor, AreLinks, AreLeftBy};

@@ -2,10 +2,17 @@
 //! line of faults says, the pieces of a sentence, and where a row of a trace leaves the walks of its epochs.
 #![tactic(auto)]
 
-pub mod departing;
-pub mod lines;
-pub mod parts;
-pub mod sentence;
+mod departing;
+mod lines;
+mod parts;
+mod sentence;
+
+pub use departing::push_departure;
+pub use lines::{
+    Told, first_word, line_at, line_with, lines_of, text_of, told_of, word_at, words_of,
+};
+pub use parts::{Given, Part, Parts, Run, Trouble, parts_of};
+pub use sentence::{FileName, Quoted, WordCount, begin, begin_at, joined};
 
 /// The most bytes of a text that are quoted.
 pub const MOST_QUOTED: usize = 64;

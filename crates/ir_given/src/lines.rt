@@ -1,6 +1,5 @@
 //! Lines and words of texts, and what the lines of faults say.
-ghost use Rattle.std.specs.Prelude.{◌≡◌, ◌==◌, IfOk};
-ghost use Rattle.std.specs.List.{count_by};
+ghost use Rattle.std.specs.{Prelude.{◌≡◌, ◌==◌, IfOk}, List.count_by};
 ghost use Rattle.ir_model.specs.Text.{words};
 ghost use Rattle.ir_given.specs.Cut.{pointed_texts};
 
@@ -8,21 +7,57 @@ use ir_adjlist::digits::all_digits;
 use ir_adjlist::scan;
 use std::alloc::{AllocError, Global};
 
+/// The lines at the front of a text, at most so many.
+pub fn lines_of(alloc: Global, text: &[u8], most: usize) -> Result<Vec<&[u8]>, AllocError> {
+    let mut found = Vec::new(alloc);
+    let mut rest = text;
+    for _turn in 0..text.len().min(most) {
+        if rest.is_empty() {
+            break;
+        }
+        let (line, after) = scan::next_line(rest);
+        found.push(line)?;
+        rest = after;
+    }
+    Ok(found)
+}
+
 /// The line with this number, counted from 1; nothing where the text has no such line.
 pub fn line_at(text: &[u8], number: usize) -> &[u8] {
+    let mut found: &[u8] = &[];
     let mut rest = text;
-    for _turn in 1..number {
+    for _turn in 0..number {
         if rest.is_empty() {
             return &[];
         }
-        let (_line, after) = scan::next_line(rest);
+        let (line, after) = scan::next_line(rest);
+        found = line;
         rest = after;
     }
-    if rest.is_empty() {
-        return &[];
+    found
+}
+
+/// The first word of a line, without its comment; nothing where it has none.
+pub fn first_word(line: &[u8]) -> &[u8] {
+    match scan::next_word(scan::without_comment(line)) {
+        Some((word, _rest)) => word,
+        None => &[],
     }
-    let (line, _after) = scan::next_line(rest);
-    line
+}
+
+/// The first line of a text behind so many that begins with a word, counted from 1; 0 where there is none.
+pub fn line_with(
+    alloc: Global,
+    text: &[u8],
+    word: &[u8],
+    above: usize,
+) -> Result<usize, AllocError> {
+    for (place, line) in lines_of(alloc, text, text.len())?.iter().enumerate() {
+        if place >= above && first_word(line) == word {
+            return Ok(place + 1);
+        }
+    }
+    Ok(0)
 }
 
 /// The words of a line, without its comment.
@@ -85,19 +120,16 @@ pub struct Told<'a> {
 /// What a line of faults says.
 pub fn told_of<'a>(alloc: Global, line: &'a [u8]) -> Result<Told<'a>, AllocError> {
     let words = words_of(alloc, line)?;
-    let what = text_of(word_at(words.as_slice(), 0));
     let second = word_at(words.as_slice(), 1);
-    if second.is_empty() || !all_digits(second) {
-        let kind = text_of(second);
-        return Ok(Told {
-            what,
-            line: 0,
-            kind,
-        });
-    }
+    let is_number = !second.is_empty() && all_digits(second);
+    let kind = if is_number {
+        word_at(words.as_slice(), 2)
+    } else {
+        second
+    };
     Ok(Told {
-        what,
-        line: number_of(second),
-        kind: text_of(word_at(words.as_slice(), 2)),
+        what: text_of(word_at(words.as_slice(), 0)),
+        line: if is_number { number_of(second) } else { 0 },
+        kind: text_of(kind),
     })
 }

@@ -1,8 +1,9 @@
 //! The texts of a run, and the files that they stand in.
 
 use crate::lines::line_ends;
-use ir_cli::cut::cut;
-use ir_cli::words::{Numbering, Sub, Words};
+use ir_cli::{Sub, Words, cut};
+use ir_graph::Graph;
+use std::alloc::Global;
 
 /// What kept an input from being read.
 #[derive(Clone, Copy, Debug, PartialEq, Eq)]
@@ -44,37 +45,18 @@ pub struct Parts<'a> {
     pub numbering: Part<'a>,
 }
 
-/// The name of a file at a place; standard input where there is none.
-fn file_at(words: &Words, place: usize) -> &str {
-    match words.files.get(place) {
-        Some(name) => name.as_str(),
-        None => "-",
-    }
-}
-
-/// The name of the file of an order of nodes; standard input where there is none.
-fn numbering_file(words: &Words) -> &str {
-    match &words.numbering {
-        Numbering::File(name) => name.as_str(),
-        Numbering::DepthFirst | Numbering::Tour => "-",
-    }
-}
-
 /// All of the input at a place, as a text of this file.
 fn whole<'a>(given: &[Given<'a>], place: usize, file: &'a str) -> Part<'a> {
-    match given.get(place) {
-        Some(input) => Part {
-            file,
-            above: 0,
-            bytes: input.bytes,
-            trouble: input.trouble,
-        },
-        None => Part {
-            file,
-            above: 0,
-            bytes: &[],
-            trouble: Trouble::Unknown,
-        },
+    let (bytes, trouble): (&'a [u8], Trouble) = match given.get(place) {
+        Some(input) => (input.bytes, input.trouble),
+        None => (&[], Trouble::Unknown),
+    };
+    let above = 0;
+    Part {
+        file,
+        above,
+        bytes,
+        trouble,
     }
 }
 
@@ -93,32 +75,37 @@ fn halves<'a>(part: Part<'a>) -> (Part<'a>, Part<'a>) {
 
 /// The texts of a run, of what was given of its inputs.
 pub fn parts_of<'a>(words: &'a Words, given: &[Given<'a>]) -> Parts<'a> {
-    let first = whole(given, 0, file_at(words, 0));
-    let numbering = whole(given, 1, numbering_file(words));
-    let has_script = words.sub == Sub::Sim || words.sub == Sub::Live || words.sub == Sub::Check;
-    if !words.is_one_input() || !has_script {
-        return Parts {
-            topology: first,
-            script: whole(given, 1, file_at(words, 1)),
-            trace: whole(given, 2, file_at(words, 2)),
-            numbering,
-        };
-    }
-    let (topology, behind) = halves(first);
-    if words.sub != Sub::Check {
-        let trace = whole(given, 2, "-");
-        return Parts {
-            topology,
-            script: behind,
-            trace,
-            numbering,
-        };
-    }
-    let (script, trace) = halves(behind);
+    let first = whole(given, 0, words.file(0));
+    let numbering = whole(given, 1, words.order_file());
+    let (topology, script, trace) = match words.sub {
+        Sub::Sim | Sub::Live if words.is_one_input() => {
+            let (topology, script) = halves(first);
+            (topology, script, whole(given, 2, "-"))
+        }
+        Sub::Check if words.is_one_input() => {
+            let (topology, behind) = halves(first);
+            let (script, trace) = halves(behind);
+            (topology, script, trace)
+        }
+        _ => (
+            first,
+            whole(given, 1, words.file(1)),
+            whole(given, 2, words.file(2)),
+        ),
+    };
     Parts {
         topology,
         script,
         trace,
         numbering,
     }
+}
+
+/// A run that is explained: where memory is, the graph of its topology, what its words ask for, and its texts.
+#[derive(Clone, Copy)]
+pub struct Run<'a> {
+    pub alloc: Global,
+    pub graph: &'a Graph,
+    pub words: &'a Words,
+    pub parts: Parts<'a>,
 }

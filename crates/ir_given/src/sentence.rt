@@ -5,6 +5,19 @@ ghost use Rattle.ir_given.specs.declared.TheConstants.{MOST_QUOTED};
 use crate::MOST_QUOTED;
 use crate::parts::Part;
 use std::alloc::{AllocError, Global};
+use std::fmt;
+
+/// A text in quotes, with bytes that are not printable ASCII as `\xNN`, and two points behind it where its end is not shown.
+#[derive(Clone, Copy)]
+pub struct Quoted<'a>(pub &'a [u8]);
+
+/// The name of a file, where `-` is standard input; a character that would move the terminal's cursor is `\xNN`.
+#[derive(Clone, Copy)]
+pub struct FileName<'a>(pub &'a str);
+
+/// How many words there are.
+#[derive(Clone, Copy)]
+pub struct WordCount(pub usize);
 
 /// What is shown of a text: its front.
 fn cut(bytes: &[u8]) -> &[u8]
@@ -14,53 +27,58 @@ fn cut(bytes: &[u8]) -> &[u8]
 }
 
 /// Writes a byte, or `\xNN` where it is not printable ASCII.
-fn push_byte(text: &mut String, byte: u8) -> Result<(), AllocError> {
+fn write_byte<W: fmt::Write>(f: &mut fmt::Formatter<W>, byte: u8) -> fmt::Result {
     if byte >= b' ' && byte <= b'~' {
-        text.push(byte as char)
+        f.write_char(byte as char)
     } else {
-        write!(text, "\\x{byte:02X}")
+        write!(f, "\\x{byte:02X}")
     }
 }
 
-/// Writes a text in quotes, and two points behind them where its end is not shown.
-pub fn push_quoted(text: &mut String, bytes: &[u8]) -> Result<(), AllocError> {
-    let shown = cut(bytes);
-    text.push_str("'")?;
-    for byte in shown {
-        push_byte(text, *byte)?;
-    }
-    text.push_str(if shown.len() < bytes.len() {
-        "'.."
-    } else {
-        "'"
-    })
-}
-
-/// Writes a character of a file's name, or `\xNN` where it would move the terminal's cursor.
-fn push_char(text: &mut String, ch: char) -> Result<(), AllocError> {
-    if ch < ' ' || ch == '\x7f' {
-        push_byte(text, ch as u8)
-    } else {
-        text.push(ch)
+impl fmt::Display for Quoted<'_> {
+    fn fmt<W: fmt::Write>(&self, f: &mut fmt::Formatter<W>) -> fmt::Result {
+        let shown = cut(self.0);
+        f.write_str("'")?;
+        for byte in shown {
+            write_byte(f, *byte)?;
+        }
+        f.write_str(if shown.len() < self.0.len() {
+            "'.."
+        } else {
+            "'"
+        })
     }
 }
 
-/// Writes the name of a file; `-` is standard input.
-pub fn push_file(text: &mut String, file: &str) -> Result<(), AllocError> {
-    if file == "-" {
-        return text.push_str("standard input");
+impl fmt::Display for FileName<'_> {
+    fn fmt<W: fmt::Write>(&self, f: &mut fmt::Formatter<W>) -> fmt::Result {
+        if self.0 == "-" {
+            return f.write_str("standard input");
+        }
+        for ch in self.0.chars() {
+            if ch < ' ' || ch == '\x7f' {
+                write_byte(f, ch as u8)?;
+            } else {
+                f.write_char(ch)?;
+            }
+        }
+        Ok(())
     }
-    for ch in file.chars() {
-        push_char(text, ch)?;
+}
+
+impl fmt::Display for WordCount {
+    fn fmt<W: fmt::Write>(&self, f: &mut fmt::Formatter<W>) -> fmt::Result {
+        match self.0 {
+            1 => f.write_str("one word"),
+            2 => f.write_str("two words"),
+            count => write!(f, "{count} words"),
+        }
     }
-    Ok(())
 }
 
 /// Begins a sentence on a file: `route: FILE: `.
 pub fn begin(text: &mut String, file: &str) -> Result<(), AllocError> {
-    text.push_str("route: ")?;
-    push_file(text, file)?;
-    text.push_str(": ")
+    write!(text, "route: {}: ", FileName(file))
 }
 
 /// Begins a sentence on a line of a text, counted from 1 in its file: `route: FILE:LINE: `. Line 0 stands for all of it.
@@ -68,19 +86,12 @@ pub fn begin_at(text: &mut String, part: &Part<'_>, line: usize) -> Result<(), A
     if line == 0 {
         return begin(text, part.file);
     }
-    let number = line.saturating_add(part.above);
-    text.push_str("route: ")?;
-    push_file(text, part.file)?;
-    write!(text, ":{number}: ")
-}
-
-/// Writes how many words there are.
-pub fn push_count(text: &mut String, count: usize) -> Result<(), AllocError> {
-    match count {
-        1 => text.push_str("one word"),
-        2 => text.push_str("two words"),
-        _ => write!(text, "{count} words"),
-    }
+    write!(
+        text,
+        "route: {}:{}: ",
+        FileName(part.file),
+        line.saturating_add(part.above)
+    )
 }
 
 /// Words with a space between them.

@@ -1,8 +1,8 @@
 //! The nodes and neighbours of a graph by their places, and its edges in order.
 ghost use Rattle.std.specs.Prelude.{◌≡◌, ◌<◌, ◌+◌, ℕ, List, Some, true, false, IfSome, IfNone, MatchResult, length, take, option_map, slice_get};
 ghost use Rattle.ir_model.specs.Graph.{edges, names, among};
-ghost use Rattle.ir_graph.specs.View.{rows_view};
 ghost use Rattle.ir_model.specs.Places.{neighbors_at, neighbor_at, later_neighbors, IsBothWays};
+ghost use Rattle.ir_graph.specs.View.{rows_view};
 
 use crate::rows::{Rows, name_at, row_index};
 

@@ -1,4 +1,7 @@
 //! Why a call on a graph is refused.
+ghost use Rattle.std.specs.Prelude.{◌≡◌};
+ghost use Rattle.ir_graph.specs.Faults.{graph_code};
+
 use thiserror::Error;
 
 /// Why a call on a graph is refused.
@@ -23,9 +26,6 @@ pub enum GraphError {
 }
 
 impl GraphError {
-    ghost use Rattle.std.specs.Prelude.{◌≡◌};
-    ghost use Rattle.ir_graph.specs.Faults.{graph_code};
-
     /// The number of the error, from 1 to 8. For users of the library.
     pub fn code(self) -> u8
         ensures { result ≡ graph_code self }

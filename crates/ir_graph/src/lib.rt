@@ -5,10 +5,12 @@
 //! has at most `MAX_NODES` nodes and `MAX_EDGES` edges. An edge of a node with itself is one edge and two ends.
 #![tactic(auto)]
 
-ghost use Rattle.std.specs.Prelude.{◌≡◌, ◌↔◌, ◌<◌, [], IsTrue, IfSome, IfOk, IfErr, OnOk, OnErr, not, option_map, slice_get, length, bytes_eq, true, false, if◌then◌else◌};
-ghost use Rattle.std.specs.List.{list_all};
-ghost use Rattle.std.specs.Map.{keys_of};
-ghost use Rattle.ir_model.specs.Graph.{has_node, has_edge, weight_of, neighbors, names, degree, edges, with_node, with_edge, without_edge, without_node, is_name, is_name_byte};
+ghost use Rattle.std.specs.Prelude.{◌≡◌, ◌↔◌, ◌<◌, [], IsTrue, IfSome, IfOk, IfErr, OnOk, OnErr, not, option_map, slice_get, length, bytes_eq, true, false, if◌then◌else◌, ℕ, List, position};
+ghost use Rattle.std.specs.{List.list_all, Map.keys_of};
+ghost use Rattle.ir_model.specs.Graph.{has_node, has_edge, weight_of, neighbors, names, degree, edges, with_node, with_edge, without_edge, without_node, is_name, is_name_byte, Adjacency, IsGraph};
+ghost use Rattle.ir_model.specs.Places.{neighbor_at, neighbors_at};
+ghost use Rattle.ir_graph.specs.{View.rows_view, Kept.IsKept, Faults.{node_fault, edge_fault, Refuses}};
+ghost use Rattle.ir_graph.specs.Paths.{IsConnectedGraph, RefusesEmpty};
 
 mod by_place;
 mod error;
@@ -32,10 +34,6 @@ pub struct Graph {
 }
 
 impl Model for Graph {
-    ghost use Rattle.ir_model.specs.Graph.{Adjacency};
-    ghost use Rattle.ir_graph.specs.View.{rows_view};
-    ghost use Rattle.ir_graph.specs.Kept.{IsKept};
-
     ghost Value = { Adjacency };
 
     ghost view = { λ g. rows_view g.rows };
@@ -64,12 +62,6 @@ fn is_valid_name(name: &str) -> bool
 }
 
 impl Graph {
-    ghost use Rattle.ir_graph.specs.Faults.{node_fault, edge_fault, Refuses};
-    ghost use Rattle.ir_graph.specs.Paths.{IsConnectedGraph, RefusesEmpty};
-    ghost use Rattle.ir_model.specs.Places.{neighbor_at, neighbors_at};
-    ghost use Rattle.ir_model.specs.Graph.{IsGraph};
-    ghost use Rattle.std.specs.Prelude.{ℕ, List, position};
-
     /// A graph with no node. It takes memory from `alloc` when it grows.
     pub fn new(alloc: Global) -> Self
         ensures { result ≡ [] }

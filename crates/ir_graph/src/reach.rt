@@ -1,8 +1,7 @@
 //! What paths from the first node of a graph lead to.
 ghost use Rattle.std.specs.Prelude.{◌≡◌, ◌<◌, IfOk, OnOk, length};
-ghost use Rattle.ir_model.specs.Graph.{IsGraph};
+ghost use Rattle.ir_model.specs.{Graph.IsGraph, Places.neighbors_at};
 ghost use Rattle.ir_graph.specs.View.{rows_view};
-ghost use Rattle.ir_model.specs.Places.{neighbors_at};
 ghost use Rattle.ir_graph.specs.Reached.{AreReached, AreClosed, HasNeighbors, HasPlace, HasMoreBehind};
 
 use crate::by_place::{neighbor_at, neighbor_count};

@@ -1,7 +1,6 @@
 //! The rows of a graph: its nodes in order, each with its neighbours in order.
 ghost use Rattle.std.specs.Prelude.{false, ◌^◌, if◌then◌else◌, None, Some, ◌≡◌, ◌<◌, length, take, OnOk, OnErr, IfOk, IfSome, IsSome, is_some, option_map, slice_get, position, bytes_eq};
-ghost use Rattle.std.specs.List.{IsDistinct};
-ghost use Rattle.std.specs.Map.{lookup, keys_of};
+ghost use Rattle.std.specs.{List.IsDistinct, Map.{lookup, keys_of}};
 ghost use Rattle.ir_model.specs.Graph.{weight_of, has_node, neighbors, with_node, with_edge, without, without_edge, without_node, names, put};
 ghost use Rattle.ir_graph.specs.View.{rows_view, change_row, linked_rows};
 

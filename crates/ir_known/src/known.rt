@@ -1,6 +1,5 @@
 //! A `Note` that knows, in a form that threads share: it is copied and compared behind a `&`.
-ghost use Rattle.std.specs.Prelude.{◌≡◌, ℕ};
-ghost use Rattle.std.specs.declared.option.Option.TheVariants.{Some};
+ghost use Rattle.std.specs.{Prelude.{◌≡◌, ℕ}, declared.option.Option.TheVariants.Some};
 ghost use Rattle.once_cell.specs.Once.{noted};
 ghost use denote.Sharing.{said};
 

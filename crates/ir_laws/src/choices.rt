@@ -1,12 +1,9 @@
 //! Laws of choices of ports and of compact tables.
 
 ghost use Rattle.std.specs.Prelude.{◌≡◌, ℕ, ◌<◌, Bool, true, List, Option};
-ghost use Rattle.ir_model.specs.Topology.{Topology, node_count, IsTopology};
-ghost use Rattle.ir_model.specs.Walk.{IsWalk, walk_weight, IsDistance};
-ghost use Rattle.ir_model.specs.Table.{IsNearerTable, IsPrescribedWalk};
-ghost use Rattle.ir_model.specs.Choices.{AreChoices, AreChosen};
-ghost use Rattle.ir_model.specs.Compact.{IsCompactTable};
-ghost use Rattle.ir_model.specs.Plan.{AreLabels};
+ghost use Rattle.ir_model.specs.{Topology.{Topology, node_count, IsTopology}, Walk.{IsWalk, walk_weight, IsDistance}};
+ghost use Rattle.ir_model.specs.{Table.{IsNearerTable, IsPrescribedWalk}, Choices.{AreChoices, AreChosen}};
+ghost use Rattle.ir_model.specs.{Compact.IsCompactTable, Plan.AreLabels};
 
 /// The rule chooses one list of ports.
 pub fn chosen_ports_are_determined()

@@ -1,9 +1,7 @@
 //! Laws of cyclic intervals and rows.
 
 ghost use Rattle.std.specs.Prelude.{◌≡◌, ℕ, ◌<◌, List, Option};
-ghost use Rattle.ir_model.specs.Compiled.{IsCanonical};
-ghost use Rattle.ir_model.specs.Interval.{InInterval};
-ghost use Rattle.ir_model.specs.Row.{Start};
+ghost use Rattle.ir_model.specs.{Compiled.IsCanonical, Interval.InInterval, Row.Start};
 
 /// The interval from a label to itself holds every label.
 pub fn whole_circle()

@@ -1,8 +1,7 @@
 //! Laws of depth-first numberings.
 
 ghost use Rattle.std.specs.Prelude.{◌≡◌, ℕ, ◌<◌, List, slice_index};
-ghost use Rattle.ir_model.specs.Topology.{Topology, node_count};
-ghost use Rattle.ir_model.specs.Numbering.{IsDepthFirst, neighbors_of};
+ghost use Rattle.ir_model.specs.{Topology.{Topology, node_count}, Numbering.{IsDepthFirst, neighbors_of}};
 
 /// A depth-first numbering, and the parent of each place but the root's, are determined by network and root.
 pub fn numbering_is_determined()

@@ -2,8 +2,7 @@
 
 ghost use Rattle.std.specs.Prelude.{◌≡◌, ℕ, ◌+◌, ◌<◌, ◌≤◌, List, Option};
 ghost use Rattle.ir_model.specs.Topology.{Topology, IsTopology, node_count};
-ghost use Rattle.ir_model.specs.Table.{IsShortestTable, IsPrescribedWalk};
-ghost use Rattle.ir_model.specs.Walk.{IsWalk, IsDistance, walk_weight};
+ghost use Rattle.ir_model.specs.{Table.{IsShortestTable, IsPrescribedWalk}, Walk.{IsWalk, IsDistance, walk_weight}};
 
 /// The distance from a node to itself is 0.
 pub fn distance_to_itself()

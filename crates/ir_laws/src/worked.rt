@@ -2,12 +2,8 @@
 
 ghost use Rattle.std.specs.Prelude.{◌≡◌, ℕ, ◌≤◌, List, [], ◌∷◌, None};
 ghost use Rattle.ir_laws.specs.Worked.{line, six, by_tree, text};
-ghost use Rattle.ir_model.specs.Graph.{names, edges};
-ghost use Rattle.ir_model.specs.Interval.{InInterval};
-ghost use Rattle.ir_model.specs.Made.{graph_of};
-ghost use Rattle.ir_model.specs.Table.{IsPrescribedWalk};
-ghost use Rattle.ir_model.specs.Text.{lines, names_in, pairs_in, first_fault};
-ghost use Rattle.ir_model.specs.Walk.{IsWalk, IsDistance, walk_weight};
+ghost use Rattle.ir_model.specs.{Graph.{names, edges}, Interval.InInterval, Made.graph_of, Table.IsPrescribedWalk};
+ghost use Rattle.ir_model.specs.{Text.{lines, names_in, pairs_in, first_fault}, Walk.{IsWalk, IsDistance, walk_weight}};
 
 /// Of six labels: `[4, 1)` holds 5 and not 1, and `[3, 3)` holds 0.
 pub fn intervals_of_six_labels()

@@ -1,11 +1,8 @@
 //! Laws of the tables, each the contract of a function with an empty body.
 ghost use Rattle.std.specs.Prelude.{◌≡◌, ◌<◌, ◌^◌, ℕ, All, Bool, Contains, List, [], false, length, map, slice_index_or, take, true};
-ghost use Rattle.ir_model.specs.Graph.{Name};
-ghost use Rattle.ir_model.specs.Topology.{node_count};
-ghost use Rattle.ir_model.specs.Plan.{IsPlan, Plan};
+ghost use Rattle.ir_model.specs.{Graph.Name, Topology.node_count, Plan.{IsPlan, Plan}};
 ghost use Rattle.ir_prefix.specs.declared.line.Line.{Line};
-ghost use Rattle.ir_lines.specs.PrefixesText.{IsPrefixesOf};
-ghost use Rattle.ir_lines.specs.Sent.{end_of, GoesAllTheWay, KeepsToWalk};
+ghost use Rattle.ir_lines.specs.{PrefixesText.IsPrefixesOf, Sent.{end_of, GoesAllTheWay, KeepsToWalk}};
 ghost use Rattle.ir_lines.specs.Tables.{AreTablesOf};
 
 /// Where each node has only the first ones of its lines, whatever number something is sent to and from whichever node,

@@ -1,12 +1,8 @@
 //! The forwarding table of a node of a plan.
 ghost use Rattle.std.specs.Prelude.{◌≡◌, ◌≢◌, ◌<◌, ◌+◌, ℕ, None, IfOk, IfSome, IsSome, length};
-ghost use Rattle.ir_model.specs.Topology.{node_count};
-ghost use Rattle.ir_model.specs.Row.{HasPort};
-ghost use Rattle.ir_model.specs.Plan.{by_label};
-ghost use Rattle.ir_prefix.specs.Forwarding.{NamesPorts};
-ghost use Rattle.ir_prefix.specs.Longest.{IsWidth};
-ghost use Rattle.ir_lines.specs.Before.{AreBelow};
-ghost use Rattle.ir_lines.specs.Tables.{AreDisjointLines, AreLinesOf, AreNestedLines};
+ghost use Rattle.ir_model.specs.{Topology.node_count, Row.HasPort, Plan.by_label};
+ghost use Rattle.ir_prefix.specs.{Forwarding.NamesPorts, Longest.IsWidth};
+ghost use Rattle.ir_lines.specs.{Before.AreBelow, Tables.{AreDisjointLines, AreLinesOf, AreNestedLines}};
 
 use ir_lookup::Row;
 use ir_plan::Plan;

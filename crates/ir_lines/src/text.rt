@@ -1,8 +1,6 @@
 //! The text of a plan's forwarding tables.
 ghost use Rattle.std.specs.Prelude.{◌≡◌, ◌<◌, ◌≤◌, ◌++◌, Bool, IfOk, IfSome, List, OnOk, All, [], length, flat_map, string_bytes};
-ghost use Rattle.ir_model.specs.Graph.{Name, names};
-ghost use Rattle.ir_model.specs.Topology.{node_count, ports_of};
-ghost use Rattle.ir_model.specs.Plan.{IsPlan};
+ghost use Rattle.ir_model.specs.{Graph.{Name, names}, Topology.{node_count, ports_of}, Plan.IsPlan};
 ghost use Rattle.ir_trace.specs.Rows.{spaced};
 ghost use Rattle.ir_show.specs.Words.{line_text};
 ghost use Rattle.ir_lines.specs.Before.{AreWritten};

@@ -1,10 +1,8 @@
 //! The text of a plan's forwarding tables, made in several threads.
 
 ghost use Rattle.std.specs.Prelude.{◌≡◌, ◌<◌, ◌≤◌, ◌++◌, All, IfOk, OnOk, length, flat_map, sum_by, string_bytes};
-ghost use Rattle.ir_model.specs.Graph.{names};
-ghost use Rattle.ir_model.specs.Topology.{node_count};
-ghost use Rattle.ir_lines.specs.NodeTexts.{AreNodeTexts, IsNodeText, bytes_of, lines_of};
-ghost use Rattle.ir_lines.specs.PrefixesText.{IsPrefixesOf};
+ghost use Rattle.ir_model.specs.{Graph.names, Topology.node_count};
+ghost use Rattle.ir_lines.specs.{NodeTexts.{AreNodeTexts, IsNodeText, bytes_of, lines_of}, PrefixesText.IsPrefixesOf};
 
 use crate::table::table_of;
 use crate::text::{push_node, text_of_lines};

@@ -1,10 +1,11 @@
 //! A channel, its two ends, and what is left at the end.
 //!
 //! The account of a channel is this project's own rule. The queue is crossbeam's bounded one, under a rule of ours.
-ghost use Rattle.std.specs.Prelude.{◌≡◌, ◌<◌, ◌+◌, ◌≤◌, List, [], ◌∷◌, ◌++◌, length, All, IfOk, IfErr, IfNone, IfSome, None, true, MatchOption, MatchResult, vec_len, vec_capacity};
+ghost use Rattle.std.specs.Prelude.{◌≡◌, ◌<◌, ◌+◌, ◌≤◌, List, [], ◌∷◌, ◌++◌, length, All, IfOk, IfErr, IfNone, IfSome, None, true, MatchOption, MatchResult, vec_len, vec_capacity, drop};
+ghost use Rattle.std.specs.Arc.{arc_value};
 ghost use Rattle.crossbeam_queue.specs.Passes.{view as pass_view, IsSamePass, IsPassOf, ruled_capacity};
-ghost use Rattle.ir_links.specs.Ends.{WasFull, WasEmpty, WasRefused, FoundNone};
-ghost use Rattle.ir_links.specs.Rule.{terms_of, known, knows_base};
+ghost use Rattle.ir_links.specs.{Ends.{WasFull, WasEmpty, WasRefused, FoundNone}, Rule.{terms_of, known, knows_base}};
+ghost use Rattle.ir_links.specs.{Ends.{Channel, Sender, Taker, Remains}, Rule.{knows_sent, knows_taken, knows_both}};
 
 use crate::moments::{Moments, Shared};
 use crate::rule::{Bound, Empties, InOrder, Named, Naming, Roles, View};
@@ -35,12 +36,6 @@ pub struct Channel<T: Bound> {
 }
 
 impl<T: Bound> Model for Channel<T> {
-    ghost use Rattle.std.specs.Prelude.{◌≡◌};
-    ghost use Rattle.std.specs.Arc.{arc_value};
-    ghost use Rattle.crossbeam_queue.specs.Passes.{ruled_capacity};
-    ghost use Rattle.ir_links.specs.Ends.{Channel};
-    ghost use Rattle.ir_links.specs.Rule.{knows_base};
-
     ghost Value = { Channel T.Place };
 
     ghost view = { λ c. record {
@@ -67,12 +62,6 @@ pub struct Sender<T: Bound> {
 }
 
 impl<T: Bound> Model for Sender<T> {
-    ghost use Rattle.std.specs.Prelude.{◌≡◌};
-    ghost use Rattle.std.specs.Arc.{arc_value};
-    ghost use Rattle.crossbeam_queue.specs.Passes.{view as pass_view, IsPassOf, ruled_capacity};
-    ghost use Rattle.ir_links.specs.Ends.{Sender};
-    ghost use Rattle.ir_links.specs.Rule.{knows_sent};
-
     ghost Value = { Sender T.Place T };
 
     ghost view = { λ s. record {
@@ -97,12 +86,6 @@ pub struct Taker<T: Bound> {
 }
 
 impl<T: Bound> Model for Taker<T> {
-    ghost use Rattle.std.specs.Prelude.{◌≡◌};
-    ghost use Rattle.std.specs.Arc.{arc_value};
-    ghost use Rattle.crossbeam_queue.specs.Passes.{view as pass_view, IsPassOf, ruled_capacity};
-    ghost use Rattle.ir_links.specs.Ends.{Taker};
-    ghost use Rattle.ir_links.specs.Rule.{knows_taken};
-
     ghost Value = { Taker T.Place T };
 
     ghost view = { λ s. record {
@@ -128,12 +111,6 @@ pub struct Remains<T: Bound> {
 }
 
 impl<T: Bound> Model for Remains<T> {
-    ghost use Rattle.std.specs.Prelude.{◌≡◌, ◌++◌, length, drop};
-    ghost use Rattle.std.specs.Arc.{arc_value};
-    ghost use Rattle.crossbeam_queue.specs.Passes.{view as pass_view, IsPassOf, ruled_capacity};
-    ghost use Rattle.ir_links.specs.Ends.{Remains};
-    ghost use Rattle.ir_links.specs.Rule.{knows_both};
-
     ghost Value = { Remains T.Place T };
 
     ghost view = { λ r. record {

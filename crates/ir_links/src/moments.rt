@@ -2,8 +2,8 @@
 ghost use Rattle.std.specs.Prelude.{◌≡◌, List, ◌∷◌, [], ◌++◌, IfErr, MatchOption, MatchResult, IfNone};
 ghost use Rattle.atomic_table.specs.Seated.{TableId};
 ghost use Rattle.crossbeam_queue.specs.Passes.{view as pass_view, IsSamePass, IsPassOf, ruled_capacity};
-ghost use Rattle.ir_links.specs.Ends.{IsFull, IsEmpty};
-ghost use Rattle.ir_links.specs.Rule.{knows_sent, knows_taken};
+ghost use Rattle.ir_links.specs.{Ends.{IsFull, IsEmpty}, Rule.{knows_sent, knows_taken}};
+ghost use Rattle.ir_links.specs.Lists.{EndsWith};
 
 use crate::rule::{Bound, InOrder, Sends, Takes, View};
 use crossbeam_queue::{Pass, RuledArrayQueue};
@@ -61,9 +61,6 @@ pub trait Moments<T: Bound>: Wait {
 }
 
 impl<T: Bound, R: Wait> Moments<T> for R {
-    ghost use Rattle.ir_links.specs.Lists.{EndsWith};
-    ghost use Rattle.std.specs.Prelude.{◌≡◌};
-
     // what the kit's queue says of such a call
     ghost was_full = { λ name sent items. EndsWith sent items };
 

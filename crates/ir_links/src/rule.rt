@@ -1,5 +1,7 @@
 //! The rule of a channel, and what each kind of step does to what its pass knows.
-ghost use Rattle.std.specs.Prelude.{◌≡◌, ℕ};
+ghost use Rattle.std.specs.Prelude.{◌≡◌, ℕ, true, None, [], Option, false, List, ◌++◌, ◌∷◌};
+ghost use Rattle.ir_links.specs.Rule.{known, Kept, after_send, GoBy, after_take, Goes, FitsIn};
+ghost use Rattle.ir_links.specs.{declared.rule.Terms.Terms, Lists.EndsWith};
 
 use crossbeam_queue::protocol::{Join, Lesson, Outcome, Protocol, Split};
 use std::collections::LinkedList;
@@ -38,9 +40,6 @@ pub struct View<T, P> {
 pub struct InOrder;
 
 impl<T: Bound> Protocol<T, View<T, T::Place>> for InOrder {
-    ghost use Rattle.std.specs.Prelude.{true, None, []};
-    ghost use Rattle.ir_links.specs.Rule.{known, Kept};
-
     ghost holds = { Kept T.goes_to };
 
     ghost first = { known true true None [] [] };
@@ -48,15 +47,10 @@ impl<T: Bound> Protocol<T, View<T, T::Place>> for InOrder {
 
 /// Names the terms of a channel, once, before its first step.
 pub trait Naming<P> {
-    ghost use Rattle.std.specs.Prelude.{Option};
-    ghost use Rattle.ir_links.specs.declared.rule.Terms.{Terms};
-
     ghost terms: { Option (Terms P) };
 }
 
 impl<P> Naming<P> for Brand {
-    ghost use Rattle.std.specs.Prelude.{None};
-
     ghost terms = { None };
 }
 
@@ -66,9 +60,6 @@ pub struct Named<K> {
 }
 
 impl<T, P, K: Naming<P>> Split<View<T, P>> for Named<K> {
-    ghost use Rattle.std.specs.Prelude.{true, false, None, []};
-    ghost use Rattle.ir_links.specs.Rule.{known};
-
     ghost left = { λ v. known true true K.terms [] [] };
 
     ghost right = { λ v. known false false None [] [] };
@@ -78,18 +69,12 @@ impl<T, P, K: Naming<P>> Split<View<T, P>> for Named<K> {
 pub struct Roles;
 
 impl<T, P> Split<View<T, P>> for Roles {
-    ghost use Rattle.std.specs.Prelude.{true, false, []};
-    ghost use Rattle.ir_links.specs.Rule.{known};
-
     ghost left = { λ v. known true false v.terms v.sent [] };
 
     ghost right = { λ v. known false true v.terms [] v.taken };
 }
 
 impl<T, P> Join<View<T, P>> for Roles {
-    ghost use Rattle.std.specs.Prelude.{true, false, None, []};
-    ghost use Rattle.ir_links.specs.Rule.{known};
-
     ghost both = { λ v w. known true true w.terms v.sent w.taken };
 
     ghost spent = { known false false None [] [] };
@@ -99,16 +84,10 @@ impl<T, P> Join<View<T, P>> for Roles {
 pub struct Sends;
 
 impl<T, P> Outcome<T, View<T, P>> for Sends {
-    ghost use Rattle.std.specs.Prelude.{◌≡◌};
-    ghost use Rattle.ir_links.specs.Rule.{after_send};
-
     ghost then = { λ v x w. w ≡ after_send v x };
 }
 
 impl<T: Bound> Lesson<T, View<T, T::Place>> for Sends {
-    ghost use Rattle.ir_links.specs.Lists.{EndsWith};
-    ghost use Rattle.ir_links.specs.Rule.{GoBy};
-
     ghost fact = { λ v items. EndsWith v.sent items × GoBy T.goes_to v.terms items };
 }
 
@@ -116,16 +95,10 @@ impl<T: Bound> Lesson<T, View<T, T::Place>> for Sends {
 pub struct Takes;
 
 impl<T: Bound> Outcome<T, View<T, T::Place>> for Takes {
-    ghost use Rattle.std.specs.Prelude.{◌≡◌};
-    ghost use Rattle.ir_links.specs.Rule.{after_take, Goes};
-
     ghost then = { λ v x w. (w ≡ after_take v x) × Goes T.goes_to v x };
 }
 
 impl<T: Bound> Lesson<T, View<T, T::Place>> for Takes {
-    ghost use Rattle.std.specs.Prelude.{◌≡◌, List, ◌++◌};
-    ghost use Rattle.ir_links.specs.Rule.{GoBy};
-
     ghost fact = { λ v items. (sent : List T) × (sent ≡ v.taken ++ items) × GoBy T.goes_to v.terms sent };
 }
 
@@ -133,15 +106,9 @@ impl<T: Bound> Lesson<T, View<T, T::Place>> for Takes {
 pub struct Empties;
 
 impl<T: Bound> Outcome<T, View<T, T::Place>> for Empties {
-    ghost use Rattle.std.specs.Prelude.{◌≡◌, List, ◌++◌, ◌∷◌};
-    ghost use Rattle.ir_links.specs.Rule.{after_take};
-
     ghost then = { λ v x w. (w ≡ after_take v x) × ((rest : List T) × (v.sent ≡ v.taken ++ x ∷ rest)) };
 }
 
 impl<T: Bound> Lesson<T, View<T, T::Place>> for Empties {
-    ghost use Rattle.std.specs.Prelude.{◌≡◌, ◌++◌};
-    ghost use Rattle.ir_links.specs.Rule.{FitsIn, GoBy};
-
     ghost fact = { λ v items. (v.sent ≡ v.taken ++ items) × FitsIn v items × GoBy T.goes_to v.terms items };
 }

@@ -1,8 +1,7 @@
 //! Carrying out commands in turn.
 ghost use Rattle.std.specs.Prelude.{◌≡◌, ◌++◌, ◌∷◌, List, IfOk, OnOk};
 ghost use Rattle.ir_live.specs.Answers.{CommandAnswer, refusal_in, refusal_at, refusals_from};
-ghost use Rattle.ir_live.specs.Planned.{stamp_by, stamps_in};
-ghost use Rattle.ir_live.specs.Carried.{AreCarriedOut};
+ghost use Rattle.ir_live.specs.{Planned.{stamp_by, stamps_in}, Carried.AreCarriedOut};
 
 use crate::desk::Desk;
 use ir_control::Net;

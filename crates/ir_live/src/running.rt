@@ -1,14 +1,10 @@
 //! A live run.
-ghost use Rattle.std.specs.Prelude.{◌≡◌, All, IfOk, IfErr, None, map};
+ghost use Rattle.std.specs.{Prelude.{◌≡◌, All, IfOk, IfErr, None, map}, Borrow.Bor};
 ghost use Rattle.ir_model.specs.Topology.{node_count};
-ghost use Rattle.ir_control.specs.Parts.{AreFirstNodes, IsInjectorOf};
-ghost use Rattle.ir_control.specs.Reports.{IsReport};
-ghost use Rattle.std.specs.Borrow.{Bor};
+ghost use Rattle.ir_control.specs.{Parts.{AreFirstNodes, IsInjectorOf}, Reports.IsReport};
 ghost use mathlib.Core.List.{IsPrefix};
 ghost use Rattle.ir_epochs.specs.Handles.{known, published, reader_board, writer_board};
-ghost use Rattle.ir_live.specs.Agreed.{AreOfOne, Agrees};
-ghost use Rattle.ir_live.specs.Lives.{IsLive, IsRefusal};
-ghost use Rattle.ir_live.specs.Runs.{live_error, parts_error};
+ghost use Rattle.ir_live.specs.{Agreed.{AreOfOne, Agrees}, Lives.{IsLive, IsRefusal}, Runs.{live_error, parts_error}};
 
 use crate::agreeing::{agree_all, agree_rows, lead_all};
 use crate::desk::Desk;

@@ -5,11 +5,9 @@ ghost use Rattle.std.specs.Prelude.{◌<◌, IsTrue, ◌↔◌};
 ghost use Rattle.ir_model.specs.Interval.{InInterval};
 
 mod halving;
-mod plain;
 mod row;
 mod steps;
 
-pub use plain::PlainRow;
 pub use row::Row;
 pub use steps::Steps;
 

@@ -1,7 +1,6 @@
-ghost use Rattle.std.specs.Prelude.{◌≡◌, ◌<◌, ◌≤◌, ◌+◌, ◌*◌, ◌^◌, ℕ, length, slice_index, IsTrue, ◌↔◌};
-ghost use Rattle.ir_model.specs.Row.{IsAscending, HasPort, labels, start_ports};
-ghost use Rattle.ir_lookup.specs.Halving.{Halves};
-ghost use Rattle.ir_lookup.specs.Words.{starts_of};
+ghost use Rattle.std.specs.Prelude.{◌≡◌, ◌<◌, ◌≤◌, ◌+◌, ◌*◌, ◌^◌, ℕ, length, slice_index, IsTrue, ◌↔◌, List};
+ghost use Rattle.ir_model.specs.Row.{IsAscending, HasPort, labels, start_ports, Start};
+ghost use Rattle.ir_lookup.specs.{Halving.Halves, Words.starts_of};
 
 use crate::WORD_BASE;
 use crate::halving::place_counted;
@@ -16,10 +15,6 @@ pub struct Starts {
 }
 
 impl Model for Starts {
-    ghost use Rattle.std.specs.Prelude.{List};
-    ghost use Rattle.ir_model.specs.Row.{Start, IsAscending};
-    ghost use Rattle.ir_lookup.specs.Words.{starts_of};
-
     ghost Value = { List Start };
 
     ghost view = { λ s. starts_of s.words.items };
@@ -80,9 +75,6 @@ pub struct Row {
 }
 
 impl Model for Row {
-    ghost use Rattle.std.specs.Prelude.{List};
-    ghost use Rattle.ir_model.specs.Row.{Start};
-
     ghost Value = { List Start };
 
     ghost view = { λ r. r.starts };

@@ -1,6 +1,5 @@
 ghost use Rattle.std.specs.Prelude.{◌≡◌};
-ghost use Rattle.ir_numbering.specs.declared.error.NumberError.TheVariants.{NoMemory};
-ghost use Rattle.ir_numbering.specs.Codes.{number_code};
+ghost use Rattle.ir_numbering.specs.{declared.error.NumberError.TheVariants.NoMemory, Codes.number_code};
 
 use std::alloc::AllocError;
 use thiserror::Error;

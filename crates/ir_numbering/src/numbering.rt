@@ -1,15 +1,10 @@
 ghost use Rattle.std.specs.Prelude.{◌≡◌, ◌<◌, ◌≤◌, ◌↔◌, None, length, slice_index, slice_index_or, IfOk, IsTrue, OnOk};
-ghost use Rattle.ir_model.specs.Topology.{node_count};
-ghost use Rattle.ir_model.specs.Walk.{IsConnected, IsDisconnected};
-ghost use Rattle.ir_model.specs.Numbering.{neighbors_of, IsDepthFirst};
-ghost use Rattle.ir_model.specs.Subtree.{IsSubtree};
-ghost use Rattle.ir_model.specs.Table.{port_in, IsRouted};
-ghost use Rattle.ir_model.specs.Tree.{IsParent, IsTreeTable};
-ghost use Rattle.ir_model.specs.Plan.{AreLabels};
-ghost use Rattle.ir_model.specs.declared.TheConstants.{MAX_NODES};
-ghost use Rattle.ir_numbering.specs.Numbering.{IsListing, IsNumberingOf};
-ghost use Rattle.ir_numbering.specs.Orders.{HoldsNoNode, HoldsOneTwice, LacksOne};
-ghost use Rattle.ir_numbering.specs.Cells.{AreTreeCells};
+ghost use Rattle.ir_model.specs.{Topology.node_count, Walk.{IsConnected, IsDisconnected}};
+ghost use Rattle.ir_model.specs.{Numbering.{neighbors_of, IsDepthFirst}, Subtree.IsSubtree, Table.{port_in, IsRouted}};
+ghost use Rattle.ir_model.specs.{Tree.{IsParent, IsTreeTable}, Plan.AreLabels, declared.TheConstants.MAX_NODES};
+ghost use Rattle.ir_numbering.specs.Numbering.{IsListing, IsNumberingOf, Numbering, AreSoundNumbers};
+ghost use Rattle.ir_numbering.specs.{Sizes.AreSizesFrom, Views.numbers_of};
+ghost use Rattle.ir_numbering.specs.{Orders.{HoldsNoNode, HoldsOneTwice, LacksOne}, Cells.AreTreeCells};
 
 use crate::error::NumberError;
 use crate::order::{OrderError, check_order};
@@ -31,10 +26,6 @@ pub struct Numbering {
 }
 
 impl Model for Numbering {
-    ghost use Rattle.ir_numbering.specs.Numbering.{Numbering, AreSoundNumbers};
-    ghost use Rattle.ir_numbering.specs.Sizes.{AreSizesFrom};
-    ghost use Rattle.ir_numbering.specs.Views.{numbers_of};
-
     ghost Value = { Numbering };
 
     ghost view = { numbers_of };

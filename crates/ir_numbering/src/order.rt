@@ -1,7 +1,6 @@
 //! Orders of nodes from outside: whether a list has each node once.
 ghost use Rattle.std.specs.Prelude.{◌≡◌, Err, OnOk};
-ghost use Rattle.ir_numbering.specs.Numbering.{IsListing};
-ghost use Rattle.ir_numbering.specs.Orders.{HoldsNoNode, HoldsOneTwice, LacksOne, order_code};
+ghost use Rattle.ir_numbering.specs.{Numbering.IsListing, Orders.{HoldsNoNode, HoldsOneTwice, LacksOne, order_code}};
 ghost use Rattle.ir_numbering.specs.declared.order.OrderError.TheVariants.{NoMemory};
 
 use std::alloc::{AllocError, Global};

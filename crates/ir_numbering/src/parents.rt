@@ -1,12 +1,7 @@
 ghost use Rattle.std.specs.Prelude.{◌≡◌, ◌+◌, ◌<◌, ◌≤◌, length, IfOk, IsSomeAnd, slice_index};
-ghost use Rattle.ir_model.specs.declared.TheConstants.{MAX_NODES};
-ghost use Rattle.ir_model.specs.Topology.{node_count};
-ghost use Rattle.ir_model.specs.Walk.{Linked};
-ghost use Rattle.ir_model.specs.Numbering.{neighbors_of, IsDepthFirst};
-ghost use Rattle.ir_model.specs.Subtree.{IsSubtree, IsNested};
-ghost use Rattle.ir_model.specs.Plan.{AreLabels};
-ghost use Rattle.ir_numbering.specs.Numbering.{IsListing, IsPortTo, IsParentPort, AreParentPorts};
-ghost use Rattle.ir_numbering.specs.Sizes.{AreSizesFrom};
+ghost use Rattle.ir_model.specs.{declared.TheConstants.MAX_NODES, Topology.node_count, Walk.Linked};
+ghost use Rattle.ir_model.specs.{Numbering.{neighbors_of, IsDepthFirst}, Subtree.{IsSubtree, IsNested}, Plan.AreLabels};
+ghost use Rattle.ir_numbering.specs.{Numbering.{IsListing, IsPortTo, IsParentPort, AreParentPorts}, Sizes.AreSizesFrom};
 
 use ir_tables::Topology;
 use std::alloc::{AllocError, Global};

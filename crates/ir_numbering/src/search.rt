@@ -1,7 +1,5 @@
 ghost use Rattle.std.specs.Prelude.{◌≡◌, ◌<◌, ◌≤◌, ℕ, length, All, IfOk, IfSome, MatchOption, map, slice_set, true};
-ghost use Rattle.ir_model.specs.declared.Hop.{Hop};
-ghost use Rattle.ir_model.specs.Topology.{node_count};
-ghost use Rattle.ir_model.specs.Numbering.{neighbors_of, IsDepthFirst};
+ghost use Rattle.ir_model.specs.{declared.Hop.Hop, Topology.node_count, Numbering.{neighbors_of, IsDepthFirst}};
 ghost use Rattle.ir_numbering.specs.Search.{IsFirstUnmarked, IsUnmarkedAt, AllMarked, FirstMarked, ArePassed, IsCutOff};
 
 use ir_tables::{Hop, Topology};

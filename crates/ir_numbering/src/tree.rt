@@ -1,7 +1,5 @@
 ghost use Rattle.std.specs.Prelude.{◌≡◌, ◌<◌, ◌++◌, ℕ, length, map, All, IfOk, OnOk, None, slice_index, slice_index_or};
-ghost use Rattle.ir_model.specs.Topology.{node_count};
-ghost use Rattle.ir_model.specs.Numbering.{neighbors_of, IsDepthFirst};
-ghost use Rattle.ir_model.specs.Plan.{AreLabels};
+ghost use Rattle.ir_model.specs.{Topology.node_count, Numbering.{neighbors_of, IsDepthFirst}, Plan.AreLabels};
 ghost use Rattle.ir_numbering.specs.Numbering.{IsParentPort, AreParentPorts};
 ghost use Rattle.ir_numbering.specs.Cells.{IsTreeCell, AreTreeCells, AreTreeRows};
 

@@ -1,4 +1,7 @@
 //! Why a text is no order of the nodes.
+ghost use Rattle.std.specs.Prelude.{◌≡◌};
+ghost use Rattle.ir_order.specs.declared.fault.OrderFaultKind.TheVariants.{NoMemory};
+
 use std::alloc::{AllocError, AllocFailed};
 use thiserror::Error;
 
@@ -35,9 +38,6 @@ pub struct OrderFault {
 }
 
 impl<T: Drop> From<AllocFailed<T>> for OrderFaultKind {
-    ghost use Rattle.std.specs.Prelude.{◌≡◌};
-    ghost use Rattle.ir_order.specs.declared.fault.OrderFaultKind.TheVariants.{NoMemory};
-
     ghost from_gives = { λ _ e. e ≡ NoMemory };
 
     fn from(_error: AllocFailed<T>) -> OrderFaultKind {
@@ -46,9 +46,6 @@ impl<T: Drop> From<AllocFailed<T>> for OrderFaultKind {
 }
 
 impl From<AllocError> for OrderFault {
-    ghost use Rattle.std.specs.Prelude.{◌≡◌};
-    ghost use Rattle.ir_order.specs.declared.fault.OrderFaultKind.TheVariants.{NoMemory};
-
     ghost from_gives = { λ _ e. e ≡ record { line = 0; kind = NoMemory } };
 
     fn from(_error: AllocError) -> OrderFault {

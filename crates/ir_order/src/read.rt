@@ -1,7 +1,6 @@
 //! Orders, line by line.
 ghost use Rattle.std.specs.Prelude.{◌≡◌, ◌≢◌, ◌<◌, ◌++◌, false, true, length, position, bytes_eq, option_to_list, IfOk, IfErr, IfSome, OnOk};
-ghost use Rattle.ir_model.specs.Graph.{names};
-ghost use Rattle.ir_model.specs.Text.{lines};
+ghost use Rattle.ir_model.specs.{Graph.names, Text.lines};
 ghost use Rattle.ir_numbering.specs.Numbering.{IsListing};
 ghost use Rattle.ir_order.specs.Order.{order_fault, IsOrder, OrderTold, told_order};
 ghost use Rattle.ir_order.specs.Steps.{listed_node, line_node, has_place, with_place};

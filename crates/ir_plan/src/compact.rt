@@ -1,15 +1,12 @@
 //! The row of a node in a compact plan: the fewest intervals over all choices of ports that lead nearer.
 
 ghost use Rattle.std.specs.Prelude.{◌≡◌, ◌<◌, ℕ, Contains, IfOk, length, slice_index};
-ghost use Rattle.ir_model.specs.declared.Kind.TheVariants.{Compact};
-ghost use Rattle.ir_model.specs.Topology.{node_count, ports_of};
-ghost use Rattle.ir_model.specs.Walk.{IsConnected};
-ghost use Rattle.ir_model.proofs.Steps.{AreLongest};
+ghost use Rattle.ir_model.specs.{declared.Kind.TheVariants.Compact, Topology.{node_count, ports_of}, Walk.IsConnected};
 ghost use Rattle.ir_model.specs.Plan.{AreLabels};
+ghost use Rattle.ir_model.proofs.Steps.{AreLongest};
 ghost use Rattle.ir_tables.specs.FromNode.{AreFrom};
 ghost use Rattle.ir_compile.specs.Runs.{HasMarked};
-ghost use Rattle.ir_plan.specs.NodeRows.{IsNodeRow, ArePortsOf};
-ghost use Rattle.ir_plan.specs.CompactRows.{AreMarksOf, MayTake};
+ghost use Rattle.ir_plan.specs.{NodeRows.{IsNodeRow, ArePortsOf}, CompactRows.{AreMarksOf, MayTake}};
 
 use crate::rows::row_of;
 use ir_compile::{keep_longer, ports_of_runs};

@@ -19,7 +19,7 @@ pub use error::PlanError;
 pub use ir_model::{Hop, Kind};
 pub use plan::Plan;
 pub use threads::rows_of_a_thread;
-pub use tour::{LabelOrder, plan_in_order, plan_in_order_watched, tour_plan};
+pub use tour::{LabelOrder, plan_in_order};
 pub use watch::{Unwatched, Watch};
 
 /// The most nodes of a plan whose labels a tour is sought for.

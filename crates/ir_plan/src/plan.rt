@@ -1,14 +1,11 @@
 ghost use Rattle.std.specs.Prelude.{◌-◌, ◌*◌, ◌≡◌, ◌≢◌, ◌↔◌, ◌<◌, ◌≤◌, Some, length, slice_index, sum_by, IfOk, IfErr, OnOk};
-ghost use Rattle.ir_model.specs.Numbering.{IsDepthFirst, neighbors_of};
-ghost use Rattle.ir_model.specs.Topology.{node_count, port_at, ports_of};
+ghost use Rattle.ir_model.specs.{Numbering.{IsDepthFirst, neighbors_of}, Topology.{node_count, port_at, ports_of}};
 ghost use Rattle.ir_model.specs.Walk.{IsConnected, IsDisconnected};
-ghost use Rattle.ir_model.specs.Plan.{AreLabels, IsPlan, HasDepthFirst, by_label, label_in, node_in, table_port, row_in};
-ghost use Rattle.ir_model.specs.Row.{intervals_of};
-ghost use Rattle.ir_model.specs.Compiled.{Fits, IsFewest};
+ghost use Rattle.ir_model.specs.Plan.{AreLabels, IsPlan, HasDepthFirst, by_label, label_in, node_in, table_port, row_in, Plan};
+ghost use Rattle.ir_model.specs.{Row.intervals_of, Compiled.{Fits, IsFewest}};
 ghost use Rattle.ir_numbering.specs.Numbering.{IsListing, IsNumberingOf};
-ghost use Rattle.ir_plan.specs.Shown.{StandForTable};
-ghost use Rattle.ir_plan.specs.CompactRows.{FitsTied, IsFewestOfTied};
-ghost use Rattle.ir_plan.specs.TreeRows.{HasTreeRow};
+ghost use Rattle.ir_plan.specs.{Shown.StandForTable, CompactRows.{FitsTied, IsFewestOfTied}, TreeRows.HasTreeRow};
+ghost use Rattle.ir_plan.specs.Views.{plan_view};
 
 use crate::error::PlanError;
 use crate::rows::rows_of;
@@ -34,9 +31,6 @@ pub struct Plan {
 }
 
 impl Model for Plan {
-    ghost use Rattle.ir_model.specs.Plan.{Plan, IsPlan};
-    ghost use Rattle.ir_plan.specs.Views.{plan_view};
-
     ghost Value = { Plan };
 
     ghost view = { plan_view };
@@ -179,35 +173,11 @@ impl Plan {
         }
     }
 
-    /// The plan that `build_numbered` makes, its rows made in threads as those of `build_in_threads`.
+    /// The plan that `build_numbered` makes, its rows made in threads as those of `build_in_threads`. The watch is told of
+    /// each row once it is made.
     ///
     /// Refused as `build_numbered` is; NoMemory is also where a growth is refused in a thread. All threads together
     /// take as long as `build`.
-    pub fn build_numbered_in_threads(
-        rt: &(impl Threads + Sync),
-        alloc: Global,
-        topology: Topology,
-        kind: Kind,
-        order: Vec<u16>,
-        most: Option<usize>,
-    ) -> Result<Plan, (PlanError, Topology)>
-        requires kind { kind ≢ Kind.Tree }
-        requires order { IsListing (node_count topology) order.items }
-        ensures kind { IfOk result (λ p. p.kind ≡ kind) }
-        ensures order { IfOk result (λ p. p.order ≡ order.items) }
-        ensures topology { IfOk result (λ p. p.topology ≡ topology) }
-        ensures plan { IfOk result (λ p. IsPlan p) }
-        ensures back { IfErr result (λ e. e.1 ≡ topology) }
-        ensures empty { IfErr result (λ e. (e.0 ≡ PlanError.Empty) ↔ (node_count topology ≡ 0)) }
-        ensures no_node { IfErr result (λ e. e.0 ≢ PlanError.NoNode) }
-        ensures disconnected { IfErr result
-            (λ e. e.0 ≡ PlanError.Disconnected → (0 < node_count topology) × IsDisconnected topology) }
-    {
-        Plan::build_numbered_watched(rt, alloc, topology, kind, order, most, &Unwatched)
-    }
-
-    /// The plan that `build_numbered_in_threads` makes, and refused as that is. The watch is told of each row once it is
-    /// made. Takes as long as that.
     pub fn build_numbered_watched(
         rt: &(impl Threads + Sync),
         alloc: Global,

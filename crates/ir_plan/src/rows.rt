@@ -1,15 +1,11 @@
 //! The row of each node, from the shortest ways or the tree of that node alone.
 
 ghost use Rattle.std.specs.Prelude.{◌≡◌, ◌<◌, IfOk, length, map, slice_index};
-ghost use Rattle.ir_model.specs.declared.Kind.TheVariants.{Tree, Shortest};
-ghost use Rattle.ir_model.specs.Topology.{node_count};
-ghost use Rattle.ir_model.specs.Walk.{IsConnected};
-ghost use Rattle.ir_model.specs.Plan.{AreLabels};
-ghost use Rattle.ir_model.specs.Compiled.{IsDestinations, IsCanonical};
+ghost use Rattle.ir_model.specs.{declared.Kind.TheVariants.{Tree, Shortest}, Topology.node_count, Walk.IsConnected};
+ghost use Rattle.ir_model.specs.{Plan.AreLabels, Compiled.{IsDestinations, IsCanonical}};
 ghost use Rattle.ir_numbering.specs.Numbering.{IsNumberingOf};
 ghost use Rattle.ir_tables.specs.FromNode.{held_at};
-ghost use Rattle.ir_plan.specs.Shown.{StandForTable};
-ghost use Rattle.ir_plan.specs.NodeRows.{IsNodeRow};
+ghost use Rattle.ir_plan.specs.{Shown.StandForTable, NodeRows.IsNodeRow};
 
 use crate::compact::compact_row;
 use crate::tree::tree_row;

@@ -1,6 +1,5 @@
 //! Sweeps that shorten a tour by turning stretches of it (Croes 1958).
-ghost use Rattle.std.specs.Prelude.{◌<◌, ◌+◌, All, length};
-ghost use Rattle.std.specs.List.Sorted.{IsPermutation};
+ghost use Rattle.std.specs.{Prelude.{◌<◌, ◌+◌, All, length}, List.Sorted.IsPermutation};
 
 use crate::MOST_SWEEPS;
 use crate::distances::Distances;

@@ -1,13 +1,9 @@
 //! The rows of all nodes, made in several threads.
 
 ghost use Rattle.std.specs.Prelude.{◌≡◌, ◌<◌, IfOk, slice_index};
-ghost use Rattle.ir_model.specs.Topology.{node_count};
-ghost use Rattle.ir_model.specs.Walk.{IsConnected};
-ghost use Rattle.ir_model.specs.Plan.{AreLabels};
-ghost use Rattle.ir_model.specs.declared.Kind.TheVariants.{Tree};
+ghost use Rattle.ir_model.specs.{Topology.node_count, Walk.IsConnected, Plan.AreLabels, declared.Kind.TheVariants.Tree};
 ghost use Rattle.ir_numbering.specs.Numbering.{IsNumberingOf};
-ghost use Rattle.ir_plan.specs.Shown.{StandForTable};
-ghost use Rattle.ir_plan.specs.NodeRows.{IsNodeRow};
+ghost use Rattle.ir_plan.specs.{Shown.StandForTable, NodeRows.IsNodeRow};
 
 use crate::rows::row_at;
 use crate::watch::Watch;

@@ -1,10 +1,8 @@
 //! The plan over the order of a tour, where it has fewer starts than the depth-first plan, and the plan of either order.
-ghost use Rattle.std.specs.Prelude.{◌≡◌, ◌≢◌, ◌⊎◌, ◌↔◌, ◌<◌, ◌≤◌, IfOk, IfErr, IfSome, IsTrue, slice_index};
-ghost use Rattle.ir_model.specs.Topology.{node_count};
-ghost use Rattle.ir_model.specs.Plan.{HasDepthFirst, IsPlan};
-ghost use Rattle.ir_model.specs.Walk.{IsDisconnected};
+ghost use Rattle.std.specs.Prelude.{◌≡◌, ◌≢◌, ◌↔◌, ◌<◌, ◌≤◌, IfOk, IfErr, IfSome, IsTrue, slice_index};
+ghost use Rattle.ir_model.specs.{Topology.node_count, Plan.{HasDepthFirst, IsPlan}, Walk.IsDisconnected};
 ghost use Rattle.ir_numbering.specs.Numbering.{IsListing};
-ghost use Rattle.ir_plan.specs.Starts.{HasFewerStarts, HasNoMoreStarts, IsLabelledBy, start_count};
+ghost use Rattle.ir_plan.specs.Starts.{IsLabelledBy, start_count};
 
 use crate::MOST_TOUR_NODES;
 use crate::distances::Distances;
@@ -12,7 +10,7 @@ use crate::error::PlanError;
 use crate::nearest::nearest_order;
 use crate::plan::Plan;
 use crate::sweeps::shorten;
-use crate::watch::{Unwatched, Watch};
+use crate::watch::Watch;
 use ir_model::Kind;
 use ir_numbering::{OrderError, check_order};
 use ir_tables::Topology;
@@ -28,40 +26,23 @@ pub enum LabelOrder {
     Tour,
 }
 
-/// The plan of a kind over a topology, its labels in this order from the root: what `build_in_threads` or `tour_plan` makes.
+/// The plan of a kind over a topology, its labels in this order from the root. By a tour it is, of the depth-first plan and
+/// the plan over the tour's order, the one with fewer starts, and of two alike the depth-first one; the depth-first plan too
+/// where the kind is Tree, and where there are more than `MOST_TOUR_NODES` nodes.
 ///
-/// Refused as these are. Takes as long as these.
-pub fn plan_in_order(
-    rt: &(impl Threads + Sync),
-    alloc: Global,
-    topology: Topology,
-    labels: LabelOrder,
-    kind: Kind,
-    root: u16,
-    most: Option<usize>,
-) -> Result<Plan, (PlanError, Topology)>
-    ensures kind { IfOk result (λ p. p.kind ≡ kind) }
-    ensures root { IfOk result (λ p. p.root ≡ root) }
-    ensures topology { IfOk result (λ p. p.topology ≡ topology) }
-    ensures plan { IfOk result (λ p. IsPlan p) }
-    ensures labelled { IfOk result (λ p. IsLabelledBy labels p) }
-    ensures back { IfErr result (λ e. e.1 ≡ topology) }
-    ensures empty { IfErr result (λ e. (e.0 ≡ PlanError.Empty) ↔ (node_count topology ≡ 0)) }
-    ensures no_node { IfErr result
-        (λ e. (e.0 ≡ PlanError.NoNode) ↔ ((0 < node_count topology) × (node_count topology ≤ root))) }
-    ensures disconnected { IfErr result
-        (λ e. e.0 ≡ PlanError.Disconnected → (0 < node_count topology) × (root < node_count topology)
-        × IsDisconnected topology) }
-{
-    plan_in_order_watched(rt, alloc, topology, labels, kind, root, most, &Unwatched)
-}
-
-/// The plan that `plan_in_order` makes, and refused as that is. Takes as long as that.
+/// The tour begins at the root and goes on to the nearest node that it has not visited; `MOST_SWEEPS` sweeps at most then
+/// shorten it (Croes 1958). Two nodes are as far apart as there are nodes that send them by different ports of the
+/// depth-first plan of kind Shortest. The plans and the distances are made in at most `most` threads, or in as many as suit
+/// the processors where it is None.
+///
+/// Refused as `Plan::build_in_threads` is; NoMemory is also where the tour or the plan over it lacks memory. Takes as
+/// long as that; by a tour as long as both plans, and of kind Compact one of kind Shortest, and O(n * n * n) for the tour
+/// of n nodes.
 ///
 /// The watch is told of each row of each plan that is made on the way: of the depth-first plan; where a tour is sought, of
 /// the one of kind Shortest that kind Compact takes its distances from; and of the plan over the tour. Each of them has as
 /// many rows as there are nodes.
-pub fn plan_in_order_watched(
+pub fn plan_in_order(
     rt: &(impl Threads + Sync),
     alloc: Global,
     topology: Topology,
@@ -93,52 +74,6 @@ pub fn plan_in_order_watched(
         },
         Err(refusal) => Err(refusal),
     }
-}
-
-/// The plan of a kind over a topology with the labels of a tour: of the depth-first plan from the root and the plan over
-/// the tour's order, the one with fewer starts, and of two alike the depth-first one. The depth-first plan too where the
-/// kind is Tree, and where there are more than `MOST_TOUR_NODES` nodes.
-///
-/// The tour begins at the root and goes on to the nearest node that it has not visited; `MOST_SWEEPS` sweeps at most then
-/// shorten it (Croes 1958). Two nodes are as far apart as there are nodes that send them by different ports of the
-/// depth-first plan of kind Shortest. The plans and the distances are made in at most `most` threads, or in as many as suit the processors
-/// where it is None.
-///
-/// Refused as `Plan::build_in_threads` is; NoMemory is also where the tour or the plan over it lacks memory. Takes as
-/// long as both plans, and of kind Compact one of kind Shortest, and O(n * n * n) for the tour of n nodes.
-pub fn tour_plan(
-    rt: &(impl Threads + Sync),
-    alloc: Global,
-    topology: Topology,
-    kind: Kind,
-    root: u16,
-    most: Option<usize>,
-) -> Result<Plan, (PlanError, Topology)>
-    ensures kind { IfOk result (λ p. p.kind ≡ kind) }
-    ensures root { IfOk result (λ p. p.root ≡ root) }
-    ensures topology { IfOk result (λ p. p.topology ≡ topology) }
-    ensures plan { IfOk result (λ p. IsPlan p) }
-    ensures numbers { IfOk result (λ p. kind ≡ Kind.Tree → HasDepthFirst p) }
-    ensures fewer { IfOk result (λ p. HasNoMoreStarts p) }
-    ensures ties { IfOk result (λ p. HasDepthFirst p ⊎ HasFewerStarts p) }
-    ensures back { IfErr result (λ e. e.1 ≡ topology) }
-    ensures empty { IfErr result (λ e. (e.0 ≡ PlanError.Empty) ↔ (node_count topology ≡ 0)) }
-    ensures no_node { IfErr result
-        (λ e. (e.0 ≡ PlanError.NoNode) ↔ ((0 < node_count topology) × (node_count topology ≤ root))) }
-    ensures disconnected { IfErr result
-        (λ e. e.0 ≡ PlanError.Disconnected → (0 < node_count topology) × (root < node_count topology)
-        × IsDisconnected topology) }
-{
-    plan_in_order_watched(
-        rt,
-        alloc,
-        topology,
-        LabelOrder::Tour,
-        kind,
-        root,
-        most,
-        &Unwatched,
-    )
 }
 
 // The plan over a tour's order, where a tour is sought and its plan has fewer starts than this one.

@@ -1,13 +1,10 @@
 //! The row of a node in the tree table, straight from the node's sons and its father.
 
 ghost use Rattle.std.specs.Prelude.{◌≡◌, ◌<◌, ◌≤◌, IfOk, OnOk, length, slice_index};
-ghost use Rattle.ir_model.specs.declared.Kind.TheVariants.{Tree};
-ghost use Rattle.ir_model.specs.Topology.{node_count, ports_of};
-ghost use Rattle.ir_model.specs.Row.{Start};
+ghost use Rattle.ir_model.specs.{declared.Kind.TheVariants.Tree, Topology.{node_count, ports_of}, Row.Start};
 ghost use Rattle.ir_lookup.specs.Words.{start_of, starts_of};
 ghost use Rattle.ir_numbering.specs.Numbering.{IsNumberingOf};
-ghost use Rattle.ir_plan.specs.NodeRows.{IsNodeRow};
-ghost use Rattle.ir_plan.specs.SonStarts.{AreSonStarts, AreTreeStarts};
+ghost use Rattle.ir_plan.specs.{NodeRows.IsNodeRow, SonStarts.{AreSonStarts, AreTreeStarts}};
 
 use ir_lookup::{Row, WORD_BASE};
 use ir_numbering::Numbering;

@@ -2,10 +2,8 @@
 
 ghost use Rattle.std.specs.Prelude.{◌≡◌, ◌<◌, ◌≤◌, ◌+◌, ◌*◌, ◌^◌, ◌++◌, length, IfOk, OnOk};
 ghost use Rattle.std.specs.List.Sorted.{IsNonDecreasing};
-ghost use Rattle.ir_prefix.specs.Cover.{IsCover, IsTrie, cover_of, prefix_at, taken, cover_told};
-ghost use Rattle.ir_prefix.specs.Described.{Trie};
-ghost use Rattle.ir_prefix.specs.Nodes.{StandsIn};
-ghost use Rattle.ir_prefix.specs.Runs.{AreRuns};
+ghost use Rattle.ir_prefix.specs.{Cover.{IsCover, IsTrie, cover_of, prefix_at, taken, cover_told}, Described.Trie};
+ghost use Rattle.ir_prefix.specs.{Nodes.StandsIn, Runs.AreRuns};
 
 use crate::names::has_name;
 use crate::runs::Run;

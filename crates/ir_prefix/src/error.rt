@@ -1,6 +1,5 @@
 ghost use Rattle.std.specs.Prelude.{◌≡◌};
-ghost use Rattle.ir_prefix.specs.Code.{prefix_code};
-ghost use Rattle.ir_prefix.specs.declared.error.PrefixError.TheVariants.{NoMemory};
+ghost use Rattle.ir_prefix.specs.{Code.prefix_code, declared.error.PrefixError.TheVariants.NoMemory};
 
 use std::alloc::AllocError;
 use thiserror::Error;

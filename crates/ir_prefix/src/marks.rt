@@ -2,15 +2,11 @@
 //! at once; for other ports they stand in lists.
 
 ghost use Rattle.std.specs.Prelude.{◌≡◌, ◌≢◌, ◌↔◌, ◌==◌, ◌<◌, ◌≤◌, ◌+◌, ◌-◌, ◌*◌, ◌^◌, ◌++◌, List, [], ◌∷◌, Some, length, slice_index, take, IfOk, IfSome, IsTrue, OnOk};
-ghost use Rattle.std.specs.Int.{bit_at};
-ghost use Rattle.std.specs.Int.Bits.{bit_and};
+ghost use Rattle.std.specs.{Int.bit_at, Int.Bits.bit_and};
 ghost use Rattle.ir_model.specs.Compiled.{port_to};
-ghost use Rattle.ir_prefix.specs.Cover.{IsCover, IsTrie, cover_of, taken, cover_told};
-ghost use Rattle.ir_prefix.specs.Described.{Trie};
-ghost use Rattle.ir_prefix.specs.Joined.{is_named};
-ghost use Rattle.ir_prefix.specs.Marks.{AreLow, EndsIn, IsNodeMarked, joined_bits, ports_in};
-ghost use Rattle.ir_prefix.specs.Runs.{AreRuns};
-ghost use Rattle.ir_prefix.specs.declared.marks.Mark.TheVariants.{NoPort, OnePort, Pair, Several};
+ghost use Rattle.ir_prefix.specs.{Cover.{IsCover, IsTrie, cover_of, taken, cover_told}, Described.Trie};
+ghost use Rattle.ir_prefix.specs.{Joined.is_named, Marks.{AreLow, EndsIn, IsNodeMarked, joined_bits, ports_in}};
+ghost use Rattle.ir_prefix.specs.{Runs.AreRuns, declared.marks.Mark.TheVariants.{NoPort, OnePort, Pair, Several}};
 
 use crate::cover::{Prefix, node_prefix};
 use crate::runs::{Block, Run, block_of};

@@ -1,9 +1,7 @@
 //! The order in which prefixes are listed.
 
-ghost use Rattle.std.specs.Prelude.{◌≡◌, length, OnOk};
-ghost use Rattle.std.specs.List.Sorted.{IsPermutation};
-ghost use Rattle.ir_prefix.specs.Cover.{AreDistinct};
-ghost use Rattle.ir_prefix.specs.Longest.{IsLongestFirst};
+ghost use Rattle.std.specs.{Prelude.{◌≡◌, length, OnOk}, List.Sorted.IsPermutation};
+ghost use Rattle.ir_prefix.specs.{Cover.AreDistinct, Longest.IsLongestFirst};
 
 use crate::cover::Prefix;
 use std::alloc::AllocError;

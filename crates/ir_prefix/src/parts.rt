@@ -1,8 +1,7 @@
 //! Blocks of numbers, each divided until one port serves it.
 
 ghost use Rattle.std.specs.Prelude.{◌≡◌, ◌≤◌, ◌+◌, ◌*◌, ◌^◌, ◌++◌, OnOk};
-ghost use Rattle.ir_prefix.specs.Parts.{Divides, Part, pieces_of};
-ghost use Rattle.ir_prefix.specs.Runs.{AreRuns};
+ghost use Rattle.ir_prefix.specs.{Parts.{Divides, Part, pieces_of}, Runs.AreRuns};
 
 use crate::cover::{Prefix, node_prefix};
 use crate::runs::{Block, Run, block_of};

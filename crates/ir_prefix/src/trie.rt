@@ -2,10 +2,8 @@
 
 ghost use Rattle.std.specs.Prelude.{◌≡◌, ◌<◌, ◌≤◌, ◌+◌, ◌*◌, ◌^◌, ℕ, None, Some, length, IfOk, IfSome, OnOk};
 ghost use Rattle.std.specs.List.Sorted.{IsNonDecreasing};
-ghost use Rattle.ir_prefix.specs.Described.{Describes, IsFree, IsNodeOfHalves, Trie, names_of};
-ghost use Rattle.ir_prefix.specs.Nodes.{Grows, HoldsNode, IsMerged, StandsIn};
-ghost use Rattle.ir_prefix.specs.declared.trie.Node.TheVariants.{NoPort};
-ghost use Rattle.ir_prefix.specs.Runs.{AreRuns};
+ghost use Rattle.ir_prefix.specs.{Described.{Describes, IsFree, IsNodeOfHalves, Trie, names_of}, Runs.AreRuns};
+ghost use Rattle.ir_prefix.specs.{Nodes.{Grows, HoldsNode, IsMerged, StandsIn}, declared.trie.Node.TheVariants.NoPort};
 
 use crate::names::join;
 use crate::runs::{Block, Run, block_of};

@@ -1,4 +1,7 @@
 //! Why a script is refused.
+ghost use Rattle.std.specs.Prelude.{◌≡◌};
+ghost use Rattle.ir_script.specs.{Script.fault_code, declared.fault.ScriptFault.TheVariants.NoMemory};
+
 use std::alloc::{AllocError, AllocFailed};
 use thiserror::Error;
 
@@ -34,9 +37,6 @@ pub struct ScriptError {
 }
 
 impl ScriptError {
-    ghost use Rattle.std.specs.Prelude.{◌≡◌};
-    ghost use Rattle.ir_script.specs.Script.{fault_code};
-
     /// The number of the kind, from 1 for `BadByte` to 6 for `NoMemory`.
     pub fn code(self) -> u8
         ensures { result ≡ fault_code self.kind }
@@ -46,9 +46,6 @@ impl ScriptError {
 }
 
 impl From<AllocError> for ScriptError {
-    ghost use Rattle.std.specs.Prelude.{◌≡◌};
-    ghost use Rattle.ir_script.specs.declared.fault.ScriptFault.TheVariants.{NoMemory};
-
     ghost from_gives = { λ _ e. e ≡ record { line = 0; kind = NoMemory } };
 
     fn from(_error: AllocError) -> ScriptError {
@@ -60,9 +57,6 @@ impl From<AllocError> for ScriptError {
 }
 
 impl<T: Drop> From<AllocFailed<T>> for ScriptError {
-    ghost use Rattle.std.specs.Prelude.{◌≡◌};
-    ghost use Rattle.ir_script.specs.declared.fault.ScriptFault.TheVariants.{NoMemory};
-
     ghost from_gives = { λ _ e. e ≡ record { line = 0; kind = NoMemory } };
 
     fn from(_error: AllocFailed<T>) -> ScriptError {

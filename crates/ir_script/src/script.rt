@@ -1,12 +1,8 @@
 //! Scripts, line by line.
 ghost use Rattle.std.specs.Prelude.{◌≡◌, ℕ, ◌<◌, ◌++◌, List, Option, Result, Some, Ok, true, length, vec_len, option_to_list, OnOk, IfOk, IfErr, slice_get};
 ghost use Rattle.std.specs.List.{list_all};
-ghost use Rattle.ir_model.specs.Graph.{Name, names};
-ghost use Rattle.ir_model.specs.Topology.{Topology};
-ghost use Rattle.ir_model.specs.OfGraph.{topology_of_graph};
-ghost use Rattle.ir_model.specs.Text.{lines};
-ghost use Rattle.ir_script.specs.declared.fault.ScriptFault.{ScriptFault};
-ghost use Rattle.ir_script.specs.Command.{line_step, line_command};
+ghost use Rattle.ir_model.specs.{Graph.{Name, names}, Topology.Topology, OfGraph.topology_of_graph, Text.lines};
+ghost use Rattle.ir_script.specs.{declared.fault.ScriptFault.ScriptFault, Command.{line_step, line_command}};
 ghost use Rattle.ir_script.specs.Script.{listing_from, listing_of, live_listing_of, ScriptTold, told_script, line_of};
 ghost use Rattle.ir_script.specs.Within.{is_step_within};
 

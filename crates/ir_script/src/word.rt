@@ -1,9 +1,6 @@
 //! What a word of a script stands for: a number, a node, or with another word a link.
-ghost use Rattle.std.specs.Prelude.{◌≡◌, ◌+◌, ◌<◌, ◌==◌, find, min, length, IfOk};
-ghost use Rattle.std.specs.List.{list_all};
-ghost use Rattle.ir_model.specs.Edgelist.{is_digit, value_of};
-ghost use Rattle.ir_model.specs.Graph.{names};
-ghost use Rattle.ir_model.specs.Topology.{node_count};
+ghost use Rattle.std.specs.{Prelude.{◌≡◌, ◌+◌, ◌<◌, ◌==◌, find, min, length, IfOk}, List.list_all};
+ghost use Rattle.ir_model.specs.{Edgelist.{is_digit, value_of}, Graph.names, Topology.node_count};
 ghost use Rattle.ir_model.specs.OfGraph.{topology_of_graph};
 ghost use Rattle.ir_script.specs.declared.TheConstants.{MAX_NUMBER};
 ghost use Rattle.ir_script.specs.Command.{number_of, node_of, link_towards, named_link};

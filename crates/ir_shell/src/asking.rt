@@ -2,23 +2,17 @@
 //! root.
 ghost use Rattle.std.specs.Prelude.{◌≡◌, ◌≢◌, ◌<◌, ◌∷◌, [], ℕ, Some, None, IfOk, IfErr, OnOk, length, string_bytes};
 ghost use Rattle.std.specs.Option.{option_map};
-ghost use Rattle.ir_model.specs.declared.Fault.{Fault};
-ghost use Rattle.ir_model.specs.Graph.{names};
-ghost use Rattle.ir_model.specs.OfGraph.{topology_of_graph};
-ghost use Rattle.ir_model.specs.Text.{lines};
+ghost use Rattle.ir_model.specs.{declared.Fault.Fault, Graph.names, OfGraph.topology_of_graph, Text.lines};
 ghost use Rattle.ir_core.specs.declared.event.OpenError.TheVariants.{NoMemory as OpenNoMemory};
-ghost use Rattle.ir_script.specs.declared.fault.ScriptFault.{ScriptFault};
-ghost use Rattle.ir_script.specs.Script.{listing_from};
+ghost use Rattle.ir_script.specs.{declared.fault.ScriptFault.ScriptFault, Script.listing_from};
 ghost use Rattle.ir_cli.specs.Lines.{topology_line, script_line, opening_line};
-ghost use Rattle.ir_cli.specs.Openings.{topology_fault, topology_graph, root_in, no_root};
-ghost use Rattle.ir_cli.specs.Reading.{texts_of};
+ghost use Rattle.ir_cli.specs.{Openings.{topology_fault, topology_graph, root_in, no_root}, Reading.texts_of};
 ghost use Rattle.ir_shell.specs.Asked.{sim_sources, check_sources, AreTwo, AreThree};
-ghost use Rattle.ir_shell.specs.Stops.{StopsAs, IsAsked, RefusesAsked};
+ghost use Rattle.ir_shell.specs.{Stops.{StopsAs, IsAsked, RefusesAsked}, declared.asking.Stop.TheVariants.NoMemory};
 
-use ir_cli::cut::cut;
-use ir_cli::lines::{opening_line, script_line, topology_line};
-use ir_cli::open::{no_root, read_topology, root_of};
-use ir_cli::words::{Format, Words};
+use ir_cli::{
+    Format, Words, cut, no_root, opening_line, read_topology, root_of, script_line, topology_line,
+};
 use ir_core::OpenError;
 use ir_graph::Graph;
 use ir_model::Fault;
@@ -35,9 +29,6 @@ pub enum Stop {
 }
 
 impl From<AllocError> for Stop {
-    ghost use Rattle.std.specs.Prelude.{◌≡◌};
-    ghost use Rattle.ir_shell.specs.declared.asking.Stop.TheVariants.{NoMemory};
-
     ghost from_gives = { λ _ stop. stop ≡ NoMemory };
 
     fn from(_error: AllocError) -> Stop {

@@ -1,17 +1,12 @@
 //! A check of a trace, from the texts of a topology, a script and a trace.
 ghost use Rattle.std.specs.Prelude.{◌≡◌, MatchResult};
-ghost use Rattle.ir_model.specs.OfGraph.{topology_of_graph};
-ghost use Rattle.ir_model.specs.Text.{lines};
+ghost use Rattle.ir_model.specs.{OfGraph.topology_of_graph, Text.lines};
 ghost use Rattle.ir_trace.specs.Checked.{AreInstalls};
 ghost use Rattle.ir_cli.specs.Openings.{AnswersTopology};
-ghost use Rattle.ir_shell.specs.Checks.{IsClean, IsFound, AnswersTrace, AnswersChecked};
-ghost use Rattle.ir_shell.specs.Stops.{Gives};
+ghost use Rattle.ir_shell.specs.{Checks.{IsClean, IsFound, AnswersTrace, AnswersChecked}, Stops.Gives};
 
 use crate::asking::{Asked, Stop, opening_stop, read_asked};
-use ir_cli::lines::{finding_line, ok_line};
-use ir_cli::open::opening_of;
-use ir_cli::reply::Reply;
-use ir_cli::words::Words;
+use ir_cli::{Reply, Words, finding_line, ok_line, opening_of};
 use ir_core::{Install, Step, installs};
 use ir_graph::Graph;
 use ir_tables::Topology;

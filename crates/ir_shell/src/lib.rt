@@ -9,8 +9,7 @@ mod plan;
 mod play;
 mod running;
 
-pub use ir_cli::read::Source;
-pub use ir_cli::words::{Format, Numbering, Sub, Words, WordsError, read_words};
+pub use ir_cli::{Format, Numbering, Source, Sub, Words, WordsError, read_words};
 pub use ir_plan::{Unwatched, Watch};
 pub use ir_script::{Command, Script, ScriptError, ScriptFault, parse_live, parse_script};
 pub use running::{run, sources_of};

@@ -1,22 +1,14 @@
 //! A live run of a script's commands, from the texts of a topology and a script.
-ghost use Rattle.std.specs.Prelude.{◌≡◌, ◌≢◌, false, IfOk, slice_index_or, string_bytes};
-ghost use Rattle.std.specs.Borrow.{Bor};
-ghost use Rattle.std.specs.List.{list_any};
-ghost use Rattle.ir_model.specs.Graph.{names};
-ghost use Rattle.ir_model.specs.OfGraph.{topology_of_graph};
-ghost use Rattle.ir_model.specs.Text.{lines};
+ghost use Rattle.std.specs.{Prelude.{◌≡◌, ◌≢◌, false, IfOk, slice_index_or, string_bytes}, Borrow.Bor, List.list_any};
+ghost use Rattle.ir_model.specs.{Graph.names, OfGraph.topology_of_graph, Text.lines};
 ghost use Rattle.ir_trace.specs.Written.{HaveSegments};
 ghost use Rattle.ir_cli.specs.Openings.{AnswersTopology};
 ghost use Rattle.ir_shell.specs.Lives.{is_for_memory, refusals_text, IsOpenedNet, AnswersLive, AnswersLiveScript};
-ghost use Rattle.ir_shell.specs.Plays.{listing_in, run_text};
-ghost use Rattle.ir_shell.specs.Stops.{StopsAs, Gives};
+ghost use Rattle.ir_shell.specs.{Plays.{listing_in, run_text}, Stops.{StopsAs, Gives}};
 
 use crate::asking::{Asked, Stop, opening_stop, read_asked};
 use crate::play::run_text;
-use ir_cli::lines::push_reply_line;
-use ir_cli::open::opening_of;
-use ir_cli::reply::Reply;
-use ir_cli::words::Words;
+use ir_cli::{Reply, Words, opening_of, push_reply_line};
 use ir_control::Net;
 use ir_core::Refused;
 use ir_graph::Graph;

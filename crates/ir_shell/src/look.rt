@@ -1,21 +1,14 @@
 //! What is shown of a topology's plan, from the text of the topology.
 ghost use Rattle.std.specs.Prelude.{◌≡◌, ◌≢◌, ◌<◌, IfOk, IfErr, IsSome, length, string_bytes};
-ghost use Rattle.ir_model.specs.Graph.{names};
-ghost use Rattle.ir_model.specs.Topology.{node_count};
+ghost use Rattle.ir_model.specs.{Graph.names, Topology.node_count};
 ghost use Rattle.ir_shell.specs.Asked.{look_sources};
 ghost use Rattle.ir_shell.specs.Looks.{from_name, to_name, AnswersShow, AreAmong, AreTexts, Says, AnswerShows, order_in, IsNode, IsLabelling, IsShow, RefusesLabels, RefusesEnds, RefusesShow, LookAnswers};
-ghost use Rattle.ir_shell.specs.Plans.{MayLabel, labelling_of};
-ghost use Rattle.ir_shell.specs.Stops.{StopsAs, Gives};
-ghost use Rattle.ir_cli.specs.Reading.{texts_of};
-ghost use Rattle.ir_cli.specs.Replies.{answer_of};
-ghost use Rattle.ir_cli.specs.Words.{FitsItsKind};
+ghost use Rattle.ir_shell.specs.{Plans.{MayLabel, labelling_of}, Stops.{StopsAs, Gives}};
+ghost use Rattle.ir_cli.specs.{Reading.texts_of, Replies.answer_of, Words.FitsItsKind};
 
 use crate::asking::{Stop, opening_stop, read_graph, read_node};
 use crate::plan::{Labels, build_plan};
-use ir_cli::lines::numbering_line;
-use ir_cli::open::label_order;
-use ir_cli::reply::Reply;
-use ir_cli::words::Words;
+use ir_cli::{Reply, Words, label_order, numbering_line};
 use ir_figures::figures_text;
 use ir_graph::Graph;
 use ir_lines::prefixes_text_in_threads;

@@ -1,14 +1,13 @@
 //! A plan over the network of a graph.
 ghost use Rattle.std.specs.Prelude.{◌≡◌, ◌≢◌, IfOk, IfErr, length};
-ghost use Rattle.ir_model.specs.OfGraph.{topology_of_graph};
-ghost use Rattle.ir_model.specs.Plan.{IsPlan};
+ghost use Rattle.ir_model.specs.{OfGraph.topology_of_graph, Plan.IsPlan};
 ghost use Rattle.ir_numbering.specs.Numbering.{IsListing};
 ghost use Rattle.ir_shell.specs.Plans.{FromRoot, ByList, MayLabel, IsLabelled, labelling_of, refusal_of, RefusesBuild};
 
 use ir_core::OpenError;
 use ir_graph::Graph;
 use ir_model::Kind;
-use ir_plan::{LabelOrder, Plan, PlanError, Watch, plan_in_order_watched};
+use ir_plan::{LabelOrder, Plan, PlanError, Watch, plan_in_order};
 use ir_tables::Topology;
 use std::alloc::Global;
 use std::thread::Threads;
@@ -80,7 +79,7 @@ fn build_rooted<T: Threads + Sync>(
     let Ok(topology) = Topology::of(alloc, graph) else {
         return Err(OpenError::NoMemory);
     };
-    match plan_in_order_watched(rt, alloc, topology, order, kind, root, most, watch) {
+    match plan_in_order(rt, alloc, topology, order, kind, root, most, watch) {
         Ok(plan) => Ok(plan),
         Err(refused) => {
             let (error, _topology) = refused;

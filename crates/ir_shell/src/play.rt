@@ -1,19 +1,12 @@
 //! A run of a script's steps, from the texts of a topology and a script.
-ghost use Rattle.std.specs.Prelude.{◌≡◌, false, IfOk, string_bytes};
-ghost use Rattle.std.specs.List.{list_any};
-ghost use Rattle.ir_model.specs.Graph.{names};
-ghost use Rattle.ir_model.specs.OfGraph.{topology_of_graph};
-ghost use Rattle.ir_model.specs.Text.{lines};
+ghost use Rattle.std.specs.{Prelude.{◌≡◌, false, IfOk, string_bytes}, List.list_any};
+ghost use Rattle.ir_model.specs.{Graph.names, OfGraph.topology_of_graph, Text.lines};
 ghost use Rattle.ir_trace.specs.Written.{HaveSegments};
 ghost use Rattle.ir_cli.specs.Openings.{AnswersTopology};
-ghost use Rattle.ir_shell.specs.Plays.{wants_memory, refused_text, run_text, AnswersScript};
-ghost use Rattle.ir_shell.specs.Stops.{Gives};
+ghost use Rattle.ir_shell.specs.{Plays.{wants_memory, refused_text, run_text, AnswersScript}, Stops.Gives};
 
 use crate::asking::{Stop, opening_stop, read_asked};
-use ir_cli::lines::push_reply_line;
-use ir_cli::open::opening_of;
-use ir_cli::reply::Reply;
-use ir_cli::words::Words;
+use ir_cli::{Reply, Words, opening_of, push_reply_line};
 use ir_core::{Played, Record, Refused, Reply as Answered, Step, play};
 use ir_graph::Graph;
 use ir_tables::Topology;

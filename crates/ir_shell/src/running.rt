@@ -1,11 +1,7 @@
 //! A run of the program, from bytes to bytes.
-ghost use Rattle.std.specs.Prelude.{◌≡◌, length};
-ghost use Rattle.std.specs.Borrow.{Bor};
-ghost use Rattle.ir_shell.specs.Asked.{look_sources, sources_of, Answers};
-ghost use Rattle.ir_cli.specs.Ending.{EndsAs, Ends};
-ghost use Rattle.ir_cli.specs.Reading.{texts_of, AreRead, IsUnread};
-ghost use Rattle.ir_cli.specs.Told.{Sends, Tells};
-ghost use Rattle.ir_shell.specs.Stops.{Gives};
+ghost use Rattle.std.specs.{Prelude.{◌≡◌, length}, Borrow.Bor};
+ghost use Rattle.ir_shell.specs.{Asked.{look_sources, sources_of, Answers}, Stops.Gives};
+ghost use Rattle.ir_cli.specs.{Ending.{EndsAs, Ends}, Reading.{texts_of, AreRead, IsUnread}, Told.{Sends, Tells}};
 ghost use Rattle.ir_cli.specs.Words.{FitsItsKind};
 
 use crate::asking::{Stop, three_texts, two_texts};
@@ -13,11 +9,9 @@ use crate::checking::check;
 use crate::live::run_commands;
 use crate::look::{Look, look_at};
 use crate::play::simulate;
-use ir_cli::ending::{Ending, status_of};
-use ir_cli::read::{Source, read_inputs};
-use ir_cli::reply::{Reply, tell_unread, write_reply};
-use ir_cli::words::{Sub, Words};
-use ir_cli::write::tell;
+use ir_cli::{
+    Ending, Reply, Source, Sub, Words, read_inputs, status_of, tell, tell_unread, write_reply,
+};
 use ir_links::Moments;
 use ir_plan::Watch;
 use ir_streams::{Reader, Writer};

@@ -1,15 +1,9 @@
 //! The drawing of a plan, for Graphviz.
 ghost use Rattle.std.specs.Prelude.{◌≡◌, ◌<◌, ◌++◌, true, [], if◌then◌else◌, nat_lt, IfOk, IfSome, OnOk, length, slice_index_or, string_bytes, flat_map};
 ghost use Rattle.std.specs.List.{range_with_len, list_all};
-ghost use Rattle.ir_model.specs.Graph.{names};
-ghost use Rattle.ir_model.specs.Topology.{node_count};
-ghost use Rattle.ir_model.specs.Row.{intervals_of};
-ghost use Rattle.ir_model.specs.Plan.{IsPlan, row_in};
-ghost use Rattle.ir_trace.specs.Rows.{is_word, spaced};
-ghost use Rattle.ir_trace.specs.Written.{name_at};
-ghost use Rattle.ir_show.specs.WalkText.{no_interval};
-ghost use Rattle.ir_show.specs.Quoted.{escaped_byte, escaped, quoted};
-ghost use Rattle.ir_show.specs.Before.{separated};
+ghost use Rattle.ir_model.specs.{Graph.names, Topology.node_count, Row.intervals_of, Plan.{IsPlan, row_in}};
+ghost use Rattle.ir_trace.specs.{Rows.{is_word, spaced}, Written.name_at};
+ghost use Rattle.ir_show.specs.{WalkText.no_interval, Quoted.{escaped_byte, escaped, quoted}, Before.separated};
 ghost use Rattle.ir_show.specs.Drawing.{node_line, span_text, interval_text, goes_by, intervals_text, are_ends, passes, edge_style, edge_ends, edge_labels, edge_line, edge_lines, IsBold, IsDrawingOf};
 
 use crate::walk::{end_of, walk_between};

@@ -1,10 +1,7 @@
 //! Laws of the texts, each the contract of a function with an empty body.
 ghost use Rattle.std.specs.Prelude.{◌≡◌, ℕ, ◌∷◌, ◌++◌, Option, Some, List};
-ghost use Rattle.ir_model.specs.Graph.{Name};
-ghost use Rattle.ir_model.specs.Plan.{Plan};
-ghost use Rattle.ir_show.specs.WalkText.{IsWalkOf};
-ghost use Rattle.ir_show.specs.StatsText.{IsStatsOf};
-ghost use Rattle.ir_show.specs.Quoted.{escaped, read_quoted};
+ghost use Rattle.ir_model.specs.{Graph.Name, Plan.Plan};
+ghost use Rattle.ir_show.specs.{WalkText.IsWalkOf, StatsText.IsStatsOf, Quoted.{escaped, read_quoted}};
 ghost use Rattle.ir_show.specs.Drawing.{IsDrawingOf};
 
 /// A plan has one text of the walk from a node to a node.

@@ -1,15 +1,10 @@
 //! The text of a plan, which is not built: its words are written as they are made.
-ghost use Rattle.std.specs.Prelude.{◌≡◌, ◌<◌, [], ◌∷◌, IfOk, length, flat_map, slice_index_or, decimal, string_bytes};
-ghost use Rattle.ir_model.specs.Graph.{names};
-ghost use Rattle.ir_model.specs.Topology.{node_count};
-ghost use Rattle.ir_model.specs.Plan.{row_in};
-ghost use Rattle.ir_streams.specs.Pouring.{Pours};
-ghost use Rattle.ir_streams.specs.Writing.{Calls, Writes};
-ghost use Rattle.ir_trace.specs.Rows.{spaced};
-ghost use Rattle.ir_trace.specs.Written.{name_at};
-ghost use Rattle.ir_show.specs.Held.{ArePieces, AreSpaced};
-ghost use Rattle.ir_show.specs.PlanText.{kind_text, start_words, plan_head, node_words, plan_text};
-ghost use Rattle.ir_show.specs.Words.{line_text};
+ghost use Rattle.std.specs.Prelude.{◌≡◌, ◌<◌, [], ◌∷◌, IfOk, length, flat_map, slice_index_or, decimal, string_bytes, List, ℕ};
+ghost use Rattle.ir_model.specs.{Graph.names, Topology.node_count, Plan.row_in};
+ghost use Rattle.ir_streams.specs.{Pouring.Pours, Writing.{Calls, Writes}};
+ghost use Rattle.ir_trace.specs.{Rows.spaced, Written.name_at};
+ghost use Rattle.ir_show.specs.Held.{ArePieces, AreSpaced, plan_text_held, IsHeld};
+ghost use Rattle.ir_show.specs.{PlanText.{kind_text, start_words, plan_head, node_words, plan_text}, Words.line_text};
 
 use ir_graph::Graph;
 use ir_model::Kind;
@@ -179,11 +174,7 @@ pub struct PlanText {
 }
 
 impl Model for PlanText {
-    ghost use Rattle.std.specs.Prelude.{List, ℕ};
-
     ghost Value = { List ℕ };
-
-    ghost use Rattle.ir_show.specs.Held.{plan_text_held, IsHeld};
 
     ghost view = { plan_text_held };
 

@@ -1,10 +1,8 @@
 //! The text of a plan's figures.
 ghost use Rattle.std.specs.Prelude.{◌≡◌, ◌<◌, ◌≤◌, ◌++◌, IfOk, IfSome, OnOk, length, string_bytes};
-ghost use Rattle.ir_model.specs.Graph.{names};
-ghost use Rattle.ir_model.specs.Topology.{node_count};
+ghost use Rattle.ir_model.specs.{Graph.names, Topology.node_count};
 ghost use Rattle.ir_show.specs.StatsText.{IsGreatestRow, stats_head, count_line, node_count_line, greatest_line, rows_text, IsStatsOf};
-ghost use Rattle.ir_show.specs.Figures.{weighed_line, figures_text};
-ghost use Rattle.ir_show.specs.Words.{line_text};
+ghost use Rattle.ir_show.specs.{Figures.{weighed_line, figures_text}, Words.line_text};
 
 use crate::figures::{Figures, figures_of};
 use crate::plan_text::kind_text;

@@ -1,13 +1,8 @@
 //! A walk of a plan, and its text.
 ghost use Rattle.std.specs.Prelude.{◌≡◌, ◌≢◌, ◌<◌, ◌==◌, ◌++◌, if◌then◌else◌, true, Some, [], IfOk, OnOk, flat_map, length, nat_lt, slice_index_or, string_bytes};
-ghost use Rattle.std.specs.List.{list_all};
-ghost use Rattle.std.specs.Option.{option_map_or};
-ghost use Rattle.ir_model.specs.Graph.{names};
-ghost use Rattle.ir_model.specs.Topology.{node_count};
-ghost use Rattle.ir_model.specs.Row.{intervals_of};
-ghost use Rattle.ir_model.specs.Walk.{walk_weight};
-ghost use Rattle.ir_model.specs.Table.{IsPrescribedWalk};
-ghost use Rattle.ir_model.specs.Plan.{IsPlan, next_hop, table_port};
+ghost use Rattle.std.specs.{List.list_all, Option.option_map_or};
+ghost use Rattle.ir_model.specs.{Graph.names, Topology.node_count, Row.intervals_of, Walk.walk_weight};
+ghost use Rattle.ir_model.specs.{Table.IsPrescribedWalk, Plan.{IsPlan, next_hop, table_port}};
 ghost use Rattle.ir_plan.specs.Shown.{has_label};
 ghost use Rattle.ir_trace.specs.Rows.{spaced};
 ghost use Rattle.ir_show.specs.WalkText.{no_interval, interval_with, onward_words, stop_words, walk_head, IsWalkOf};

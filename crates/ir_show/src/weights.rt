@@ -1,9 +1,7 @@
 //! The weights of the walks that a plan prescribes to one node, and their sums.
 ghost use Rattle.std.specs.Prelude.{◌≡◌, ◌≤◌, ◌<◌, ◌*◌, ◌==◌, ℕ, if◌then◌else◌, length, IfOk};
-ghost use Rattle.ir_model.specs.Topology.{node_count};
-ghost use Rattle.ir_model.specs.Plan.{IsPlan, table_port};
-ghost use Rattle.ir_tables.specs.Relaxation.{at, unreached};
-ghost use Rattle.ir_tables.specs.Listed.{IsWay, IsFilled, AreWays};
+ghost use Rattle.ir_model.specs.{Topology.node_count, Plan.{IsPlan, table_port}};
+ghost use Rattle.ir_tables.specs.{Relaxation.{at, unreached}, Listed.{IsWay, IsFilled, AreWays}};
 ghost use Rattle.ir_show.specs.Figures.{sum_to};
 
 use crate::walk::hop_towards;

@@ -1,8 +1,6 @@
 //! The pair of nodes whose walk is the greatest multiple of its distance.
 ghost use Rattle.std.specs.Prelude.{◌≡◌, ◌↔◌, ◌≤◌, IsTrue, length};
-ghost use Rattle.ir_show.specs.StatsText.{IsEarlier};
-ghost use Rattle.ir_show.specs.Before.{IsWorse, IsWorstWith};
-ghost use Rattle.ir_show.specs.Figures.{IsWorstWithThoseTo};
+ghost use Rattle.ir_show.specs.{StatsText.IsEarlier, Before.{IsWorse, IsWorstWith}, Figures.IsWorstWithThoseTo};
 
 /// An ordered pair of two nodes.
 #[derive(Clone, Copy, Debug, PartialEq, Eq)]

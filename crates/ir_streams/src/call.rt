@@ -1,4 +1,6 @@
 //! What a call of a reader or a writer came to.
+ghost use Rattle.std.specs.{Prelude.{◌≡◌, ◌↔◌}, IoError.error_kind, declared.io.ErrorKind.TheVariants.Interrupted};
+
 use std::io;
 use thiserror::Error;
 
@@ -12,10 +14,6 @@ pub enum CallError {
 }
 
 impl CallError {
-    ghost use Rattle.std.specs.Prelude.{◌≡◌, ◌↔◌};
-    ghost use Rattle.std.specs.IoError.{error_kind};
-    ghost use Rattle.std.specs.declared.io.ErrorKind.TheVariants.{Interrupted};
-
     /// What an error of `std::io` says of its call.
     pub fn of(error: io::Error) -> CallError
         ensures { (result ≡ CallError.Interrupted) ↔ (error_kind error ≡ Interrupted) }

@@ -1,9 +1,8 @@
 //! A text, to a writer, in parts.
-ghost use Rattle.std.specs.Prelude.{◌≡◌, ◌+◌, ◌≤◌, ◌++◌, [], Some, IfOk, IfSome, length, is_none};
-ghost use Rattle.std.specs.Vec.{vec_capacity};
-ghost use Rattle.ir_streams.specs.declared.TheConstants.{PART_BYTES};
-ghost use Rattle.ir_streams.specs.Room.{IsRoom};
-ghost use Rattle.ir_streams.specs.Pouring.{Puts, Pours, Finishes};
+ghost use Rattle.std.specs.{Prelude.{◌≡◌, ◌+◌, ◌≤◌, ◌++◌, [], Some, IfOk, IfSome, length, is_none}, Vec.vec_capacity};
+ghost use Rattle.ir_streams.specs.{declared.TheConstants.PART_BYTES, Room.IsRoom, Pouring.{Puts, Pours, Finishes}};
+ghost use Rattle.std.specs.Prelude.{List, Option, ℕ};
+ghost use Rattle.ir_streams.specs.Room.{kept_back};
 
 use crate::PART_BYTES;
 use crate::writer::Writer;
@@ -52,11 +51,7 @@ pub struct Parts {
 }
 
 impl Model for Parts {
-    ghost use Rattle.std.specs.Prelude.{List, Option, ℕ};
-
     ghost Value = { Option (List ℕ) };
-
-    ghost use Rattle.ir_streams.specs.Room.{kept_back, IsRoom};
 
     ghost view = { kept_back };
 

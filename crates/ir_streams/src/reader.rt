@@ -1,9 +1,7 @@
 //! Readers whose calls contracts can speak of.
-ghost use Rattle.std.specs.Prelude.{◌<◌, ℕ, List, Option, Result, Ok, Err, MatchResult, length, take};
-ghost use Rattle.std.specs.Io.{ReadsAtMost};
+ghost use Rattle.std.specs.{Prelude.{◌<◌, ℕ, List, Option, Result, Ok, Err, MatchResult, length, take}, Io.ReadsAtMost};
 ghost use Rattle.std.specs.Io.KnownBytes.{ReadConsumes};
-ghost use Rattle.ir_streams.specs.declared.call.CallError.{CallError};
-ghost use Rattle.ir_streams.specs.Reading.{GivesFrom};
+ghost use Rattle.ir_streams.specs.{declared.call.CallError.CallError, Reading.GivesFrom};
 
 use crate::call::CallError;
 use std::io::Read;

@@ -1,7 +1,5 @@
 //! Writers whose calls contracts can speak of.
-ghost use Rattle.std.specs.Prelude.{ℕ, List, Option, Result};
-ghost use Rattle.std.specs.Io.{WritesAtMost};
-ghost use Rattle.std.specs.Io.KnownBytes.{Keeps, WriteAppends};
+ghost use Rattle.std.specs.{Prelude.{ℕ, List, Option, Result}, Io.WritesAtMost, Io.KnownBytes.{Keeps, WriteAppends}};
 ghost use Rattle.ir_streams.specs.declared.call.CallError.{CallError};
 
 use crate::call::CallError;

@@ -1,9 +1,6 @@
 //! All of a text, to a writer.
-ghost use Rattle.std.specs.Prelude.{[]};
-ghost use Rattle.std.specs.Io.{WritesAtMost};
-ghost use Rattle.std.specs.Io.KnownBytes.{Keeps, WriteAppends};
-ghost use Rattle.ir_streams.specs.Writing.{PutsSome, Flushes, Calls, Writes};
-ghost use Rattle.ir_streams.specs.Pouring.{Puts};
+ghost use Rattle.std.specs.{Prelude.{[]}, Io.WritesAtMost, Io.KnownBytes.{Keeps, WriteAppends}};
+ghost use Rattle.ir_streams.specs.{Writing.{PutsSome, Flushes, Calls, Writes}, Pouring.Puts};
 
 use crate::MAX_TRIES;
 use crate::call::CallError;

@@ -1,7 +1,6 @@
 //! The links and ports that the adjacency of a graph gives, by the places of its nodes.
 ghost use Rattle.std.specs.Prelude.{◌≡◌, ◌+◌, ◌<◌, ◌≤◌, ◌++◌, length, IfOk, OnOk};
-ghost use Rattle.ir_model.specs.declared.TheConstants.{MAX_EDGES};
-ghost use Rattle.ir_model.specs.Places.{neighbors_at};
+ghost use Rattle.ir_model.specs.{declared.TheConstants.MAX_EDGES, Places.neighbors_at};
 ghost use Rattle.ir_tables.specs.Numbered.{AreBegins, JoinsWithin, joins_nodes, link_between, links_at, links_from, ports_at};
 ghost use Rattle.ir_tables.specs.ByPlace.{row_numbers, neighbor_rows};
 

@@ -1,8 +1,6 @@
-ghost use Rattle.std.specs.Prelude.{◌≡◌, ℕ, ◌+◌, ◌*◌, ◌<◌, ◌≤◌, length, sum, IfOk, OnOk};
-ghost use Rattle.std.specs.BinaryHeap.{heap_items};
+ghost use Rattle.std.specs.{Prelude.{◌≡◌, ℕ, ◌+◌, ◌*◌, ◌<◌, ◌≤◌, length, sum, IfOk, OnOk}, BinaryHeap.heap_items};
 ghost use Rattle.ir_model.specs.Topology.{node_count};
-ghost use Rattle.ir_tables.specs.Relaxation.{IsRelaxed};
-ghost use Rattle.ir_tables.specs.Frontier.{IsFrontier, NoNode, Only};
+ghost use Rattle.ir_tables.specs.{Relaxation.IsRelaxed, Frontier.{IsFrontier, NoNode, Only}};
 
 use crate::relaxation::UNREACHED;
 use crate::topology::Topology;

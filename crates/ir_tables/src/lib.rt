@@ -18,6 +18,6 @@ pub use frontier::weights_to;
 pub use ir_model::{Hop, Link};
 pub use listed::is_port_list;
 pub use outward::Outward;
-pub use relaxation::{UNREACHED, weights_by_rounds};
+pub use relaxation::UNREACHED;
 pub use table::{Table, TableError};
 pub use topology::Topology;

@@ -1,12 +1,10 @@
 //! The shortest ways from one node: the distance to each node, and which ports lead nearer to it. They take memory for
 //! one node's worth, where a table takes that of all nodes.
 ghost use Rattle.std.specs.Prelude.{◌≡◌, ◌≢◌, ◌+◌, ◌<◌, ◌≤◌, ℕ, IfOk, OnOk, IsTrue, ◌↔◌, All, IsSome, length};
-ghost use Rattle.ir_model.specs.Topology.{node_count, port_at, ports_of};
-ghost use Rattle.ir_model.specs.Walk.{IsConnected};
-ghost use Rattle.ir_model.specs.Table.{LeadsNearer};
-ghost use Rattle.ir_tables.specs.Relaxation.{at};
-ghost use Rattle.ir_tables.specs.Keys.{no_key, AreWeightsIn, ArePortsIn};
-ghost use Rattle.ir_tables.specs.FromNode.{AreFrom, AreLeastPorts, AreLedBy, AreListed, IsPassedOn};
+ghost use Rattle.ir_model.specs.{Topology.{node_count, port_at, ports_of}, Walk.IsConnected, Table.LeadsNearer};
+ghost use Rattle.ir_tables.specs.{Relaxation.at, Keys.{no_key, AreWeightsIn, ArePortsIn}};
+ghost use Rattle.ir_tables.specs.FromNode.{AreFrom, AreLeastPorts, AreLedBy, AreListed, IsPassedOn, Outward};
+ghost use Rattle.ir_tables.specs.Views.{ways_of};
 
 use crate::keyed::{UNIT, keys_from};
 use crate::topology::Topology;
@@ -22,9 +20,6 @@ pub struct Outward {
 }
 
 impl Model for Outward {
-    ghost use Rattle.ir_tables.specs.FromNode.{Outward};
-    ghost use Rattle.ir_tables.specs.Views.{ways_of};
-
     ghost Value = { Outward };
 
     ghost view = { ways_of };

@@ -1,4 +1,6 @@
-ghost use Rattle.std.specs.Prelude.{◌≡◌, ◌<◌, ◌++◌, ◌∷◌, [], length, slice_index_or, IfOk, OnOk};
+ghost use Rattle.std.specs.Prelude.{◌≡◌, ◌<◌, ◌++◌, ◌∷◌, [], length, slice_index_or, IfOk, OnOk, List};
+ghost use Rattle.ir_model.specs.declared.Hop.{Hop};
+ghost use Rattle.ir_tables.specs.Rows.{rows_in, AreCuts};
 
 use ir_model::Hop;
 use std::alloc::{AllocError, Global};
@@ -13,10 +15,6 @@ pub struct PortRows {
 }
 
 impl Model for PortRows {
-    ghost use Rattle.std.specs.Prelude.{List};
-    ghost use Rattle.ir_model.specs.declared.Hop.{Hop};
-    ghost use Rattle.ir_tables.specs.Rows.{rows_in, AreCuts};
-
     ghost Value = { List (List Hop) };
 
     ghost view = { λ r. rows_in r.begins.items r.hops.items };

@@ -1,9 +1,8 @@
 ghost use Rattle.std.specs.Prelude.{◌≡◌, ◌↔◌, ◌<◌, IfOk, IfSome, IfNone};
-ghost use Rattle.ir_model.specs.Topology.{node_count};
-ghost use Rattle.ir_model.specs.Walk.{IsConnected, IsDisconnected};
-ghost use Rattle.ir_model.specs.Table.{table_size, port_in, weight_in, IsShortest, IsRouted};
-ghost use Rattle.ir_tables.specs.Relaxation.{IsColumn, HasNoWalk};
-ghost use Rattle.ir_tables.specs.Listed.{IsPortList, IsListed, IsListedColumn};
+ghost use Rattle.ir_model.specs.{Topology.node_count, Walk.{IsConnected, IsDisconnected}};
+ghost use Rattle.ir_model.specs.Table.{table_size, port_in, weight_in, IsShortest, IsRouted, Table, IsSquare};
+ghost use Rattle.ir_tables.specs.{Relaxation.{IsColumn, HasNoWalk}, Listed.{IsPortList, IsListed, IsListedColumn}};
+ghost use Rattle.ir_tables.specs.{Errors.table_code, declared.table.TableError.TheVariants.NoMemory, Views.table_of};
 
 use crate::frontier::weights_to;
 use crate::listed::walk_weights;
@@ -28,9 +27,6 @@ pub enum TableError {
 }
 
 impl TableError {
-    ghost use Rattle.std.specs.Prelude.{◌≡◌};
-    ghost use Rattle.ir_tables.specs.Errors.{table_code};
-
     /// The number of the error, from 1 to 3. For users of the library.
     pub fn code(self) -> u8
         ensures { result ≡ table_code self }
@@ -44,9 +40,6 @@ impl TableError {
 }
 
 impl From<AllocError> for TableError {
-    ghost use Rattle.std.specs.Prelude.{◌≡◌};
-    ghost use Rattle.ir_tables.specs.declared.table.TableError.TheVariants.{NoMemory};
-
     ghost from_gives = { λ _ e. e ≡ NoMemory };
 
     fn from(_error: AllocError) -> TableError {
@@ -55,9 +48,6 @@ impl From<AllocError> for TableError {
 }
 
 impl<T: Drop> From<AllocFailed<T>> for TableError {
-    ghost use Rattle.std.specs.Prelude.{◌≡◌};
-    ghost use Rattle.ir_tables.specs.declared.table.TableError.TheVariants.{NoMemory};
-
     ghost from_gives = { λ _ e. e ≡ NoMemory };
 
     fn from(_error: AllocFailed<T>) -> TableError {
@@ -79,11 +69,7 @@ pub struct Table {
 }
 
 impl Model for Table {
-    ghost use Rattle.ir_model.specs.Table.{Table, IsSquare};
-
     ghost Value = { Table };
-
-    ghost use Rattle.ir_tables.specs.Views.{table_of};
 
     ghost view = { table_of };
 

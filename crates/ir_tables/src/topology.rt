@@ -1,8 +1,7 @@
-ghost use Rattle.std.specs.Prelude.{◌≡◌, ℕ, ◌<◌, ◌≤◌, ◌==◌, Some, length, filter, find, slice_get, slice_index_or, IfOk, IfSome, IsSomeAnd};
+ghost use Rattle.std.specs.Prelude.{◌≡◌, ℕ, ◌<◌, ◌≤◌, ◌==◌, Some, length, filter, find, slice_get, slice_index_or, IfOk, IfSome, IsSomeAnd, map};
 ghost use Rattle.ir_model.specs.Topology.{Topology, IsTopology, node_count, ports_of, port_at, is_up, restrict};
-ghost use Rattle.ir_model.specs.declared.Hop.{Hop};
-ghost use Rattle.ir_model.specs.OfGraph.{topology_of_graph};
-ghost use Rattle.ir_model.specs.declared.TheConstants.{MAX_WEIGHT};
+ghost use Rattle.ir_model.specs.{declared.Hop.Hop, OfGraph.topology_of_graph, declared.TheConstants.MAX_WEIGHT};
+ghost use Rattle.ir_tables.specs.Views.{topology_view};
 
 use crate::adjacency::{links_of, ports_of};
 use crate::port_rows::PortRows;
@@ -20,12 +19,7 @@ pub struct Topology {
 }
 
 impl Model for Topology {
-    ghost use Rattle.std.specs.Prelude.{map};
-    ghost use Rattle.ir_model.specs.Topology.{Topology, IsTopology};
-
     ghost Value = { Topology };
-
-    ghost use Rattle.ir_tables.specs.Views.{topology_view};
 
     ghost view = { topology_view };
 

@@ -1,7 +1,7 @@
 //! Destination lists, rows and intervals.
 
 use ir_compile::{CompileError, compile};
-use ir_lookup::{PlainRow, Row, in_interval};
+use ir_lookup::{Row, in_interval};
 use std::alloc::Global;
 use std::test::Fail;
 
@@ -62,10 +62,24 @@ fn has_starts(row: &Row, starts: &[(u16, u16)]) -> bool {
     true
 }
 
-/// Whether a row, and the same as it is without packing, give each label its port, by at most three comparisons.
-fn finds(row: &Row, plain: &PlainRow, ports: &[Option<u16>]) -> bool {
-    if row.is_empty() || plain.len() == 0 {
-        return row.len() == plain.len();
+/// The port of the last start that is no greater than a label, or else of the last start of all; 0 where there is none.
+fn scanned(row: &Row, label: u16) -> u16 {
+    if row.is_empty() {
+        return 0;
+    }
+    let mut port = row.port(row.len() - 1);
+    for i in 0..row.len() {
+        if row.start(i) <= label {
+            port = row.port(i);
+        }
+    }
+    port
+}
+
+/// Whether a row gives each label its port, by at most three comparisons, and as a scan of its starts does.
+fn finds(row: &Row, ports: &[Option<u16>]) -> bool {
+    if row.is_empty() {
+        return ports.len() == 1;
     }
     for (d, port) in ports.iter().enumerate() {
         let Ok(d) = u16::try_from(d) else {
@@ -75,7 +89,7 @@ fn finds(row: &Row, plain: &PlainRow, ports: &[Option<u16>]) -> bool {
         if port.is_some_and(|port| port != found) || compared > 3 {
             return false;
         }
-        if found != row.find(d) || found != plain.find(d) {
+        if found != row.find(d) || found != scanned(row, d) {
             return false;
         }
     }
@@ -90,10 +104,7 @@ fn is_compiled(alloc: Global, case: &Case) -> bool {
     let Ok(row) = compile(alloc, n, case.own, case.ports) else {
         return false;
     };
-    let Ok(plain) = PlainRow::of_row(alloc, &row) else {
-        return false;
-    };
-    has_starts(&row, case.starts) && finds(&row, &plain, case.ports)
+    has_starts(&row, case.starts) && finds(&row, case.ports)
 }
 
 #[test]

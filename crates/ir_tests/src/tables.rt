@@ -1,11 +1,10 @@
 //! Topologies and tables of graphs that were worked out by hand.
 
-ghost use Rattle.std.specs.Prelude.{◌≡◌};
-ghost use Rattle.ir_model.specs.Topology.{node_count};
-ghost use Rattle.ir_model.specs.Table.{table_size};
+ghost use Rattle.std.specs.Prelude.{◌≡◌, ◌<◌};
+ghost use Rattle.ir_model.specs.{Topology.node_count, Table.table_size};
 
 use crate::networks::{Edge, HEAVY, PATH, topology_of};
-use ir_tables::{Hop, Table, TableError, Topology, is_port_list, weights_by_rounds};
+use ir_tables::{Hop, Table, TableError, Topology, UNREACHED, is_port_list};
 use std::alloc::Global;
 use std::test::Fail;
 
@@ -124,6 +123,38 @@ fn has_ways(topology: &Topology, table: &Table, ways: &[Way]) -> bool
     true
 }
 
+/// The least of a node's own weight and what its ports offer.
+fn least(topology: &Topology, weights: &[u32], u: usize) -> u32
+    requires { u < node_count topology.now }
+{
+    let mut least = weights.get(u).copied().unwrap_or(UNREACHED);
+    for hop in topology.ports(u) {
+        let there = weights.get(hop.node as usize).copied().unwrap_or(UNREACHED);
+        least = least.min(there.saturating_add(hop.weight));
+    }
+    least
+}
+
+/// One round of relaxation (Bellman 1958): each node takes the least weight that its ports offer.
+fn relax(topology: &Topology, weights: &mut [u32]) {
+    for u in 0..topology.nodes() {
+        let weight = least(topology, weights, u);
+        if let Some(own) = weights.get_mut(u) {
+            *own = weight;
+        }
+    }
+}
+
+/// The weights to a node that plain relaxation finds: as many rounds as there are nodes.
+fn relaxed(alloc: Global, topology: &Topology, d: usize) -> Option<Vec<u32>> {
+    let mut weights = vec![in alloc; UNREACHED; topology.nodes()].ok()?;
+    *weights.get_mut(d)? = 0;
+    for _round in 0..topology.nodes() {
+        relax(topology, weights.as_mut_slice());
+    }
+    Some(weights)
+}
+
 /// Whether the distances to a node are those that plain relaxation finds.
 fn agrees(alloc: Global, topology: &Topology, table: &Table, d: u16) -> bool
     requires { table_size table.now ≡ node_count topology.now }
@@ -131,7 +162,7 @@ fn agrees(alloc: Global, topology: &Topology, table: &Table, d: u16) -> bool
     if d as usize >= topology.nodes() {
         return false;
     }
-    let Ok(weights) = weights_by_rounds(alloc, topology, d as usize) else {
+    let Some(weights) = relaxed(alloc, topology, d as usize) else {
         return false;
     };
     for (u, weight) in weights.iter().enumerate() {

@@ -1,6 +1,6 @@
 //! The words of `route` that are refused.
 
-use ir_cli::words::{Words, WordsError, read_words};
+use ir_cli::{Words, WordsError, read_words};
 use std::alloc::Global;
 
 /// What a line of words behind the program's name asks for, or why it is refused.

@@ -1,6 +1,6 @@
 //! Why a trace is refused.
 ghost use Rattle.std.specs.Prelude.{◌≡◌};
-ghost use Rattle.ir_trace.specs.Codes.{finding_code};
+ghost use Rattle.ir_trace.specs.{Codes.finding_code, declared.finding.FindingKind.TheVariants.NoMemory};
 
 use std::alloc::{AllocError, AllocFailed};
 use thiserror::Error;
@@ -55,9 +55,6 @@ impl Finding {
 }
 
 impl From<AllocError> for Finding {
-    ghost use Rattle.std.specs.Prelude.{◌≡◌};
-    ghost use Rattle.ir_trace.specs.declared.finding.FindingKind.TheVariants.{NoMemory};
-
     ghost from_gives = { λ _ e. e ≡ record { line = 0; kind = NoMemory } };
 
     fn from(_error: AllocError) -> Finding {
@@ -69,9 +66,6 @@ impl From<AllocError> for Finding {
 }
 
 impl<T: Drop> From<AllocFailed<T>> for Finding {
-    ghost use Rattle.std.specs.Prelude.{◌≡◌};
-    ghost use Rattle.ir_trace.specs.declared.finding.FindingKind.TheVariants.{NoMemory};
-
     ghost from_gives = { λ _ e. e ≡ record { line = 0; kind = NoMemory } };
 
     fn from(_error: AllocFailed<T>) -> Finding {

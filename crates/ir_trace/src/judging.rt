@@ -2,8 +2,7 @@
 //! rows beside them.
 ghost use Rattle.std.specs.Prelude.{◌≡◌, ◌<◌, ◌≤◌, IfOk, length, nat_lt, nat_le, ◌&&◌, Some};
 ghost use Rattle.ir_model.specs.Topology.{node_count, restrict};
-ghost use Rattle.ir_core.specs.Meaning.{IsMade};
-ghost use Rattle.ir_core.specs.Sound.{last_of};
+ghost use Rattle.ir_core.specs.{Meaning.IsMade, Sound.last_of};
 ghost use Rattle.ir_trace.specs.Checked.{plan_at, last_part, IsInstall, AreInstalls, ArePlansOf};
 ghost use Rattle.ir_trace.specs.Inspect.{is_node, next_of, are_known, fits_fate};
 

@@ -1,6 +1,7 @@
 //! Where traces go out, and why a trace did not.
 ghost use Rattle.std.specs.Prelude.{◌≡◌, false};
-ghost use Rattle.ir_trace.specs.Outlet.{IsWritten};
+ghost use Rattle.ir_trace.specs.{Outlet.{IsWritten, Outlet}, Codes.error_code};
+ghost use Rattle.ir_trace.specs.declared.outlet.TraceError.TheVariants.{NoMemory};
 
 use ir_streams::{Writer, write_text};
 use std::alloc::AllocError;
@@ -19,9 +20,6 @@ pub enum TraceError {
 }
 
 impl TraceError {
-    ghost use Rattle.std.specs.Prelude.{◌≡◌};
-    ghost use Rattle.ir_trace.specs.Codes.{error_code};
-
     /// The number of the error: 1 or 2. For users of the library.
     pub fn code(self) -> u8
         ensures { result ≡ error_code self }
@@ -31,9 +29,6 @@ impl TraceError {
 }
 
 impl From<AllocError> for TraceError {
-    ghost use Rattle.std.specs.Prelude.{◌≡◌};
-    ghost use Rattle.ir_trace.specs.declared.outlet.TraceError.TheVariants.{NoMemory};
-
     ghost from_gives = { λ _ e. e ≡ NoMemory };
 
     fn from(_error: AllocError) -> TraceError {
@@ -49,8 +44,6 @@ pub struct Outlet<W> {
 }
 
 impl<W> Model for Outlet<W> {
-    ghost use Rattle.ir_trace.specs.Outlet.{Outlet};
-
     ghost Value = { Outlet W };
 
     ghost view = { λ o. record { writer = o.writer; failed = o.failed } };

@@ -1,13 +1,10 @@
 //! Traces as they are read.
 ghost use Rattle.std.specs.Prelude.{◌≡◌, ◌<◌, ◌++◌, List, Some, MatchOption, MatchResult, IfOk, IfErr, length, map, slice_get};
-ghost use Rattle.ir_model.specs.OfGraph.{topology_of_graph};
+ghost use Rattle.ir_model.specs.{OfGraph.topology_of_graph, Topology.node_count};
 ghost use Rattle.ir_core.specs.Record.{Record};
-ghost use Rattle.ir_trace.specs.Rows.{header};
-ghost use Rattle.ir_trace.specs.Reading.{IsNoTrace, IsTrace, TellsFinding};
-ghost use Rattle.ir_model.specs.Topology.{node_count};
-ghost use Rattle.ir_trace.specs.Checked.{AreRowsOver};
+ghost use Rattle.ir_trace.specs.{Rows.header, Reading.{IsNoTrace, IsTrace, TellsFinding}, Checked.AreRowsOver};
 ghost use Rattle.ir_trace.specs.Again.{row_again, IsTraceOf, segments_again, AreSegmentsOf};
-ghost use Rattle.ir_trace.specs.Line.{HasNoFeed, CutsLine, IsLineOf, LineTold};
+ghost use Rattle.ir_trace.specs.{Line.{HasNoFeed, CutsLine, IsLineOf, LineTold}, Row.TraceRow};
 
 use crate::finding::{Finding, FindingKind};
 use crate::resolve::resolve;
@@ -25,9 +22,6 @@ pub struct Trace {
 }
 
 impl Model for Trace {
-    ghost use Rattle.std.specs.Prelude.{List};
-    ghost use Rattle.ir_trace.specs.Row.{TraceRow};
-
     ghost Value = { List TraceRow };
 
     ghost view = { λ t. t.rows.items };

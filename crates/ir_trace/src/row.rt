@@ -1,4 +1,5 @@
 //! The rows of a trace as they are read.
+ghost use Rattle.ir_trace.specs.Row.{Segment, TraceRow};
 
 use std::marker::Model;
 
@@ -33,8 +34,6 @@ pub struct Segment {
 }
 
 impl Model for Segment {
-    ghost use Rattle.ir_trace.specs.Row.{Segment};
-
     ghost Value = { Segment };
 
     ghost view = { λ s. record { epoch = s.epoch; hops = s.hops.items } };
@@ -53,8 +52,6 @@ pub struct TraceRow {
 }
 
 impl Model for TraceRow {
-    ghost use Rattle.ir_trace.specs.Row.{TraceRow};
-
     ghost Value = { TraceRow };
 
     ghost view = { λ r. record {

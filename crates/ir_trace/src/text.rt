@@ -2,8 +2,7 @@
 ghost use Rattle.std.specs.Prelude.{◌≡◌, ◌<◌, ◌++◌, true, OnOk, length, nat_lt, string_bytes, decimal, flat_map, map};
 ghost use Rattle.std.specs.List.{list_all};
 ghost use Rattle.ir_model.specs.Graph.{names};
-ghost use Rattle.ir_trace.specs.Rows.{spaced};
-ghost use Rattle.ir_trace.specs.Written.{name_at};
+ghost use Rattle.ir_trace.specs.{Rows.spaced, Written.name_at};
 
 use ir_graph::Graph;
 use std::alloc::AllocError;

@@ -1,8 +1,6 @@
 //! The weight of the hops of a packet.
-ghost use Rattle.std.specs.Prelude.{◌≡◌, ◌<◌, ◌≤◌, ◌*◌, true, length, nat_lt};
-ghost use Rattle.std.specs.List.{list_all};
-ghost use Rattle.ir_model.specs.Topology.{node_count};
-ghost use Rattle.ir_model.specs.Walk.{link_weight, walk_weight};
+ghost use Rattle.std.specs.{Prelude.{◌≡◌, ◌<◌, ◌≤◌, ◌*◌, true, length, nat_lt}, List.list_all};
+ghost use Rattle.ir_model.specs.{Topology.node_count, Walk.{link_weight, walk_weight}};
 
 use ir_model::{MAX_NODES, MAX_WEIGHT};
 use ir_tables::Topology;

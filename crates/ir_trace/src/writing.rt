@@ -1,11 +1,8 @@
 //! Traces as they are written.
 ghost use Rattle.std.specs.Prelude.{◌≡◌, ◌<◌, true, false, [], ◌∷◌, ◌++◌, IfOk, OnOk, length, nat_lt, string_bytes, flat_map, map};
 ghost use Rattle.std.specs.List.{list_all};
-ghost use Rattle.ir_model.specs.Graph.{names};
-ghost use Rattle.ir_model.specs.Topology.{node_count};
-ghost use Rattle.ir_model.specs.OfGraph.{topology_of_graph};
-ghost use Rattle.ir_trace.specs.Rows.{spaced, fate_words, part_words, row_line};
-ghost use Rattle.ir_trace.specs.Outlet.{IsWritten};
+ghost use Rattle.ir_model.specs.{Graph.names, Topology.node_count, OfGraph.topology_of_graph};
+ghost use Rattle.ir_trace.specs.{Rows.{spaced, fate_words, part_words, row_line}, Outlet.IsWritten};
 ghost use Rattle.ir_trace.specs.Written.{name_at, link_at, other_end, fate_text, row_of, records_text, FateIsIn, IsWritable, AreWritable, named, segments_row, segments_text, HasSegments, HaveSegments};
 ghost use Rattle.ir_trace.specs.Stretches.{parts_from, AreAscending};
 

@@ -14,8 +14,7 @@ pub struct Entrances {
 }
 
 impl Entrances {
-    ghost use Rattle.ir_worker.specs.Account.{lines_in};
-    ghost use Rattle.ir_worker.specs.Wires.{way_after, TookAt, WasEmptyAt};
+    ghost use Rattle.ir_worker.specs.{Account.lines_in, Wires.{way_after, TookAt, WasEmptyAt}};
 
     /// The inbox is polled first.
     pub fn new(inbox: Taker<Parcel>, ports: Vec<Taker<Parcel>>) -> Entrances

@@ -1,13 +1,10 @@
 //! Nodes, and their turns.
-ghost use Rattle.std.specs.Prelude.{◌≡◌, ◌≤◌, ℕ, [], length, map, All};
-ghost use Rattle.std.specs.Arc.{arc_value};
-ghost use Rattle.ir_epochs.specs.Stamps.{IsOf, knows, registry_name};
-ghost use Rattle.ir_epochs.specs.Entries.{registry_of, topology_of};
+ghost use Rattle.std.specs.{Prelude.{◌≡◌, ◌≤◌, ℕ, [], length, map, All}, Arc.arc_value};
+ghost use Rattle.ir_epochs.specs.{Stamps.{IsOf, knows, registry_name}, Entries.{registry_of, topology_of}};
 ghost use Rattle.ir_epochs.specs.Handles.{known};
-ghost use Rattle.ir_worker.specs.Outcomes.{IsOutcomeOf, IsCauseKnown};
-ghost use Rattle.ir_core.specs.Record.{Record};
-ghost use Rattle.ir_worker.specs.Account.{IsBalanced, IsEven, AreRestampsKnown};
+ghost use Rattle.ir_worker.specs.{Outcomes.{IsOutcomeOf, IsCauseKnown}, Account.{IsBalanced, IsEven, AreRestampsKnown}};
 ghost use Rattle.ir_worker.specs.Wires.{AreEndsOf};
+ghost use Rattle.ir_core.specs.Record.{Record};
 
 use crate::entrances::Entrances;
 use crate::parcel::{Outcome, Parcel};
@@ -72,9 +69,7 @@ impl Node {
     ghost use Rattle.ir_model.specs.Topology.{node_count, ports_of};
     ghost use Rattle.ir_epochs.specs.Entries.{board_of, Rises};
     ghost use Rattle.ir_epochs.specs.Handles.{told, published, reader_board, writer_board, receipt_board};
-    ghost use Rattle.ir_worker.specs.Same.{IsSameNode};
-    ghost use Rattle.ir_worker.specs.Turns.{IsTurn, IsUntouched, HoldsAll};
-    ghost use Rattle.ir_worker.specs.Wires.{IsWayAt};
+    ghost use Rattle.ir_worker.specs.{Same.IsSameNode, Turns.{IsTurn, IsUntouched, HoldsAll}, Wires.IsWayAt};
 
     /// A node with its ends, which have taken and sent nothing. It counts in `settled`, with the net's other nodes, what it
     /// settles: a hint of which nothing is claimed.

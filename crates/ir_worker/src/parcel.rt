@@ -1,13 +1,9 @@
 //! Parcels, where they go, and what they come to.
 ghost use Rattle.std.specs.Prelude.{◌≡◌, ◌+◌, ◌<◌, ◌≤◌, [], ◌∷◌, ◌++◌, length, IfOk, MatchResult, Some, false, vec_capacity};
-ghost use Rattle.ir_model.specs.Topology.{node_count};
-ghost use Rattle.ir_model.specs.Plan.{IsPlan, label_in, next_hop};
-ghost use Rattle.ir_core.specs.declared.TheConstants.{MAX_NODES, MAX_RESTAMPS};
-ghost use Rattle.ir_core.specs.declared.event.Verdict.{Verdict};
-ghost use Rattle.ir_core.specs.declared.packet.Fate.TheVariants.{Full, Left};
-ghost use Rattle.ir_core.specs.Record.{hop_room, present, stamp_of};
-ghost use Rattle.ir_core.specs.Entry.{judged, restamped, fresh};
-ghost use Rattle.ir_core.specs.Sound.{LeadsOn, last_of};
+ghost use Rattle.ir_model.specs.{Topology.node_count, Plan.{IsPlan, label_in, next_hop}};
+ghost use Rattle.ir_core.specs.{declared.TheConstants.{MAX_NODES, MAX_RESTAMPS}, declared.event.Verdict.Verdict};
+ghost use Rattle.ir_core.specs.{declared.packet.Fate.TheVariants.{Full, Left}, Record.{hop_room, present, stamp_of}};
+ghost use Rattle.ir_core.specs.{Entry.{judged, restamped, fresh}, Sound.{LeadsOn, last_of}};
 ghost use Rattle.ir_core.specs.World.{IsDue, IsNew, InHand};
 ghost use Rattle.ir_epochs.specs.Stamps.{IsOf, knows};
 ghost use Rattle.ir_worker.specs.Seen.{IsSegmentUnderWay, IsSoundByStamps, stamps_of, stamp_now};

@@ -1,16 +1,11 @@
 //! What a node does with a parcel in its hand.
 ghost use Rattle.std.specs.Prelude.{◌≡◌, ◌<◌, ◌≤◌, ℕ, Bool, Some, All, map, length, slice_get, MatchResult};
-ghost use Rattle.ir_model.specs.declared.Hop.{Hop};
-ghost use Rattle.ir_model.specs.Topology.{node_count, ports_of};
-ghost use Rattle.ir_core.specs.declared.event.Verdict.{Verdict};
-ghost use Rattle.ir_core.specs.declared.TheConstants.{MAX_RESTAMPS};
-ghost use Rattle.ir_core.specs.Sound.{last_of};
+ghost use Rattle.ir_model.specs.{declared.Hop.Hop, Topology.{node_count, ports_of}};
+ghost use Rattle.ir_core.specs.{declared.event.Verdict.Verdict, declared.TheConstants.MAX_RESTAMPS, Sound.last_of};
 ghost use Rattle.ir_core.specs.World.{IsNew, InHand};
 ghost use Rattle.ir_epochs.specs.Stamps.{IsOf, knows};
-ghost use Rattle.ir_worker.specs.Seen.{Parcel, HasRoomOf, IsOfNet, net_place, stamps_of};
-ghost use Rattle.ir_worker.specs.Account.{lines_out};
-ghost use Rattle.ir_worker.specs.Acts.{restamp_on, with_restamp, way_then, GoesOnAs, SettlesAs};
-ghost use Rattle.ir_worker.specs.Ends.{CameBy};
+ghost use Rattle.ir_worker.specs.{Seen.{Parcel, HasRoomOf, IsOfNet, net_place, stamps_of}, Account.lines_out};
+ghost use Rattle.ir_worker.specs.{Acts.{restamp_on, with_restamp, way_then, GoesOnAs, SettlesAs}, Ends.CameBy};
 ghost use Rattle.ir_worker.specs.Wires.{Out, SentOver, WasFullFor};
 
 use crate::parcel::{Outcome, Parcel};

@@ -1,8 +1,6 @@
 //! A node that turns on a thread of its own.
 ghost use Rattle.std.specs.Prelude.{List, MatchOption};
-ghost use Rattle.ir_worker.specs.declared.node.Node.{Node};
-ghost use Rattle.ir_worker.specs.declared.node.Turn.{Turn};
-ghost use Rattle.ir_worker.specs.Same.{IsSameNode};
+ghost use Rattle.ir_worker.specs.{declared.node.Node.Node, declared.node.Turn.Turn, Same.IsSameNode};
 ghost use Rattle.ir_worker.specs.Turns.{AreTurns, IsUntouched};
 
 use crate::node::{Node, Turn};

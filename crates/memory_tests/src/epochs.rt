@@ -1,8 +1,7 @@
 //! A registry of plans, and a board.
 ghost use Rattle.std.specs.Prelude.{◌≡◌, ◌≤◌, All, IfOk, length};
 ghost use Rattle.ir_epochs.specs.Entries.{IsSameOpening, opening_links};
-ghost use Rattle.ir_epochs.specs.Handles.{published, reader_board, receipt_board, writer_board};
-ghost use Rattle.ir_epochs.specs.Stamps.{IsOf, knows};
+ghost use Rattle.ir_epochs.specs.{Handles.{published, reader_board, receipt_board, writer_board}, Stamps.{IsOf, knows}};
 
 use crate::networks::{path, plan};
 use ir_core::Board;

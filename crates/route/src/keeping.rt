@@ -49,32 +49,12 @@ pub struct Keeping<'a, W> {
 }
 
 impl<'a, W> Keeping<'a, W> {
-    /// The writer of the output.
-    pub fn output(
-        alloc: Global,
-        writer: W,
-        is_wanted: bool,
-        is_gone: &'a Cell<bool>,
-    ) -> Keeping<'a, W> {
+    /// A writer of the output or of the faults, which keeps what is wanted.
+    pub fn new(writer: W, kept: Kept, is_output: bool, is_gone: &'a Cell<bool>) -> Keeping<'a, W> {
         Keeping {
             writer,
-            kept: Kept::new(alloc, is_wanted),
-            is_output: true,
-            is_gone,
-        }
-    }
-
-    /// The writer of the faults.
-    pub fn faults(
-        alloc: Global,
-        writer: W,
-        is_wanted: bool,
-        is_gone: &'a Cell<bool>,
-    ) -> Keeping<'a, W> {
-        Keeping {
-            writer,
-            kept: Kept::new(alloc, is_wanted),
-            is_output: false,
+            kept,
+            is_output,
             is_gone,
         }
     }

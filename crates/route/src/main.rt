@@ -17,8 +17,8 @@ mod terminal;
 
 use input::{Input, open};
 use ir_explain::explanation;
-use ir_shell::{Numbering, Source, Sub, Words, WordsError, read_words, run, sources_of};
-use keeping::Keeping;
+use ir_shell::{Source, Sub, Words, WordsError, read_words, run, sources_of};
+use keeping::{Keeping, Kept};
 use progress::Progress;
 use std::alloc::AllocError;
 use std::cell::Cell;
@@ -49,25 +49,14 @@ fn words(rt: &HostRuntime) -> io::Result<Vec<String>> {
     Ok(words)
 }
 
-/// The name of a file; standard input where there is none.
-fn file(words: &Words, i: usize) -> &str {
-    match words.files.get(i) {
-        Some(name) => name.as_str(),
-        None => "-",
-    }
-}
-
 /// The input of a text, of which is kept what is read where the words ask for sentences.
 fn input_of(rt: &HostRuntime, words: &Words, source: Source) -> Input {
     let name = match source {
         Source::Input => "-",
-        Source::Topology => file(words, 0),
-        Source::Script => file(words, 1),
-        Source::Trace => file(words, 2),
-        Source::Numbering => match &words.numbering {
-            Numbering::File(name) => name.as_str(),
-            Numbering::DepthFirst | Numbering::Tour => "-",
-        },
+        Source::Topology => words.file(0),
+        Source::Script => words.file(1),
+        Source::Trace => words.file(2),
+        Source::Numbering => words.order_file(),
     };
     open(rt, name, words.explain)
 }
@@ -84,35 +73,6 @@ fn inputs_of(rt: &HostRuntime, words: &Words) -> Result<Vec<Input>, AllocError>
     Ok(inputs)
 }
 
-/// Standard output; what is written to it is kept where a finding on it is to be explained.
-fn output_of<'a>(rt: &HostRuntime, words: &Words, is_gone: &'a Cell<bool>) -> Keeping<'a, Stdout> {
-    let is_kept = words.explain && words.sub == Sub::Check;
-    Keeping::output(rt.alloc(), rt.stdout(), is_kept, is_gone)
-}
-
-/// Standard error; what is written to it is kept where the words ask for sentences.
-fn faults_of<'a>(rt: &HostRuntime, words: &Words, is_gone: &'a Cell<bool>) -> Keeping<'a, Stderr> {
-    Keeping::faults(rt.alloc(), rt.stderr(), words.explain, is_gone)
-}
-
-/// The sentences on a run.
-fn sentences<T: Threads + Sync>(
-    rt: &HostRuntime,
-    threads: &T,
-    words: &Words,
-    inputs: &[Input],
-    output: &Keeping<'_, Stdout>,
-    faults: &Keeping<'_, Stderr>,
-) -> Result<String, AllocError> {
-    let mut given = Vec::new(rt.alloc());
-    for input in inputs {
-        given.push(input.given().ok_or(AllocError)?)?;
-    }
-    let told = faults.kept.whole().ok_or(AllocError)?;
-    let found = output.kept.whole().ok_or(AllocError)?;
-    explanation(threads, rt.alloc(), words, given.as_slice(), told, found)
-}
-
 /// Prints sentences on a run behind its faults, where the words ask for them and there is memory for all of it.
 fn explain<T: Threads + Sync>(
     rt: &HostRuntime,
@@ -121,13 +81,19 @@ fn explain<T: Threads + Sync>(
     inputs: &[Input],
     output: &Keeping<'_, Stdout>,
     faults: &Keeping<'_, Stderr>,
-) {
+) -> Result<(), AllocError> {
     if !words.explain || output.is_gone.get() {
-        return;
+        return Ok(());
     }
-    if let Ok(text) = sentences(rt, threads, words, inputs, output, faults) {
-        let _told = rt.eprint(text);
+    let mut given = Vec::new(rt.alloc());
+    for input in inputs {
+        given.push(input.given().ok_or(AllocError)?)?;
     }
+    let told = faults.kept.whole().ok_or(AllocError)?;
+    let found = output.kept.whole().ok_or(AllocError)?;
+    let text = explanation(threads, rt.alloc(), words, given.as_slice(), told, found)?;
+    let _told = rt.eprint(text);
+    Ok(())
 }
 
 /// Does what the words ask for over the inputs.
@@ -141,8 +107,10 @@ fn run_over<T: Threads + Wait + Sync>(
     requires inputs { length inputs.old ≡ length (sources_of words.now) }
 {
     let is_gone = Cell::new(false);
-    let mut output = output_of(rt, words, &is_gone);
-    let mut faults = faults_of(rt, words, &is_gone);
+    let found = Kept::new(rt.alloc(), words.explain && words.sub == Sub::Check);
+    let mut output = Keeping::new(rt.stdout(), found, true, &is_gone);
+    let told = Kept::new(rt.alloc(), words.explain);
+    let mut faults = Keeping::new(rt.stderr(), told, false, &is_gone);
     let progress = Progress::new(rt);
     let status = run(
         threads,
@@ -154,7 +122,7 @@ fn run_over<T: Threads + Wait + Sync>(
         &progress,
     );
     progress.clear();
-    explain(rt, threads, words, inputs, &output, &faults);
+    let _explained = explain(rt, threads, words, inputs, &output, &faults);
     status
 }
 

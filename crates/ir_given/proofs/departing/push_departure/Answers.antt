@@ -6,5 +6,5 @@ use Rattle.ir_given.proofs.departing.push_departure.Goals as goal
 
 pub departure-requires-clause-row : goal.departure-requires-clause-row
 departure-requires-clause-row g c κs within =
-    let rows : AreRowsOver (node_count (topology_of_graph c.args.graph.now)) c.in-Some-2.trace = rw c.in-Some-2.is at c.in_ok-trace.ensures in
+    let rows : AreRowsOver (node_count (topology_of_graph c.args.run.now.graph.now)) c.in-Some-2.trace = rw c.in-Some-2.is at c.in_ok-trace.ensures in
     subst (λ (n : Topology). IsRowOver (node_count n) c.row-row.result.now) (sym c.in_ok-topology.ensures) (rows (c.args.line - 2) c.row-row.result.now c.row-row.ensures)

@@ -5,7 +5,7 @@ use Rattle.ir_model.specs.Text.{lines}
 use Rattle.ir_cli.specs.Cut.{is_cut, EndsWithBytes}
 use Rattle.ir_cli.proofs.Ends.{end_behind, end_none}
 use Rattle.ir_cli.proofs.Cutting.{is_text, before_more, at_cut, no_cut}
-use Rattle.ir_cli.proofs.cut.cut.Goals as goal
+use Rattle.ir_cli.proofs.parting.cut.Goals as goal
 
 pub loop-at-preserved : goal.loop-at-preserved
 loop-at-preserved c =

@@ -1,5 +1,5 @@
 use Rattle.ir_plan.proofs.DepthFirst.{depth_first_labelled, fewer_labelled, fewer_than_one}
-use Rattle.ir_plan.proofs.tour.plan_in_order_watched.Goals as goal
+use Rattle.ir_plan.proofs.tour.plan_in_order.Goals as goal
 
 pub returns-in-Ok-Some-clause-labelled : goal.returns-in-Ok-Some-clause-labelled
 returns-in-Ok-Some-clause-labelled g c =
