@@ -169,17 +169,6 @@ module _ (net : Topology) (ok : IsTopology net) (u : ℕ) (u_in : u < node_count
       port = λ v v_in other. (at keys v % 65536, in_keys.each v (omega (arith, v_in, are.ways.every)) (λ e. other (sym e)), key_port v v_in (λ e. other (sym e)));
     }
 
--- one more weight
-pub weights_push : (keys weights : List ℕ) (i weight : ℕ) → i < length keys → weight ≡ at keys i / 65536 → AreWeightsIn keys weights i → AreWeightsIn keys (weights ++ weight ∷ []) (i + 1)
-weights_push keys weights i weight lt is so_far = record {
-  every = let long : length (weights ++ weight ∷ []) ≡ length weights + 1 = length_push weights weight in omega (arith, long, so_far.every);
-  each = λ v less. ⊎_elim
-      (λ (before : v < i). get_or_append_left weights (weight ∷ []) 0 v (omega (arith, before, so_far.every)) ∙ so_far.each v before)
-      (λ (ge : i ≤ v). let same : v ≡ i = omega (arith, ge, less) in
-      subst (λ (k : ℕ). at (weights ++ weight ∷ []) k ≡ at keys k / 65536) (sym same) (get_or_push weights weight 0 i so_far.every ∙ is))
-      (cases_lt v i);
-}
-
 -- one more port
 pub ports_push : (u : ℕ) (keys : List ℕ) (ports : List (Option ℕ)) (i : ℕ) (port : Option ℕ) → (i ≡ u → port ≡ None) → (i ≢ u → port ≡ Some (at keys i % 65536))
     → ArePortsIn u keys ports i → ArePortsIn u keys (ports ++ port ∷ []) (i + 1)

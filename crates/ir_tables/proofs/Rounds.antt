@@ -1,6 +1,6 @@
 -- What the ports of a node offer.
 use Rattle.std.proofs.Common.{◌≡◌, ◌≢◌, ℕ, ◌+◌, ◌<◌, min, List, ◌∷◌, length, refl, sym, subst, ◌∙◌, arith, get_or, set, sum, get_or-set_same, get_or-set_other, ⊎_elim}
-use Rattle.std.proofs.lemmas.Option.{get_or_from_slice_get, slice_get-get_or}
+use Rattle.std.proofs.lemmas.Option.{get_or_from_slice_get}
 use Rattle.std.proofs.lemmas.Bool.{cases_eq, cases_lt}
 use Rattle.ir_model.specs.declared.Hop.{Hop}
 use Rattle.ir_model.specs.Topology.{Topology, node_count, ports_of, IsTopology}
@@ -17,9 +17,6 @@ pub offers_is : (ports : List Hop) (weights : List ℕ) (p offer : ℕ) → Offe
 offers_is ports weights p offer o =
     let e : get_or ports p past ≡ o.0 = get_or_from_slice_get ports p o.0 past o.1 in
     rw e (omega (arith, o.2))
-
-pub offers_here : (ports : List Hop) (weights : List ℕ) (p offer : ℕ) → p < length ports → offer ≡ at weights (get_or ports p past).node + (get_or ports p past).weight → Offers ports weights p offer
-offers_here ports weights p offer lt e = (get_or ports p past, slice_get-get_or ports p past lt, omega (arith, e))
 
 -- where none of the first i ports offers own, and the port at i does not
 pub none_more : (ports : List Hop) (weights : List ℕ) (own i sum : ℕ) → own < 4294967295

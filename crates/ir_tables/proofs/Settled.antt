@@ -8,7 +8,7 @@ use Rattle.ir_model.specs.Walk.{link_weight, LeadsTo, IsWalk, weight_from, walk_
 use Rattle.ir_model.specs.Table.{LeadsNearer, IsShortestPort}
 use Rattle.ir_model.proofs.Tables.{distance_unique, distance_way}
 use Rattle.ir_model.proofs.Walks.{link_weight_at, PortFacts, port_facts, leads_from_node, IsLightest, lightest_short, way_light}
-use Rattle.ir_tables.specs.Relaxation.{IsSettled, IsReached, unreached, at, Offers, IsRelaxed, AreDistances, IsColumn}
+use Rattle.ir_tables.specs.Relaxation.{IsSettled, IsReached, unreached, at, Offers, IsRelaxed, IsColumn}
 
 -- a settled f is below the weight of every way
 pub settled_below : (net : Topology) → IsTopology net → (d : ℕ) (f : ℕ → ℕ) → IsSettled net d f → (u : ℕ) (rest : List ℕ) → LeadsTo net u d rest → f u ≤ weight_from net u rest
@@ -61,14 +61,6 @@ no_walk net ok d weights done u none (x ∷ rest) is =
     let P : ℕ → Type 0 = λ y. LeadsTo net y d rest in
     let below : at weights u < unreached = settled_within net ok d unreached (at weights) done.settled (unreached_large net ok) done.reached u rest is.1 in
     omega (arith, below, none)
-
--- what relaxation ends with are the distances
-pub relaxed_distances : (net : Topology) → IsTopology net → (d : ℕ) (weights : List ℕ) → IsRelaxed net d weights → AreDistances net d weights
-relaxed_distances net ok d weights done = record {
-  len = done.len;
-  near = λ u u_in below. distance_from_settled net ok d (at weights) done.settled u (done.reached u u_in below);
-  far = λ u u_in none walk is. no_walk net ok d weights done u none walk is;
-}
 
 -- what a column holds at u
 pub record IsEntry (net : Topology) (d : ℕ) (weights : List ℕ) (u : ℕ) (held : Option ℕ) : Type 0 where

@@ -49,12 +49,6 @@ gone keys e before after moved stale = record {
 pub stale_key : (keys : List ℕ) (e : KeyEntry) → (e.0 / 65536 ≡ at keys (e.0 % 65536) → ⊥) → IsFresh keys e → ⊥
 stale_key keys e other fresh = other (sym (get_or_from_slice_get keys (e.0 % 65536) (e.0 / 65536) 0 fresh))
 
-pub keeps_more : (keys : List ℕ) (first second third : List KeyEntry) → KeepsFresh keys first second → KeepsFresh keys second third → KeepsFresh keys first third
-keeps_more keys first second third one other = record {
-  nodes = λ net all. other.nodes net (one.nodes net all);
-  fresh = λ z fresh has. other.fresh z fresh (one.fresh z fresh has);
-}
-
 -- the search goes on over what is kept
 pub keying_kept : (net : Topology) → IsTopology net → (u : ℕ) (keys : List ℕ) (before after : List KeyEntry) → KeepsFresh keys before after → IsKeying net u NoNode keys before → IsKeying net u NoNode keys after
 keying_kept net ok u keys before after kept so_far = record {

@@ -44,12 +44,6 @@ pub record IsRelaxed (net : Topology) (d : ℕ) (weights : List ℕ) : Type 0 wh
   pub settled : IsSettled net d (at weights)
   pub reached : AllReached net d weights
 
--- weights by node: distances to d, and `unreached` where there is no walk to d
-pub record AreDistances (net : Topology) (d : ℕ) (weights : List ℕ) : Type 0 where
-  pub len : length weights ≡ node_count net
-  pub near : (u : ℕ) → u < node_count net → at weights u < unreached → IsDistance net u d (at weights u)
-  pub far : (u : ℕ) → u < node_count net → at weights u ≡ unreached → (walk : List ℕ) → IsWalk net u d walk → ⊥
-
 -- the column of a shortest table for the destination d
 pub record IsColumn (net : Topology) (d : ℕ) (ports : List (Option ℕ)) (weights : List ℕ) : Type 0 where
   pub ports_len : length ports ≡ node_count net
