@@ -280,36 +280,47 @@ fn two_readers_read_each_of_a_thousand_changes(rt: HostRuntime) {
     assert!(rt; a_thousand_read(&rt, rt.alloc()) == Some(true));
 }
 
-// The epoch of the receipt of an install; the version that a reader on another thread, to whom the receipt goes, reads,
-// and its stamp's epoch; and the epoch of the stamp of a reader who does not learn of it, the current epoch that this one
-// then reads, and its stamp's.
-fn installed_for_two<R: Threads + Wait + Sync>(rt: &R, alloc: Global) -> Option<[u32; 6]> {
+// A board and the receipt of an install there, and two readers.
+fn installed_for_two<'a, R: Wait>(
+    rt: &'a R,
+    alloc: Global,
+) -> Option<(BoardWriter<&'a R>, Receipt, BoardReader, BoardReader)>
+    ensures { IfSome result (λ b. receipt_board b.1 ≡ reader_board b.2) }
+{
     let registry = Registry::new(alloc);
     let stamp = first(&registry, alloc)?;
     let next = later(&registry, alloc, &stamp, 2)?;
-    let (mut writer, told, mut untold) = opened_for_two(rt, alloc, &registry, &stamp)?;
+    let (mut writer, told, untold) = opened_for_two(rt, alloc, &registry, &stamp)?;
     over_board(&writer, &stamp, &next);
     let receipt = install(&mut writer, next)?;
+    Some((writer, receipt, told, untold))
+}
+
+// The epoch of a reader's stamp, the current epoch that it then reads, and its stamp's.
+fn read_untold(mut reader: BoardReader) -> (u32, u32, u32) {
+    let behind = reader.stamp().epoch();
+    let current = reader.read().current();
+    (behind, current, reader.stamp().epoch())
+}
+
+// The epoch of the receipt of an install; the version that a reader on another thread, to whom the receipt goes, reads,
+// and its stamp's epoch; and what a reader reads who does not learn of it.
+fn learnt_by_one<R: Threads + Wait + Sync>(
+    rt: &R,
+    alloc: Global,
+) -> Option<(u32, (u32, u32), (u32, u32, u32))> {
+    let (_writer, receipt, told, untold) = installed_for_two(rt, alloc)?;
     let epoch = receipt.stamp()?.epoch();
     let there = move || -> (u32, u32)
         requires { receipt_board receipt ≡ reader_board told }
     { learn_there(told, receipt) };
-    let (version, learnt) = thread::join(rt, there, || ()).0;
-    let behind = untold.stamp().epoch();
-    let current = untold.read().current();
-    Some([
-        epoch,
-        version,
-        learnt,
-        behind,
-        current,
-        untold.stamp().epoch(),
-    ])
+    let learnt = thread::join(rt, there, || ()).0;
+    Some((epoch, learnt, read_untold(untold)))
 }
 
 #[test]
 fn an_install_is_learnt_on_another_thread_or_read(rt: HostRuntime) {
-    assert!(rt; installed_for_two(&rt, rt.alloc()) == Some([2, 1, 2, 1, 2, 2]));
+    assert!(rt; learnt_by_one(&rt, rt.alloc()) == Some((2, (1, 2), (1, 2, 2))));
 }
 
 // Retires the epochs below one, if it is a live one that is not the least.
@@ -322,7 +333,9 @@ fn retire<R: Wait + Drop>(writer: &mut BoardWriter<R>, floor: u32) -> Option<Rec
 }
 
 // What a receipt tells: the version, the epoch where it installed one, and the current epoch, the floor and link 0's mark.
-fn told_by(receipt: &Receipt) -> (u32, Option<u32>, u32, u32, bool) {
+type Told = (u32, Option<u32>, u32, u32, bool);
+
+fn told_by(receipt: &Receipt) -> Told {
     let board = receipt.board();
     let epoch = match receipt.stamp() {
         None => None,
@@ -337,23 +350,34 @@ fn told_by(receipt: &Receipt) -> (u32, Option<u32>, u32, u32, bool) {
     )
 }
 
-// What the receipts tell of a mark, an install and a retirement, on a board that nobody reads.
-fn changed_unread<R: Wait>(
-    rt: &R,
-    alloc: Global,
-) -> Option<[(u32, Option<u32>, u32, u32, bool); 3]> {
+// A board that nobody reads, a stamp of epoch 2, and what the receipt tells of the first link's mark as down.
+fn marked_unread<'a, R: Wait>(rt: &'a R, alloc: Global) -> Option<(BoardWriter<&'a R>, Stamp, Told)>
+    ensures registry { IfSome result (λ b. registry_name b.1 ≡ registry_of (published b.0)) }
+    ensures over { IfSome result (λ b. IsOver (topology_of (published b.0)) (knows b.1).topology) }
+{
     let registry = Registry::new(alloc);
     let stamp = first(&registry, alloc)?;
     let next = later(&registry, alloc, &stamp, 2)?;
     let (mut writer, readers) = opened_for(rt, alloc, &registry, &stamp, 0)?;
     let down = told_by(&mark(&mut writer, 0, false)?);
     over_board(&writer, &stamp, &next);
+    if readers.is_empty() {
+        Some((writer, next, down))
+    } else {
+        None
+    }
+}
+
+// What the receipts tell of a mark, an install and a retirement, on a board that nobody reads.
+fn changed_unread<R: Wait>(rt: &R, alloc: Global) -> Option<[Told; 3]> {
+    let (mut writer, next, down) = marked_unread(rt, alloc)?;
     let installed = told_by(&install(&mut writer, next)?);
     let retired = retire(&mut writer, 2)?;
-    if !readers.is_empty() || writer.board() != retired.board() {
-        return None;
+    if writer.board() == retired.board() {
+        Some([down, installed, told_by(&retired)])
+    } else {
+        None
     }
-    Some([down, installed, told_by(&retired)])
 }
 
 #[test]

@@ -4,6 +4,7 @@ ghost use Rattle.std.specs.Prelude.{◌≡◌, IfOk};
 use ir_links::{Bound, Channel, Sender, Taker, settle, settle_into};
 use std::alloc::{AllocError, Global};
 use std::sync::Wait;
+use std::test::Fail;
 use std::thread;
 use std::thread::Threads;
 
@@ -72,27 +73,43 @@ fn is_second(left: &[Letter]) -> bool {
     }
 }
 
+// The ids that come back of three letters that are sent.
+fn three_sent<R: Wait>(rt: &R, alloc: Global, sender: &mut Sender<Letter>) -> [Option<u32>; 3]
+    ensures { sender.new.line ≡ sender.old.line }
+{
+    [
+        sent(rt, alloc, sender, 0),
+        sent(rt, alloc, sender, 1),
+        sent(rt, alloc, sender, 2),
+    ]
+}
+
+// Whether a channel has no ends left to give.
+fn is_spent(channel: &Channel<Letter>) -> bool {
+    matches!(channel.ends(), Ok(None))
+}
+
 // Whether of three letters over two slots two fit and the third comes back, and the second is left when one was taken.
-fn two_fit<R: Wait>(rt: &R, alloc: Global) -> Option<bool> {
-    let channel: Channel<Letter> = Channel::new(alloc, 2, Way { to: 7 }).ok()?;
+fn two_fit<R: Wait>(rt: &R, alloc: Global, channel: &Channel<Letter>) -> bool {
     let Ok(Some((mut sender, mut taker))) = channel.ends() else {
-        return None;
+        return false;
     };
-    let once = sender.place().to == 7 && matches!(channel.ends(), Ok(None));
-    let first = sent(rt, alloc, &mut sender, 0);
-    let second = sent(rt, alloc, &mut sender, 1);
-    let third = sent(rt, alloc, &mut sender, 2);
+    let once = sender.place().to == 7 && is_spent(channel);
+    let back = three_sent(rt, alloc, &mut sender);
     let taken = id_of(taker.take(rt));
-    let Ok(left) = settle(rt, alloc, sender, taker) else {
-        return None;
-    };
-    let fit = (first, second, third, taken) == (None, None, Some(2), Some(0));
-    Some(once && fit && is_second(left.as_slice()) && matches!(channel.ends(), Ok(None)))
+    match settle(rt, alloc, sender, taker) {
+        Ok(left) => {
+            once && (back, taken) == ([None, None, Some(2)], Some(0)) && is_second(left.as_slice())
+        }
+        Err(_) => false,
+    }
 }
 
 #[test]
-fn two_fit_and_the_third_comes_back(rt: HostRuntime) {
-    assert!(rt; two_fit(&rt, rt.alloc()) == Some(true));
+fn two_fit_and_the_third_comes_back(rt: HostRuntime) -> Result<(), Fail> {
+    let channel = Channel::new(rt.alloc(), 2, Way { to: 7 })?;
+    assert!(rt; two_fit(&rt, rt.alloc(), &channel) && is_spent(&channel));
+    Ok(())
 }
 
 fn send_ids<R: Wait>(

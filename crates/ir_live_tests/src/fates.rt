@@ -36,7 +36,23 @@ impl Gate for Held<'_> {
     }
 }
 
-// The report of commands over the path while a node is held, where none is refused.
+// A live run of commands, where none is refused.
+fn run_all<R: Threads + Wait + Sync, G: Gate>(
+    rt: &R,
+    alloc: Global,
+    net: &Net,
+    commands: &[Command],
+    gate: &G,
+) -> Option<Live> {
+    let live = live::run(rt, alloc, net, commands, gate)?;
+    if live.refusals.is_empty() {
+        Some(live)
+    } else {
+        None
+    }
+}
+
+// The same over the path while a node is held.
 fn run_held<R: Threads + Wait + Sync>(
     rt: &R,
     alloc: Global,
@@ -45,12 +61,7 @@ fn run_held<R: Threads + Wait + Sync>(
     commands: &[Command],
 ) -> Option<Live> {
     let net = path(rt, alloc, limits.0, limits.1)?;
-    let live = live::run(rt, alloc, &net, commands, &Held { net: &net, node })?;
-    if live.refusals.is_empty() {
-        Some(live)
-    } else {
-        None
-    }
+    run_all(rt, alloc, &net, commands, &Held { net: &net, node })
 }
 
 /// A packet from b to c that is delivered.
@@ -63,7 +74,7 @@ const OVER: Became<'static> = Became {
 
 /// Two packets that meet at b, before a channel to c that holds one and that c does not poll until one of them is dropped;
 /// and a third behind a drain.
-const MEETING: [Command; 5] = [
+static MEETING: [Command; 5] = [
     Command::Inject(0, 2),
     Command::Inject(1, 2),
     Command::Drain,
@@ -71,25 +82,35 @@ const MEETING: [Command; 5] = [
     Command::Drain,
 ];
 
-// Whether the second of two packets is dropped, or the first, since a channel is full.
-fn is_one_dropped<R: Threads + Wait + Sync>(rt: &R, alloc: Global) -> Option<bool> {
-    let report = run_held(rt, alloc, (1, 0), 2, &MEETING)?.report;
-    let far = Became {
+/// The second of two packets is dropped, since a channel is full.
+static SECOND_DROPPED: [Became<'static>; 3] = [
+    Became {
         hops: &[0, 1, 2],
         ..OVER
-    };
-    let full = Fate::Full { link: 1, to: 2 };
-    let near_full = Became {
+    },
+    Became {
         hops: &[1],
-        fate: full,
+        fate: Fate::Full { link: 1, to: 2 },
         ..OVER
-    };
-    let far_full = Became {
+    },
+    OVER,
+];
+
+/// The first of them is.
+static FIRST_DROPPED: [Became<'static>; 3] = [
+    Became {
         hops: &[0, 1],
-        fate: full,
+        fate: Fate::Full { link: 1, to: 2 },
         ..OVER
-    };
-    Some(tells_all(&report, &[far, near_full, OVER]) || tells_all(&report, &[far_full, OVER, OVER]))
+    },
+    OVER,
+    OVER,
+];
+
+// Whether one of two packets is dropped.
+fn is_one_dropped<R: Threads + Wait + Sync>(rt: &R, alloc: Global) -> Option<bool> {
+    let report = run_held(rt, alloc, (1, 0), 2, &MEETING)?.report;
+    Some(tells_all(&report, &SECOND_DROPPED) || tells_all(&report, &FIRST_DROPPED))
 }
 
 #[test]
@@ -98,7 +119,7 @@ fn full_with_a_drain_behind_each(rt: HostRuntime) {
 }
 
 /// A packet that waits at a until its epoch is retired and the next packet has arrived; and a third behind a drain.
-const WAITING: [Command; 7] = [
+static WAITING: [Command; 7] = [
     Command::Inject(0, 2),
     Command::Install(Kind::Shortest, 0),
     Command::Retire(2),
@@ -109,10 +130,10 @@ const WAITING: [Command; 7] = [
 ];
 
 /// How many restamps there may be, and what becomes of the packets.
-const RETIRED: [(u8, [Became<'static>; 3]); 2] = [
+static RETIRED: [(u8, &'static [Became<'static>]); 2] = [
     (
         0,
-        [
+        &[
             Became {
                 epoch: 1,
                 hops: &[0],
@@ -125,7 +146,7 @@ const RETIRED: [(u8, [Became<'static>; 3]); 2] = [
     ),
     (
         1,
-        [
+        &[
             Became {
                 epoch: 1,
                 hops: &[0, 1, 2],
@@ -188,12 +209,18 @@ impl<C: Clock + Sync> Gate for Late<'_, C> {
 }
 
 /// One node, number 0, and four around it, 1 to 4.
-const STAR: [(&'static str, &'static str); 4] = [
+static STAR: [(&'static str, &'static str); 4] = [
     ("hub", "a"),
     ("hub", "b"),
     ("hub", "c"),
     ("hub", "d"),
 ];
+
+// A net of the shortest ways over it, of the greatest capacity.
+fn over_star(rt: &(impl Threads + Sync), alloc: Global) -> Option<Net> {
+    let star = network(alloc, &STAR)?;
+    opened(rt, alloc, star, (Kind::Shortest, 0), (1_024, 4_096, 0)).ok()
+}
 
 // 1,024 packets from each of the four nodes to the one in their middle, and a drain.
 fn inwards(alloc: Global) -> Option<Vec<Command>> {
@@ -225,11 +252,10 @@ fn settles_all<R: Threads + Wait + Sync, C: Clock + Sync>(
     clock: &C,
     alloc: Global,
 ) -> Option<bool> {
+    let net = over_star(rt, alloc)?;
     let commands = inwards(alloc)?;
-    let star = network(alloc, &STAR)?;
-    let net = opened(rt, alloc, star, (Kind::Shortest, 0), (1_024, 4_096, 0)).ok()?;
-    let live = live::run(rt, alloc, &net, commands.as_slice(), &Late { clock })?;
-    Some(live.refusals.is_empty() && all_inwards(live.report.records.as_slice()))
+    let live = run_all(rt, alloc, &net, commands.as_slice(), &Late { clock })?;
+    Some(all_inwards(live.report.records.as_slice()))
 }
 
 #[test]

@@ -5,7 +5,7 @@ use crate::live;
 use ir_control::Net;
 use ir_core::{Fate, Kind, Record};
 use ir_graph::Graph;
-use ir_live::Command;
+use ir_live::{Command, Live};
 use ir_tables::Topology;
 use ir_worker::{Gate, Node, serve};
 use std::alloc::Global;
@@ -109,13 +109,19 @@ fn delivered(records: &[Record]) -> u64 {
 }
 
 // Whether all records are sound of nodes that make so many turns each; of these each packet that is delivered takes 32.
-fn stops<R: Threads + Wait + Sync>(rt: &R, alloc: Global, turns: u64) -> Option<bool> {
-    let commands = around(alloc)?;
-    let net = over_ring(rt, alloc)?;
-    let live = live::run(rt, alloc, &net, commands.as_slice(), &AtMost(turns))?;
+fn is_stopped(live: &Live, turns: u64) -> bool {
     let records = live.report.records.as_slice();
-    let is_few = delivered(records) <= turns.saturating_mul(2);
-    Some(live.refusals.is_empty() && all_sound(records) && is_few)
+    live.refusals.is_empty() && all_sound(records) && delivered(records) <= turns.saturating_mul(2)
+}
+
+// Whether a live run is stopped so.
+fn stops<R: Threads + Wait + Sync>(rt: &R, alloc: Global, turns: u64) -> Option<bool> {
+    let net = over_ring(rt, alloc)?;
+    let commands = around(alloc)?;
+    match live::run(rt, alloc, &net, commands.as_slice(), &AtMost(turns)) {
+        Some(live) => Some(is_stopped(&live, turns)),
+        None => None,
+    }
 }
 
 #[test]

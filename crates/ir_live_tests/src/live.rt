@@ -104,7 +104,7 @@ const OVER: Became<'static> = Became {
 };
 
 /// Commands over the path, of which four are refused.
-const COMMANDS: [Command; 7] = [
+static COMMANDS: [Command; 7] = [
     Command::Down(0),
     Command::Install(Kind::Tree, 1),
     Command::Retire(2),
@@ -114,19 +114,29 @@ const COMMANDS: [Command; 7] = [
     Command::Drain,
 ];
 
-const REFUSED: [(usize, Refused); 4] = [
+static REFUSED: [(usize, Refused); 4] = [
     (1, Refused::Disconnected),
     (2, Refused::NoEpoch),
     (3, Refused::Same),
     (5, Refused::NoNode),
 ];
 
-// Whether the commands are refused in their places, the packet is delivered, and the net is then spent.
+// Whether the commands are refused in their places, and the packet is delivered.
+fn are_run<R: Threads + Wait + Sync>(rt: &R, alloc: Global, net: &Net) -> bool {
+    match run(rt, alloc, net, &COMMANDS, &Open) {
+        Some(live) => {
+            live.refusals.as_slice() == REFUSED.as_slice() && tells_all(&live.report, &[OVER])
+        }
+        None => false,
+    }
+}
+
+// Whether they are run so, and the net is then spent.
 fn runs_once<R: Threads + Wait + Sync>(rt: &R, alloc: Global) -> Option<bool> {
     let net = path(rt, alloc, 16, 0)?;
-    let live = run(rt, alloc, &net, &COMMANDS, &Open)?;
-    let told = live.refusals.as_slice() == REFUSED.as_slice() && tells_all(&live.report, &[OVER]);
-    Some(told && error(rt, alloc, &net, &Every) == Some(LiveError::Spent))
+    let is_spent = are_run(rt, alloc, &net)
+        && error(rt, alloc, &net, &Every) == Some(LiveError::Spent);
+    Some(is_spent)
 }
 
 #[test]
@@ -163,11 +173,25 @@ fn thread_that_is_not_started(rt: HostRuntime) {
     assert!(rt; not_started(&rt, rt.alloc()) == Some(wanted));
 }
 
+/// A packet over the first link, and what becomes of it.
+static FIRST: [Command; 2] = [Command::Inject(0, 1), Command::Drain];
+
+static FIRST_BECAME: [Became<'static>; 1] = [Became {
+    hops: &[0, 1],
+    ..OVER
+}];
+
 /// The edges of two nodes, and of a ring of four, each with the number of nodes.
-const MEETINGS: [(&'static [(&'static str, &'static str)], u32); 2] = [
+static MEETINGS: [(&'static [(&'static str, &'static str)], u32); 2] = [
     (&[("a", "b")], 2),
     (&[("a", "b"), ("b", "c"), ("c", "d"), ("d", "a")], 4),
 ];
+
+// A net along the tree of a network.
+fn over_edges(rt: &(impl Threads + Sync), alloc: Global, edges: &[(&str, &str)]) -> Option<Net> {
+    let topology = network(alloc, edges)?;
+    opened(rt, alloc, topology, (Kind::Tree, 0), (16, 64, 0)).ok()
+}
 
 // Whether all nodes meet, and a packet is delivered over the first link.
 fn meet<R: Threads + Wait + Sync>(
@@ -176,26 +200,14 @@ fn meet<R: Threads + Wait + Sync>(
     edges: &[(&str, &str)],
     nodes: u32,
 ) -> Option<bool> {
-    let net = opened(
-        rt,
-        alloc,
-        network(alloc, edges)?,
-        (Kind::Tree, 0),
-        (16, 64, 0),
-    )
-    .ok()?;
+    let net = over_edges(rt, alloc, edges)?;
     let gate = Meeting {
         nodes,
         come: AtomicU32::new(0),
         met: AtomicU32::new(0),
     };
-    let commands = [Command::Inject(0, 1), Command::Drain];
-    let live = run(rt, alloc, &net, &commands, &gate)?;
-    let first = Became {
-        hops: &[0, 1],
-        ..OVER
-    };
-    Some(gate.met.load(Ordering::SeqCst) == nodes && tells_all(&live.report, &[first]))
+    let live = run(rt, alloc, &net, &FIRST, &gate)?;
+    Some(gate.met.load(Ordering::SeqCst) == nodes && tells_all(&live.report, &FIRST_BECAME))
 }
 
 #[test]

@@ -49,7 +49,7 @@ const LEFT: Became<'static> = Became {
     fate: Fate::Left,
 };
 
-const CASES: [Case; 9] = [
+static CASES: [Case; 9] = [
     Case {
         name: "delivered by three nodes",
         capacity: 16,

@@ -13,7 +13,7 @@ struct Case {
     starts: &'static [(u16, u16)],
 }
 
-const CASES: [Case; 4] = [
+static CASES: [Case; 4] = [
     Case {
         name: "neighbouring intervals of one port are joined",
         own: 0,

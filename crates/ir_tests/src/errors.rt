@@ -35,7 +35,7 @@ fn errors_in_words(rt: HostRuntime) {
 }
 
 /// Faults of a text, in words.
-const FAULTS: [(Fault, &'static str); 6] = [
+static FAULTS: [(Fault, &'static str); 6] = [
     (
         Fault::BadByte,
         "line 7: a byte that may not stand in a text",

@@ -12,7 +12,7 @@ enum Change {
 }
 
 /// a to b of weight 5, b to c of weight 3, and a to itself, added with one change of weight.
-const THREE_EDGES: [Change; 4] = [
+static THREE_EDGES: [Change; 4] = [
     Change::AddEdge("a", "b", 2, Ok(None)),
     Change::AddEdge("b", "c", 3, Ok(None)),
     Change::AddEdge("a", "b", 5, Ok(Some(2))),
@@ -20,7 +20,7 @@ const THREE_EDGES: [Change; 4] = [
 ];
 
 /// Changes of that graph, some of them refused.
-const REFUSALS: [Change; 6] = [
+static REFUSALS: [Change; 6] = [
     Change::RemoveEdge("a", "c", Err(GraphError::NoEdge)),
     Change::AddEdge("a", "c", 0, Err(GraphError::BadWeight)),
     Change::AddNode("d", Ok(true)),

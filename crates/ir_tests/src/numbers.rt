@@ -13,7 +13,7 @@ type Place = (u16, u16, Option<u16>, usize);
 /// The edges of a network, a root, and the places of the numbering from there, or why there is none.
 type Case = (&'static [Edge], u16, Result<&'static [Place], NumberError>);
 
-const CASES: [Case; 4] = [
+static CASES: [Case; 4] = [
     (
         &RING,
         0,
@@ -103,7 +103,7 @@ fn routes_a_ring_along_its_tree(rt: HostRuntime) -> Result<(), Fail> {
 }
 
 /// Lists for the order of four nodes, and why they are none.
-const ORDERS: [(&'static [u16], Option<OrderError>); 6] = [
+static ORDERS: [(&'static [u16], Option<OrderError>); 6] = [
     (&[2, 0, 1, 3], None),
     (&[2, 4, 4, 3], Some(OrderError::NoNode)),
     (&[2, 0, 2, 4], Some(OrderError::Twice)),

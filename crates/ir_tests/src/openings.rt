@@ -25,7 +25,7 @@ pub(crate) fn along_tree(alloc: Global, setting: &Setting) -> Result<Opening, Fa
 }
 
 /// Settings, and why there is no such world.
-const OPENINGS: [(Setting, Option<OpenError>); 8] = [
+static OPENINGS: [(Setting, Option<OpenError>); 8] = [
     ((&[], 0, 16, 4096, 0), Some(OpenError::Empty)),
     (
         (&[("a", "a", 1), ("b", "b", 1)], 0, 16, 4096, 0),
@@ -61,7 +61,7 @@ type Case = (
     Result<&'static [Built], OpenError>,
 );
 
-const CASES: [Case; 3] = [
+static CASES: [Case; 3] = [
     (
         (&PATH, 1, 16, 4096, 0),
         &[

@@ -34,7 +34,7 @@ struct Case {
     rows: &'static [(u16, &'static [(u16, u16)])],
 }
 
-const PLANS: [Case; 8] = [
+static PLANS: [Case; 8] = [
     Case {
         name: "one node",
         edges: &[("a", "a", 1)],
@@ -172,7 +172,7 @@ fn ports_by_address(rt: HostRuntime) -> Result<(), Fail> {
 }
 
 /// The edges of a network, a root, why no plan of it is built, and how many nodes come back.
-const NO_PLANS: [(&'static [Edge], u16, PlanError, usize); 3] = [
+static NO_PLANS: [(&'static [Edge], u16, PlanError, usize); 3] = [
     (&[], 0, PlanError::Empty, 0),
     (&PATH, 3, PlanError::NoNode, 3),
     (

@@ -13,7 +13,7 @@ struct Case {
 }
 
 // Expected values from a plain search over all sets of prefixes.
-const ROWS: [Case; 5] = [
+static ROWS: [Case; 5] = [
     Case {
         name: "one label",
         own: 0,
@@ -91,7 +91,7 @@ struct TableCase {
 }
 
 // Expected values from a plain search over all ports of all blocks.
-const TABLES: [TableCase; 5] = [
+static TABLES: [TableCase; 5] = [
     TableCase {
         name: "one label",
         own: 0,
@@ -196,7 +196,7 @@ fn rows_that_are_none_have_no_prefixes(rt: HostRuntime) -> Result<(), Fail> {
 }
 
 /// Numbers of labels, and the bits of a label.
-const WIDTHS: [(u16, u8); 6] = [(1, 0), (2, 1), (14, 4), (16, 4), (17, 5), (65_535, 16)];
+static WIDTHS: [(u16, u8); 6] = [(1, 0), (2, 1), (14, 4), (16, 4), (17, 5), (65_535, 16)];
 
 #[test]
 fn widths_of_labels() -> Result<(), Fail> {

@@ -24,7 +24,7 @@ struct Run {
     packets: &'static [Ended],
 }
 
-const RUNS: [Run; 3] = [
+static RUNS: [Run; 3] = [
     Run {
         name: "refusals in order",
         over: (&PATH, 1, 16, 4096, 0),

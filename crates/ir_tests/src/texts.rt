@@ -16,7 +16,7 @@ struct Reading {
 }
 
 /// Adjacency lists, of which the third is what is written of the second.
-const LISTS: [Reading; 4] = [
+static LISTS: [Reading; 4] = [
     Reading {
         text: b"#x.py\n# GMT\n#\n\na a b\nb c # y\nc",
         written: b"a a b\nb c\nc\n",
@@ -44,7 +44,7 @@ const LISTS: [Reading; 4] = [
 ];
 
 /// Weighted edge lists.
-const WEIGHTED: [Reading; 3] = [
+static WEIGHTED: [Reading; 3] = [
     Reading {
         text: b"a b 2\nb c 3.0\nx\na b 5\n",
         written: b"a b 5\nb c 3\n",

@@ -3,7 +3,7 @@ ghost use Rattle.std.specs.Prelude.{◌≡◌, ◌≤◌, All, IfOk, length};
 ghost use Rattle.ir_epochs.specs.Entries.{IsSameOpening, opening_links};
 ghost use Rattle.ir_epochs.specs.{Handles.{published, reader_board, receipt_board, writer_board}, Stamps.{IsOf, knows}};
 
-use crate::networks::{path, plan};
+use crate::networks::plan;
 use ir_core::Board;
 use ir_epochs::{
     BoardError, BoardReader, BoardWriter, Change, Receipt, RegisterError, Registry, Stamp, board,
@@ -127,8 +127,8 @@ fn changed_and_read<R: Wait>(
 /// A plan of epoch 1, and a board whose changes are read.
 pub(crate) fn try_epochs<R: Wait>(rt: &R, alloc: Global) -> Result<(), &'static str> {
     let registry = Registry::new(alloc);
-    let stamp = register(&registry, 1, plan(alloc, path(alloc)?, Kind::Shortest)?)?;
-    register_again(&registry, 1, plan(alloc, path(alloc)?, Kind::Tree)?)?;
+    let stamp = register(&registry, 1, plan(alloc, Kind::Shortest)?)?;
+    register_again(&registry, 1, plan(alloc, Kind::Tree)?)?;
     let first = registry.plan(&stamp);
     if first.kind() != Kind::Shortest || first.topology().links() != 2 {
         return Err("the plan is another one");

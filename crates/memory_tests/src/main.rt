@@ -22,8 +22,9 @@ fn found<R: Threads + Wait + Sync>(rt: &R, alloc: Global) -> Result<(), &'static
     }
     channels::try_channel(rt, alloc)?;
     epochs::try_epochs(rt, alloc)?;
-    nets::try_net(rt, alloc)?;
-    nets::try_full_channel(rt, alloc)?;
+    for run in &nets::RUNS {
+        nets::try_net(rt, alloc, run)?;
+    }
     live::try_live(rt, alloc)
 }
 

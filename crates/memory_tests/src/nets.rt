@@ -1,5 +1,5 @@
 //! A net, turn by turn.
-ghost use Rattle.std.specs.Prelude.{◌≡◌, IfOk};
+ghost use Rattle.std.specs.Prelude.{◌≡◌, IfOk, IfSome};
 ghost use Rattle.ir_model.specs.Topology.{node_count};
 ghost use Rattle.ir_worker.specs.Same.{IsSameNode};
 ghost use Rattle.ir_control.specs.Parts.{AreFirstNodes, AreFreshParts, AreNodesOf, IsInjectorOf};
@@ -31,29 +31,23 @@ pub(crate) fn opened<R: Threads + Sync>(
     }
 }
 
-/// A net and its parts; another one, where there was no memory, since the first then has none left.
-fn parted<'a, R: Threads + Wait + Sync>(
+/// The parts of a net; none where there was no memory, and then it has none left.
+fn given<'a, R: Threads + Wait + Sync>(
     rt: &'a R,
-    alloc: Global,
-    capacity: usize,
-) -> Result<(Net, Parts<&'a R>), &'static str>
-    ensures { IfOk result (λ p. AreFreshParts p.0 p.1.nodes.items p.1.injector p.1.controller) }
+    net: &Net,
+) -> Result<Option<Parts<&'a R>>, &'static str>
+    ensures { IfOk result (λ found. IfSome found
+        (λ p. AreFreshParts net.now p.nodes.items p.injector p.controller)) }
 {
-    let opening = opening(alloc, capacity)?;
-    let net = opened(rt, alloc, &opening)?;
     match net.parts(rt) {
-        Ok(Some(parts)) => return Ok((net, parts)),
+        Ok(Some(parts)) => return Ok(Some(parts)),
         Ok(None) => return Err("no parts are given"),
         Err(BoardError::NoMemory) => {}
         Err(BoardError::TooManyReaders) => return Err("a board has no place for a reader"),
     }
-    let Ok(None) = net.parts(rt) else {
-        return Err("parts that were refused are given");
-    };
-    let net = opened(rt, alloc, &opening)?;
     match net.parts(rt) {
-        Ok(Some(parts)) => Ok((net, parts)),
-        _ => Err("no other parts are given"),
+        Ok(None) => Ok(None),
+        _ => Err("parts that were refused are given"),
     }
 }
 
@@ -147,19 +141,47 @@ fn turn_at<R: Wait>(
     turn(rt, node, wanted)
 }
 
-/// Turns of nodes, each of which answers what stands beside its number.
-fn turns<R: Wait>(
+/// What is done with the parts of a net.
+enum Step {
+    Inject(u16, u16),
+    Install,
+    /// A turn of the node of this number, and what it answers.
+    Turn(usize, Turn),
+}
+
+/// Does a step with the parts of a net.
+fn take<R: Threads + Wait + Sync>(
     rt: &R,
     net: &Net,
-    nodes: &mut Vec<Node>,
-    wanted: &[(usize, Turn)],
+    parts: &mut Parts<&R>,
+    step: &Step,
 ) -> Result<(), &'static str>
-    requires { AreFirstNodes net.now (node_count net.now.topology) nodes.old.items }
-    ensures { AreFirstNodes net.now (node_count net.now.topology) nodes.new.items }
+    requires nodes { AreFirstNodes net.now (node_count net.now.topology) parts.old.nodes.items }
+    requires injector { IsInjectorOf net.now parts.old.injector }
+    ensures nodes { AreFirstNodes net.now (node_count net.now.topology) parts.new.nodes.items }
+    ensures injector { IsInjectorOf net.now parts.new.injector }
 {
-    for k in 0..wanted.len() {
-        let (u, turn) = wanted[k];
-        turn_at(rt, net, nodes, u, turn)?;
+    match *step {
+        Step::Inject(source, dest) => inject(rt, net, &mut parts.injector, source, dest),
+        Step::Install => install(rt, &mut parts.controller),
+        Step::Turn(u, wanted) => turn_at(rt, net, &mut parts.nodes, u, wanted),
+    }
+}
+
+/// Does these steps, one after another.
+fn take_all<R: Threads + Wait + Sync>(
+    rt: &R,
+    net: &Net,
+    parts: &mut Parts<&R>,
+    steps: &[Step],
+) -> Result<(), &'static str>
+    requires nodes { AreFirstNodes net.now (node_count net.now.topology) parts.old.nodes.items }
+    requires injector { IsInjectorOf net.now parts.old.injector }
+    ensures nodes { AreFirstNodes net.now (node_count net.now.topology) parts.new.nodes.items }
+    ensures injector { IsInjectorOf net.now parts.new.injector }
+{
+    for step in steps {
+        take(rt, net, parts, step)?;
     }
     Ok(())
 }
@@ -181,14 +203,14 @@ fn report<R: Wait>(rt: &R, net: &Net, parts: Parts<&R>) -> Result<Report, &'stat
 }
 
 /// Whether a report has two packets, with so many hops and these fates.
-fn is_report(report: &Report, wanted: [(usize, Fate); 2]) -> Result<(), &'static str> {
+fn is_report(report: &Report, wanted: &[(usize, Fate); 2]) -> Result<(), &'static str> {
     let [first, second] = report.records.as_slice() else {
         return Err("the report has other packets");
     };
     if [
         (first.hops.len(), first.fate),
         (second.hops.len(), second.fate),
-    ] == wanted
+    ] == *wanted
     {
         Ok(())
     } else {
@@ -196,61 +218,85 @@ fn is_report(report: &Report, wanted: [(usize, Fate); 2]) -> Result<(), &'static
     }
 }
 
-/// Two packets over a net whose board changes.
-pub(crate) fn try_net<R: Threads + Wait + Sync>(rt: &R, alloc: Global) -> Result<(), &'static str> {
-    let (net, parts) = parted(rt, alloc, 2)?;
-    let Parts {
-        mut nodes,
-        mut injector,
-        mut controller,
-    } = parts;
-    inject(rt, &net, &mut injector, 0, 2)?;
-    install(rt, &mut controller)?;
-    inject(rt, &net, &mut injector, 2, 1)?;
-    let wanted = [
-        (0, Turn::Sent(0, 1)),
-        (1, Turn::Idle),
-        (2, Turn::Sent(1, 1)),
-        (0, Turn::Idle),
-        (1, Turn::Sent(0, 2)),
-        (2, Turn::Settled(0)),
-        (1, Turn::Settled(1)),
-    ];
-    turns(rt, &net, &mut nodes, &wanted)?;
-    let parts = Parts {
-        nodes,
-        injector,
-        controller,
-    };
-    let both = [(3, Fate::Delivered), (2, Fate::Delivered)];
-    is_report(&report(rt, &net, parts)?, both)
+/// Steps over a net whose channels have this capacity, and the hops and the fate of each of two packets.
+pub struct Run {
+    capacity: usize,
+    steps: &'static [Step],
+    packets: [(usize, Fate); 2],
 }
 
-/// A packet that waits in a channel, and one that finds it full.
-pub(crate) fn try_full_channel<R: Threads + Wait + Sync>(
+/// Two packets over a board that changes; and a packet that waits in a channel, with one that finds it full.
+pub static RUNS: [Run; 2] = [
+    Run {
+        capacity: 2,
+        steps: &[
+            Step::Inject(0, 2),
+            Step::Install,
+            Step::Inject(2, 1),
+            Step::Turn(0, Turn::Sent(0, 1)),
+            Step::Turn(1, Turn::Idle),
+            Step::Turn(2, Turn::Sent(1, 1)),
+            Step::Turn(0, Turn::Idle),
+            Step::Turn(1, Turn::Sent(0, 2)),
+            Step::Turn(2, Turn::Settled(0)),
+            Step::Turn(1, Turn::Settled(1)),
+        ],
+        packets: [(3, Fate::Delivered), (2, Fate::Delivered)],
+    },
+    Run {
+        capacity: 1,
+        steps: &[
+            Step::Inject(0, 2),
+            Step::Turn(0, Turn::Sent(0, 1)),
+            Step::Inject(0, 2),
+            Step::Turn(0, Turn::Idle),
+            Step::Turn(0, Turn::Settled(1)),
+        ],
+        packets: [(1, Fate::Left), (1, Fate::Full { link: 0, to: 1 })],
+    },
+];
+
+/// A run with the parts of a net.
+fn run_with<R: Threads + Wait + Sync>(
+    rt: &R,
+    net: &Net,
+    mut parts: Parts<&R>,
+    run: &Run,
+) -> Result<(), &'static str>
+    requires nodes { AreFirstNodes net.now (node_count net.now.topology) parts.nodes.items }
+    requires injector { IsInjectorOf net.now parts.injector }
+{
+    take_all(rt, net, &mut parts, run.steps)?;
+    is_report(&report(rt, net, parts)?, &run.packets)
+}
+
+/// Whether a net of an opening gave its parts, and then a run with them.
+fn run_over<R: Threads + Wait + Sync>(
     rt: &R,
     alloc: Global,
+    opening: &Opening,
+    run: &Run,
+) -> Result<bool, &'static str> {
+    let net = opened(rt, alloc, opening)?;
+    match given(rt, &net)? {
+        Some(parts) => {
+            run_with(rt, &net, parts, run)?;
+            Ok(true)
+        }
+        None => Ok(false),
+    }
+}
+
+/// A run over a net of its own; over another one, where there was no memory for the first one's parts.
+pub(crate) fn try_net<R: Threads + Wait + Sync>(
+    rt: &R,
+    alloc: Global,
+    run: &Run,
 ) -> Result<(), &'static str> {
-    let (net, parts) = parted(rt, alloc, 1)?;
-    let Parts {
-        mut nodes,
-        mut injector,
-        controller,
-    } = parts;
-    inject(rt, &net, &mut injector, 0, 2)?;
-    turns(rt, &net, &mut nodes, &[(0, Turn::Sent(0, 1))])?;
-    inject(rt, &net, &mut injector, 0, 2)?;
-    turns(
-        rt,
-        &net,
-        &mut nodes,
-        &[(0, Turn::Idle), (0, Turn::Settled(1))],
-    )?;
-    let parts = Parts {
-        nodes,
-        injector,
-        controller,
-    };
-    let full = Fate::Full { link: 0, to: 1 };
-    is_report(&report(rt, &net, parts)?, [(1, Fate::Left), (1, full)])
+    let opening = opening(alloc, run.capacity)?;
+    if run_over(rt, alloc, &opening, run)? || run_over(rt, alloc, &opening, run)? {
+        Ok(())
+    } else {
+        Err("no other parts are given")
+    }
 }

@@ -22,18 +22,23 @@ fn add_edge(graph: &mut Graph, u: &str, v: &str) -> Result<(), &'static str> {
     }
 }
 
+/// The network of a graph; again, where there was no memory.
+fn topology(alloc: Global, graph: &Graph) -> Result<Topology, &'static str> {
+    if let Ok(topology) = Topology::of(alloc, graph) {
+        return Ok(topology);
+    }
+    match Topology::of(alloc, graph) {
+        Ok(topology) => Ok(topology),
+        Err(_) => Err("a topology is refused again"),
+    }
+}
+
 /// The network of the path.
 pub(crate) fn path(alloc: Global) -> Result<Topology, &'static str> {
     let mut graph = Graph::new(alloc);
     add_edge(&mut graph, "a", "b")?;
     add_edge(&mut graph, "b", "c")?;
-    if let Ok(topology) = Topology::of(alloc, &graph) {
-        return Ok(topology);
-    }
-    match Topology::of(alloc, &graph) {
-        Ok(topology) => Ok(topology),
-        Err(_) => Err("a topology is refused again"),
-    }
+    topology(alloc, &graph)
 }
 
 /// What is opened over the path: along its tree from b, each channel of this capacity, with at most four packets and one
@@ -61,8 +66,9 @@ pub(crate) fn copy(alloc: Global, opening: &Opening) -> Result<Opening, &'static
     }
 }
 
-/// A plan over a topology, which comes back where there was no memory.
-pub(crate) fn plan(alloc: Global, topology: Topology, kind: Kind) -> Result<Plan, &'static str> {
+/// A plan over the path, which comes back where there was no memory.
+pub(crate) fn plan(alloc: Global, kind: Kind) -> Result<Plan, &'static str> {
+    let topology = path(alloc)?;
     let topology = match Plan::build(alloc, topology, kind, 0) {
         Ok(plan) => return Ok(plan),
         Err((PlanError::NoMemory, topology)) => topology,

@@ -116,7 +116,7 @@ pub struct Run {
 
 /// Packets over three epochs, one of them after a link was down and up again; a full inbox, which refuses a packet and takes
 /// it when it is empty again; and a full channel, which drops one.
-pub const RUNS: [Run; 3] = [
+pub static RUNS: [Run; 3] = [
     Run {
         capacity: 2,
         rounds: &[

@@ -235,7 +235,7 @@ fn all_end<T: Threads + Wait + Sync>(rt: &T, alloc: Global, words: &Words, text:
 }
 
 /// Subcommands over one input, and a text.
-const TEXTS: [(&'static str, &'static str); 4] = [
+static TEXTS: [(&'static str, &'static str); 4] = [
     ("sim", INPUT),
     ("sim", CHECKED),
     ("check", INPUT),
@@ -310,7 +310,7 @@ struct Case {
     is_kept: bool,
 }
 
-const CASES: [Case; 8] = [
+static CASES: [Case; 8] = [
     Case {
         name: "interrupted at each call",
         sub: "sim",
