@@ -1,4 +1,4 @@
-ghost use Rattle.std.specs.Prelude.{◌≡◌, ◌≢◌, ℕ, List, Result, None};
+ghost use Rattle.std.specs.Prelude.{◌≡◌, ◌≢◌, ℕ, ◌<◌, List, Result, Some, None};
 ghost use Rattle.ir_core.specs.{declared.event.Way.Way, Record.Record, Setting.Setting};
 ghost use Rattle.ir_core.specs.{declared.event.Action.TheVariants.Restamp, declared.event.Verdict.Verdict};
 ghost use Rattle.ir_core.specs.{declared.board.Board.Board, Entry.{Entry, ruled, acted, decided}, Meaning.Sight};
@@ -6,7 +6,10 @@ ghost use Rattle.ir_core.specs.{Plain.{IsPlainVerdict, IsPlainAct}, declared.ope
 ghost use Rattle.ir_core.specs.{declared.built.Install.Install, declared.event.Refused.Refused};
 ghost use Rattle.ir_core.specs.{declared.event.Reply.Reply, declared.event.Step.Step, World.World};
 ghost use Rattle.ir_core.specs.Installed.{AreEpochsOf};
-ghost use Rattle.ir_model.specs.Plan.{Plan};
+ghost use Rattle.ir_core.specs.Meaning.{IsMade};
+ghost use Rattle.ir_model.specs.{Plan.{Plan, table_port}, Topology.{Topology, node_count}};
+ghost use Rattle.ir_model.specs.declared.Kind.{Kind, TheVariants.Tree};
+ghost use Rattle.ir_plan.specs.declared.tour.LabelOrder.{LabelOrder};
 
 /// A law of the definitions: a network that allows no restamp reads as one that knows of none. What a node makes of a packet
 /// of one epoch is the verdict by that epoch; so an Act after a history without restamps comes to that verdict, with no
@@ -24,4 +27,18 @@ pub fn without_restamps()
 pub fn epochs_of_installs()
     ensures { (opening : Opening) (steps : List Step) (replies : List (Result Reply Refused)) (world : World)
         (installs : List Install) → AreEpochsOf opening steps replies world installs }
+{}
+
+/// A law of plans: two plans of one kind and root over one network, labelled in one order, have the same labels; the same
+/// table and rows too, where the kind is not Tree. So a run and its check go by the same ways.
+pub fn made_plan_is_determined()
+    ensures order { (labels : LabelOrder) (kind : Kind) (root : ℕ) (net : Topology) (p q : Plan)
+        → IsMade labels kind root net (Some p) → IsMade labels kind root net (Some q) → p.order ≡ q.order }
+    ensures labels { (labels : LabelOrder) (kind : Kind) (root : ℕ) (net : Topology) (p q : Plan)
+        → IsMade labels kind root net (Some p) → IsMade labels kind root net (Some q) → p.labels ≡ q.labels }
+    ensures tables { (labels : LabelOrder) (kind : Kind) (root : ℕ) (net : Topology) (p q : Plan) → kind ≢ Tree
+        → IsMade labels kind root net (Some p) → IsMade labels kind root net (Some q)
+        → (u d : ℕ) → u < node_count net → d < node_count net → table_port p u d ≡ table_port q u d }
+    ensures rows { (labels : LabelOrder) (kind : Kind) (root : ℕ) (net : Topology) (p q : Plan) → kind ≢ Tree
+        → IsMade labels kind root net (Some p) → IsMade labels kind root net (Some q) → p.rows ≡ q.rows }
 {}

@@ -1,5 +1,5 @@
 -- A live run, of a run of the nodes and its report.
-use Rattle.std.specs.Prelude.{◌≡◌, ℕ, ◌≤◌, Bool, true, not, List, [], ◌∷◌, ◌++◌, All, Option, Some, IfSome, Result, Ok, Err, IfOk, length, map, replicate, slice_get, slice_index_or}
+use Rattle.std.specs.Prelude.{◌≡◌, ℕ, ◌≤◌, Bool, true, not, List, [], ◌∷◌, ◌++◌, All, Option, Some, None, IfSome, Result, Ok, Err, IfOk, length, map, replicate, slice_get, slice_index_or}
 use Rattle.std.proofs.Common.{refl, ap, sym, ◌∙◌, subst, arith}
 use Rattle.std.specs.List.{AllByRecursion}
 use Rattle.std.proofs.lemmas.List.Elements.{All-nil, All-push, All-append}
@@ -45,7 +45,7 @@ use Rattle.ir_epochs.specs.declared.error.BoardError.{BoardError}
 use Rattle.ir_epochs.specs.declared.error.BoardError.TheVariants as board
 use Rattle.ir_live.specs.Runs.{IsNetRun, IsStopped, live_error, parts_error}
 use Rattle.ir_live.proofs.Accepting.{same_injector, injector_kept, accepted_are}
-use Rattle.ir_live.proofs.Handed.{first_back, same_back, all_there}
+use Rattle.ir_live.proofs.Handed.{first_back, same_back, turned_back, all_there}
 
 pub given : {A : Type 0} (P : A → Type 0) (o : Option A) (x : A) → o ≡ Some x → IfSome o P → P x
 given {A} P o x is h = subst (λ (z : Option A). IfSome z P) is h
@@ -65,10 +65,10 @@ parts_refused {S} unstarted net s why error is = subst (λ (e : LiveError). IsRe
   by_case board.TooManyReaders = tt
   by_case board.NoMemory = tt
 
-module _ (was_full : Word Parcel) {B : Type 0} (net : Net) (nodes : List Node) (opened : Desk B) (commands : List Command) (run : Run B)
-    (fresh : AreFreshParts net nodes opened.injector opened.controller) (done : IsNetRun was_full net.opening nodes opened commands run) where
+module _ (was_full was_empty : Word Parcel) (may_end : ℕ → ℕ → Type 0) {B : Type 0} (net : Net) (nodes : List Node) (opened : Desk B) (commands : List Command) (run : Run B)
+    (fresh : AreFreshParts net nodes opened.injector opened.controller) (done : IsNetRun was_full was_empty may_end net.opening nodes opened commands run) where
   pub nodes_back : AreFirstNodes net (node_count net.topology) (map (λ (b : Node × Option NoMemory). b.0) run.back.items)
-  nodes_back = first_back net (node_count net.topology) nodes run.back.items fresh.nodes_are done.came_back
+  nodes_back = first_back net (node_count net.topology) was_full was_empty may_end nodes run.back.items fresh.nodes_are done.came_back
 
   pub injector_back : IsInjectorOf net run.desk.injector
   injector_back = injector_kept net opened.injector run.desk.injector fresh.injector_of (same_injector was_full commands opened run.desk done.answers done.carried_out)
@@ -83,7 +83,7 @@ module _ (was_full : Word Parcel) {B : Type 0} (net : Net) (nodes : List Node) (
   back = map (λ (b : Node × Option NoMemory). b.0) run.back.items
 
   came : AreSameNodes nodes back
-  came = same_back net (node_count net.topology) nodes run.back.items fresh.nodes_are done.came_back
+  came = same_back net (node_count net.topology) was_full was_empty may_end nodes run.back.items fresh.nodes_are done.came_back
 
   stands : Stands net opened.controller (replicate (length net.topology.links) true) 1 opened.controller
   stands = stands_first net nodes opened fresh
@@ -115,7 +115,7 @@ module _ (was_full : Word Parcel) {B : Type 0} (net : Net) (nodes : List Node) (
   never_published : NeverCurrent beside (published run.desk.controller.writer)
   never_published = never_all was_full beside commands opened run.desk done.answers done.carried_out (none_beside whole (stamps_in done.answers) there.1) (never_first net nodes opened fresh beside (ap not opening_there))
 
-  module _ (live : Live) (report : IsReport net (map (λ (b : Node × Option NoMemory). b.0) run.back.items) run.desk.injector live.report)
+  module _ (came_back : Node → Type 0) (live : Live) (report : IsReport net (map (λ (b : Node × Option NoMemory). b.0) run.back.items) run.desk.injector live.report)
       (read : All (λ n. IsPrefix (known n.reader) (published run.desk.controller.writer)) (map (λ (b : Node × Option NoMemory). b.0) run.back.items))
       (first : All (λ s. Agrees run.stamps.items s) live.report.stamps.items) (later : All (λ row. All (λ s. Agrees run.stamps.items s) row.items) live.report.later.items) where
     never_read : (k : ℕ) (n : Node) → slice_get back k ≡ Some n → NeverCurrent beside (known n.reader)
@@ -140,8 +140,8 @@ module _ (was_full : Word Parcel) {B : Type 0} (net : Net) (nodes : List Node) (
         (λ k o got. sound_by_plans whole net.restamps (stamps_of o.stamp o.later.items) o.packet (at_all IsSoundOutcome report.outcomes report.sound k o got).1
         (at_all (λ (o : Outcome). length o.packet.restamps ≤ net.restamps) report.outcomes report.few k o got) (agree k o got) (first_there k o got) (restamps_there k o got)))
 
-    is_live : live.refusals ≡ run.refusals → IsLive B was_full net commands live
-    is_live told = record {
+    is_live : live.refusals ≡ run.refusals → All (λ b. b.1 ≡ None) run.back.items → All came_back back → IsLive B was_full was_empty may_end came_back net commands live
+    is_live told served shown = record {
       first = nodes;
       opened = opened;
       handed_out = fresh;
@@ -152,6 +152,9 @@ module _ (was_full : Word Parcel) {B : Type 0} (net : Net) (nodes : List Node) (
       accepted = accepted;
       last = map (λ (b : Node × Option NoMemory). b.0) run.back.items;
       same_nodes = came;
+      turned = turned_back net (node_count net.topology) was_full was_empty may_end nodes run.back.items fresh.nodes_are done.came_back served;
+      shown = shown;
+      read = read;
       nodes_of = first_apart net (node_count net.topology) (map (λ (b : Node × Option NoMemory). b.0) run.back.items) nodes_back;
       all_there = all_there net (node_count net.topology) (map (λ (b : Node × Option NoMemory). b.0) run.back.items) nodes_back;
       injector_of = injector_back;
@@ -162,11 +165,13 @@ module _ (was_full : Word Parcel) {B : Type 0} (net : Net) (nodes : List Node) (
       sound = sound;
     }
 
-  pub lived : (result : Result Live LiveError) →
+  pub lived : (came_back : Node → Type 0) (result : Result Live LiveError) →
       IfOk result (λ live. IsReport net (map (λ (b : Node × Option NoMemory). b.0) run.back.items) run.desk.injector live.report) →
       IfOk result (λ _. All (λ n. IsPrefix (known n.reader) (published run.desk.controller.writer)) (map (λ (b : Node × Option NoMemory). b.0) run.back.items)) →
       IfOk result (λ live. All (λ s. Agrees run.stamps.items s) live.report.stamps.items) →
       IfOk result (λ live. All (λ row. All (λ s. Agrees run.stamps.items s) row.items) live.report.later.items) →
-      IfOk result (λ live. live.refusals ≡ run.refusals) → IfOk result (λ live. IsLive B was_full net commands live)
-  lived (Ok live) report read first later told = is_live live report read first later told
-  lived (Err e) report read first later told = tt
+      IfOk result (λ live. live.refusals ≡ run.refusals) → IfOk result (λ _. All (λ b. b.1 ≡ None) run.back.items) →
+      IfOk result (λ _. All came_back (map (λ (b : Node × Option NoMemory). b.0) run.back.items)) →
+      IfOk result (λ live. IsLive B was_full was_empty may_end came_back net commands live)
+  lived came_back (Ok live) report read first later told served shown = is_live came_back live report read first later told served shown
+  lived came_back (Err e) report read first later told served shown = tt

@@ -1,12 +1,16 @@
 -- What a live run answers.
 use Rattle.std.specs.Prelude.{◌≡◌, ℕ, ◌<◌, true, List, ◌∷◌, All, length, replicate, slice_index_or}
+use mathlib.Core.List.{IsPrefix}
 use Rattle.ir_model.specs.Topology.{node_count}
 use Rattle.ir_core.specs.Sound.{IsSoundRecord}
 use Rattle.ir_core.specs.declared.command.Command.{Command}
+use Rattle.ir_epochs.specs.Handles.{known, published}
 use Rattle.ir_links.specs.Ends.{Word}
 use Rattle.ir_worker.specs.declared.node.Node.{Node}
 use Rattle.ir_worker.specs.Same.{IsSameNode}
+use Rattle.ir_worker.specs.declared.node.Turn.{Turn}
 use Rattle.ir_worker.specs.Seen.{Parcel}
+use Rattle.ir_worker.specs.Turns.{AreTurns}
 use Rattle.ir_control.specs.declared.net.Net.{Net}
 use Rattle.ir_control.specs.Nets.{first_plan}
 use Rattle.ir_control.specs.Parts.{AreNodesOf, IsInjectorOf, AreFreshParts}
@@ -25,14 +29,21 @@ pub record AreSameNodes (before after : List Node) : Type 0 where
   pub count : length after ≡ length before
   pub each : (k : ℕ) (d e : Node) → k < length before → IsSameNode (slice_index_or before k d) (slice_index_or after k e)
 
--- A live run of a net: its parts were handed out, and each command had its answer of the injector and the controller. The
--- report is that of the nodes, however many turns each made, and of the packets that the commands put in. The refusals
--- are those of the refused commands, with their places. The word tells of refused pushes.
+-- Each node made a list of turns, and might end behind so many.
+abbrev pub HaveTurned : Word Parcel → Word Parcel → (ℕ → ℕ → Type 0) → List Node → List Node → Type 0
+HaveTurned was_full was_empty may_end before after =
+    (k : ℕ) (d e : Node) → k < length before
+    → (turns : List Turn) × AreTurns was_full was_empty (slice_index_or before k d) turns (slice_index_or after k e) × may_end (slice_index_or before k d).index (length turns)
+
+-- A live run of a net: its parts were handed out, and each command had its answer of the injector and the controller. Each node
+-- made turns, came back, and has read nothing that the controller did not publish. The report is that of the nodes that came back, and of the packets that the commands put in. The refusals
+-- are those of the refused commands, with their places. The words tell of refused pushes, of refused pops, behind how many turns a node of a number
+-- may end, and of nodes that were shown as they came back.
 --
 -- Each record is sound by the plans of its epochs: epoch 1 has the opening's plan, and each other epoch is that of
 -- an install, whose plan is of the kind and root that were asked for, over the links that were up then, labelled in the net's
 -- order. At first all are up.
-pub record IsLive (B : Type 0) (was_full : Word Parcel) (net : Net) (commands : List Command) (live : Live) : Type 0 where
+pub record IsLive (B : Type 0) (was_full was_empty : Word Parcel) (may_end : ℕ → ℕ → Type 0) (came_back : Node → Type 0) (net : Net) (commands : List Command) (live : Live) : Type 0 where
   pub first : List Node
   pub opened : Desk B
   pub handed_out : AreFreshParts net first opened.injector opened.controller
@@ -43,6 +54,9 @@ pub record IsLive (B : Type 0) (was_full : Word Parcel) (net : Net) (commands : 
   pub accepted : closed.injector.accepted.items ≡ accepted_from 0 1 commands answers
   pub last : List Node
   pub same_nodes : AreSameNodes first last
+  pub turned : HaveTurned was_full was_empty may_end first last
+  pub shown : All came_back last
+  pub read : All (λ n. IsPrefix (known n.reader) (published closed.controller.writer)) last
   pub nodes_of : AreNodesOf net last
   pub all_there : AreAllThere net last
   pub injector_of : IsInjectorOf net closed.injector

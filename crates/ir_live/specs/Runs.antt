@@ -7,6 +7,7 @@ use Rattle.ir_worker.specs.declared.node.Node.{Node}
 use Rattle.ir_worker.specs.declared.serving.NoMemory.{NoMemory as Short}
 use Rattle.ir_worker.specs.Same.{IsSameNode}
 use Rattle.ir_worker.specs.Seen.{Parcel}
+use Rattle.ir_worker.specs.Turns.{HasServed}
 use Rattle.ir_live.specs.declared.desk.Desk.{Desk}
 use Rattle.ir_live.specs.declared.live.LiveError.{LiveError}
 use Rattle.ir_live.specs.declared.live.LiveError.TheVariants as live
@@ -19,15 +20,20 @@ use Rattle.ir_live.specs.Answers.{CommandAnswer, refusals_from}
 use Rattle.ir_live.specs.Planned.{stamps_in}
 use Rattle.ir_live.specs.Carried.{AreCarriedOut}
 
--- the same nodes, in the same order
-pub record CameBack (before : List Node) (after : List (Node × Option Short)) : Type 0 where
-  pub count : length after ≡ length before
-  pub each : (k : ℕ) (d : Node) (e : Node × Option Short) → k < length before → IsSameNode (slice_index_or before k d) (slice_index_or after k e).0
+module _ (was_full was_empty : Word Parcel) (may_end : ℕ → ℕ → Type 0) where
+  -- what came back of a node is the same node, after turns
+  abbrev pub ComesAs : Node → Node × Option Short → Type 0
+  ComesAs n back = HasServed was_full was_empty may_end n back.0 back.1 × IsSameNode n back.0
+
+  -- the same nodes, in the same order, each after turns
+  pub record CameBack (before : List Node) (after : List (Node × Option Short)) : Type 0 where
+    pub count : length after ≡ length before
+    pub each : (k : ℕ) (d : Node) (e : Node × Option Short) → k < length before → ComesAs (slice_index_or before k d) (slice_index_or after k e)
 
 -- The nodes came back, and each command had its answer. The stamps are that of the opening and those of the epochs that were
 -- installed.
-pub record IsNetRun (was_full : Word Parcel) {B : Type 0} (opening : Stamp) (nodes : List Node) (desk : Desk B) (commands : List Command) (run : Run B) : Type 0 where
-  pub came_back : CameBack nodes run.back.items
+pub record IsNetRun (was_full was_empty : Word Parcel) (may_end : ℕ → ℕ → Type 0) {B : Type 0} (opening : Stamp) (nodes : List Node) (desk : Desk B) (commands : List Command) (run : Run B) : Type 0 where
+  pub came_back : CameBack was_full was_empty may_end nodes run.back.items
   pub answers : List CommandAnswer
   pub carried_out : AreCarriedOut was_full commands desk answers run.desk
   pub refusals : run.refusals.items ≡ refusals_from 0 answers

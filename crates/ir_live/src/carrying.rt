@@ -8,7 +8,7 @@ use ir_control::Net;
 use ir_core::{Command, MAX_EPOCHS, Refused};
 use ir_epochs::Stamp;
 use ir_links::Moments;
-use ir_worker::Parcel;
+use ir_worker::{Bells, Parcel};
 use std::alloc::{AllocError, Global};
 use std::sync::Wait;
 use std::sync::atomic::AtomicBool;
@@ -32,6 +32,13 @@ fn note(
     Ok(())
 }
 
+// Wakes the node into whose inbox a command may have put a packet.
+fn ring_for(bells: &Bells, command: Command) {
+    if let Command::Inject(source, _) = command {
+        bells.ring(source);
+    }
+}
+
 /// Carries out commands in order, and answers each refused one's place, counted from 0, with its refusal; and the stamps of
 /// the opening and of each epoch that was installed.
 pub(crate) fn carry_out_all<R: Threads + Moments<Parcel> + Sync, B: Wait + Drop>(
@@ -39,6 +46,7 @@ pub(crate) fn carry_out_all<R: Threads + Moments<Parcel> + Sync, B: Wait + Drop>
     alloc: Global,
     net: &Net,
     ended: &AtomicBool,
+    bells: &Bells,
     desk: &mut Desk<B>,
     commands: &[Command],
 ) -> Result<(Vec<(usize, Refused)>, Vec<Stamp>), AllocError>
@@ -50,7 +58,8 @@ pub(crate) fn carry_out_all<R: Threads + Moments<Parcel> + Sync, B: Wait + Drop>
     let mut stamps = Vec::with_capacity(alloc, MAX_EPOCHS)?;
     stamps.push(net.opening().again())?;
     for place in 0..commands.len() {
-        let answer = desk.carry_out(rt, net, ended, commands[place]);
+        let answer = desk.carry_out(rt, net, ended, bells, commands[place]);
+        ring_for(bells, commands[place]);
         note(&mut refusals, &mut stamps, place, answer)?;
     }
     Ok((refusals, stamps))

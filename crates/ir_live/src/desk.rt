@@ -7,10 +7,9 @@ use ir_core::{Command, Refused};
 use ir_epochs::Stamp;
 use ir_links::Moments;
 use ir_model::Kind;
-use ir_worker::Parcel;
+use ir_worker::{Bells, Parcel};
 use std::sync::Wait;
 use std::sync::atomic::{AtomicBool, Ordering};
-use std::thread;
 use std::thread::Threads;
 
 /// An injector and a controller of one net.
@@ -31,14 +30,16 @@ fn answered(refusal: Option<Refused>) -> Result<Option<Stamp>, Refused>
     }
 }
 
-// Looks until so many packets are settled or a node has ended, and lets others go first between two looks.
-fn drain<R: Wait>(rt: &R, net: &Net, count: u32, ended: &AtomicBool) {
+// Looks until so many packets are settled or a node has ended, and sleeps between two looks.
+fn drain<R: Wait>(rt: &R, net: &Net, count: u32, ended: &AtomicBool, bells: &Bells) {
     for _ in rt.forever() {
+        bells.settled.lie_down();
         if net.settled() == count || ended.load(Ordering::SeqCst) {
             break;
         }
-        thread::yield_now();
+        bells.settled.sleep(rt);
     }
+    bells.settled.get_up();
 }
 
 impl<B: Wait + Drop> Desk<B> {
@@ -71,6 +72,7 @@ impl<B: Wait + Drop> Desk<B> {
         rt: &R,
         net: &Net,
         ended: &AtomicBool,
+        bells: &Bells,
         command: Command,
     ) -> Result<Option<Stamp>, Refused>
         ensures { IsCarriedOut R.was_full command self.old result self.new }
@@ -82,7 +84,7 @@ impl<B: Wait + Drop> Desk<B> {
             Command::Down(link) => answered(self.controller.down(link).err()),
             Command::Up(link) => answered(self.controller.up(link).err()),
             Command::Drain => {
-                drain(rt, net, self.injector.count(), ended);
+                drain(rt, net, self.injector.count(), ended, bells);
                 Ok(None)
             }
         }

@@ -4,6 +4,7 @@ ghost use Rattle.ir_model.specs.Topology.{node_count};
 ghost use Rattle.ir_control.specs.{Parts.{AreFirstNodes, IsInjectorOf}, Reports.IsReport};
 ghost use mathlib.Core.List.{IsPrefix};
 ghost use Rattle.ir_epochs.specs.Handles.{known, published, reader_board, writer_board};
+ghost use Rattle.ir_worker.specs.Turns.{MayEnd};
 ghost use Rattle.ir_live.specs.{Agreed.{AreOfOne, Agrees}, Lives.{IsLive, IsRefusal}, Runs.{live_error, parts_error}};
 
 use crate::agreeing::{agree_all, agree_rows, lead_all};
@@ -15,7 +16,7 @@ use ir_control::{FinishError, Net, Parts, finish};
 use ir_core::Command;
 use ir_epochs::BoardError;
 use ir_links::Moments;
-use ir_worker::{Gate, NoMemory, Node, Parcel};
+use ir_worker::{Flag, Gate, NoMemory, Node, Parcel};
 use std::alloc::{AllocError, Global};
 use std::sync::Wait;
 use std::thread::Threads;
@@ -40,27 +41,34 @@ fn no_parts(error: BoardError) -> LiveError
     }
 }
 
-// The nodes that came back, unless one had no memory.
-fn all_back(alloc: Global, back: Vec<(Node, Option<NoMemory>)>) -> Result<Vec<Node>, AllocError>
+// The nodes that came back, unless one had no memory. The starter is shown each.
+fn all_back<S: Starter>(
+    alloc: Global,
+    back: Vec<(Node, Option<NoMemory>)>,
+    starter: &S,
+) -> Result<Vec<Node>, AllocError>
     ensures nodes { IfOk result (λ nodes. nodes.items ≡ map (λ b. b.0) back.items) }
     ensures served { IfOk result (λ _. All (λ b. b.1 ≡ None) back.items) }
+    ensures shown { IfOk result (λ nodes. All (S.came_back starter.now) nodes.items) }
 {
     let mut nodes = Vec::with_capacity(alloc, back.len())?;
     for (node, short) in back {
         if short.is_some() {
             return Err(AllocError);
         }
+        starter.takes_back(&node);
         nodes.push(node)?;
     }
     Ok(nodes)
 }
 
 // The report of a run. The nodes have read nothing that was not published, and the stamps of one epoch know one plan.
-fn reported<R: Wait, B: Wait + Drop>(
+fn reported<R: Wait, S: Starter, B: Wait + Drop>(
     rt: &R,
     alloc: Global,
     net: &Net,
     run: Run<B>,
+    starter: &S,
 ) -> Result<Live, LiveError>
     requires nodes { AreFirstNodes net.now (node_count net.now.topology) (map (λ b. b.0) run.back.items) }
     requires injector { IsInjectorOf net.now run.desk.injector }
@@ -70,6 +78,8 @@ fn reported<R: Wait, B: Wait + Drop>(
     ensures report { IfOk result (λ live. IsReport net.now
         (map (λ b. b.0) run.back.items) run.desk.injector live.report) }
     ensures refusals { IfOk result (λ live. live.refusals ≡ run.refusals) }
+    ensures served { IfOk result (λ _. All (λ b. b.1 ≡ None) run.back.items) }
+    ensures shown { IfOk result (λ _. All (S.came_back starter.now) (map (λ b. b.0) run.back.items)) }
     ensures refused { IfErr result (λ error. error ≡ LiveError.NoMemory) }
     ensures read { IfOk result (λ _. All (λ n. IsPrefix (known n.reader) (published run.desk.controller.writer))
         (map (λ b. b.0) run.back.items)) }
@@ -83,7 +93,7 @@ fn reported<R: Wait, B: Wait + Drop>(
         refusals,
         stamps,
     } = run;
-    let Ok(nodes) = all_back(alloc, back) else {
+    let Ok(nodes) = all_back(alloc, back, starter) else {
         return Err(LiveError::NoMemory);
     };
     let Desk {
@@ -109,22 +119,26 @@ fn reported<R: Wait, B: Wait + Drop>(
 
 /// Starts a thread for each node of a net, which runs `serve`, unless the starter says no; carries out the commands in
 /// order, where the injector learns of each install at once; then lets the nodes end, waits until each has come back, and
-/// reports what came of each packet. A refused command stands among the refusals, and the run goes on.
+/// reports what came of each packet, once it has shown the starter each node. A refused command stands among the refusals,
+/// and the run goes on. It lets the nodes end by the flag, which it sets. Where others set it before, nodes that do not sleep
+/// end sooner.
 ///
 /// A packet is refused for a full inbox only where the push of its inject was refused.
 ///
 /// Refused are: a net whose parts were handed out before (`Spent`), a board without a place for a reader of each node
 /// (`TooManyReaders`), a thread that was not started (`NoThread`), and want of memory, a node's too. After any answer the
 /// net is spent.
-pub fn run_live<R: Threads + Moments<Parcel> + Sync, G: Gate, S: Starter>(
+pub fn run_live<R: Threads + Moments<Parcel> + Sync, G: Gate, F: Flag, S: Starter>(
     rt: &R,
     alloc: Global,
     net: &Net,
     commands: &[Command],
     gate: &G,
+    stop: &F,
     starter: &S,
 ) -> Result<Live, LiveError>
-    ensures live { IfOk result (λ live. IsLive (Bor R) R.was_full net.now commands.now live) }
+    ensures live { IfOk result (λ live. IsLive (Bor R) R.was_full R.was_empty
+        (MayEnd F.seen G.barred stop.now gate.now) (S.came_back starter.now) net.now commands.now live) }
     ensures refused { IfErr result (λ error. IsRefusal S.unstarted net.now starter.now error) }
 {
     let given = match net.parts(rt) {
@@ -143,8 +157,8 @@ pub fn run_live<R: Threads + Moments<Parcel> + Sync, G: Gate, S: Starter>(
         injector,
         controller,
     };
-    match run_nodes(rt, alloc, net, nodes, desk, commands, gate, starter) {
-        Ok(run) => reported(rt, alloc, net, run),
+    match run_nodes(rt, alloc, net, nodes, desk, commands, gate, stop, starter) {
+        Ok(run) => reported(rt, alloc, net, run, starter),
         Err(why) => Err(stopped(why)),
     }
 }

@@ -1,13 +1,19 @@
-//! Which nodes' threads are started.
+//! Which nodes' threads are started, and which nodes came back from theirs.
 ghost use Rattle.std.specs.Prelude.{◌≡◌, ℕ, false};
+ghost use Rattle.ir_worker.specs.declared.node.Node.{Node};
 
+use ir_worker::Node;
 use std::thread::SpawnError;
 
-/// Says of each node whether its thread is to be started, with a word for a thread that was not: so a contract can say that
-/// one was not.
+/// Says of each node whether its thread is to be started, and is shown each node that came back, with a word for a thread
+/// that was not started and for a node that was shown: so a contract can say that one was not, and of which nodes a run
+/// tells.
 pub trait Starter {
     // the thread of the node of this number was not started
     ghost unstarted: { Self → ℕ → Type 0 };
+
+    // this node was shown as it came back
+    ghost came_back: { Self → Node → Type 0 };
 
     /// Whether the thread of the node of this number is to be started.
     fn starts(&self, node: u16) -> bool
@@ -16,6 +22,10 @@ pub trait Starter {
     /// The system refused the thread of the node of this number.
     fn refused<F: Drop>(&self, node: u16, error: SpawnError<F>)
         ensures { unstarted self.now node };
+
+    /// This node came back from its thread.
+    fn takes_back(&self, node: &Node)
+        ensures { came_back self.now node.now };
 }
 
 /// Each node's thread is to be started.
@@ -25,9 +35,13 @@ pub struct Every;
 impl Starter for Every {
     ghost unstarted = { λ _ _. Unit {0} };
 
+    ghost came_back = { λ _ _. Unit {0} };
+
     fn starts(&self, _node: u16) -> bool {
         true
     }
 
     fn refused<F: Drop>(&self, _node: u16, _error: SpawnError<F>) {}
+
+    fn takes_back(&self, _node: &Node) {}
 }

@@ -22,6 +22,8 @@ struct Held<'a> {
 }
 
 impl Gate for Held<'_> {
+    ghost barred = { λ _ _ _. Unit {0} };
+
     fn pass(&self, node: u16, turn: u64) -> bool {
         if node != self.node || turn != 0 {
             return true;
@@ -200,6 +202,8 @@ struct Late<'a, C> {
 }
 
 impl<C: Clock + Sync> Gate for Late<'_, C> {
+    ghost barred = { λ _ _ _. Unit {0} };
+
     fn pass(&self, node: u16, turn: u64) -> bool {
         if node == 0 && turn == 0 {
             thread::sleep(self.clock, Duration::from_millis(300));

@@ -7,7 +7,7 @@ use ir_core::{Fate, Kind, Record};
 use ir_graph::Graph;
 use ir_live::{Command, Live};
 use ir_tables::Topology;
-use ir_worker::{Gate, Node, serve};
+use ir_worker::{Bells, Gate, Node, serve};
 use std::alloc::Global;
 use std::sync::Wait;
 use std::sync::atomic::{AtomicBool, Ordering};
@@ -19,6 +19,8 @@ use std::thread::Threads;
 struct AtMost(u64);
 
 impl Gate for AtMost {
+    ghost barred = { λ _ _ _. Unit {0} };
+
     fn pass(&self, _node: u16, turn: u64) -> bool {
         turn < self.0
     }
@@ -142,6 +144,8 @@ struct UpTo {
 }
 
 impl Gate for UpTo {
+    ghost barred = { λ _ _ _. Unit {0} };
+
     fn pass(&self, _node: u16, turn: u64) -> bool {
         if turn < self.turns {
             return true;
@@ -158,13 +162,13 @@ fn first_node<R: Threads + Wait + Sync>(rt: &R, alloc: Global) -> Option<Node> {
 }
 
 // Whether a node makes as many turns as it may, and asks for one more.
-fn turns_out<R: Wait>(rt: &R, node: Node) -> bool {
+fn turns_out<R: Wait>(rt: &R, alloc: Global, node: Node) -> bool {
     let gate = UpTo {
         turns: 5_100_000,
         asked: AtomicBool::new(false),
     };
     let stop = AtomicBool::new(false);
-    let (_node, why) = serve(rt, node, &gate, &stop);
+    let (_node, why) = serve(rt, node, &gate, &stop, &Bells::none(alloc));
     why.is_none() && gate.asked.load(Ordering::SeqCst)
 }
 
@@ -173,6 +177,6 @@ fn a_node_turns_as_often_as_it_may(rt: HostRuntime) -> Result<(), Fail> {
     let Some(node) = first_node(&rt, rt.alloc()) else {
         return Err("no node".into());
     };
-    assert!(rt; turns_out(&rt, node));
+    assert!(rt; turns_out(&rt, rt.alloc(), node));
     Ok(())
 }

@@ -3,10 +3,10 @@ use crate::by_hand::{Became, network, opened, path, tells_all};
 use ir_control::Net;
 use ir_core::{Fate, Kind, Refused};
 use ir_live::{Command, Every, Live, LiveError, Starter, run_live};
-use ir_worker::Gate;
+use ir_worker::{Gate, Node};
 use std::alloc::Global;
 use std::sync::Wait;
-use std::sync::atomic::{AtomicU32, Ordering};
+use std::sync::atomic::{AtomicBool, AtomicU32, Ordering};
 use std::test::Fail;
 use std::thread;
 use std::thread::{SpawnError, Threads};
@@ -15,6 +15,8 @@ use std::thread::{SpawnError, Threads};
 struct Open;
 
 impl Gate for Open {
+    ghost barred = { λ _ _ _. Unit {0} };
+
     fn pass(&self, _node: u16, _turn: u64) -> bool {
         true
     }
@@ -24,6 +26,8 @@ impl Gate for Open {
 struct Shut;
 
 impl Gate for Shut {
+    ghost barred = { λ _ _ _. Unit {0} };
+
     fn pass(&self, _node: u16, _turn: u64) -> bool {
         false
     }
@@ -35,11 +39,15 @@ struct AllBut(u16);
 impl Starter for AllBut {
     ghost unstarted = { λ _ _. Unit {0} };
 
+    ghost came_back = { λ _ _. Unit {0} };
+
     fn starts(&self, node: u16) -> bool {
         node != self.0
     }
 
     fn refused<F: Drop>(&self, _node: u16, _error: SpawnError<F>) {}
+
+    fn takes_back(&self, _node: &Node) {}
 }
 
 // Each node comes to its first turn, and goes on once so many have come. `met` counts those that saw all others.
@@ -51,6 +59,8 @@ struct Meeting {
 }
 
 impl Gate for Meeting {
+    ghost barred = { λ _ _ _. Unit {0} };
+
     fn pass(&self, _node: u16, turn: u64) -> bool {
         if turn != 0 {
             return true;
@@ -75,7 +85,8 @@ pub(crate) fn run<R: Threads + Wait + Sync, G: Gate>(
     commands: &[Command],
     gate: &G,
 ) -> Option<Live> {
-    run_live(rt, alloc, net, commands, gate, &Every).ok()
+    let stop = AtomicBool::new(false);
+    run_live(rt, alloc, net, commands, gate, &stop, &Every).ok()
 }
 
 fn error<R: Threads + Wait + Sync, S: Starter>(
@@ -84,7 +95,8 @@ fn error<R: Threads + Wait + Sync, S: Starter>(
     net: &Net,
     starter: &S,
 ) -> Option<LiveError> {
-    run_live(rt, alloc, net, &[Command::Drain], &Open, starter).err()
+    let stop = AtomicBool::new(false);
+    run_live(rt, alloc, net, &[Command::Drain], &Open, &stop, starter).err()
 }
 
 /// A packet that is left at node 0.

@@ -1,6 +1,6 @@
--- Depth-first plans of one kind, root and network have as many starts.
-use Rattle.std.proofs.Common.{◌≡◌, ◌≢◌, ℕ, ◌<◌, ◌-◌, ◌*◌, List, [], ◌∷◌, length, map, get_or, Option, Some, refl, ap, sym, ◌∙◌, subst, inl, inr, arith}
-use Rattle.std.specs.Prelude.{All, slice_index, sum_by}
+-- Plans of one kind, network and order have the same rows, and depth-first plans of one network and root the same order.
+use Rattle.std.proofs.Common.{◌≡◌, ◌≢◌, ℕ, ◌<◌, List, [], ◌∷◌, length, map, get_or, Option, Some, refl, ap, sym, ◌∙◌, subst, inl, inr, arith}
+use Rattle.std.specs.Prelude.{All, slice_index}
 use Rattle.std.proofs.lemmas.Bool.{cases_eq}
 use Rattle.std.proofs.lemmas.List.{same_lists, get_or_default}
 use Rattle.std.proofs.lemmas.List.Elements.{All-head, All-tail}
@@ -16,13 +16,10 @@ use Rattle.ir_model.specs.Plan.{Plan, IsPlan, HasDepthFirst, AreLabels, IsTableO
 use Rattle.ir_laws.proofs.Compact.{compact_same}
 use Rattle.ir_laws.proofs.Ordered.{canonical_same}
 use Rattle.ir_laws.proofs.Ranked.{order_same}
-use Rattle.ir_plan.proofs.TreeStarts.{tree_plan_starts}
-use Rattle.ir_plan.specs.declared.tour.LabelOrder.{LabelOrder}
-use Rattle.ir_plan.specs.declared.tour.LabelOrder.TheVariants.{DepthFirst, Tour}
-use Rattle.ir_plan.specs.Starts.{IsLabelledBy, start_count, IsDepthFirstOf, HasNoMoreStarts, HasFewerStarts}
+use Rattle.ir_plan.specs.Starts.{IsPlanAs}
 
 -- a network has one shortest table
-shortest_same : (net : Topology) (table other : ℕ → ℕ → Option ℕ) → IsShortestTable net table → IsShortestTable net other → (u d : ℕ) → u < node_count net → d < node_count net → table u d ≡ other u d
+pub shortest_same : (net : Topology) (table other : ℕ → ℕ → Option ℕ) → IsShortestTable net table → IsShortestTable net other → (u d : ℕ) → u < node_count net → d < node_count net → table u d ≡ other u d
 shortest_same net table other a b u d hu hd =
     elim (cases_eq u d) [
       | inl e ↦ subst (λ (x : ℕ). table x d ≡ other x d) (sym e) (a.own d hd ∙ sym (b.own d hd))
@@ -49,7 +46,7 @@ canonical_alike n m own mine ports given row other en eo ep a b =
     canonical_same n own ports row other a
     (subst (λ (x : ℕ). IsCanonical x own ports other) (sym en) (subst (λ (x : ℕ). IsCanonical m x ports other) (sym eo) (subst (λ (x : List (Option ℕ)). IsCanonical m mine x other) (sym ep) b)))
 
--- Two plans with one order and one table over one network have as many starts.
+-- Two plans with one order and one table over one network have the same rows.
 module _ (p q : Plan) (is : IsPlan p) (so : IsPlan q) (nodes : node_count p.topology ≡ node_count q.topology) (order : p.order ≡ q.order)
     (table : (u d : ℕ) → u < node_count p.topology → d < node_count p.topology → table_port p u d ≡ table_port q u d) where
   named : AreLabels (node_count p.topology) p.order q.labels
@@ -67,76 +64,55 @@ module _ (p q : Plan) (is : IsPlan p) (so : IsPlan q) (nodes : node_count p.topo
       canonical_alike (node_count p.topology) (node_count q.topology) (label_in p u) (label_in q u) (by_label p u) (by_label q u) (row_in p u) (row_in q u)
       nodes (label_same (node_count p.topology) p.order p.labels q.labels is.labels named u hu) (ports_same u hu) (is.rows u hu) (so.rows u (omega (arith, hu, nodes)))
 
-  pub starts_alike : start_count p ≡ start_count q
-  starts_alike =
+  pub rows_alike : p.rows ≡ q.rows
+  rows_alike =
       let every : length p.rows ≡ length q.rows = is.row_of_each ∙ nodes ∙ sym so.row_of_each in
-      let rows : p.rows ≡ q.rows = same_lists p.rows q.rows every
+      same_lists p.rows q.rows every
       (λ u d within.
       get_or_default p.rows u d [] within
       ∙ row_same u (omega (arith, within, is.row_of_each))
-      ∙ get_or_default q.rows u [] d (omega (arith, within, every))) in
-      ap (sum_by length) rows
+      ∙ get_or_default q.rows u [] d (omega (arith, within, every)))
 
 -- the order is that of the network and the root
-depth_first_order : (p q : Plan) → HasDepthFirst p → IsDepthFirstOf p q → p.order ≡ q.order
-depth_first_order p q first other =
+pub depth_first_order : (p q : Plan) → HasDepthFirst p → IsPlanAs p q → HasDepthFirst q → p.order ≡ q.order
+depth_first_order p q first like other =
     let net = p.topology in
-    let moved = subst (λ (x : Topology). IsDepthFirst (neighbors_of x) (node_count x) q.root q.order other.numbers.0) other.topology other.numbers.1 in
-    let rooted = subst (λ (x : ℕ). IsDepthFirst (neighbors_of net) (node_count net) x q.order other.numbers.0) other.root moved in
-    order_same (neighbors_of net) (node_count net) p.root p.order first.0 q.order other.numbers.0 first.1 rooted
+    let moved = subst (λ (x : Topology). IsDepthFirst (neighbors_of x) (node_count x) q.root q.order other.0) like.topology other.1 in
+    let rooted = subst (λ (x : ℕ). IsDepthFirst (neighbors_of net) (node_count net) x q.order other.0) like.root moved in
+    order_same (neighbors_of net) (node_count net) p.root p.order first.0 q.order other.0 first.1 rooted
 
--- as many starts, by the kind
-by_kind : (k : Kind) (p q : Plan) → p.kind ≡ k → IsPlan p → HasDepthFirst p → IsDepthFirstOf p q → start_count p ≡ start_count q
-by_kind Tree p q kind is first other =
-    tree_plan_starts p is kind ∙ ap (λ (net : Topology). 2 * (node_count net - 1)) (sym other.topology) ∙ sym (tree_plan_starts q other.plan (other.kind ∙ kind))
-by_kind Shortest p q kind is first other =
-    let so = other.plan in
+-- the labels are those of the order
+pub labels_same : (p q : Plan) → IsPlan p → IsPlanAs p q → p.order ≡ q.order → p.labels ≡ q.labels
+labels_same p q is like order =
+    let n = node_count p.topology in
+    let so = like.plan in
+    let named : AreLabels n p.order q.labels = subst (λ (m : ℕ). AreLabels m p.order q.labels) (ap node_count like.topology) (subst (λ (xs : List ℕ). AreLabels (node_count q.topology) xs q.labels) (sym order) so.labels) in
+    same_lists p.labels q.labels (is.labels.every_node ∙ sym named.every_node)
+    (λ u d within.
+    get_or_default p.labels u d 0 within
+    ∙ label_same n p.order p.labels q.labels is.labels named u (omega (arith, within, is.labels.every_node))
+    ∙ get_or_default q.labels u 0 d (omega (arith, within, is.labels.every_node, named.every_node)))
+
+-- the same table, by the kind
+by_kind : (k : Kind) (p q : Plan) → k ≢ Tree → p.kind ≡ k → IsPlan p → IsPlanAs p q → p.order ≡ q.order → (u d : ℕ) → u < node_count p.topology → d < node_count p.topology → table_port p u d ≡ table_port q u d
+by_kind Tree p q other kind is like same = absurd (other refl)
+by_kind Shortest p q other kind is like same =
+    let so = like.plan in
     let table = subst (λ (k : Kind). IsTableOf k p.topology p.order is.parents (table_port p)) kind is.table in
-    let theirs = subst (λ (k : Kind). IsTableOf k q.topology q.order so.parents (table_port q)) (other.kind ∙ kind) so.table in
-    let over = subst (λ (net : Topology). IsShortestTable net (table_port q)) other.topology theirs in
-    starts_alike p q is so (ap node_count (sym other.topology)) (depth_first_order p q first other)
-    (shortest_same p.topology (table_port p) (table_port q) table over)
-by_kind Compact p q kind is first other =
-    let so = other.plan in
-    let same = depth_first_order p q first other in
+    let theirs = subst (λ (k : Kind). IsTableOf k q.topology q.order so.parents (table_port q)) (like.kind ∙ kind) so.table in
+    let over = subst (λ (net : Topology). IsShortestTable net (table_port q)) like.topology theirs in
+    shortest_same p.topology (table_port p) (table_port q) table over
+by_kind Compact p q other kind is like same =
+    let so = like.plan in
     let table = subst (λ (k : Kind). IsTableOf k p.topology p.order is.parents (table_port p)) kind is.table in
-    let theirs = subst (λ (k : Kind). IsTableOf k q.topology q.order so.parents (table_port q)) (other.kind ∙ kind) so.table in
-    let over = subst (λ (net : Topology). IsCompactTable net q.order (table_port q)) other.topology theirs in
+    let theirs = subst (λ (k : Kind). IsTableOf k q.topology q.order so.parents (table_port q)) (like.kind ∙ kind) so.table in
+    let over = subst (λ (net : Topology). IsCompactTable net q.order (table_port q)) like.topology theirs in
     let ordered = subst (λ (xs : List ℕ). IsCompactTable p.topology xs (table_port q)) (sym same) over in
-    starts_alike p q is so (ap node_count (sym other.topology)) same
-    (compact_same p.topology p.order p.labels is.labels (table_port p) (table_port q) table ordered)
+    compact_same p.topology p.order p.labels is.labels (table_port p) (table_port q) table ordered
 
--- a depth-first plan has as many starts as any of its kind, root and network
-pub depth_first_starts : (p q : Plan) → IsPlan p → HasDepthFirst p → IsDepthFirstOf p q → start_count p ≡ start_count q
-depth_first_starts p q is first other = by_kind p.kind p q refl is first other
+-- plans of one kind other than Tree, network and order have the same table, and the same rows
+pub table_same : (p q : Plan) → p.kind ≢ Tree → IsPlan p → IsPlanAs p q → p.order ≡ q.order → (u d : ℕ) → u < node_count p.topology → d < node_count p.topology → table_port p u d ≡ table_port q u d
+table_same p q other is like same = by_kind p.kind p q other refl is like same
 
--- the depth-first plans of two plans of one kind, root and network are the same
-depth_first_moved : (p s q : Plan) → p.kind ≡ s.kind → p.root ≡ s.root → p.topology ≡ s.topology → IsDepthFirstOf s q → IsDepthFirstOf p q
-depth_first_moved p s q kind root topology other = record {
-  plan = other.plan;
-  numbers = other.numbers;
-  kind = other.kind ∙ sym kind;
-  root = other.root ∙ sym root;
-  topology = other.topology ∙ sym topology;
-}
-
-depth_first_has_no_more : (p : Plan) → IsPlan p → HasDepthFirst p → HasNoMoreStarts p
-depth_first_has_no_more p is first q other = omega (arith, depth_first_starts p q is first other)
-
--- a plan with fewer starts than one depth-first plan of its kind, root and network has fewer than each
-pub fewer_than_one : (p s : Plan) → IsPlan p → HasDepthFirst p → s.kind ≡ p.kind → s.root ≡ p.root → s.topology ≡ p.topology → start_count s < start_count p → HasFewerStarts s
-fewer_than_one p s is first kind root topology less q other =
-    omega (arith, less, depth_first_starts p q is first (depth_first_moved p s q (sym kind) (sym root) (sym topology) other))
-
-fewer_has_no_more : (s : Plan) → HasFewerStarts s → HasNoMoreStarts s
-fewer_has_no_more s fewer q other = omega (arith, fewer q other)
-
--- a depth-first plan is labelled by each order
-pub depth_first_labelled : (labels : LabelOrder) (p : Plan) → IsPlan p → HasDepthFirst p → IsLabelledBy labels p
-depth_first_labelled DepthFirst p is numbers = numbers
-depth_first_labelled Tour p is numbers = (inl numbers, depth_first_has_no_more p is numbers)
-
--- a plan with fewer starts is labelled by a tour
-pub fewer_labelled : (labels : LabelOrder) (p : Plan) → labels ≢ DepthFirst → HasFewerStarts p → IsLabelledBy labels p
-fewer_labelled DepthFirst p ne fewer = absurd (ne refl)
-fewer_labelled Tour p ne fewer = (inr fewer, fewer_has_no_more p fewer)
+pub rows_same : (p q : Plan) → p.kind ≢ Tree → IsPlan p → IsPlanAs p q → p.order ≡ q.order → p.rows ≡ q.rows
+rows_same p q other is like same = rows_alike p q is like.plan (ap node_count (sym like.topology)) same (table_same p q other is like same)

@@ -9,3 +9,6 @@ pub mod NodeRows
 pub mod DepthFirst
 pub mod Lists
 pub mod SonStarts
+pub mod Tours
+pub mod Differences
+pub mod Labelled

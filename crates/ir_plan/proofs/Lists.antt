@@ -1,25 +1,56 @@
 -- Lists that threads made.
-use Rattle.std.proofs.Common.{◌≡◌, ℕ, zero, suc, ◌+◌, List, [], ◌∷◌, length, map, Ok, Err, refl, ap, subst}
-use Rattle.std.specs.Prelude.{All, IfOk, MatchResult}
+use Rattle.std.proofs.Common.{◌≡◌, ℕ, zero, suc, ◌+◌, ◌<◌, List, [], ◌∷◌, length, map, ◌++◌, Ok, Err, refl, ap, sym, ◌∙◌, subst, inl, inr, arith}
+use Rattle.std.specs.Prelude.{IfOk, MatchResult, slice_index, slice_index_or}
+use Rattle.std.specs.Global.{Vec}
 use Rattle.std.specs.List.{AllZip, range_with_len}
 use Rattle.std.specs.declared.result.Result.{Result}
 use Rattle.std.specs.declared.alloc.AllocError.{AllocError}
-use Rattle.std.proofs.lemmas.List.Elements.{All-nil, All-cons}
+use Rattle.std.proofs.lemmas.Bool.{cases_eq}
+use Rattle.std.proofs.lemmas.List.{get_or-map, length-map, get_or_push, get_or_append_left}
+use Rattle.ir_plan.specs.Distances.{lists_of}
 
--- of as many values as a range has numbers P holds, where it holds of each that was made for a number
-zipped : {X : Type 0} (P : X → Type 0) (a k : ℕ) (made : List X) → AllZip (λ (u : ℕ) (one : Result X AllocError). IfOk one P) (range_with_len a k) (map Ok made)
-    → (length made ≡ k) × All P made
-zipped P a zero [] h = (refl, All-nil P)
-zipped P a zero (x ∷ xs) h = absurd h
-zipped P a (suc k) [] h = absurd h
-zipped P a (suc k) (x ∷ xs) h = let later = zipped P (a + 1) k xs h.1 in (ap suc later.0, All-cons P x xs h.0 later.1)
+-- lists of vectors that were made for the numbers of a range, where P holds of each and its number
+zipped_lists : (P : ℕ → List ℕ → Type 0) (a k : ℕ) (made : List (Vec ℕ)) → AllZip (λ (u : ℕ) (one : Result (Vec ℕ) AllocError). IfOk one (λ (v : Vec ℕ). P u v.items)) (range_with_len a k) (map Ok made)
+    → (length (lists_of made) ≡ k) × ((i : ℕ) → i < k → P (a + i) (slice_index_or (lists_of made) i []))
+zipped_lists P a zero [] zipped = (refl, λ i lt. absurd (omega (arith, lt)))
+zipped_lists P a zero (x ∷ xs) zipped = absurd zipped
+zipped_lists P a (suc k) [] zipped = absurd zipped
+zipped_lists P a (suc k) (x ∷ xs) zipped =
+    let later = zipped_lists P (a + 1) k xs zipped.1 in
+    (ap suc later.0, at later.1)
+  where
+    at : ((i : ℕ) → i < k → P (a + 1 + i) (slice_index_or (lists_of xs) i [])) → (i : ℕ) → i < suc k → P (a + i) (slice_index_or (lists_of (x ∷ xs)) i [])
+    at later zero lt = let e : a ≡ a + 0 = omega arith in subst (λ (u : ℕ). P u x.items) e zipped.0
+    at later (suc i) lt = let e : a + 1 + i ≡ a + suc i = omega arith in subst (λ (u : ℕ). P u (slice_index_or (lists_of xs) i [])) e (later i (omega (arith, lt)))
 
-pub made_for_range : {X : Type 0} (P : X → Type 0) (k : ℕ) (results : List (Result X AllocError)) (made : List X)
-    → AllZip (λ (u : ℕ) (one : Result X AllocError). IfOk one P) (range_with_len 0 k) results → results ≡ map Ok made → (length made ≡ k) × All P made
-made_for_range {X} P k results made h is =
-    zipped P 0 k made (subst (λ (rs : List (Result X AllocError)). AllZip (λ (u : ℕ) (one : Result X AllocError). IfOk one P) (range_with_len 0 k) rs) is h)
+pub lists_for_range : (P : ℕ → List ℕ → Type 0) (k : ℕ) (results : List (Result (Vec ℕ) AllocError)) (made : List (Vec ℕ))
+    → AllZip (λ (u : ℕ) (one : Result (Vec ℕ) AllocError). IfOk one (λ (v : Vec ℕ). P u v.items)) (range_with_len 0 k) results → results ≡ map Ok made
+    → (length (lists_of made) ≡ k) × ((i : ℕ) → i < k → P i (slice_index_or (lists_of made) i []))
+lists_for_range P k results made h is =
+    let all = zipped_lists P 0 k made (subst (λ (rs : List (Result (Vec ℕ) AllocError)). AllZip (λ (u : ℕ) (one : Result (Vec ℕ) AllocError). IfOk one (λ (v : Vec ℕ). P u v.items)) (range_with_len 0 k) rs) is h) in
+    (all.0, λ i lt. let e : 0 + i ≡ i = omega arith in subst (λ (u : ℕ). P u (slice_index_or (lists_of made) i [])) e (all.1 i lt))
+
+-- the list of the vector at a place
+pub list_at : (made : List (Vec ℕ)) (i : ℕ) (v : Vec ℕ) → i < length made → slice_index_or (lists_of made) i [] ≡ (slice_index_or made i v).items
+list_at made i v lt = get_or-map (λ (w : Vec ℕ). w.items) made i v [] lt
+
+pub lists_length : (made : List (Vec ℕ)) → length (lists_of made) ≡ length made
+lists_length made = length-map made (λ (w : Vec ℕ). w.items)
+
+-- one more number at the end of a list of the numbers of a function
+pub read_pushed : (f : ℕ → ℕ) (xs ys : List ℕ) (v x : ℕ) → length xs ≡ v → ((k : ℕ) → k < v → slice_index xs k ≡ f k) → ys ≡ xs ++ (x ∷ []) → x ≡ f v → (k : ℕ) → k < v + 1 → slice_index ys k ≡ f k
+read_pushed f xs ys v x len own e is k lt =
+    ap (λ (zs : List ℕ). slice_index zs k) e
+    ∙ elim (cases_eq k v) [
+      | inl same ↦ get_or_push xs x 0 k (len ∙ sym same) ∙ is ∙ ap f (sym same)
+      | inr ne ↦ get_or_append_left xs (x ∷ []) 0 k (omega (arith, len)) ∙ own k (omega arith)
+    ]
 
 -- what holds of the value in an `Ok`
 pub of_match : {T E : Type 0} (r : Result T E) (P R : T → Type 0) (Q : E → Type 0) → MatchResult r P Q → ((v : T) → P v → R v) → IfOk r R
 of_match (Ok v) P R Q h f = f v h
 of_match (Err e) P R Q h f = tt
+
+pub of_ok : {T E : Type 0} (r : Result T E) (P R : T → Type 0) → IfOk r P → ((v : T) → P v → R v) → IfOk r R
+of_ok (Ok v) P R h f = f v h
+of_ok (Err e) P R h f = tt

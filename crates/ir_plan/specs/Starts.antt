@@ -1,6 +1,9 @@
--- How many starts a plan has, beside the depth-first plans of its kind, root and network, and in which order it is labelled.
-use Rattle.std.specs.Prelude.{◌≡◌, ℕ, ◌<◌, ◌≤◌, ◌⊎◌, length, sum_by}
+-- How many starts a plan has, and in which order it is labelled.
+use Rattle.std.specs.Prelude.{◌≡◌, ◌≢◌, ℕ, ◌<◌, ◌≤◌, length, sum_by}
+use Rattle.ir_model.specs.declared.Kind.TheVariants.{Tree}
+use Rattle.ir_model.specs.Topology.{node_count}
 use Rattle.ir_model.specs.Plan.{Plan, IsPlan, HasDepthFirst}
+use Rattle.ir_plan.specs.Tour.{IsTour}
 use Rattle.ir_plan.specs.declared.tour.LabelOrder.{LabelOrder}
 use Rattle.ir_plan.specs.declared.tour.LabelOrder.TheVariants.{DepthFirst, Tour}
 
@@ -8,23 +11,30 @@ use Rattle.ir_plan.specs.declared.tour.LabelOrder.TheVariants.{DepthFirst, Tour}
 abbrev pub start_count : Plan → ℕ
 start_count s = sum_by length s.rows
 
--- q is a depth-first plan of the kind, root and network of p
-pub record IsDepthFirstOf (p q : Plan) : Type 0 where
+-- q is a plan of the kind, root and network of p
+pub record IsPlanAs (p q : Plan) : Type 0 where
   pub plan : IsPlan q
-  pub numbers : HasDepthFirst q
   pub kind : q.kind ≡ p.kind
   pub root : q.root ≡ p.root
   pub topology : q.topology ≡ p.topology
 
--- no depth-first plan of the kind, root and network of p has fewer starts than p
-abbrev pub HasNoMoreStarts : Plan → Type 0
-HasNoMoreStarts p = (q : Plan) → IsDepthFirstOf p q → start_count p ≤ start_count q
+-- p is labelled by the tour of its network from its root where the plan over that has fewer starts than the depth-first
+-- plan, else depth first
+pub record HasFewerOfTwo (p : Plan) : Type 0 where
+  pub first : Plan
+  pub first_is : IsPlanAs p first
+  pub numbers : HasDepthFirst first
+  pub over : Plan
+  pub over_is : IsPlanAs p over
+  pub tour : IsTour p.topology p.root over.order
+  pub fewer : start_count over < start_count first → p.order ≡ over.order
+  pub others : start_count first ≤ start_count over → p.order ≡ first.order
 
--- each depth-first plan of the kind, root and network of p has more starts than p
-abbrev pub HasFewerStarts : Plan → Type 0
-HasFewerStarts p = (q : Plan) → IsDepthFirstOf p q → start_count p < start_count q
+-- a tour is sought: but for trees, and up to 4,096 nodes
+abbrev pub IsToured : Plan → Type 0
+IsToured p = (p.kind ≢ Tree) × (node_count p.topology ≤ 4096)
 
--- A plan is labelled in this order: depth first; or by a tour, that is depth first or with fewer starts, and never with more.
+-- A plan is labelled in this order: depth first; or by a tour where one is sought, else depth first too.
 abbrev pub IsLabelledBy : LabelOrder → Plan → Type 0
-IsLabelledBy DepthFirst s = HasDepthFirst s
-IsLabelledBy Tour s = (HasDepthFirst s ⊎ HasFewerStarts s) × HasNoMoreStarts s
+IsLabelledBy DepthFirst p = HasDepthFirst p
+IsLabelledBy Tour p = (IsToured p → HasFewerOfTwo p) × ((IsToured p → ⊥) → HasDepthFirst p)

@@ -1,11 +1,13 @@
 //! How far apart nodes are as destinations: how many nodes send them by different ports.
-ghost use Rattle.std.specs.Prelude.{◌≡◌, ◌<◌, ◌≤◌, All, IfOk, length, vec_len};
-ghost use Rattle.ir_model.specs.Topology.{node_count};
+ghost use Rattle.std.specs.Prelude.{[], ◌≡◌, ◌<◌, ◌≤◌, All, IfOk, length, slice_index_or, vec_len};
+ghost use Rattle.ir_model.specs.{Topology.node_count, Plan.table_port};
 ghost use Rattle.ir_plan.specs.declared.TheConstants.{MOST_TOUR_NODES};
+ghost use Rattle.ir_plan.specs.Distances.{AreColumns, AreDistances, AreShortestDistances, IsPortColumn, IsRow};
+ghost use Rattle.ir_plan.specs.Distances.{far_between, far_from, lists_of, unlike};
 
-use crate::MOST_TOUR_NODES;
 use crate::plan::Plan;
 use crate::threads::rows_of_a_thread;
+use ir_model::Kind;
 use rayon::prelude::*;
 use std::alloc::{AllocError, Global};
 use std::thread::Threads;
@@ -24,15 +26,17 @@ pub struct Distances {
 }
 
 impl Distances {
-    /// The distances of the nodes of a plan, by its rows.
+    /// The distances of the nodes of a plan of kind Shortest, by its rows.
     pub fn of(
         rt: &(impl Threads + Sync),
         alloc: Global,
         plan: &Plan,
         most: Option<usize>,
     ) -> Result<Distances, AllocError>
-        requires { node_count plan.now.topology ≤ MOST_TOUR_NODES }
-        ensures { IfOk result (λ far. far.nodes ≡ node_count plan.now.topology) }
+        requires few { node_count plan.now.topology ≤ MOST_TOUR_NODES }
+        requires shortest { plan.now.kind ≡ Kind.Shortest }
+        ensures nodes { IfOk result (λ far. far.nodes ≡ node_count plan.now.topology) }
+        ensures shortest { IfOk result (λ far. AreShortestDistances plan.now.topology (far_between far.rows.items)) }
     {
         let nodes = plan.nodes();
         let columns = columns_of(rt, alloc, plan, most)?;
@@ -50,7 +54,8 @@ impl Distances {
     /// The distances of a node to each, by number.
     pub fn from(&self, a: u16) -> &[u16]
         requires { a < self.now.nodes }
-        ensures { length result.now ≡ self.now.nodes }
+        ensures every { length result.now ≡ self.now.nodes }
+        ensures far { result.now ≡ far_from self.now.rows.items a }
     {
         self.rows[a as usize].as_slice()
     }
@@ -59,6 +64,7 @@ impl Distances {
     pub fn between(&self, a: u16, b: u16) -> u16
         requires from { a < self.now.nodes }
         requires to { b < self.now.nodes }
+        ensures { result ≡ far_between self.now.rows.items a b }
     {
         self.from(a)[b as usize]
     }
@@ -71,9 +77,8 @@ fn columns_of(
     plan: &Plan,
     most: Option<usize>,
 ) -> Result<Vec<Vec<u16>>, AllocError>
-    ensures every { IfOk result (λ columns. length columns.items ≡ node_count plan.now.topology) }
-    ensures each { IfOk result (λ columns.
-        All (λ column. length column.items ≡ node_count plan.now.topology) columns.items) }
+    ensures { IfOk result (λ columns. AreColumns (node_count plan.now.topology) (table_port plan.now)
+        (lists_of columns.items)) }
 {
     let nodes = plan.nodes();
     (0..nodes)
@@ -82,7 +87,8 @@ fn columns_of(
         .map(
             |d: usize| -> Result<Vec<u16>, AllocError>
                 requires { d < node_count plan.now.topology }
-                ensures { IfOk result (λ column. length column.items ≡ node_count plan.entry.now.topology) }
+                ensures { IfOk result (λ column. IsPortColumn (node_count plan.entry.now.topology)
+                    (table_port plan.entry.now) d column.items) }
             { column(alloc, plan, d) },
         )
         .collect::<Result<Vec<Vec<u16>>, AllocError>>(rt, alloc)?
@@ -91,7 +97,7 @@ fn columns_of(
 // The ports of all nodes to one, by their numbers.
 fn column(alloc: Global, plan: &Plan, d: usize) -> Result<Vec<u16>, AllocError>
     requires { d < node_count plan.now.topology }
-    ensures { IfOk result (λ column. length column.items ≡ node_count plan.now.topology) }
+    ensures { IfOk result (λ column. IsPortColumn (node_count plan.now.topology) (table_port plan.now) d column.items) }
 {
     let nodes = plan.nodes();
     let label = plan.label_of(d as u16);
@@ -110,8 +116,8 @@ fn rows_of(
     most: Option<usize>,
 ) -> Result<Vec<Vec<u16>>, AllocError>
     requires few { length columns.now ≤ MOST_TOUR_NODES }
-    ensures every { IfOk result (λ rows. length rows.items ≡ length columns.now) }
-    ensures each { IfOk result (λ rows. All (λ row. length row.items ≡ length columns.now) rows.items) }
+    requires square { All (λ column. length column.items ≡ length columns.now) columns.now }
+    ensures { IfOk result (λ rows. AreDistances (lists_of columns.now) (lists_of rows.items)) }
 {
     let nodes = columns.len();
     (0..nodes)
@@ -119,32 +125,36 @@ fn rows_of(
         .with_min_len(rows_of_a_thread(nodes, most))
         .map(
             |a: usize| -> Result<Vec<u16>, AllocError>
-                requires { a < length columns.now }
-                ensures { IfOk result (λ row. length row.items ≡ length columns.entry.now) }
-            { row(alloc, columns, a) },
+                requires { (a < length columns.now) × (length columns.now ≤ MOST_TOUR_NODES)
+                    × All (λ column. length column.items ≡ length columns.now) columns.now }
+                ensures { IfOk result (λ row. IsRow (lists_of columns.entry.now)
+                    (slice_index_or (lists_of columns.entry.now) a []) row.items) }
+            { row(alloc, columns, columns[a].as_slice()) },
         )
         .collect::<Result<Vec<Vec<u16>>, AllocError>>(rt, alloc)?
 }
 
-// The distances of one node to each, by the columns of ports.
-fn row(alloc: Global, columns: &[Vec<u16>], a: usize) -> Result<Vec<u16>, AllocError>
-    requires { a < length columns.now }
-    ensures { IfOk result (λ row. length row.items ≡ length columns.now) }
+// The distances of one node to each, by its column of ports and those of all.
+fn row(alloc: Global, columns: &[Vec<u16>], own: &[u16]) -> Result<Vec<u16>, AllocError>
+    requires few { length own.now ≤ MOST_TOUR_NODES }
+    requires square { All (λ column. length column.items ≡ length own.now) columns.now }
+    ensures { IfOk result (λ row. IsRow (lists_of columns.now) own.now row.items) }
 {
     let mut row = Vec::with_capacity(alloc, columns.len())?;
     for column in columns {
-        row.push(differences(columns[a].as_slice(), column.as_slice()))?;
+        row.push(differences(own, column.as_slice()))?;
     }
     Ok(row)
 }
 
-// At how many places two columns differ, of the first ones that both have.
+// At how many places two columns differ.
 fn differences(column: &[u16], other: &[u16]) -> u16
-    ensures { result ≤ MOST_TOUR_NODES }
+    requires few { length column.now ≤ MOST_TOUR_NODES }
+    requires same { length other.now ≡ length column.now }
+    ensures { result ≡ unlike column.now other.now }
 {
-    let places = column.len().min(other.len()).min(MOST_TOUR_NODES);
     let mut count = 0;
-    for i in 0..places {
+    for i in 0..column.len() {
         if column[i] != other[i] {
             count += 1;
         }

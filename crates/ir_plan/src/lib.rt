@@ -6,6 +6,7 @@
 mod compact;
 mod distances;
 mod error;
+mod laws;
 mod nearest;
 mod plan;
 mod rows;
@@ -17,6 +18,7 @@ mod watch;
 
 pub use error::PlanError;
 pub use ir_model::{Hop, Kind};
+pub use laws::{labels_are_determined, tour_has_no_more_starts, tour_is_determined};
 pub use plan::Plan;
 pub use threads::rows_of_a_thread;
 pub use tour::{LabelOrder, plan_in_order};

@@ -1,5 +1,7 @@
 //! Sweeps that shorten a tour by turning stretches of it (Croes 1958).
-ghost use Rattle.std.specs.{Prelude.{◌<◌, ◌+◌, All, length}, List.Sorted.IsPermutation};
+ghost use Rattle.std.specs.Prelude.{◌≡◌, ◌<◌, ◌+◌, All, length, false};
+ghost use Rattle.ir_plan.specs.Tour.{is_shorter, shortened, swept, tried, tried_from, turned};
+ghost use Rattle.ir_plan.specs.Distances.{far_between};
 
 use crate::MOST_SWEEPS;
 use crate::distances::Distances;
@@ -8,9 +10,9 @@ use crate::distances::Distances;
 /// first node stays the first.
 pub fn shorten(far: &Distances, order: &mut [u16])
     requires { All (λ v. v < far.now.nodes) order.old }
-    ensures { IsPermutation order.old order.new }
+    ensures { order.new ≡ shortened (far_between far.now.rows.items) 16 order.old }
 {
-    for _ in 0..MOST_SWEEPS {
+    for done in 0..MOST_SWEEPS {
         if !sweep(far, order) {
             break;
         }
@@ -21,7 +23,8 @@ pub fn shorten(far: &Distances, order: &mut [u16])
 // It tells whether it turned one.
 fn sweep(far: &Distances, order: &mut [u16]) -> bool
     requires { All (λ v. v < far.now.nodes) order.old }
-    ensures { IsPermutation order.old order.new }
+    ensures swept { order.new ≡ swept (far_between far.now.rows.items) order.old }
+    ensures same { result ≡ false → order.new ≡ order.old }
 {
     let mut turned = false;
     let places = order.len();
@@ -38,7 +41,8 @@ fn sweep_from(far: &Distances, order: &mut [u16], from: usize) -> bool
     requires nodes { All (λ v. v < far.now.nodes) order.old }
     requires behind { 0 < from }
     requires inside { from < length order.old }
-    ensures { IsPermutation order.old order.new }
+    ensures tried { order.new ≡ tried_from (far_between far.now.rows.items) order.old from }
+    ensures same { result ≡ false → order.new ≡ order.old }
 {
     let mut turned = false;
     let places = order.len();
@@ -56,7 +60,8 @@ fn turn_shorter(far: &Distances, order: &mut [u16], from: usize, to: usize) -> b
     requires behind { 0 < from }
     requires some { from < to }
     requires inside { to < length order.old }
-    ensures { IsPermutation order.old order.new }
+    ensures tried { order.new ≡ tried (far_between far.now.rows.items) from order.old to }
+    ensures same { result ≡ false → order.new ≡ order.old }
 {
     if !gets_shorter(far, order, from, to) {
         return false;
@@ -71,6 +76,7 @@ fn gets_shorter(far: &Distances, order: &[u16], from: usize, to: usize) -> bool
     requires behind { 0 < from }
     requires some { from < to }
     requires inside { to < length order.now }
+    ensures { result ≡ is_shorter (far_between far.now.rows.items) order.now from to }
 {
     let next = if to + 1 < order.len() { to + 1 } else { 0 };
     let (before, first) = (order[from - 1], order[from]);
@@ -82,13 +88,9 @@ fn gets_shorter(far: &Distances, order: &[u16], from: usize, to: usize) -> bool
 
 // Turns the stretch from one place to another.
 fn turn(order: &mut [u16], from: usize, to: usize)
-    requires { to < length order.old }
-    ensures { IsPermutation order.old order.new }
+    requires some { from < to }
+    requires inside { to < length order.old }
+    ensures { order.new ≡ turned order.old from to }
 {
-    let (mut low, mut high) = (from, to);
-    while low < high {
-        order.swap(low, high);
-        low += 1;
-        high -= 1;
-    }
+    order[from..to + 1].reverse();
 }

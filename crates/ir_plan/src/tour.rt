@@ -1,8 +1,9 @@
 //! The plan over the order of a tour, where it has fewer starts than the depth-first plan, and the plan of either order.
-ghost use Rattle.std.specs.Prelude.{◌≡◌, ◌≢◌, ◌↔◌, ◌<◌, ◌≤◌, IfOk, IfErr, IfSome, IsTrue, slice_index};
-ghost use Rattle.ir_model.specs.{Topology.node_count, Plan.{HasDepthFirst, IsPlan}, Walk.IsDisconnected};
+ghost use Rattle.std.specs.Prelude.{◌≡◌, ◌≢◌, ◌↔◌, ℕ, ◌<◌, ◌≤◌, IfOk, IfErr, IfSome, Option, None, slice_index};
+ghost use Rattle.ir_model.specs.{Topology.node_count, Walk.IsDisconnected};
+ghost use Rattle.ir_model.specs.Plan.{HasDepthFirst, IsPlan};
 ghost use Rattle.ir_numbering.specs.Numbering.{IsListing};
-ghost use Rattle.ir_plan.specs.Starts.{IsLabelledBy, start_count};
+ghost use Rattle.ir_plan.specs.{Starts.IsLabelledBy, Tour.IsTour, Distances.{AreShortestDistances, far_between}};
 
 use crate::MOST_TOUR_NODES;
 use crate::distances::Distances;
@@ -12,7 +13,6 @@ use crate::plan::Plan;
 use crate::sweeps::shorten;
 use crate::watch::Watch;
 use ir_model::Kind;
-use ir_numbering::{OrderError, check_order};
 use ir_tables::Topology;
 use std::alloc::{AllocError, Global};
 use std::thread::Threads;
@@ -28,11 +28,12 @@ pub enum LabelOrder {
 
 /// The plan of a kind over a topology, its labels in this order from the root. By a tour it is, of the depth-first plan and
 /// the plan over the tour's order, the one with fewer starts, and of two alike the depth-first one; the depth-first plan too
-/// where the kind is Tree, and where there are more than `MOST_TOUR_NODES` nodes.
+/// where the kind is Tree, and where there are more than `MOST_TOUR_NODES` nodes. These labels are determined by the
+/// topology, the kind and the root (`labels_are_determined`), so they are the same for any number of threads.
 ///
 /// The tour begins at the root and goes on to the nearest node that it has not visited; `MOST_SWEEPS` sweeps at most then
-/// shorten it (Croes 1958). Two nodes are as far apart as there are nodes that send them by different ports of the
-/// depth-first plan of kind Shortest. The plans and the distances are made in at most `most` threads, or in as many as suit
+/// shorten it (Croes 1958). Two nodes are as far apart as there are nodes that send them by different ports in the
+/// shortest table. The plans and the distances are made in at most `most` threads, or in as many as suit
 /// the processors where it is None.
 ///
 /// Refused as `Plan::build_in_threads` is; NoMemory is also where the tour or the plan over it lacks memory. Takes as
@@ -85,13 +86,14 @@ fn plan_with_fewer(
     most: Option<usize>,
     watch: &(impl Watch + Sync),
 ) -> Result<Option<Plan>, AllocError>
-    ensures sought { IfOk result (λ found. IfSome found (λ _. labels ≢ LabelOrder.DepthFirst)) }
+    requires { HasDepthFirst plan.now }
     ensures other { IfOk result (λ found. IfSome found (λ _. plan.now.kind ≢ Kind.Tree)) }
     ensures kind { IfOk result (λ found. IfSome found (λ p. p.kind ≡ plan.now.kind)) }
     ensures root { IfOk result (λ found. IfSome found (λ p. p.root ≡ plan.now.root)) }
     ensures topology { IfOk result (λ found. IfSome found (λ p. p.topology ≡ plan.now.topology)) }
     ensures plan { IfOk result (λ found. IfSome found (λ p. IsPlan p)) }
-    ensures fewer { IfOk result (λ found. IfSome found (λ p. start_count p < start_count plan.now)) }
+    ensures found { IfOk result (λ found. IfSome found (λ p. IsLabelledBy labels p)) }
+    ensures kept { IfOk result (λ found. found ≡ None → IsLabelledBy labels plan.now) }
 {
     if labels == LabelOrder::DepthFirst {
         return Ok(None);
@@ -100,9 +102,6 @@ fn plan_with_fewer(
         return Ok(None);
     }
     let order = tour(rt, alloc, plan, most, watch)?;
-    if !begins_listing(alloc, plan.nodes(), plan.root(), order.as_slice())? {
-        return Ok(None);
-    }
     let found = plan_over(rt, alloc, plan, order, most, watch)?;
     if found.starts() < plan.starts() {
         Ok(Some(found))
@@ -126,6 +125,7 @@ fn plan_over(
     ensures kind { IfOk result (λ p. p.kind ≡ plan.now.kind) }
     ensures root { IfOk result (λ p. p.root ≡ plan.now.root) }
     ensures topology { IfOk result (λ p. p.topology ≡ plan.now.topology) }
+    ensures order { IfOk result (λ p. p.order ≡ order.items) }
     ensures plan { IfOk result (λ p. IsPlan p) }
 {
     let topology = plan.topology().try_clone(alloc)?;
@@ -144,6 +144,9 @@ fn tour(
     watch: &(impl Watch + Sync),
 ) -> Result<Vec<u16>, AllocError>
     requires { node_count plan.now.topology ≤ MOST_TOUR_NODES }
+    ensures tour { IfOk result (λ order. IsTour plan.now.topology plan.now.root order.items) }
+    ensures listing { IfOk result (λ order. IsListing (node_count plan.now.topology) order.items) }
+    ensures first { IfOk result (λ order. slice_index order.items 0 ≡ plan.now.root) }
 {
     let _nodes = plan.nodes();
     let far = distances(rt, alloc, plan, most, watch)?;
@@ -161,7 +164,8 @@ fn distances(
     watch: &(impl Watch + Sync),
 ) -> Result<Distances, AllocError>
     requires { node_count plan.now.topology ≤ MOST_TOUR_NODES }
-    ensures { IfOk result (λ far. far.nodes ≡ node_count plan.now.topology) }
+    ensures nodes { IfOk result (λ far. far.nodes ≡ node_count plan.now.topology) }
+    ensures shortest { IfOk result (λ far. AreShortestDistances plan.now.topology (far_between far.rows.items)) }
 {
     if plan.kind() == Kind::Shortest {
         return Distances::of(rt, alloc, plan, most);
@@ -178,20 +182,5 @@ fn distances(
     ) {
         Ok(shortest) => Distances::of(rt, alloc, &shortest, most),
         Err(_) => Err(AllocError),
-    }
-}
-
-// Whether a list has each of so many nodes once, and a root first.
-fn begins_listing(alloc: Global, nodes: usize, root: u16, order: &[u16]) -> Result<bool, AllocError>
-    ensures listing { IfOk result (λ is. IsTrue is → IsListing nodes order.now) }
-    ensures root { IfOk result (λ is. IsTrue is → slice_index order.now 0 ≡ root) }
-{
-    if order.is_empty() || order[0] != root {
-        return Ok(false);
-    }
-    match check_order(alloc, nodes, order) {
-        Ok(()) => Ok(true),
-        Err(OrderError::NoMemory) => Err(AllocError),
-        Err(_) => Ok(false),
     }
 }

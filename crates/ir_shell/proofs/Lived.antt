@@ -31,6 +31,7 @@ use Rattle.ir_live.specs.declared.live.Live.{Live}
 use Rattle.ir_live.specs.Answers.{CommandAnswer, accepted_by, accepted_from, epoch_after}
 use Rattle.ir_live.specs.Carried.{IsCarriedOut, AreCarriedOut}
 use Rattle.ir_live.specs.Lives.{IsLive}
+use Rattle.ir_worker.specs.declared.node.Node.{Node}
 use Rattle.ir_trace.specs.Written.{HasSegments, HaveSegments}
 use Rattle.ir_shell.proofs.Reports.{has_segments}
 
@@ -111,9 +112,9 @@ all_at : {X : Type 0} (P : X → Type 0) (xs : List X) (i : ℕ) (x : X) → All
 all_at P xs i x all at = subst P (get_or_from_slice_get xs i x x at) (all i x (slice_get_within xs i x at))
 
 -- each record of a live run can be written over the network of its net's opening
-pub live_records : (was_full : Word Parcel) {B : Type 0} (net : Net) (commands : List Command) (live : Live) → IsLive B was_full net commands live → (over : Topology) → IsTopology over → node_count over ≤ MAX_NODES → (knows net.opening).topology ≡ over
+pub live_records : (was_full was_empty : Word Parcel) (may_end : ℕ → ℕ → Type 0) (came_back : Node → Type 0) {B : Type 0} (net : Net) (commands : List Command) (live : Live) → IsLive B was_full was_empty may_end came_back net commands live → (over : Topology) → IsTopology over → node_count over ≤ MAX_NODES → (knows net.opening).topology ≡ over
     → HaveSegments over live.report.records.items
-live_records was_full net commands live is over ok few opening i r at =
+live_records was_full was_empty may_end came_back net commands live is over ok few opening i r at =
     let found = of_outcome is.report.outcomes i r (ap (λ (rs : List Record). slice_get rs i) (sym is.report.records) ∙ at) in
     let o = found.0 in
     let there = found.1 in

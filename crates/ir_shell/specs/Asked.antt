@@ -52,10 +52,10 @@ SimAnswers words texts answer =
     (topology script : List ℕ) × AreTwo texts topology script
     × AnswersTopology words.format (lines topology) (AnswersScript words (lines script)) answer
 
-abbrev pub LiveAnswers : Type 0 → Word Parcel → Words → List (List ℕ) → Answer → Type 0
-LiveAnswers B was_full words texts answer =
+abbrev pub LiveAnswers : Type 0 → Word Parcel → Word Parcel → Words → List (List ℕ) → Answer → Type 0
+LiveAnswers B was_full was_empty words texts answer =
     (topology script : List ℕ) × AreTwo texts topology script
-    × AnswersTopology words.format (lines topology) (AnswersLiveScript B was_full words (lines script)) answer
+    × AnswersTopology words.format (lines topology) (AnswersLiveScript B was_full was_empty words (lines script)) answer
 
 abbrev pub CheckAnswers : Words → List (List ℕ) → Answer → Type 0
 CheckAnswers words texts answer =
@@ -76,7 +76,7 @@ sources_by Check words = check_sources words
 abbrev pub sources_of : Words → List Source
 sources_of words = sources_by words.sub words
 
-module _ (B : Type 0) (was_full : Word Parcel) where
+module _ (B : Type 0) (was_full was_empty : Word Parcel) where
   abbrev pub AnswersBy : Sub → Words → List (List ℕ) → Answer → Type 0
   AnswersBy Plan words texts answer = LookAnswers look.Plan words texts answer
   AnswersBy Walk words texts answer = LookAnswers look.Walk words texts answer
@@ -84,7 +84,7 @@ module _ (B : Type 0) (was_full : Word Parcel) where
   AnswersBy Draw words texts answer = LookAnswers look.Draw words texts answer
   AnswersBy Prefixes words texts answer = LookAnswers look.Prefixes words texts answer
   AnswersBy Sim words texts answer = SimAnswers words texts answer
-  AnswersBy Live words texts answer = LiveAnswers B was_full words texts answer
+  AnswersBy Live words texts answer = LiveAnswers B was_full was_empty words texts answer
   AnswersBy Check words texts answer = CheckAnswers words texts answer
 
   -- the answers to the texts of the inputs that the words ask for

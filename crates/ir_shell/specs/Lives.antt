@@ -1,5 +1,5 @@
 -- What a graph, a root and a script come to as a live run.
-use Rattle.std.specs.Prelude.{◌≡◌, ◌≢◌, ℕ, Bool, true, false, List, None, flat_map, slice_index_or}
+use Rattle.std.specs.Prelude.{◌≡◌, ◌≢◌, ◌+◌, ◌^◌, ◌⊎◌, ℕ, Bool, true, false, List, None, flat_map, slice_index_or}
 use Rattle.std.specs.List.{list_any}
 use Rattle.ir_model.specs.Graph.{Adjacency, names}
 use Rattle.ir_model.specs.OfGraph.{topology_of_graph}
@@ -43,29 +43,33 @@ pub record IsOpenedNet (g : Adjacency) (words : Words) (root : ℕ) (net : Net) 
   pub accepted : open_refused (opening_by words (topology_of_graph g) root) ≡ None
   pub opened : IsNetFor (opening_by words (topology_of_graph g) root) net
 
+-- A node may end behind any number of turns: the gate and the flag of a script's run have no words.
+abbrev pub ends_somewhere : ℕ → ℕ → Type 0
+ends_somewhere node turns = Unit {0} ⊎ (Unit {0} ⊎ (turns + 1 ≡ 2 ^ 64))
+
 -- The commands of a script are carried out over such a net while its nodes turn on threads of their own, and none of them
--- wants memory. The word tells of refused pushes. The text is the trace of the records that are reported, each of which is a
+-- wants memory. The words tell of refused pushes and pops. The text is the trace of the records that are reported, each of which is a
 -- sound record by the plans of its epochs: epoch 1 has the plan that the words ask for, and each other epoch the one that
 -- the install of the script asked for which it is of. The refused lines are those of the commands that were refused.
-pub record IsLiveRun (B : Type 0) (was_full : Word Parcel) (g : Adjacency) (words : Words) (root : ℕ) (script : Listing Command) (text refused : List ℕ) : Type 0 where
+pub record IsLiveRun (B : Type 0) (was_full was_empty : Word Parcel) (g : Adjacency) (words : Words) (root : ℕ) (script : Listing Command) (text refused : List ℕ) : Type 0 where
   pub net : Net
   pub live : Live
   pub opened : IsOpenedNet g words root net
-  pub ran : IsLive B was_full net script.steps live
+  pub ran : IsLive B was_full was_empty ends_somewhere (λ _. Unit {0}) net script.steps live
   pub in_memory : list_any is_for_memory live.refusals.items ≡ false
   pub trace : text ≡ run_text words.restamps (names g) (topology_of_graph g) live.report.records.items
   pub told : refused ≡ refusals_text script.lines live.refusals.items
 
 -- the answer to a graph, a script and the number of a root: the script's live run, or the refusal of the opening; or a
 -- thread of a net that was opened was not started
-abbrev pub AnswersLive : Type 0 → Word Parcel → Adjacency → Words → Listing Command → ℕ → Answer → Type 0
-AnswersLive B was_full g words script root (Ran text refused) = IsLiveRun B was_full g words root script text refused
-AnswersLive B was_full g words script root (Found text) = ⊥
-AnswersLive B was_full g words script root (Refused line) =
+abbrev pub AnswersLive : Type 0 → Word Parcel → Word Parcel → Adjacency → Words → Listing Command → ℕ → Answer → Type 0
+AnswersLive B was_full was_empty g words script root (Ran text refused) = IsLiveRun B was_full was_empty g words root script text refused
+AnswersLive B was_full was_empty g words script root (Found text) = ⊥
+AnswersLive B was_full was_empty g words script root (Refused line) =
     (e : OpenError) × (e ≢ openings.NoMemory) × IsNetRefusal (opening_by words (topology_of_graph g) root) e × (line ≡ opening_line e)
-AnswersLive B was_full g words script root NoThread = (net : Net) × IsOpenedNet g words root net
+AnswersLive B was_full was_empty g words script root NoThread = (net : Net) × IsOpenedNet g words root net
 
 -- the answer to a graph and the lines of a script: the script's first fault comes before the refusal of the opening
-abbrev pub AnswersLiveScript : Type 0 → Word Parcel → Words → List (List ℕ) → Adjacency → Answer → Type 0
-AnswersLiveScript B was_full words script g answer =
-    AnswersScripted line_command words script (λ g. AnswersLive B was_full g words) g answer
+abbrev pub AnswersLiveScript : Type 0 → Word Parcel → Word Parcel → Words → List (List ℕ) → Adjacency → Answer → Type 0
+AnswersLiveScript B was_full was_empty words script g answer =
+    AnswersScripted line_command words script (λ g. AnswersLive B was_full was_empty g words) g answer

@@ -3,7 +3,8 @@ ghost use Rattle.std.specs.{Prelude.{◌≡◌, ◌≢◌, false, IfOk, slice_in
 ghost use Rattle.ir_model.specs.{Graph.names, OfGraph.topology_of_graph, Text.lines};
 ghost use Rattle.ir_trace.specs.Written.{HaveSegments};
 ghost use Rattle.ir_cli.specs.Openings.{AnswersTopology};
-ghost use Rattle.ir_shell.specs.Lives.{is_for_memory, refusals_text, IsOpenedNet, AnswersLive, AnswersLiveScript};
+ghost use Rattle.ir_live.specs.Lives.{IsLive};
+ghost use Rattle.ir_shell.specs.Lives.{is_for_memory, refusals_text, IsOpenedNet, AnswersLive, AnswersLiveScript, ends_somewhere};
 ghost use Rattle.ir_shell.specs.{Plays.{listing_in, run_text}, Stops.{StopsAs, Gives}};
 
 use crate::asking::{Asked, Stop, opening_stop, read_asked};
@@ -18,12 +19,15 @@ use ir_script::Command;
 use ir_tables::Topology;
 use ir_worker::{Gate, Parcel};
 use std::alloc::{AllocError, Global};
+use std::sync::atomic::AtomicBool;
 use std::thread::Threads;
 
 /// A gate that lets every node make every turn.
 struct Open;
 
 impl Gate for Open {
+    ghost barred = { λ _ _ _. Unit {0} };
+
     fn pass(&self, _node: u16, _turn: u64) -> bool {
         true
     }
@@ -92,6 +96,20 @@ fn live_texts(
     Ok((trace, refused))
 }
 
+/// A live run in which each node has a thread, makes every turn, and ends once the commands are carried out.
+fn run_open<T: Threads + Moments<Parcel> + Sync>(
+    rt: &T,
+    alloc: Global,
+    net: &Net,
+    commands: &[Command],
+) -> Result<Live, LiveError>
+    ensures { IfOk result (λ live. IsLive (Bor T) T.was_full T.was_empty ends_somewhere (λ _. Unit {0}) net.now
+        commands.now live) }
+{
+    let stop = AtomicBool::new(false);
+    run_live(rt, alloc, net, commands, &Open, &stop, &Every)
+}
+
 /// The answer to a script and a net that was opened for it. Its parts were not handed out before; that they are not handed
 /// out, or that the board has no place for a reader of each node, is told as want of memory.
 fn answer_net<T: Threads + Moments<Parcel> + Sync>(
@@ -103,11 +121,11 @@ fn answer_net<T: Threads + Moments<Parcel> + Sync>(
 ) -> Result<Reply, Stop>
     requires over { asked.now.topology ≡ topology_of_graph asked.now.graph }
     requires opened { IsOpenedNet asked.now.graph words.now asked.now.root net.now }
-    ensures { Gives (AnswersLive (Bor T) T.was_full asked.now.graph words.now (listing_in asked.now.script)
+    ensures { Gives (AnswersLive (Bor T) T.was_full T.was_empty asked.now.graph words.now (listing_in asked.now.script)
         asked.now.root) result }
 {
     let _nodes = asked.topology.nodes();
-    match run_live(rt, alloc, net, asked.script.steps(), &Open, &Every) {
+    match run_open(rt, alloc, net, asked.script.steps()) {
         Ok(live) => {
             let (trace, refused) = live_texts(
                 alloc,
@@ -136,7 +154,7 @@ pub fn run_commands<T: Threads + Moments<Parcel> + Sync>(
     script: &[u8],
 ) -> Result<Reply, Stop>
     ensures { Gives (AnswersTopology words.now.format (lines topology.now)
-        (AnswersLiveScript (Bor T) T.was_full words.now (lines script.now))) result }
+        (AnswersLiveScript (Bor T) T.was_full T.was_empty words.now (lines script.now))) result }
 {
     let asked = read_asked::<Command>(alloc, words, topology, script)?;
     let opening = opening_of(alloc, words, &asked.topology, asked.root)?;

@@ -59,7 +59,7 @@ fn answer<T: Threads + Moments<Parcel> + Sync>(
 ) -> Result<Reply, Stop>
     requires kind { FitsItsKind words.now }
     requires texts { length texts.now ≡ length (sources_of words.now) }
-    ensures { Gives (Answers (Bor T) T.was_full words.now (texts_of texts.now)) result }
+    ensures { Gives (Answers (Bor T) T.was_full T.was_empty words.now (texts_of texts.now)) result }
 {
     match words.sub {
         Sub::Plan => look_at(rt, alloc, Look::Plan, words, texts, watch),
@@ -94,7 +94,7 @@ fn write_answer<T: Threads + Moments<Parcel> + Sync, W: Writer, F: Writer>(
 ) -> Ending
     requires kind { FitsItsKind words.now }
     requires texts { length texts.now ≡ length (sources_of words.now) }
-    ensures { EndsAs (Answers (Bor T) T.was_full words.now) result (λ read. read ≡ texts_of texts.now)
+    ensures { EndsAs (Answers (Bor T) T.was_full T.was_empty words.now) result (λ read. read ≡ texts_of texts.now)
         (λ source why. ⊥) (Sends W.contents W.wrote W.settled output.old output.new) (output.new ≡ output.old)
         (Tells F.contents F.wrote F.settled faults.old faults.new) }
 {
@@ -137,7 +137,7 @@ pub fn run<T: Threads + Moments<Parcel> + Sync, R: Reader, W: Writer, F: Writer>
 ) -> u8
     requires kind { FitsItsKind words.now }
     requires inputs { length inputs.old ≡ length (sources_of words.now) }
-    ensures { Ends (Answers (Bor T) T.was_full words.now) result
+    ensures { Ends (Answers (Bor T) T.was_full T.was_empty words.now) result
         (λ texts. AreRead R.remaining R.gave inputs.old texts inputs.new)
         (IsUnread R.remaining R.gave (sources_of words.now) inputs.old inputs.new)
         (Sends W.contents W.wrote W.settled output.old output.new) (output.new ≡ output.old)

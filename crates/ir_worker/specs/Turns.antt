@@ -1,5 +1,5 @@
 -- What one turn of a node does.
-use Rattle.std.specs.Prelude.{◌≡◌, ℕ, ◌+◌, ◌≤◌, Bool, Option, List, [], ◌∷◌, ◌++◌, length}
+use Rattle.std.specs.Prelude.{◌≡◌, ℕ, ◌+◌, ◌^◌, ◌≤◌, ◌⊎◌, Bool, Option, MatchOption, List, [], ◌∷◌, ◌++◌, length}
 use mathlib.Core.List.{IsPrefix}
 use Rattle.ir_model.specs.declared.Hop.{Hop}
 use Rattle.ir_core.specs.declared.board.Board.{Board}
@@ -15,6 +15,7 @@ use Rattle.ir_worker.specs.declared.parcel.Outcome.{Outcome}
 use Rattle.ir_worker.specs.declared.node.Node.{Node}
 use Rattle.ir_worker.specs.declared.node.Turn.{Turn}
 use Rattle.ir_worker.specs.declared.node.Turn.TheVariants.{Idle, Sent, Settled}
+use Rattle.ir_worker.specs.declared.serving.NoMemory.{NoMemory}
 use Rattle.ir_worker.specs.Seen.{Parcel}
 use Rattle.ir_worker.specs.Acts.{restamp_on, with_restamp, way_then, GoesOnAs, SettlesAs, CauseHolds}
 use Rattle.ir_worker.specs.Wires.{way_after, TookAt, IsWayAt, SentOver, WasFullFor, WasEmptyAt}
@@ -72,6 +73,11 @@ pub record IsUntouched (a b : Node) : Type 0 where
   pub reader : known b.reader ≡ known a.reader
   pub holds : HoldsAll a b
 
+-- In the words for a flag that was found set and for a turn that a gate did not allow: the node of this number may end behind so many turns,
+-- since the flag was found set, the gate did not let it make the next turn, or that turn's number would be u64's greatest.
+abbrev pub MayEnd : {F G : Type 0} → (F → Type 0) → (G → ℕ → ℕ → Type 0) → F → G → ℕ → ℕ → Type 0
+MayEnd {F} {G} seen barred stop gate node turns = seen stop ⊎ (barred gate node turns ⊎ (turns + 1 ≡ 2 ^ 64))
+
 -- In the words for a refused push and a refused pop.
 module _ (was_full was_empty : Word Parcel) where
   -- The parcel that was taken was restamped, where that is due, and settled by the core's verdict by the board that was
@@ -114,3 +120,8 @@ module _ (was_full was_empty : Word Parcel) where
   abbrev pub AreTurns : Node → List Turn → Node → Type 0
   AreTurns a [] b = a ≡ b
   AreTurns a (turn ∷ turns) b = (m : Node) × AreTurns a turns m × IsTurn m b turn
+
+  -- The node a made a list of turns, is b, and might end behind so many. Where a growth was refused, it made them, and b is as it then was.
+  abbrev pub HasServed : (ℕ → ℕ → Type 0) → Node → Node → Option NoMemory → Type 0
+  HasServed may_end a b short =
+      (turns : List Turn) × MatchOption short (AreTurns a turns b × may_end a.index (length turns)) (λ _. (m : Node) × AreTurns a turns m × IsUntouched m b)

@@ -27,6 +27,11 @@ impl Entrances {
         }
     }
 
+    /// How many ways there are beside the inbox.
+    pub fn ports(&self) -> usize {
+        self.ports.len()
+    }
+
     /// The way that is polled next.
     pub fn next(&self) -> usize
         ensures way { result ≡ self.now.next }

@@ -4,12 +4,14 @@
 //! reads the board, and does with each what the packet core's verdict says: it sends the parcel on, or settles it.
 #![tactic(auto)]
 
+mod bells;
 mod entrances;
 mod node;
 mod parcel;
 mod passing;
 mod serving;
 
+pub use bells::{Bell, Bells};
 pub use node::{Ends, Node, Turn};
 pub use parcel::{Outcome, Parcel, Place};
-pub use serving::{ComesBack, Gate, NoMemory, serve};
+pub use serving::{ComesBack, Flag, Gate, NoMemory, serve};

@@ -118,6 +118,11 @@ impl Node {
         self.index
     }
 
+    // How many ways lead to it from its neighbours.
+    pub(crate) fn degree(&self) -> usize {
+        self.entrances.ports()
+    }
+
     /// From now on it knows the receipt's change: each later turn reads a board of at least its version.
     pub fn learn(&mut self, receipt: &Receipt)
         requires { receipt_board receipt.now ≡ reader_board self.old.reader }

@@ -1,67 +1,131 @@
 //! A node that turns on a thread of its own.
-ghost use Rattle.std.specs.Prelude.{List, MatchOption};
-ghost use Rattle.ir_worker.specs.{declared.node.Node.Node, declared.node.Turn.Turn, Same.IsSameNode};
-ghost use Rattle.ir_worker.specs.Turns.{AreTurns, IsUntouched};
+ghost use Rattle.std.specs.Prelude.{◌≡◌, ◌<◌, ◌+◌, ◌^◌, ℕ, true, false};
+ghost use Rattle.ir_worker.specs.{Same.IsSameNode, Turns.{MayEnd, HasServed}};
 
-use crate::node::{Node, Turn};
+use crate::bells::{Bells, Idle};
+use crate::node::Node;
 use crate::parcel::Parcel;
 use ir_links::Moments;
+use std::marker::PhantomData;
 use std::snapshot::Snapshot;
 use std::sync::atomic::{AtomicBool, Ordering};
-use std::thread;
 use std::thread::Promise;
 
-/// Tells a node whether it may go on. It is asked before each turn.
+/// Tells a node whether it may go on, with a word for a turn that it may not make: so a contract can say that a node ended
+/// there. It is asked before each turn.
 pub trait Gate: Sync {
+    // the node of this number was not let make the turn of this number
+    ghost barred: { Self → ℕ → ℕ → Type 0 };
+
     /// Whether this node may make the turn of this number, counted from 0.
-    fn pass(&self, node: u16, turn: u64) -> bool;
+    fn pass(&self, node: u16, turn: u64) -> bool
+        ensures { result ≡ false → barred self.now node turn };
+}
+
+/// Tells nodes to end, with a word for a look that found it set. Each node looks at it before each turn.
+pub trait Flag: Sync {
+    // it was found set
+    ghost seen: { Self → Type 0 };
+
+    /// Whether it is set.
+    fn is_set(&self) -> bool
+        ensures { result ≡ true → seen self.now };
+
+    /// Sets it.
+    fn set(&self);
+}
+
+impl Flag for AtomicBool {
+    ghost seen = { λ _. Unit {0} };
+
+    fn is_set(&self) -> bool {
+        self.load(Ordering::SeqCst)
+    }
+
+    fn set(&self) {
+        self.store(true, Ordering::SeqCst);
+    }
 }
 
 /// There was no memory for the outcome that a turn may add.
 #[derive(Clone, Copy, Debug, PartialEq, Eq)]
 pub struct NoMemory;
 
-// Lets others go first where a turn found nothing.
-fn rest_after(turn: Turn) {
-    if turn == Turn::Idle {
-        thread::yield_now();
+// Whether a node ends before the turn of this number.
+fn is_over<G: Gate, F: Flag>(node: u16, number: u64, gate: &G, stop: &F) -> bool
+    ensures over { result ≡ true → MayEnd F.seen G.barred stop.now gate.now node number }
+    ensures more { result ≡ false → number + 1 < 2 ^ 64 }
+{
+    if stop.is_set() {
+        return true;
     }
+    if number == u64::MAX {
+        return true;
+    }
+    !gate.pass(node, number)
 }
 
 /// Turns until the flag is set, the gate does not let the node pass, or the turn's number is u64's greatest. Where there
-/// is no memory for a turn it sets the flag and ends, and tells so.
+/// is no memory for a turn it sets the flag and ends, and tells so. Where it finds nothing it sleeps, once it has looked some
+/// times, until its bell is rung; it rings that of a neighbour to which it sent. Who sets the flag rings all: a node that sleeps
+/// asks neither gate nor flag.
 ///
 /// What comes back is the node that was given, after a list of turns.
-pub fn serve<R: Moments<Parcel>, G: Gate>(
+pub fn serve<R: Moments<Parcel>, G: Gate, F: Flag>(
     rt: &R,
     mut node: Node,
     gate: &G,
-    stop: &AtomicBool,
+    stop: &F,
+    bells: &Bells,
 ) -> (Node, Option<NoMemory>)
-    ensures turns { (turns : List Turn)
-        × MatchOption result.1 (AreTurns R.was_full R.was_empty node turns result.0)
-        (λ _. (m : Node) × AreTurns R.was_full R.was_empty node turns m × IsUntouched m result.0) }
+    ensures turns { HasServed R.was_full R.was_empty (MayEnd F.seen G.barred stop.now gate.now) node result.0 result.1 }
     ensures same { IsSameNode node result.0 }
 {
     let mut number = 0;
+    let mut idle = Idle::new();
     for _ in rt.forever() {
-        if stop.load(Ordering::SeqCst) || number == u64::MAX || !gate.pass(node.index(), number) {
+        if is_over(node.index(), number, gate, stop) {
             break;
         }
         let Ok(turn) = node.turn(rt) else {
-            stop.store(true, Ordering::SeqCst);
+            stop.set();
+            bells.ring_all();
             return (node, Some(NoMemory));
         };
-        rest_after(turn);
+        idle = bells.after(rt, node.index(), node.degree(), idle, turn);
         number += 1;
     }
     (node, None)
 }
 
-/// Kept by a thread that runs `serve`: the node that comes back is the one that went in, of the same net.
+/// Kept by a thread that runs `serve` with this gate and this flag: what comes back is the node that went in, of the same
+/// net, after a list of turns.
 #[derive(Drop)]
-pub struct ComesBack(pub Snapshot<Node>);
+pub struct ComesBack<R, G, F> {
+    pub node: Snapshot<Node>,
+    pub gate: Snapshot<G>,
+    pub stop: Snapshot<F>,
+    runtime: PhantomData<R>,
+}
 
-impl Promise<(Node, Option<NoMemory>)> for ComesBack {
-    ghost kept_by = { λ p r. IsSameNode p.0.value r.0 };
+impl<R, G, F> ComesBack<R, G, F> {
+    /// The promise of a node's thread.
+    pub fn of(_rt: &R, node: &Node, gate: &G, stop: &F) -> ComesBack<R, G, F>
+        ensures node { result.node.value ≡ node.now }
+        ensures gate { result.gate.value ≡ gate.now }
+        ensures stop { result.stop.value ≡ stop.now }
+    {
+        ComesBack {
+            node: Snapshot::of(node),
+            gate: Snapshot::of(gate),
+            stop: Snapshot::of(stop),
+            runtime: PhantomData,
+        }
+    }
+}
+
+impl<R: Moments<Parcel>, G: Gate, F: Flag> Promise<(Node, Option<NoMemory>)>
+    for ComesBack<R, G, F> {
+    ghost kept_by = { λ p r. HasServed R.was_full R.was_empty (MayEnd F.seen G.barred p.stop.value p.gate.value)
+        p.node.value r.0 r.1 × IsSameNode p.node.value r.0 };
 }

@@ -7,12 +7,15 @@ use ir_live::{Command, Every, Live, LiveError, run_live};
 use ir_worker::Gate;
 use std::alloc::Global;
 use std::sync::Wait;
+use std::sync::atomic::AtomicBool;
 use std::thread::Threads;
 
 /// Each node may go on.
 struct Open;
 
 impl Gate for Open {
+    ghost barred = { λ _ _ _. Unit {0} };
+
     fn pass(&self, _node: u16, _turn: u64) -> bool {
         true
     }
@@ -27,7 +30,15 @@ fn run<R: Threads + Wait + Sync>(rt: &R, alloc: Global) -> Result<Live, LiveErro
         return Err(LiveError::Spent);
     };
     let commands = [Command::Inject(0, 2), Command::Inject(2, 0), Command::Drain];
-    run_live(rt, alloc, &net, &commands, &Open, &Every)
+    run_live(
+        rt,
+        alloc,
+        &net,
+        &commands,
+        &Open,
+        &AtomicBool::new(false),
+        &Every,
+    )
 }
 
 /// Each packet was delivered, or refused for want of memory.

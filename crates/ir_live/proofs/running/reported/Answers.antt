@@ -43,3 +43,6 @@ agree_rows-requires g c =
 pub returns-in-Ok-finish-clause-read : goal.returns-in-Ok-finish-clause-read
 returns-in-Ok-finish-clause-read g c =
     subst (λ (ns : List Node). All (λ n. IsPrefix (known n.reader) (published c.args.run.desk.controller.writer)) ns) c.in-Ok.ensures.nodes c.lead_all.ensures
+
+pub returns-in-Ok-finish-clause-shown : goal.returns-in-Ok-finish-clause-shown
+returns-in-Ok-finish-clause-shown g c = subst (λ (ns : List Node). All (g.S.Starter.came_back c.args.starter.now) ns) c.in-Ok.ensures.nodes c.in-Ok.ensures.shown

@@ -1,26 +1,27 @@
+use Rattle.ir_worker.specs.Turns.{MayEnd}
 use Rattle.ir_live.proofs.Lived.{given, refused, parts_refused, nodes_back, injector_back, boards_back, stamps_of_net, lived}
 use Rattle.ir_live.proofs.running.run_live.Goals as goal
 
 pub reported-requires-clause-nodes : goal.reported-requires-clause-nodes
 reported-requires-clause-nodes g c =
-    nodes_back g.R.Moments.was_full c.args.net.now c.in-Some.parts.nodes.items _ c.args.commands.now c.in-Ok-run_nodes.run' (given _ c.in-Ok.given c.in-Some.parts c.in-Some.is c.in-Ok.ensures) c.in-Ok-run_nodes.ensures.run
+    nodes_back g.R.Moments.was_full g.R.Moments.was_empty (MayEnd g.F.Flag.seen g.G.Gate.barred c.args.stop.now c.args.gate.now) c.args.net.now c.in-Some.parts.nodes.items _ c.args.commands.now c.in-Ok-run_nodes.run' (given _ c.in-Ok.given c.in-Some.parts c.in-Some.is c.in-Ok.ensures) c.in-Ok-run_nodes.ensures.run
 
 pub reported-requires-clause-injector : goal.reported-requires-clause-injector
 reported-requires-clause-injector g c =
-    injector_back g.R.Moments.was_full c.args.net.now c.in-Some.parts.nodes.items _ c.args.commands.now c.in-Ok-run_nodes.run' (given _ c.in-Ok.given c.in-Some.parts c.in-Some.is c.in-Ok.ensures) c.in-Ok-run_nodes.ensures.run
+    injector_back g.R.Moments.was_full g.R.Moments.was_empty (MayEnd g.F.Flag.seen g.G.Gate.barred c.args.stop.now c.args.gate.now) c.args.net.now c.in-Some.parts.nodes.items _ c.args.commands.now c.in-Ok-run_nodes.run' (given _ c.in-Ok.given c.in-Some.parts c.in-Some.is c.in-Ok.ensures) c.in-Ok-run_nodes.ensures.run
 
 pub reported-requires-clause-boards : goal.reported-requires-clause-boards
 reported-requires-clause-boards g c =
-    boards_back g.R.Moments.was_full c.args.net.now c.in-Some.parts.nodes.items _ c.args.commands.now c.in-Ok-run_nodes.run' (given _ c.in-Ok.given c.in-Some.parts c.in-Some.is c.in-Ok.ensures) c.in-Ok-run_nodes.ensures.run
+    boards_back g.R.Moments.was_full g.R.Moments.was_empty (MayEnd g.F.Flag.seen g.G.Gate.barred c.args.stop.now c.args.gate.now) c.args.net.now c.in-Some.parts.nodes.items _ c.args.commands.now c.in-Ok-run_nodes.run' (given _ c.in-Ok.given c.in-Some.parts c.in-Some.is c.in-Ok.ensures) c.in-Ok-run_nodes.ensures.run
 
 pub reported-requires-clause-registry : goal.reported-requires-clause-registry
 reported-requires-clause-registry g c =
-    stamps_of_net g.R.Moments.was_full c.args.net.now c.in-Some.parts.nodes.items _ c.args.commands.now c.in-Ok-run_nodes.run' (given _ c.in-Ok.given c.in-Some.parts c.in-Some.is c.in-Ok.ensures) c.in-Ok-run_nodes.ensures.run
+    stamps_of_net g.R.Moments.was_full g.R.Moments.was_empty (MayEnd g.F.Flag.seen g.G.Gate.barred c.args.stop.now c.args.gate.now) c.args.net.now c.in-Some.parts.nodes.items _ c.args.commands.now c.in-Ok-run_nodes.run' (given _ c.in-Ok.given c.in-Some.parts c.in-Some.is c.in-Ok.ensures) c.in-Ok-run_nodes.ensures.run
 
 pub returns-in-Ok-run_nodes-clause-live : goal.returns-in-Ok-run_nodes-clause-live
 returns-in-Ok-run_nodes-clause-live g c =
-    lived g.R.Moments.was_full c.args.net.now c.in-Some.parts.nodes.items _ c.args.commands.now c.in-Ok-run_nodes.run' (given _ c.in-Ok.given c.in-Some.parts c.in-Some.is c.in-Ok.ensures) c.in-Ok-run_nodes.ensures.run
-    c.reported.result c.reported.ensures.report c.reported.ensures.read c.reported.ensures.first c.reported.ensures.later c.reported.ensures.refusals
+    lived g.R.Moments.was_full g.R.Moments.was_empty (MayEnd g.F.Flag.seen g.G.Gate.barred c.args.stop.now c.args.gate.now) c.args.net.now c.in-Some.parts.nodes.items _ c.args.commands.now c.in-Ok-run_nodes.run' (given _ c.in-Ok.given c.in-Some.parts c.in-Some.is c.in-Ok.ensures) c.in-Ok-run_nodes.ensures.run
+    (g.S.Starter.came_back c.args.starter.now) c.reported.result c.reported.ensures.report c.reported.ensures.read c.reported.ensures.first c.reported.ensures.later c.reported.ensures.refusals c.reported.ensures.served c.reported.ensures.shown
 
 pub returns-in-Err-clause-refused : goal.returns-in-Err-clause-refused
 returns-in-Err-clause-refused g c = parts_refused g.S.Starter.unstarted c.args.net.now c.args.starter.now c.in-Err.error c.no_parts.result c.no_parts.ensures

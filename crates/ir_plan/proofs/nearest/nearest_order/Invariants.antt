@@ -1,6 +1,6 @@
-use Rattle.std.proofs.Common.{◌≡◌, ◌<◌, vec_len}
-use Rattle.std.specs.Prelude.{All}
+use Rattle.ir_plan.specs.Distances.{far_between}
+use Rattle.ir_plan.proofs.Tours.{IsNearestBelow}
 use Rattle.ir_plan.proofs.nearest.nearest_order.Given as goal
 
-abbrev pub invariant-loop : goal.invariant-loop
-invariant-loop l = record { marks : vec_len l.visited ≡ l.nodes; last : l.last < l.nodes; nodes : All (λ v. v < l.nodes) l.order.items }
+abbrev pub invariant-loop-place : goal.invariant-loop-place
+invariant-loop-place l = IsNearestBelow l.far.nodes (far_between l.far.rows.items) l.first l.place l.order.items

@@ -1,5 +1,11 @@
-use Rattle.std.specs.List.Sorted.{IsPermutation}
+use Rattle.std.proofs.Common.{◌≡◌, ◌<◌, ◌-◌, ℕ}
+use Rattle.std.specs.Prelude.{All}
+use Rattle.ir_plan.specs.Tour.{shortened}
+use Rattle.ir_plan.specs.Distances.{far_between}
 use Rattle.ir_plan.proofs.sweeps.shorten.Given as goal
 
-abbrev pub invariant-loop : goal.invariant-loop
-invariant-loop l = IsPermutation l.fn.order l.order
+abbrev pub invariant-loop-done : goal.invariant-loop-done
+invariant-loop-done l = record {
+  nodes : All (λ (v : ℕ). v < l.far.nodes) l.order;
+  left : shortened (far_between l.far.rows.items) (16 - l.done) l.order ≡ shortened (far_between l.far.rows.items) 16 l.fn.order;
+}

@@ -1,0 +1,33 @@
+use Rattle.std.proofs.Common.{◌≡◌, ◌≢◌, ℕ, ◌<◌, ◌∙◌, Some, sym, subst}
+use Rattle.ir_model.specs.declared.Kind.{Kind}
+use Rattle.ir_model.specs.declared.Kind.TheVariants.{Tree}
+use Rattle.ir_model.specs.Topology.{Topology, node_count}
+use Rattle.ir_model.specs.Plan.{Plan}
+use Rattle.ir_plan.specs.declared.tour.LabelOrder.{LabelOrder}
+use Rattle.ir_plan.specs.Starts.{IsPlanAs}
+use Rattle.ir_plan.proofs.DepthFirst.{labels_same, rows_same, table_same}
+use Rattle.ir_plan.proofs.Labelled.{order_determined}
+use Rattle.ir_core.specs.Meaning.{IsMade}
+use Rattle.ir_core.proofs.laws.made_plan_is_determined.Goals as goal
+
+module _ (labels : LabelOrder) (kind : Kind) (root : ℕ) (net : Topology) (p q : Plan) (a : IsMade labels kind root net (Some p)) (b : IsMade labels kind root net (Some q)) where
+  alike : IsPlanAs p q
+  alike = record { plan = b.3; kind = b.0 ∙ sym a.0; root = b.1 ∙ sym a.1; topology = b.2 ∙ sym a.2 }
+
+  same : p.order ≡ q.order
+  same = order_determined labels p q a.3 alike a.4 b.4
+
+  apart : kind ≢ Tree → p.kind ≢ Tree
+  apart other e = other (sym a.0 ∙ e)
+
+  in_p : (u : ℕ) → u < node_count net → u < node_count p.topology
+  in_p u lt = subst (λ (x : Topology). u < node_count x) (sym a.2) lt
+
+pub returns : goal.returns
+returns c = record {
+  order = same;
+  labels = λ labels kind root net p q a b. labels_same p q a.3 (alike labels kind root net p q a b) (same labels kind root net p q a b);
+  tables = λ labels kind root net p q other a b u d hu hd.
+      table_same p q (apart labels kind root net p q a b other) a.3 (alike labels kind root net p q a b) (same labels kind root net p q a b) u d (in_p labels kind root net p q a b u hu) (in_p labels kind root net p q a b d hd);
+  rows = λ labels kind root net p q other a b. rows_same p q (apart labels kind root net p q a b other) a.3 (alike labels kind root net p q a b) (same labels kind root net p q a b);
+}

@@ -1,0 +1,179 @@
+-- Which plans are labelled by an order, and that the labels are determined by it, the kind, the root and the network.
+use Rattle.std.proofs.Common.{◌≡◌, ◌≢◌, ℕ, ◌<◌, ◌≤◌, ◌⊎◌, List, length, refl, ap, sym, ◌∙◌, subst, inl, inr, arith}
+use Rattle.std.specs.Prelude.{slice_index, sum_by}
+use Rattle.std.proofs.lemmas.Bool.{cases_lt}
+use Rattle.ir_model.specs.declared.Kind.{Kind}
+use Rattle.ir_model.specs.declared.Kind.TheVariants.{Tree, Shortest, Compact}
+use Rattle.ir_model.specs.Topology.{Topology, node_count}
+use Rattle.ir_model.specs.Plan.{Plan, IsPlan, HasDepthFirst}
+use Rattle.ir_model.specs.Row.{Start}
+use Rattle.ir_plan.specs.declared.tour.LabelOrder.{LabelOrder}
+use Rattle.ir_plan.specs.declared.tour.LabelOrder.TheVariants.{DepthFirst, Tour}
+use Rattle.std.specs.List.Sorted.{IsPermutation}
+use Rattle.ir_numbering.specs.Numbering.{IsListing}
+use Rattle.ir_plan.specs.Distances.{AreShortestDistances}
+use Rattle.ir_plan.specs.Tour.{IsTour, IsNearestOrder, difference, shortened}
+use Rattle.ir_plan.specs.Starts.{IsLabelledBy, start_count, IsPlanAs, HasFewerOfTwo, IsToured}
+use Rattle.ir_plan.proofs.DepthFirst.{depth_first_order, rows_same, shortest_same}
+use Rattle.ir_plan.proofs.Tours.{nearest_moved, nearest_same, shortened_agrees, shortened_first, shortened_permutes, listing_permuted}
+use Rattle.ir_plan.proofs.Differences.{difference_same}
+use Rattle.ir_plan.proofs.TreeStarts.{tree_plan_starts}
+
+-- ---- plans of one kind, root and network
+
+pub as_itself : (p : Plan) → IsPlan p → IsPlanAs p p
+as_itself p is = record { plan = is; kind = refl; root = refl; topology = refl }
+
+pub as_back : (p q : Plan) → IsPlan p → IsPlanAs p q → IsPlanAs q p
+as_back p q is like = record { plan = is; kind = sym like.kind; root = sym like.root; topology = sym like.topology }
+
+-- two that are as one are as each other
+as_both : (p q r : Plan) → IsPlanAs p q → IsPlanAs p r → IsPlanAs q r
+as_both p q r one other = record { plan = other.plan; kind = other.kind ∙ sym one.kind; root = other.root ∙ sym one.root; topology = other.topology ∙ sym one.topology }
+
+as_moved : (p q r : Plan) → IsPlanAs p q → IsPlanAs q r → IsPlanAs p r
+as_moved p q r one other = record { plan = other.plan; kind = other.kind ∙ one.kind; root = other.root ∙ one.root; topology = other.topology ∙ one.topology }
+
+tour_moved : (p q : Plan) (order : List ℕ) → IsPlanAs p q → IsTour q.topology q.root order → IsTour p.topology p.root order
+tour_moved p q order like is = subst (λ (net : Topology). IsTour net p.root order) like.topology (subst (λ (root : ℕ). IsTour q.topology root order) like.root is)
+
+-- an order by nearest over the differences of the shortest table, shortened, is the tour
+pub tour_made : (net : Topology) (root : ℕ) (far : ℕ → ℕ → ℕ) (start tour : List ℕ) → AreShortestDistances net far → root < node_count net → IsNearestOrder (node_count net) far root start → tour ≡ shortened far 16 start
+    → IsTour net root tour × IsListing (node_count net) tour × (slice_index tour 0 ≡ root)
+tour_made net root far start tour are in_net nearest short =
+    let n = node_count net in
+    let dis = difference n are.0 in
+    let some : 0 < n = omega arith in (
+      record {
+        table = are.0;
+        shortest = are.1;
+        start = start;
+        nearest = nearest_moved n some far dis are.2 root start nearest;
+        short = short ∙ shortened_agrees n some far dis are.2 16 start nearest.listing.nodes;
+      },
+      listing_permuted n start tour nearest.listing (subst (IsPermutation start) (sym short) (shortened_permutes far 16 start)),
+      ap (λ (xs : List ℕ). slice_index xs 0) short ∙ shortened_first far 16 start ∙ nearest.first,
+    )
+
+-- ---- what a plan has to be
+
+-- where no tour is sought the depth-first plan stays
+pub untoured_labelled : (labels : LabelOrder) (p : Plan) → HasDepthFirst p → (labels ≢ DepthFirst → IsToured p → ⊥) → IsLabelledBy labels p
+untoured_labelled DepthFirst p numbers none = numbers
+untoured_labelled Tour p numbers none = (λ sought. absurd (none (λ e. cc e) sought), λ _. numbers)
+
+module _ (p q : Plan) (is : IsPlan p) (numbers : HasDepthFirst p) (like : IsPlanAs p q) (tour : IsTour p.topology p.root q.order) where
+  -- the depth-first plan stays where the plan over the tour has as many starts or more
+  pub first_labelled : (labels : LabelOrder) → start_count p ≤ start_count q → IsLabelledBy labels p
+  first_labelled DepthFirst le = numbers
+  first_labelled Tour le = (
+    λ sought. record {
+      first = p;
+      first_is = as_itself p is;
+      numbers = numbers;
+      over = q;
+      over_is = like;
+      tour = tour;
+      fewer = λ lt. absurd (omega (arith, lt, le));
+      others = λ _. refl;
+    },
+    λ _. numbers,
+  )
+
+  -- the plan over the tour is labelled where it has fewer
+  pub over_labelled : (labels : LabelOrder) → labels ≢ DepthFirst → IsToured p → start_count q < start_count p → IsLabelledBy labels q
+  over_labelled DepthFirst by sought lt = absurd (by refl)
+  over_labelled Tour by sought lt = (
+    λ _. record {
+      first = p;
+      first_is = as_back p q is like;
+      numbers = numbers;
+      over = q;
+      over_is = as_itself q like.plan;
+      tour = tour_moved q p q.order (as_back p q is like) tour;
+      fewer = λ _. refl;
+      others = λ le. absurd (omega (arith, lt, le));
+    },
+    λ none. absurd (none ((λ e. sought.0 (sym like.kind ∙ e)), omega (arith, sought.1, ap node_count like.topology))),
+  )
+
+-- ---- the labels are determined
+
+-- a network has one tour from a root
+pub tour_same : (net : Topology) (root : ℕ) → root < node_count net → (xs ys : List ℕ) → IsTour net root xs → IsTour net root ys → xs ≡ ys
+tour_same net root in_net xs ys a b =
+    let n = node_count net in
+    let some : 0 < n = omega arith in
+    let far = difference n a.table in
+    let dis = difference n b.table in
+    let agree : (u v : ℕ) → u < n → v < n → dis u v ≡ far u v = λ u v hu hv. difference_same n b.table a.table (shortest_same net b.table a.table b.shortest a.shortest) u v hu hv in
+    let start : a.start ≡ b.start = nearest_same n far root a.start b.start a.nearest (nearest_moved n some dis far agree root b.start b.nearest) in
+    a.short ∙ ap (shortened far 16) start ∙ sym (b.short ∙ shortened_agrees n some dis far agree 16 b.start b.nearest.listing.nodes)
+
+kind_is : (k : Kind) → (k ≡ Tree) ⊎ (k ≢ Tree)
+kind_is Tree = inl refl
+kind_is Shortest = inr (λ e. cc e)
+kind_is Compact = inr (λ e. cc e)
+
+toured_or_not : (p : Plan) → IsToured p ⊎ (IsToured p → ⊥)
+toured_or_not p =
+    elim (kind_is p.kind) [
+      | inl tree ↦ inr (λ sought. sought.0 tree)
+      | inr other ↦
+          elim (cases_lt 4096 (node_count p.topology)) [
+            | inl more ↦ inr (λ sought. omega (arith, more, sought.1))
+            | inr few ↦ inl (other, few)
+          ]
+    ]
+
+-- two plans that each have the fewer of two have one order
+fewer_same : (p q : Plan) → IsPlan p → p.kind ≢ Tree → IsPlanAs p q → HasFewerOfTwo p → HasFewerOfTwo q → p.order ≡ q.order
+fewer_same p q is other like a b =
+    let firsts = as_both p a.first b.first a.first_is (as_moved p q b.first like b.first_is) in
+    let overs = as_both p a.over b.over a.over_is (as_moved p q b.over like b.over_is) in
+    let first : a.first.order ≡ b.first.order = depth_first_order a.first b.first a.numbers firsts b.numbers in
+    let over : a.over.order ≡ b.over.order = tour_same p.topology p.root is.root_in a.over.order b.over.order a.tour (tour_moved p q b.over.order like b.tour) in
+    let rows : a.first.rows ≡ b.first.rows = rows_same a.first b.first (λ e. other (sym a.first_is.kind ∙ e)) a.first_is.plan firsts first in
+    let others : a.over.rows ≡ b.over.rows = rows_same a.over b.over (λ e. other (sym a.over_is.kind ∙ e)) a.over_is.plan overs over in
+    let starts : start_count a.first ≡ start_count b.first = ap (λ (r : List (List Start)). sum_by length r) rows in
+    let counts : start_count a.over ≡ start_count b.over = ap (λ (r : List (List Start)). sum_by length r) others in
+    elim (cases_lt (start_count a.over) (start_count a.first)) [
+      | inl lt ↦ a.fewer lt ∙ over ∙ sym (b.fewer (omega (arith, lt, starts, counts)))
+      | inr le ↦ a.others le ∙ first ∙ sym (b.others (omega (arith, le, starts, counts)))
+    ]
+
+-- Plans of one kind, root and network that are labelled by one order have the same numbers.
+pub order_determined : (labels : LabelOrder) (p q : Plan) → IsPlan p → IsPlanAs p q → IsLabelledBy labels p → IsLabelledBy labels q → p.order ≡ q.order
+order_determined DepthFirst p q is like a b = depth_first_order p q a like b
+order_determined Tour p q is like a b =
+    elim (toured_or_not p) [
+      | inl sought ↦ fewer_same p q is sought.0 like (a.0 sought) (b.0 ((λ e. sought.0 (sym like.kind ∙ e)), omega (arith, sought.1, ap node_count like.topology)))
+      | inr none ↦ depth_first_order p q (a.1 none) like (b.1 (λ sought. none ((λ e. sought.0 (like.kind ∙ e)), omega (arith, sought.1, ap node_count like.topology))))
+    ]
+
+-- a plan that is labelled by a tour has no more starts than a depth-first one
+pub no_more_starts : (p q : Plan) → IsPlan p → IsPlanAs p q → IsLabelledBy Tour p → HasDepthFirst q → start_count p ≤ start_count q
+no_more_starts p q is like by numbers =
+    elim (kind_is p.kind) [
+      | inl tree ↦
+          let one = tree_plan_starts p is tree in
+          let two = tree_plan_starts q like.plan (like.kind ∙ tree) in
+          omega (arith, one, two, ap node_count like.topology)
+      | inr other ↦
+          elim (toured_or_not p) [
+            | inl sought ↦
+                let a = by.0 sought in
+                let apart : (s : Plan) → IsPlanAs p s → s.kind ≢ Tree = λ s as_p e. other (sym as_p.kind ∙ e) in
+                let firsts = as_both p a.first q a.first_is like in
+                let first : start_count a.first ≡ start_count q =
+                counts a.first q (rows_same a.first q (apart a.first a.first_is) a.first_is.plan firsts (depth_first_order a.first q a.numbers firsts numbers)) in
+                elim (cases_lt (start_count a.over) (start_count a.first)) [
+                  | inl lt ↦ let mine = counts p a.over (rows_same p a.over other is a.over_is (a.fewer lt)) in omega (arith, lt, mine, first)
+                  | inr le ↦ let mine = counts p a.first (rows_same p a.first other is a.first_is (a.others le)) in omega (arith, mine, first)
+                ]
+            | inr none ↦ let mine = counts p q (rows_same p q other is like (depth_first_order p q (by.1 none) like numbers)) in omega (arith, mine)
+          ]
+    ]
+  where
+    counts : (s t : Plan) → s.rows ≡ t.rows → start_count s ≡ start_count t
+    counts s t e = ap (λ (r : List (List Start)). sum_by length r) e

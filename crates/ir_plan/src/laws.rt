@@ -1,0 +1,33 @@
+//! Laws of plans, each the contract of a function with an empty body.
+
+ghost use Rattle.std.specs.Prelude.{◌≡◌, ◌≢◌, ℕ, ◌<◌, ◌≤◌, List};
+ghost use Rattle.ir_model.specs.{declared.Kind.TheVariants.Tree, Topology.{Topology, node_count}};
+ghost use Rattle.ir_model.specs.Plan.{Plan, IsPlan, HasDepthFirst, table_port};
+ghost use Rattle.ir_plan.specs.{Starts.{IsLabelledBy, IsPlanAs, start_count}, Tour.IsTour};
+ghost use Rattle.ir_plan.specs.declared.tour.LabelOrder.{LabelOrder, TheVariants.Tour};
+
+/// A network has one tour from a root.
+pub fn tour_is_determined()
+    ensures { (net : Topology) (root : ℕ) → root < node_count net → (tour other : List ℕ) → IsTour net root tour
+        → IsTour net root other → tour ≡ other }
+{}
+
+/// Plans of one kind, root and network that are labelled by one order have the same labels; the same table and rows too,
+/// where the kind is not Tree.
+pub fn labels_are_determined()
+    ensures order { (labels : LabelOrder) (p q : Plan) → IsPlan p → IsPlanAs p q → IsLabelledBy labels p
+        → IsLabelledBy labels q → p.order ≡ q.order }
+    ensures labels { (labels : LabelOrder) (p q : Plan) → IsPlan p → IsPlanAs p q → IsLabelledBy labels p
+        → IsLabelledBy labels q → p.labels ≡ q.labels }
+    ensures tables { (labels : LabelOrder) (p q : Plan) → IsPlan p → IsPlanAs p q → p.kind ≢ Tree
+        → IsLabelledBy labels p → IsLabelledBy labels q
+        → (u d : ℕ) → u < node_count p.topology → d < node_count p.topology → table_port p u d ≡ table_port q u d }
+    ensures rows { (labels : LabelOrder) (p q : Plan) → IsPlan p → IsPlanAs p q → p.kind ≢ Tree
+        → IsLabelledBy labels p → IsLabelledBy labels q → p.rows ≡ q.rows }
+{}
+
+/// A plan that is labelled by a tour has no more starts than a depth-first plan of its kind, root and network.
+pub fn tour_has_no_more_starts()
+    ensures { (p q : Plan) → IsPlan p → IsPlanAs p q → IsLabelledBy Tour p → HasDepthFirst q
+        → start_count p ≤ start_count q }
+{}
