@@ -20,9 +20,10 @@ sys.dont_write_bytecode = True
 import networks
 
 KINDS = ["shortest", "tree", "compact"]
-NUMBERED = [("tree", "depth-first"), *((kind, order) for kind in ("shortest", "compact") for order in ("depth-first", "tour", "order"))]
+NUMBERINGS = ["depth-first", "tour", "order"]  # the last is a file
+NUMBERED = [("tree", "depth-first"), *((kind, order) for kind in ("shortest", "compact") for order in NUMBERINGS)]
 GREAT = 25  # each network of a number divisible by this has hundreds of nodes
-SECONDS = 120
+SECONDS = 600  # the most that a run may take
 
 
 def network(luck, number):
@@ -33,9 +34,13 @@ def network(luck, number):
     family = luck.choice(["ring", "grid", "torus", "hypercube", "clos", "tree", "random", "random", "scalefree", "parts"])
     random.seed(number)
     _, links = {
-        "ring": lambda: networks.ring(size), "grid": lambda: networks.grid(side, side), "tree": lambda: networks.tree(size),
-        "torus": lambda: networks.torus(max(3, side), max(3, side)), "hypercube": lambda: networks.hypercube(size.bit_length() - 1),
-        "clos": lambda: networks.clos(1 + size // 8, 1 + size // 4), "scalefree": lambda: networks.scalefree(size + 3, 2),
+        "ring": lambda: networks.ring(size),
+        "grid": lambda: networks.grid(side, side),
+        "torus": lambda: networks.torus(max(3, side), max(3, side)),
+        "hypercube": lambda: networks.hypercube(size.bit_length() - 1),
+        "clos": lambda: networks.clos(1 + size // 8, 1 + size // 4),
+        "tree": lambda: networks.tree(size),
+        "scalefree": lambda: networks.scalefree(size + 3, 2),
         "random": lambda: networks.random_network(size, min(size * (size - 1) // 2, size - 1 + luck.randrange(3 * size))),
         "parts": lambda: (None, [(f"n{u}", f"n{luck.randrange(size)}") for u in range(size) if luck.random() < 0.9]),
     }[family]()
@@ -70,7 +75,8 @@ def script(luck, nodes, links):
             lines.append(f"retire {luck.randrange(1, epoch + 1)}")
         elif chance < 0.9:
             near = luck.choice(links)
-            lines += [luck.choice([f"take {u} inbox", f"take {near[0]} from {near[1]}"]), f"read {u} {luck.randrange(4)}", f"act {u}"]
+            lines.append(luck.choice([f"take {u} inbox", f"take {near[0]} from {near[1]}"]))
+            lines += [f"read {u} {luck.randrange(4)}", f"act {u}"]
         else:
             lines.append("drain")
     return "\n".join(lines + luck.choice([[], ["drain"]])) + "\n"
@@ -113,7 +119,8 @@ class Both:
         """What the first prints; the second has to do the same."""
         ends = []
         for program in self.programs:
-            done = subprocess.run([program, *words], cwd=self.folder, capture_output=True, stdin=subprocess.DEVNULL, timeout=SECONDS)
+            done = subprocess.run([program, *words], cwd=self.folder, stdin=subprocess.DEVNULL, stdout=subprocess.PIPE,
+                                  stderr=subprocess.PIPE, timeout=SECONDS)
             ends.append((done.stdout, done.stderr, done.returncode))
         self.runs += 1
         self.refused += ends[0][2] != 0

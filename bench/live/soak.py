@@ -1,17 +1,24 @@
 #!/usr/bin/env python3
 """Runs random scripts in `route live` and judges each trace by `route check`.
 
+    soak.py [RUNS [FIRST]]
+
+RUNS runs, 1,000 if that isn't said, from that of number FIRST on, 0 if that isn't said. The program is that of the
+variable BENTZOLU_ROUTE, else crates/route/out/route.
+
 Outside the gate: it wants python3 and the built program. Each run has a connected random graph, a kind, a limit on
 restamps, a room of the queues, and a script of injections, drains, changes of links, installs and retirements.
 """
+import os
 import pathlib
 import random
 import subprocess
 import sys
 import tempfile
 
-PROGRAM = pathlib.Path(__file__).parent / "../../crates/route/out/route"
-RUNS = int(sys.argv[1]) if len(sys.argv) > 1 else 1000
+PROGRAM = os.environ.get("BENTZOLU_ROUTE", pathlib.Path(__file__).parent / "../../crates/route/out/route")
+RUNS, FIRST = (int(word) for word in [*sys.argv[1:3], *["1000", "0"][len(sys.argv) - 1:]])
+SECONDS = 300  # the most that a run may take
 
 
 def graph(nodes):
@@ -45,7 +52,7 @@ def script(nodes, links):
 packets, fates = 0, {}
 with tempfile.TemporaryDirectory() as folder:
     topology, lines, trace = (pathlib.Path(folder) / name for name in ("topology", "script", "trace"))
-    for run in range(RUNS):
+    for run in range(FIRST, FIRST + RUNS):
         random.seed(run)
         nodes = random.randrange(2, 12)
         links = graph(nodes)
@@ -55,13 +62,14 @@ with tempfile.TemporaryDirectory() as folder:
         restamps = random.randrange(4)
         words = ["--format", "edgelist", "--kind", random.choice(["tree", "shortest", "compact"]), "--root", f"n{random.randrange(nodes)}",
                  "--capacity", str(random.choice([1, 2, 16]))]
-        live = subprocess.run([PROGRAM, "live", *words, "--restamps", str(restamps), topology, lines], capture_output=True, text=True, timeout=60)
+        how = {"capture_output": True, "text": True, "timeout": SECONDS}
+        live = subprocess.run([PROGRAM, "live", *words, "--restamps", str(restamps), topology, lines], **how)
         trace.write_text(live.stdout)
         refused = {int(line.split()[1]) for line in live.stderr.splitlines()}
         accepted = [step.split()[1:] for place, step in enumerate(steps, 1) if step.startswith("inject") and place not in refused]
         rows = [line.split() for line in live.stdout.splitlines()[1:]]
         ends = [row[1:3] if restamps else row[2:4] for row in rows]
-        judged = subprocess.run([PROGRAM, "check", *words, topology, lines, trace], capture_output=True, text=True, timeout=60)
+        judged = subprocess.run([PROGRAM, "check", *words, topology, lines, trace], **how)
         if live.returncode or judged.stdout != f"ok {len(accepted)}\n" or ends != accepted or [int(row[0]) for row in rows] != list(range(len(rows))):
             sys.exit(f"run {run}: {live.returncode} {live.stderr} {judged.stdout} {judged.stderr}")
         packets += len(rows)
