@@ -22,14 +22,14 @@ import networks
 KINDS = ["shortest", "tree", "compact"]
 NUMBERINGS = ["depth-first", "tour", "order"]  # the last is a file
 NUMBERED = [("tree", "depth-first"), *((kind, order) for kind in ("shortest", "compact") for order in NUMBERINGS)]
-GREAT = 25  # each network of a number divisible by this has hundreds of nodes
+GREAT = 30  # the network of each number that this divides has hundreds of nodes: more than a plan of one thread
 SECONDS = 600  # the most that a run may take
 
 
 def network(luck, number):
     """A network's nodes and links, as names: of a family of networks.py, or drawn link by link, maybe in two parts."""
     great = number % GREAT == 0
-    size = luck.randrange(260, 420) if great else luck.randrange(2, 41)
+    size = luck.randrange(260, 400) if great else luck.randrange(2, 41)
     side = max(2, int(size ** 0.5))
     family = luck.choice(["ring", "grid", "torus", "hypercube", "clos", "tree", "random", "random", "scalefree", "parts"])
     random.seed(number)
@@ -37,7 +37,7 @@ def network(luck, number):
         "ring": lambda: networks.ring(size),
         "grid": lambda: networks.grid(side, side),
         "torus": lambda: networks.torus(max(3, side), max(3, side)),
-        "hypercube": lambda: networks.hypercube(size.bit_length() - 1),
+        "hypercube": lambda: networks.hypercube(size.bit_length()),
         "clos": lambda: networks.clos(1 + size // 8, 1 + size // 4),
         "tree": lambda: networks.tree(size),
         "scalefree": lambda: networks.scalefree(size + 3, 2),
@@ -60,7 +60,7 @@ def topology(luck, links):
 def script(luck, nodes, links):
     """Lines of a simulation: packets, changes, installs that are learnt or not, single steps, drains."""
     lines, epoch = [], 1
-    for _ in range(luck.randrange(5, 80)):
+    for _ in range(luck.randrange(5, 80 if len(nodes) < 100 else 12)):
         chance, u, v = luck.random(), luck.choice(nodes), luck.choice(nodes)
         if chance < 0.5:
             lines.append(f"inject {u} {v}")
