@@ -1,8 +1,8 @@
 -- What the nodes settled and what is left determines what a report tells of each packet.
 use Rattle.std.specs.Prelude.{◌≡◌, ◌≢◌, ℕ, zero, suc, ◌+◌, ◌<◌, ◌==◌, cond, List, [], ◌∷◌, Some, option_map, length, map, sum_by, slice_get}
-use Rattle.std.proofs.Common.{refl, arith, sym, ap, ◌∙◌, subst, eq-eqb, inl, inr}
+use Rattle.std.proofs.Common.{refl, arith, sym, ap, ◌∙◌, subst, eq-eqb}
 use Rattle.std.proofs.lemmas.Bool.{lt-ltb}
-use Rattle.std.proofs.lemmas.Option.{same_Some, slice_get-get_or, slice_get-map, slice_get_within, get_or_from_slice_get}
+use Rattle.std.proofs.lemmas.Option.{slice_get-map, slice_get_within, get_or_from_slice_get}
 use Rattle.std.proofs.lemmas.List.{length-map}
 use Rattle.std.proofs.lemmas.List.Sums.{sum_by-cons}
 use Rattle.ir_core.specs.declared.packet.Fate.TheVariants.{Left}
@@ -11,15 +11,12 @@ use Rattle.ir_worker.specs.declared.node.Node.{Node}
 use Rattle.ir_worker.specs.declared.parcel.Outcome.{Outcome}
 use Rattle.ir_worker.specs.Account.{Head, head_of}
 use Rattle.ir_worker.specs.Seen.{Parcel}
-use Rattle.ir_worker.specs.Wires.{Out}
-use Rattle.ir_control.specs.declared.injector.Accepted.{Accepted}
 use Rattle.ir_control.specs.declared.injector.Injector.{Injector}
 use Rattle.ir_control.specs.declared.net.Net.{Net}
 use Rattle.ir_control.specs.declared.report.Report.{Report}
 use Rattle.ir_control.specs.Heads.{head_at}
 use Rattle.ir_control.specs.Reports.{IsReport}
-use Rattle.ir_control.specs.Rowed.{node_settled, node_taken, node_sent}
-use Rattle.ir_control.specs.Slots.{once}
+use Rattle.ir_control.specs.Rowed.{node_settled}
 use Rattle.ir_control.specs.Told.{Told}
 use Rattle.ir_control.proofs.Once.{injected_once}
 use Rattle.ir_control.proofs.Picked.{nothing, picked, picked_at, only, once_for, less_only, own_only, same_record}
@@ -31,6 +28,13 @@ sum_map f g [] = refl
 sum_map {A} f g (x ∷ xs) =
     let rest = sum_map f g xs in
     omega (arith, rest, sum_by-cons g (f x) (map f xs), sum_by-cons (λ (x : A). g (f x)) x xs)
+
+-- what a node settled of this number, and what is left of it
+abbrev settled_for : ℕ → (Record → ℕ) → Node → ℕ
+settled_for k f n = node_settled (λ o. only k f o.packet) n
+
+abbrev left_for : ℕ → (Record → ℕ) → Parcel → ℕ
+left_for k f x = only k f x.journey
 
 module _ (net : Net) (nodes : List Node) (injector : Injector) (report : Report) (is : IsReport net nodes injector report) where
   outcome_count : length is.outcomes ≡ length injector.accepted.items
@@ -54,12 +58,6 @@ module _ (net : Net) (nodes : List Node) (injector : Injector) (report : Report)
       ∙ injected_once injector.accepted.items injector.numbered k
       ∙ ap (λ b. cond {A = ℕ} b 1 0) (lt-ltb k (length injector.accepted.items) (omega (arith, lt, count)))
 
-  abbrev settled_for : ℕ → (Record → ℕ) → Node → ℕ
-  settled_for k f n = node_settled (λ o. only k f o.packet) n
-
-  abbrev left_for : ℕ → (Record → ℕ) → Parcel → ℕ
-  left_for k f x = only k f x.journey
-
   module _ (k : ℕ) (o : Outcome) (got : slice_get is.outcomes k ≡ Some o) where
     one_for : once_for k o.packet ≡ 1
     one_for = ap (λ b. cond {A = ℕ} b 1 0) (eq-eqb o.packet.id k (numbered k o got))
@@ -74,8 +72,8 @@ module _ (net : Net) (nodes : List Node) (injector : Injector) (report : Report)
     less_settled : (f : Record → ℕ) (n : Node) → settled_for k (λ _. 1) n ≡ 0 → settled_for k f n ≡ 0
     less_settled f n = nothing (λ (o : Outcome). once_for k o.packet) (λ (o : Outcome). only k f o.packet) (λ o. less_only k f o.packet) n.outcomes.items
 
-    abbrev IsSettledHere : Type 0
-    IsSettledHere = (u : ℕ) × (n : Node) × (slice_get nodes u ≡ Some n) × ((q : ℕ) × (p : Outcome) × (slice_get n.outcomes.items q ≡ Some p) × (p.packet ≡ o.packet))
+    abbrev pub IsSettledHere : Type 0
+    IsSettledHere = (u : ℕ) × (n : Node) × (slice_get nodes u ≡ Some n) × (q : ℕ) × (p : Outcome) × (slice_get n.outcomes.items q ≡ Some p) × (p.packet ≡ o.packet)
 
     by_a_node : sum_by (settled_for k (λ _. 1)) nodes ≡ 1 → sum_by (left_for k (λ _. 1)) is.left ≡ 0 → IsSettledHere
     by_a_node one none =
@@ -84,18 +82,16 @@ module _ (net : Net) (nodes : List Node) (injector : Injector) (report : Report)
           n.0,
           n.1,
           n.2,
-          (
-            p.0,
-            p.1,
-            p.2,
-            same_record p.1.packet o.packet (λ f.
-                (let all = weighed f in
-                let here = picked_at (settled_for k (λ _. 1)) (settled_for k f) (less_settled f) nodes n.0 n.1 n.2 n.3 one in
-                let there = picked_at (λ (o : Outcome). once_for k o.packet) (λ (o : Outcome). only k f o.packet) (λ o. less_only k f o.packet) n.1.outcomes.items p.0 p.1 p.2 p.3 n.3 in
-                let own = own_only k f p.1.packet p.3 in
-                let rest = nothing (left_for k (λ _. 1)) (left_for k f) (λ x. less_only k f x.journey) is.left none in
-                omega (arith, all, here, there, own, rest))),
-          ),
+          p.0,
+          p.1,
+          p.2,
+          same_record p.1.packet o.packet (λ f.
+              (let all = weighed f in
+              let here : sum_by (settled_for k f) nodes ≡ sum_by (λ (o : Outcome). only k f o.packet) n.1.outcomes.items = picked_at (settled_for k (λ _. 1)) (settled_for k f) (less_settled f) nodes n.0 n.1 n.2 n.3 one in
+              let there = picked_at (λ (o : Outcome). once_for k o.packet) (λ (o : Outcome). only k f o.packet) (λ o. less_only k f o.packet) n.1.outcomes.items p.0 p.1 p.2 p.3 n.3 in
+              let own = own_only k f p.1.packet p.3 in
+              let rest = nothing (left_for k (λ _. 1)) (left_for k f) (λ x. less_only k f x.journey) is.left none in
+              omega (arith, all, here, there, own, rest))),
         )
 
     is_left : sum_by (settled_for k (λ _. 1)) nodes ≡ 0 → sum_by (left_for k (λ _. 1)) is.left ≡ 1 → o.packet.fate ≡ Left
@@ -103,7 +99,7 @@ module _ (net : Net) (nodes : List Node) (injector : Injector) (report : Report)
         let x = picked (left_for k (λ _. 1)) is.left one in
         let same = same_record o.packet x.1.journey (λ f.
         (let all = weighed f in
-        let here = picked_at (left_for k (λ _. 1)) (left_for k f) (λ x. less_only k f x.journey) is.left x.0 x.1 x.2 x.3 one in
+        let here : sum_by (left_for k f) is.left ≡ only k f x.1.journey = picked_at (left_for k (λ _. 1)) (left_for k f) (λ x. less_only k f x.journey) is.left x.0 x.1 x.2 x.3 one in
         let own = own_only k f x.1.journey x.3 in
         let rest = nothing (settled_for k (λ _. 1)) (settled_for k f) (less_settled f) nodes none in
         omega (arith, all, here, own, rest))) in
@@ -114,8 +110,8 @@ module _ (net : Net) (nodes : List Node) (injector : Injector) (report : Report)
     settled_here ended = by_count (sum_by (settled_for k (λ _. 1)) nodes) refl
       where
         by_count : (n : ℕ) → sum_by (settled_for k (λ _. 1)) nodes ≡ n → IsSettledHere
-        by_count zero e = absurd (ended (is_left e (let all = weighed (λ _. 1) in omega (arith, all, e))))
-        by_count (suc n) e = (let all = weighed (λ _. 1) in by_a_node (omega (arith, all, e)) (omega (arith, all, e)))
+        by_count zero e = absurd (ended (is_left e (let all : 1 ≡ sum_by (settled_for k (λ _. 1)) nodes + sum_by (left_for k (λ _. 1)) is.left = weighed (λ _. 1) in omega (arith, all, e))))
+        by_count (suc n) e = (let all : 1 ≡ sum_by (settled_for k (λ _. 1)) nodes + sum_by (left_for k (λ _. 1)) is.left = weighed (λ _. 1) in by_a_node (omega (arith, all, e)) (omega (arith, all, e)))
 
 -- two reports of the same nodes and injector tell the same records
 pub same_records : (net : Net) (nodes : List Node) (injector : Injector) (report other : Report) → IsReport net nodes injector report → IsReport net nodes injector other → report.records.items ≡ other.records.items
@@ -125,7 +121,7 @@ same_records net nodes injector report other a b =
     (λ k x y at_x at_y. same_record x.packet y.packet (λ f.
     (let one = weighed net nodes injector report a k x at_x f in
     let two = weighed net nodes injector other b k y at_y f in
-    let was = a.left_is (λ (x : Parcel). only k f x.journey) in
-    let also = b.left_is (λ (x : Parcel). only k f x.journey) in
+    let was = a.left_is (left_for k f) in
+    let also = b.left_is (left_for k f) in
     omega (arith, one, two, was, also))))
     ∙ sym b.records

@@ -1,5 +1,5 @@
 -- Of a sum that is 1 one term is picked, and of records that all weights make equal there is one.
-use Rattle.std.specs.Prelude.{◌≡◌, ℕ, zero, suc, ◌+◌, ◌≤◌, Bool, true, false, ◌==◌, eqb, cond, List, [], ◌∷◌, Some, length, sum_by, slice_get, slice_index_or}
+use Rattle.std.specs.Prelude.{◌≡◌, ℕ, zero, suc, ◌≤◌, Bool, true, false, ◌==◌, eqb, cond, List, [], ◌∷◌, Some, length, sum_by, slice_get, slice_index_or}
 use Rattle.std.proofs.Common.{refl, arith, sym, ap, ◌∙◌}
 use Rattle.std.proofs.lemmas.Bool.{eqb-true}
 use Rattle.std.proofs.lemmas.Option.{same_Some, none-some}
@@ -46,11 +46,11 @@ module _ {X : Type 0} where
   -- where all weighs 1, one thing does
   pub picked : (W : X → ℕ) (xs : List X) → sum_by W xs ≡ 1 → (k : ℕ) × (x : X) × (slice_get xs k ≡ Some x) × (W x ≡ 1)
   picked W [] e = absurd (let none : sum_by W [] ≡ 0 = refl in omega (arith, e, none))
-  picked W (y ∷ xs) e = by_weight (W y) refl
+  picked W (y ∷ xs) e = by_weight (picked W xs) (W y) refl
     where
-      by_weight : (n : ℕ) → W y ≡ n → (k : ℕ) × (x : X) × (slice_get (y ∷ xs) k ≡ Some x) × (W x ≡ 1)
-      by_weight zero is = (let r = picked W xs (omega (arith, e, is, sum_by-cons W y xs)) in (suc r.0, r.1, r.2, r.3))
-      by_weight (suc n) is = (0, y, refl, omega (arith, e, is, sum_by-cons W y xs))
+      by_weight : (sum_by W xs ≡ 1 → (k : ℕ) × (x : X) × (slice_get xs k ≡ Some x) × (W x ≡ 1)) → (n : ℕ) → W y ≡ n → (k : ℕ) × (x : X) × (slice_get (y ∷ xs) k ≡ Some x) × (W x ≡ 1)
+      by_weight rest zero is = (let r = rest (omega (arith, e, is, sum_by-cons W y xs)) in (suc r.0, r.1, r.2, r.3))
+      by_weight rest (suc n) is = (0, y, refl, omega (arith, e, is, sum_by-cons W y xs))
 
 -- what a record weighs, if it has this number
 abbrev pub only : ℕ → (Record → ℕ) → Record → ℕ
@@ -81,28 +81,28 @@ own_only k f r e = go (eqb r.id k) refl e
     go false is one = absurd (let none : cond {A = ℕ} false 1 0 ≡ 0 = refl in omega (arith, one, none))
 
 -- a fate, from numbers that tell it
-tag : Fate → ℕ
+abbrev tag : Fate → ℕ
 tag Delivered = 0
 tag Retired = 1
 tag (Down l) = 2
 tag (Full l node) = 3
 tag Left = 4
 
-link_in : Fate → ℕ
+abbrev link_in : Fate → ℕ
 link_in Delivered = 0
 link_in Retired = 0
 link_in (Down l) = l
 link_in (Full l node) = l
 link_in Left = 0
 
-node_in : Fate → ℕ
+abbrev node_in : Fate → ℕ
 node_in Delivered = 0
 node_in Retired = 0
 node_in (Down l) = 0
 node_in (Full l node) = node
 node_in Left = 0
 
-fate_by : ℕ → ℕ → ℕ → Fate
+abbrev fate_by : ℕ → ℕ → ℕ → Fate
 fate_by zero l node = Delivered
 fate_by (suc zero) l node = Retired
 fate_by (suc (suc zero)) l node = Down l
@@ -117,7 +117,7 @@ told_by (Full l node) = refl
 told_by Left = refl
 
 same_restamp : (s t : Restamp) → s.epoch ≡ t.epoch → s.from ≡ t.from → s ≡ t
-same_restamp s t epoch from = cc
+same_restamp s t epoch from = ap (λ (n : ℕ). let x : Restamp = record { epoch = n; from = s.from } in x) epoch ∙ ap (λ (n : ℕ). let x : Restamp = record { epoch = t.epoch; from = n } in x) from
 
 -- two records that weigh the same, whatever weighs them, are one
 pub same_record : (r s : Record) → ((f : Record → ℕ) → f r ≡ f s) → r ≡ s
@@ -134,4 +134,11 @@ same_record r s same =
     let fate : r.fate ≡ s.fate =
     sym (told_by r.fate) ∙ ap (λ n. fate_by n (link_in r.fate) (node_in r.fate)) (same (λ r. tag r.fate)) ∙ ap (λ n. fate_by (tag s.fate) n (node_in r.fate)) (same (λ r. link_in r.fate))
     ∙ ap (λ n. fate_by (tag s.fate) (link_in s.fate) n) (same (λ r. node_in r.fate)) ∙ told_by s.fate in
-    cc
+    ap (λ (n : ℕ). let x : Record = record r { id = n } in x) id
+    ∙ ap (λ (n : ℕ). let x : Record = record r { id = s.id; epoch = n } in x) epoch
+    ∙ ap (λ (n : ℕ). let x : Record = record r { id = s.id; epoch = s.epoch; source = n } in x) source
+    ∙ ap (λ (n : ℕ). let x : Record = record r { id = s.id; epoch = s.epoch; source = s.source; dest = n } in x) dest
+    ∙ ap (λ (n : List ℕ). let x : Record = record s { hops = n; restamps = r.restamps; fate = r.fate; room = r.room } in x) hops
+    ∙ ap (λ (n : List Restamp). let x : Record = record s { restamps = n; fate = r.fate; room = r.room } in x) restamps
+    ∙ ap (λ (n : Fate). let x : Record = record s { fate = n; room = r.room } in x) fate
+    ∙ ap (λ (n : ℕ). let x : Record = record s { room = n } in x) room

@@ -1,5 +1,5 @@
 -- What a report tells of a packet that is not left, a node settled in one of its turns, for a cause that held.
-use Rattle.std.specs.Prelude.{◌≡◌, ◌≢◌, ℕ, List, [], All, Some, length, slice_get, slice_index_or}
+use Rattle.std.specs.Prelude.{◌≡◌, ◌≢◌, ℕ, ◌<◌, List, All, Some, length, slice_get, slice_index_or}
 use Rattle.std.proofs.Common.{arith, sym, subst}
 use Rattle.std.proofs.lemmas.Option.{slice_get-get_or, slice_get_within, get_or_from_slice_get}
 use mathlib.Core.List.{IsPrefix}
@@ -9,7 +9,6 @@ use Rattle.ir_epochs.specs.declared.entry.Entry.{Entry}
 use Rattle.ir_epochs.specs.Handles.{known}
 use Rattle.ir_links.specs.Ends.{Word}
 use Rattle.ir_worker.specs.declared.node.Node.{Node}
-use Rattle.ir_worker.specs.declared.node.Turn.{Turn}
 use Rattle.ir_worker.specs.declared.parcel.Outcome.{Outcome}
 use Rattle.ir_worker.specs.Seen.{Parcel}
 use Rattle.ir_worker.specs.Turns.{AreTurns, HasSettled}
@@ -30,7 +29,7 @@ module _ (was_full was_empty : Word Parcel) (may_end : ℕ → ℕ → Type 0) (
   settled_at : (u : ℕ) (b : Node) → slice_get last u ≡ Some b → (q : ℕ) (o : Outcome) → slice_get b.outcomes.items q ≡ Some o → (r : Record) → o.packet ≡ r → WasSettled was_full was_empty entries first last r
   settled_at u b got q o there r same =
       let within = slice_get_within last u b got in
-      let lt = omega (arith, within, count) in
+      let lt : u < length first = omega (arith, within, count) in
       let a : Node = slice_index_or first u b in
       let made = turned u b b lt in
       let turns = subst (λ (n : Node). AreTurns was_full was_empty a made.0 n) (get_or_from_slice_get last u b b got) made.1 in
@@ -40,4 +39,4 @@ module _ (was_full was_empty : Word Parcel) (may_end : ℕ → ℕ → Type 0) (
   pub causes_are : All (λ r. r.fate ≢ Left → WasSettled was_full was_empty entries first last r) report.records.items
   causes_are = subst (All (λ r. r.fate ≢ Left → WasSettled was_full was_empty entries first last r)) (sym is.records)
       (all_mapped (λ r. r.fate ≢ Left → WasSettled was_full was_empty entries first last r) (λ (o : Outcome). o.packet) is.outcomes
-      (λ k o got ended. (let here = settled_here net last injector report is k o got ended in settled_at here.0 here.1 here.2 here.3.0 here.3.1 here.3.2 o.packet here.3.3)))
+      (λ k o got ended. (let here = settled_here net last injector report is k o got ended in settled_at here.0 here.1 here.2 here.3 here.4 here.5 o.packet here.6)))

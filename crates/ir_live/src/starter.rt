@@ -8,8 +8,8 @@ use ir_worker::Node;
 use std::thread::SpawnError;
 
 /// Says of each node whether its thread is to be started, and is shown the injector once the commands are carried out and
-/// each node that came back. It has a word for a thread that was not started, for an injector and for a node that was shown: so
-/// a contract can say that a thread was not, and of which injector and nodes a run tells.
+/// each node that came back. It has a word for a thread that was not started, for an injector and for a node that was
+/// shown: so a contract can say that a thread was not started, and of which injector and nodes a run tells.
 pub trait Starter {
     // the thread of the node of this number was not started
     ghost unstarted: { Self → ℕ → Type 0 };

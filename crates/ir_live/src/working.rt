@@ -52,8 +52,8 @@ fn serve_and_tell<R: Moments<Parcel>, G: Gate, F: Flag>(
     back
 }
 
-/// Starts a thread for each node, carries out the commands, shows the starter the injector, sets the flag that lets the nodes
-/// end, and waits until each has come back.
+/// Starts a thread for each node, carries out the commands, shows the starter the injector, sets the flag that lets the
+/// nodes end, and waits until each has come back.
 pub(crate) fn run_nodes<
     R: Threads + Moments<Parcel> + Sync,
     G: Gate,

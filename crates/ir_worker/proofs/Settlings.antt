@@ -1,8 +1,9 @@
 -- What a node has settled, it settled in one of its turns.
-use Rattle.std.specs.Prelude.{◌≡◌, ℕ, List, [], ◌∷◌, ◌++◌, Some, slice_get}
+use Rattle.std.specs.Prelude.{◌≡◌, ℕ, List, [], ◌∷◌, Some, slice_get}
 use Rattle.std.proofs.Common.{refl, sym, ap, ◌∙◌, subst, inl, inr}
 use Rattle.std.proofs.lemmas.Option.{none-some}
 use mathlib.Core.List.{IsPrefix}
+use Rattle.ir_model.specs.declared.Hop.{Hop}
 use Rattle.ir_core.specs.declared.event.Verdict.{Verdict}
 use Rattle.ir_core.specs.declared.event.Verdict.TheVariants.{CameByDown, BelowFloor, Arrives, LeavesByDown, NoRoom, GoesOn}
 use Rattle.ir_core.specs.declared.packet.Fate.{Fate}
@@ -21,7 +22,7 @@ use Rattle.ir_worker.specs.Account.{Head, head_of}
 use Rattle.ir_worker.specs.Acts.{CauseHolds}
 use Rattle.ir_worker.specs.Seen.{Parcel}
 use Rattle.ir_worker.specs.Turns.{board_in, restamp_in, IsTurn, AreTurns, HasSettled, HadCause}
-use Rattle.ir_worker.specs.Wires.{WasFullFor, WasFullBy}
+use Rattle.ir_worker.specs.Wires.{Out, WasFullFor, WasFullBy}
 use Rattle.ir_worker.proofs.Nodes.{head_with}
 
 module _ (was_full was_empty : Word Parcel) where
@@ -70,7 +71,7 @@ module _ (was_full was_empty : Word Parcel) where
   known_more a (turn ∷ turns) b made = prefix_trans (known a.reader) (known made.0.reader) (known b.reader) (known_more a turns made.0 made.1) made.2.later
 
   -- the fate is that of the verdict
-  full_by : (ports : _) (outs : _) (v : Verdict) (f : Fate) → fate_of v ≡ f → WasFullFor was_full ports outs v → WasFullBy was_full ports outs f
+  full_by : (ports : List Hop) (outs : List Out) (v : Verdict) (f : Fate) → fate_of v ≡ f → WasFullFor was_full ports outs v → WasFullBy was_full ports outs f
   full_by ports outs v f same full = subst (λ (f : Fate). WasFullBy was_full ports outs f) same (by_case v full)
     where
       by_case : (v : Verdict) → WasFullFor was_full ports outs v → WasFullBy was_full ports outs (fate_of v)
