@@ -79,7 +79,7 @@ module _ (was_full was_empty : Word Parcel) where
       by_case BelowFloor full = tt
       by_case Arrives full = tt
       by_case (LeavesByDown l) full = tt
-      by_case (NoRoom h) full = full
+      by_case (NoRoom h) full = (h, full, refl, refl)
       by_case (GoesOn h) full = tt
 
   pub had_cause : (entries : List Entry) (a b : Node) (r : Record) → HasSettled was_full was_empty a b r → IsPrefix (known b.reader) entries → HadCause was_full was_empty entries a b r

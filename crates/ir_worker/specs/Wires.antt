@@ -56,9 +56,9 @@ WasFullFor was_full ports outs Arrives = Unit {0}
 WasFullFor was_full ports outs (LeavesByDown l) = Unit {0}
 WasFullFor was_full ports outs (GoesOn h) = Unit {0}
 
--- where a fate says that there was no room, so it was with the channel of the port of this link to this node
+-- where a fate says that there was no room, so it was with the channel of a port of this link to this node
 abbrev pub WasFullBy : Word Parcel → List Hop → List Out → Fate → Type 0
-WasFullBy was_full ports outs (Full l node) = WasFullFor was_full ports outs (NoRoom (record { node = node; link = l }))
+WasFullBy was_full ports outs (Full l node) = (h : Hop) × WasFullFor was_full ports outs (NoRoom h) × (h.link ≡ l) × (h.node ≡ node)
 WasFullBy was_full ports outs Delivered = Unit {0}
 WasFullBy was_full ports outs Retired = Unit {0}
 WasFullBy was_full ports outs (Down l) = Unit {0}
