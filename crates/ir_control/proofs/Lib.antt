@@ -15,3 +15,5 @@ pub mod Few
 pub mod Returned
 pub mod Slotted
 pub mod Restamped
+pub mod Picked
+pub mod Determined

@@ -112,6 +112,9 @@ entry_ends registry net o opening restamps capacity inboxes are outs same = reco
 pub outs_unsent : (lines : List (Channel Place)) (first n : ℕ) (outs : List (Sender Place Parcel)) → AreOutsAt lines first n outs → All (λ s. s.sent ≡ []) outs
 outs_unsent lines first n outs at = λ k d lt. (at.each k (get_or outs k d) (slice_get-get_or outs k d lt)).1
 
+pub ins_untaken : (lines : List (Channel Place)) (peers : List ℕ) (first n : ℕ) (ins : List (Taker Place Parcel)) → AreInsAt lines peers first n ins → All (λ t. t.taken ≡ []) ins
+ins_untaken lines peers first n ins at = λ k d lt. (at.each k (get_or ins k d) (slice_get-get_or ins k d lt)).1
+
 pub none_sent : (w : Record → ℕ) (outs : List (Sender Place Parcel)) → All (λ s. s.sent ≡ []) outs → weigh_sent w outs ≡ 0
 none_sent w outs all = sum_nothing (λ (s : Sender Place Parcel). weigh w s.sent) outs
     (λ q s got. subst (λ (y : Sender Place Parcel). weigh w y.sent ≡ 0) (get_or_from_slice_get outs q s s got) (ap (weigh w) (all q s (slice_get_within outs q s got))))

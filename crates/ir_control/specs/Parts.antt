@@ -48,8 +48,11 @@ pub record AreFirstNodes (net : Net) (count : ℕ) (nodes : List Node) : Type 0 
   pub count_is : length nodes ≡ count
   pub each : (u : ℕ) (n : Node) → slice_get nodes u ≡ Some n → IsNodeOf net n × (n.index ≡ u)
 
--- A node as it is handed out: it has settled nothing, takes from its inbox first, and has read these entries of the board.
+-- A node as it is handed out: it has taken, sent and settled nothing, takes from its inbox first, and has read these entries of the board.
 pub record IsFreshNode (entries : List Entry) (n : Node) : Type 0 where
+  pub inbox_untaken : n.entrances.inbox.taken ≡ []
+  pub untaken : All (λ t. t.taken ≡ []) n.entrances.ports.items
+  pub unsent : All (λ s. s.sent ≡ []) n.outs.items
   pub unsettled : n.outcomes.items ≡ []
   pub inbox_first : n.entrances.next ≡ 0
   pub has_read : known n.reader ≡ entries
@@ -61,6 +64,7 @@ pub record AreFreshParts {R : Type 0} (net : Net) (nodes : List Node) (injector 
   pub fresh_nodes : All (IsFreshNode (Opened (length net.topology.links) net.opening ∷ [])) nodes
   pub injector_of : IsInjectorOf net injector
   pub nothing : injector.accepted.items ≡ []
+  pub unsent : All (λ s. s.sent ≡ []) injector.outs.items
   pub learnt : injector.newest ≡ net.opening
   pub controller_opening : controller.opening ≡ net.opening
   pub controller_labels : controller.labels ≡ net.labels

@@ -6,6 +6,7 @@ mod controller;
 mod ends;
 mod gathering;
 mod injector;
+mod laws;
 mod leaving;
 mod net;
 mod outcomes;
@@ -18,6 +19,7 @@ mod settling;
 
 pub use controller::Controller;
 pub use injector::{Accepted, Injector};
+pub use laws::report_is_determined;
 pub use net::{Net, Parts};
 pub use report::{FinishError, Report};
 pub use reporting::finish;

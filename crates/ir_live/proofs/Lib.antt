@@ -7,3 +7,4 @@ pub mod Lived
 pub mod Agreement
 pub mod Asked
 pub mod Epochs
+pub mod Causes

@@ -45,7 +45,9 @@ use Rattle.ir_epochs.specs.declared.error.BoardError.{BoardError}
 use Rattle.ir_epochs.specs.declared.error.BoardError.TheVariants as board
 use Rattle.ir_live.specs.Runs.{IsNetRun, IsStopped, live_error, parts_error}
 use Rattle.ir_live.proofs.Accepting.{same_injector, injector_kept, accepted_are}
+use Rattle.ir_live.proofs.Causes.{causes_are}
 use Rattle.ir_live.proofs.Handed.{first_back, same_back, turned_back, all_there}
+use Rattle.ir_control.specs.declared.injector.Injector.{Injector}
 
 pub given : {A : Type 0} (P : A → Type 0) (o : Option A) (x : A) → o ≡ Some x → IfSome o P → P x
 given {A} P o x is h = subst (λ (z : Option A). IfSome z P) is h
@@ -115,7 +117,7 @@ module _ (was_full was_empty : Word Parcel) (may_end : ℕ → ℕ → Type 0) {
   never_published : NeverCurrent beside (published run.desk.controller.writer)
   never_published = never_all was_full beside commands opened run.desk done.answers done.carried_out (none_beside whole (stamps_in done.answers) there.1) (never_first net nodes opened fresh beside (ap not opening_there))
 
-  module _ (came_back : Node → Type 0) (live : Live) (report : IsReport net (map (λ (b : Node × Option NoMemory). b.0) run.back.items) run.desk.injector live.report)
+  module _ (came_back : Node → Type 0) (was_closed : Injector → Type 0) (live : Live) (report : IsReport net (map (λ (b : Node × Option NoMemory). b.0) run.back.items) run.desk.injector live.report)
       (read : All (λ n. IsPrefix (known n.reader) (published run.desk.controller.writer)) (map (λ (b : Node × Option NoMemory). b.0) run.back.items))
       (first : All (λ s. Agrees run.stamps.items s) live.report.stamps.items) (later : All (λ row. All (λ s. Agrees run.stamps.items s) row.items) live.report.later.items) where
     never_read : (k : ℕ) (n : Node) → slice_get back k ≡ Some n → NeverCurrent beside (known n.reader)
@@ -140,38 +142,42 @@ module _ (was_full was_empty : Word Parcel) (may_end : ℕ → ℕ → Type 0) {
         (λ k o got. sound_by_plans whole net.restamps (stamps_of o.stamp o.later.items) o.packet (at_all IsSoundOutcome report.outcomes report.sound k o got).1
         (at_all (λ (o : Outcome). length o.packet.restamps ≤ net.restamps) report.outcomes report.few k o got) (agree k o got) (first_there k o got) (restamps_there k o got)))
 
-    is_live : live.refusals ≡ run.refusals → All (λ b. b.1 ≡ None) run.back.items → All came_back back → IsLive B was_full was_empty may_end came_back net commands live
-    is_live told served shown = record {
-      first = nodes;
-      opened = opened;
-      handed_out = fresh;
-      answers = done.answers;
-      closed = run.desk;
-      carried_out = done.carried_out;
-      refusals = ap (λ xs. xs.items) told ∙ done.refusals;
-      accepted = accepted;
-      last = map (λ (b : Node × Option NoMemory). b.0) run.back.items;
-      same_nodes = came;
-      turned = turned_back net (node_count net.topology) was_full was_empty may_end nodes run.back.items fresh.nodes_are done.came_back served;
-      shown = shown;
-      read = read;
-      nodes_of = first_apart net (node_count net.topology) (map (λ (b : Node × Option NoMemory). b.0) run.back.items) nodes_back;
-      all_there = all_there net (node_count net.topology) (map (λ (b : Node × Option NoMemory). b.0) run.back.items) nodes_back;
-      injector_of = injector_back;
-      report = report;
-      plans = planned whole;
-      plans_are = ap (λ (e : ℕ). let p : Planned = record { epoch = e; plan = first_plan net } in p ∷ planned (stamps_in done.answers)) net.opened.epoch;
-      asked = all_asked net opened.controller was_full commands (replicate (length net.topology.links) true) 1 opened run.desk done.answers done.carried_out stands;
-      sound = sound;
-    }
+    is_live : was_closed run.desk.injector → live.refusals ≡ run.refusals → All (λ b. b.1 ≡ None) run.back.items → All came_back back → IsLive B was_full was_empty may_end came_back was_closed net commands live
+    is_live closed told served shown =
+        let turned = turned_back net (node_count net.topology) was_full was_empty may_end nodes run.back.items fresh.nodes_are done.came_back served in
+        record {
+          first = nodes;
+          opened = opened;
+          handed_out = fresh;
+          answers = done.answers;
+          closed = run.desk;
+          carried_out = done.carried_out;
+          refusals = ap (λ xs. xs.items) told ∙ done.refusals;
+          injector_shown = closed;
+          accepted = accepted;
+          last = map (λ (b : Node × Option NoMemory). b.0) run.back.items;
+          same_nodes = came;
+          turned = turned;
+          shown = shown;
+          read = read;
+          nodes_of = first_apart net (node_count net.topology) (map (λ (b : Node × Option NoMemory). b.0) run.back.items) nodes_back;
+          all_there = all_there net (node_count net.topology) (map (λ (b : Node × Option NoMemory). b.0) run.back.items) nodes_back;
+          injector_of = injector_back;
+          report = report;
+          causes = causes_are was_full was_empty may_end net nodes back run.desk.injector live.report _ (published run.desk.controller.writer) came.count fresh.fresh_nodes turned read report;
+          plans = planned whole;
+          plans_are = ap (λ (e : ℕ). let p : Planned = record { epoch = e; plan = first_plan net } in p ∷ planned (stamps_in done.answers)) net.opened.epoch;
+          asked = all_asked net opened.controller was_full commands (replicate (length net.topology.links) true) 1 opened run.desk done.answers done.carried_out stands;
+          sound = sound;
+        }
 
-  pub lived : (came_back : Node → Type 0) (result : Result Live LiveError) →
+  pub lived : (came_back : Node → Type 0) (was_closed : Injector → Type 0) → was_closed run.desk.injector → (result : Result Live LiveError) →
       IfOk result (λ live. IsReport net (map (λ (b : Node × Option NoMemory). b.0) run.back.items) run.desk.injector live.report) →
       IfOk result (λ _. All (λ n. IsPrefix (known n.reader) (published run.desk.controller.writer)) (map (λ (b : Node × Option NoMemory). b.0) run.back.items)) →
       IfOk result (λ live. All (λ s. Agrees run.stamps.items s) live.report.stamps.items) →
       IfOk result (λ live. All (λ row. All (λ s. Agrees run.stamps.items s) row.items) live.report.later.items) →
       IfOk result (λ live. live.refusals ≡ run.refusals) → IfOk result (λ _. All (λ b. b.1 ≡ None) run.back.items) →
       IfOk result (λ _. All came_back (map (λ (b : Node × Option NoMemory). b.0) run.back.items)) →
-      IfOk result (λ live. IsLive B was_full was_empty may_end came_back net commands live)
-  lived came_back (Ok live) report read first later told served shown = is_live came_back live report read first later told served shown
-  lived came_back (Err e) report read first later told served shown = tt
+      IfOk result (λ live. IsLive B was_full was_empty may_end came_back was_closed net commands live)
+  lived came_back was_closed closed (Ok live) report read first later told served shown = is_live came_back was_closed live report read first later closed told served shown
+  lived came_back was_closed closed (Err e) report read first later told served shown = tt

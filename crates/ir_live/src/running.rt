@@ -118,10 +118,10 @@ fn reported<R: Wait, S: Starter, B: Wait + Drop>(
 }
 
 /// Starts a thread for each node of a net, which runs `serve`, unless the starter says no; carries out the commands in
-/// order, where the injector learns of each install at once; then lets the nodes end, waits until each has come back, and
-/// reports what came of each packet, once it has shown the starter each node. A refused command stands among the refusals,
-/// and the run goes on. It lets the nodes end by the flag, which it sets. Where others set it before, nodes that do not sleep
-/// end sooner.
+/// order, where the injector learns of each install at once, and shows the starter the injector; then lets the nodes end,
+/// waits until each has come back, shows the starter each, and reports what came of each packet. A refused command stands
+/// among the refusals, and the run goes on. It lets the nodes end by the flag, which it sets. Where others set it before,
+/// nodes that do not sleep end sooner.
 ///
 /// A packet is refused for a full inbox only where the push of its inject was refused.
 ///
@@ -138,7 +138,8 @@ pub fn run_live<R: Threads + Moments<Parcel> + Sync, G: Gate, F: Flag, S: Starte
     starter: &S,
 ) -> Result<Live, LiveError>
     ensures live { IfOk result (λ live. IsLive (Bor R) R.was_full R.was_empty
-        (MayEnd F.seen G.barred stop.now gate.now) (S.came_back starter.now) net.now commands.now live) }
+        (MayEnd F.seen G.barred stop.now gate.now) (S.came_back starter.now) (S.was_closed starter.now)
+        net.now commands.now live) }
     ensures refused { IfErr result (λ error. IsRefusal S.unstarted net.now starter.now error) }
 {
     let given = match net.parts(rt) {

@@ -52,8 +52,8 @@ fn serve_and_tell<R: Moments<Parcel>, G: Gate, F: Flag>(
     back
 }
 
-/// Starts a thread for each node, carries out the commands, sets the flag that lets the nodes end, and waits until each has
-/// come back.
+/// Starts a thread for each node, carries out the commands, shows the starter the injector, sets the flag that lets the
+/// nodes end, and waits until each has come back.
 pub(crate) fn run_nodes<
     R: Threads + Moments<Parcel> + Sync,
     G: Gate,
@@ -73,6 +73,7 @@ pub(crate) fn run_nodes<
 ) -> Result<Run<B>, NotRun>
     ensures run { IfOk result (λ run. IsNetRun R.was_full R.was_empty (MayEnd F.seen G.barred stop.now gate.now)
         net.now.opening nodes.items desk commands.now run) }
+    ensures closed { IfOk result (λ run. S.was_closed starter.now run.desk.injector) }
     ensures stopped { IfErr result (λ why. IsStopped S.unstarted starter.now nodes.items why) }
 {
     let ended = AtomicBool::new(false);
@@ -88,6 +89,7 @@ pub(crate) fn run_nodes<
             ensures run { IfOk result (λ run. IsNetRun R.was_full R.was_empty
                 (MayEnd F.seen G.barred stop.entry.now gate.entry.now) net.entry.now.opening nodes.items
                 desk commands.entry.now run) }
+            ensures closed { IfOk result (λ run. S.was_closed starter.entry.now run.desk.injector) }
             ensures stopped { IfErr result (λ why. IsStopped S.unstarted starter.entry.now nodes.items why) }
         {
             let mut desk = desk;
@@ -121,6 +123,7 @@ pub(crate) fn run_nodes<
                 };
             }
             let told = carry_out_all(rt, alloc, net, ended, bells, &mut desk, commands);
+            starter.closes(&desk.injector);
             stop.set();
             bells.ring_all();
             let Ok((refusals, stamps)) = told else {

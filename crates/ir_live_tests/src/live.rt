@@ -1,6 +1,6 @@
 //! Live runs: over the path a, b, c, and of nodes that wait for one another.
 use crate::by_hand::{Became, network, opened, path, tells_all};
-use ir_control::Net;
+use ir_control::{Injector, Net};
 use ir_core::{Fate, Kind, Refused};
 use ir_live::{Command, Every, Live, LiveError, Starter, run_live};
 use ir_worker::{Gate, Node};
@@ -41,11 +41,15 @@ impl Starter for AllBut {
 
     ghost came_back = { λ _ _. Unit {0} };
 
+    ghost was_closed = { λ _ _. Unit {0} };
+
     fn starts(&self, node: u16) -> bool {
         node != self.0
     }
 
     fn refused<F: Drop>(&self, _node: u16, _error: SpawnError<F>) {}
+
+    fn closes(&self, _injector: &Injector) {}
 
     fn takes_back(&self, _node: &Node) {}
 }

@@ -21,6 +21,7 @@ use Rattle.ir_core.specs.Refusals.{inject_refused}
 use Rattle.ir_core.specs.declared.event.OpenError.TheVariants.{Empty, TooLarge}
 use Rattle.ir_core.specs.declared.event.OpenError.TheVariants as openings
 use Rattle.ir_core.specs.declared.opening.Opening.{Opening}
+use Rattle.ir_control.specs.declared.injector.Injector.{Injector}
 use Rattle.ir_control.specs.declared.net.Net.{Net}
 use Rattle.ir_control.specs.Heads.{head_at}
 use Rattle.ir_control.specs.Reports.{IsSoundOutcome}
@@ -112,9 +113,9 @@ all_at : {X : Type 0} (P : X → Type 0) (xs : List X) (i : ℕ) (x : X) → All
 all_at P xs i x all at = subst P (get_or_from_slice_get xs i x x at) (all i x (slice_get_within xs i x at))
 
 -- each record of a live run can be written over the network of its net's opening
-pub live_records : (was_full was_empty : Word Parcel) (may_end : ℕ → ℕ → Type 0) (came_back : Node → Type 0) {B : Type 0} (net : Net) (commands : List Command) (live : Live) → IsLive B was_full was_empty may_end came_back net commands live → (over : Topology) → IsTopology over → node_count over ≤ MAX_NODES → (knows net.opening).topology ≡ over
+pub live_records : (was_full was_empty : Word Parcel) (may_end : ℕ → ℕ → Type 0) (came_back : Node → Type 0) (was_closed : Injector → Type 0) {B : Type 0} (net : Net) (commands : List Command) (live : Live) → IsLive B was_full was_empty may_end came_back was_closed net commands live → (over : Topology) → IsTopology over → node_count over ≤ MAX_NODES → (knows net.opening).topology ≡ over
     → HaveSegments over live.report.records.items
-live_records was_full was_empty may_end came_back net commands live is over ok few opening i r at =
+live_records was_full was_empty may_end came_back was_closed net commands live is over ok few opening i r at =
     let found = of_outcome is.report.outcomes i r (ap (λ (rs : List Record). slice_get rs i) (sym is.report.records) ∙ at) in
     let o = found.0 in
     let there = found.1 in

@@ -55,7 +55,7 @@ pub record IsLiveRun (B : Type 0) (was_full was_empty : Word Parcel) (g : Adjace
   pub net : Net
   pub live : Live
   pub opened : IsOpenedNet g words root net
-  pub ran : IsLive B was_full was_empty ends_somewhere (λ _. Unit {0}) net script.steps live
+  pub ran : IsLive B was_full was_empty ends_somewhere (λ _. Unit {0}) (λ _. Unit {0}) net script.steps live
   pub in_memory : list_any is_for_memory live.refusals.items ≡ false
   pub trace : text ≡ run_text words.restamps (names g) (topology_of_graph g) live.report.records.items
   pub told : refused ≡ refusals_text script.lines live.refusals.items

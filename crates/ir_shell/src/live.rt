@@ -103,8 +103,8 @@ fn run_open<T: Threads + Moments<Parcel> + Sync>(
     net: &Net,
     commands: &[Command],
 ) -> Result<Live, LiveError>
-    ensures { IfOk result (λ live. IsLive (Bor T) T.was_full T.was_empty ends_somewhere (λ _. Unit {0}) net.now
-        commands.now live) }
+    ensures { IfOk result (λ live. IsLive (Bor T) T.was_full T.was_empty ends_somewhere (λ _. Unit {0})
+        (λ _. Unit {0}) net.now commands.now live) }
 {
     let stop = AtomicBool::new(false);
     run_live(rt, alloc, net, commands, &Open, &stop, &Every)

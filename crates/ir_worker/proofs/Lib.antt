@@ -6,4 +6,5 @@ pub mod Nodes
 pub mod Restamps
 pub mod Routes
 pub mod Serves
+pub mod Settlings
 pub mod Ways

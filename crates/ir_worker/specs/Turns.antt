@@ -6,8 +6,9 @@ use Rattle.ir_core.specs.declared.board.Board.{Board}
 use Rattle.ir_core.specs.declared.event.Way.{Way}
 use Rattle.ir_core.specs.declared.event.Verdict.{Verdict}
 use Rattle.ir_core.specs.declared.event.Verdict.TheVariants.{Arrives}
-use Rattle.ir_core.specs.Record.{stamp_of}
+use Rattle.ir_core.specs.Record.{Record, stamp_of}
 use Rattle.ir_links.specs.Ends.{Word}
+use Rattle.ir_epochs.specs.declared.entry.Entry.{Entry}
 use Rattle.ir_epochs.specs.declared.registry.Stamp.{Stamp}
 use Rattle.ir_epochs.specs.Entries.{board_of, Rises, IsCurrent}
 use Rattle.ir_epochs.specs.Handles.{known}
@@ -18,7 +19,7 @@ use Rattle.ir_worker.specs.declared.node.Turn.TheVariants.{Idle, Sent, Settled}
 use Rattle.ir_worker.specs.declared.serving.NoMemory.{NoMemory}
 use Rattle.ir_worker.specs.Seen.{Parcel}
 use Rattle.ir_worker.specs.Acts.{restamp_on, with_restamp, way_then, GoesOnAs, SettlesAs, CauseHolds}
-use Rattle.ir_worker.specs.Wires.{way_after, TookAt, IsWayAt, SentOver, WasFullFor, WasEmptyAt}
+use Rattle.ir_worker.specs.Wires.{way_after, TookAt, IsWayAt, SentOver, WasFullFor, WasFullBy, WasEmptyAt}
 use Rattle.ir_worker.specs.Same.{IsSameNode}
 
 -- the board of what the node has read or learnt
@@ -125,3 +126,22 @@ module _ (was_full was_empty : Word Parcel) where
   abbrev pub HasServed : (ℕ → ℕ → Type 0) → Node → Node → Option NoMemory → Type 0
   HasServed may_end a b short =
       (turns : List Turn) × MatchOption short (AreTurns a turns b × may_end a.index (length turns)) (λ _. (m : Node) × AreTurns a turns m × IsUntouched m b)
+
+  -- From a to b the node made turns, then one that settled the packet of this record, as the record tells it, and then others.
+  pub record HasSettled (a b : Node) (r : Record) : Type 0 where
+    pub earlier : List Turn
+    pub before : Node
+    pub made_earlier : AreTurns a earlier before
+    pub after : Node
+    pub turn : IsTurn before after (Settled r.id)
+    pub told : turn.does.outcome.packet ≡ r
+    pub later : List Turn
+    pub made_later : AreTurns after later b
+
+  -- From a to b the node settled the packet of this record, and the cause that its fate names held: on the board that the node read
+  -- in that turn, which is the board of a beginning of these entries; or, where the fate is Full, the push of that turn was refused.
+  pub record HadCause (entries : List Entry) (a b : Node) (r : Record) : Type 0 where
+    pub settled : HasSettled a b r
+    pub read : IsPrefix (known settled.after.reader) entries
+    pub held : CauseHolds (board_in settled.after) r r.fate
+    pub full : WasFullBy was_full settled.before.ports.items settled.before.outs.items r.fate

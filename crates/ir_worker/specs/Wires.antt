@@ -7,6 +7,8 @@ use Rattle.ir_core.specs.declared.event.Way.{Way}
 use Rattle.ir_core.specs.declared.event.Way.TheVariants.{Inbox, Link}
 use Rattle.ir_core.specs.declared.event.Verdict.{Verdict}
 use Rattle.ir_core.specs.declared.event.Verdict.TheVariants.{CameByDown, BelowFloor, Arrives, LeavesByDown, NoRoom, GoesOn}
+use Rattle.ir_core.specs.declared.packet.Fate.{Fate}
+use Rattle.ir_core.specs.declared.packet.Fate.TheVariants.{Delivered, Retired, Down, Full, Left}
 use Rattle.ir_links.specs.Ends.{Sender, Taker, Word, WasRefused, FoundNone}
 use Rattle.ir_epochs.specs.declared.registry.Stamp.{Stamp}
 use Rattle.ir_epochs.specs.Stamps.{knows}
@@ -53,6 +55,14 @@ WasFullFor was_full ports outs BelowFloor = Unit {0}
 WasFullFor was_full ports outs Arrives = Unit {0}
 WasFullFor was_full ports outs (LeavesByDown l) = Unit {0}
 WasFullFor was_full ports outs (GoesOn h) = Unit {0}
+
+-- where a fate says that there was no room, so it was with the channel of a port of this link to this node
+abbrev pub WasFullBy : Word Parcel → List Hop → List Out → Fate → Type 0
+WasFullBy was_full ports outs (Full l node) = (h : Hop) × WasFullFor was_full ports outs (NoRoom h) × (h.link ≡ l) × (h.node ≡ node)
+WasFullBy was_full ports outs Delivered = Unit {0}
+WasFullBy was_full ports outs Retired = Unit {0}
+WasFullBy was_full ports outs (Down l) = Unit {0}
+WasFullBy was_full ports outs Left = Unit {0}
 
 -- The pop of way k was refused, whose channel was empty then: the inbox is way 0, and port j is way j + 1.
 abbrev pub WasEmptyAt : Word Parcel → In → List In → ℕ → Type 0

@@ -21,7 +21,7 @@ reported-requires-clause-registry g c =
 pub returns-in-Ok-run_nodes-clause-live : goal.returns-in-Ok-run_nodes-clause-live
 returns-in-Ok-run_nodes-clause-live g c =
     lived g.R.Moments.was_full g.R.Moments.was_empty (MayEnd g.F.Flag.seen g.G.Gate.barred c.args.stop.now c.args.gate.now) c.args.net.now c.in-Some.parts.nodes.items _ c.args.commands.now c.in-Ok-run_nodes.run' (given _ c.in-Ok.given c.in-Some.parts c.in-Some.is c.in-Ok.ensures) c.in-Ok-run_nodes.ensures.run
-    (g.S.Starter.came_back c.args.starter.now) c.reported.result c.reported.ensures.report c.reported.ensures.read c.reported.ensures.first c.reported.ensures.later c.reported.ensures.refusals c.reported.ensures.served c.reported.ensures.shown
+    (g.S.Starter.came_back c.args.starter.now) (g.S.Starter.was_closed c.args.starter.now) c.in-Ok-run_nodes.ensures.closed c.reported.result c.reported.ensures.report c.reported.ensures.read c.reported.ensures.first c.reported.ensures.later c.reported.ensures.refusals c.reported.ensures.served c.reported.ensures.shown
 
 pub returns-in-Err-clause-refused : goal.returns-in-Err-clause-refused
 returns-in-Err-clause-refused g c = parts_refused g.S.Starter.unstarted c.args.net.now c.args.starter.now c.in-Err.error c.no_parts.result c.no_parts.ensures

@@ -16,7 +16,7 @@ live_texts-requires-clause-records g c =
     let over : (knows c.args.net.now.opening).topology ≡ c.args.asked.now.topology = c.requires.opened.opened.first.2 ∙ sym c.requires.over in
     let w = c.args.words.now in
     let few : node_count c.args.asked.now.topology ≤ MAX_NODES = subst (λ (n : Topology). node_count n ≤ MAX_NODES) (sym c.requires.over) (few_nodes (opening_by w (topology_of_graph c.args.asked.now.graph) c.args.asked.now.root) c.requires.opened.accepted) in
-    live_records g.T.Moments.was_full g.T.Moments.was_empty ends_somewhere (λ _. Unit {0}) c.args.net.now c.steps.result.now c.in-Ok.live c.in-Ok.ensures c.args.asked.now.topology c.nodes-nodes.ensures.topology few over
+    live_records g.T.Moments.was_full g.T.Moments.was_empty ends_somewhere (λ _. Unit {0}) (λ _. Unit {0}) c.args.net.now c.steps.result.now c.in-Ok.live c.in-Ok.ensures c.args.asked.now.topology c.nodes-nodes.ensures.topology few over
 
 pub returns-in_ok-trace-in-Ok : goal.returns-in_ok-trace-in-Ok
 returns-in_ok-trace-in-Ok g c =
@@ -26,7 +26,7 @@ returns-in_ok-trace-in-Ok g c =
       net = c.args.net.now;
       live = c.in-Ok.live;
       opened = c.requires.opened;
-      ran = subst (λ commands. IsLive _ g.T.Moments.was_full g.T.Moments.was_empty ends_somewhere (λ _. Unit {0}) c.args.net.now commands c.in-Ok.live) c.steps.ensures.steps c.in-Ok.ensures;
+      ran = subst (λ commands. IsLive _ g.T.Moments.was_full g.T.Moments.was_empty ends_somewhere (λ _. Unit {0}) (λ _. Unit {0}) c.args.net.now commands c.in-Ok.live) c.steps.ensures.steps c.in-Ok.ensures;
       in_memory = c.in_ok-trace-in-Ok.ensures.in_memory;
       trace = c.in_ok-trace-in-Ok.ensures.trace ∙ ap (λ (n : Topology). run_text w.restamps (names c.args.asked.now.graph) n records) c.requires.over;
       told = c.in_ok-trace-in-Ok.ensures.told ∙ ap (λ lines. refusals_text lines c.in-Ok.live.refusals.items) c.lines.ensures.lines;

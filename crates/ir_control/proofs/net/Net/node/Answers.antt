@@ -1,4 +1,4 @@
-use Rattle.std.specs.Prelude.{ℕ, List, length}
+use Rattle.std.specs.Prelude.{◌≡◌, ℕ, List, [], All, length}
 use Rattle.std.proofs.Common.{arith, sym, ap, ◌∙◌, subst, refl}
 use Rattle.std.specs.Arc.{arc_value}
 use Rattle.ir_model.specs.declared.Hop.{Hop}
@@ -6,7 +6,10 @@ use Rattle.ir_epochs.specs.Handles.{known, reader_board}
 use Rattle.ir_control.specs.Fresh.{AreInsAt}
 use Rattle.ir_epochs.specs.declared.registry.Stamp.{Stamp}
 use Rattle.ir_worker.specs.Wires.{AreEndsOf}
-use Rattle.ir_control.proofs.Wiring.{fits_ways, ends_of, fresh_even, node_of}
+use Rattle.ir_links.specs.Ends.{Sender, Taker}
+use Rattle.ir_worker.specs.declared.parcel.Place.{Place}
+use Rattle.ir_worker.specs.Seen.{Parcel}
+use Rattle.ir_control.proofs.Wiring.{fits_ways, ends_of, fresh_even, ins_untaken, node_of, outs_unsent}
 use Rattle.ir_control.proofs.net.Net.node.Goals as goal
 
 pub outs_of-requires-clause-within : goal.outs_of-requires-clause-within
@@ -61,5 +64,17 @@ returns-clause-node c =
 
 pub returns-clause-fresh : goal.returns-clause-fresh
 returns-clause-fresh c =
+    let outs_at = rw c.in-Some.is at c.in_ok-outs.ensures.outs in
+    let ins_at = rw c.in-Some-2.is at c.in_ok-ins.ensures.ins in
     let start = c.new.ensures.start in
-    record { unsettled = start.1; inbox_first = start.0; has_read = ap known c.new.ensures.node.5 }
+    let e = c.new.ensures.ends in
+    record {
+      inbox_untaken = ap (λ (t : Taker Place Parcel). t.taken) e.0 ∙ c.requires.inbox_new;
+      untaken = subst (λ (ts : List (Taker Place Parcel)). All (λ t. t.taken ≡ []) ts) (sym (ap (λ v. v.items) e.1))
+          (ins_untaken c.args.self.now.ways.items _ c.args.first (length c.ports-degree.result.now) c.in-Some-2.ins.items ins_at);
+      unsent = subst (λ (xs : List (Sender Place Parcel)). All (λ s. s.sent ≡ []) xs) (sym (ap (λ v. v.items) e.2))
+          (outs_unsent c.args.self.now.ways.items c.args.first (length c.ports-degree.result.now) c.in-Some.outs.items outs_at);
+      unsettled = start.1;
+      inbox_first = start.0;
+      has_read = ap known c.new.ensures.node.5;
+    }

@@ -1,4 +1,7 @@
-use Rattle.std.specs.Prelude.{List, All}
+use Rattle.std.specs.Prelude.{◌≡◌, List, [], All}
+use Rattle.ir_links.specs.Ends.{Sender}
+use Rattle.ir_worker.specs.declared.parcel.Place.{Place}
+use Rattle.ir_worker.specs.Seen.{Parcel}
 use Rattle.ir_epochs.specs.declared.entry.Entry.{Entry}
 use Rattle.ir_control.specs.Parts.{IsFreshNode}
 use Rattle.ir_epochs.specs.Handles.{published, writer_board}
@@ -37,6 +40,7 @@ returns g c =
         most = made.2;
       };
       nothing = made.4;
+      unsent = subst (λ (xs : List (Sender Place Parcel)). All (λ s. s.sent ≡ []) xs) (sym (ap (λ v. v.items) made.3)) (outs_unsent c.args.self.now.inboxes.items 0 c.nodes-nodes.result c.in-Some-2.outs.items outs_at);
       learnt = made.1;
       controller_opening = control.0;
       controller_labels = control.4;

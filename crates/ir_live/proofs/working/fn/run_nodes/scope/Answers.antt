@@ -28,13 +28,13 @@ pub returns-then-not-starts : goal.returns-then-not-starts
 returns-then-not-starts g c =
     let turn = YieldsList-turn (YieldsList-from_vec {s = c.into_iter-node-iterator.result} c.captures.nodes.items (search rules) (search rules))
     c.loop-node.yielded c.loop-node.node-iterator c.loop-node.yielded_by c.next.result c.next.new.self c.in-Some.node c.in-Some.is c.next.ensures.steps in
-    record { run = tt; stopped = (length c.loop-node.yielded, c.in-Some.node, taken c.captures.nodes.items (length c.loop-node.yielded) c.in-Some.node turn, subst (λ (u : ℕ). g.S.Starter.unstarted c.captures.starter.now u) c.index-index.ensures (c.if-not-starts.ensures refl)) }
+    record { run = tt; closed = tt; stopped = (length c.loop-node.yielded, c.in-Some.node, taken c.captures.nodes.items (length c.loop-node.yielded) c.in-Some.node turn, subst (λ (u : ℕ). g.S.Starter.unstarted c.captures.starter.now u) c.index-index.ensures (c.if-not-starts.ensures refl)) }
 
 pub returns-in-Err : goal.returns-in-Err
 returns-in-Err g c =
     let turn = YieldsList-turn (YieldsList-from_vec {s = c.into_iter-node-iterator.result} c.captures.nodes.items (search rules) (search rules))
     c.loop-node.yielded c.loop-node.node-iterator c.loop-node.yielded_by c.next.result c.next.new.self c.in-Some.node c.in-Some.is c.next.ensures.steps in
-    record { run = tt; stopped = (length c.loop-node.yielded, c.in-Some.node, taken c.captures.nodes.items (length c.loop-node.yielded) c.in-Some.node turn, subst (λ (u : ℕ). g.S.Starter.unstarted c.captures.starter.now u) c.index-index.ensures c.refused.ensures) }
+    record { run = tt; closed = tt; stopped = (length c.loop-node.yielded, c.in-Some.node, taken c.captures.nodes.items (length c.loop-node.yielded) c.in-Some.node turn, subst (λ (u : ℕ). g.S.Starter.unstarted c.captures.starter.now u) c.index-index.ensures c.refused.ensures) }
 
 pub returns : goal.returns
 returns g c =
@@ -60,5 +60,6 @@ returns g c =
         refusals = c.in-Ok-told.ensures.2;
         stamps = c.in-Ok-told.ensures.3;
       };
+      closed = c.closes.ensures;
       stopped = tt;
     }
