@@ -11,6 +11,7 @@ from .errors import (
     UnknownNodeError, WeightError,
 )
 from .graphs import scaled
+from .label_ranges import Range, check_ranges, ranges
 from .names import Names
 from .program import find as find_program
 from .texts import (
@@ -22,7 +23,8 @@ __version__ = "1.0.0"
 
 __all__ = [
     "BentzoluError", "DirectedGraphError", "FormatError", "Interval", "MultigraphError", "Names", "NodePlan", "Packet",
-    "Plan", "ProgramNotFoundError", "Refused", "RouteError", "Run", "Segment", "Stats", "StepError", "UnknownNodeError",
-    "Verdict", "Walk", "WalkStep", "WeightError", "Worst", "check", "draw", "find_program", "live", "names_of", "plan",
-    "read_plan", "read_stats", "read_trace", "read_walk", "scaled", "simulate", "stats", "walk", "write_trace",
+    "Plan", "ProgramNotFoundError", "Range", "Refused", "RouteError", "Run", "Segment", "Stats", "StepError",
+    "UnknownNodeError", "Verdict", "Walk", "WalkStep", "WeightError", "Worst", "check", "check_ranges", "draw",
+    "find_program", "live", "names_of", "plan", "ranges", "read_plan", "read_stats", "read_trace", "read_walk", "scaled",
+    "simulate", "stats", "walk", "write_trace",
 ]

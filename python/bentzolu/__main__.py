@@ -1,8 +1,12 @@
-"""`python -m bentzolu convert FILE`: a network in another format as a weighted edge list of `route`."""
+"""`python -m bentzolu convert FILE`: a network in another format as a weighted edge list of `route`.
+
+`python -m bentzolu lab TOPOLOGY`: a change of a network's plan in real packets of Linux.
+"""
 import argparse
 import pathlib
 import sys
 
+from . import lab
 from .convert import READERS, converted, format_of
 from .errors import BentzoluError
 
@@ -21,6 +25,8 @@ def words():
     convert.add_argument("--weight", metavar="NAME", help="the attribute that is the weight ('weight' where there is one), or 1 for 1 everywhere")
     convert.add_argument("-o", "--output", metavar="OUT", help="the file of the edge list; standard output by default")
     convert.add_argument("--names", metavar="TABLE", help="a file for the table of names: a line NAME, tab, node as JSON for each node")
+    convert.set_defaults(act=converting)
+    lab.add_words(commands)
     return parser
 
 
@@ -45,14 +51,19 @@ def convert(found):
     print(f"{format}: " + "; ".join(notes), file=sys.stderr)
 
 
-def main(arguments=None):
-    found = words().parse_args(arguments)
+def converting(found):
+    """Converts, and answers the status."""
     try:
         convert(found)
     except (BentzoluError, OSError) as error:
         print(f"bentzolu convert: {error}", file=sys.stderr)
         return 1
     return 0
+
+
+def main(arguments=None):
+    found = words().parse_args(arguments)
+    return found.act(found)
 
 
 if __name__ == "__main__":

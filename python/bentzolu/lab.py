@@ -1,0 +1,348 @@
+"""`python -m bentzolu lab TOPOLOGY`: a change of a network's plan in real packets of Linux, and a verdict on each packet."""
+import os
+import pathlib
+import random
+import signal
+import subprocess
+import sys
+import tempfile
+import time
+from dataclasses import dataclass
+from typing import List, Tuple
+
+from . import program as programs, texts
+from .errors import BentzoluError, RouteError
+from .lab_judge import Judge
+from .lab_net import LabError, Network, links_of, play, without_link
+from .lab_space import apart
+from .lab_traffic import Traffic
+from .label_ranges import check_ranges, ranges
+
+KINDS = ("tree", "shortest", "compact")
+MOST_NODES = 256
+MOST_LINKS_OF_A_WALK = 250  # hop limits start with 255
+PAUSE, PAUSE_IN_PLACE = 0.02, 0.1  # seconds between two nodes
+WAIT = 0.3  # seconds that packets of the old epoch have at least
+SCRIPTS = "/run/bentzolu"  # with --run; in the lab's own mounts
+
+ABOUT = """Builds a network of Linux's network namespaces, sends packets of UDP between all pairs of nodes and one
+connection of TCP, changes the plan of the network meanwhile from one epoch to the next, and tells of each packet whether it
+arrived, and by the walk of its epoch. Everything that it makes is gone when it ends, however it ends. It wants Linux, root,
+iproute2 and nftables, and the program route. Status 0: no packet was lost or mixed; 1: one was, or the lab cannot be built;
+2: the words were not understood."""
+
+
+def add_words(commands):
+    """Adds the words of `lab` to a parser's commands."""
+    parser = commands.add_parser("lab", help="changes a network's plan under real packets in Linux, and judges each of them", description=ABOUT)
+    parser.add_argument("topology", metavar="TOPOLOGY", help="a topology of route; a name that ends in .edgelist or .wel is an edge list's")
+    parser.add_argument("--kind", choices=KINDS, default="tree", help="the kind of the first plan (tree)")
+    parser.add_argument("--to", choices=KINDS, default="shortest", help="the kind of the second plan (shortest)")
+    parser.add_argument("--root", metavar="R", help="the root of both; the topology's first node by default")
+    parser.add_argument("--numbering", metavar="FILE", help="a file with the nodes in the order of their labels, for both; not with --root")
+    parser.add_argument("--rate", metavar="P", type=int, default=500, help="packets of UDP a second (500)")
+    parser.add_argument("--seconds", metavar="S", type=float, default=1, help="seconds of traffic before the change and behind it, at least (1)")
+    parser.add_argument("--seed", metavar="S", type=int, default=1, help="for the orders of nodes and pairs (1)")
+    parser.add_argument("--in-place", action="store_true", help="replaces the tables of the first epoch, node by node: packets get lost and mixed")
+    parser.add_argument("--down", nargs=2, metavar=("A", "B"), help="a link that goes down under traffic; the second plan goes without it")
+    parser.add_argument("--print", action="store_true", help="prints the script of the shell that builds and changes it, and touches nothing")
+    parser.add_argument("--run", metavar="COMMAND", help="in place of the traffic and the change: builds the first epoch and runs a command there, as bash")
+    parser.set_defaults(act=lambda found: main(found, parser))
+
+
+@dataclass
+class Phase:
+    """What is done at one node after the other: its name, the line of the report that tells it, pairs of a node and a
+    script, and the seconds between two."""
+
+    name: str
+    line: str
+    acts: List[Tuple[str, str]]
+    pause: float = PAUSE
+
+
+@dataclass
+class Lab:
+    """A network with two plans and what leads from one to the other."""
+
+    words: object
+    network: Network
+    plans: dict
+    build: Phase
+    opening: List[Phase]
+    failure: List[Phase]
+    change: List[Phase]
+    retirement: List[Phase]
+
+
+def read_topology(path):
+    """The text of a topology and its format."""
+    form = "edgelist" if path.endswith((".edgelist", ".wel")) else "adjlist"
+    try:
+        return (sys.stdin.read() if path == "-" else pathlib.Path(path).read_text(encoding="ascii", errors="replace")), form
+    except OSError as fault:
+        raise LabError(f"{path}: {fault.strerror}") from None
+
+
+def plan_of(text, form, kind, words, order=None):
+    """The plan of a topology, with an order of labels as text or without."""
+    with tempfile.TemporaryDirectory(prefix="bentzolu-") as folder:
+        if order is not None:
+            file = pathlib.Path(folder) / "order"
+            file.write_text(order)
+            words = ["--numbering", str(file)]
+        said, _ = programs.run(["plan", "--format", form, "--kind", kind, *words], [("topology", text)])
+    return texts.read_plan(said)
+
+
+def order_of(plan):
+    """The nodes of a plan in the order of their labels, a line each, as `--numbering FILE` of route takes it."""
+    return "".join(f"{node}\n" for node in sorted(plan.labels, key=plan.labels.get))
+
+
+def is_connected(nodes, links):
+    """Whether links connect all nodes."""
+    near = {node: set() for node in nodes}
+    for a, b in links:
+        near[a].add(b)
+        near[b].add(a)
+    reached, ahead = set(), list(nodes)[:1]
+    while ahead:
+        node = ahead.pop()
+        if node not in reached:
+            reached.add(node)
+            ahead += near[node]
+    return len(reached) == len(near)
+
+
+def second_plan(words, text, form, first):
+    """The plan that is changed to. With a link down it is made without the link, under the labels of the first."""
+    chosen = ["--root", words.root] if words.root else ["--numbering", words.numbering] if words.numbering else []
+    if not words.down:
+        return plan_of(text, form, words.to, chosen)
+    links = links_of(text, form)
+    if tuple(words.down) not in links and tuple(words.down[::-1]) not in links:
+        raise LabError(f"no link: {' '.join(words.down)}")
+    left = without_link(text, form, words.down)
+    if not is_connected(first.nodes, links_of(left, form)):
+        raise LabError(f"without the link {' '.join(words.down)} the network falls apart")
+    return plan_of(left, form, words.to, [], order_of(first))
+
+
+def checked_plans(words, text, form):
+    """Both plans by their epochs; LabError where they don't do for a lab."""
+    chosen = ["--root", words.root] if words.root else ["--numbering", words.numbering] if words.numbering else []
+    first = plan_of(text, form, words.kind, chosen)
+    plans = {1: first, 2: second_plan(words, text, form, first)}
+    if not 2 <= len(first.nodes) <= MOST_NODES:
+        raise LabError(f"it wants 2 to {MOST_NODES} nodes")
+    if first.labels != plans[2].labels:
+        raise LabError("these plans number nodes otherwise: give --numbering FILE")
+    for plan in plans.values():
+        if max(len(plan.path(a, b)) for a in plan.nodes for b in plan.nodes) > MOST_LINKS_OF_A_WALK:
+            raise LabError(f"a walk has more than {MOST_LINKS_OF_A_WALK} links")
+    return plans
+
+
+def prepare(words):
+    """The lab that the words ask for, as far as it can be made without touching anything."""
+    text, form = read_topology(words.topology)
+    plans = checked_plans(words, text, form)
+    found = {epoch: ranges(plan) for epoch, plan in plans.items()}
+    for epoch, plan in plans.items():
+        check_ranges(plan, found[epoch])
+    network = Network(plans[1], links_of(text, form))
+    draw = random.Random(words.seed)
+
+    def phase(name, line, script, *more, pause=PAUSE):
+        nodes = draw.sample(network.nodes, len(network.nodes))
+        return Phase(name, line, [(node, script(node, *more)) for node in nodes], pause)
+
+    def install(epoch):
+        elements = sum(len(parts) + 1 for parts in found[epoch].values())
+        line = f"epoch {epoch} {plans[epoch].kind} {elements}"
+        return phase(f"install-{epoch}", line, network.install, found[epoch], epoch)
+
+    build = Phase("up", f"lab {len(network.nodes)} {len(network.links)}", [("all nodes", network.up())])
+    opening = [install(1), phase("stamp-1", "stamped 1", network.stamp, 1)]
+    failure, retirement = [], []
+    if words.down:
+        failure.append(Phase("down", f"down {' '.join(words.down)}", [(words.down[0], network.down(*words.down))]))
+    if words.in_place:
+        change = [phase("in-place", "in place", network.replace, found[2], 1, pause=PAUSE_IN_PLACE)]
+    else:
+        change = [install(2), phase("stamp-2", "stamped 2", network.stamp, 2)]
+        retirement.append(phase("retire-1", "retired 1", network.retire, found[1], 1, pause=0))
+    return Lab(words, network, plans, build, opening, failure, change, retirement)
+
+
+def printed(lab):
+    """The script of the shell that does what a lab does, but for its traffic."""
+    lines = [
+        "# As root, in mounts and processes of its own, with which all of it goes:",
+        "#   unshare --mount --pid --fork --mount-proc sh -ec 'mount -t tmpfs tmpfs /run; . ./THIS; exec bash'",
+        "set -e",
+    ]
+
+    def add(phases):
+        for phase in phases:
+            lines.append(f"# {phase.line}")
+            lines.extend(script.rstrip("\n") for _, script in phase.acts)
+
+    add([lab.build, *lab.opening, *lab.failure, *lab.change])
+    lines += [f"sleep {WAIT}"] if lab.retirement else []
+    add(lab.retirement)
+    return "\n".join(lines) + "\n"
+
+
+class Told:
+    """A line on standard error each second, how far a lab is, while a `with` lasts."""
+
+    def __init__(self):
+        self.start, self.where, self.count = time.monotonic(), "", lambda: ""
+
+    def tell(self, *_):
+        os.write(2, f"lab: {time.monotonic() - self.start:.0f} s: {self.where}{self.count()}\n".encode())
+
+    def __enter__(self):
+        signal.signal(signal.SIGALRM, self.tell)
+        signal.setitimer(signal.ITIMER_REAL, 1, 1)
+        return self
+
+    def __exit__(self, *_):
+        signal.setitimer(signal.ITIMER_REAL, 0)
+
+
+def do(phases, told):
+    """Does phases, and prints the line of each behind it."""
+    for phase in phases:
+        for i, (node, script) in enumerate(phase.acts, 1):
+            told.where = f"{phase.line}, at {node}" + (f", {i} of {len(phase.acts)}" if len(phase.acts) > 1 else "")
+            play(script)
+            time.sleep(phase.pause)
+        print(phase.line, flush=True)
+
+
+def pairs_of(lab):
+    """All pairs of places of nodes, in an order by chance."""
+    count = len(lab.network.nodes)
+    pairs = [(a, b) for a in range(count) for b in range(count) if a != b]
+    random.Random(lab.words.seed).shuffle(pairs)
+    return pairs
+
+
+def longest(lab):
+    """The first pair of the most links, of those whose walk goes over the link that goes down where there is one."""
+    plan, nodes, down = lab.plans[1], lab.network.nodes, set(lab.words.down or ())
+    paths = [plan.path(a, b) for a in nodes for b in nodes if a != b]
+    over = [path for path in paths if any(set(step) == down for step in zip(path, path[1:]))]
+    return max(over or paths, key=len)
+
+
+def run_change(lab, traffic, told):
+    """Changes the plan while traffic goes on, and answers what was seen of it."""
+    board, words = traffic.board, lab.words
+    told.count = lambda: f"; {board.sent} packets sent, {board.written} bytes written"
+
+    def carry(what):
+        """So many seconds, and a packet between each two nodes."""
+        told.where, mark, end = what, board.sent + len(traffic.pairs), time.monotonic() + words.seconds
+        traffic.until(lambda: board.sent >= mark and time.monotonic() >= end, float("inf"))
+
+    carry("packets of the first epoch")
+    do(lab.failure, told)
+    if lab.failure:
+        carry("packets while the link is down")
+    do(lab.change, told)
+    told.where, mark = "waiting until the old epoch is empty", board.sent
+    time.sleep(WAIT)
+    traffic.until(lambda: board.low >= mark, 1 if lab.failure or words.in_place else 10)
+    do(lab.retirement, told)
+    carry("packets of the second epoch")
+    told.where = "the end of the traffic"
+    return traffic.finish()
+
+
+def report(lab, found, board, ends):
+    """Prints the verdict, and answers the status."""
+    for epoch in found.packets:
+        print(f"packets {epoch} {found.packets[epoch]} hops {found.hops[epoch]}")
+    if lab.words.down:
+        print(f"over {found.over}")
+    print(f"lost {found.lost}\nmixed {found.mixed}")
+    print(f"tcp {ends[0]} {ends[1]} sent {board.written} read {board.read} again {board.again}")
+    bad = found.lost or found.mixed or board.written != board.read
+    print("differs" if bad else "ok")
+    count = len(lab.network.nodes)
+    for epoch, pairs in found.pairs.items():
+        print(f"lab: epoch {epoch} carried {len(pairs)} of {count * (count - 1)} pairs", file=sys.stderr)
+    return 1 if bad else 0
+
+
+def judged(lab):
+    """Builds a lab, changes its plan under traffic, and prints the verdict."""
+    with Told() as told:
+        do([lab.build, *lab.opening], told)
+        pairs, path = pairs_of(lab), longest(lab)
+        with Traffic(lab.network, pairs, (path[0], path[-1]), lab.words.rate) as traffic:
+            frames, arrivals, unseen = run_change(lab, traffic, told)
+        if unseen:
+            raise LabError(f"cannot judge: {unseen} frames were not seen")
+        told.where = "judging"
+        judge = Judge(lab.network.nodes, lab.plans, lab.words.in_place, tuple(lab.words.down or ()))
+        found = judge.judge(traffic.board.sent, pairs, frames, arrivals)
+    return report(lab, found, traffic.board, (path[0], path[-1]))
+
+
+def by_hand(lab):
+    """Builds a lab of the first epoch, and runs a command in it, with the scripts of the change at hand."""
+    with Told() as told:
+        do([lab.build, *lab.opening], told)
+    folder = pathlib.Path(SCRIPTS)
+    folder.mkdir()
+    names = []
+    for phase in [*lab.failure, *lab.change, *lab.retirement]:
+        names.append(f"{phase.name}.sh")
+        (folder / names[-1]).write_text("".join(script for _, script in phase.acts))
+    spaces = ", ".join(map(lab.network.space, lab.network.nodes[:3]))
+    print(f"lab: `ip netns exec NODE COMMAND`, NODE as {spaces}; the change: " + ", ".join(f"sh -e $LAB/{name}" for name in names), file=sys.stderr)
+    done = subprocess.run(["sh", "-c", lab.words.run], env={**os.environ, "LAB": SCRIPTS}, check=False)
+    print(f"run {done.returncode}\n" + ("ok" if done.returncode == 0 else "differs"))
+    return 0 if done.returncode == 0 else 1
+
+
+def refuse_words(words, parser):
+    """Ends with status 2 where words don't go together."""
+    if words.root and words.numbering:
+        parser.error("--root and --numbering do not go together: the first node of the file is the root")
+    if words.in_place and words.down:
+        parser.error("--in-place and --down do not go together")
+    if words.print and words.run is not None:
+        parser.error("--print and --run do not go together")
+    if not 1 <= words.rate <= 100_000:
+        parser.error("--rate is 1 to 100000")
+    if not 0 <= words.seconds <= 86_400:
+        parser.error("--seconds is 0 to 86400")
+
+
+def stop(number, _):
+    raise SystemExit(128 + number)
+
+
+def main(words, parser):
+    """Does what the words ask for, and answers the status."""
+    refuse_words(words, parser)
+    signal.signal(signal.SIGTERM, stop)
+    signal.signal(signal.SIGHUP, stop)
+    try:
+        lab = prepare(words)
+        if words.print:
+            print(printed(lab), end="")
+            return 0
+        return apart(lambda: by_hand(lab) if words.run is not None else judged(lab))
+    except RouteError as fault:
+        print(f"lab: {fault}", file=sys.stderr)
+        return 2 if fault.status == 2 else 1
+    except BentzoluError as fault:
+        print(f"lab: {fault}", file=sys.stderr)
+        return 1

@@ -1,0 +1,112 @@
+"""What a lab is made of, without a namespace: topologies, scripts, words and verdicts."""
+import contextlib
+import io
+import unittest
+
+import common  # noqa: F401
+from bentzolu import __main__ as program
+from bentzolu import ranges
+from bentzolu.lab import is_connected, order_of
+from bentzolu.lab_judge import Judge
+from bentzolu.lab_net import Network, links_of, without_link
+from bentzolu.texts import read_plan
+
+# A ring a b c d: epoch 1 is the tree a b c d, epoch 2 has the shortest ways.
+TREE = read_plan("plan tree 4 6\na 0 0 b\nb 1 0 a 2 c\nc 2 0 b 3 d\nd 3 0 c\n")
+SHORT = read_plan("plan shortest 4 8\na 0 1 b 3 d\nb 1 0 a 2 c\nc 2 0 b 3 d\nd 3 0 a 2 c\n")
+RING = [("a", "b"), ("b", "c"), ("c", "d"), ("d", "a")]
+PAIRS = [(0, 3), (3, 1), (1, 2)]
+
+
+def judge(frames, arrivals, sent=1, **more):
+    return Judge(list("abcd"), {1: TREE, 2: SHORT}, **more).judge(sent, PAIRS, frames, arrivals)
+
+
+class Topologies(unittest.TestCase):
+    def test_links(self):
+        self.assertEqual(links_of("# of four\na b d\nb c a\nc d c # and so on\n", "adjlist"), [("a", "b"), ("a", "d"), ("b", "c"), ("c", "d")])
+        self.assertEqual(links_of("a b 3\nb a 4\nb c 1\nc c 1\nd\n", "edgelist"), [("a", "b"), ("b", "c")])
+
+    def test_without_a_link(self):
+        self.assertEqual(without_link("a b d\nb c a\nc d\n", "adjlist", ("a", "b")), "a d\nb c\nc d\n")
+        self.assertEqual(without_link("b a 3\nb c 1\nd e 2\n", "edgelist", ["a", "b"]), "b c 1\nd e 2\n")
+        self.assertTrue(is_connected("abcd", RING[1:]))
+        self.assertFalse(is_connected("abcd", RING[2:]))
+
+    def test_order(self):
+        self.assertEqual(order_of(TREE), "a\nb\nc\nd\n")
+
+
+class Scripts(unittest.TestCase):
+    def test_elements(self):
+        network = Network(SHORT, RING)
+        elements = "element netdev bz ways { fd00:2::0 : goto mine, fd00:2::1-fd00:2::2 : goto to_2, fd00:2::3 : goto to_4 }"
+        self.assertEqual(network.elements("a", ranges(SHORT), 2), elements)
+        self.assertIn(f"add {elements}\n", network.install("a", ranges(SHORT), 2))
+        self.assertIn(f"delete {elements}\n", network.retire("a", ranges(SHORT), 2))
+        self.assertIn("set 0xfd000002\n", network.stamp("a", 2))
+
+    def test_names(self):
+        odd = read_plan("plan tree 2 2\n$(x) 0 0 b\nb 1 0 $(x)\n")
+        network = Network(odd, [("$(x)", "b")])
+        commands = [line for line in network.up().splitlines() if not line.startswith("#")]
+        self.assertFalse([line for line in commands if "x)" in line])
+        self.assertIn("netns add n1", commands)
+        self.assertEqual(Network(TREE, RING).space("a"), "a")
+
+
+class Verdicts(unittest.TestCase):
+    def test_delivered(self):
+        found = judge([(0, 255, 0, 1, 1), (0, 254, 1, 2, 1), (0, 253, 2, 3, 1)], [(0, 3)])
+        self.assertEqual((found.packets, found.hops, found.lost, found.mixed), ({1: 1, 2: 0}, {1: 3, 2: 0}, 0, 0))
+        found = judge([(0, 255, 0, 3, 2)], [(0, 3)])
+        self.assertEqual((found.packets, found.pairs, found.lost), ({1: 0, 2: 1}, {1: set(), 2: {(0, 3)}}, 0))
+
+    def test_lost(self):
+        for frames, arrivals in (
+            ([(0, 255, 0, 1, 1)], []), ([], []), ([(0, 255, 0, 3, 2)], [(0, 3), (0, 3)]), ([(0, 255, 0, 1, 1)], [(0, 1)]),
+        ):
+            found = judge(frames, arrivals)
+            self.assertEqual((found.lost, found.mixed), (1, 0))
+
+    def test_mixed(self):
+        for frames in (
+            [(0, 255, 0, 3, 1)], [(0, 255, 0, 1, 1), (0, 254, 1, 2, 2), (0, 253, 2, 3, 1)], [(0, 255, 0, 1, 2)], [(0, 255, 0, 3, 3)],
+            [(0, 255, 0, 1, 1), (0, 253, 2, 3, 1)],
+        ):
+            self.assertEqual(judge(frames, [(0, 3)]).mixed, 1)
+
+    def test_in_place(self):
+        found = judge([(0, 255, 0, 3, 1)], [(0, 3)], in_place=True)
+        self.assertEqual((found.packets, found.lost, found.mixed), ({1: 0, 2: 1}, 0, 0))
+        found = judge([(0, 255, 0, 1, 1), (0, 254, 1, 0, 1)], [], in_place=True)
+        self.assertEqual((found.lost, found.mixed), (1, 1))
+
+    def test_down(self):
+        for made in range(3):
+            frames = [(0, 255, 0, 1, 1), (0, 254, 1, 2, 1)][:made]
+            found = judge(frames, [], down=("c", "b"))
+            self.assertEqual((found.over, found.lost, found.mixed), (0, 1, 0) if made == 0 else (1, 0, 0))
+        self.assertEqual(judge([], [], down=("a", "b")).over, 1)
+        self.assertEqual(judge([(0, 255, 0, 3, 2)], [], down=("a", "d")).lost, 1)
+
+
+class Words(unittest.TestCase):
+    def test_bad_words(self):
+        for words in (
+            ["lab"], ["lab", "--kind", "best", "net"], ["lab", "--rate", "0", "net"], ["lab", "--seconds", "-1", "net"],
+            ["lab", "--root", "a", "--numbering", "order", "net"], ["lab", "--in-place", "--down", "a", "b", "net"],
+            ["lab", "--print", "--run", "bash", "net"], ["lab", "net", "net"],
+        ):
+            with self.subTest(words), contextlib.redirect_stderr(io.StringIO()), self.assertRaises(SystemExit) as ended:
+                program.main(words)
+            self.assertEqual(ended.exception.code, 2)
+
+    def test_no_topology(self):
+        with contextlib.redirect_stderr(io.StringIO()) as told:
+            self.assertEqual(program.main(["lab", "--print", "/nowhere/net"]), 1)
+        self.assertEqual(told.getvalue(), "lab: /nowhere/net: No such file or directory\n")
+
+
+if __name__ == "__main__":
+    unittest.main()

@@ -1,0 +1,83 @@
+"""The ranges of a plan beside a plain search, label by label."""
+import random
+import unittest
+
+from common import bentzolu, graphs, needs_route
+from bentzolu import FormatError, Interval, NodePlan, Plan, Range, check_ranges, ranges
+
+
+def some_plan(draw):
+    """A plan of rows by chance; whether they lead anywhere does not matter here."""
+    count = draw.randint(1, 24)
+    labels = draw.sample(range(count), count)
+    nodes = {}
+    for i, label in enumerate(labels):
+        starts = sorted(draw.sample(range(count), draw.randint(1, min(count, 6)))) if count > 1 else []
+        ends = starts[1:] + starts[:1]
+        near = [f"n{draw.randrange(4)}" for _ in starts]
+        nodes[f"n{i}"] = NodePlan(f"n{i}", label, tuple(map(Interval, starts, ends, near)))
+    return Plan("shortest", nodes)
+
+
+def plain(plan, node):
+    """The ranges of a node, by a look at each label in turn."""
+    found = []
+    for label in range(len(plan.nodes)):
+        to = None if label == plan.nodes[node].label else plan.nodes[node].to(label)
+        if to is None:
+            continue
+        if found and found[-1][1] == label - 1 and found[-1][2] == to:
+            found[-1][1] = label
+        else:
+            found.append([label, label, to])
+    return tuple(Range(*it) for it in found)
+
+
+class Ranges(unittest.TestCase):
+    def test_random_plans(self):
+        draw = random.Random(59)
+        for i in range(500):
+            plan = some_plan(draw)
+            found = ranges(plan)
+            with self.subTest(i):
+                self.assertEqual(found, {node: plain(plan, node) for node in plan.nodes})
+                check_ranges(plan, found)
+
+    def test_one_node(self):
+        self.assertEqual(ranges(Plan("tree", {"a": NodePlan("a", 0, ())})), {"a": ()})
+
+    def test_documented_row(self):
+        nodes = {f"n{i}": NodePlan(f"n{i}", i, ()) for i in range(14)}
+        row = (Interval(0, 5, "PaloAlto"), Interval(5, 0, "Boulder"))
+        nodes["n4"] = NodePlan("n4", 4, row)
+        self.assertEqual(ranges(Plan("tree", nodes))["n4"], ((0, 3, "PaloAlto"), (5, 13, "Boulder")))
+
+    def test_faults(self):
+        plan = Plan("tree", {
+            "a": NodePlan("a", 0, (Interval(0, 0, "b"),)), "b": NodePlan("b", 1, (Interval(0, 2, "a"), Interval(2, 0, "c"))),
+            "c": NodePlan("c", 2, (Interval(1, 1, "b"),)),
+        })
+        right = ranges(plan)
+        self.assertEqual(right, {"a": ((1, 2, "b"),), "b": ((0, 0, "a"), (2, 2, "c")), "c": ((0, 1, "b"),)})
+        for node, wrong in (
+            ("a", ()), ("a", ((1, 1, "b"),)), ("a", ((1, 1, "b"), (2, 2, "b"))), ("a", ((1, 2, "c"),)), ("a", ((0, 2, "b"),)),
+            ("a", ((1, 3, "b"),)), ("b", ((2, 2, "c"), (0, 0, "a"))), ("b", ((0, 1, "a"), (2, 2, "c"))), ("c", ((0, 1, "b"), (1, 1, "b"))),
+        ):
+            with self.subTest(node=node, wrong=wrong), self.assertRaises(FormatError):
+                check_ranges(plan, {**right, node: tuple(Range(*it) for it in wrong)})
+        with self.assertRaises(FormatError):
+            check_ranges(plan, {"a": right["a"]})
+
+    @needs_route
+    def test_plans_of_the_program(self):
+        for name, graph in graphs():
+            for kind in ("tree", "shortest", "compact"):
+                with self.subTest(name, kind=kind):
+                    plan = bentzolu.plan(graph, kind)
+                    found = ranges(plan)
+                    self.assertEqual(found, {node: plain(plan, node) for node in plan.nodes})
+                    check_ranges(plan, found)
+
+
+if __name__ == "__main__":
+    unittest.main()
