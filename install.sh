@@ -1,10 +1,10 @@
 #!/bin/sh
-# Installs the built program, its manual page and its completions. See ./install.sh --help.
+# Installs the built program, its manual page and its completions, or removes them. See ./install.sh --help.
 set -eu
 
 usage() {
     cat <<'TEXT'
-Usage: ./install.sh PREFIX [--name NAME]
+Usage: ./install.sh PREFIX [--name NAME] [--uninstall]
 
 Installs the program that `(cd crates/route && rt run < stdin)` proved and built:
 
@@ -14,13 +14,12 @@ Installs the program that `(cd crates/route && rt run < stdin)` proved and built
   PREFIX/share/zsh/site-functions/_NAME                 zsh
   PREFIX/share/fish/vendor_completions.d/NAME.fish      and fish
 
-  --name NAME   the name of the program, `route` by default. Recommended: --name bentzolu,
-                since net-tools has a program `route` too, and since the Python package
-                looks for `bentzolu`.
+  --name NAME   the name of the program, `bentzolu` by default; the Python package looks
+                for that. net-tools has another program `route`.
+  --uninstall   removes these five files again, if the manual page there is this program's
   --help        this text
 
 PREFIX is for instance /usr/local or ~/.local; folders that are missing are made.
-To remove it again, delete these five files.
 TEXT
 }
 
@@ -29,7 +28,7 @@ refuse() {
     exit "$2"
 }
 
-prefix= name=route
+prefix= name=bentzolu act=install
 while [ $# -gt 0 ]; do
     case $1 in
         -h | --help)
@@ -40,6 +39,7 @@ while [ $# -gt 0 ]; do
             name=$2
             shift ;;
         --name=*) name=${1#--name=} ;;
+        --uninstall) act=uninstall ;;
         -*) refuse "there is no option $1; see ./install.sh --help" 2 ;;
         *)
             [ -z "$prefix" ] || refuse 'there is more than one PREFIX; see ./install.sh --help' 2
@@ -52,6 +52,20 @@ done
 case $name in
     '' | -* | *[!A-Za-z0-9_-]*) refuse "the name '$name' is not letters, digits, _ and -" 2 ;;
 esac
+
+manual=$prefix/share/man/man1/$name.1
+bash=$prefix/share/bash-completion/completions/$name
+zsh=$prefix/share/zsh/site-functions/_$name
+fish=$prefix/share/fish/vendor_completions.d/$name.fish
+
+if [ "$act" = uninstall ]; then
+    grep -qs '^\.TH .* "Bentzolu" ' "$manual" ||
+        refuse "nothing is removed: there is no manual page of this program at $manual" 1
+    for file in "$prefix/bin/$name" "$bash" "$zsh" "$fish" "$manual"; do
+        [ ! -e "$file" ] || { rm -f "$file" && echo "$file"; }
+    done
+    exit 0
+fi
 
 here=$(cd "$(dirname "$0")" && pwd)
 program=$here/crates/route/out/route
@@ -74,7 +88,7 @@ cp "$program" "$prefix/bin/.$name.new"
 chmod 755 "$prefix/bin/.$name.new"
 mv -f "$prefix/bin/.$name.new" "$prefix/bin/$name"
 echo "$prefix/bin/$name"
-renamed "$here/docs/route.1" "$prefix/share/man/man1/$name.1"
-renamed "$here/completions/route.bash" "$prefix/share/bash-completion/completions/$name"
-renamed "$here/completions/_route" "$prefix/share/zsh/site-functions/_$name"
-renamed "$here/completions/route.fish" "$prefix/share/fish/vendor_completions.d/$name.fish"
+renamed "$here/docs/route.1" "$manual"
+renamed "$here/completions/route.bash" "$bash"
+renamed "$here/completions/_route" "$zsh"
+renamed "$here/completions/route.fish" "$fish"

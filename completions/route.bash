@@ -33,6 +33,12 @@ _bentzolu() {
         subcommand=${COMP_WORDS[1]}
     fi
     COMPREPLY=()
+    # Readline makes a word of the `=` between an option and its value.
+    if [ "$word" = = ]; then
+        word=
+    elif [ "$before" = = ]; then
+        before=${COMP_WORDS[COMP_CWORD - 2]}
+    fi
     case $before in
         --format | --kind | --restamps) COMPREPLY=($(compgen -W "$(_bentzolu_values "$before")" -- "$word")) ;;
         --numbering)

@@ -1,69 +1,79 @@
-"""`python -m bentzolu convert FILE`: a network in another format as a weighted edge list of `route`.
-
-`python -m bentzolu lab TOPOLOGY`: a change of a network's plan in real packets of Linux.
-"""
+"""`python3 -m bentzolu COMMAND`: a network in another format as an edge list of `route`, its plan, its figures, or a lab."""
 import argparse
-import pathlib
 import sys
 
-from . import lab
-from .convert import READERS, converted, format_of
+from . import __version__, commands, lab, program
+from .convert import READERS
 from .errors import BentzoluError
 
 
+def add_source(parser):
+    """The words that say which network is read, and how."""
+    parser.add_argument("file", metavar="FILE", help="the file of the network")
+    formats = sorted(READERS)
+    said = f"the file's format, else its text and its name tell: {', '.join(formats)}"
+    parser.add_argument("--from", dest="format", metavar="FORMAT", choices=formats, help=said)
+    parser.add_argument("--largest", action="store_true", help="of several parts take the largest; else they are refused")
+    parser.add_argument("--weight", metavar="NAME", help="the attribute that is the weight ('weight' where there is one), or 1 for 1 everywhere")
+    parser.add_argument("-o", "--output", metavar="OUT", help="the file of the output; standard output by default")
+
+
+def add_convert(parser):
+    add_source(parser)
+    parser.add_argument("--names", metavar="TABLE", help="a file for the table of names: a line NAME, tab, node as JSON for each node")
+    parser.set_defaults(run=commands.convert)
+
+
+def add_shown(parser):
+    add_source(parser)
+    parser.add_argument("--kind", default="shortest", choices=("shortest", "compact", "tree"), help="how packets are routed; by default shortest")
+    parser.add_argument("--root", metavar="NAME", help="the node from which labels are numbered, by its name in route")
+    parser.add_argument("--numbering", metavar="HOW", help="depth-first, tour, or a file with an order of the nodes")
+    parser.set_defaults(run=commands.shown)
+
+
+# The subcommands: the name, what it does, and what adds its words to a parser. `run` of what was found is called.
+COMMANDS = [
+    ("convert", "writes a network in another format as a weighted edge list", add_convert),
+    ("plan", "prints the labels and intervals of a network in any format that convert reads", add_shown),
+    ("stats", "prints the figures of the plan of a network in any format that convert reads", add_shown),
+]
+ABOUT = {
+    "convert": "Writes a network in another format as a weighted edge list, to be read by route with --format edgelist. "
+    "Directions are dropped, and of several edges between two nodes the least weight is kept. What is changed is told on standard error. "
+    "The file - is standard input.",
+}
+
+
+class Version(argparse.Action):
+    """Prints the versions of the package and of the program that it calls."""
+
+    def __call__(self, parser, *_):
+        print(f"bentzolu {__version__}")
+        try:
+            print(f"{program.version()} at {program.find()}")
+        except BentzoluError as error:
+            print(error)
+        parser.exit(0)
+
+
 def words():
-    parser = argparse.ArgumentParser(prog="python -m bentzolu", description="Tools around route, interval routing with live relabelling.")
-    commands = parser.add_subparsers(dest="command", required=True, metavar="COMMAND")
-    convert = commands.add_parser(
-        "convert", help="writes a network in another format as a weighted edge list",
-        description="Writes a network in another format as a weighted edge list, to be read by route with --format edgelist. "
-        "Directions are dropped, and of several edges between two nodes the least weight is kept. What is changed is told on standard error.",
-    )
-    convert.add_argument("file", metavar="FILE", help="the file, or - for standard input")
-    convert.add_argument("--from", dest="format", choices=sorted(READERS), help="the file's format; else its text and its name tell")
-    convert.add_argument("--largest", action="store_true", help="of several parts take the largest; else they are refused")
-    convert.add_argument("--weight", metavar="NAME", help="the attribute that is the weight ('weight' where there is one), or 1 for 1 everywhere")
-    convert.add_argument("-o", "--output", metavar="OUT", help="the file of the edge list; standard output by default")
-    convert.add_argument("--names", metavar="TABLE", help="a file for the table of names: a line NAME, tab, node as JSON for each node")
-    convert.set_defaults(act=converting)
-    lab.add_words(commands)
+    parser = argparse.ArgumentParser(prog="python3 -m bentzolu", description="Tools around route, interval routing with live relabelling.")
+    parser.add_argument("--version", action=Version, nargs=0, help="prints the versions of the package and of the program that it calls")
+    subparsers = parser.add_subparsers(dest="command", required=True, metavar="COMMAND")
+    for name, what, add in COMMANDS:
+        add(subparsers.add_parser(name, help=what, description=ABOUT.get(name, f"{what[0].upper()}{what[1:]}.")))
+    lab.add_words(subparsers)
     return parser
-
-
-def convert(found):
-    data = sys.stdin.buffer.read() if found.file == "-" else pathlib.Path(found.file).read_bytes()
-    try:
-        text = data.decode("utf-8-sig")
-    except UnicodeDecodeError:
-        text = data.decode("latin-1")
-    format = found.format or format_of(found.file, text)
-    if format is None:
-        raise BentzoluError(f"the format of {found.file} is not known: give --from, one of {', '.join(sorted(READERS))}")
-    edges, names, notes = converted(text, format, found.largest, found.weight)
-    if names.changed() and not found.names:
-        notes.append(f"{len(names.changed())} nodes have new names: --names TABLE writes which")
-    if found.names:
-        pathlib.Path(found.names).write_bytes(names.table().encode("utf-8"))
-    if found.output:
-        pathlib.Path(found.output).write_bytes(edges.encode("utf-8"))
-    else:
-        sys.stdout.write(edges)
-    print(f"{format}: " + "; ".join(notes), file=sys.stderr)
-
-
-def converting(found):
-    """Converts, and answers the status."""
-    try:
-        convert(found)
-    except (BentzoluError, OSError) as error:
-        print(f"bentzolu convert: {error}", file=sys.stderr)
-        return 1
-    return 0
 
 
 def main(arguments=None):
     found = words().parse_args(arguments)
-    return found.act(found)
+    try:
+        return found.run(found) or 0
+    except (BentzoluError, OSError) as error:
+        print(f"bentzolu {found.command}: {error}", file=sys.stderr)
+        return 1
 
 
 if __name__ == "__main__":

@@ -18,6 +18,10 @@ class MultigraphError(BentzoluError, TypeError):
     """A graph with several edges between two nodes, of which `route` knows one."""
 
 
+class GraphError(BentzoluError, TypeError):
+    """What was given for a graph is neither a graph of NetworkX, nor a path, nor a list of edges."""
+
+
 class WeightError(BentzoluError, ValueError):
     """A weight that is not a whole number from 1 to 65,535; the text says how to scale."""
 
@@ -38,26 +42,36 @@ class FormatError(BentzoluError, ValueError):
         self.line = line
 
 
+class TopologyWarning(UserWarning):
+    """A file of a network looks like one of another format than it was read in, or was changed as it was read."""
+
+
 class RouteError(BentzoluError):
     """The program ended with a status above 0.
 
     `status` is the exit status: 1 a refused input, 2 words that were not understood, 3 no memory or no thread. `text` is
-    what stood on standard error. `about` is `topology`, `script`, `trace`, `opening`, `output` or None; `kind` is the name
-    of the fault, as `BadWeight` or `Disconnected`; `line` is the number of the faulty line, or None.
+    what stood on standard error. `about` is `topology`, `script`, `trace`, `numbering`, `opening`, `input`, `output` or
+    None; `kind` is the name of the fault, as `BadWeight` or `Disconnected`; `line` is the number of the faulty line, or
+    None, and `content` what stands there. `sentence` says what is wrong, with the graph's own nodes, where the program
+    has a sentence for it; else it is None.
     """
 
-    def __init__(self, status, text, content=None):
+    def __init__(self, status, text, content=None, sentence=None):
         self.status = status
         self.text = text
         self.about, self.line, self.kind = fault_of(status, text)
         self.content = content
+        self.sentence = sentence
         said = text.strip() or f"status {status}"
-        super().__init__(said if content is None else f"{said} ({content})")
+        if sentence:
+            said = next(iter(text.strip().splitlines()), f"status {status}")
+        said = said if content is None else f"{said} ({content})"
+        super().__init__(f"{said}: {sentence}" if sentence else said)
 
 
-FAULT = re.compile(r"(?:route: )?(topology|script|trace) ([0-9]+) ([A-Za-z]+)")
+FAULT = re.compile(r"(?:route: )?(topology|script|trace|numbering) ([0-9]+) ([A-Za-z]+)")
 OPENING = re.compile(r"(?:route: )?opening ([A-Za-z]+)")
-UNREAD = re.compile(r"(?:route: )?(topology|script|trace|input|output) (unreadable|too large|unwritable)")
+UNREAD = re.compile(r"(?:route: )?(topology|script|trace|numbering|input|output) (unreadable|too large|unwritable)")
 LAST = {"out of memory": "NoMemory", "no thread": "NoThread"}
 
 

@@ -3,10 +3,65 @@ import math
 import numbers
 from fractions import Fraction
 
-from .errors import DirectedGraphError, MultigraphError, WeightError
+from .errors import DirectedGraphError, GraphError, MultigraphError, WeightError
 from .names import Names
 
 MOST_WEIGHT = 65535
+
+
+class Edges:
+    """A graph of a list of edges `(u, v)` or `(u, v, weight)`, with what this package asks of a graph of NetworkX.
+
+    Nodes come in the order in which the edges name them, and an edge that is named again takes the last weight.
+    """
+
+    def __init__(self, edges):
+        self._near = {}
+        for edge in edges:
+            self._add(edge)
+
+    def _add(self, edge):
+        try:
+            u, v, *more = edge if not isinstance(edge, str) else ()
+            hash((u, v))
+        except (TypeError, ValueError):
+            raise GraphError(f"{edge!r} is no edge (u, v) or (u, v, weight)") from None
+        if len(more) > 1:
+            raise GraphError(f"the edge {edge!r} has more than two nodes and a weight")
+        data = {} if not more else dict(more[0]) if isinstance(more[0], dict) else {"weight": more[0]}
+        self._near.setdefault(u, {})[v] = data
+        self._near.setdefault(v, {})[u] = data
+
+    def is_directed(self):
+        return False
+
+    def is_multigraph(self):
+        return False
+
+    def __iter__(self):
+        return iter(self._near)
+
+    def __getitem__(self, node):
+        return self._near[node]
+
+    def edges(self, data=True):
+        """The edges with their attributes, each once, by the first of their nodes."""
+        seen = set()
+        for u, near in self._near.items():
+            seen.add(u)
+            yield from ((u, v, found) for v, found in near.items() if v == u or v not in seen)
+
+
+def graph_of(given):
+    """A graph of NetworkX as it is, and a list of edges as a graph."""
+    if hasattr(given, "is_directed"):
+        return given
+    if isinstance(given, dict) or not hasattr(given, "__iter__"):
+        raise GraphError(
+            f"{type(given).__name__} is no graph: give a graph of NetworkX, the path of a file, "
+            "or a list of edges (u, v) or (u, v, weight)"
+        )
+    return Edges(given)
 
 
 def refuse_kinds(graph):
@@ -108,7 +163,8 @@ def edge_list(graph, names, weight="weight"):
 
 
 def prepared(graph, weight="weight"):
-    """A graph's names and its weighted edge list."""
+    """The names and the weighted edge list of a graph or of a list of edges."""
+    graph = graph_of(graph)
     refuse_kinds(graph)
     names = Names(graph)
     return names, edge_list(graph, names, weight)

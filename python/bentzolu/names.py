@@ -89,6 +89,13 @@ class Names:
     def __len__(self):
         return len(self._names)
 
+    def __repr__(self):
+        said = ", ".join(f"{node!r}: {name!r}" for node, name in list(self.items())[:20])
+        return f"<Names of {len(self)} nodes: {said if len(said) <= 200 else said[:200] + ' ..'}>"
+
+    def __str__(self):
+        return self.table().rstrip("\n")
+
 
 def _json(node):
     if isinstance(node, (str, int, float)) and not isinstance(node, bool):

@@ -1,6 +1,7 @@
-"""The program `route`: where it is, and running it."""
+"""The program `route`: where it is, running it, and the sentences that it says."""
 import os
 import pathlib
+import re
 import shutil
 import subprocess
 import tempfile
@@ -10,6 +11,9 @@ from .errors import ProgramNotFoundError, RouteError, fault_of
 VARIABLE = "BENTZOLU_ROUTE"
 NAME = "bentzolu"
 BUILT = pathlib.Path(__file__).resolve().parents[2] / "crates" / "route" / "out" / "route"
+EXPLAIN = ("--explain", "--no-explain")
+HEADS = ("plan", "walk", "stats", "prefixes", "graph", "trace", "ok", "finding")  # of all outputs
+REFUSED = re.compile(r"^(.*):([0-9]+): ('.*') was refused: (.*)$")
 
 
 def find(program=None):
@@ -27,37 +31,123 @@ def find(program=None):
         return str(BUILT)
     raise ProgramNotFoundError(
         f"there is no program route: give program=.., set {VARIABLE}, put it on PATH as {NAME} "
-        f"(./install.sh PREFIX --name {NAME}), or build it in the repository that this package stands in"
+        f"(./install.sh PREFIX), or build it in the repository that this package stands in"
     )
 
 
-def run(words, texts, program=None, timeout=None, findings=False):
-    """Runs a subcommand over texts, which are given as files, and answers its standard output and standard error.
+def version(program=None):
+    """The first line that the program prints for `--version`, as `route 1.0.0`."""
+    path = find(program)
+    done = started([path, "--version"], None)
+    lines = done.stdout.decode("utf-8", "replace").splitlines()
+    return lines[0] if lines else f"{path} says nothing of its version"
 
-    `words` are the words before the files; `texts` are pairs of a name and a text. A status above 0 is a RouteError, but
-    with `findings` not the status 1 that comes with an answer on standard output.
+
+def started(command, timeout):
+    """A program that ran to its end."""
+    try:
+        return subprocess.run(command, capture_output=True, timeout=timeout, stdin=subprocess.DEVNULL, check=False)
+    except (FileNotFoundError, PermissionError, NotADirectoryError) as error:
+        raise ProgramNotFoundError(f"the program {command[0]} can't be run: {error.strerror}") from error
+
+
+class Said:
+    """What a run of the program printed: `output`, the lines `faults` of standard error, and the sentences among them."""
+
+    def __init__(self, status, output, faults, sentences):
+        self.status, self.output, self.faults, self.sentences = status, output, faults, sentences
+
+    def of_steps(self):
+        """The sentence of each line of a script that was refused."""
+        found = filter(None, map(REFUSED.match, self.sentences))
+        return {int(it[2]): it[4] for it in found}
+
+    def notes(self):
+        """The sentences that are of no line of a script."""
+        return [sentence for sentence in self.sentences if not REFUSED.match(sentence)]
+
+
+def run(words, texts, program=None, timeout=None, findings=False, names=None):
+    """Runs a subcommand over texts, which are given as files, and answers what it printed, as `Said`.
+
+    `words` are the words before the files; `texts` are pairs of a name and a text, or a path that is given as it is. A
+    status above 0 is a RouteError, but with `findings` not the status 1 that comes with an answer on standard output.
+    Sentences are asked for where the words say nothing of them. Names in sentences are written as the nodes that the
+    table `names` leads back to.
     """
+    words = list(words) if any(word in EXPLAIN for word in words) else [*words[:1], "--explain", *words[1:]]
     with tempfile.TemporaryDirectory(prefix="bentzolu-") as folder:
-        files = []
+        files, shown = [], {}
         for name, text in texts:
-            file = pathlib.Path(folder) / name
-            file.write_bytes(text.encode("utf-8"))
+            file = text if isinstance(text, pathlib.Path) else pathlib.Path(folder) / name
+            if file is not text:
+                file.write_bytes(text.encode("utf-8"))
+                shown[str(file)] = f"the {name}"
             files.append(str(file))
-        command = [find(program), *words, *files]
-        try:
-            done = subprocess.run(command, capture_output=True, timeout=timeout, stdin=subprocess.DEVNULL, check=False)
-        except (FileNotFoundError, PermissionError) as error:
-            raise ProgramNotFoundError(f"the program {command[0]} can't be run: {error.strerror}") from error
+        path = find(program)
+        done = started([path, *words, "--", *files], timeout)
     output, faults = (part.decode("utf-8", "replace") for part in (done.stdout, done.stderr))
+    said = split(path, done.returncode, output, faults, shown, names)
     if done.returncode != 0 and not (findings and done.returncode == 1 and output):
-        raise RouteError(done.returncode, faults, content_of(faults, texts))
-    return output, faults
+        refuse_other(path, said)
+        content = content_of(said.faults, texts)
+        raise RouteError(done.returncode, said.faults, content, sentence_of(said, texts))
+    if not output.startswith(HEADS):
+        refuse_other(path, said)
+    return said
+
+
+def split(path, status, output, faults, shown, names):
+    """What was printed, with the sentences apart and in them each text by its name, and nodes in place of names."""
+    fronts = tuple({"route: ", f"{os.path.basename(path)}: "})
+    lines, sentences = [], []
+    for line in faults.splitlines(keepends=True):
+        front = next((it for it in fronts if line.startswith(it)), None)
+        told = front is not None and fault_of(status, line)[2] in ("usage", "unknown") and status != 2
+        if told:
+            sentences.append(sentence_in(line[len(front):].rstrip("\n"), shown, names))
+        else:
+            lines.append(line)
+    return Said(status, output, "".join(lines), sentences)
+
+
+def sentence_in(sentence, shown, names):
+    """A sentence with the names of texts in place of their files, and with nodes in place of their names."""
+    for file, name in shown.items():
+        sentence = sentence.replace(file, name)
+    changed = {name: node for node, name in names.changed()} if names is not None else {}
+
+    def node(found):
+        return repr(changed[found[1]]) if found[1] in changed else found[0]
+
+    return re.sub(r"'(\S+?)'(?![^\s,.:;?)])", node, sentence) if changed else sentence
+
+
+def sentence_of(said, texts):
+    """The sentences of a fault, without the name and the line of a text at their front, which the fault tells."""
+    made = [f"the {name}" for name, text in texts if not isinstance(text, pathlib.Path)]
+    line = fault_of(said.status, said.faults)[1]
+    fronts, found = [f"{name}:{line}: " for name in made] + [f"{name}: " for name in made], []
+    for sentence in said.sentences:
+        front = next((it for it in fronts if sentence.startswith(it)), "")
+        found.append(sentence[len(front):])
+    return "\n".join(found) or None
+
+
+def refuse_other(path, said):
+    """Refuses another program that has the name: net-tools has a `route` too."""
+    if said.status in (1, 2, 3) and fault_of(said.status, said.faults)[2] not in ("usage", "unknown"):
+        return
+    done = subprocess.run([path, "--version"], capture_output=True, stdin=subprocess.DEVNULL, timeout=10, check=False)
+    if b"net-tools" in done.stdout + done.stderr:
+        raise ProgramNotFoundError(f"{path} is the route of net-tools: give another program by program=.. or {VARIABLE}")
 
 
 def content_of(faults, texts):
     """The line of a text that a fault names, to be shown with it."""
     about, line, _ = fault_of(1, faults)
-    lines = dict(texts).get(about, "").split("\n")
+    text = dict(texts).get(about, "")
+    lines = [] if isinstance(text, pathlib.Path) else text.split("\n")
     if line is None or not 1 <= line <= len(lines):
         return None
     return lines[line - 1][:200] or None

@@ -1,9 +1,20 @@
-"""What `route` prints, as data: plans, walks, figures, traces and findings."""
+"""What `route` prints, as data: plans, walks, figures, forwarding tables, traces and findings."""
+import re
+from bisect import bisect_right
+from collections import Counter
 from dataclasses import dataclass, field
 from fractions import Fraction
-from typing import Any, Dict, Hashable, Optional, Tuple
+from typing import Any, Dict, Hashable, NamedTuple, Optional, Tuple
 
-from .errors import FormatError
+from . import shown
+from .errors import FormatError, UnknownNodeError
+
+MOST_SHOWN = 16  # the most intervals, nodes or steps that a representation has
+
+
+def counted(number, one, more=None):
+    """A number of things with their name."""
+    return f"{number:,} {one if number == 1 else more or one + 's'}"
 
 
 class SameNames:
@@ -35,30 +46,103 @@ class Interval:
         return label >= self.start or label < self.end
 
 
-@dataclass(frozen=True)
 class NodePlan:
-    """A node's label and its intervals, by ascending starts."""
+    """A node's label and its intervals, by ascending starts; an interval ends where the next one, going round, begins.
 
-    node: Hashable
-    label: int
-    intervals: Tuple[Interval, ...]
+    `node` is the node, `label` its label, `starts` the labels at which the intervals begin, `neighbours` the neighbour
+    of each, and `intervals` both as a tuple of `Interval`. A plan that was read makes them when they are asked for.
+    """
 
-    def to(self, label):
-        """The neighbour to which packets for a label go; None at a node without an interval."""
-        return next((it.to for it in self.intervals if label in it), None)
+    __slots__ = ("node", "label", "_row", "_names", "_starts", "_neighbours", "_intervals")
 
+    def __init__(self, node, label, intervals=()):
+        self.node, self.label = node, label
+        self._row = self._names = None
+        self._intervals = tuple(intervals)
+        self._starts = tuple(it.start for it in self._intervals)
+        self._neighbours = tuple(it.to for it in self._intervals)
 
-@dataclass(frozen=True)
-class Plan:
-    """The labels and intervals of all nodes."""
+    @classmethod
+    def of_row(cls, node, label, row, names):
+        """A node whose row is the text `START NEIGHBOUR ..`, with names that the table `names` leads back to nodes."""
+        made = cls(node, label)
+        made._row, made._names, made._starts = row, names, None
+        return made
 
-    kind: str
-    nodes: Dict[Hashable, NodePlan]
+    def _read(self):
+        """Reads the row, where it was not yet."""
+        if self._starts is None:
+            words = self._row.split(" ") if self._row else []
+            self._starts, self._neighbours = tuple(map(int, words[::2])), tuple(map(self._names.node, words[1::2]))
+            self._intervals = None
+
+    @property
+    def starts(self):
+        self._read()
+        return self._starts
+
+    @property
+    def neighbours(self):
+        self._read()
+        return self._neighbours
 
     @property
     def intervals(self):
-        """The number of intervals of all nodes."""
-        return sum(len(it.intervals) for it in self.nodes.values())
+        self._read()
+        if self._intervals is None:
+            starts = self._starts
+            self._intervals = tuple(map(Interval, starts, starts[1:] + starts[:1], self._neighbours))
+        return self._intervals
+
+    def __len__(self):
+        """The number of intervals."""
+        if self._starts is None:
+            return (self._row.count(" ") + 1) // 2 if self._row else 0
+        return len(self._starts)
+
+    def __bool__(self):
+        return True
+
+    def to(self, label):
+        """The neighbour to which packets for a label go; None at a node without an interval."""
+        starts = self.starts
+        return self._neighbours[bisect_right(starts, label) - 1] if starts else None
+
+    def by_neighbour(self):
+        """The intervals of each neighbour that has some, neighbours by their first interval."""
+        found = {}
+        for interval in self.intervals:
+            found.setdefault(interval.to, []).append(interval)
+        return found
+
+    def _key(self):
+        return self.node, self.label, self.starts, self.neighbours
+
+    def __eq__(self, other):
+        return self._key() == other._key() if isinstance(other, NodePlan) else NotImplemented
+
+    def __hash__(self):
+        return hash((self.node, self.label))
+
+    def __repr__(self):
+        said = [f"{interval_text(it)} to {it.to!r}" for it in self.intervals[:MOST_SHOWN]]
+        said += [f"{len(self) - MOST_SHOWN} more"] if len(self) > MOST_SHOWN else []
+        return f"<NodePlan {self.node!r}: label {self.label}; {', '.join(said) or 'no interval'}>"
+
+
+def interval_text(interval):
+    """An interval in the writing of `route draw`."""
+    return f"[{interval.start},{interval.end})"
+
+
+class ByNode:
+    """What a plan and its prefixes share: something for each node, by which packets find their way."""
+
+    def _at(self, node):
+        try:
+            return self.nodes[node]
+        except (KeyError, TypeError):
+            raise UnknownNodeError(f"the plan has no node {node!r}") from None
 
     @property
     def labels(self):
@@ -66,13 +150,88 @@ class Plan:
         return {node: it.label for node, it in self.nodes.items()}
 
     def path(self, source, target):
-        """The nodes from source to target by the intervals."""
-        nodes, label = [source], self.nodes[target].label
+        """The nodes from source to target, each found by what the node before has for the target's label.
+
+        It asks no program, so many paths of one graph are best had from one plan. UnknownNodeError is raised where the
+        plan has no such node, and FormatError where the way leads nowhere or in a circle.
+        """
+        self._at(source)
+        nodes, label = [source], self._at(target).label
         while nodes[-1] != target:
-            nodes.append(self.nodes[nodes[-1]].to(label))
-            if len(nodes) > len(self.nodes):
-                raise FormatError(f"the intervals lead from {source!r} to {target!r} in a circle")
+            nodes.append(self._at(nodes[-1]).to(label))
+            if nodes[-1] is None or len(nodes) > len(self.nodes):
+                raise FormatError(f"the rows lead from {source!r} nowhere or in a circle, and not to {target!r}")
         return nodes
+
+
+@dataclass(frozen=True, repr=False)
+class Plan(ByNode):
+    """The labels and intervals of all nodes: `kind` is `shortest`, `tree` or `compact`, `nodes` has a `NodePlan` for each
+    node of the graph. In a notebook a plan is shown as a table."""
+
+    kind: str
+    nodes: Dict[Hashable, NodePlan]
+
+    @property
+    def intervals(self):
+        """The number of intervals of all nodes."""
+        return sum(map(len, self.nodes.values()))
+
+    def __repr__(self):
+        return f"<Plan {self.kind} of {counted(len(self.nodes), 'node')}: {counted(self.intervals, 'interval')}>"
+
+    def _repr_html_(self):
+        return shown.plan(self)
+
+
+@dataclass(frozen=True)
+class Prefix:
+    """The labels whose first `length` of `bits` bits are those of `value`. Packets for these labels go to the neighbour
+    `to`, and are dropped where it is None: then the prefix holds no label of another node."""
+
+    value: int
+    length: int
+    bits: int
+    to: Optional[Hashable]
+
+    def __contains__(self, label):
+        rest = self.bits - self.length
+        return label >> self.bits == 0 and label >> rest == self.value >> rest
+
+
+@dataclass(frozen=True)
+class NodePrefixes:
+    """A node's label and its prefixes, the longest first, in the order in which a router is to load them."""
+
+    node: Hashable
+    label: int
+    prefixes: Tuple[Prefix, ...]
+
+    def to(self, label):
+        """The neighbour of the longest prefix that holds a label; None where none does, or one without a neighbour."""
+        return next((it.to for it in self.prefixes if label in it), None)
+
+
+@dataclass(frozen=True, repr=False)
+class Prefixes(ByNode):
+    """Forwarding tables for routers that look for the longest match: `bits` is the number of bits of a label, `nodes`
+    has a `NodePrefixes` for each node. A node's own label comes before its prefixes, so ask no node for it."""
+
+    kind: str
+    bits: int
+    nodes: Dict[Hashable, NodePrefixes]
+
+    @property
+    def prefixes(self):
+        """The number of prefixes of all nodes."""
+        return sum(len(it.prefixes) for it in self.nodes.values())
+
+    def __repr__(self):
+        said = f"{counted(self.prefixes, 'prefix', 'prefixes')} of at most {counted(self.bits, 'bit')}"
+        return f"<Prefixes {self.kind} of {counted(len(self.nodes), 'node')}: {said}>"
+
+    def _repr_html_(self):
+        return shown.prefixes(self)
 
 
 @dataclass(frozen=True)
@@ -88,9 +247,10 @@ class WalkStep:
     weight: Optional[int] = None
 
 
-@dataclass(frozen=True)
+@dataclass(frozen=True, repr=False)
 class Walk:
-    """The walk that a plan prescribes from source to target; `address` is the target's label."""
+    """The walk that a plan prescribes from source to target: `address` is the target's label, `weight` the sum of the
+    links' weights, `steps` has a `WalkStep` for each node. In a notebook a walk is shown as a table."""
 
     kind: str
     source: Hashable
@@ -103,6 +263,15 @@ class Walk:
     def path(self):
         """The nodes of the walk."""
         return [step.node for step in self.steps]
+
+    def __repr__(self):
+        said = [repr(node) for node in self.path]
+        if len(said) > MOST_SHOWN:
+            said[MOST_SHOWN // 2: -MOST_SHOWN // 2] = [".."]
+        return f"<Walk {self.kind}: {' '.join(said)}, weight {self.weight}>"
+
+    def _repr_html_(self):
+        return shown.walk(self)
 
 
 @dataclass(frozen=True)
@@ -120,11 +289,33 @@ class Worst:
         return Fraction(self.walk, self.distance)
 
 
+class Compactness(NamedTuple):
+    """The first port that the most intervals go by: that of `node` to its neighbour `to`, with the number of them."""
+
+    node: Hashable
+    to: Hashable
+    intervals: int
+
+
+class Bits(NamedTuple):
+    """The bits of all rows, and those of full tables by label, in which an entry takes the bits of a port."""
+
+    rows: int
+    tables: int
+
+
 @dataclass(frozen=True)
 class Stats:
-    """The figures of a plan: `starts` is the number of intervals of all nodes, `entries` that of entries of full tables,
-    `walks` and `distances` are sums over all ordered pairs of nodes; `worst` is None for a single node. `further` has what
-    else the program printed, each line's words behind its first word."""
+    """The figures of a plan, with the graph's own nodes.
+
+    `nodes` and `links` are their numbers, `starts` is the number of intervals of all nodes, and `entries` that of the
+    entries of full tables. `bits` compares the two in bits: an interval has a start besides its port, an entry a port
+    alone. `greatest_row` is the first node with the most intervals, and their number. `walks` and `distances` are sums
+    over all ordered pairs of nodes; `worst` is the first pair of the greatest stretch, and `compactness` the first port
+    with the most intervals (both None for a single node). `dependencies` is empty where no ring of links can wait for
+    each other; else links from each of its nodes to the next, and from the last to the first, are such a ring.
+    `further` has lines that this package does not know, each line's words behind its first word.
+    """
 
     kind: str
     nodes: int
@@ -135,7 +326,13 @@ class Stats:
     walks: int
     distances: int
     worst: Optional[Worst] = None
+    compactness: Optional[Compactness] = None
+    bits: Optional[Bits] = None
+    dependencies: Optional[Tuple[Hashable, ...]] = None
     further: Dict[str, Tuple[str, ...]] = field(default_factory=dict)
+
+    def _repr_html_(self):
+        return shown.stats(self)
 
     @property
     def stretch(self):
@@ -180,32 +377,49 @@ class Packet:
 
 @dataclass(frozen=True)
 class Refused:
-    """A step that could not be done: its line in the script, why, and the step as it was given."""
+    """A step that could not be done: its line in the script, why (by its name and in a sentence, where there is one), and
+    the step as it was given."""
 
     line: int
     kind: str
     step: Any = None
+    sentence: Optional[str] = None
 
 
-@dataclass(frozen=True)
+@dataclass(frozen=True, repr=False)
 class Run:
-    """What a script gave: the packets, the refused steps, and the trace as `route` printed it."""
+    """What a script gave: the packets, the refused steps, and the trace as `route` printed it, in version 1 or 2. In a
+    notebook a run is shown as a table."""
 
     version: int
     packets: Tuple[Packet, ...]
     refused: Tuple[Refused, ...]
     trace: str
 
+    def __repr__(self):
+        fates = Counter(packet.fate for packet in self.packets)
+        said = ", ".join(f"{number:,} {fate}" for fate, number in fates.items()) or "none"
+        said += f"; {counted(len(self.refused), 'step')} refused" if self.refused else ""
+        return f"<Run of {counted(len(self.packets), 'packet')}: {said}>"
+
+    def _repr_html_(self):
+        return shown.run(self)
+
 
 @dataclass(frozen=True)
 class Verdict:
-    """What `route check` says of a trace: whether it has no finding; then `rows` is their number, else `line` and `kind`
-    are those of the first finding. It is true where there is no finding."""
+    """What `route check` says of a trace: whether it has no finding; then `rows` is their number, else `line`, `kind` and
+    `sentence` are those of the first finding. It is true where there is no finding.
+
+    What is judged of a row is whether its hops and its weight are those of the plan of its epoch. Whether its packet was
+    injected, whether a link was down or a channel full, and whether packets are missing is not looked at.
+    """
 
     ok: bool
     rows: Optional[int] = None
     line: Optional[int] = None
     kind: Optional[str] = None
+    sentence: Optional[str] = None
 
     def __bool__(self):
         return self.ok
@@ -231,22 +445,64 @@ def headed(text, head, count):
     return lines[0][1], lines[1:]
 
 
+def count_of_row(row, line, names):
+    """The number of intervals of a row `START NEIGHBOUR ..`, of which each word is looked at."""
+    words = row.split(" ")
+    if len(words) % 2 != 0:
+        raise FormatError("a start without a neighbour", line)
+    starts = words[::2]
+    together = "".join(starts)
+    if not (together.isascii() and together.isdigit() and all(starts)):
+        for word in starts:
+            number(word, line)
+    for word in set(words[1::2]):
+        names.node(word)
+    return len(starts)
+
+
 def read_plan(text, names=SameNames):
-    """A plan, of the text that `route plan` prints."""
-    first, lines = headed(text, "plan", 4)
-    nodes = {}
-    for line, (name, label, *words) in lines:
-        if len(words) % 2 != 0:
-            raise FormatError("a start without a neighbour", line)
-        starts = [number(word, line) for word in words[::2]]
-        ends = starts[1:] + starts[:1]
-        neighbours = [names.node(word) for word in words[1::2]]
+    """A plan, of the text that `route plan` prints; `names` leads names back to nodes (`names_of(graph)`)."""
+    lines = text.splitlines()
+    first, _ = headed("".join(lines[:1]), "plan", 4)
+    nodes, count = {}, 0
+    for at, line in enumerate(lines[1:], 2):
+        name, *label = line.split(" ", 2)
+        if not label:
+            raise FormatError("a node without a label", at)
+        row = "".join(label[1:])
+        count += count_of_row(row, at, names) if row else 0
         node = names.node(name)
-        nodes[node] = NodePlan(node, number(label, line), tuple(map(Interval, starts, ends, neighbours)))
-    plan = Plan(first[1], nodes)
-    if len(nodes) != number(first[2], 1) or plan.intervals != number(first[3], 1):
+        nodes[node] = NodePlan.of_row(node, number(label[0], at), row, names)
+    if len(nodes) != number(first[2], 1) or count != number(first[3], 1):
         raise FormatError("not as many nodes and intervals as it says", 1)
-    return plan
+    return Plan(first[1], nodes)
+
+
+PREFIX = re.compile("([0-9]+)/([0-9]+)")
+
+
+def read_prefix(word, to, bits, line, names):
+    """A prefix, of a word `VALUE/LENGTH` and the one behind it."""
+    found = PREFIX.fullmatch(word)
+    if not found:
+        raise FormatError(f"{word!r} is no prefix", line)
+    return Prefix(int(found[1]), int(found[2]), bits, None if to == "-" else names.node(to))
+
+
+def read_prefixes(text, names=SameNames):
+    """Forwarding tables, of the text that `route prefixes` prints; `names` leads names back to nodes."""
+    first, lines = headed(text, "prefixes", 5)
+    bits, nodes = number(first[3], 1), {}
+    for line, words in lines:
+        if len(words) < 2 or len(words) % 2 != 0:
+            raise FormatError("a prefix without a neighbour", line)
+        node = names.node(words[0])
+        found = (read_prefix(word, to, bits, line, names) for word, to in zip(words[2::2], words[3::2]))
+        nodes[node] = NodePrefixes(node, number(words[1], line), tuple(found))
+    tables = Prefixes(first[1], bits, nodes)
+    if len(nodes) != number(first[2], 1) or tables.prefixes != number(first[4], 1):
+        raise FormatError("not as many nodes and prefixes as it says", 1)
+    return tables
 
 
 def read_walk(text, names=SameNames):
@@ -267,27 +523,46 @@ def read_walk(text, names=SameNames):
     return Walk(first[1], source, target, number(first[4], 1), number(first[5], 1), tuple(steps))
 
 
+def read_dependencies(words, line, names):
+    """The ring of nodes that a line of dependencies tells, empty for `acyclic`."""
+    if words == ["acyclic"]:
+        return ()
+    if words[:1] != ["cycle"]:
+        raise FormatError("neither 'acyclic' nor 'cycle'", line)
+    return tuple(map(names.node, words[1:]))
+
+
+# The figures that some outputs have: the number of words behind the first (None for any), and how they are read.
+FIGURES = {
+    "greatest-row": (2, lambda words, line, names: (names.node(words[0]), number(words[1], line))),
+    "worst": (4, lambda words, line, names: Worst(*map(names.node, words[:2]), *(number(it, line) for it in words[2:]))),
+    "compactness": (3, lambda words, line, names: Compactness(*map(names.node, words[:2]), number(words[2], line))),
+    "bits": (2, lambda words, line, names: Bits(*(number(word, line) for word in words))),
+    "dependencies": (None, read_dependencies),
+}
+NUMBERS = ("links", "starts", "entries", "walks", "distances")
+
+
+def read_figure(line, words, names):
+    """The value of a line of figures: a number, what `FIGURES` reads, or the words of a line that is not known."""
+    name, *words = words
+    length, read = FIGURES.get(name, (1, None) if name in NUMBERS else (None, None))
+    if length is not None and len(words) != length:
+        raise FormatError(f"not {length + 1} words", line)
+    if name in NUMBERS:
+        return number(words[0], line)
+    return read(words, line, names) if read else tuple(words)
+
+
 def read_stats(text, names=SameNames):
-    """The figures, of the text that `route stats` prints."""
+    """The figures, of the text that `route stats` prints; `names` leads names back to nodes."""
     first, lines = headed(text, "stats", 3)
-    found = {words[0]: (line, words[1:]) for line, words in lines}
-
-    def figure(key):
-        if key not in found:
-            raise FormatError(f"no line {key!r}", 1)
-        line, words = found.pop(key)
-        return number(words[-1], line)
-
-    row_node = names.node(found["greatest-row"][1][0]) if "greatest-row" in found else None
-    row = (row_node, figure("greatest-row"))
-    worst = None
-    if "worst" in found:
-        line, (source, target, walk, distance) = found.pop("worst")
-        worst = Worst(names.node(source), names.node(target), number(walk, line), number(distance, line))
-    keys = ("links", "starts", "entries", "walks", "distances")
-    figures = {key: figure(key) for key in keys}
-    further = {key: tuple(words) for key, (_, words) in found.items()}
-    return Stats(kind=first[1], nodes=number(first[2], 1), greatest_row=row, worst=worst, further=further, **figures)
+    found = {words[0]: read_figure(line, words, names) for line, words in lines}
+    for name in (*NUMBERS, "greatest-row"):
+        if name not in found:
+            raise FormatError(f"no line {name!r}", 1)
+    known = {name.replace("-", "_"): found.pop(name) for name in (*NUMBERS, *FIGURES) if name in found}
+    return Stats(kind=first[1], nodes=number(first[2], 1), further=found, **known)
 
 
 def read_segments(words, line, names):
@@ -357,22 +632,23 @@ def write_trace(packets, names=SameNames, version=None):
     return "\n".join(lines) + "\n"
 
 
-def read_refused(text, steps=None):
-    """The refused steps, of what stood on standard error beside a trace. `steps` are those of the script, one a line."""
+def read_refused(text, steps=None, sentences=None):
+    """The refused steps, of what stood on standard error beside a trace. `steps` are those of the script, one a line, and
+    `sentences` has the sentence of a line, where there is one."""
     refused = []
     for _, words in lines_of(text):
         if words[0] == "refused" and len(words) >= 3 and words[1].isdigit():
             line = int(words[1])
             step = steps[line - 1] if steps is not None and 1 <= line <= len(steps) else None
-            refused.append(Refused(line, words[2].rstrip(":"), step))
+            refused.append(Refused(line, words[2].rstrip(":"), step, (sentences or {}).get(line)))
     return tuple(refused)
 
 
-def read_verdict(text):
-    """The verdict, of what `route check` prints."""
+def read_verdict(text, sentence=None):
+    """The verdict, of what `route check` prints; `sentence` is that of a finding."""
     words = text.split()
     if len(words) >= 2 and words[0] == "ok":
         return Verdict(True, rows=number(words[1], 1))
     if len(words) >= 3 and words[0] == "finding":
-        return Verdict(False, line=number(words[1], 1), kind=words[2].rstrip(":"))
+        return Verdict(False, line=number(words[1], 1), kind=words[2].rstrip(":"), sentence=sentence)
     raise FormatError("neither 'ok' nor 'finding'", 1)

@@ -1,11 +1,11 @@
-"""Each format that `python -m bentzolu convert` reads, from a small text."""
+"""Each format that `python3 -m bentzolu convert` reads, from a small text."""
 import contextlib
 import io
 import pathlib
 import tempfile
 import unittest
 
-from common import bentzolu, needs_networkx, needs_route
+from common import bentzolu, graphs, needs_networkx, needs_route, networkx
 from bentzolu import program
 from bentzolu.__main__ import main
 from bentzolu.convert import READERS, converted, format_of
@@ -77,12 +77,41 @@ ROCKETFUEL = "Sydney,+Australia1 Perth,+Australia2 7.5\nPerth,+Australia2 Sydney
 CAIDA = "# source:topology|BGP|20200101\n1|11537|0\n1|21616|-1\n11537|21616|-1|bgp\n"
 CAIDA_SEEN = "# format\nT\t1000\t1001\nM\t1\t2\t3\nD\t1\t11537\t0\nD\t11537\t2_3\t0\nI\t1\t99\t1\t0\n"
 MATRIX = "%%MatrixMarket matrix coordinate real symmetric\n% a comment\n3 3 3\n2 1 0.5\n3 2 4\n1 1 9\n"
+DOT = """// a test
+strict digraph "G" {
+  rankdir = LR; node [shape=box, label="a;b"]; edge [weight=2]
+  a -> b -> c [weight=3, color="#ff0000"];
+  subgraph cluster_0 { edge [weight=5]; d; a -> d:n:se /* a port */ }
+  c -> {e "New \\"York\\""} [label=<b <i>x</i>>]
+  a -> a
+}
+"""
+GEXF = """<?xml version='1.0' encoding='utf-8'?>
+<gexf version="1.2" xmlns="http://www.gexf.net/1.2draft">
+  <graph defaultedgetype="undirected" mode="static">
+    <nodes><node id="0" label="Vienna" /><node id="1" label="Graz" /><node id="2" label="Linz" /></nodes>
+    <edges><edge source="0" target="1" id="0" weight="1.5" /><edge source="1" target="2" id="1" weight="3.0" /></edges>
+  </graph>
+</gexf>
+"""
+PAJEK = '*Vertices 3\n1 Vienna 0.0 0.0 ellipse\n2 "New York" 0.0 0.0 ellipse\n3 Linz 0.0 0.0 ellipse\n*Edges\n1 2 2\n2 3 4\n'
+MULTILINE = "# comment\n(0, 0) 2\n(0, 1) {'weight': 3}\n(1, 0) {}\n(1, 0) 1\n(0, 1) {'weight': 7, 'to': ('x', [1])}\n(0, 1) 0\n"
 PATTERN = "%%MatrixMarket matrix coordinate pattern general\n3 3 3\n1 2\n2 1\n2 3\n"
+
+
+def called(node):
+    """What a node is called, without the blanks of tuples."""
+    return str(node).replace(", ", ",")
+
+
+def graph_weight(graph, pair):
+    """The weight of the edge between two nodes, by what they are called."""
+    return next(data.get("weight", 1) for u, v, data in graph.edges(data=True) if frozenset((called(u), called(v))) == pair)
 
 
 class FormatsTest(unittest.TestCase):
     def edges(self, text, format=None, **options):
-        name = f"file.{format}" if format == "csv" else "file"
+        name = f"file.{format}" if format in ("csv", "adjlist", "graph6", "sparse6") else "file"
         found = format_of(name, text)
         self.assertEqual(found or "rocketfuel", format)
         edges, names, notes = converted(text, format, **options)
@@ -139,8 +168,96 @@ class FormatsTest(unittest.TestCase):
         self.assertIn("1 edges from a node to itself", notes)
         self.assertEqual(self.edges(PATTERN, "mtx")[0], "1 2 1\n2 3 1\n")
 
+    def test_dot(self):
+        edges, names, notes = self.edges(DOT, "dot")
+        self.assertEqual(edges, 'a b 3\nb c 3\na d 5\nc e 2\nc New_"York" 2\n')
+        self.assertEqual(names.node('New_"York"'), 'New "York"')
+        self.assertIn("1 edges from a node to itself left out; directions are dropped", notes)
+        for text, wanted in [
+            ("graph {a -- {b c} -- d [len=1.5]; a -- b [len=2,weight=1]}", "a b 3\na c 3\nb d 3\nc d 3\n"),
+            ('graph\n{ "a"+"b" -- -3.5 }', "ab _-3.5 1\n"), ("# x\nGRAPH g { a; }", "a a 1\n"), ('graph { "a\\\nb" -- c }', "ab c 1\n"),
+            ("graph { graph [x=1] x=y; a [b=c]; a--b--a [] [] }", "a b 1\n"), ("graph { subgraph { a b } -- c }", "a c 1\nb c 1\n"),
+        ]:
+            self.assertEqual(self.edges(text, "dot", weight="len" if "len" in text else None)[0], wanted)
+
+    @needs_networkx
+    def test_gexf(self):
+        edges, _, notes = self.edges(GEXF, "gexf")
+        self.assertEqual((edges, notes), ("Vienna Graz 3\nGraz Linz 6\n", "3 nodes, 2 links; weights times 2, exactly"))
+        self.assertIn("directions are dropped", self.edges(GEXF.replace("undirected", "directed"), "gexf")[2])
+
+    @needs_networkx
+    def test_pajek(self):
+        self.assertEqual(self.edges(PAJEK, "pajek")[0], "Vienna New_York 2\nNew_York Linz 4\n")
+        self.assertIn("directions are dropped", self.edges(PAJEK.replace("Edges", "Arcs"), "pajek")[2])
+
+    @needs_networkx
+    def test_graph6(self):
+        for format in ("graph6", "sparse6"):
+            write = networkx.to_graph6_bytes if format == "graph6" else networkx.to_sparse6_bytes
+            for header in (True, False):
+                text = write(networkx.path_graph(4), header=header).decode()
+                self.assertEqual(self.edges(text, format)[0], "0 1 1\n1 2 1\n2 3 1\n")
+
+    def test_lists(self):
+        for text, wanted in [
+            ("# written by hand\na b c # c\nd a#b\n", "a b 1\na c 1\nd a 1\n"), ("(0, 0) (0, 1)\n(0, 1) ('x y', 'a)') ''\n", "(0,0) (0,1) 1\n(0,1) ('xy','a)') 1\n(0,1) '' 1\n"),
+            ("(a b\n", None),
+        ]:
+            if wanted is None:
+                self.assertRaises(bentzolu.FormatError, converted, text, "adjlist")
+            else:
+                self.assertEqual(self.edges(text, "adjlist")[0], wanted)
+        for text, wanted in [
+            ("a b {'weight': 4, 'of': {'x': '}'}}\nb c {}\n", "a b 4\nb c 1\n"), ("(0, 0) (0, 1) {'weight': 2.5}\n", "(0,0) (0,1) 5\n"),
+        ]:
+            self.assertEqual(self.edges(text, "edgelist")[0], wanted)
+        self.assertEqual(converted("a b 2.5\nb c 1\nc\nc a\n", "edgelist")[0], "a b 5\nb c 2\nc a 2\n")
+        edges, names, _ = self.edges(MULTILINE, "multiline")
+        self.assertEqual(edges, "(0,0) (0,1) 3\n(0,0) (1,0) 1\n(1,0) (0,1) 7\n")
+        self.assertEqual(names.node("(1,0)"), (1, 0))
+
+    @needs_networkx
+    def test_what_networkx_writes(self):
+        for name, graph in graphs():
+            for format, write in [
+                ("adjlist", networkx.generate_adjlist), ("edgelist", networkx.generate_edgelist), ("multiline", networkx.generate_multiline_adjlist),
+                ("gexf", networkx.generate_gexf), ("graphml", networkx.generate_graphml), ("gml", networkx.generate_gml), ("pajek", networkx.generate_pajek),
+            ]:
+                if name == "preferential" and format in ("adjlist", "edgelist", "multiline") or name == "one node" and format == "edgelist":
+                    continue  # blanks in names, and a node without an edge, which such a list does not have
+                with self.subTest((name, format)):
+                    self.look_at_written(graph, format, "\n".join(write(graph)))
+
+    def look_at_written(self, graph, format, text):
+        if format in ("edgelist", "multiline") and "{" not in text:
+            found = format
+        else:
+            found = format_of(f"x.{format}", text)
+        self.assertEqual(found, format)
+        edges, names, _ = converted(text, format)
+        keeps = "weight" if format not in ("adjlist", "pajek") else None
+        wanted = {frozenset((called(u), called(v))): 1 if keeps is None else data.get("weight", 1) for u, v, data in graph.edges(data=True)}
+        if format == "pajek":
+            wanted = {pair: graph_weight(graph, pair) for pair in wanted}
+        rows = [line.split() for line in edges.splitlines()]
+        got = {frozenset((called(names.node(u)), called(names.node(v)))): int(given) for u, v, given in rows if u != v}
+        self.assertEqual(got, wanted)
+
+    def test_lists_of_networkx(self):
+        """Names of one word are read as NetworkX reads them."""
+        for text in ("a b c\nb d\n# x\nc a e#f\n", "1 2\n2 3 4\n5 1\n"):
+            if networkx is not None:
+                graph = networkx.parse_adjlist(text.splitlines())
+                rows = {frozenset(line.split()[:2]) for line in converted(text, "adjlist")[0].splitlines()}
+                self.assertEqual(rows, set(map(frozenset, graph.edges)))
+
     def test_faults(self):
         for format, text in [
+            ("dot", "graph"), ("dot", "graph {"), ("dot", "graph { a -- }"), ("dot", "graph { a [b }"), ("dot", 'graph { "a'), ("dot", "graph { a } b"), ("dot", "tree { a }"),
+            ("dot", "graph { strict }"), ("dot", "graph { a -- <b }"), ("dot", "graph { subgraph a -- b }"), ("dot", "graph { } "), ("dot", "graph {" * 9), ("dot", "graph { a ? b }"),
+            ("dot", "graph " + "{" * 100_000), ("adjlist", "a {'weight': 1}\n"), ("edgelist", "a b {'weight'\n"), ("edgelist", "a b {1}\n"), ("edgelist", "a b c d\n"), ("edgelist", "a b x\n"),
+            ("multiline", "a b\n"), ("multiline", "a 2\nb {}\n"), ("multiline", "a 1\nb {} c\n"), ("multiline", "a\n"),
             ("json", "{"), ("json", '{"nodes": 1}'), ("json", '{"nodes": [], "links": []}'), ("sndlib", "?SNDlib"), ("sndlib-xml", "<network"),
             ("sndlib", SNDLIB.replace("( N1 N2 ) 0", "( N1 N9 ) 0")), ("sndlib-xml", SNDLIB_XML.replace("<target>N2", "<target>N9")),
             ("rocketfuel", "a b\n"), ("rocketfuel", "a b far\n"), ("rocketfuel", "a b -1\n"), ("rocketfuel", "a b 0\n"), ("caida", "1|x|0\n"),
@@ -152,7 +269,10 @@ class FormatsTest(unittest.TestCase):
 
     @needs_networkx
     def test_faults_of_networkx(self):
-        for format, text in [("gml", "graph [ node ["), ("gml", "graph [ edge [ source 0 target 1 ] ]"), ("graphml", "<graphml>")]:
+        for format, text in [
+            ("gml", "graph [ node ["), ("gml", "graph [ edge [ source 0 target 1 ] ]"), ("graphml", "<graphml>"), ("gexf", "<gexf"), ("gexf", "<gexf></gexf>"),
+            ("pajek", ""), ("pajek", "*Vertices x\n"), ("graph6", "\x00"), ("graph6", "D?{\nD?{\n"), ("graph6", "é"), ("sparse6", "D?{"), ("graph6", ""),
+        ]:
             with self.subTest(text), self.assertRaises(bentzolu.BentzoluError):
                 converted(text, format)
 
@@ -172,7 +292,19 @@ class FormatsTest(unittest.TestCase):
         self.assertEqual(self.edges("f,f\n", "csv")[0], "f f 1\n")
 
     def test_every_format_is_tried_here(self):
-        self.assertEqual(set(READERS), {"gml", "graphml", "json", "sndlib", "sndlib-xml", "rocketfuel", "caida", "csv", "mtx"})
+        self.assertEqual(set(READERS), {
+            "gml", "graphml", "json", "sndlib", "sndlib-xml", "rocketfuel", "caida", "csv", "mtx", "dot", "gexf", "pajek", "graph6", "sparse6",
+            "adjlist", "edgelist", "multiline",
+        })
+
+    def test_the_format_is_found(self):
+        for name, text, format in [
+            ("x", "graph {a--b}", "dot"), ("x", "/* a */ /* b */ // c\n# d\nstrict graph x\n{ a -- b }", "dot"), ("x", "*vertices 3\n", "pajek"), ("x", "% a\n*Network x\n", "pajek"),
+            ("x", ">>graph6<<A_", "graph6"), ("x", "a b {}\n", "edgelist"), ("x", "a 1\nb {}\n", "multiline"), ("x.edges", "a b 1\n", "edgelist"), ("x.adjlist", "a b\n", "adjlist"),
+            ("x.WEL", "a b 1\n", "edgelist"), ("x.txt", "a b\n", None), ("x.txt", "graph a b\n", None), ("x", "", None), ("x.adjlist", "# " * 5000, "adjlist"), ("x", "/* */ " * 5000, None),
+            ("x.gv", "", "dot"), ("x", "<x>", None),
+        ]:
+            self.assertEqual(format_of(name, text), format, (name, text[:40]))
 
 
 class CommandTest(unittest.TestCase):
@@ -200,7 +332,11 @@ class CommandTest(unittest.TestCase):
     def test_output(self):
         status, output, faults = self.convert("net.csv", "a b,c\n")
         self.assertEqual((status, output), (0, "a_b c 1\n"))
-        self.assertIn("1 nodes have new names: --names TABLE", faults)
+        self.assertIn("1 node has a new name: --names TABLE", faults)
+
+    def test_numbers_keep_their_names(self):
+        status, output, faults = self.convert("net.json", '{"nodes": [{"id": 0}, {"id": 1.5}], "links": [{"source": 0, "target": 1.5}]}')
+        self.assertEqual((status, output, faults), (0, "0 1.5 1\n", "json: 2 nodes, 1 link\n"))
 
     def test_the_format_is_told(self):
         self.assertEqual(self.convert("net.txt", "a b 2\n", "--from", "rocketfuel")[:2], (0, "a b 2\n"))
@@ -224,11 +360,12 @@ class CommandTest(unittest.TestCase):
     def test_route_reads_what_is_written(self):
         for name, text in [
             ("a.gml", GML), ("a.graphml", GRAPHML), ("a.json", JSON), ("a.sndlib", SNDLIB), ("a.xml", SNDLIB_XML), ("a.intra", ROCKETFUEL),
-            ("a.caida", CAIDA), ("a.csv", "a b,c,2\n"), ("a.mtx", MATRIX), ("b.csv", "f,f\n"),
+            ("a.caida", CAIDA), ("a.csv", "a b,c,2\n"), ("a.mtx", MATRIX), ("b.csv", "f,f\n"), ("a.dot", DOT), ("a.gexf", GEXF), ("a.net", PAJEK), ("a.multi", MULTILINE),
+            ("a.g6", "D?{"), ("a.adjlist", "(0, 0) (0, 1)\n"),
         ]:
             status, edges, _ = self.convert(name, text)
             self.assertEqual(status, 0)
-            plan = bentzolu.read_plan(program.run(["plan", "--format", "edgelist"], [("topology", edges)])[0])
+            plan = bentzolu.read_plan(program.run(["plan", "--format", "edgelist"], [("topology", edges)]).output)
             self.assertEqual(plan.kind, "shortest")
 
 

@@ -3,8 +3,8 @@ import unittest
 from fractions import Fraction
 
 from common import bentzolu, needs_networkx, networkx
-from bentzolu.calls import line_of
 from bentzolu.graphs import prepared
+from bentzolu.sources import line_of
 
 
 def edge(weight):
@@ -33,6 +33,23 @@ class GraphsTest(unittest.TestCase):
             for call in (bentzolu.plan, bentzolu.stats, bentzolu.draw, lambda graph: bentzolu.simulate(graph, [])):
                 with self.assertRaises(error):
                     call(made)
+
+    def test_lists_of_edges(self):
+        for edges, text in [
+            ([("a", "b"), ("b", "c", 4)], "a b 1\nb c 4\n"), ([(1, 2, {"weight": 3, "color": "red"}), [2, 3]], "1 2 3\n2 3 1\n"),
+            (iter([("a", "b", 2), ("b", "a", 5), ("c", "a")]), "a b 5\na c 1\n"), ([("a", "a")], "a a 1\n"), ({("a", "b")}, "a b 1\n"),
+            ([((0, 0), (0, 1))], "(0,0) (0,1) 1\n"), (["a b".split()], "a b 1\n"),
+        ]:
+            self.assertEqual(prepared(edges)[1], text)
+        self.assertEqual(prepared([("a", "b", {"km": 3})], "km")[1], "a b 3\n")
+        graph = networkx.gnm_random_graph(12, 30, seed=3)
+        self.assertEqual(prepared(list(graph.edges))[1], prepared(networkx.Graph(list(graph.edges)))[1])
+
+    def test_what_is_no_graph(self):
+        for given in (7, None, {"a": ["b"]}, ["ab"], [("a",)], [("a", "b", 1, 2)], [7], [([], "b")], ["a b"], object()):
+            with self.subTest(given), self.assertRaises(bentzolu.GraphError) as caught:
+                bentzolu.plan(given)
+            self.assertIsInstance(caught.exception, TypeError)
 
     def test_whole_weights_are_taken(self):
         for weight in (1, 65535, 3.0, Fraction(4, 2), True):

@@ -77,10 +77,13 @@ class OutputsTest(unittest.TestCase):
 
     def test_stats(self):
         stats = bentzolu.read_stats(
-            "stats tree 6\nlinks 7\nstarts 10\nentries 30\ngreatest-row q 4\nwalks 264\ndistances 64\nworst p t 18 1\nbits 3 of 8\n"
+            "stats tree 6\nlinks 7\nstarts 10\nentries 30\ngreatest-row q 4\nwalks 264\ndistances 64\nworst p t 18 1\n"
+            "compactness u p 1\nbits 48 35\ndependencies cycle u p q\nshade 3 of 8\n"
         )
         self.assertEqual((stats.worst.stretch, stats.stretch), (18, Fraction(33, 8)))
-        self.assertEqual(stats.further, {"bits": ("3", "of", "8")})
+        self.assertEqual((stats.compactness, stats.bits), (("u", "p", 1), (48, 35)))
+        self.assertEqual((stats.bits.rows, stats.bits.tables, stats.compactness.to), (48, 35, "p"))
+        self.assertEqual((stats.dependencies, stats.further), (("u", "p", "q"), {"shade": ("3", "of", "8")}))
 
     def test_verdicts(self):
         self.assertEqual(read_verdict("ok 3\n"), bentzolu.Verdict(True, rows=3))

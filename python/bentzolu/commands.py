@@ -1,0 +1,60 @@
+"""What the words of `python3 -m bentzolu` do."""
+import pathlib
+import sys
+import warnings
+
+from . import calls, program as programs
+from .convert import READERS, converted, format_of, renamed
+from .errors import BentzoluError, TopologyWarning
+from .sources import of_file, read_text
+
+
+def text_of_file(name):
+    """The text of a file, or of standard input for `-`."""
+    if name != "-":
+        return read_text(name)
+    data = sys.stdin.buffer.read()
+    try:
+        return data.decode("utf-8-sig")
+    except UnicodeDecodeError:
+        return data.decode("latin-1")
+
+
+def write(output, text):
+    """Writes a text to a file, or to standard output where none is named."""
+    if output:
+        pathlib.Path(output).write_bytes(text.encode("utf-8"))
+    else:
+        sys.stdout.write(text)
+
+
+def convert(found):
+    """`convert`: a network in another format as a weighted edge list."""
+    text = text_of_file(found.file)
+    format = found.format or format_of(found.file, text)
+    if format is None:
+        raise BentzoluError(f"the format of {found.file} is not known: give --from, one of {', '.join(sorted(READERS))}")
+    edges, names, notes = converted(text, format, found.largest, found.weight)
+    changed = renamed(names)
+    if changed and not found.names:
+        notes.append(f"{changed} {'node has a new name' if changed == 1 else 'nodes have new names'}: --names TABLE writes which")
+    if found.names:
+        pathlib.Path(found.names).write_bytes(names.table().encode("utf-8"))
+    write(found.output, edges)
+    print(f"{format}: " + "; ".join(notes), file=sys.stderr)
+
+
+def shown(found):
+    """`plan` and `stats`: what the program prints of a network in any format."""
+    with warnings.catch_warnings(record=True) as caught:
+        warnings.simplefilter("always", TopologyWarning)
+        weight = {None: "weight", "1": None}.get(found.weight, found.weight)
+        topology = of_file(found.file, found.format, weight, found.largest)
+        asked = [found.command, *calls.options(topology, found.kind, None, ())]
+        asked += [] if found.root is None else [f"--root={found.root}"]
+        asked += [] if found.numbering is None else [f"--numbering={found.numbering}"]
+        said = programs.run(asked, [("topology", topology.text)], names=topology.names)
+        topology.warn(said.notes())
+    for warning in caught:
+        print(f"bentzolu {found.command}: {warning.message}", file=sys.stderr)
+    write(found.output, said.output)
