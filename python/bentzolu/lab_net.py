@@ -48,7 +48,8 @@ def play(script):
     """Runs a script of the shell; LabError with what it said where one of its commands fails."""
     done = subprocess.run(["sh", "-e"], input=script, text=True, capture_output=True, check=False)
     if done.returncode != 0:
-        said = (done.stderr.strip().splitlines() or [f"status {done.returncode}"])[0]
+        lines = done.stderr.strip().splitlines() or [f"status {done.returncode}"]
+        said = next((line for line in lines if "Error" in line), lines[0])
         raise LabError(f"cannot go on: {said}")
 
 
