@@ -21,7 +21,7 @@ def add_source(parser):
 def add_convert(parser):
     add_source(parser)
     parser.add_argument("--names", metavar="TABLE", help="a file for the table of names: a line NAME, tab, node as JSON for each node")
-    parser.set_defaults(run=commands.convert)
+    parser.set_defaults(act=commands.convert)
 
 
 def add_shown(parser):
@@ -29,10 +29,10 @@ def add_shown(parser):
     parser.add_argument("--kind", default="shortest", choices=("shortest", "compact", "tree"), help="how packets are routed; by default shortest")
     parser.add_argument("--root", metavar="NAME", help="the node from which labels are numbered, by its name in route")
     parser.add_argument("--numbering", metavar="HOW", help="depth-first, tour, or a file with an order of the nodes")
-    parser.set_defaults(run=commands.shown)
+    parser.set_defaults(act=commands.shown)
 
 
-# The subcommands: the name, what it does, and what adds its words to a parser. `run` of what was found is called.
+# The subcommands: the name, what it does, and what adds its words to a parser. `act` of what was found is called, and answers the status or None.
 COMMANDS = [
     ("convert", "writes a network in another format as a weighted edge list", add_convert),
     ("plan", "prints the labels and intervals of a network in any format that convert reads", add_shown),
@@ -70,7 +70,7 @@ def words():
 def main(arguments=None):
     found = words().parse_args(arguments)
     try:
-        return found.run(found) or 0
+        return found.act(found) or 0
     except (BentzoluError, OSError) as error:
         print(f"bentzolu {found.command}: {error}", file=sys.stderr)
         return 1

@@ -57,6 +57,10 @@ class Said:
     def __init__(self, status, output, faults, sentences):
         self.status, self.output, self.faults, self.sentences = status, output, faults, sentences
 
+    def __iter__(self):
+        """The output and the lines of faults, as a pair."""
+        return iter((self.output, self.faults))
+
     def of_steps(self):
         """The sentence of each line of a script that was refused."""
         found = filter(None, map(REFUSED.match, self.sentences))
@@ -138,7 +142,10 @@ def refuse_other(path, said):
     """Refuses another program that has the name: net-tools has a `route` too."""
     if said.status in (1, 2, 3) and fault_of(said.status, said.faults)[2] not in ("usage", "unknown"):
         return
-    done = subprocess.run([path, "--version"], capture_output=True, stdin=subprocess.DEVNULL, timeout=10, check=False)
+    try:
+        done = started([path, "--version"], 10)
+    except subprocess.TimeoutExpired:
+        return
     if b"net-tools" in done.stdout + done.stderr:
         raise ProgramNotFoundError(f"{path} is the route of net-tools: give another program by program=.. or {VARIABLE}")
 

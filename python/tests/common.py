@@ -20,7 +20,7 @@ try:
     ROUTE = bentzolu.find_program()
     HAS_ROUTE = os.access(ROUTE, os.X_OK)
 except bentzolu.ProgramNotFoundError:
-    HAS_ROUTE = False
+    ROUTE, HAS_ROUTE = None, False
 
 needs_networkx = unittest.skipIf(networkx is None, "there is no NetworkX")
 needs_route = unittest.skipUnless(HAS_ROUTE and networkx is not None, "there is no program route, or no NetworkX")
