@@ -47,7 +47,7 @@ def add_words(commands):
     parser.add_argument("--down", nargs=2, metavar=("A", "B"), help="a link that goes down under traffic; the second plan goes without it")
     parser.add_argument("--print", action="store_true", help="prints the script of the shell that builds and changes it, and touches nothing")
     parser.add_argument("--run", metavar="COMMAND", help="in place of the traffic and the change: builds the first epoch and runs a command there, as bash")
-    parser.set_defaults(run=lambda found: main(found, parser))
+    parser.set_defaults(act=lambda found: main(found, parser))
 
 
 @dataclass
