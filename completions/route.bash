@@ -2,13 +2,14 @@
 
 # The subcommands.
 _bentzolu_subcommands() {
-    echo 'plan walk stats draw prefixes sim live check help'
+    echo 'plan walk stats draw prefixes ranges sim live check help'
 }
 
 # The options of a subcommand, or of the program where there is none.
 _bentzolu_options() {
     case ${1-} in
-        plan | stats) echo '--format --kind --root --capacity --packets --explain --no-explain --threads --numbering --help' ;;
+        plan) echo '--format --kind --root --capacity --packets --explain --no-explain --threads --numbering --order --help' ;;
+        stats | ranges) echo '--format --kind --root --capacity --packets --explain --no-explain --threads --numbering --help' ;;
         walk | draw) echo '--format --kind --root --capacity --packets --explain --no-explain --threads --numbering --from --to --help' ;;
         prefixes) echo '--format --kind --root --capacity --packets --explain --no-explain --threads --numbering --disjoint --help' ;;
         check) echo '--format --kind --root --capacity --packets --explain --no-explain --numbering --help' ;;

@@ -1,6 +1,6 @@
 # Completions of route for fish. tests/completions holds them to the options of the program.
-set -l subcommands plan walk stats draw prefixes sim live check help
-set -l others plan walk stats draw prefixes sim live check
+set -l subcommands plan walk stats draw prefixes ranges sim live check help
+set -l others plan walk stats draw prefixes ranges sim live check
 
 complete -c route -n "not __fish_seen_subcommand_from $subcommands" -f
 complete -c route -n "not __fish_seen_subcommand_from $subcommands" -l version -d 'Print the version'
@@ -11,6 +11,7 @@ complete -c route -n "not __fish_seen_subcommand_from $subcommands" -a walk -d '
 complete -c route -n "not __fish_seen_subcommand_from $subcommands" -a stats -d 'Print the figures of a plan'
 complete -c route -n "not __fish_seen_subcommand_from $subcommands" -a draw -d 'Print a drawing for Graphviz'
 complete -c route -n "not __fish_seen_subcommand_from $subcommands" -a prefixes -d 'Print the fewest prefixes by which each node sends on'
+complete -c route -n "not __fish_seen_subcommand_from $subcommands" -a ranges -d 'Print the fewest ranges by which each node sends on'
 complete -c route -n "not __fish_seen_subcommand_from $subcommands" -a sim -d 'Play a script, one step after the other'
 complete -c route -n "not __fish_seen_subcommand_from $subcommands" -a live -d 'Play a script with a thread for each node'
 complete -c route -n "not __fish_seen_subcommand_from $subcommands" -a check -d 'Check the rows of a trace'
@@ -24,10 +25,11 @@ complete -c route -n "__fish_seen_subcommand_from $others" -l capacity -x -d 'Th
 complete -c route -n "__fish_seen_subcommand_from $others" -l packets -x -d 'The most packets'
 complete -c route -n "__fish_seen_subcommand_from $others" -l explain -d 'Sentences behind the lines of faults'
 complete -c route -n "__fish_seen_subcommand_from $others" -l no-explain -d 'No such sentences, on a terminal either'
-complete -c route -n '__fish_seen_subcommand_from plan walk stats draw prefixes' -l threads -x -d 'The most threads that make rows'
-complete -c route -n '__fish_seen_subcommand_from plan walk stats draw prefixes' -l numbering -r -d 'How nodes are numbered'
+complete -c route -n '__fish_seen_subcommand_from plan walk stats draw prefixes ranges' -l threads -x -d 'The most threads that make rows'
+complete -c route -n '__fish_seen_subcommand_from plan walk stats draw prefixes ranges' -l numbering -r -d 'How nodes are numbered'
 complete -c route -n '__fish_seen_subcommand_from walk draw' -l from -x -d 'The node that the walk goes from'
 complete -c route -n '__fish_seen_subcommand_from walk draw' -l to -x -d 'The node that it goes to'
+complete -c route -n '__fish_seen_subcommand_from plan' -l order -d 'The order of the labels in place of the rows'
 complete -c route -n '__fish_seen_subcommand_from prefixes' -l disjoint -d 'Prefixes of which no two hold one label'
 complete -c route -n '__fish_seen_subcommand_from sim live check' -l numbering -x -a 'depth-first tour' -d 'How each plan is numbered'
 complete -c route -n '__fish_seen_subcommand_from sim live' -l restamps -x -a '0 1 2 3' -d 'The most restamps of a packet'

@@ -1,7 +1,7 @@
 """A plan's intervals as ranges of labels, for tables that match ranges: nftables, P4, TCAMs, arrays of C.
 
-They are computed here from what `route plan` prints. The program doesn't print them and nothing of them is proved, so
-`check_ranges` compares them, label by label, with the plan's intervals before they are used.
+They are computed here from what `route plan` prints, and are those that `route ranges` prints. Nothing of this module is
+proved, so `check_ranges` compares them, label by label, with the plan's intervals before they are used.
 """
 from typing import Hashable, NamedTuple
 

@@ -15,7 +15,8 @@ use std::sync::Wait;
 use std::thread;
 use std::thread::Threads;
 
-fn path(alloc: Global) -> Option<Topology> {
+/// The path.
+pub(crate) fn path(alloc: Global) -> Option<Topology> {
     let mut graph = Graph::new(alloc);
     let Ok(_) = graph.add_edge("a", "b", 1) else {
         return None;

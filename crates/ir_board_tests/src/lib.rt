@@ -1,7 +1,9 @@
 //! Worked runs by hand and between threads: of channels, of the registry of plans and of the board, and of plans whose rows
-//! are made in threads or over the numbers of a tour.
+//! are made by a crew, over the numbers of a tour too; and of runs whose plans are.
 #![tactic(auto)]
 
+#[cfg(test)]
+mod crews;
 #[cfg(test)]
 mod epochs;
 #[cfg(test)]

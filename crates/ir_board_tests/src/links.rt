@@ -42,7 +42,7 @@ fn written(alloc: Global, id: u32, next: u16) -> Result<Letter, AllocError>
 
 // Sends the letter where the sender leads. It comes back where the channel is full.
 fn post<R: Wait>(rt: &R, sender: &mut Sender<Letter>, mut letter: Letter) -> Option<Letter>
-    ensures { sender.new.line ≡ sender.old.line }
+    ensures { sender.new.channel ≡ sender.old.channel }
 {
     letter.next = sender.place().to;
     match sender.send(rt, letter) {
@@ -57,7 +57,7 @@ fn id_of(item: Option<Letter>) -> Option<u32> {
 
 // The id of the letter that comes back, where one of this id is sent.
 fn sent<R: Wait>(rt: &R, alloc: Global, sender: &mut Sender<Letter>, id: u32) -> Option<u32>
-    ensures { sender.new.line ≡ sender.old.line }
+    ensures { sender.new.channel ≡ sender.old.channel }
 {
     match written(alloc, id, 0) {
         Ok(letter) => id_of(post(rt, sender, letter)),
@@ -75,7 +75,7 @@ fn is_second(left: &[Letter]) -> bool {
 
 // The ids that come back of three letters that are sent.
 fn three_sent<R: Wait>(rt: &R, alloc: Global, sender: &mut Sender<Letter>) -> [Option<u32>; 3]
-    ensures { sender.new.line ≡ sender.old.line }
+    ensures { sender.new.channel ≡ sender.old.channel }
 {
     [
         sent(rt, alloc, sender, 0),
@@ -118,7 +118,7 @@ fn send_ids<R: Wait>(
     mut sender: Sender<Letter>,
     count: u32,
 ) -> Result<Sender<Letter>, AllocError>
-    ensures { IfOk result (λ s. s.line ≡ sender.line) }
+    ensures { IfOk result (λ s. s.channel ≡ sender.channel) }
 {
     for id in 0..count {
         let mut waiting = Some(written(alloc, id, 0)?);
@@ -135,7 +135,7 @@ fn send_ids<R: Wait>(
 
 // True if the ids are 0 and up, in order.
 fn take_ids<R: Wait>(rt: &R, mut taker: Taker<Letter>, count: u32) -> (Taker<Letter>, bool)
-    ensures { result.0.line ≡ taker.line }
+    ensures { result.0.channel ≡ taker.channel }
 {
     let mut next = 0;
     let mut in_order = true;
@@ -167,10 +167,10 @@ fn through<R: Threads + Wait + Sync>(
     let (sender, (taker, in_order)) = thread::join(
         rt,
         move || -> Result<Sender<Letter>, AllocError>
-            ensures { IfOk result (λ s. s.line ≡ sender.line) }
+            ensures { IfOk result (λ s. s.channel ≡ sender.channel) }
         { send_ids(rt, alloc, sender, count) },
         move || -> (Taker<Letter>, bool)
-            ensures { result.0.line ≡ taker.line }
+            ensures { result.0.channel ≡ taker.channel }
         { take_ids(rt, taker, count) },
     );
     settle_into(rt, sender?, taker, &mut rest);

@@ -1,12 +1,20 @@
-//! Plans whose rows are made in several threads: by depth-first numbers, by those of a tour, and over a given order. That
-//! these are the rows which one thread makes, and what they are, `tests/program` shows of texts of plans.
+//! Plans whose rows a crew makes: by depth-first numbers, by those of a tour, and over a given order; and what their parts
+//! are, made in threads. What the rows are, `tests/program` shows of texts of plans.
 
+ghost use Rattle.std.specs.Prelude.{◌≢◌, ◌<◌};
+ghost use Rattle.ir_model.specs.{Topology.node_count, declared.Kind.TheVariants.Tree};
+
+use crate::epochs::path;
 use ir_graph::Graph;
 use ir_model::Kind;
-use ir_numbering::check_order;
-use ir_plan::{LabelOrder, Plan, PlanError, Unwatched, plan_in_order};
+use ir_numbering::{Numbering, check_order};
+use ir_plan::{
+    Alone, Crew, LabelOrder, Labels, Plan, PlanError, Several, Unwatched, columns_in_threads,
+    distances_in_threads, rows_in_threads,
+};
 use ir_tables::Topology;
 use std::alloc::Global;
+use std::test::Fail;
 use std::thread::Threads;
 
 // Links two nodes by their numbers, with a weight from 1 to 7.
@@ -28,43 +36,31 @@ fn chain(alloc: Global, nodes: u16) -> Option<Topology> {
     Topology::of(alloc, &graph).ok()
 }
 
-/// The plan of shortest ways that a tour from a root labels.
-fn toured(
-    rt: &(impl Threads + Sync),
+/// The plan of shortest ways that is labelled from a root, depth first or by a tour.
+fn labelled(
+    crew: &impl Crew,
     alloc: Global,
     topology: Topology,
+    order: LabelOrder,
     root: u16,
     most: Option<usize>,
 ) -> Result<Plan, (PlanError, Topology)> {
-    plan_in_order(
-        rt,
-        alloc,
-        topology,
-        LabelOrder::Tour,
-        Kind::Shortest,
-        root,
-        most,
-        &Unwatched,
-    )
+    let labels = Labels::FromRoot(order, root);
+    Plan::build_by(crew, alloc, topology, Kind::Shortest, labels, most)
 }
 
 /// How many starts a plan of a chain has by depth-first numbers, or by a tour, made in at most so many threads. A plain
 /// program in another language counted the same.
 fn starts(
-    rt: &(impl Threads + Sync),
+    crew: &impl Crew,
     alloc: Global,
     nodes: u16,
-    is_tour: bool,
+    order: LabelOrder,
     most: Option<usize>,
 ) -> Option<usize> {
     let topology = chain(alloc, nodes)?;
-    let made = if is_tour {
-        toured(rt, alloc, topology, 5, most)
-    } else {
-        Plan::build_in_threads(rt, alloc, topology, Kind::Shortest, 5, most)
-    };
-    match made {
-        Ok(plan) => Some(plan.starts()),
+    match labelled(crew, alloc, topology, order, 5, most) {
+        Ok(plan) => Some(plan.labels()),
         Err(_) => None,
     }
 }
@@ -72,23 +68,19 @@ fn starts(
 #[test]
 fn tours_of_chains_have_fewer_starts(rt: HostRuntime) {
     let alloc = rt.alloc();
-    assert!(rt; starts(&rt, alloc, 20, false, Some(1)) == Some(118));
-    assert!(rt; starts(&rt, alloc, 20, true, Some(1)) == Some(82));
-    assert!(rt; starts(&rt, alloc, 60, false, Some(2)) == Some(354));
-    assert!(rt; starts(&rt, alloc, 60, true, Some(2)) == Some(238));
+    let crew = Several { rt: &rt };
+    assert!(rt; starts(&Alone, alloc, 20, LabelOrder::DepthFirst, Some(1)) == Some(118));
+    assert!(rt; starts(&Alone, alloc, 20, LabelOrder::Tour, None) == Some(82));
+    assert!(rt; starts(&crew, alloc, 20, LabelOrder::Tour, Some(1)) == Some(82));
+    assert!(rt; starts(&crew, alloc, 60, LabelOrder::DepthFirst, Some(2)) == Some(354));
+    assert!(rt; starts(&crew, alloc, 60, LabelOrder::Tour, Some(2)) == Some(238));
 }
 
-/// Whether a plan in threads, or one by a tour, is refused where the root is no node, and the topology comes back.
-fn comes_back(rt: &(impl Threads + Sync), alloc: Global, is_tour: bool) -> Option<bool> {
+/// Whether a plan is refused where the root is no node, and the topology comes back.
+fn comes_back(crew: &impl Crew, alloc: Global, order: LabelOrder) -> Option<bool> {
     let topology = chain(alloc, 20)?;
     let nodes = topology.nodes();
-    let root = nodes as u16;
-    let made = if is_tour {
-        toured(rt, alloc, topology, root, None)
-    } else {
-        Plan::build_in_threads(rt, alloc, topology, Kind::Shortest, root, None)
-    };
-    match made {
+    match labelled(crew, alloc, topology, order, nodes as u16, None) {
         Err((PlanError::NoNode, back)) => Some(back.nodes() == nodes),
         _ => None,
     }
@@ -96,9 +88,10 @@ fn comes_back(rt: &(impl Threads + Sync), alloc: Global, is_tour: bool) -> Optio
 
 #[test]
 fn a_refusal_hands_the_topology_back(rt: HostRuntime) {
+    let crew = Several { rt: &rt };
     let answers = (
-        comes_back(&rt, rt.alloc(), false),
-        comes_back(&rt, rt.alloc(), true),
+        comes_back(&crew, rt.alloc(), LabelOrder::DepthFirst),
+        comes_back(&Alone, rt.alloc(), LabelOrder::Tour),
     );
     assert!(rt; answers == (Some(true), Some(true)));
 }
@@ -112,46 +105,163 @@ fn backwards(alloc: Global, nodes: usize) -> Option<Vec<u16>> {
     Some(order)
 }
 
-// The plan of a chain over its nodes from the last on, its rows made one by one, or in two threads.
-fn over_an_order(rt: &(impl Threads + Sync), alloc: Global, is_in_threads: bool) -> Option<Plan> {
+// The plan of a chain over its nodes from the last on.
+fn over_an_order(crew: &impl Crew, alloc: Global, kind: Kind, most: Option<usize>) -> Option<Plan>
+    requires { kind ≢ Tree }
+{
     let topology = chain(alloc, 40)?;
     let order = backwards(alloc, topology.nodes())?;
     let Ok(()) = check_order(alloc, topology.nodes(), order.as_slice()) else {
         return None;
     };
-    if is_in_threads {
-        Plan::build_numbered_watched(
-            rt,
-            alloc,
-            topology,
-            Kind::Compact,
-            order,
-            Some(2),
-            &Unwatched,
-        )
-        .ok()
-    } else {
-        Plan::build_numbered(alloc, topology, Kind::Compact, order).ok()
+    let labels = Labels::Listed(order);
+    Plan::build_by(crew, alloc, topology, kind, labels, most).ok()
+}
+
+// The plan of a chain that is labelled from a root.
+fn from_a_root(
+    crew: &impl Crew,
+    alloc: Global,
+    kind: Kind,
+    order: LabelOrder,
+    most: Option<usize>,
+) -> Option<Plan> {
+    let topology = chain(alloc, 40)?;
+    Plan::build_by(
+        crew,
+        alloc,
+        topology,
+        kind,
+        Labels::FromRoot(order, 5),
+        most,
+    )
+    .ok()
+}
+
+// Whether a node has the same label and row in two plans.
+fn is_row_of_both(one: &Plan, other: &Plan, u: u16) -> bool
+    requires here { u < node_count one.now.topology }
+    requires there { u < node_count other.now.topology }
+{
+    let (row, second) = (one.row(u), other.row(u));
+    if one.label_of(u) != other.label_of(u) || row.len() != second.len() {
+        return false;
+    }
+    for i in 0..row.len() {
+        if row.start(i) != second.start(i) || row.port(i) != second.port(i) {
+            return false;
+        }
+    }
+    true
+}
+
+// Whether two plans are of one kind and root, and have the same rows and so many links.
+fn are_one(one: &Plan, other: &Plan) -> bool {
+    if one.nodes() != other.nodes() {
+        return false;
+    }
+    for u in 0..one.nodes() {
+        if !is_row_of_both(one, other, u as u16) {
+            return false;
+        }
+    }
+    let links = one.topology().links() == other.topology().links();
+    links && (one.kind(), one.root()) == (other.kind(), other.root())
+}
+
+// Whether there are two plans of a chain of 80 links, and they are one.
+fn are_both(one: Option<Plan>, other: Option<Plan>) -> bool {
+    match (one, other) {
+        (Some(one), Some(other)) => are_one(&one, &other) && one.into_topology().links() == 80,
+        _ => false,
     }
 }
 
-// How many starts the plan over an order has, if the topology that it hands back has all links.
-fn starts_over_an_order(
-    rt: &(impl Threads + Sync),
-    alloc: Global,
-    is_in_threads: bool,
-) -> Option<usize> {
-    let plan = over_an_order(rt, alloc, is_in_threads)?;
-    let (starts, links) = (plan.starts(), plan.topology().links());
-    if plan.into_topology().links() == links {
-        Some(starts)
-    } else {
-        None
+/// The kinds and orders of plans from a root.
+static FROM_A_ROOT: [(Kind, LabelOrder); 6] = [
+    (Kind::Tree, LabelOrder::DepthFirst),
+    (Kind::Tree, LabelOrder::Tour),
+    (Kind::Shortest, LabelOrder::DepthFirst),
+    (Kind::Shortest, LabelOrder::Tour),
+    (Kind::Compact, LabelOrder::DepthFirst),
+    (Kind::Compact, LabelOrder::Tour),
+];
+
+#[test]
+fn one_plan_of_each_kind_and_labels(rt: HostRuntime) -> Result<(), Fail> {
+    let (alloc, crew) = (rt.alloc(), Several { rt: &rt });
+    for (kind, order) in &FROM_A_ROOT {
+        let alone = from_a_root(&Alone, alloc, *kind, *order, None);
+        if !are_both(alone, from_a_root(&crew, alloc, *kind, *order, Some(2))) {
+            return Err("another plan".into());
+        }
     }
+    let alone = over_an_order(&Alone, alloc, Kind::Shortest, None);
+    assert!(rt; are_both(alone, over_an_order(&crew, alloc, Kind::Shortest, Some(2))));
+    let alone = over_an_order(&Alone, alloc, Kind::Compact, None);
+    assert!(rt; are_both(alone, over_an_order(&crew, alloc, Kind::Compact, Some(2))));
+    Ok(())
+}
+
+/// The ports of a, b and c of the path to each of them; 65,535 stands for that of a node to itself.
+static COLUMNS: [[u16; 3]; 3] = [[65_535, 0, 0], [0, 65_535, 0], [0, 1, 65_535]];
+
+// Whether the ports of a plan of the path are these.
+fn are_columns(rt: &(impl Threads + Sync), alloc: Global) -> Option<bool> {
+    let crew = Several { rt };
+    let plan = labelled(&crew, alloc, path(alloc)?, LabelOrder::DepthFirst, 0, None).ok()?;
+    let columns = columns_in_threads(rt, alloc, &plan, Some(2)).ok()?;
+    for (d, column) in COLUMNS.iter().enumerate() {
+        if columns.get(d)?.as_slice() != column.as_slice() {
+            return Some(false);
+        }
+    }
+    Some(columns.len() == 3)
 }
 
 #[test]
-fn plans_over_an_order_are_alike(rt: HostRuntime) {
-    let one = starts_over_an_order(&rt, rt.alloc(), false);
-    assert!(rt; one.is_some() && one == starts_over_an_order(&rt, rt.alloc(), true));
+fn ports_to_each_node(rt: HostRuntime) {
+    assert!(rt; are_columns(&rt, rt.alloc()) == Some(true));
+}
+
+/// At how many of a, b and c the ports to each two of them differ.
+static DISTANCES: [[u16; 3]; 3] = [[0, 2, 3], [2, 0, 2], [3, 2, 0]];
+
+// Whether the distances by these ports are so.
+fn are_distances(rt: &(impl Threads + Sync), alloc: Global) -> Option<bool> {
+    let columns = [
+        Vec::from_slice(alloc, &COLUMNS[0]).ok()?,
+        Vec::from_slice(alloc, &COLUMNS[1]).ok()?,
+        Vec::from_slice(alloc, &COLUMNS[2]).ok()?,
+    ];
+    let rows = distances_in_threads(rt, alloc, &columns, Some(2)).ok()?;
+    for (a, row) in DISTANCES.iter().enumerate() {
+        if rows.get(a)?.as_slice() != row.as_slice() {
+            return Some(false);
+        }
+    }
+    Some(rows.len() == 3)
+}
+
+#[test]
+fn distances_of_each_two_nodes(rt: HostRuntime) {
+    assert!(rt; are_distances(&rt, rt.alloc()) == Some(true));
+}
+
+// How many starts the rows of a chain have by depth-first numbers, made in at most two threads.
+fn starts_of_rows(rt: &(impl Threads + Sync), alloc: Global, nodes: u16) -> Option<usize> {
+    let topology = chain(alloc, nodes)?;
+    let numbers = Numbering::depth_first(alloc, &topology, 5).ok()?;
+    let (kind, most) = (Kind::Shortest, Some(2));
+    let rows = rows_in_threads(rt, alloc, &topology, &numbers, kind, most, &Unwatched).ok()?;
+    let mut starts = 0usize;
+    for row in &rows {
+        starts = starts.saturating_add(row.len());
+    }
+    Some(starts)
+}
+
+#[test]
+fn rows_of_each_node(rt: HostRuntime) {
+    assert!(rt; starts_of_rows(&rt, rt.alloc(), 60) == Some(354));
 }

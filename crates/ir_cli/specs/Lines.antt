@@ -56,7 +56,7 @@ order_fault_name kind = word_of order_fault_words (order_fault_code kind)
 abbrev pub opening_words : List (List ℕ)
 opening_words =
     codes "NoNode" ∷ codes "Empty" ∷ codes "Disconnected" ∷ codes "TooLarge" ∷ codes "NoMemory"
-    ∷ codes "Used" ∷ []
+    ∷ codes "TooManyReaders" ∷ codes "Used" ∷ []
 
 abbrev pub open_error_name : OpenError → List ℕ
 open_error_name error = word_of opening_words (open_code error)

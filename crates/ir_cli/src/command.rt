@@ -1,5 +1,6 @@
 //! The command line: its subcommands, and what each of them takes.
 
+use crate::{DEFAULT_CAPACITY, DEFAULT_PACKETS, DEFAULT_RESTAMPS, MAX_THREADS};
 use clap::{Arg, ArgAction, Command};
 use ir_core::{MAX_CAPACITY, MAX_PACKETS, MAX_RESTAMPS};
 use std::alloc::{AllocError, Global};
@@ -53,9 +54,6 @@ struct Spelled {
 
 static VERSION: &str = "1.0.0";
 
-/// The most threads that make the rows of a plan.
-const MAX_THREADS: u16 = 256;
-
 const PREFIXES_LINES: &str = "\
 Lines that are printed:
   prefixes KIND N BITS LINES                       The numbers of nodes, of bits of a label, and of lines of tables
@@ -68,7 +66,22 @@ Example, for a topology with the lines 'a b' and 'b c':
   b 0 2/1 c 0/0 a
   c 2 2/1 - 0/0 b
 
-What goes to a label goes by the line of the longest prefix that holds it.";
+What goes to a label goes by the line of the longest prefix that holds it; a number beyond the labels goes as the last
+label does, and is unreachable at its node.";
+
+const RANGES_LINES: &str = "\
+Lines that are printed:
+  ranges KIND N COUNT                              The numbers of nodes, and of ranges of all nodes
+  NODE LABEL [FROM-TO NEXT]...                     The ranges of a node, ascending; NEXT is a neighbour
+
+Example, for a topology with the lines 'a b' and 'b c':
+  $ route ranges --kind tree --root b TOPOLOGY
+  ranges tree 3 5
+  a 1 0-0 b 2-2 b
+  b 0 1-1 a 2-2 c
+  c 2 0-1 b
+
+What goes to a label goes by the range that has it; a node's own label is in none.";
 
 const SCRIPT_LINES: &str = "\
 Lines of a script ('learn', 'take', 'read' and 'act' are lines of 'sim' alone):
@@ -123,13 +136,13 @@ const COMMON: [Taken; 7] = [
         name: "capacity",
         help: "The capacity of each channel and inbox",
         takes: Takes::Number("C", 1, MAX_CAPACITY as u16),
-        need: Need::Else("16"),
+        need: Need::Else(DEFAULT_CAPACITY),
     },
     Taken {
         name: "packets",
         help: "The most packets",
         takes: Takes::Number("M", 1, MAX_PACKETS as u16),
-        need: Need::Else("4096"),
+        need: Need::Else(DEFAULT_PACKETS),
     },
     Taken {
         name: "explain",
@@ -199,6 +212,14 @@ const DRAWN: [Taken; 2] = [
     },
 ];
 
+/// The flag of a plan's rows.
+const ORDERED: [Taken; 1] = [Taken {
+    name: "order",
+    help: "The nodes in the order of their labels in place of the rows, as a file for --numbering has them",
+    takes: Takes::Nothing,
+    need: Need::Free,
+}];
+
 /// The flag of prefixes.
 const PREFIXED: [Taken; 1] = [Taken {
     name: "disjoint",
@@ -230,7 +251,7 @@ const PLAYED: [Taken; 4] = [
         name: "restamps",
         help: "The most restamps of a packet; above 0 the trace has its segments",
         takes: Takes::Number("R", 0, MAX_RESTAMPS as u16),
-        need: Need::Else("0"),
+        need: Need::Else(DEFAULT_RESTAMPS),
     },
     Taken {
         name: "topology",
@@ -260,13 +281,13 @@ const CHECKED: [Taken; 4] = [
 ];
 
 /// The subcommands.
-static SUBCOMMANDS: [Spelled; 8] = [
+static SUBCOMMANDS: [Spelled; 9] = [
     Spelled {
         name: "plan",
         about: "Prints the labels and rows of a topology's nodes",
         lines: "",
         args: &SHOWN,
-        own: &[],
+        own: &ORDERED,
     },
     Spelled {
         name: "walk",
@@ -295,6 +316,13 @@ static SUBCOMMANDS: [Spelled; 8] = [
         lines: PREFIXES_LINES,
         args: &SHOWN,
         own: &PREFIXED,
+    },
+    Spelled {
+        name: "ranges",
+        about: "Prints the fewest ranges of labels by which each node sends on, for tables that match ranges",
+        lines: RANGES_LINES,
+        args: &SHOWN,
+        own: &[],
     },
     Spelled {
         name: "sim",

@@ -23,3 +23,15 @@ pub use read::{Source, Unread, read_inputs};
 pub use reply::{Reply, tell_unread, write_reply};
 pub use words::{Format, Numbering, Sub, Words, WordsError, read_words};
 pub use write::tell;
+
+/// The most threads that make the rows of a plan.
+pub const MAX_THREADS: u16 = 256;
+
+/// The capacity of each channel and inbox where the words tell none.
+pub const DEFAULT_CAPACITY: &str = "16";
+
+/// The most packets of a run where the words tell none.
+pub const DEFAULT_PACKETS: &str = "4096";
+
+/// The most restamps of a packet where the words tell none.
+pub const DEFAULT_RESTAMPS: &str = "0";

@@ -43,12 +43,13 @@ static ORDER_FAULTS: [&str; 6] = [
 ];
 
 /// Those of the refusals of an opening.
-static OPENINGS: [&str; 6] = [
+static OPENINGS: [&str; 7] = [
     "NoNode",
     "Empty",
     "Disconnected",
     "TooLarge",
     "NoMemory",
+    "TooManyReaders",
     "Used",
 ];
 

@@ -18,6 +18,7 @@ pub enum Sub {
     Stats,
     Draw,
     Prefixes,
+    Ranges,
     Sim,
     Live,
     Check,
@@ -42,8 +43,8 @@ pub enum Numbering {
 }
 
 /// What the words ask for. The files are the one word `-`, which stands for standard input with all texts, or else one
-/// for each text: the topology for `plan`, `walk`, `stats`, `draw` and `prefixes`, the topology and the script for
-/// `sim` and `live`, and the trace too for `check`. No other number of files is read, and `-` beside another file is
+/// for each text: the topology for `plan`, `walk`, `stats`, `draw`, `prefixes` and `ranges`, the topology and the script
+/// for `sim` and `live`, and the trace too for `check`. No other number of files is read, and `-` beside another file is
 /// refused.
 #[derive(Drop)]
 pub struct Words {
@@ -52,8 +53,8 @@ pub struct Words {
     pub kind: Kind,
     /// The name of the root; the first node where there is none.
     pub root: Option<String>,
-    /// Other than depth first where the kind is not Tree alone; a file's for `plan`, `walk`, `stats`, `draw` and `prefixes`
-    /// alone, where no root is named.
+    /// Other than depth first where the kind is not Tree alone; a file's for `plan`, `walk`, `stats`, `draw`, `prefixes` and
+    /// `ranges` alone, where no root is named.
     pub numbering: Numbering,
     /// The capacity of each channel and inbox, from 1 to 1,024.
     pub capacity: usize,
@@ -68,6 +69,8 @@ pub struct Words {
     pub to: Option<String>,
     /// Whether no number is to match two lines of a node, for `prefixes`.
     pub disjoint: bool,
+    /// Whether the order of the labels is to stand in place of the rows, for `plan`.
+    pub order_alone: bool,
     /// Whether sentences for people are to stand behind the lines of faults.
     pub explain: bool,
     pub files: Vec<String>,
@@ -229,6 +232,7 @@ fn words_of(alloc: Global, sub: Sub, found: &ArgMatches<'_>) -> Result<Words, Al
         from,
         to,
         disjoint: found.get_flag("disjoint"),
+        order_alone: found.get_flag("order"),
         explain: found.get_flag("explain") && !found.get_flag("no-explain"),
         files,
     })
@@ -237,7 +241,7 @@ fn words_of(alloc: Global, sub: Sub, found: &ArgMatches<'_>) -> Result<Words, Al
 /// Whether the files are `-` alone, or one for each text with no `-` among them.
 fn has_its_files(words: &Words) -> bool {
     let texts = match words.sub {
-        Sub::Plan | Sub::Walk | Sub::Stats | Sub::Draw | Sub::Prefixes => 1,
+        Sub::Plan | Sub::Walk | Sub::Stats | Sub::Draw | Sub::Prefixes | Sub::Ranges => 1,
         Sub::Sim | Sub::Live => 2,
         Sub::Check => 3,
     };
@@ -281,6 +285,7 @@ fn sub_of(name: &str) -> Sub {
         "stats" => Sub::Stats,
         "draw" => Sub::Draw,
         "prefixes" => Sub::Prefixes,
+        "ranges" => Sub::Ranges,
         _ => Sub::Plan,
     }
 }

@@ -23,7 +23,7 @@ use Rattle.ir_control.proofs.Slotted.{full_at}
 use Rattle.ir_control.proofs.Wiring.{sum_nothing, map_eq}
 
 abbrev pub head_weight : (Head → Bool) → Parcel → ℕ
-head_weight p x = one p (head_of x.journey)
+head_weight p x = one p (head_of x.packet)
 
 abbrev pub outcome_weight : (Head → Bool) → Outcome → ℕ
 outcome_weight p o = one p (head_of o.packet)
@@ -45,7 +45,7 @@ module _ (nodes : List Node) (injector : Injector) (outs : List Out) (outs_are :
       omega (arith, a, b, balanced, sent)
 
   -- each number below the count was settled once or is left once
-  pub once_each : (i : ℕ) → settled (hit outcome_number i) + sum_by (hit (λ (x : Parcel). x.journey.id) i) left ≡ once (length injector.accepted.items) i
+  pub once_each : (i : ℕ) → settled (hit outcome_number i) + sum_by (hit (λ (x : Parcel). x.packet.id) i) left ≡ once (length injector.accepted.items) i
   once_each i = conserved (λ h. h.id == i) ∙ injected_once injector.accepted.items injector.numbered i
 
 module _ (accepted : List Accepted) (numbered : AreNumbered accepted) (os : List Outcome) (counts : (p : Head → Bool) → sum_by (outcome_weight p) os ≡ times_injected p accepted) where

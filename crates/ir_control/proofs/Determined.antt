@@ -34,7 +34,7 @@ abbrev settled_for : ℕ → (Record → ℕ) → Node → ℕ
 settled_for k f n = node_settled (λ o. only k f o.packet) n
 
 abbrev left_for : ℕ → (Record → ℕ) → Parcel → ℕ
-left_for k f x = only k f x.journey
+left_for k f x = only k f x.packet
 
 module _ (net : Net) (nodes : List Node) (injector : Injector) (report : Report) (is : IsReport net nodes injector report) where
   outcome_count : length is.outcomes ≡ length injector.accepted.items
@@ -67,7 +67,7 @@ module _ (net : Net) (nodes : List Node) (injector : Injector) (report : Report)
     weighed f =
         sym (own_only k f o.packet one_for)
         ∙ sym (picked_at (λ (o : Outcome). once_for k o.packet) (λ (o : Outcome). only k f o.packet) (λ o. less_only k f o.packet) is.outcomes k o got one_for (once_told k (slice_get_within is.outcomes k o got)))
-        ∙ is.told_are (λ (t : Told). only k f t.journey)
+        ∙ is.told_are (λ (t : Told). only k f t.packet)
 
     less_settled : (f : Record → ℕ) (n : Node) → settled_for k (λ _. 1) n ≡ 0 → settled_for k f n ≡ 0
     less_settled f n = nothing (λ (o : Outcome). once_for k o.packet) (λ (o : Outcome). only k f o.packet) (λ o. less_only k f o.packet) n.outcomes.items
@@ -90,20 +90,20 @@ module _ (net : Net) (nodes : List Node) (injector : Injector) (report : Report)
               let here : sum_by (settled_for k f) nodes ≡ sum_by (λ (o : Outcome). only k f o.packet) n.1.outcomes.items = picked_at (settled_for k (λ _. 1)) (settled_for k f) (less_settled f) nodes n.0 n.1 n.2 n.3 one in
               let there = picked_at (λ (o : Outcome). once_for k o.packet) (λ (o : Outcome). only k f o.packet) (λ o. less_only k f o.packet) n.1.outcomes.items p.0 p.1 p.2 p.3 n.3 in
               let own = own_only k f p.1.packet p.3 in
-              let rest = nothing (left_for k (λ _. 1)) (left_for k f) (λ x. less_only k f x.journey) is.left none in
+              let rest = nothing (left_for k (λ _. 1)) (left_for k f) (λ x. less_only k f x.packet) is.left none in
               omega (arith, all, here, there, own, rest))),
         )
 
     is_left : sum_by (settled_for k (λ _. 1)) nodes ≡ 0 → sum_by (left_for k (λ _. 1)) is.left ≡ 1 → o.packet.fate ≡ Left
     is_left none one =
         let x = picked (left_for k (λ _. 1)) is.left one in
-        let same = same_record o.packet x.1.journey (λ f.
+        let same = same_record o.packet x.1.packet (λ f.
         (let all = weighed f in
-        let here : sum_by (left_for k f) is.left ≡ only k f x.1.journey = picked_at (left_for k (λ _. 1)) (left_for k f) (λ x. less_only k f x.journey) is.left x.0 x.1 x.2 x.3 one in
-        let own = own_only k f x.1.journey x.3 in
+        let here : sum_by (left_for k f) is.left ≡ only k f x.1.packet = picked_at (left_for k (λ _. 1)) (left_for k f) (λ x. less_only k f x.packet) is.left x.0 x.1 x.2 x.3 one in
+        let own = own_only k f x.1.packet x.3 in
         let rest = nothing (settled_for k (λ _. 1)) (settled_for k f) (less_settled f) nodes none in
         omega (arith, all, here, own, rest))) in
-        ap (λ (r : Record). r.fate) same ∙ subst (λ (y : Parcel). y.journey.fate ≡ Left) (get_or_from_slice_get is.left x.0 x.1 x.1 x.2) (is.fates x.0 x.1 (slice_get_within is.left x.0 x.1 x.2))
+        ap (λ (r : Record). r.fate) same ∙ subst (λ (y : Parcel). y.packet.fate ≡ Left) (get_or_from_slice_get is.left x.0 x.1 x.1 x.2) (is.fates x.0 x.1 (slice_get_within is.left x.0 x.1 x.2))
 
     -- what is not told as left a node settled
     pub settled_here : o.packet.fate ≢ Left → IsSettledHere

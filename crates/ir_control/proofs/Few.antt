@@ -21,7 +21,7 @@ flag b = cond b 1 0
 
 -- 1 for what has had more restamps than so many
 abbrev too_many : ℕ → Told → ℕ
-too_many limit t = flag (ltb limit (length t.journey.restamps))
+too_many limit t = flag (ltb limit (length t.packet.restamps))
 
 none_for : (limit n : ℕ) → n ≤ limit → flag (ltb limit n) ≡ 0
 none_for limit n le = go (ltb limit n) refl where
@@ -58,7 +58,7 @@ module _ (net : Net) where
       let rest : sum_by (λ (x : Parcel). too_many net.restamps (told_left x)) left ≡ 0 = sum_nothing (λ (x : Parcel). too_many net.restamps (told_left x)) left (λ p x got.
       (let within = slice_get_within left p x got in
       let at : slice_index_or left p x ≡ x = get_or_from_slice_get left p x x got in
-      none_for net.restamps (length x.journey.restamps) (subst (λ (y : Parcel). IsFew net.restamps y) at (few p x within)))) in
+      none_for net.restamps (length x.packet.restamps) (subst (λ (y : Parcel). IsFew net.restamps y) at (few p x within)))) in
       let all = told_are (too_many net.restamps) in
       let part = get_or-le-sum_by outcome_over outcomes k d lt in
       few_for net.restamps (length (slice_index_or outcomes k d).packet.restamps) (omega (arith, settled, rest, all, part)))

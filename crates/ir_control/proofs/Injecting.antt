@@ -26,7 +26,7 @@ numbered_more xs ys a e id_is numbered = λ k b got.
     ]
 
 -- a parcel that was sent weighs with those that were
-sent_more : (before after : List (Sender Place Parcel)) (u : ℕ) (x : Parcel) → SentTo before after u x → (w : Record → ℕ) → weigh_sent w after ≡ weigh_sent w before + w x.journey
+sent_more : (before after : List (Sender Place Parcel)) (u : ℕ) (x : Parcel) → SentTo before after u x → (w : Record → ℕ) → weigh_sent w after ≡ weigh_sent w before + w x.packet
 sent_more before after u x sent w =
     let s = sent.0 in
     let new : Sender Place Parcel = record s { sent = s.sent ++ x ∷ [] } in
@@ -34,11 +34,11 @@ sent_more before after u x sent w =
     let set = sum_by-set (λ (s : Sender Place Parcel). weigh w s.sent) before u new s within in
     let read = ap (λ (s : Sender Place Parcel). weigh w s.sent) (get_or_from_slice_get before u s s sent.1) in
     let after_is = ap (weigh_sent w) sent.2 in
-    let more = sum_by_push (λ (x : Parcel). w x.journey) s.sent x in
+    let more = sum_by_push (λ (x : Parcel). w x.packet) s.sent x in
     omega (arith, set, read, after_is, more)
 
 pub account_more : (before after : List (Sender Place Parcel)) (u : ℕ) (x : Parcel) (xs ys : List Accepted) (a : Accepted)
-    → SentTo before after u x → ys ≡ xs ++ a ∷ [] → head_of x.journey ≡ head_at a → ((p : Head → Bool) → times_sent p before ≡ times_injected p xs)
+    → SentTo before after u x → ys ≡ xs ++ a ∷ [] → head_of x.packet ≡ head_at a → ((p : Head → Bool) → times_sent p before ≡ times_injected p xs)
     → (p : Head → Bool) → times_sent p after ≡ times_injected p ys
 account_more before after u x xs ys a sent e same account p =
     let more = sent_more before after u x sent (head_weighs p) in
@@ -48,11 +48,11 @@ account_more before after u x xs ys a sent e same account p =
     omega (arith, more, injected, heads, was)
 
 -- a parcel that had no restamp adds none
-pub fresh_more : (before after : List (Sender Place Parcel)) (u : ℕ) (x : Parcel) → SentTo before after u x → x.journey.restamps ≡ []
+pub fresh_more : (before after : List (Sender Place Parcel)) (u : ℕ) (x : Parcel) → SentTo before after u x → x.packet.restamps ≡ []
     → ((p : ℕ → Bool) → weigh_sent (restamps_with p) before ≡ 0) → (p : ℕ → Bool) → weigh_sent (restamps_with p) after ≡ 0
 fresh_more before after u x sent none fresh p =
     let more = sent_more before after u x sent (restamps_with p) in
-    let nothing : restamps_with p x.journey ≡ 0 = ap (sum_by (λ (s : Restamp). cond {A = ℕ} (p s.epoch) 1 0)) none in
+    let nothing : restamps_with p x.packet ≡ 0 = ap (sum_by (λ (s : Restamp). cond {A = ℕ} (p s.epoch) 1 0)) none in
     let was = fresh p in
     omega (arith, more, nothing, was)
 

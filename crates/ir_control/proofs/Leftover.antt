@@ -59,14 +59,14 @@ all_slots net nodes slots all len at kind weighs = record {
 }
 
 module _ {P T : Type 0} where
-  line_of : (takers : List (Taker P T)) (k : ℕ) → k < length takers → (t : Taker P T) × (slice_get takers k ≡ Some t) × (line_at takers k ≡ Some t.line)
+  line_of : (takers : List (Taker P T)) (k : ℕ) → k < length takers → (t : Taker P T) × (slice_get takers k ≡ Some t) × (line_at takers k ≡ Some t.channel)
   line_of [] k lt = absurd (omega (arith, lt))
   line_of (t ∷ ts) zero lt = (t, refl, refl)
   line_of (t ∷ ts) (suc k) lt = line_of ts k (omega (arith, lt))
 
   -- rows whose ends are of the channels of their places are paired
   pub paired_at : (peers : List ℕ) (ways : List (Channel P)) (slots : List (Option (Sender P T))) (takers : List (Taker P T)) → ArePeers peers → length slots ≡ length peers → length takers ≡ length peers
-      → AllGet (λ k slot. slice_get ways k ≡ slot_line slot) slots → AllGet (λ k t. slice_get ways (slice_index peers k) ≡ Some t.line) takers → ArePaired peers slots takers
+      → AllGet (λ k slot. slice_get ways k ≡ slot_line slot) slots → AllGet (λ k t. slice_get ways (slice_index peers k) ≡ Some t.channel) takers → ArePaired peers slots takers
   paired_at peers ways slots takers are outs ins out_lines in_lines = record {
     peers_are = are;
     slots_len = outs;
@@ -87,7 +87,7 @@ pub lines_there : (inboxes : List (Channel Place)) (outs : List Out) → lines_o
 lines_there inboxes outs e = λ k slot got.
     (let s = slot_get (λ (s : Out). Some s) outs k slot got in
     ap (λ ls. slice_get ls k) (sym e) ∙ there outs k s.0 s.1 ∙ ap slot_line s.2) where
-      there : (outs : List Out) (k : ℕ) (s : Out) → slice_get outs k ≡ Some s → slice_get (lines_out outs) k ≡ Some s.line
+      there : (outs : List Out) (k : ℕ) (s : Out) → slice_get outs k ≡ Some s → slice_get (lines_out outs) k ≡ Some s.channel
       there [] k s got = absurd (none-some s got)
       there (x ∷ xs) zero s got = ap (λ (slot : Option Out). slot_line slot) got
       there (x ∷ xs) (suc k) s got = there xs k s got
@@ -98,7 +98,7 @@ inboxes_paired net outs inboxes takers senders lines rows =
     let n = net.inboxes_are.count in
     let m = net.entries_are.count in
     let len = ap length lines in
-    let a = length-map outs (λ (s : Out). s.line) in
+    let a = length-map outs (λ (s : Out). s.channel) in
     let b = length-map outs (λ (s : Out). Some s) in
     let q = rows.inbox_count in
     paired_at net.entries.items net.inboxes.items (map (λ s. Some s) outs) inboxes (entries_paired (node_count net.topology) net.entries.items net.entries_are) (omega (arith, n, m, len, a, b)) (omega (arith, q, m))
@@ -114,26 +114,26 @@ ways_paired net inboxes takers senders rows =
     paired_at net.peers.items net.ways.items senders takers net.ways_are.peers_are (omega (arith, all, n, a)) (omega (arith, all, n, b)) rows.out_lines rows.in_lines
 
 -- a way of a net is of the net
-way_is : (net : Net) (k : ℕ) (line : Channel Place) → slice_get net.ways.items k ≡ Some line → (line.place.opening ≡ net.opening) × (line.place.restamps ≡ net.restamps)
-way_is net k line got =
-    let lt = slice_get_within net.ways.items k line got in
+way_is : (net : Net) (k : ℕ) (channel : Channel Place) → slice_get net.ways.items k ≡ Some channel → (channel.place.opening ≡ net.opening) × (channel.place.restamps ≡ net.restamps)
+way_is net k channel got =
+    let lt = slice_get_within net.ways.items k channel got in
     let n = net.ways_are.count in
     let at = place_of net.topology k (omega (arith, lt, n)) in
-    let is = net.ways_are.out at.0 at.1 at.2 line at.3 (ap (slice_get net.ways.items) (sym at.4) ∙ got) in
+    let is = net.ways_are.out at.0 at.1 at.2 channel at.3 (ap (slice_get net.ways.items) (sym at.4) ∙ got) in
     (ap (λ (p : Place). p.opening) is.place, ap (λ (p : Place). p.restamps) is.place)
 
 module _ (net : Net) (n : ℕ) (inboxes takers : List In) (senders : List (Option Out)) (rows : AreEndRows net n inboxes takers senders) where
-  pub inboxes_placed : All (λ (t : In). t.line.place.opening ≡ net.opening) inboxes
-  inboxes_placed = all_of_get (λ (t : In). t.line.place.opening ≡ net.opening) inboxes (λ k t got. ap (λ (p : Place). p.opening) (net.inboxes_are.each k t.line (rows.inbox_lines k t got)).place)
+  pub inboxes_placed : All (λ (t : In). t.channel.place.opening ≡ net.opening) inboxes
+  inboxes_placed = all_of_get (λ (t : In). t.channel.place.opening ≡ net.opening) inboxes (λ k t got. ap (λ (p : Place). p.opening) (net.inboxes_are.each k t.channel (rows.inbox_lines k t got)).place)
 
-  pub takers_placed : All (λ (t : In). t.line.place.opening ≡ net.opening) takers
-  takers_placed = all_of_get (λ (t : In). t.line.place.opening ≡ net.opening) takers (λ k t got. (way_is net (slice_index net.peers.items k) t.line (rows.in_lines k t got)).0)
+  pub takers_placed : All (λ (t : In). t.channel.place.opening ≡ net.opening) takers
+  takers_placed = all_of_get (λ (t : In). t.channel.place.opening ≡ net.opening) takers (λ k t got. (way_is net (slice_index net.peers.items k) t.channel (rows.in_lines k t got)).0)
 
-  pub inboxes_limited : All (λ (t : In). t.line.place.restamps ≡ net.restamps) inboxes
-  inboxes_limited = all_of_get (λ (t : In). t.line.place.restamps ≡ net.restamps) inboxes (λ k t got. ap (λ (p : Place). p.restamps) (net.inboxes_are.each k t.line (rows.inbox_lines k t got)).place)
+  pub inboxes_limited : All (λ (t : In). t.channel.place.restamps ≡ net.restamps) inboxes
+  inboxes_limited = all_of_get (λ (t : In). t.channel.place.restamps ≡ net.restamps) inboxes (λ k t got. ap (λ (p : Place). p.restamps) (net.inboxes_are.each k t.channel (rows.inbox_lines k t got)).place)
 
-  pub takers_limited : All (λ (t : In). t.line.place.restamps ≡ net.restamps) takers
-  takers_limited = all_of_get (λ (t : In). t.line.place.restamps ≡ net.restamps) takers (λ k t got. (way_is net (slice_index net.peers.items k) t.line (rows.in_lines k t got)).1)
+  pub takers_limited : All (λ (t : In). t.channel.place.restamps ≡ net.restamps) takers
+  takers_limited = all_of_get (λ (t : In). t.channel.place.restamps ≡ net.restamps) takers (λ k t got. (way_is net (slice_index net.peers.items k) t.channel (rows.in_lines k t got)).1)
 
   pub rows_count : n ≡ node_count net.topology → length inboxes + length takers ≡ node_count net.topology + way_count net.topology
   rows_count is =

@@ -17,3 +17,5 @@ pub mod Slotted
 pub mod Restamped
 pub mod Picked
 pub mod Determined
+pub mod Numbered
+pub mod Unplanned

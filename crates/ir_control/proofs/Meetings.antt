@@ -21,7 +21,7 @@ module _ {P T : Type 0} where
     pub paired : ArePaired peers slots takers
     pub account : (w : T → ℕ) → (times_in_slots w slots + sum_by w left) + weight_taken w takers_0 ≡ (times_in_slots w slots_0 + sum_by w left_0) + weight_taken w takers
 
-  line_at_push : (ts : List (Taker P T)) (t : Taker P T) → line_at (ts ++ t ∷ []) (length ts) ≡ Some t.line
+  line_at_push : (ts : List (Taker P T)) (t : Taker P T) → line_at (ts ++ t ∷ []) (length ts) ≡ Some t.channel
   line_at_push [] t = refl
   line_at_push (x ∷ ts) t = line_at_push ts t
 
@@ -30,14 +30,14 @@ module _ {P T : Type 0} where
   line_at_before (x ∷ ts) t zero lt = refl
   line_at_before (x ∷ ts) t (suc k) lt = line_at_before ts t k (omega (arith, lt))
 
-  holds_line : (slot : Option (Sender P T)) (line : Channel P) → slot_line slot ≡ Some line → (s : Sender P T) → slot ≡ Some s → s.line ≡ line
-  holds_line slot line h s e = some_same (sym (ap slot_line e) ∙ h) where
-    some_same : Some s.line ≡ Some line → s.line ≡ line
-    some_same e = ap (λ (o : Option (Channel P)). elim o [ None ↦ line | Some l ↦ l ]) e
+  holds_line : (slot : Option (Sender P T)) (channel : Channel P) → slot_line slot ≡ Some channel → (s : Sender P T) → slot ≡ Some s → s.channel ≡ channel
+  holds_line slot channel h s e = some_same (sym (ap slot_line e) ∙ h) where
+    some_same : Some s.channel ≡ Some channel → s.channel ≡ channel
+    some_same e = ap (λ (o : Option (Channel P)). elim o [ None ↦ channel | Some l ↦ l ]) e
 
-  holds_some : (slot : Option (Sender P T)) (line : Channel P) → slot_line slot ≡ Some line → slot ≡ None → ⊥
-  holds_some slot line h e = differ (sym (ap slot_line e) ∙ h) where
-    differ : None ≡ Some line → ⊥
+  holds_some : (slot : Option (Sender P T)) (channel : Channel P) → slot_line slot ≡ Some channel → slot ≡ None → ⊥
+  holds_some slot channel h e = differ (sym (ap slot_line e) ∙ h) where
+    differ : None ≡ Some channel → ⊥
     differ e = subst (λ (o : Option (Channel P)). IsNothing o) e tt
 
   module _ (peers : List ℕ) (slots : List (Option (Sender P T))) (rest : List (Taker P T)) (t : Taker P T) (paired : ArePaired peers slots (rest ++ t ∷ [])) where
@@ -50,7 +50,7 @@ module _ {P T : Type 0} where
     place_back : slice_index peers (slice_index peers (length rest)) ≡ length rest
     place_back = paired.peers_are.back (length rest) last_below
 
-    pub at_place : slot_line (slice_index_or slots (slice_index peers (length rest)) None) ≡ Some t.line
+    pub at_place : slot_line (slice_index_or slots (slice_index peers (length rest)) None) ≡ Some t.channel
     at_place =
         let len = length_push rest t in
         let back = place_back in
@@ -95,14 +95,14 @@ module _ {P T : Type 0} where
     read_none : x ≡ slice_index_or slots (slice_index peers (length rest)) None
     read_none = get_or_read slots (slice_index peers (length rest)) x (place_below peers slots rest t settling.paired) read None
 
-    line_of_x : slot_line x ≡ Some t.line
+    line_of_x : slot_line x ≡ Some t.channel
     line_of_x = ap slot_line read_none ∙ at_place peers slots rest t settling.paired
 
-    pub one_channel : (s : Sender P T) → x ≡ Some s → s.line ≡ t.line
-    one_channel = holds_line x t.line line_of_x
+    pub one_channel : (s : Sender P T) → x ≡ Some s → s.channel ≡ t.channel
+    one_channel = holds_line x t.channel line_of_x
 
     pub never_empty : x ≡ None → ⊥
-    never_empty = holds_some x t.line line_of_x
+    never_empty = holds_some x t.channel line_of_x
 
     pub settled_one : (s : Sender P T) → x ≡ Some s → (more left_1 : List T) → s.sent ≡ t.taken ++ more → left_1 ≡ left ++ more
         → IsSettling slots_0 takers_0 left_0 peers (slice_set slots (slice_index peers (length rest)) None) rest left_1
@@ -140,7 +140,7 @@ module _ {P T : Type 0} where
     read_at : x ≡ get_or slots (slice_index peers (length rest)) x
     read_at = subst (λ (k : ℕ). x ≡ get_or slots (slice_index peers k) x) q_is read
 
-    pub one_channel_at : (s : Sender P T) → Some s ≡ x → s.line ≡ t.line
+    pub one_channel_at : (s : Sender P T) → Some s ≡ x → s.channel ≡ t.channel
     one_channel_at s is = one_channel slots_0 takers_0 left_0 peers slots rest t left settling_at x read_at s (sym is)
 
     pub never_empty_at : x ≡ None → ⊥

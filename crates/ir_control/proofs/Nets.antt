@@ -43,11 +43,11 @@ marks_len entries = marks_from opening_board entries (length-replicate {A = Bool
 
 -- an end that stands at a place is of that place's line
 pub end_place : (o : Stamp) (restamps : ℕ) (outs : List (Sender Place Parcel)) (u : ℕ) (s : Sender Place Parcel) → AreEntryEnds o restamps (lines_out outs) → u < length outs → s ≡ get_or outs u s
-    → s.line.place ≡ net_place o restamps u u
+    → s.channel.place ≡ net_place o restamps u u
 end_place o restamps outs u s ends lt read =
-    ends.each u s.line (slice_get-map (λ (s : Sender Place Parcel). s.line) outs u ∙ ap (option_map (λ (s : Sender Place Parcel). s.line)) (slice_get_read outs (length outs) u s refl lt read))
+    ends.each u s.channel (slice_get-map (λ (s : Sender Place Parcel). s.channel) outs u ∙ ap (option_map (λ (s : Sender Place Parcel). s.channel)) (slice_get_read outs (length outs) u s refl lt read))
 
-pub goes_in : (o : Stamp) (restamps u : ℕ) (p : Parcel) (place : Place) → place ≡ net_place o restamps u u → p.next ≡ u → p.journey.hops ≡ u ∷ [] → IsParcelOf o p → p.journey.restamps ≡ [] → HasRoomOf o restamps p → GoesTo p place
+pub goes_in : (o : Stamp) (restamps u : ℕ) (p : Parcel) (place : Place) → place ≡ net_place o restamps u u → p.next ≡ u → p.packet.hops ≡ u ∷ [] → IsParcelOf o p → p.packet.restamps ≡ [] → HasRoomOf o restamps p → GoesTo p place
 goes_in o restamps u p place at next hops of fresh room = subst (λ (place : Place). GoesTo p place) (sym at) (record {
   last = ap last_of hops;
   next = next;
@@ -68,9 +68,9 @@ parcel_of_net o p s first later of =
           go zero d lt = of
           go (suc k) d lt = absurd (omega (arith, lt))
 
-pub lines_kept : (outs : List (Sender Place Parcel)) (i : ℕ) (new old : Sender Place Parcel) → old ≡ get_or outs i old → new.line ≡ old.line
+pub lines_kept : (outs : List (Sender Place Parcel)) (i : ℕ) (new old : Sender Place Parcel) → old ≡ get_or outs i old → new.channel ≡ old.channel
     → lines_out (slice_set outs i new) ≡ lines_out outs
-lines_kept outs i new old read same = map-set_same (λ (s : Sender Place Parcel). s.line) outs i new old (same ∙ ap (λ (s : Sender Place Parcel). s.line) read)
+lines_kept outs i new old read same = map-set_same (λ (s : Sender Place Parcel). s.channel) outs i new old (same ∙ ap (λ (s : Sender Place Parcel). s.channel) read)
 
 pub sent_by : (outs : List (Sender Place Parcel)) (u : ℕ) (s new : Sender Place Parcel) (x : Parcel) → u < length outs → s ≡ get_or outs u s
     → new ≡ record s { sent = s.sent ++ x ∷ [] } → SentTo outs (slice_set outs u new) u x

@@ -24,34 +24,34 @@ all_last P xs ys x e all =
     subst P (get_or-append_seam xs x [] x) (more (length xs) x (omega (arith, n)))
 
 abbrev IsPlaced : Stamp → Taker Place Parcel → Type 0
-IsPlaced o t = t.line.place.opening ≡ o
+IsPlaced o t = t.channel.place.opening ≡ o
 
 pub places_rest : (o : Stamp) (takers rest : List (Taker Place Parcel)) (t : Taker Place Parcel) → takers ≡ rest ++ t ∷ [] → All (IsPlaced o) takers → All (IsPlaced o) rest
 places_rest o takers rest t e all = all_front (IsPlaced o) rest takers t e all
 
-pub place_last : (o : Stamp) (takers rest : List (Taker Place Parcel)) (t : Taker Place Parcel) → takers ≡ rest ++ t ∷ [] → All (IsPlaced o) takers → t.line.place.opening ≡ o
+pub place_last : (o : Stamp) (takers rest : List (Taker Place Parcel)) (t : Taker Place Parcel) → takers ≡ rest ++ t ∷ [] → All (IsPlaced o) takers → t.channel.place.opening ≡ o
 place_last o takers rest t e all = all_last (IsPlaced o) rest takers t e all
 
 abbrev IsIn : Stamp → Parcel → Type 0
 IsIn o x = IsParcelOf o x
 
-pub all_left : (o : Stamp) (left more after : List Parcel) (t : Taker Place Parcel) → after ≡ left ++ more → All (IsIn o) left → t.line.place.opening ≡ o
-    → All (λ x. GoesTo x t.line.place) more → All (IsIn o) after
+pub all_left : (o : Stamp) (left more after : List Parcel) (t : Taker Place Parcel) → after ≡ left ++ more → All (IsIn o) left → t.channel.place.opening ≡ o
+    → All (λ x. GoesTo x t.channel.place) more → All (IsIn o) after
 all_left o left more after t e all at goes =
     subst (All (IsIn o)) (sym e)
     (All-append (IsIn o) left more all (λ k d lt. subst (λ (s : Stamp). IsParcelOf s (slice_index_or more k d)) at (goes k d lt).of_net))
 
 abbrev IsLimited : ℕ → Taker Place Parcel → Type 0
-IsLimited limit t = t.line.place.restamps ≡ limit
+IsLimited limit t = t.channel.place.restamps ≡ limit
 
 pub limits_rest : (limit : ℕ) (takers rest : List (Taker Place Parcel)) (t : Taker Place Parcel) → takers ≡ rest ++ t ∷ [] → All (IsLimited limit) takers → All (IsLimited limit) rest
 limits_rest limit takers rest t e all = all_front (IsLimited limit) rest takers t e all
 
-pub limit_last : (limit : ℕ) (takers rest : List (Taker Place Parcel)) (t : Taker Place Parcel) → takers ≡ rest ++ t ∷ [] → All (IsLimited limit) takers → t.line.place.restamps ≡ limit
+pub limit_last : (limit : ℕ) (takers rest : List (Taker Place Parcel)) (t : Taker Place Parcel) → takers ≡ rest ++ t ∷ [] → All (IsLimited limit) takers → t.channel.place.restamps ≡ limit
 limit_last limit takers rest t e all = all_last (IsLimited limit) rest takers t e all
 
-pub few_left : (limit : ℕ) (left more after : List Parcel) (t : Taker Place Parcel) → after ≡ left ++ more → All (IsFew limit) left → t.line.place.restamps ≡ limit
-    → All (λ x. GoesTo x t.line.place) more → All (IsFew limit) after
+pub few_left : (limit : ℕ) (left more after : List Parcel) (t : Taker Place Parcel) → after ≡ left ++ more → All (IsFew limit) left → t.channel.place.restamps ≡ limit
+    → All (λ x. GoesTo x t.channel.place) more → All (IsFew limit) after
 few_left limit left more after t e all at goes =
     subst (All (IsFew limit)) (sym e)
     (All-append (IsFew limit) left more all (λ k d lt. subst (λ (n : ℕ). IsFew n (slice_index_or more k d)) at (goes k d lt).few))

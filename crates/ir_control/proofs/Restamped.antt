@@ -29,7 +29,7 @@ not_passed false e = refl
 
 module _ (p : ℕ → Bool) where
   abbrev of_parcel : Parcel → ℕ
-  of_parcel x = restamps_with p x.journey
+  of_parcel x = restamps_with p x.packet
 
   abbrev of_outcome : Outcome → ℕ
   of_outcome o = restamps_with p o.packet
@@ -48,7 +48,7 @@ module _ (p : ℕ → Bool) where
       → (k : ℕ) (o : Outcome) → slice_get is.outcomes k ≡ Some o → (j : ℕ) (s : Restamp) → slice_get o.packet.restamps j ≡ Some s → p s.epoch ≡ false
   not_told net nodes injector report is never k o at j s there =
       let gone = is.left_is of_parcel in
-      let all = is.told_are (λ (t : Told). restamps_with p t.journey) in
+      let all = is.told_are (λ (t : Told). restamps_with p t.packet) in
       let even = nodes_even nodes never in
       let injected : sum_by (λ (s : Out). sum_by of_parcel s.sent) injector.outs.items ≡ 0 = injector.fresh p in
       let none : sum_by of_outcome is.outcomes ≡ 0 = omega (arith, gone, all, even, injected) in

@@ -32,15 +32,15 @@ node_back net a b is same =
       opening = same.opening ∙ is.opening;
       restamps = same.restamps ∙ is.restamps;
       inbox = ap (slice_get net.inboxes.items) same.index ∙ is.inbox ∙ ap Some (sym same.inbox);
-      outs_count = (let e = ap length same.outs in let p = length-map b.outs.items (λ (s : Out). s.line) in let q = length-map a.outs.items (λ (s : Out). s.line) in let n = is.outs_count in omega (arith, e, p, q, n, degree));
+      outs_count = (let e = ap length same.outs in let p = length-map b.outs.items (λ (s : Out). s.channel) in let q = length-map a.outs.items (λ (s : Out). s.channel) in let n = is.outs_count in omega (arith, e, p, q, n, degree));
       outs = λ p s got.
-          (let there : slice_get (lines_out a.outs.items) p ≡ Some s.line = ap (λ ls. slice_get ls p) (sym same.outs) ∙ get_map (λ (s : Out). s.line) b.outs.items p s got in
-          let t = slot_get (λ (s : Out). s.line) a.outs.items p s.line there in
+          (let there : slice_get (lines_out a.outs.items) p ≡ Some s.channel = ap (λ ls. slice_get ls p) (sym same.outs) ∙ get_map (λ (s : Out). s.channel) b.outs.items p s got in
+          let t = slot_get (λ (s : Out). s.channel) a.outs.items p s.channel there in
           ap (λ u. slice_get net.ways.items (offset net.topology u + p)) same.index ∙ is.outs p t.0 t.1 ∙ ap Some t.2);
-      ins_count = (let e = ap length same.ins in let p = length-map b.entrances.ports.items (λ (s : In). s.line) in let q = length-map a.entrances.ports.items (λ (s : In). s.line) in let n = is.ins_count in omega (arith, e, p, q, n, degree));
+      ins_count = (let e = ap length same.ins in let p = length-map b.entrances.ports.items (λ (s : In). s.channel) in let q = length-map a.entrances.ports.items (λ (s : In). s.channel) in let n = is.ins_count in omega (arith, e, p, q, n, degree));
       ins = λ p s got.
-          (let there : slice_get (lines_in a.entrances.ports.items) p ≡ Some s.line = ap (λ ls. slice_get ls p) (sym same.ins) ∙ get_map (λ (s : In). s.line) b.entrances.ports.items p s got in
-          let t = slot_get (λ (s : In). s.line) a.entrances.ports.items p s.line there in
+          (let there : slice_get (lines_in a.entrances.ports.items) p ≡ Some s.channel = ap (λ ls. slice_get ls p) (sym same.ins) ∙ get_map (λ (s : In). s.channel) b.entrances.ports.items p s got in
+          let t = slot_get (λ (s : In). s.channel) a.entrances.ports.items p s.channel there in
           ap (λ u. slice_get net.ways.items (slice_index net.peers.items (offset net.topology u + p))) same.index ∙ is.ins p t.0 t.1 ∙ ap Some t.2);
     }
 

@@ -74,11 +74,11 @@ rows_more net u n inboxes inboxes_1 takers takers_1 senders senders_1 rows at is
     let degree : length (ports_of net.topology n.index) ≡ length (ports_of net.topology u) = ap (λ v. length (ports_of net.topology v)) at in
     record {
       inbox_count = (let e = ap length a in let p = length_push inboxes n.entrances.inbox in let q = rows.inbox_count in omega (arith, e, p, q));
-      inbox_lines = subst (AllGet (λ k (t : In). slice_get net.inboxes.items k ≡ Some t.line)) (sym a)
-          (all_get_push (λ k t. slice_get net.inboxes.items k ≡ Some t.line) inboxes n.entrances.inbox rows.inbox_lines (ap (slice_get net.inboxes.items) (rows.inbox_count ∙ sym at) ∙ is.inbox));
+      inbox_lines = subst (AllGet (λ k (t : In). slice_get net.inboxes.items k ≡ Some t.channel)) (sym a)
+          (all_get_push (λ k t. slice_get net.inboxes.items k ≡ Some t.channel) inboxes n.entrances.inbox rows.inbox_lines (ap (slice_get net.inboxes.items) (rows.inbox_count ∙ sym at) ∙ is.inbox));
       in_count = (let e = ap length b in let p = length-append takers n.entrances.ports.items in let q = rows.in_count in let d = is.ins_count in omega (arith, e, p, q, d, degree, next));
-      in_lines = subst (AllGet (λ k (t : In). slice_get net.ways.items (slice_index net.peers.items k) ≡ Some t.line)) (sym b)
-          (all_get_append (λ k t. slice_get net.ways.items (slice_index net.peers.items k) ≡ Some t.line) takers n.entrances.ports.items rows.in_lines
+      in_lines = subst (AllGet (λ k (t : In). slice_get net.ways.items (slice_index net.peers.items k) ≡ Some t.channel)) (sym b)
+          (all_get_append (λ k t. slice_get net.ways.items (slice_index net.peers.items k) ≡ Some t.channel) takers n.entrances.ports.items rows.in_lines
           (λ p t got. ap (λ k. slice_get net.ways.items (slice_index net.peers.items (k + p))) (rows.in_count ∙ ap (offset net.topology) (sym at)) ∙ is.ins p t got));
       out_count = (let e = ap length c in let p = length-append senders (map (λ (s : Out). Some s) n.outs.items) in let m = length-map n.outs.items (λ (s : Out). Some s) in let q = rows.out_count in let d = is.outs_count in omega (arith, e, p, m, q, d, degree, next));
       out_lines = subst (AllGet (λ k (slot : Option Out). slice_get net.ways.items k ≡ slot_line slot)) (sym c)

@@ -213,18 +213,18 @@ peer_fits net u hop k peer =
     omega (arith, within, is)
 
 module _ (net : Topology) (opening : Stamp) (restamps capacity : ℕ) (ways : List (Channel Place)) (peers : List ℕ) (is : IsTopology net)
-    (ways_are : IsFilled net (λ v hop line. IsNetChannel opening restamps capacity v hop.node line) ways) (peers_filled : IsFilled net (IsPeer net) peers) where
-  way_in : (u p : ℕ) (hop : Hop) (line : Channel Place) → port_at net u p ≡ Some hop → slice_get ways (slice_index peers (offset net u + p)) ≡ Some line
-      → IsNetChannel opening restamps capacity hop.node u line
-  way_in u p hop line at got =
+    (ways_are : IsFilled net (λ v hop channel. IsNetChannel opening restamps capacity v hop.node channel) ways) (peers_filled : IsFilled net (IsPeer net) peers) where
+  way_in : (u p : ℕ) (hop : Hop) (channel : Channel Place) → port_at net u p ≡ Some hop → slice_get ways (slice_index peers (offset net u + p)) ≡ Some channel
+      → IsNetChannel opening restamps capacity hop.node u channel
+  way_in u p hop channel at got =
       let peer = peer_at net is peers peers_filled u p hop at in
-      ways_are.each hop.node peer.0 (port_back u hop) line peer.1 (ap (slice_get ways) (sym peer.2) ∙ got)
+      ways_are.each hop.node peer.0 (port_back u hop) channel peer.1 (ap (slice_get ways) (sym peer.2) ∙ got)
 
   pub wired : AreWiredWays net opening restamps capacity ways peers
   wired = record {
     count = ways_are.len;
     peer_count = peers_filled.len;
     peers_are = peers_are net is peers peers_filled;
-    out = λ u p hop line at got. ways_are.each u p hop line at got;
+    out = λ u p hop channel at got. ways_are.each u p hop channel at got;
     in_by = way_in;
   }

@@ -50,7 +50,7 @@ fits_ways net u first row lt at is =
 module _ (registry : Registry) (net : Topology) (o : Stamp) (opening : IsOpening registry net o) (restamps capacity : ℕ) (few_restamps : restamps ≤ MAX_RESTAMPS) (inboxes ways : List (Channel Place)) (peers : List ℕ)
     (inboxes_are : AreInboxes net o restamps capacity inboxes) (ways_are : AreWiredWays net o restamps capacity ways peers)
     (u first degree : ℕ) (lt : u < node_count net) (at : first ≡ offset net u) (ports : List Hop) (ports_are : ports ≡ ports_of net u) (degree_is : degree ≡ length ports)
-    (inbox : Taker Place Parcel) (inbox_is : slice_get inboxes u ≡ Some inbox.line)
+    (inbox : Taker Place Parcel) (inbox_is : slice_get inboxes u ≡ Some inbox.channel)
     (outs : List (Sender Place Parcel)) (outs_at : AreOutsAt ways first degree outs) (ins : List (Taker Place Parcel)) (ins_at : AreInsAt ways peers first degree ins) where
   port_here : (p : ℕ) (h : Hop) → slice_get ports p ≡ Some h → port_at net u p ≡ Some h
   port_here p h got = ap (λ (row : List Hop). slice_get row p) (sym ports_are) ∙ got
@@ -61,11 +61,11 @@ module _ (registry : Registry) (net : Topology) (o : Stamp) (opening : IsOpening
     few = (let few = opening.few_nodes in let n = ap (λ (n : Topology). node_count n) opening.topology in omega (arith, few, n));
     few_restamps = few_restamps;
     all_ports = ports_are ∙ ap (λ (n : Topology). ports_of n u) (sym opening.topology);
-    inbox_place = (inboxes_are.each u inbox.line inbox_is).place;
-    in_places = map_eq (λ (t : Taker Place Parcel). t.line.place) (λ (h : Hop). net_place o restamps h.node u) ins ports (ins_at.count ∙ degree_is)
-        (λ p t h got there. (ways_are.in_by u p h t.line (port_here p h there) (ap (λ k. slice_get ways (slice_index peers (k + p))) (sym at) ∙ (ins_at.each p t got).0)).place);
-    out_places = map_eq (λ (s : Sender Place Parcel). s.line.place) (λ (h : Hop). net_place o restamps u h.node) outs ports (outs_at.count ∙ degree_is)
-        (λ p s h got there. (ways_are.out u p h s.line (port_here p h there) (ap (λ k. slice_get ways (k + p)) (sym at) ∙ (outs_at.each p s got).0)).place);
+    inbox_place = (inboxes_are.each u inbox.channel inbox_is).place;
+    in_places = map_eq (λ (t : Taker Place Parcel). t.channel.place) (λ (h : Hop). net_place o restamps h.node u) ins ports (ins_at.count ∙ degree_is)
+        (λ p t h got there. (ways_are.in_by u p h t.channel (port_here p h there) (ap (λ k. slice_get ways (slice_index peers (k + p))) (sym at) ∙ (ins_at.each p t got).0)).place);
+    out_places = map_eq (λ (s : Sender Place Parcel). s.channel.place) (λ (h : Hop). net_place o restamps u h.node) outs ports (outs_at.count ∙ degree_is)
+        (λ p s h got there. (ways_are.out u p h s.channel (port_here p h there) (ap (λ k. slice_get ways (k + p)) (sym at) ∙ (outs_at.each p s got).0)).place);
   }
 
   pub fresh_even : inbox.taken ≡ [] → (w : Record → ℕ) → IsEven w inbox ins outs []
@@ -77,13 +77,13 @@ module _ (registry : Registry) (net : Topology) (o : Stamp) (opening : IsOpening
 
 pub node_of : (net : Net) (n : Node) (u first degree : ℕ) (row : List Hop) (inbox : Taker Place Parcel) (ins : List (Taker Place Parcel)) (outs : List (Sender Place Parcel))
     → u < node_count net.topology → first ≡ offset net.topology u → degree ≡ length row → row ≡ ports_of net.topology u
-    → slice_get net.inboxes.items u ≡ Some inbox.line → AreOutsAt net.ways.items first degree outs → AreInsAt net.ways.items net.peers.items first degree ins
+    → slice_get net.inboxes.items u ≡ Some inbox.channel → AreOutsAt net.ways.items first degree outs → AreInsAt net.ways.items net.peers.items first degree ins
     → n.index ≡ u → n.opening ≡ net.opening → n.restamps ≡ net.restamps → n.entrances.inbox ≡ inbox → n.entrances.ports.items ≡ ins → n.outs.items ≡ outs → IsNodeOf net n
 node_of net n u first degree row inbox ins outs lt at degree_is row_is inbox_is outs_at ins_at index opening restamps inbox_same ins_same outs_same = record {
   index_in = subst (λ k. k < node_count net.topology) (sym index) lt;
   opening = opening;
   restamps = restamps;
-  inbox = ap (slice_get net.inboxes.items) index ∙ inbox_is ∙ ap (λ (t : Taker Place Parcel). Some t.line) (sym inbox_same);
+  inbox = ap (slice_get net.inboxes.items) index ∙ inbox_is ∙ ap (λ (t : Taker Place Parcel). Some t.channel) (sym inbox_same);
   outs_count = ap (λ (xs : List (Sender Place Parcel)). length xs) outs_same ∙ outs_at.count ∙ degree_is ∙ ap (λ (r : List Hop). length r) row_is ∙ ap (λ k. length (ports_of net.topology k)) (sym index);
   outs = λ p s got. ap (λ k. slice_get net.ways.items (offset net.topology k + p)) index ∙ ap (λ k. slice_get net.ways.items (k + p)) (sym at)
       ∙ (outs_at.each p s (ap (λ (xs : List (Sender Place Parcel)). slice_get xs p) (sym outs_same) ∙ got)).0;
@@ -99,14 +99,14 @@ map_self (x ∷ xs) = ap (λ ys. x ∷ ys) (map_self xs)
 -- the senders of all channels have the lines of all channels
 pub all_lines : (lines : List (Channel Place)) (n : ℕ) (outs : List (Sender Place Parcel)) → n ≡ length lines → AreOutsAt lines 0 n outs → lines_out outs ≡ lines
 all_lines lines n outs is at =
-    map_eq (λ (s : Sender Place Parcel). s.line) (λ (l : Channel Place). l) outs lines (at.count ∙ is)
-    (λ p s l got there. same_Some s.line l (sym (at.each p s got).0 ∙ ap (slice_get lines) (let z : 0 + p ≡ p = omega arith in z) ∙ there)) ∙ map_self lines
+    map_eq (λ (s : Sender Place Parcel). s.channel) (λ (l : Channel Place). l) outs lines (at.count ∙ is)
+    (λ p s l got there. same_Some s.channel l (sym (at.each p s got).0 ∙ ap (slice_get lines) (let z : 0 + p ≡ p = omega arith in z) ∙ there)) ∙ map_self lines
 
 pub entry_ends : (registry : Registry) (net : Topology) (o : Stamp) (opening : IsOpening registry net o) (restamps capacity : ℕ) (inboxes : List (Channel Place)) → AreInboxes net o restamps capacity inboxes
     → (outs : List (Sender Place Parcel)) → lines_out outs ≡ inboxes → AreEntryEnds o restamps (lines_out outs)
 entry_ends registry net o opening restamps capacity inboxes are outs same = record {
   count = ap (λ (ls : List (Channel Place)). length ls) same ∙ are.count ∙ ap (λ (n : Topology). node_count n) (sym opening.topology);
-  each = λ u line got. (are.each u line (ap (λ (ls : List (Channel Place)). slice_get ls u) (sym same) ∙ got)).place;
+  each = λ u channel got. (are.each u channel (ap (λ (ls : List (Channel Place)). slice_get ls u) (sym same) ∙ got)).place;
 }
 
 pub outs_unsent : (lines : List (Channel Place)) (first n : ℕ) (outs : List (Sender Place Parcel)) → AreOutsAt lines first n outs → All (λ s. s.sent ≡ []) outs

@@ -17,7 +17,7 @@ stamp_after_learning s (Some t) = cond (nat_lt s.epoch t.epoch) t s
 -- a new parcel of a net of the opening's stamp, which allows so many restamps
 abbrev pub new_parcel : Stamp → ℕ → ℕ → Stamp → ℕ → ℕ → Parcel
 new_parcel opening restamps id s source dest = record {
-  journey = fresh id s.epoch source dest (hop_room restamps (node_count (knows opening).topology));
+  packet = fresh id s.epoch source dest (hop_room restamps (node_count (knows opening).topology));
   first = s;
   later = [];
   next = source;

@@ -10,7 +10,7 @@ use Rattle.ir_worker.specs.Seen.{GoesTo, Parcel, net_place}
 -- a line for each node, into its inbox
 pub record AreEntryEnds (opening : Stamp) (restamps : ℕ) (lines : List (Channel Place)) : Type 0 where
   pub count : length lines ≡ node_count (knows opening).topology
-  pub each : (u : ℕ) (line : Channel Place) → slice_get lines u ≡ Some line → line.place ≡ net_place opening restamps u u
+  pub each : (u : ℕ) (channel : Channel Place) → slice_get lines u ≡ Some channel → channel.place ≡ net_place opening restamps u u
 
 -- a push of the end of this number was refused, in the word of the queue's calls, and the channel was then full
 abbrev pub WasRefusedAt : Word Parcel → List (Sender Place Parcel) → ℕ → Type 0

@@ -9,11 +9,11 @@ pub record ArePeers (peers : List ℕ) : Type 0 where
 
 module _ {P T : Type 0} where
   abbrev pub slot_line : Option (Sender P T) → Option (Channel P)
-  slot_line slot = option_map (λ s. s.line) slot
+  slot_line slot = option_map (λ s. s.channel) slot
 
   abbrev pub line_at : List (Taker P T) → ℕ → Option (Channel P)
   line_at [] k = None
-  line_at (t ∷ ts) zero = Some t.line
+  line_at (t ∷ ts) zero = Some t.channel
   line_at (t ∷ ts) (suc k) = line_at ts k
 
   -- the takers that are left have their senders in the slots of their peers; the other slots are empty

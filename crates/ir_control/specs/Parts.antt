@@ -22,12 +22,12 @@ pub record IsNodeOf (net : Net) (n : Node) : Type 0 where
   pub index_in : n.index < node_count net.topology
   pub opening : n.opening ≡ net.opening
   pub restamps : n.restamps ≡ net.restamps
-  pub inbox : slice_get net.inboxes.items n.index ≡ Some n.entrances.inbox.line
+  pub inbox : slice_get net.inboxes.items n.index ≡ Some n.entrances.inbox.channel
   pub outs_count : length n.outs.items ≡ length (ports_of net.topology n.index)
-  pub outs : (p : ℕ) (s : Sender Place Parcel) → slice_get n.outs.items p ≡ Some s → slice_get net.ways.items (offset net.topology n.index + p) ≡ Some s.line
+  pub outs : (p : ℕ) (s : Sender Place Parcel) → slice_get n.outs.items p ≡ Some s → slice_get net.ways.items (offset net.topology n.index + p) ≡ Some s.channel
   pub ins_count : length n.entrances.ports.items ≡ length (ports_of net.topology n.index)
   pub ins : (p : ℕ) (t : Taker Place Parcel) → slice_get n.entrances.ports.items p ≡ Some t
-      → slice_get net.ways.items (slice_index net.peers.items (offset net.topology n.index + p)) ≡ Some t.line
+      → slice_get net.ways.items (slice_index net.peers.items (offset net.topology n.index + p)) ≡ Some t.channel
 
 -- the injector of a net: its ends are those of the inboxes, in the nodes' order
 pub record IsInjectorOf (net : Net) (injector : Injector) : Type 0 where

@@ -47,7 +47,7 @@ pub record IsReport (net : Net) (nodes : List Node) (injector : Injector) (repor
   pub few : All (λ o. length o.packet.restamps ≤ net.restamps) outcomes
   pub left : List Parcel
   pub left_is : (w : Parcel → ℕ) → sum_by (λ s. sum_by w s.sent) injector.outs.items + sum_by (node_sent w) nodes ≡ sum_by (node_taken w) nodes + sum_by w left
-  pub fates : All (λ x. x.journey.fate ≡ Left) left
+  pub fates : All (λ x. x.packet.fate ≡ Left) left
   pub told_are : (w : Told → ℕ) → sum_by (λ o. w (outcome_told o)) outcomes ≡ sum_by (node_settled (λ o. w (outcome_told o))) nodes + sum_by (λ x. w (told_left x)) left
 
 -- the least node that is not among the parts

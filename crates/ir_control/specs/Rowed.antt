@@ -28,9 +28,9 @@ node_sent w n = sum_by (λ s. sum_by w s.sent) n.outs.items
 -- The ends of the first u nodes of a net, each of the channel of its place.
 pub record AreEndRows (net : Net) (u : ℕ) (inboxes takers : List In) (senders : List (Option Out)) : Type 0 where
   pub inbox_count : length inboxes ≡ u
-  pub inbox_lines : AllGet (λ k t. slice_get net.inboxes.items k ≡ Some t.line) inboxes
+  pub inbox_lines : AllGet (λ k t. slice_get net.inboxes.items k ≡ Some t.channel) inboxes
   pub in_count : length takers ≡ offset net.topology u
-  pub in_lines : AllGet (λ k t. slice_get net.ways.items (slice_index net.peers.items k) ≡ Some t.line) takers
+  pub in_lines : AllGet (λ k t. slice_get net.ways.items (slice_index net.peers.items k) ≡ Some t.channel) takers
   pub out_count : length senders ≡ offset net.topology u
   pub out_lines : AllGet (λ k slot. slice_get net.ways.items k ≡ slot_line slot) senders
 

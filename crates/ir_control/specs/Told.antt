@@ -7,15 +7,15 @@ use Rattle.ir_worker.specs.Seen.{Parcel, IsOfNet, stamps_of}
 
 -- its record, its first stamp and those of its later segments
 pub record Told : Type 0 where
-  pub journey : Record
+  pub packet : Record
   pub first : Stamp
   pub later : List Stamp
 
 abbrev pub outcome_told : Outcome → Told
-outcome_told o = record { journey = o.packet; first = o.stamp; later = o.later.items }
+outcome_told o = record { packet = o.packet; first = o.stamp; later = o.later.items }
 
 abbrev pub told_left : Parcel → Told
-told_left x = record { journey = x.journey; first = x.first; later = x.later }
+told_left x = record { packet = x.packet; first = x.first; later = x.later }
 
 abbrev pub outcome_number : Outcome → ℕ
 outcome_number o = o.packet.id

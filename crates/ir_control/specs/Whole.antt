@@ -9,4 +9,4 @@ IsParcelOf opening x = All (λ s. IsOfNet opening s) (stamps_of x.first x.later)
 
 -- the parcel has had no more restamps than so many
 abbrev pub IsFew : ℕ → Parcel → Type 0
-IsFew limit x = length x.journey.restamps ≤ limit
+IsFew limit x = length x.packet.restamps ≤ limit

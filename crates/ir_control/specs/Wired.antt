@@ -13,14 +13,14 @@ use Rattle.ir_control.specs.Places.{offset, way_count}
 use Rattle.ir_control.specs.Pairs.{ArePeers}
 
 -- a channel of the net of the opening's stamp, from one node to another, of this capacity
-pub record IsNetChannel (opening : Stamp) (restamps capacity from to : ℕ) (line : Channel Place) : Type 0 where
-  pub place : line.place ≡ net_place opening restamps from to
-  pub holds : line.capacity ≡ capacity
+pub record IsNetChannel (opening : Stamp) (restamps capacity from to : ℕ) (channel : Channel Place) : Type 0 where
+  pub place : channel.place ≡ net_place opening restamps from to
+  pub holds : channel.capacity ≡ capacity
 
 -- the inbox of each node leads from it to itself
 pub record AreInboxes (net : Topology) (opening : Stamp) (restamps capacity : ℕ) (inboxes : List (Channel Place)) : Type 0 where
   pub count : length inboxes ≡ node_count net
-  pub each : (u : ℕ) (line : Channel Place) → slice_get inboxes u ≡ Some line → IsNetChannel opening restamps capacity u u line
+  pub each : (u : ℕ) (channel : Channel Place) → slice_get inboxes u ≡ Some channel → IsNetChannel opening restamps capacity u u channel
 
 -- The ways stand in the order of the ports' places, and each port's way out is at the other end a way in, which the
 -- peers name.
@@ -28,10 +28,10 @@ pub record AreWiredWays (net : Topology) (opening : Stamp) (restamps capacity : 
   pub count : length ways ≡ way_count net
   pub peer_count : length peers ≡ way_count net
   pub peers_are : ArePeers peers
-  pub out : (u p : ℕ) (hop : Hop) (line : Channel Place) → port_at net u p ≡ Some hop → slice_get ways (offset net u + p) ≡ Some line
-      → IsNetChannel opening restamps capacity u hop.node line
-  pub in_by : (u p : ℕ) (hop : Hop) (line : Channel Place) → port_at net u p ≡ Some hop → slice_get ways (slice_index peers (offset net u + p)) ≡ Some line
-      → IsNetChannel opening restamps capacity hop.node u line
+  pub out : (u p : ℕ) (hop : Hop) (channel : Channel Place) → port_at net u p ≡ Some hop → slice_get ways (offset net u + p) ≡ Some channel
+      → IsNetChannel opening restamps capacity u hop.node channel
+  pub in_by : (u p : ℕ) (hop : Hop) (channel : Channel Place) → port_at net u p ≡ Some hop → slice_get ways (slice_index peers (offset net u + p)) ≡ Some channel
+      → IsNetChannel opening restamps capacity hop.node u channel
 
 -- a stamp of epoch 1 of the registry, whose plan is over this network, which is within the limits
 pub record IsOpening (registry : Registry) (net : Topology) (stamp : Stamp) : Type 0 where

@@ -19,7 +19,7 @@ fn channel(
     to: u16,
 ) -> Result<Channel<Parcel>, AllocError>
     requires { 0 < capacity }
-    ensures { IfOk result (λ line. IsNetChannel opening.now restamps capacity from to line) }
+    ensures { IfOk result (λ channel. IsNetChannel opening.now restamps capacity from to channel) }
 {
     let place = Place {
         from,
@@ -62,9 +62,9 @@ fn add_ways(
     requires capacity { 0 < capacity }
     requires node { u < node_count topology.now }
     requires before { IsFilledTo topology.now
-        (λ v hop line. IsNetChannel opening.now restamps capacity v hop.node line) u 0 ways.old.items }
+        (λ v hop channel. IsNetChannel opening.now restamps capacity v hop.node channel) u 0 ways.old.items }
     ensures { IfOk result (λ _. IsFilledTo topology.now
-        (λ v hop line. IsNetChannel opening.now restamps capacity v hop.node line) (u + 1) 0 ways.new.items) }
+        (λ v hop channel. IsNetChannel opening.now restamps capacity v hop.node channel) (u + 1) 0 ways.new.items) }
 {
     for hop in topology.ports(u as usize) {
         ways.push(channel(alloc, opening, restamps, capacity, u, hop.node)?)?;
@@ -82,7 +82,7 @@ pub fn ways_of(
 ) -> Result<(Vec<Channel<Parcel>>, Vec<usize>), AllocError>
     requires { 0 < capacity }
     ensures ways { IfOk result (λ made. IsFilled topology.now
-        (λ v hop line. IsNetChannel opening.now restamps capacity v hop.node line) made.0.items) }
+        (λ v hop channel. IsNetChannel opening.now restamps capacity v hop.node channel) made.0.items) }
     ensures offsets { IfOk result (λ made. (length made.1.items ≡ node_count topology.now)
         × ((v : ℕ) → v < node_count topology.now → slice_index made.1.items v ≡ offset topology.now v)) }
     ensures fits { IfOk result (λ _. way_count topology.now < 2 ^ 64) }

@@ -1,18 +1,19 @@
 //! The controller: it registers plans and changes the board.
-ghost use Rattle.std.specs.Prelude.{◌≡◌, ◌⊎◌, ◌+◌, ◌<◌, ◌≤◌, ◌∷◌, ◌++◌, [], IfOk, MatchResult, Some, None, Err, length};
+ghost use Rattle.std.specs.Prelude.{◌≡◌, ◌⊎◌, ◌+◌, ◌<◌, ◌≤◌, ◌∷◌, ◌++◌, [], IfErr, IfOk, IfSome, MatchResult, Some, None, Err, length};
 ghost use Rattle.std.specs.Arc.{arc_value};
 ghost use Rattle.ir_model.specs.{Topology.node_count, Walk.IsDisconnected};
 ghost use Rattle.ir_core.specs.{declared.TheConstants.{MAX_LINKS, MAX_EPOCHS, MAX_CHANGES}, Meaning.IsMade};
+ghost use Rattle.ir_core.specs.Codes.{change_number, install_number};
 ghost use Rattle.ir_epochs.specs.Stamps.{IsOf, knows, registry_name};
 ghost use Rattle.ir_epochs.specs.Entries.{registry_of, topology_of, opening_links, board_of, changed, MayComeNext};
 ghost use Rattle.ir_epochs.specs.declared.entry.Entry.TheVariants.{Opened, Changed};
 ghost use Rattle.ir_epochs.specs.Handles.{published, known, writer_board, reader_board, told, receipt_board};
 ghost use mathlib.Core.List.{IsPrefix};
 
-use ir_core::{Board, BuildError, Refused, plan_up};
+use ir_core::{Board, Refused, plan_up_by};
 use ir_epochs::{BoardWriter, Change, Receipt, RegisterError, Registry, Stamp};
 use ir_model::Kind;
-use ir_plan::{LabelOrder, Plan};
+use ir_plan::{LabelOrder, Plan, Several};
 use ir_worker::Node;
 use std::alloc::Global;
 use std::sync::{Arc, Wait};
@@ -94,6 +95,7 @@ impl<R: Wait + Drop> Controller<R> {
             × (self.new.registry ≡ self.old.registry) × (self.new.labels ≡ self.old.labels) }
         ensures board { writer_board self.new.writer ≡ writer_board self.old.writer }
         ensures receipt { IfOk result (λ t. receipt_board t ≡ writer_board self.old.writer) }
+        ensures number { IfErr result (λ e. 0 < change_number e) }
     {
         match self.writer.change(change) {
             Ok(receipt) => Ok(receipt),
@@ -102,10 +104,12 @@ impl<R: Wait + Drop> Controller<R> {
     }
 
     /// Retires the epochs below a floor. Refused are, in this order: a floor above the current epoch (`NoEpoch`), one
-    /// that is not above the present floor (`Same`), a change too many, want of memory.
+    /// that is not above the present floor (`Same`), a change too many, want of memory. `Refused::change_number` has the
+    /// numbers of a change's refusals.
     pub fn retire(&mut self, floor: u32) -> Result<Receipt, Refused>
-        ensures { IsChangeAnswer (retire_refused (board_of (published self.old.writer)) floor)
+        ensures answer { IsChangeAnswer (retire_refused (board_of (published self.old.writer)) floor)
             (Retire floor) self.old self.new result }
+        ensures number { IfErr result (λ e. 0 < change_number e) }
     {
         if let Some(error) = self.writer.board().retire_refusal(floor) {
             return Err(error);
@@ -116,8 +120,9 @@ impl<R: Wait + Drop> Controller<R> {
     /// Marks a link as down. Refused are, in this order: a number that is no link, a link that is down, a change too
     /// many, want of memory.
     pub fn down(&mut self, link: u16) -> Result<Receipt, Refused>
-        ensures { IsChangeAnswer (mark_refused (length (knows self.old.opening).topology.links)
+        ensures answer { IsChangeAnswer (mark_refused (length (knows self.old.opening).topology.links)
             (board_of (published self.old.writer)) link false) (Down link) self.old self.new result }
+        ensures number { IfErr result (λ e. 0 < change_number e) }
     {
         if let Some(error) = self.mark_refusal(link, false) {
             return Err(error);
@@ -128,8 +133,9 @@ impl<R: Wait + Drop> Controller<R> {
     /// Marks a link as up. Refused are, in this order: a number that is no link, a link that is up, a change too many,
     /// want of memory.
     pub fn up(&mut self, link: u16) -> Result<Receipt, Refused>
-        ensures { IsChangeAnswer (mark_refused (length (knows self.old.opening).topology.links)
+        ensures answer { IsChangeAnswer (mark_refused (length (knows self.old.opening).topology.links)
             (board_of (published self.old.writer)) link true) (Up link) self.old self.new result }
+        ensures number { IfErr result (λ e. 0 < change_number e) }
     {
         if let Some(error) = self.mark_refusal(link, true) {
             return Err(error);
@@ -139,8 +145,9 @@ impl<R: Wait + Drop> Controller<R> {
 
     // Why a link is not marked.
     fn mark_refusal(&self, link: u16, up: bool) -> Option<Refused>
-        ensures { result ≡ mark_refused (length (knows self.now.opening).topology.links)
+        ensures refusal { result ≡ mark_refused (length (knows self.now.opening).topology.links)
             (board_of (published self.now.writer)) link up }
+        ensures number { IfSome result (λ e. 0 < change_number e) }
     {
         let topology = self.registry.plan(&self.opening).topology();
         self.writer.board().mark_refusal(topology.links(), link, up)
@@ -148,7 +155,8 @@ impl<R: Wait + Drop> Controller<R> {
 
     // Why an epoch is not installed, before any plan is built.
     fn install_refusal(&self, root: u16) -> Option<Refused>
-        ensures { result ≡ install_refusal self.now root }
+        ensures refusal { result ≡ install_refusal self.now root }
+        ensures number { IfSome result (λ e. 0 < install_number e) }
     {
         let topology = self.registry.plan(&self.opening).topology();
         self.writer
@@ -159,18 +167,17 @@ impl<R: Wait + Drop> Controller<R> {
     // The plan of this kind and root over the links that are up.
     fn plan(&self, rt: &(impl Threads + Sync), kind: Kind, root: u16) -> Result<Plan, Refused>
         requires { root < node_count (knows self.now.opening).topology }
-        ensures { MatchResult result
+        ensures answer { MatchResult result
             (λ p. IsMade self.now.labels kind root (topology_up self.now) (Some p))
             (λ e. ((e ≡ Refused.Disconnected) × IsDisconnected (topology_up self.now))
             ⊎ (e ≡ Refused.NoMemory)) }
+        ensures number { IfErr result (λ e. 0 < install_number e) }
     {
         let topology = self.registry.plan(&self.opening).topology();
         let board = self.writer.board();
-        match plan_up(rt, self.alloc, topology, &board, self.labels, kind, root) {
-            Ok(plan) => Ok(plan),
-            Err(BuildError::Disconnected) => Err(Refused::Disconnected),
-            Err(BuildError::NoMemory) => Err(Refused::NoMemory),
-        }
+        let crew = Several { rt };
+        let plan = plan_up_by(&crew, self.alloc, topology, &board, self.labels, kind, root)?;
+        Ok(plan)
     }
 
     /// Builds a plan of this kind and root over the links that are up, labelled in the net's order, registers it in the
@@ -178,14 +185,15 @@ impl<R: Wait + Drop> Controller<R> {
     ///
     /// Refused are, in this order: a root that is no node, no cell left, a change too many, some node without a walk to
     /// some node, want of memory. After `Used`, or after want of memory once the plan was registered, the cell is used
-    /// up, and the next install takes the next number.
+    /// up, and the next install takes the next number. `Refused::install_number` has the numbers of these refusals.
     pub fn install(
         &mut self,
         rt: &(impl Threads + Sync),
         kind: Kind,
         root: u16,
     ) -> Result<Receipt, Refused>
-        ensures { IsInstallAnswer kind root self.old self.new result }
+        ensures answer { IsInstallAnswer kind root self.old self.new result }
+        ensures number { IfErr result (λ e. 0 < install_number e) }
     {
         match self.install_refusal(root) {
             Some(error) => return Err(error),
@@ -216,9 +224,10 @@ impl<R: Wait + Drop> Controller<R> {
 // Sets the cell of an epoch.
 fn register(registry: &Registry, epoch: u32, plan: Plan) -> Result<Stamp, Refused>
     requires { (1 ≤ epoch) × (epoch ≤ MAX_EPOCHS) }
-    ensures { MatchResult result
+    ensures answer { MatchResult result
         (λ s. IsOf registry.now s × (s.epoch ≡ epoch) × (knows s ≡ plan))
         (λ e. (e ≡ Refused.NoMemory) ⊎ (e ≡ Refused.Used)) }
+    ensures number { IfErr result (λ e. 0 < install_number e) }
 {
     match registry.register(epoch, plan) {
         Ok(stamp) => Ok(stamp),

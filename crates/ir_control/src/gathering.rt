@@ -24,10 +24,10 @@ pub fn gather(
 )
     requires entries { ArePaired entries.now injected.items inboxes.items }
     requires ways { ArePaired peers.now senders.items takers.items }
-    requires places_in { All (λ t. t.line.place.opening ≡ opening.now) inboxes.items }
-    requires places { All (λ t. t.line.place.opening ≡ opening.now) takers.items }
-    requires limits_in { All (λ t. t.line.place.restamps ≡ restamps) inboxes.items }
-    requires limits { All (λ t. t.line.place.restamps ≡ restamps) takers.items }
+    requires places_in { All (λ t. t.channel.place.opening ≡ opening.now) inboxes.items }
+    requires places { All (λ t. t.channel.place.opening ≡ opening.now) takers.items }
+    requires limits_in { All (λ t. t.channel.place.restamps ≡ restamps) inboxes.items }
+    requires limits { All (λ t. t.channel.place.restamps ≡ restamps) takers.items }
     requires of_net { All (λ x. IsParcelOf opening.now x) (left_in channels.old.items) }
     requires few { All (λ x. IsFew restamps x) (left_in channels.old.items) }
     requires room { vec_len channels.old + (length inboxes.items + length takers.items) ≤ vec_capacity channels.old }

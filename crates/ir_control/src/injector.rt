@@ -1,5 +1,5 @@
 //! The injector: it puts packets into the nodes' inboxes and keeps what was accepted.
-ghost use Rattle.std.specs.Prelude.{◌≡◌, ℕ, Bool, All, ◌<◌, ◌≤◌, [], ◌∷◌, MatchResult, Some, None, length};
+ghost use Rattle.std.specs.Prelude.{◌≡◌, ℕ, Bool, All, ◌<◌, ◌≤◌, [], ◌∷◌, IfErr, MatchResult, Some, None, length};
 ghost use Rattle.std.specs.Arc.{arc_value};
 ghost use Rattle.ir_model.specs.Topology.{node_count};
 ghost use Rattle.ir_core.specs.declared.TheConstants.{MAX_NODES, MAX_PACKETS};
@@ -60,9 +60,9 @@ fn send_to<R: Moments<Parcel>>(
     requires node { node < length outs.old.items }
     requires ends { AreEntryEnds opening.now restamps (lines_out outs.old.items) }
     requires next { parcel.next ≡ node }
-    requires hops { parcel.journey.hops ≡ node ∷ [] }
+    requires hops { parcel.packet.hops ≡ node ∷ [] }
     requires stamp { IsParcelOf opening.now parcel }
-    requires fresh { parcel.journey.restamps ≡ [] }
+    requires fresh { parcel.packet.restamps ≡ [] }
     requires room { HasRoomOf opening.now restamps parcel }
     ensures sent { IsSent R.was_full outs.old.items outs.new.items node parcel result }
     ensures lines { lines_out outs.new.items ≡ lines_out outs.old.items }
@@ -79,7 +79,7 @@ fn send_to<R: Moments<Parcel>>(
 
 impl Injector {
     ghost use Rattle.ir_control.specs.{Accepted.{IsInjected, stamp_after_learning}, Refusals.IsInjectRefusal};
-    ghost use Rattle.ir_core.specs.Refusals.{inject_refused};
+    ghost use Rattle.ir_core.specs.{Codes.inject_number, Refusals.inject_refused};
 
     // An injector that accepted nothing, and learnt epoch 1.
     pub(crate) fn new(
@@ -136,7 +136,8 @@ impl Injector {
     /// were accepted before it. Its stamp is the newest one that was learnt.
     ///
     /// Refused are, in this order: a number that is no node, a packet above the net's limit, want of memory, a full
-    /// inbox, where the push of this call was refused. A refusal changes nothing.
+    /// inbox, where the push of this call was refused. `Refused::inject_number` has the numbers of these refusals. A
+    /// refusal changes nothing.
     pub fn inject<R: Moments<Parcel>>(
         &mut self,
         rt: &R,
@@ -148,6 +149,7 @@ impl Injector {
             (length self.old.accepted.items) source dest ≡ None) × IsInjected self.old self.new id source dest)
             (λ e. IsInjectRefusal R.was_full self.old source dest e × (self.new.outs.items ≡ self.old.outs.items)
             × (self.new.accepted.items ≡ self.old.accepted.items)) }
+        ensures number { IfErr result (λ e. 0 < inject_number e) }
         ensures same { (self.new.opening ≡ self.old.opening) × (self.new.newest ≡ self.old.newest)
             × (self.new.max_packets ≡ self.old.max_packets) }
         ensures lines { lines_out self.new.outs.items ≡ lines_out self.old.outs.items }

@@ -11,10 +11,11 @@ use crate::controller::Controller;
 use crate::injector::Injector;
 use crate::parts::{all_ends, ins_of, outs_of};
 use crate::peers::peers_of;
-use ir_core::{BuildError, MAX_PACKETS, MAX_RESTAMPS, OpenError, Opening, open_refusal, plan_over};
+use ir_core::{MAX_PACKETS, MAX_RESTAMPS, OpenError, Opening, open_refusal, plan_over_by};
 use ir_epochs::{BoardError, BoardReader, BoardWriter, RegisterError, Registry, Stamp, board};
 use ir_links::{Channel, Sender, Taker};
-use ir_plan::LabelOrder;
+use ir_model::Kind;
+use ir_plan::{LabelOrder, Several};
 use ir_tables::Topology;
 use ir_worker::{Node, Parcel};
 use std::alloc::{AllocError, Global};
@@ -67,11 +68,15 @@ fn registered(
     let Ok(over) = opening.topology.try_clone(alloc) else {
         return Err(OpenError::NoMemory);
     };
-    let plan = match plan_over(rt, alloc, over, opening.labels, opening.kind, opening.root) {
-        Ok(plan) => plan,
-        Err(BuildError::Disconnected) => return Err(OpenError::Disconnected),
-        Err(BuildError::NoMemory) => return Err(OpenError::NoMemory),
-    };
+    let crew = Several { rt };
+    let plan = plan_over_by(
+        &crew,
+        alloc,
+        over,
+        opening.labels,
+        opening.kind,
+        opening.root,
+    )?;
     let registry = Registry::new(alloc);
     match registry.register(1, plan) {
         Ok(stamp) => Ok((registry, stamp)),
@@ -92,14 +97,37 @@ fn entries_of(alloc: Global, nodes: usize) -> Result<Vec<usize>, AllocError>
 }
 
 impl Net {
+    ghost use Rattle.ir_core.specs.Opened.{opening_of};
     ghost use Rattle.ir_control.specs.Nets.{IsNetFor};
+
+    /// The net that `open` gives of the opening by these, whose plans are labelled depth first. For users of the library.
+    pub fn new(
+        rt: &(impl Threads + Sync),
+        alloc: Global,
+        topology: Topology,
+        kind: Kind,
+        root: u16,
+        capacity: usize,
+        max_packets: usize,
+        restamps: u8,
+    ) -> Result<Net, OpenError>
+        ensures opened { IfOk result
+            (λ net. IsNetFor (opening_of topology kind root capacity max_packets restamps) net) }
+        ensures accepted { IfOk result
+            (λ _. open_refused (opening_of topology kind root capacity max_packets restamps) ≡ None) }
+        ensures refused { IfErr result
+            (λ e. IsNetRefusal (opening_of topology kind root capacity max_packets restamps) e) }
+    {
+        let opening = Opening::of(topology, kind, root, capacity, max_packets, restamps);
+        Net::open(rt, alloc, opening)
+    }
 
     /// A net for an opening, whose epoch 1 has a plan of the opening's kind and root over all links.
     ///
     /// Refused are, in this order: no node (`Empty`), a root that is no node, more than 1,024 nodes or 8,192 links or another
     /// number out of its range (`TooLarge`), some node without a walk to some node, want of memory. `Used` would say
     /// that a fresh cell of the registry refused its plan.
-    pub fn new(
+    pub fn open(
         rt: &(impl Threads + Sync),
         alloc: Global,
         opening: Opening,
@@ -212,7 +240,7 @@ impl Net {
     ) -> Result<Option<Node>, AllocError>
         requires node { u < node_count self.now.topology }
         requires first { first ≡ offset self.now.topology u }
-        requires inbox { slice_get self.now.inboxes.items u ≡ Some inbox.line }
+        requires inbox { slice_get self.now.inboxes.items u ≡ Some inbox.channel }
         requires inbox_new { inbox.taken ≡ [] }
         requires reader { (registry_of (known reader) ≡ registry_name self.now.opening)
             × (topology_of (known reader) ≡ (knows self.now.opening).topology) }

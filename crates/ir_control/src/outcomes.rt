@@ -86,7 +86,7 @@ fn place_rest<R: Wait>(
 )
     requires at { AllAt outcome_number slots.old.items }
     requires fits { (i : ℕ) → sum_by (slot_weight (hit outcome_number i)) slots.old.items
-        + sum_by (hit (λ x. x.journey.id) i) channel.left ≤ once (length slots.old.items) i }
+        + sum_by (hit (λ x. x.packet.id) i) channel.left ≤ once (length slots.old.items) i }
     requires all { AllIn (λ o. IsOutcomeIn opening.now o) slots.old.items }
     requires belongs { All (λ x. IsParcelOf opening.now x) channel.left }
     ensures length { length slots.new.items ≡ length slots.old.items }
@@ -95,7 +95,7 @@ fn place_rest<R: Wait>(
     ensures weighs { (w : Told → ℕ)
         → sum_by (slot_weight (λ o. w (outcome_told o))) slots.new.items
         ≡ sum_by (slot_weight (λ o. w (outcome_told o))) slots.old.items + sum_by (λ x. w (told_left x)) channel.left }
-    ensures fates { All (λ x. x.journey.fate ≡ Left) channel.left }
+    ensures fates { All (λ x. x.packet.fate ≡ Left) channel.left }
 {
     for _ in rt.forever() {
         match channel.take(rt) {
@@ -114,7 +114,7 @@ pub(crate) fn place_left<R: Wait>(
 )
     requires at { AllAt outcome_number slots.old.items }
     requires fits { (i : ℕ) → sum_by (slot_weight (hit outcome_number i)) slots.old.items
-        + sum_by (hit (λ x. x.journey.id) i) (left_in channels.items) ≤ once (length slots.old.items) i }
+        + sum_by (hit (λ x. x.packet.id) i) (left_in channels.items) ≤ once (length slots.old.items) i }
     requires all { AllIn (λ o. IsOutcomeIn opening.now o) slots.old.items }
     requires belongs { All (λ x. IsParcelOf opening.now x) (left_in channels.items) }
     ensures length { length slots.new.items ≡ length slots.old.items }
@@ -124,7 +124,7 @@ pub(crate) fn place_left<R: Wait>(
         → sum_by (slot_weight (λ o. w (outcome_told o))) slots.new.items
         ≡ sum_by (slot_weight (λ o. w (outcome_told o))) slots.old.items
         + sum_by (λ x. w (told_left x)) (left_in channels.items) }
-    ensures fates { All (λ x. x.journey.fate ≡ Left) (left_in channels.items) }
+    ensures fates { All (λ x. x.packet.fate ≡ Left) (left_in channels.items) }
 {
     while let Some(channel) = channels.pop() {
         place_rest(rt, opening, channel, slots);

@@ -20,8 +20,8 @@ pub fn join_all(
 )
     requires pairs { ArePaired peers.now senders.items takers.items }
     requires room { vec_len channels.old + length takers.items ≤ vec_capacity channels.old }
-    requires places { All (λ t. t.line.place.opening ≡ opening.now) takers.items }
-    requires limits { All (λ t. t.line.place.restamps ≡ restamps) takers.items }
+    requires places { All (λ t. t.channel.place.opening ≡ opening.now) takers.items }
+    requires limits { All (λ t. t.channel.place.restamps ≡ restamps) takers.items }
     requires of_net { All (λ x. IsParcelOf opening.now x) (left_in channels.old.items) }
     requires few { All (λ x. IsFew restamps x) (left_in channels.old.items) }
     ensures account { (w : Parcel → ℕ)

@@ -77,13 +77,12 @@ twins_built o p same order (i ∷ installs) (s ∷ ss) (t ∷ ts) h built =
     let made = built.0.1 in (
       (
         built.0.0 ∙ ap (λ (net : Topology). length net.links) (sym same),
-        (
-          twin.0 ∙ made.0,
-          twin.1 ∙ made.1,
-          twin.2 ∙ made.2 ∙ ap (λ (net : Topology). restrict i.up.items net) (sym same),
-          twin.3,
-          subst (λ (n : LabelOrder). IsLabelledBy n s) (order ∙ sym built.0.2) twin.4,
-        ),
+        record {
+          valid = twin.3;
+          over = twin.2 ∙ made.over ∙ ap (λ (net : Topology). restrict i.up.items net) (sym same);
+          of_kind = twin.0 ∙ made.of_kind;
+          labelled = (subst (λ (n : LabelOrder). IsLabelledBy n s) (order ∙ sym built.0.2) twin.4, twin.1 ∙ made.labelled.1);
+        },
         built.0.2 ∙ sym order,
       ),
       twins_built o p same order installs ss ts h.1 built.1,
@@ -272,7 +271,7 @@ module _ (o p : Setting) (over : o.topology ≡ p.topology) where
 
   not_both : (labels : LabelOrder) (kind : Kind) (root : ℕ) (net : Topology) (t : Plan) → IsMade labels kind root net (Some t) → IsDisconnected net → ⊥
   not_both labels kind root net t made apart =
-      let walk = subst (λ (n : Topology). IsConnected n) made.2 made.3.connected apart.0 apart.1 apart.2 apart.3 in
+      let walk = subst (λ (n : Topology). IsConnected n) made.over made.valid.connected apart.0 apart.1 apart.2 apart.3 in
       apart.4 walk.0 walk.1
 
   installed_alike : (log other : List Entry) → AreAlike o p log other → (kind : Kind) (root : ℕ) (x y : Option Plan) → IsMade o.labels kind root (topology_up o (sight_after o log)) x → IsMade p.labels kind root (topology_up p (sight_after p other)) y →
@@ -288,7 +287,7 @@ module _ (o p : Setting) (over : o.topology ≡ p.topology) where
       record {
         boards = ap (λ (boards : List Board). boards ++ installed (newest_of (history.boards log)) (length (history.plans o log) + 1) ∷ []) is.boards ∙ ap (λ (b : Board). history.boards other ++ b ∷ []) board;
         plans = twins-push o.labels (history.plans o log) (history.plans p other) t u is.plans
-            (made.0 ∙ sym given.0, made.1 ∙ sym given.1, made.2 ∙ up_same log other is ∙ sym given.2, made.3, made.4);
+            (made.of_kind ∙ sym given.of_kind, made.labelled.1 ∙ sym given.labelled.1, made.over ∙ up_same log other is ∙ sym given.over, made.valid, made.labelled.0);
       }
 
   install_alike : (log other : List Entry) → AreAlike o p log other → (kind : Kind) (root : ℕ) (w v : Result Entry Refused) (x y : Option Refused) → x ≡ y →
@@ -358,7 +357,7 @@ opened_alike : (opening : Opening) (o p : Setting) → IsOpenedWith opening o �
 opened_alike opening o p a b =
     let made = a.first in
     let given = b.first in
-    record { boards = refl; plans = ((made.0 ∙ sym given.0, made.1 ∙ sym given.1, made.2 ∙ sym given.2, made.3, subst (λ (n : LabelOrder). IsLabelledBy n o.first) (sym a.labels) made.4), tt) }
+    record { boards = refl; plans = ((made.of_kind ∙ sym given.of_kind, made.labelled.1 ∙ sym given.labelled.1, made.over ∙ sym given.over, made.valid, subst (λ (n : LabelOrder). IsLabelledBy n o.first) (sym a.labels) made.labelled.0), tt) }
 
 -- the epochs of a run are built from the installs of its steps
 pub epochs_built : (opening : Opening) (steps : List Step) (replies : List (Result Reply Refused)) (world : World) (installs : List Install) →

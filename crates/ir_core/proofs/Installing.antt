@@ -1,4 +1,4 @@
-use Rattle.std.proofs.Common.{◌≡◌, ℕ, ◌+◌, ◌<◌, List, [], ◌∷◌, ◌++◌, length, take, slice_index_or, Option, Some, None, refl, sym, ap, ◌∙◌, subst, Bool, inl}
+use Rattle.std.proofs.Common.{◌≡◌, ℕ, ◌+◌, ◌<◌, List, [], ◌∷◌, ◌++◌, length, take, slice_index_or, Option, Some, None, refl, sym, ap, ◌∙◌, subst, arith, Bool, inl, inr}
 use Rattle.std.specs.Prelude.{Ok, Err}
 use Rattle.ir_model.specs.declared.Kind.{Kind}
 use Rattle.ir_model.specs.Topology.{Topology, port_at, restrict}
@@ -7,7 +7,7 @@ use Rattle.ir_model.proofs.Restrict.{node_count-restrict, port_at-restrict}
 use Rattle.ir_core.specs.declared.board.Board.{Board}
 use Rattle.ir_core.specs.declared.event.Reply.TheVariants.{Installed}
 use Rattle.ir_core.specs.declared.event.Refused.{Refused}
-use Rattle.ir_core.specs.declared.event.Refused.TheVariants.{Disconnected}
+use Rattle.ir_core.specs.declared.event.Refused.TheVariants.{Disconnected, NoMemory}
 use Rattle.ir_core.specs.Setting.{Setting, IsPlanFor, nodes_of, links_of, no_plan}
 use Rattle.ir_core.specs.Board.{installed}
 use Rattle.ir_core.specs.Refusals.{install_refused}
@@ -16,6 +16,11 @@ use Rattle.ir_core.specs.Meaning.{newest_of, newest, topology_up, IsMade, Instal
 use Rattle.ir_core.specs.World.{World, sight_in, after}
 use Rattle.ir_core.specs.Handled.{IsInstallAnswer}
 use Rattle.ir_core.proofs.Keeps.{first_same}
+use Rattle.ir_core.specs.Codes.{refused_of}
+use Rattle.ir_plan.specs.declared.error.PlanError.{PlanError}
+use Rattle.ir_plan.specs.declared.error.PlanError.TheVariants as plan
+use Rattle.ir_plan.specs.declared.tour.LabelOrder.{LabelOrder}
+use Rattle.ir_plan.specs.Building.{FromRoot, RefusesPlan}
 
 -- an install that is refused before any plan is made
 pub refused_here : (s now : World) → s ≡ now → (kind : Kind) (root : ℕ) (e : Refused) → install_refusal s.opening (sight_in s) root ≡ Some e → IsInstallAnswer now now kind root (Err e)
@@ -41,13 +46,21 @@ disconnected_here s now same kind root b is none apart =
     subst (λ (x : Option Refused). InstallsUnless s.opening (sight_in s) kind root (Err Disconnected) x) (sym none) (None, made, refl) in
     subst (λ (x : World). IsInstallAnswer x x kind root (Err Disconnected)) same (inl (Err Disconnected, comes, (refl, refl)))
 
+-- an install for which there is no plan
+pub plan_refused_here : (s now : World) → s ≡ now → (kind : Kind) (root : ℕ) (b : Board) → b ≡ newest_of s.boards → install_refusal s.opening (sight_in s) root ≡ None → root < nodes_of s.opening → (labels : LabelOrder) (e : PlanError) →
+    RefusesPlan (up_in s.opening b) (FromRoot labels root) e → IsInstallAnswer now now kind root (Err (refused_of e))
+plan_refused_here s now same kind root b is none within labels plan.Disconnected told = disconnected_here s now same kind root b is none told.2
+plan_refused_here s now same kind root b is none within labels plan.NoMemory told = subst (λ (x : World). IsInstallAnswer x x kind root (Err NoMemory)) same (inr (none, refl, refl))
+plan_refused_here s now same kind root b is none within labels plan.Empty told = absurd (let count = node_count-restrict (take (links_of s.opening) b.up) s.opening.topology in omega (arith, count, told, within))
+plan_refused_here s now same kind root b is none within labels plan.NoNode told = absurd (let count = node_count-restrict (take (links_of s.opening) b.up) s.opening.topology in omega (arith, count, told.1, within))
+
 -- a plan that was made over the links that are up is a plan for the network
 pub made_plan : (o : Setting) (kind : Kind) (root : ℕ) (up : List Bool) (t : Plan) → IsMade o.labels kind root (restrict up o.topology) (Some t) → IsPlanFor o t
 made_plan o kind root up t is = record {
-  plan = is.3;
-  nodes = ap (λ (n : Topology). length n.ports) is.2 ∙ node_count-restrict up o.topology;
-  links = ap (λ (n : Topology). n.links) is.2;
-  ports = λ u p hop at. let was = port_at-restrict up o.topology u p hop (ap (λ (n : Topology). port_at n u p) (sym is.2) ∙ at) in (was.0, was.1);
+  plan = is.valid;
+  nodes = ap (λ (n : Topology). length n.ports) is.over ∙ node_count-restrict up o.topology;
+  links = ap (λ (n : Topology). n.links) is.over;
+  ports = λ u p hop at. let was = port_at-restrict up o.topology u p hop (ap (λ (n : Topology). port_at n u p) (sym is.over) ∙ at) in (was.0, was.1);
 }
 
 -- a plan over the whole network is one

@@ -1,13 +1,17 @@
-use Rattle.std.proofs.Common.{◌≡◌, ℕ, zero, suc, ◌+◌, ◌*◌, List, [], ◌∷◌, replicate, slice_get, slice_index_or, Option, Some, None, refl, sym, ap, ◌∙◌, subst, arith, ◌<◌, ◌≤◌, length, true, false, Bool, cond, not, ◌==◌, inl}
+use Rattle.std.proofs.Common.{◌≡◌, ℕ, zero, suc, ◌+◌, ◌*◌, List, [], ◌∷◌, replicate, slice_get, slice_index_or, Option, Some, None, refl, sym, ap, ◌∙◌, subst, arith, ◌<◌, ◌≤◌, length, true, false, Bool, cond, not, ◌==◌, ◌⊎◌, inl, inr}
 use Rattle.std.specs.Prelude.{◌&&◌, nat_le}
 use Rattle.std.proofs.lemmas.Grind.{common_steps}
 use Rattle.ir_core.specs.declared.TheConstants.{MAX_NODES, MAX_LINKS, MAX_CAPACITY, MAX_PACKETS, MAX_RESTAMPS}
 use Rattle.ir_core.specs.declared.event.OpenError.{OpenError}
-use Rattle.ir_core.specs.declared.event.OpenError.TheVariants.{NoNode, Empty, Disconnected, TooLarge}
+use Rattle.ir_core.specs.declared.event.OpenError.TheVariants.{NoNode, Empty, Disconnected, TooLarge, NoMemory}
 use Rattle.ir_plan.specs.declared.tour.LabelOrder.{LabelOrder}
 use Rattle.ir_core.specs.declared.opening.Opening.{Opening}
 use Rattle.ir_core.specs.Opened.{open_refused, is_small, is_within, setting_of, IsRefusedAs, IsOpenRefusal}
 use Rattle.ir_core.specs.Meaning.{IsMade}
+use Rattle.ir_core.specs.Codes.{open_error_of}
+use Rattle.ir_plan.specs.declared.error.PlanError.{PlanError}
+use Rattle.ir_plan.specs.declared.error.PlanError.TheVariants as plan
+use Rattle.ir_plan.specs.Building.{FromRoot, RefusesPlan}
 use Rattle.ir_core.proofs.Installing.{whole_plan}
 use Rattle.std.proofs.lemmas.Option.{none-some}
 use Rattle.std.proofs.lemmas.List.{length-replicate}
@@ -125,13 +129,33 @@ not_refused false true c n = absurd (n NoNode refl)
 not_refused false false true n = (refl, refl)
 not_refused false false false n = absurd (n TooLarge refl)
 
--- an opening that is not refused before a plan is made, over a disconnected network
-pub apart_refused : (opening : Opening) → ((e : OpenError) → open_refused opening ≡ Some e → ⊥) → IsDisconnected opening.topology → IsOpenRefusal opening Disconnected
-apart_refused opening accepted apart = by (open_refused opening) accepted
-  where
-    by : (x : Option OpenError) → ((e : OpenError) → x ≡ Some e → ⊥) → IsRefusedAs opening.topology Disconnected x
-    by (Some e) none = absurd (none e refl)
-    by None none = inl (refl, apart)
+root_within : (a b c : Bool) → ((e : OpenError) → cond a (Some Empty) (cond b (Some NoNode) (cond (not c) (Some TooLarge) None)) ≡ Some e → ⊥) → b ≡ false
+root_within true b c n = absurd (n Empty refl)
+root_within false true c n = absurd (n NoNode refl)
+root_within false false c n = refl
+
+-- a refusal that is the network's
+told_as : (topology : Topology) (e : OpenError) (x : Option OpenError) → ((f : OpenError) → x ≡ Some f → ⊥) → ((e ≡ Disconnected) × IsDisconnected topology) ⊎ (e ≡ NoMemory) → IsRefusedAs topology e x
+told_as topology e (Some f) none told = absurd (none f refl)
+told_as topology e None none told = told
+
+pub wants_memory : (opening : Opening) → ((e : OpenError) → open_refused opening ≡ Some e → ⊥) → IsOpenRefusal opening NoMemory
+wants_memory opening accepted = told_as opening.topology NoMemory (open_refused opening) accepted (inr refl)
+
+-- an opening that is not refused before a plan is made, where there is no plan
+here_refused : (opening : Opening) → ((e : OpenError) → open_refused opening ≡ Some e → ⊥) → (e : PlanError) → RefusesPlan opening.topology (FromRoot opening.labels opening.root) e → IsOpenRefusal opening (open_error_of e)
+here_refused opening accepted plan.Disconnected is = told_as opening.topology Disconnected (open_refused opening) accepted (inl (refl, is.2))
+here_refused opening accepted plan.NoMemory is = wants_memory opening accepted
+here_refused opening accepted plan.Empty is =
+    let some = (not_refused (node_count opening.topology == 0) (nat_le (node_count opening.topology) opening.root) (is_small opening) accepted).0 in
+    absurd (grind (arith, common_steps))
+here_refused opening accepted plan.NoNode is =
+    let within = root_within (node_count opening.topology == 0) (nat_le (node_count opening.topology) opening.root) (is_small opening) accepted in
+    let past = is.1 in
+    absurd (grind (arith, common_steps))
+
+pub plan_refused : (opening : Opening) → ((e : OpenError) → open_refused opening ≡ Some e → ⊥) → (over : Topology) → over ≡ opening.topology → (e : PlanError) → RefusesPlan over (FromRoot opening.labels opening.root) e → IsOpenRefusal opening (open_error_of e)
+plan_refused opening accepted over same e is = here_refused opening accepted e (subst (λ (topology : Topology). RefusesPlan topology (FromRoot opening.labels opening.root) e) same is)
 
 within : (n most : ℕ) → is_within n most ≡ true → (0 < n) × (n ≤ most)
 within n most e = let parts = both_true (not (n == 0)) (nat_le n most) e in let a = parts.0 in let b = parts.1 in (grind (arith, common_steps), grind (arith, common_steps))
@@ -156,8 +180,8 @@ setting_is opening first accepted made =
       some_packets = packets.0;
       max_packets = packets.1;
       restamps = grind (arith, common_steps);
-      topology = subst (λ (net : Topology). IsTopology net) made.2 made.3.topology;
-      first = whole_plan o o.first made.3 made.2;
+      topology = subst (λ (net : Topology). IsTopology net) made.over made.valid.topology;
+      first = whole_plan o o.first made.valid made.over;
     }
   where
     small_parts : (a b c d e : Bool) → (a && b && c && d && e) ≡ true → (a ≡ true) × (b ≡ true) × (c ≡ true) × (d ≡ true) × (e ≡ true)

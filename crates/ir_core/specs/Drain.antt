@@ -12,40 +12,40 @@ use Rattle.ir_core.specs.Meaning.{sight_after, with_entry, reads, takes, acts}
 -- The history after a node read the newest version; after it acted on what it holds, if it holds a packet; and after
 -- it took the first packet of a channel, if there is one. What is refused changes nothing.
 abbrev pub after_read : Setting → ℕ → List Entry → List Entry
-after_read o u log = with_entry log (reads o (sight_after o log) u (length (history.boards log) - 1))
+after_read setting u log = with_entry log (reads setting (sight_after setting log) u (length (history.boards log) - 1))
 
 abbrev pub after_act : Setting → ℕ → List Entry → List Entry
-after_act o u log = with_entry log (acts o (sight_after o log) u)
+after_act setting u log = with_entry log (acts setting (sight_after setting log) u)
 
 abbrev pub after_take : Setting → ℕ → Way → List Entry → List Entry
-after_take o u way log = with_entry log (takes o (sight_after o log) u way)
+after_take setting u way log = with_entry log (takes setting (sight_after setting log) u way)
 
 -- a node takes the first packet of a channel and acts on it
 abbrev pub after_way : Setting → ℕ → Way → List Entry → List Entry
-after_way o u way log = after_act o u (after_take o u way log)
+after_way setting u way log = after_act setting u (after_take setting u way log)
 
 -- the same for each of these ports' links, in order
 abbrev pub after_ports : Setting → ℕ → List Hop → List Entry → List Entry
-after_ports o u [] log = log
-after_ports o u (hop ∷ hops) log = after_ports o u hops (after_way o u (Link hop.link) log)
+after_ports setting u [] log = log
+after_ports setting u (hop ∷ hops) log = after_ports setting u hops (after_way setting u (Link hop.link) log)
 
 -- A visit of a node: it reads the newest version, acts on what it holds, then takes from its inbox and acts, then from
 -- each port's channel, in port order of the opening's topology, and acts.
 abbrev pub after_visit : Setting → ℕ → List Entry → List Entry
-after_visit o u log = after_ports o u (ports_of o.topology u) (after_way o u Inbox (after_act o u (after_read o u log)))
+after_visit setting u log = after_ports setting u (ports_of setting.topology u) (after_way setting u Inbox (after_act setting u (after_read setting u log)))
 
 -- the visits of the first nodes, in order
 abbrev pub after_visits : Setting → ℕ → List Entry → List Entry
-after_visits o zero log = log
-after_visits o (suc k) log = after_visit o k (after_visits o k log)
+after_visits setting zero log = log
+after_visits setting (suc k) log = after_visit setting k (after_visits setting k log)
 
 -- a round visits all nodes
 abbrev pub after_round : Setting → List Entry → List Entry
-after_round o log = after_visits o (nodes_of o) log
+after_round setting log = after_visits setting (nodes_of setting) log
 
 abbrev pub after_rounds : Setting → ℕ → List Entry → List Entry
-after_rounds o zero log = log
-after_rounds o (suc k) log = after_round o (after_rounds o k log)
+after_rounds setting zero log = log
+after_rounds setting (suc k) log = after_round setting (after_rounds setting k log)
 
 -- how many Acts a history has
 abbrev pub acts_in : List Entry → ℕ
@@ -60,9 +60,9 @@ acts_of id (DidAct u i way restamp verdict ∷ log) = if i == id then acts_of id
 acts_of id (_ ∷ log) = acts_of id log
 
 -- A drain makes rounds until one has no Act. It has at most as many Acts on a packet as there are nodes.
-pub record IsDrained (o : Setting) (log later : List Entry) : Type 0 where
+pub record IsDrained (setting : Setting) (log later : List Entry) : Type 0 where
   pub rounds : ℕ
-  pub ends : later ≡ after_rounds o (suc rounds) log
-  pub last_is_quiet : acts_in (after_rounds o (suc rounds) log) ≡ acts_in (after_rounds o rounds log)
-  pub others_act : (k : ℕ) → k < rounds → acts_in (after_rounds o k log) < acts_in (after_rounds o (suc k) log)
-  pub few_acts : (id : ℕ) → acts_of id later ≤ acts_of id log + nodes_of o
+  pub ends : later ≡ after_rounds setting (suc rounds) log
+  pub last_is_quiet : acts_in (after_rounds setting (suc rounds) log) ≡ acts_in (after_rounds setting rounds log)
+  pub others_act : (k : ℕ) → k < rounds → acts_in (after_rounds setting k log) < acts_in (after_rounds setting (suc k) log)
+  pub few_acts : (id : ℕ) → acts_of id later ≤ acts_of id log + nodes_of setting

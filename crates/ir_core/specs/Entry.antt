@@ -23,15 +23,15 @@ onward b is_full (Some h) =
     if not (is_link_up b h.link) then LeavesByDown h.link else if is_full h then NoRoom h else GoesOn h
 
 abbrev pub judged_here : Plan → Board → (Hop → Bool) → ℕ → ℕ → ℕ → Verdict
-judged_here t b is_full at stamp dest =
+judged_here plan b is_full at stamp dest =
     if nat_lt stamp b.floor then BelowFloor
     else if at == dest then Arrives
-    else onward b is_full (next_hop t at dest)
+    else onward b is_full (next_hop plan at dest)
 
 abbrev pub judged : Plan → Board → (Hop → Bool) → Way → ℕ → ℕ → ℕ → Verdict
-judged t b is_full Inbox at stamp dest = judged_here t b is_full at stamp dest
-judged t b is_full (Link l) at stamp dest =
-    if not (is_link_up b l) then CameByDown l else judged_here t b is_full at stamp dest
+judged plan b is_full Inbox at stamp dest = judged_here plan b is_full at stamp dest
+judged plan b is_full (Link l) at stamp dest =
+    if not (is_link_up b l) then CameByDown l else judged_here plan b is_full at stamp dest
 
 -- the fate of a packet after this verdict
 abbrev pub fate_of : Verdict → Fate
@@ -131,8 +131,8 @@ action_of left port (GoesOn h) = Send port
 
 -- what a node does with a packet, where each channel has room
 abbrev pub decided : Plan → Board → Way → ℕ → ℕ → ℕ → ℕ → Action
-decided s b way at stamp dest left =
-    action_of left (unwrap_or (table_port s at dest) 0) (judged s b (λ _. false) way at stamp dest)
+decided plan b way at stamp dest left =
+    action_of left (unwrap_or (table_port plan at dest) 0) (judged plan b (λ _. false) way at stamp dest)
 
 abbrev pub way_of : Option ℕ → Way
 way_of None = Inbox

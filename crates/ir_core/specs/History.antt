@@ -23,9 +23,9 @@ boards (_ ∷ log) = boards log
 
 -- the plans of the epochs: place k has epoch k + 1
 abbrev pub plans : Setting → List Entry → List Plan
-plans o [] = o.first ∷ []
-plans o (DidInstall e t b ∷ log) = plans o log ++ t ∷ []
-plans o (_ ∷ log) = plans o log
+plans setting [] = setting.first ∷ []
+plans setting (DidInstall e t b ∷ log) = plans setting log ++ t ∷ []
+plans setting (_ ∷ log) = plans setting log
 
 -- the greatest epoch that the injector learnt
 abbrev pub learnt : List Entry → ℕ
@@ -54,29 +54,29 @@ hand u (_ ∷ log) = hand u log
 
 -- the channel into which a verdict puts the packet
 abbrev pub is_put_into : Setting → ℕ → Verdict → Bool
-is_put_into o c (GoesOn h) = into o h.node (Link h.link) == c
-is_put_into o c (CameByDown l) = false
-is_put_into o c BelowFloor = false
-is_put_into o c Arrives = false
-is_put_into o c (LeavesByDown l) = false
-is_put_into o c (NoRoom h) = false
+is_put_into setting c (GoesOn h) = into setting h.node (Link h.link) == c
+is_put_into setting c (CameByDown l) = false
+is_put_into setting c BelowFloor = false
+is_put_into setting c Arrives = false
+is_put_into setting c (LeavesByDown l) = false
+is_put_into setting c (NoRoom h) = false
 
 -- the packets that were put into a channel, in order
 abbrev pub puts : Setting → ℕ → List Entry → List ℕ
-puts o c [] = []
-puts o c (DidInject id e s d m ∷ log) = if into o s Inbox == c then puts o c log ++ id ∷ [] else puts o c log
-puts o c (DidAct u id way restamp verdict ∷ log) = if is_put_into o c verdict then puts o c log ++ id ∷ [] else puts o c log
-puts o c (_ ∷ log) = puts o c log
+puts setting c [] = []
+puts setting c (DidInject id e s d m ∷ log) = if into setting s Inbox == c then puts setting c log ++ id ∷ [] else puts setting c log
+puts setting c (DidAct u id way restamp verdict ∷ log) = if is_put_into setting c verdict then puts setting c log ++ id ∷ [] else puts setting c log
+puts setting c (_ ∷ log) = puts setting c log
 
 -- how many were taken from it
 abbrev pub take_count : Setting → ℕ → List Entry → ℕ
-take_count o c [] = 0
-take_count o c (DidTake u way id ∷ log) = if into o u way == c then take_count o c log + 1 else take_count o c log
-take_count o c (_ ∷ log) = take_count o c log
+take_count setting c [] = 0
+take_count setting c (DidTake u way id ∷ log) = if into setting u way == c then take_count setting c log + 1 else take_count setting c log
+take_count setting c (_ ∷ log) = take_count setting c log
 
 -- a channel holds its puts without as many at the front as it had takes
 abbrev pub waiting : Setting → ℕ → List Entry → List ℕ
-waiting o c log = drop (take_count o c log) (puts o c log)
+waiting setting c log = drop (take_count setting c log) (puts setting c log)
 
 -- the record of a packet: its injection, and then each Act on it
 abbrev pub packet : ℕ → List Entry → Option Record

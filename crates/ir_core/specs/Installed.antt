@@ -1,6 +1,9 @@
 -- What the epochs of a list of steps are built from.
-use Rattle.std.specs.Prelude.{◌≡◌, ◌≢◌, Some, Result, Err, List, [], ◌∷◌, length, All}
+use Rattle.std.specs.Prelude.{◌≡◌, ◌≢◌, ℕ, Bool, Some, Result, Err, List, [], ◌∷◌, length, All}
+use Rattle.std.specs.Global.{Vec}
+use Rattle.ir_model.specs.declared.Kind.{Kind}
 use Rattle.ir_model.specs.Topology.{restrict}
+use Rattle.ir_plan.specs.declared.tour.LabelOrder.TheVariants.{DepthFirst}
 use Rattle.ir_model.specs.Plan.{Plan}
 use Rattle.ir_core.specs.declared.event.Event.{Event}
 use Rattle.ir_core.specs.declared.event.Event.TheVariants as event
@@ -22,36 +25,40 @@ use Rattle.ir_core.specs.Run.{IsPlayed}
 
 -- an event after a history is accepted or refused by its meaning, not for want of memory
 abbrev pub IsTaken : Setting → List Entry → Event → List Entry → Type 0
-IsTaken o log e later = (wanted : Result Entry Refused) × ComesTo o (sight_after o log) e wanted × (later ≡ with_entry log wanted)
+IsTaken setting log e later = (wanted : Result Entry Refused) × ComesTo setting (sight_after setting log) e wanted × (later ≡ with_entry log wanted)
 
 -- The history after a step of which only the controller's are looked at: installs, retirements and marks of links.
 abbrev pub IsControlled : Setting → List Entry → Step → List Entry → Type 0
-IsControlled o log (step.Event (event.Install kind root)) later = IsTaken o log (event.Install kind root) later
-IsControlled o log (step.Event (event.Retire f)) later = IsTaken o log (event.Retire f) later
-IsControlled o log (step.Event (event.Down l)) later = IsTaken o log (event.Down l) later
-IsControlled o log (step.Event (event.Up l)) later = IsTaken o log (event.Up l) later
-IsControlled o log (step.Event (event.Inject source dest)) later = later ≡ log
-IsControlled o log (step.Event (event.Learn e)) later = later ≡ log
-IsControlled o log (step.Event (event.Take u way)) later = later ≡ log
-IsControlled o log (step.Event (event.Read u k)) later = later ≡ log
-IsControlled o log (step.Event (event.Act u)) later = later ≡ log
-IsControlled o log step.Drain later = later ≡ log
+IsControlled setting log (step.Event (event.Install kind root)) later = IsTaken setting log (event.Install kind root) later
+IsControlled setting log (step.Event (event.Retire f)) later = IsTaken setting log (event.Retire f) later
+IsControlled setting log (step.Event (event.Down l)) later = IsTaken setting log (event.Down l) later
+IsControlled setting log (step.Event (event.Up l)) later = IsTaken setting log (event.Up l) later
+IsControlled setting log (step.Event (event.Inject source dest)) later = later ≡ log
+IsControlled setting log (step.Event (event.Learn e)) later = later ≡ log
+IsControlled setting log (step.Event (event.Take u way)) later = later ≡ log
+IsControlled setting log (step.Event (event.Read u k)) later = later ≡ log
+IsControlled setting log (step.Event (event.Act u)) later = later ≡ log
+IsControlled setting log step.Drain later = later ≡ log
 
 abbrev pub IsControlRun : Setting → List Entry → List Step → List Entry → Type 0
-IsControlRun o log [] later = later ≡ log
-IsControlRun o log (s ∷ steps) later = (mid : List Entry) × IsControlled o log s mid × IsControlRun o mid steps later
+IsControlRun setting log [] later = later ≡ log
+IsControlRun setting log (s ∷ steps) later = (mid : List Entry) × IsControlled setting log s mid × IsControlRun setting mid steps later
+
+-- the install of a plan that is labelled depth first
+abbrev pub install_of : Kind → ℕ → Vec Bool → Install
+install_of kind root up = record { labels = DepthFirst; kind = kind; root = root; up = up }
 
 -- an epoch's plan is of this kind and root, over the links that are marked, labelled in the order of all; there is a mark
 -- for each link
 abbrev pub IsBuiltFrom : Setting → Install → Plan → Type 0
-IsBuiltFrom o i s =
-    (length i.up.items ≡ links_of o) × IsMade i.labels i.kind i.root (restrict i.up.items o.topology) (Some s) × (i.labels ≡ o.labels)
+IsBuiltFrom setting i plan =
+    (length i.up.items ≡ links_of setting) × IsMade i.labels i.kind i.root (restrict i.up.items setting.topology) (Some plan) × (i.labels ≡ setting.labels)
 
 abbrev pub AreBuiltFrom : Setting → List Install → List Plan → Type 0
-AreBuiltFrom o [] [] = Unit {0}
-AreBuiltFrom o [] (s ∷ plans) = ⊥
-AreBuiltFrom o (i ∷ installs) [] = ⊥
-AreBuiltFrom o (i ∷ installs) (s ∷ plans) = IsBuiltFrom o i s × AreBuiltFrom o installs plans
+AreBuiltFrom setting [] [] = Unit {0}
+AreBuiltFrom setting [] (s ∷ plans) = ⊥
+AreBuiltFrom setting (i ∷ installs) [] = ⊥
+AreBuiltFrom setting (i ∷ installs) (s ∷ plans) = IsBuiltFrom setting i s × AreBuiltFrom setting installs plans
 
 -- The installs of a list of steps, by epoch: each epoch after the controller's steps is built from its install.
 pub record AreInstallsOf (opening : Opening) (steps : List Step) (installs : List Install) : Type 0 where

@@ -4,9 +4,9 @@ use Rattle.ir_model.specs.declared.Hop.{Hop}
 use Rattle.ir_model.specs.declared.Kind.{Kind}
 use Rattle.ir_model.specs.Topology.{Topology, restrict}
 use Rattle.ir_model.specs.Walk.{IsDisconnected}
-use Rattle.ir_model.specs.Plan.{Plan, IsPlan}
+use Rattle.ir_model.specs.Plan.{Plan}
 use Rattle.ir_plan.specs.declared.tour.LabelOrder.{LabelOrder}
-use Rattle.ir_plan.specs.Starts.{IsLabelledBy}
+use Rattle.ir_plan.specs.Building.{FromRoot, IsPlanBy}
 use Rattle.ir_core.specs.declared.event.Way.{Way}
 use Rattle.ir_core.specs.declared.event.Way.TheVariants.{Inbox, Link}
 use Rattle.ir_core.specs.declared.event.Event.{Event}
@@ -37,14 +37,14 @@ pub record Sight : Type 0 where
 
 -- what stands after a history
 abbrev pub sight_after : Setting → List Entry → Sight
-sight_after o log = record {
+sight_after setting log = record {
   injected = history.injected log;
   learnt = history.learnt log;
   boards = history.boards log;
-  plans = history.plans o log;
+  plans = history.plans setting log;
   view = λ u. history.view u log;
   hand = λ u. history.hand u log;
-  waiting = λ c. history.waiting o c log;
+  waiting = λ c. history.waiting setting c log;
   packet = λ id. history.packet id log;
 }
 
@@ -59,34 +59,34 @@ board_at s k = slice_index_or s.boards k opening_board
 
 -- the plan of an epoch
 abbrev pub plan_of : Setting → List Plan → ℕ → Plan
-plan_of o plans e = slice_index_or plans (e - 1) o.first
+plan_of setting plans e = slice_index_or plans (e - 1) setting.first
 
 abbrev pub record_at : Sight → ℕ → Record
 record_at s id = unwrap_or (s.packet id) (fresh id 0 0 0 0)
 
 abbrev pub is_full : Setting → Sight → ℕ → Bool
-is_full o s c = nat_le o.capacity (length (s.waiting c))
+is_full setting s c = nat_le setting.capacity (length (s.waiting c))
 
 -- the channel into which this hop leads is full
 abbrev pub is_full_towards : Setting → Sight → Hop → Bool
-is_full_towards o s h = is_full o s (into o h.node (Link h.link))
+is_full_towards setting s h = is_full setting s (into setting h.node (Link h.link))
 
 -- the verdict of u on a packet of this epoch and destination
 abbrev pub verdict_on : Setting → Sight → ℕ → Way → ℕ → ℕ → Verdict
-verdict_on o s u way stamp dest =
-    judged (plan_of o s.plans stamp) (board_at s (s.view u)) (is_full_towards o s) way u stamp dest
+verdict_on setting s u way stamp dest =
+    judged (plan_of setting s.plans stamp) (board_at s (s.view u)) (is_full_towards setting s) way u stamp dest
 
 -- a restamped packet is judged once more, by its new epoch over the same board, as one from the inbox
 abbrev pub ruling_by : Setting → Sight → ℕ → ℕ → Verdict → Option ℕ → Ruling
-ruling_by o s u dest v None = record { restamp = None; verdict = v }
-ruling_by o s u dest v (Some e) = record { restamp = Some e; verdict = verdict_on o s u Inbox e dest }
+ruling_by setting s u dest v None = record { restamp = None; verdict = v }
+ruling_by setting s u dest v (Some e) = record { restamp = Some e; verdict = verdict_on setting s u Inbox e dest }
 
 -- What u makes of a packet: it judges it by its present epoch, and restamps it with the current epoch of its board where
 -- that one is retired and the packet has had fewer restamps than the network allows.
 abbrev pub ruling_on : Setting → Sight → ℕ → Way → Record → Ruling
-ruling_on o s u way r =
-    let v = verdict_on o s u way (stamp_of r) r.dest in
-    ruling_by o s u r.dest v (restamp_by (o.restamps - length r.restamps) (board_at s (s.view u)).current v)
+ruling_on setting s u way r =
+    let v = verdict_on setting s u way (stamp_of r) r.dest in
+    ruling_by setting s u r.dest v (restamp_by (setting.restamps - length r.restamps) (board_at s (s.view u)).current v)
 
 -- the refusal, or else this
 abbrev pub unless : Option Refused → Result Entry Refused → Result Entry Refused
@@ -95,9 +95,9 @@ unless None r = r
 
 -- what an event comes to, or its first refusal
 abbrev pub injects : Setting → Sight → ℕ → ℕ → Result Entry Refused
-injects o s source dest =
-    unless (inject_refused (nodes_of o) o.max_packets s.injected source dest)
-    (if is_full o s (into o source Inbox) then Err InboxFull else Ok (DidInject s.injected s.learnt source dest (hop_room o.restamps (nodes_of o))))
+injects setting s source dest =
+    unless (inject_refused (nodes_of setting) setting.max_packets s.injected source dest)
+    (if is_full setting s (into setting source Inbox) then Err InboxFull else Ok (DidInject s.injected s.learnt source dest (hop_room setting.restamps (nodes_of setting))))
 
 abbrev pub learns : Sight → ℕ → Result Entry Refused
 learns s e = if (e == 0) || nat_lt (newest s).current e then Err NoEpoch else Ok (DidLearn e)
@@ -112,67 +112,66 @@ takes_from s u way (Some c) =
     if is_some (s.hand u) then Err HandFull else takes_first u way (slice_get (s.waiting c) 0)
 
 abbrev pub takes : Setting → Sight → ℕ → Way → Result Entry Refused
-takes o s u way = if not (nat_lt u (nodes_of o)) then Err NoNode else takes_from s u way (channel_of o u way)
+takes setting s u way = if not (nat_lt u (nodes_of setting)) then Err NoNode else takes_from s u way (channel_of setting u way)
 
 abbrev pub reads : Setting → Sight → ℕ → ℕ → Result Entry Refused
-reads o s u k =
-    if not (nat_lt u (nodes_of o)) then Err NoNode
+reads setting s u k =
+    if not (nat_lt u (nodes_of setting)) then Err NoNode
     else if nat_lt k (s.view u) || nat_le (length s.boards) k then Err BadView
     else Ok (DidRead u k)
 
 abbrev pub acts_on : Setting → Sight → ℕ → Option Held → Result Entry Refused
-acts_on o s u None = Err HandEmpty
-acts_on o s u (Some held) =
-    let ruling = ruling_on o s u held.way (record_at s held.id) in
+acts_on setting s u None = Err HandEmpty
+acts_on setting s u (Some held) =
+    let ruling = ruling_on setting s u held.way (record_at s held.id) in
     Ok (DidAct u held.id held.way ruling.restamp ruling.verdict)
 
 abbrev pub acts : Setting → Sight → ℕ → Result Entry Refused
-acts o s u = if not (nat_lt u (nodes_of o)) then Err NoNode else acts_on o s u (s.hand u)
+acts setting s u = if not (nat_lt u (nodes_of setting)) then Err NoNode else acts_on setting s u (s.hand u)
 
 abbrev pub retires : Sight → ℕ → Result Entry Refused
 retires s f = unless (retire_refused (newest s) f) (Ok (DidChange (retired_below (newest s) f)))
 
 abbrev pub marks : Setting → Sight → ℕ → Bool → Result Entry Refused
-marks o s l up = unless (mark_refused (links_of o) (newest s) l up) (Ok (DidChange (marked (newest s) l up)))
+marks setting s l up = unless (mark_refused (links_of setting) (newest s) l up) (Ok (DidChange (marked (newest s) l up)))
 
 -- the network over the links that are up in the newest version
 abbrev pub topology_up : Setting → Sight → Topology
-topology_up o s = restrict (take (links_of o) (newest s).up) o.topology
+topology_up setting s = restrict (take (links_of setting) (newest s).up) setting.topology
 
 -- a plan of this kind and root over the network, labelled in this order, or none where the network is disconnected
 abbrev pub IsMade : LabelOrder → Kind → ℕ → Topology → Option Plan → Type 0
-IsMade labels kind root net None = IsDisconnected net
-IsMade labels kind root net (Some s) =
-    (s.kind ≡ kind) × (s.root ≡ root) × (s.topology ≡ net) × IsPlan s × IsLabelledBy labels s
+IsMade labels kind root topology None = IsDisconnected topology
+IsMade labels kind root topology (Some plan) = IsPlanBy topology kind (FromRoot labels root) plan
 
 -- the entry of an install, once the plan is made
 abbrev pub installs_made : Sight → Option Plan → Result Entry Refused
 installs_made s None = Err Disconnected
-installs_made s (Some t) = Ok (DidInstall (length s.plans + 1) t (installed (newest s) (length s.plans + 1)))
+installs_made s (Some plan) = Ok (DidInstall (length s.plans + 1) plan (installed (newest s) (length s.plans + 1)))
 
 -- why an install is refused before any plan is made
 abbrev pub install_refusal : Setting → Sight → ℕ → Option Refused
-install_refusal o s root = install_refused (nodes_of o) (length s.plans) (newest s) root
+install_refusal setting s root = install_refused (nodes_of setting) (length s.plans) (newest s) root
 
 abbrev pub InstallsUnless : Setting → Sight → Kind → ℕ → Result Entry Refused → Option Refused → Type 0
-InstallsUnless o s kind root wanted (Some e) = wanted ≡ Err e
-InstallsUnless o s kind root wanted None = (made : Option Plan) × IsMade o.labels kind root (topology_up o s) made × (wanted ≡ installs_made s made)
+InstallsUnless setting s kind root wanted (Some e) = wanted ≡ Err e
+InstallsUnless setting s kind root wanted None = (made : Option Plan) × IsMade setting.labels kind root (topology_up setting s) made × (wanted ≡ installs_made s made)
 
 abbrev pub Installs : Setting → Sight → Kind → ℕ → Result Entry Refused → Type 0
-Installs o s kind root wanted = InstallsUnless o s kind root wanted (install_refusal o s root)
+Installs setting s kind root wanted = InstallsUnless setting s kind root wanted (install_refusal setting s root)
 
 -- What an event comes to: its entry, or its first refusal. Of an install it says which plan is made, and the plan
 -- is any of that kind and root over the links that are up, labelled in the order of the setting.
 abbrev pub ComesTo : Setting → Sight → Event → Result Entry Refused → Type 0
-ComesTo o s (event.Inject source dest) wanted = wanted ≡ injects o s source dest
-ComesTo o s (event.Learn e) wanted = wanted ≡ learns s e
-ComesTo o s (event.Take u way) wanted = wanted ≡ takes o s u way
-ComesTo o s (event.Read u k) wanted = wanted ≡ reads o s u k
-ComesTo o s (event.Act u) wanted = wanted ≡ acts o s u
-ComesTo o s (event.Install kind root) wanted = Installs o s kind root wanted
-ComesTo o s (event.Retire f) wanted = wanted ≡ retires s f
-ComesTo o s (event.Down l) wanted = wanted ≡ marks o s l false
-ComesTo o s (event.Up l) wanted = wanted ≡ marks o s l true
+ComesTo setting s (event.Inject source dest) wanted = wanted ≡ injects setting s source dest
+ComesTo setting s (event.Learn e) wanted = wanted ≡ learns s e
+ComesTo setting s (event.Take u way) wanted = wanted ≡ takes setting s u way
+ComesTo setting s (event.Read u k) wanted = wanted ≡ reads setting s u k
+ComesTo setting s (event.Act u) wanted = wanted ≡ acts setting s u
+ComesTo setting s (event.Install kind root) wanted = Installs setting s kind root wanted
+ComesTo setting s (event.Retire f) wanted = wanted ≡ retires s f
+ComesTo setting s (event.Down l) wanted = wanted ≡ marks setting s l false
+ComesTo setting s (event.Up l) wanted = wanted ≡ marks setting s l true
 
 -- the history with one more event, if it is accepted
 abbrev pub with_entry : List Entry → Result Entry Refused → List Entry

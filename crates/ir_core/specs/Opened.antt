@@ -3,12 +3,26 @@ use Rattle.std.specs.Prelude.{◌≡◌, ℕ, Bool, not, ◌&&◌, nat_le, lengt
 use Rattle.ir_model.specs.Topology.{Topology, node_count}
 use Rattle.ir_model.specs.Walk.{IsDisconnected}
 use Rattle.ir_model.specs.Plan.{Plan}
+use Rattle.ir_model.specs.declared.Kind.{Kind}
+use Rattle.ir_plan.specs.declared.tour.LabelOrder.TheVariants.{DepthFirst}
 use Rattle.ir_core.specs.declared.TheConstants.{MAX_NODES, MAX_LINKS, MAX_CAPACITY, MAX_PACKETS, MAX_RESTAMPS}
 use Rattle.ir_core.specs.declared.opening.Opening.{Opening}
 use Rattle.ir_core.specs.declared.event.OpenError.{OpenError}
 use Rattle.ir_core.specs.declared.event.OpenError.TheVariants.{NoNode, Empty, Disconnected, TooLarge, NoMemory}
 use Rattle.ir_core.specs.Setting.{Setting}
 use Rattle.ir_core.specs.Meaning.{IsMade}
+
+-- the opening by these, whose plans are labelled depth first
+abbrev pub opening_of : Topology → Kind → (root capacity max_packets restamps : ℕ) → Opening
+opening_of topology kind root capacity max_packets restamps = record {
+  topology = topology;
+  labels = DepthFirst;
+  kind = kind;
+  root = root;
+  capacity = capacity;
+  max_packets = max_packets;
+  restamps = restamps;
+}
 
 -- a number from 1 to this greatest one
 abbrev pub is_within : ℕ → ℕ → Bool
@@ -40,18 +54,18 @@ setting_of opening first = record {
 }
 
 -- A setting for this opening: its first epoch's plan is of the opening's kind and root over all links.
-pub record IsOpenedWith (opening : Opening) (o : Setting) : Type 0 where
-  pub topology : o.topology ≡ opening.topology
-  pub labels : o.labels ≡ opening.labels
-  pub capacity : o.capacity ≡ opening.capacity
-  pub max_packets : o.max_packets ≡ opening.max_packets
-  pub restamps : o.restamps ≡ opening.restamps
-  pub first : IsMade opening.labels opening.kind opening.root opening.topology (Some o.first)
+pub record IsOpenedWith (opening : Opening) (setting : Setting) : Type 0 where
+  pub topology : setting.topology ≡ opening.topology
+  pub labels : setting.labels ≡ opening.labels
+  pub capacity : setting.capacity ≡ opening.capacity
+  pub max_packets : setting.max_packets ≡ opening.max_packets
+  pub restamps : setting.restamps ≡ opening.restamps
+  pub first : IsMade opening.labels opening.kind opening.root opening.topology (Some setting.first)
 
 -- an opening is refused as this
 abbrev pub IsRefusedAs : Topology → OpenError → Option OpenError → Type 0
-IsRefusedAs net error (Some e) = error ≡ e
-IsRefusedAs net error None = ((error ≡ Disconnected) × IsDisconnected net) ⊎ (error ≡ NoMemory)
+IsRefusedAs topology error (Some e) = error ≡ e
+IsRefusedAs topology error None = ((error ≡ Disconnected) × IsDisconnected topology) ⊎ (error ≡ NoMemory)
 
 -- Why no world was opened: the first refusal, or else that the network is disconnected, or want of memory.
 abbrev pub IsOpenRefusal : Opening → OpenError → Type 0

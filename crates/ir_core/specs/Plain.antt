@@ -17,19 +17,19 @@ HasNoRestamp (_ ∷ log) = HasNoRestamp log
 
 -- the ruling on a packet of one epoch is the verdict by that epoch
 abbrev pub IsPlainVerdict : Setting → Sight → ℕ → Way → Record → Type 0
-IsPlainVerdict o s u way r =
-    o.restamps ≡ 0 → r.restamps ≡ [] → ruling_on o s u way r ≡ record { restamp = None; verdict = verdict_on o s u way r.epoch r.dest }
+IsPlainVerdict setting s u way r =
+    setting.restamps ≡ 0 → r.restamps ≡ [] → ruling_on setting s u way r ≡ record { restamp = None; verdict = verdict_on setting s u way r.epoch r.dest }
 
 -- what an Act comes to where the packet in hand is judged by the one epoch that it was stamped with
 abbrev pub acts_once_on : Setting → Sight → ℕ → Option Held → Result Entry Refused
-acts_once_on o s u None = Err HandEmpty
-acts_once_on o s u (Some held) =
+acts_once_on setting s u None = Err HandEmpty
+acts_once_on setting s u (Some held) =
     let r = record_at s held.id in
-    Ok (DidAct u held.id held.way None (verdict_on o s u held.way r.epoch r.dest))
+    Ok (DidAct u held.id held.way None (verdict_on setting s u held.way r.epoch r.dest))
 
 abbrev pub acts_once : Setting → Sight → ℕ → Result Entry Refused
-acts_once o s u = if not (nat_lt u (nodes_of o)) then Err NoNode else acts_once_on o s u (s.hand u)
+acts_once setting s u = if not (nat_lt u (nodes_of setting)) then Err NoNode else acts_once_on setting s u (s.hand u)
 
 -- an Act comes to that
 abbrev pub IsPlainAct : Setting → List Entry → ℕ → Type 0
-IsPlainAct o log u = o.restamps ≡ 0 → HasNoRestamp log → acts o (sight_after o log) u ≡ acts_once o (sight_after o log) u
+IsPlainAct setting log u = setting.restamps ≡ 0 → HasNoRestamp log → acts setting (sight_after setting log) u ≡ acts_once setting (sight_after setting log) u

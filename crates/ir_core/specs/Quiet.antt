@@ -125,4 +125,4 @@ IsNoneLeft s = (id : ℕ) (r : Record) → slice_get s.records id ≡ Some r →
 
 -- the later world is that of the history after a drain
 abbrev pub ShowsDrained : List Entry → Setting → World → Type 0
-ShowsDrained log o new = (later : List Entry) × IsDrained o log later × Shows later new
+ShowsDrained log setting new = (later : List Entry) × IsDrained setting log later × Shows later new

@@ -26,10 +26,10 @@ no_plan = record { kind = Tree; root = 0; topology = record { links = []; ports 
 
 -- how many nodes and links there are
 abbrev pub nodes_of : Setting → ℕ
-nodes_of o = node_count o.topology
+nodes_of setting = node_count setting.topology
 
 abbrev pub links_of : Setting → ℕ
-links_of o = length o.topology.links
+links_of setting = length setting.topology.links
 
 -- the channel of a link into one of its ends, of the two that begin at this number
 abbrev pub channel_into : ℕ → ℕ → Option Edge → Option ℕ
@@ -40,31 +40,31 @@ channel_into first u (Some link) =
 -- The number of the channel that a node takes from by this way, if there is one: the inboxes by node come first, then
 -- for each link the channel into its first end and the channel into its second.
 abbrev pub channel_in : Topology → ℕ → Way → Option ℕ
-channel_in net u Inbox = Some u
-channel_in net u (Link l) = channel_into (node_count net + 2 * l) u (slice_get net.links l)
+channel_in topology u Inbox = Some u
+channel_in topology u (Link l) = channel_into (node_count topology + 2 * l) u (slice_get topology.links l)
 
 abbrev pub channel_of : Setting → ℕ → Way → Option ℕ
-channel_of o u way = channel_in o.topology u way
+channel_of setting u way = channel_in setting.topology u way
 
 abbrev pub into : Setting → ℕ → Way → ℕ
-into o u way = unwrap_or (channel_of o u way) 0
+into setting u way = unwrap_or (channel_of setting u way) 0
 
 -- a plan over the nodes and numbered links of the network, and some of its ports
-pub record IsPlanFor (o : Setting) (s : Plan) : Type 0 where
+pub record IsPlanFor (setting : Setting) (s : Plan) : Type 0 where
   pub plan : IsPlan s
-  pub nodes : node_count s.topology ≡ nodes_of o
-  pub links : s.topology.links ≡ o.topology.links
-  pub ports : (u p : ℕ) (hop : Hop) → port_at s.topology u p ≡ Some hop → (q : ℕ) × (port_at o.topology u q ≡ Some hop)
+  pub nodes : node_count s.topology ≡ nodes_of setting
+  pub links : s.topology.links ≡ setting.topology.links
+  pub ports : (u p : ℕ) (hop : Hop) → port_at s.topology u p ≡ Some hop → (q : ℕ) × (port_at setting.topology u q ≡ Some hop)
 
 -- What is true of every world's setting.
-pub record IsSetting (o : Setting) : Type 0 where
-  pub some_nodes : 0 < nodes_of o
-  pub few_nodes : nodes_of o ≤ MAX_NODES
-  pub few_links : links_of o ≤ MAX_LINKS
-  pub some_capacity : 0 < o.capacity
-  pub capacity : o.capacity ≤ MAX_CAPACITY
-  pub some_packets : 0 < o.max_packets
-  pub max_packets : o.max_packets ≤ MAX_PACKETS
-  pub restamps : o.restamps ≤ MAX_RESTAMPS
-  pub topology : IsTopology o.topology
-  pub first : IsPlanFor o o.first
+pub record IsSetting (setting : Setting) : Type 0 where
+  pub some_nodes : 0 < nodes_of setting
+  pub few_nodes : nodes_of setting ≤ MAX_NODES
+  pub few_links : links_of setting ≤ MAX_LINKS
+  pub some_capacity : 0 < setting.capacity
+  pub capacity : setting.capacity ≤ MAX_CAPACITY
+  pub some_packets : 0 < setting.max_packets
+  pub max_packets : setting.max_packets ≤ MAX_PACKETS
+  pub restamps : setting.restamps ≤ MAX_RESTAMPS
+  pub topology : IsTopology setting.topology
+  pub first : IsPlanFor setting setting.first

@@ -36,23 +36,23 @@ AsksForMemory (Err e) = e ≡ InboxFull
 
 -- The events that may want memory, and where.
 abbrev pub MayWantMemory : Setting → Sight → Event → Type 0
-MayWantMemory o s (event.Inject source dest) = AsksForMemory (injects o s source dest)
-MayWantMemory o s (event.Install kind root) = install_refusal o s root ≡ None
-MayWantMemory o s (event.Retire f) = AsksForMemory (retires s f)
-MayWantMemory o s (event.Down l) = AsksForMemory (marks o s l false)
-MayWantMemory o s (event.Up l) = AsksForMemory (marks o s l true)
-MayWantMemory o s (event.Learn e) = ⊥
-MayWantMemory o s (event.Take u way) = ⊥
-MayWantMemory o s (event.Read u k) = ⊥
-MayWantMemory o s (event.Act u) = ⊥
+MayWantMemory setting s (event.Inject source dest) = AsksForMemory (injects setting s source dest)
+MayWantMemory setting s (event.Install kind root) = install_refusal setting s root ≡ None
+MayWantMemory setting s (event.Retire f) = AsksForMemory (retires s f)
+MayWantMemory setting s (event.Down l) = AsksForMemory (marks setting s l false)
+MayWantMemory setting s (event.Up l) = AsksForMemory (marks setting s l true)
+MayWantMemory setting s (event.Learn e) = ⊥
+MayWantMemory setting s (event.Take u way) = ⊥
+MayWantMemory setting s (event.Read u k) = ⊥
+MayWantMemory setting s (event.Act u) = ⊥
 
 -- The reply to an event after a history, and the later history: that with the event, if it is accepted, and the same
 -- where it is refused. For want of memory it may be refused where it may want memory.
 abbrev pub IsAnswered : Setting → List Entry → Event → Result Reply Refused → List Entry → Type 0
-IsAnswered o log e reply later =
-    ((wanted : Result Entry Refused) × ComesTo o (sight_after o log) e wanted × (reply ≡ reply_to wanted) × (later ≡ with_entry log wanted))
-    ⊎ (MayWantMemory o (sight_after o log) e × (reply ≡ Err NoMemory) × (later ≡ log))
+IsAnswered setting log e reply later =
+    ((wanted : Result Entry Refused) × ComesTo setting (sight_after setting log) e wanted × (reply ≡ reply_to wanted) × (later ≡ with_entry log wanted))
+    ⊎ (MayWantMemory setting (sight_after setting log) e × (reply ≡ Err NoMemory) × (later ≡ log))
 
 -- The later world is that of the history after the event and its reply.
 abbrev pub AnswersAfter : List Entry → Event → Result Reply Refused → Setting → World → Type 0
-AnswersAfter log e reply o new = (later : List Entry) × IsAnswered o log e reply later × Shows later new
+AnswersAfter log e reply setting new = (later : List Entry) × IsAnswered setting log e reply later × Shows later new

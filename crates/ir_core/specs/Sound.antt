@@ -24,25 +24,25 @@ last_of (x ∷ y ∷ rest) = last_of (y ∷ rest)
 
 -- the plan's table sends the packet on from its last hop, along this link to this node
 abbrev pub LeadsOn : Plan → Record → ℕ → ℕ → Type 0
-LeadsOn t r link node = (h : Hop) × (next_hop t (last_of r.hops) r.dest ≡ Some h) × (h.link ≡ link) × (h.node ≡ node)
+LeadsOn plan r link node = (h : Hop) × (next_hop plan (last_of r.hops) r.dest ≡ Some h) × (h.link ≡ link) × (h.node ≡ node)
 
 -- the walk goes on after the hops, along this link to this node
 abbrev pub GoesOnAlong : Plan → Record → List ℕ → ℕ → ℕ → Type 0
-GoesOnAlong t r walk link node = IsPrefix (r.hops ++ node ∷ []) walk × LeadsOn t r link node
+GoesOnAlong plan r walk link node = IsPrefix (r.hops ++ node ∷ []) walk × LeadsOn plan r link node
 
 -- with a kind of shortest ways, the hops weigh the distance from the source to the destination
 abbrev pub WeighsTheDistance : Kind → Plan → Record → Type 0
-WeighsTheDistance Shortest t r = IsDistance t.topology r.source r.dest (walk_weight t.topology r.hops)
-WeighsTheDistance Compact t r = IsDistance t.topology r.source r.dest (walk_weight t.topology r.hops)
-WeighsTheDistance Tree t r = Unit {0}
+WeighsTheDistance Shortest plan r = IsDistance plan.topology r.source r.dest (walk_weight plan.topology r.hops)
+WeighsTheDistance Compact plan r = IsDistance plan.topology r.source r.dest (walk_weight plan.topology r.hops)
+WeighsTheDistance Tree plan r = Unit {0}
 
 -- what a fate says of the hops and of the prescribed walk
 abbrev pub FateFits : Plan → Record → List ℕ → Fate → Type 0
-FateFits t r walk Delivered = (r.hops ≡ walk) × WeighsTheDistance t.kind t r
-FateFits t r walk Retired = Unit {0}
-FateFits t r walk (Down l) = (node : ℕ) × GoesOnAlong t r walk l node
-FateFits t r walk (Full l node) = GoesOnAlong t r walk l node
-FateFits t r walk Left = Unit {0}
+FateFits plan r walk Delivered = (r.hops ≡ walk) × WeighsTheDistance plan.kind plan r
+FateFits plan r walk Retired = Unit {0}
+FateFits plan r walk (Down l) = (node : ℕ) × GoesOnAlong plan r walk l node
+FateFits plan r walk (Full l node) = GoesOnAlong plan r walk l node
+FateFits plan r walk Left = Unit {0}
 
 -- A record of one epoch is sound by the plan of that epoch: its hops are a prefix of the prescribed walk, not empty,
 -- and its fate fits.
@@ -94,8 +94,8 @@ IsPlanAmong plans epoch plan = (0 < epoch) × (slice_get plans (epoch - 1) ≡ S
 
 -- Every record of a history is sound by the plans of its epochs.
 abbrev pub AllSound : Setting → List Entry → Type 0
-AllSound o log = (id : ℕ) (r : Record) → history.packet id log ≡ Some r → IsSoundRecord o.restamps (IsPlanAmong (history.plans o log)) r
+AllSound setting log = (id : ℕ) (r : Record) → history.packet id log ≡ Some r → IsSoundRecord setting.restamps (IsPlanAmong (history.plans setting log)) r
 
 -- Where a network allows no restamp, every record of a history is a record of one epoch, and sound as one.
 abbrev pub AllOfOneEpoch : Setting → List Entry → Type 0
-AllOfOneEpoch o log = (id : ℕ) (r : Record) → history.packet id log ≡ Some r → (r.restamps ≡ []) × IsSoundBy (IsPlanAmong (history.plans o log)) r
+AllOfOneEpoch setting log = (id : ℕ) (r : Record) → history.packet id log ≡ Some r → (r.restamps ≡ []) × IsSoundBy (IsPlanAmong (history.plans setting log)) r

@@ -51,12 +51,12 @@ abbrev pub taken_from : List (List ℕ) → ℕ → List (List ℕ)
 taken_from channels c = slice_set channels c (drop 1 (slice_index_or channels c []))
 
 abbrev pub sent_on : Setting → List (List ℕ) → Verdict → ℕ → List (List ℕ)
-sent_on o channels (GoesOn h) id = put_into channels (into o h.node (Link h.link)) id
-sent_on o channels (CameByDown l) id = channels
-sent_on o channels BelowFloor id = channels
-sent_on o channels Arrives id = channels
-sent_on o channels (LeavesByDown l) id = channels
-sent_on o channels (NoRoom h) id = channels
+sent_on setting channels (GoesOn h) id = put_into channels (into setting h.node (Link h.link)) id
+sent_on setting channels (CameByDown l) id = channels
+sent_on setting channels BelowFloor id = channels
+sent_on setting channels Arrives id = channels
+sent_on setting channels (LeavesByDown l) id = channels
+sent_on setting channels (NoRoom h) id = channels
 
 -- the world after one more entry
 abbrev pub after : World → Entry → World
@@ -83,40 +83,40 @@ pub data Place : Type 0 where
 
 -- the table leads from u in one step to v
 abbrev pub StepsTo : Plan → ℕ → ℕ → ℕ → Type 0
-StepsTo t d u v = (h : Hop) × (next_hop t u d ≡ Some h) × (h.node ≡ v)
+StepsTo plan d u v = (h : Hop) × (next_hop plan u d ≡ Some h) × (h.node ≡ v)
 
 -- a beginning of the prescribed walk
 abbrev pub IsBeginning : Plan → ℕ → List ℕ → Type 0
-IsBeginning t d [] = ⊥
-IsBeginning t d (u ∷ []) = Unit {0}
-IsBeginning t d (u ∷ v ∷ rest) = (u ≢ d) × StepsTo t d u v × IsBeginning t d (v ∷ rest)
+IsBeginning plan d [] = ⊥
+IsBeginning plan d (u ∷ []) = Unit {0}
+IsBeginning plan d (u ∷ v ∷ rest) = (u ≢ d) × StepsTo plan d u v × IsBeginning plan d (v ∷ rest)
 
 -- the packet is at its source, or the table led it here by this link
 abbrev pub IsDue : Plan → Record → ℕ → Way → Type 0
-IsDue t r u Inbox = (r.hops ≡ u ∷ []) × (r.source ≡ u)
-IsDue t r u (Link l) = LeadsOn t r l u
+IsDue plan r u Inbox = (r.hops ≡ u ∷ []) × (r.source ≡ u)
+IsDue plan r u (Link l) = LeadsOn plan r l u
 
 -- what an ended packet's fate says of its last hop
 abbrev pub EndFits : Plan → Record → Fate → Type 0
-EndFits t r Delivered = last_of r.hops ≡ r.dest
-EndFits t r Retired = Unit {0}
-EndFits t r (Down l) = (node : ℕ) × LeadsOn t r l node
-EndFits t r (Full l node) = LeadsOn t r l node
-EndFits t r Left = Unit {0}
+EndFits plan r Delivered = last_of r.hops ≡ r.dest
+EndFits plan r Retired = Unit {0}
+EndFits plan r (Down l) = (node : ℕ) × LeadsOn plan r l node
+EndFits plan r (Full l node) = LeadsOn plan r l node
+EndFits plan r Left = Unit {0}
 
 abbrev pub FitsPlace : Plan → Record → Place → Type 0
-FitsPlace t r (Waits u way) = (r.fate ≡ Left) × IsDue t r u way
-FitsPlace t r (InHand u way) = (r.fate ≡ Left) × IsDue t r u way
-FitsPlace t r Ended = (r.fate ≢ Left) × EndFits t r r.fate
+FitsPlace plan r (Waits u way) = (r.fate ≡ Left) × IsDue plan r u way
+FitsPlace plan r (InHand u way) = (r.fate ≡ Left) × IsDue plan r u way
+FitsPlace plan r Ended = (r.fate ≢ Left) × EndFits plan r r.fate
 
 -- a record of one epoch follows that epoch's table from its source
-pub record IsStretch (o : Setting) (plans : List Plan) (g : Record) : Type 0 where
-  pub source_in : g.source < (nodes_of o)
-  pub dest_in : g.dest < (nodes_of o)
+pub record IsStretch (setting : Setting) (plans : List Plan) (g : Record) : Type 0 where
+  pub source_in : g.source < (nodes_of setting)
+  pub dest_in : g.dest < (nodes_of setting)
   pub epoch_above : 0 < g.epoch
   pub epoch_in : g.epoch ≤ length plans
   pub begins : slice_get g.hops 0 ≡ Some g.source
-  pub follows : IsBeginning (plan_of o plans g.epoch) g.dest g.hops
+  pub follows : IsBeginning (plan_of setting plans g.epoch) g.dest g.hops
 
 -- a packet that comes from an inbox has had no restamp
 abbrev pub IsNew : Record → Place → Type 0
@@ -128,26 +128,26 @@ IsNew r Ended = Unit {0}
 
 -- A packet's record is right: its segments follow the tables of their epochs, which rise, each restamp stands at a place
 -- of its own, and its room is that of the network and of the restamps that are allowed.
-pub record IsRoutedRecord (o : Setting) (plans : List Plan) (r : Record) : Type 0 where
-  pub few : length r.restamps ≤ o.restamps
+pub record IsRoutedRecord (setting : Setting) (plans : List Plan) (r : Record) : Type 0 where
+  pub few : length r.restamps ≤ setting.restamps
   pub places : ArePlaces (length r.hops) (reverse r.restamps)
   pub rising : AreRising (segments r)
-  pub each : AllByRecursion (IsStretch o plans) (segments r)
-  pub room : r.room ≡ hop_room o.restamps (nodes_of o)
+  pub each : AllByRecursion (IsStretch setting plans) (segments r)
+  pub room : r.room ≡ hop_room setting.restamps (nodes_of setting)
 
 -- and its present segment fits the place where the packet is
-pub record IsPacket (o : Setting) (plans : List Plan) (r : Record) (place : Place) : Type 0 where
-  pub routed : IsRoutedRecord o plans r
-  pub fits : FitsPlace (plan_of o plans (stamp_of r)) (present r) place
+pub record IsPacket (setting : Setting) (plans : List Plan) (r : Record) (place : Place) : Type 0 where
+  pub routed : IsRoutedRecord setting plans r
+  pub fits : FitsPlace (plan_of setting plans (stamp_of r)) (present r) place
   pub is_new : IsNew r place
 
 -- each packet stands in one place, at most once
-pub record ArePlaced (o : Setting) (plans : List Plan) (hands : List (Option Held)) (channels : List (List ℕ)) (records : List Record) (place : ℕ → Place) : Type 0 where
-  pub each : (id : ℕ) (r : Record) → slice_get records id ≡ Some r → IsPacket o plans r (place id)
+pub record ArePlaced (setting : Setting) (plans : List Plan) (hands : List (Option Held)) (channels : List (List ℕ)) (records : List Record) (place : ℕ → Place) : Type 0 where
+  pub each : (id : ℕ) (r : Record) → slice_get records id ≡ Some r → IsPacket setting plans r (place id)
   pub waiting : (c k id : ℕ) → slice_get (slice_index_or channels c []) k ≡ Some id →
-      (id < length records) × ((u : ℕ) × (way : Way) × (u < (nodes_of o)) × (place id ≡ Waits u way) × (channel_of o u way ≡ Some c))
+      (id < length records) × ((u : ℕ) × (way : Way) × (u < (nodes_of setting)) × (place id ≡ Waits u way) × (channel_of setting u way ≡ Some c))
   pub once : (c j k id : ℕ) → slice_get (slice_index_or channels c []) j ≡ Some id → slice_get (slice_index_or channels c []) k ≡ Some id → j ≡ k
-  pub stands : (id u : ℕ) (way : Way) → place id ≡ Waits u way → (c : ℕ) × (k : ℕ) × (channel_of o u way ≡ Some c) × (slice_get (slice_index_or channels c []) k ≡ Some id)
+  pub stands : (id u : ℕ) (way : Way) → place id ≡ Waits u way → (c : ℕ) × (k : ℕ) × (channel_of setting u way ≡ Some c) × (slice_get (slice_index_or channels c []) k ≡ Some id)
   pub rests : (id u : ℕ) (way : Way) → place id ≡ InHand u way → slice_index_or hands u None ≡ Some (record { id = id; way = way })
   pub held : (u : ℕ) (h : Held) → slice_index_or hands u None ≡ Some h → (h.id < length records) × (place h.id ≡ InHand u h.way)
 
@@ -165,10 +165,10 @@ pub record AreBoards (boards : List Board) (epochs : ℕ) : Type 0 where
   pub floor : (newest_of boards).floor ≤ epochs
   pub each : (k : ℕ) → IsBoard epochs (slice_index_or boards k opening_board)
 
-pub record ArePlans (o : Setting) (plans : List Plan) : Type 0 where
+pub record ArePlans (setting : Setting) (plans : List Plan) : Type 0 where
   pub some : 0 < length plans
   pub few : length plans ≤ MAX_EPOCHS
-  pub each : (k : ℕ) → IsPlanFor o (slice_index_or plans k o.first)
+  pub each : (k : ℕ) → IsPlanFor setting (slice_index_or plans k setting.first)
 
 pub record IsWorld (s : World) : Type 0 where
   pub opening : IsSetting s.opening

@@ -4,15 +4,14 @@ ghost use Rattle.ir_core.specs.declared.event.Step.TheVariants as step;
 ghost use Rattle.ir_core.specs.{declared.event.Refused.TheVariants.NoMemory, declared.built.Install.Install};
 ghost use Rattle.ir_core.specs.{Meaning.IsMade, History.plans, Shows.Shows};
 ghost use Rattle.ir_core.specs.Opened.{IsOpenedWith, IsOpenRefusal, open_refused};
-ghost use Rattle.ir_core.specs.Installed.{AreInstallsOf, AreBuiltFrom, ControlsOn, IsPlainChange};
+ghost use Rattle.ir_core.specs.Installed.{AreInstallsOf, AreBuiltFrom, ControlsOn, IsPlainChange, install_of};
 
 use crate::event::{Event, OpenError, Refused, Reply, Step};
 use crate::opening::{Opening, open_refusal};
 use crate::world::World;
 use ir_model::Kind;
-use ir_plan::LabelOrder;
+use ir_plan::{Alone, Crew, LabelOrder};
 use std::alloc::Global;
-use std::thread::Threads;
 
 /// What an epoch's plan was built from: the order in which it is labelled, its kind and root, and for each link of the
 /// network whether it was up.
@@ -24,11 +23,37 @@ pub struct Install {
     pub up: Vec<bool>,
 }
 
-/// What each epoch of a list of steps was built from, the first epoch first. Steps other than installs, retirements and
-/// marks of links are passed over, and so are refused ones. Refused as `World::new` is; `NoMemory` also where a step is
-/// refused for want of memory. Takes as long as `World::new`, and for each install as long as `plan_up`.
-pub fn installs(
-    rt: &(impl Threads + Sync),
+impl Install {
+    /// What the plan of an epoch that is labelled depth first was built from. For users of the
+    /// library.
+    pub fn of(kind: Kind, root: u16, up: Vec<bool>) -> Install
+        ensures { result ≡ install_of kind root up }
+    {
+        Install {
+            labels: LabelOrder::DepthFirst,
+            kind,
+            root,
+            up,
+        }
+    }
+}
+
+/// What each epoch of a list of steps was built from, the first epoch first. Steps other than
+/// installs, retirements and marks of links are passed over, and so are refused ones. Plans are
+/// made on the thread that calls. Refused as `World::open` is; `NoMemory` also where a step is
+/// refused for want of memory. Takes as long as `World::open`, and for each install as long as
+/// `plan_up_by`. For users of the library.
+pub fn installs(alloc: Global, opening: &Opening, steps: &[Step]) -> Result<Vec<Install>, OpenError>
+    ensures built { IfOk result (λ v. AreInstallsOf opening.now steps.now v.items) }
+    ensures accepted { IfOk result (λ _. open_refused opening.now ≡ None) }
+    ensures refused { IfErr result (λ e. IsOpenRefusal opening.now e) }
+{
+    installs_by(&Alone, alloc, opening, steps)
+}
+
+/// What `installs` gives, the plans made by a crew, and refused as that is.
+pub fn installs_by(
+    crew: &impl Crew,
     alloc: Global,
     opening: &Opening,
     steps: &[Step],
@@ -40,10 +65,10 @@ pub fn installs(
     if let Some(error) = open_refusal(opening) {
         return Err(error);
     }
-    let mut world = opened(rt, alloc, opening)?;
+    let mut world = opened(crew, alloc, opening)?;
     let mut built = first_install(alloc, &world, opening.kind, opening.root)?;
     for step in steps {
-        let Ok(()) = control(rt, alloc, &mut world, *step, &mut built) else {
+        let Ok(()) = control(crew, alloc, &mut world, *step, &mut built) else {
             return Err(OpenError::NoMemory);
         };
     }
@@ -51,7 +76,7 @@ pub fn installs(
 }
 
 /// The world of the empty history.
-fn opened(rt: &(impl Threads + Sync), alloc: Global, opening: &Opening) -> Result<World, OpenError>
+fn opened(crew: &impl Crew, alloc: Global, opening: &Opening) -> Result<World, OpenError>
     requires { open_refused opening.now ≡ None }
     ensures opened { IfOk result (λ w. IsOpenedWith opening.now w.opening) }
     ensures history { IfOk result (λ w. Shows [] w) }
@@ -60,7 +85,7 @@ fn opened(rt: &(impl Threads + Sync), alloc: Global, opening: &Opening) -> Resul
     let Ok(copy) = opening.try_clone(alloc) else {
         return Err(OpenError::NoMemory);
     };
-    World::new(rt, alloc, copy)
+    World::open_by(crew, alloc, copy)
 }
 
 /// The install of the first epoch, over all links.
@@ -97,7 +122,7 @@ fn first_install(
 
 /// A step, if it is one of the controller's.
 fn control(
-    rt: &(impl Threads + Sync),
+    crew: &impl Crew,
     alloc: Global,
     world: &mut World,
     step: Step,
@@ -106,14 +131,14 @@ fn control(
     ensures { IfOk result (λ _. ControlsOn world.old step built.old.items world.new built.new.items) }
 {
     match step {
-        Step::Event(event) => control_event(rt, alloc, world, event, built),
+        Step::Event(event) => control_event(crew, alloc, world, event, built),
         Step::Drain => Ok(()),
     }
 }
 
 /// An event, if it is one of the controller's.
 fn control_event(
-    rt: &(impl Threads + Sync),
+    crew: &impl Crew,
     alloc: Global,
     world: &mut World,
     event: Event,
@@ -122,10 +147,10 @@ fn control_event(
     ensures { IfOk result (λ _. ControlsOn world.old (step.Event event) built.old.items world.new built.new.items) }
 {
     match event {
-        Event::Install(kind, root) => install_next(rt, alloc, world, kind, root, built),
-        Event::Retire(floor) => change(rt, world, Event::Retire(floor)),
-        Event::Down(link) => change(rt, world, Event::Down(link)),
-        Event::Up(link) => change(rt, world, Event::Up(link)),
+        Event::Install(kind, root) => install_next(crew, alloc, world, kind, root, built),
+        Event::Retire(floor) => change(crew, world, Event::Retire(floor)),
+        Event::Down(link) => change(crew, world, Event::Down(link)),
+        Event::Up(link) => change(crew, world, Event::Up(link)),
         Event::Inject(_, _)
         | Event::Learn(_)
         | Event::Take(_, _)
@@ -135,12 +160,12 @@ fn control_event(
 }
 
 /// A change of the board that installs nothing.
-fn change(rt: &(impl Threads + Sync), world: &mut World, event: Event) -> Result<(), OpenError>
+fn change(crew: &impl Crew, world: &mut World, event: Event) -> Result<(), OpenError>
     requires { IsPlainChange event }
     ensures { IfOk result (λ _. (installs : List Install)
         → ControlsOn world.old (step.Event event) installs world.new installs) }
 {
-    let reply = world.apply(rt, event);
+    let reply = world.apply_by(crew, event);
     match accepted(reply) {
         Ok(_) => Ok(()),
         Err(error) => Err(error),
@@ -149,7 +174,7 @@ fn change(rt: &(impl Threads + Sync), world: &mut World, event: Event) -> Result
 
 /// An install, with the links that are up before it.
 fn install_next(
-    rt: &(impl Threads + Sync),
+    crew: &impl Crew,
     alloc: Global,
     world: &mut World,
     kind: Kind,
@@ -163,7 +188,7 @@ fn install_next(
         return Err(OpenError::NoMemory);
     };
     let labels = world.labels();
-    let reply = world.apply(rt, Event::Install(kind, root));
+    let reply = world.apply_by(crew, Event::Install(kind, root));
     let Ok(new) = accepted(reply) else {
         return Err(OpenError::NoMemory);
     };
@@ -189,7 +214,7 @@ fn accepted(reply: Result<Reply, Refused>) -> Result<bool, OpenError>
     match reply {
         Ok(_) => Ok(true),
         Err(refused) => {
-            if refused.code() == Refused::NoMemory.code() {
+            if refused == Refused::NoMemory {
                 Err(OpenError::NoMemory)
             } else {
                 Ok(false)

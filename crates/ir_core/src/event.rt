@@ -1,7 +1,9 @@
 ghost use Rattle.std.specs.Prelude.{◌≡◌};
-ghost use Rattle.ir_core.specs.Codes.{refusal_code, open_code};
+ghost use Rattle.ir_core.specs.Codes.{refusal_code, install_number, change_number, inject_number, refused_of};
+ghost use Rattle.ir_core.specs.Codes.{open_code, open_error_of};
 
 use ir_model::{Hop, Kind};
+use ir_plan::PlanError;
 use thiserror::Error;
 
 /// Where a node takes a packet from: its inbox, or a link by number.
@@ -96,7 +98,7 @@ pub enum Refused {
 }
 
 impl Refused {
-    /// The refusal's number.
+    /// The refusal's number, of those of all events.
     pub fn code(self) -> u8
         ensures { result ≡ refusal_code self }
     {
@@ -119,6 +121,62 @@ impl Refused {
             Refused::Used => 16,
         }
     }
+
+    /// Its number of those that an install may be refused by, from 1 to 6, and 0 where no install
+    /// is refused so. For users of the library.
+    pub fn install_number(self) -> u8
+        ensures { result ≡ install_number self }
+    {
+        match self {
+            Refused::NoNode => 1,
+            Refused::EpochsFull => 2,
+            Refused::Disconnected => 3,
+            Refused::NoMemory => 4,
+            Refused::TooManyChanges => 5,
+            Refused::Used => 6,
+            _ => 0,
+        }
+    }
+
+    /// Its number of those that a retirement or a mark of a link may be refused by, from 1 to 4,
+    /// and 0 where none is refused so. For users of the library.
+    pub fn change_number(self) -> u8
+        ensures { result ≡ change_number self }
+    {
+        match self {
+            Refused::NoEpoch | Refused::NoLink => 1,
+            Refused::Same => 2,
+            Refused::NoMemory => 3,
+            Refused::TooManyChanges => 4,
+            _ => 0,
+        }
+    }
+
+    /// Its number of those that an injection may be refused by, from 1 to 4, and 0 where none is
+    /// refused so. For users of the library.
+    pub fn inject_number(self) -> u8
+        ensures { result ≡ inject_number self }
+    {
+        match self {
+            Refused::NoNode => 1,
+            Refused::TooManyPackets => 2,
+            Refused::NoMemory => 3,
+            Refused::InboxFull => 4,
+            _ => 0,
+        }
+    }
+}
+
+impl From<PlanError> for Refused {
+    ghost from_gives = { λ p e. e ≡ refused_of p };
+
+    fn from(error: PlanError) -> Refused {
+        match error {
+            PlanError::NoNode | PlanError::Empty => Refused::NoNode,
+            PlanError::Disconnected => Refused::Disconnected,
+            PlanError::NoMemory => Refused::NoMemory,
+        }
+    }
 }
 
 /// Why no world or net was opened.
@@ -139,6 +197,9 @@ pub enum OpenError {
     /// A growth was refused.
     #[error("out of memory")]
     NoMemory,
+    /// From a live run alone: the board has no place for so many readers.
+    #[error("too many readers")]
+    TooManyReaders,
     /// From a live run alone: a fresh cell of the registry refused its plan.
     #[error("a fresh cell refused its plan")]
     Used,
@@ -155,7 +216,21 @@ impl OpenError {
             OpenError::Disconnected => 3,
             OpenError::TooLarge => 4,
             OpenError::NoMemory => 5,
-            OpenError::Used => 6,
+            OpenError::TooManyReaders => 6,
+            OpenError::Used => 7,
+        }
+    }
+}
+
+impl From<PlanError> for OpenError {
+    ghost from_gives = { λ p e. e ≡ open_error_of p };
+
+    fn from(error: PlanError) -> OpenError {
+        match error {
+            PlanError::NoNode => OpenError::NoNode,
+            PlanError::Empty => OpenError::Empty,
+            PlanError::Disconnected => OpenError::Disconnected,
+            PlanError::NoMemory => OpenError::NoMemory,
         }
     }
 }

@@ -15,11 +15,12 @@ ghost use Rattle.ir_plan.specs.declared.tour.LabelOrder.{LabelOrder};
 /// of one epoch is the verdict by that epoch; so an Act after a history without restamps comes to that verdict, with no
 /// restamp, and leaves in the record what the verdict leaves. With no restamp left, no packet is told to be restamped.
 pub fn without_restamps()
-    ensures verdict { (o : Setting) (s : Sight) (u : ℕ) (way : Way) (r : Record) → IsPlainVerdict o s u way r }
-    ensures act { (o : Setting) (log : List Entry) (u : ℕ) → IsPlainAct o log u }
+    ensures verdict { (setting : Setting) (s : Sight) (u : ℕ) (way : Way) (r : Record)
+        → IsPlainVerdict setting s u way r }
+    ensures act { (setting : Setting) (log : List Entry) (u : ℕ) → IsPlainAct setting log u }
     ensures journey { (u : ℕ) (way : Way) (v : Verdict) (r : Record) → ruled u way None v r ≡ acted u way v r }
-    ensures action { (t : Plan) (b : Board) (way : Way) (at stamp dest : ℕ)
-        → decided t b way at stamp dest 0 ≢ Restamp }
+    ensures action { (plan : Plan) (b : Board) (way : Way) (at stamp dest : ℕ)
+        → decided plan b way at stamp dest 0 ≢ Restamp }
 {}
 
 /// A law of runs: where no step of a run wanted memory, its epochs were built from just what `installs` gives for the same
@@ -32,13 +33,13 @@ pub fn epochs_of_installs()
 /// A law of plans: two plans of one kind and root over one network, labelled in one order, have the same labels; the same
 /// table and rows too, where the kind is not Tree. So a run and its check go by the same ways.
 pub fn made_plan_is_determined()
-    ensures order { (labels : LabelOrder) (kind : Kind) (root : ℕ) (net : Topology) (p q : Plan)
-        → IsMade labels kind root net (Some p) → IsMade labels kind root net (Some q) → p.order ≡ q.order }
-    ensures labels { (labels : LabelOrder) (kind : Kind) (root : ℕ) (net : Topology) (p q : Plan)
-        → IsMade labels kind root net (Some p) → IsMade labels kind root net (Some q) → p.labels ≡ q.labels }
-    ensures tables { (labels : LabelOrder) (kind : Kind) (root : ℕ) (net : Topology) (p q : Plan) → kind ≢ Tree
-        → IsMade labels kind root net (Some p) → IsMade labels kind root net (Some q)
-        → (u d : ℕ) → u < node_count net → d < node_count net → table_port p u d ≡ table_port q u d }
-    ensures rows { (labels : LabelOrder) (kind : Kind) (root : ℕ) (net : Topology) (p q : Plan) → kind ≢ Tree
-        → IsMade labels kind root net (Some p) → IsMade labels kind root net (Some q) → p.rows ≡ q.rows }
+    ensures order { (labels : LabelOrder) (kind : Kind) (root : ℕ) (topology : Topology) (p q : Plan)
+        → IsMade labels kind root topology (Some p) → IsMade labels kind root topology (Some q) → p.order ≡ q.order }
+    ensures labels { (labels : LabelOrder) (kind : Kind) (root : ℕ) (topology : Topology) (p q : Plan)
+        → IsMade labels kind root topology (Some p) → IsMade labels kind root topology (Some q) → p.labels ≡ q.labels }
+    ensures tables { (labels : LabelOrder) (kind : Kind) (root : ℕ) (topology : Topology) (p q : Plan) → kind ≢ Tree
+        → IsMade labels kind root topology (Some p) → IsMade labels kind root topology (Some q)
+        → (u d : ℕ) → u < node_count topology → d < node_count topology → table_port p u d ≡ table_port q u d }
+    ensures rows { (labels : LabelOrder) (kind : Kind) (root : ℕ) (topology : Topology) (p q : Plan) → kind ≢ Tree
+        → IsMade labels kind root topology (Some p) → IsMade labels kind root topology (Some q) → p.rows ≡ q.rows }
 {}

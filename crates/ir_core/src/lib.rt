@@ -21,15 +21,15 @@ mod verdict;
 mod world;
 
 pub use board::{Board, KeptBoard};
-pub use built::{Install, installs};
+pub use built::{Install, installs, installs_by};
 pub use command::Command;
 pub use event::{Action, Event, OpenError, Refused, Reply, Ruling, Step, Verdict, Way};
 pub use ir_model::{Hop, Kind};
 pub use laws::{epochs_of_installs, made_plan_is_determined, without_restamps};
 pub use opening::{Opening, open_refusal};
 pub use packet::{Fate, Held, Record, Restamp, hop_room};
-pub use planning::{BuildError, plan_over, plan_up};
-pub use run::{Played, play};
+pub use planning::{plan_over_by, plan_up_by};
+pub use run::{Played, play, play_by};
 pub use verdict::{decide, judge};
 pub use world::World;
 

@@ -1,6 +1,6 @@
 //! What a network is opened with, and which openings are refused.
 ghost use Rattle.std.specs.Prelude.{◌≡◌, IfOk};
-ghost use Rattle.ir_core.specs.Opened.{is_small, open_refused};
+ghost use Rattle.ir_core.specs.Opened.{is_small, open_refused, opening_of};
 
 use crate::event::OpenError;
 use crate::{MAX_CAPACITY, MAX_LINKS, MAX_NODES, MAX_PACKETS, MAX_RESTAMPS};
@@ -24,6 +24,28 @@ pub struct Opening {
 }
 
 impl Opening {
+    /// The opening whose plans are labelled depth first. For users of the library.
+    pub fn of(
+        topology: Topology,
+        kind: Kind,
+        root: u16,
+        capacity: usize,
+        max_packets: usize,
+        restamps: u8,
+    ) -> Opening
+        ensures { result ≡ opening_of topology kind root capacity max_packets restamps }
+    {
+        Opening {
+            topology,
+            labels: LabelOrder::DepthFirst,
+            kind,
+            root,
+            capacity,
+            max_packets,
+            restamps,
+        }
+    }
+
     /// The same once more. It is refused for memory alone. Takes O(n + m), for n nodes and m links.
     pub fn try_clone(&self, alloc: Global) -> Result<Opening, AllocError>
         ensures { IfOk result (λ copy. copy ≡ self.now) }

@@ -3,7 +3,7 @@ ghost use Rattle.ir_model.specs.Topology.{ports_of};
 ghost use Rattle.ir_core.specs.declared.TheConstants.{MAX_LINKS, MAX_CHANGES};
 ghost use Rattle.ir_core.specs.World.{World, IsWorld, IsBoard, sight_in, IsAnswer, open_verdict_on, LeadsIn};
 ghost use Rattle.ir_core.specs.{Inside.{world_of, IsWorldKept}, Setting.{IsSetting, nodes_of, links_of}};
-ghost use Rattle.ir_core.specs.Opened.{IsOpenedWith, IsOpenRefusal, setting_of};
+ghost use Rattle.ir_core.specs.Opened.{IsOpenedWith, IsOpenRefusal, opening_of, setting_of};
 ghost use Rattle.ir_core.specs.Meaning.{newest, learns, reads, takes, acts, retires, marks, injects, verdict_on, ruling_on, record_at, board_at, is_full_towards, plan_of};
 ghost use Rattle.ir_core.specs.{Record.stamp_of, Entry.Entry, History.boards, Shows.{Shows, AnswersAfter}};
 ghost use Rattle.ir_core.specs.{Run.StepsAfter, Sound.AllSound, Handled.{IsAnswerOr, IsAnswerTo, IsInstallAnswer}};
@@ -14,15 +14,14 @@ use crate::board::{Board, KeptBoard};
 use crate::event::{Event, OpenError, Refused, Reply, Ruling, Step, Verdict, Way};
 use crate::opening::{Opening, open_refusal};
 use crate::packet::{Held, Record, hop_room};
-use crate::planning::{BuildError, plan_over, plan_up};
+use crate::planning::{plan_over_by, plan_up_by};
 use crate::queue::Queue;
 use crate::verdict::judge;
 use ir_model::{Hop, Kind};
-use ir_plan::{LabelOrder, Plan};
+use ir_plan::{Alone, Crew, LabelOrder, Plan};
 use ir_tables::Topology;
 use std::alloc::{AllocError, Global};
 use std::marker::Model;
-use std::thread::Threads;
 
 /// All that stands after a history: the boards and plans so far, each node's view and hand, the channels, and the
 /// packets' records.
@@ -52,15 +51,45 @@ impl Model for World {
 }
 
 impl World {
-    /// The world of the empty history. Epoch 1 has a plan of the opening's kind and root over all links of the topology.
-    /// Refused are, in this order: no node (`Empty`), a root that is no node, more than 1,024 nodes or 8,192 links or another
-    /// number out of its range (`TooLarge`), some node without a walk to some node, want of memory. Plans over more than 256
-    /// nodes are made in threads, where they can be started. Takes as long as the plan.
+    /// The world that `open` gives of the opening by these, whose plans are labelled depth first.
+    /// For users of the library.
     pub fn new(
-        rt: &(impl Threads + Sync),
         alloc: Global,
-        opening: Opening,
+        topology: Topology,
+        kind: Kind,
+        root: u16,
+        capacity: usize,
+        max_packets: usize,
+        restamps: u8,
     ) -> Result<World, OpenError>
+        ensures opened { IfOk result
+            (λ w. IsOpenedWith (opening_of topology kind root capacity max_packets restamps) w.opening) }
+        ensures history { IfOk result (λ w. Shows [] w) }
+        ensures accepted { IfOk result
+            (λ _. open_refused (opening_of topology kind root capacity max_packets restamps) ≡ None) }
+        ensures refused { IfErr result
+            (λ e. IsOpenRefusal (opening_of topology kind root capacity max_packets restamps) e) }
+    {
+        let opening = Opening::of(topology, kind, root, capacity, max_packets, restamps);
+        World::open(alloc, opening)
+    }
+
+    /// The world of the empty history. Epoch 1 has a plan of the opening's kind and root over all
+    /// links of the topology, made on the thread that calls. Refused are, in this order: no node
+    /// (`Empty`), a root that is no node, more than 1,024 nodes or 8,192 links or another number
+    /// out of its range (`TooLarge`), some node without a walk to some node, want of memory. Takes
+    /// as long as the plan. For users of the library.
+    pub fn open(alloc: Global, opening: Opening) -> Result<World, OpenError>
+        ensures opened { IfOk result (λ w. IsOpenedWith opening w.opening) }
+        ensures history { IfOk result (λ w. Shows [] w) }
+        ensures accepted { IfOk result (λ _. open_refused opening ≡ None) }
+        ensures refused { IfErr result (λ e. IsOpenRefusal opening e) }
+    {
+        World::open_by(&Alone, alloc, opening)
+    }
+
+    /// The world that `open` gives, its plan made by a crew, and refused as that is.
+    pub fn open_by(crew: &impl Crew, alloc: Global, opening: Opening) -> Result<World, OpenError>
         ensures opened { IfOk result (λ w. IsOpenedWith opening w.opening) }
         ensures history { IfOk result (λ w. Shows [] w) }
         ensures accepted { IfOk result (λ _. open_refused opening ≡ None) }
@@ -72,11 +101,14 @@ impl World {
         let Ok(over) = opening.topology.try_clone(alloc) else {
             return Err(OpenError::NoMemory);
         };
-        let plan = match plan_over(rt, alloc, over, opening.labels, opening.kind, opening.root) {
-            Ok(plan) => plan,
-            Err(BuildError::Disconnected) => return Err(OpenError::Disconnected),
-            Err(BuildError::NoMemory) => return Err(OpenError::NoMemory),
-        };
+        let plan = plan_over_by(
+            crew,
+            alloc,
+            over,
+            opening.labels,
+            opening.kind,
+            opening.root,
+        )?;
         match World::start(alloc, opening, plan) {
             Ok(world) => Ok(world),
             Err(_) => Err(OpenError::NoMemory),
@@ -182,12 +214,7 @@ impl World {
         Ok(Reply::Taken(id))
     }
 
-    fn install(
-        &mut self,
-        rt: &(impl Threads + Sync),
-        kind: Kind,
-        root: u16,
-    ) -> Result<Reply, Refused>
+    fn install(&mut self, crew: &impl Crew, kind: Kind, root: u16) -> Result<Reply, Refused>
         ensures { IsInstallAnswer self.old self.new kind root result }
     {
         let epochs = self.plans.len();
@@ -195,19 +222,15 @@ impl World {
         if let Some(error) = newest.install_refusal(self.topology.nodes(), epochs, root) {
             return Err(error);
         }
-        let plan = match plan_up(
-            rt,
+        let plan = plan_up_by(
+            crew,
             self.alloc,
             &self.topology,
             &newest,
             self.labels,
             kind,
             root,
-        ) {
-            Ok(plan) => plan,
-            Err(BuildError::Disconnected) => return Err(Refused::Disconnected),
-            Err(BuildError::NoMemory) => return Err(Refused::NoMemory),
-        };
+        )?;
         let epoch = epochs as u32 + 1;
         let Ok(board) = KeptBoard::new(self.alloc, &newest.installed(epoch)) else {
             return Err(Refused::NoMemory);
@@ -403,10 +426,22 @@ impl World {
         Ok(Reply::Settled(held.id))
     }
 
-    /// One event. The reply is that of the event's meaning after the history, or its first refusal; a refused event
-    /// changes nothing. Want of memory is answered at Inject, Install, Retire, Down and Up alone. Act takes O(log k),
-    /// for k starts of a row, Install as long as `plan_up`, and each other event constant time.
-    pub fn apply(&mut self, rt: &(impl Threads + Sync), event: Event) -> Result<Reply, Refused>
+    /// One event. The reply is that of the event's meaning after the history, or its first refusal;
+    /// a refused event changes nothing. Want of memory is answered at Inject, Install, Retire, Down
+    /// and Up alone. The plan of an install is made on the thread that calls. Act takes O(log k),
+    /// for k starts of a row, Install as long as `plan_up_by`, and each other event constant time.
+    /// For users of the library.
+    pub fn apply(&mut self, event: Event) -> Result<Reply, Refused>
+        ensures history { (log : List Entry) → Shows log self.old
+            → AnswersAfter log event result self.old.opening self.new }
+        ensures refused { IfErr result (λ _. self.new ≡ self.old) }
+        ensures same_opening { self.new.opening ≡ self.old.opening }
+    {
+        self.apply_by(&Alone, event)
+    }
+
+    /// What `apply` does, the plan of an install made by a crew.
+    pub fn apply_by(&mut self, crew: &impl Crew, event: Event) -> Result<Reply, Refused>
         // For every history whose world this is, the reply is the event's meaning after it.
         ensures history { (log : List Entry) → Shows log self.old
             → AnswersAfter log event result self.old.opening self.new }
@@ -415,17 +450,17 @@ impl World {
     {
         // opens the world, for what it keeps
         let _ = &self.learnt;
-        self.answer(rt, event)
+        self.answer(crew, event)
     }
 
     /// One step of a run.
-    pub(crate) fn step(&mut self, rt: &(impl Threads + Sync), step: Step) -> Result<Reply, Refused>
+    pub(crate) fn step(&mut self, crew: &impl Crew, step: Step) -> Result<Reply, Refused>
         ensures history { (log : List Entry) → Shows log self.old
             → StepsAfter log step result self.old.opening self.new }
         ensures same_opening { self.new.opening ≡ self.old.opening }
     {
         match step {
-            Step::Event(event) => self.apply(rt, event),
+            Step::Event(event) => self.apply_by(crew, event),
             Step::Drain => {
                 self.drain();
                 Ok(Reply::Changed)
@@ -433,7 +468,7 @@ impl World {
         }
     }
 
-    fn answer(&mut self, rt: &(impl Threads + Sync), event: Event) -> Result<Reply, Refused>
+    fn answer(&mut self, crew: &impl Crew, event: Event) -> Result<Reply, Refused>
         ensures answer { IsAnswerTo event self.old self.new result }
         ensures same_opening { self.new.opening ≡ self.old.opening }
     {
@@ -443,7 +478,7 @@ impl World {
             Event::Take(node, way) => self.take(node, way),
             Event::Read(node, version) => self.read(node, version),
             Event::Act(node) => self.act(node),
-            Event::Install(kind, root) => self.install(rt, kind, root),
+            Event::Install(kind, root) => self.install(crew, kind, root),
             Event::Retire(floor) => self.retire(floor),
             Event::Down(link) => self.mark(link, false),
             Event::Up(link) => self.mark(link, true),
@@ -469,6 +504,16 @@ impl World {
         ensures { result.now ≡ self.now.boards }
     {
         self.boards.as_slice()
+    }
+
+    /// The board of a version, if there is one. For users of the library.
+    pub fn board_version(&self, version: usize) -> Option<Board>
+        ensures { result ≡ slice_get self.now.boards version }
+    {
+        match self.boards.get(version) {
+            Some(kept) => Some(kept.board()),
+            None => None,
+        }
     }
 
     /// The order in which each epoch's plan is labelled.

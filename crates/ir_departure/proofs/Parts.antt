@@ -96,19 +96,19 @@ and_false true b e = e
 and_false false b e = refl
 
 module _ (plans : List Plan) (row : TraceRow) (over : AreOverRow plans row) where
-  is_found : IsFound over.net plans row (first_of_four (are_known (length plans) row.parts) (are_joined plans row.dest row.source 0 row.parts && goes_on plans row.dest row.fate row.parts) (has_arrived row.dest row.fate row.parts) (segments_weight over.net row.parts == row.weight))
-  is_found = found over.net plans row over.plans_are over.row_is
+  is_found : IsFound over.topology plans row (first_of_four (are_known (length plans) row.parts) (are_joined plans row.dest row.source 0 row.parts && goes_on plans row.dest row.fate row.parts) (has_arrived row.dest row.fate row.parts) (segments_weight over.topology row.parts == row.weight))
+  is_found = found over.topology plans row over.plans_are over.row_is
 
   -- an epoch of the row is not known
   pub unknown_told : are_known (length plans) row.parts ≡ false → IsDeparture plans row None
-  unknown_told e = λ known. absurd (unknown_from over.net plans row _ _ _ _ is_found e known)
+  unknown_told e = λ known. absurd (unknown_from over.topology plans row _ _ _ _ is_found e known)
 
   module _ (known : are_known (length plans) row.parts ≡ true) where
     pub parts_over : AreOverPlans plans row.dest row.parts
-    parts_over = over_plans (node_count over.net) plans row.dest row.parts over.plans_are known over.row_is.parts over.row_is.dest
+    parts_over = over_plans (node_count over.topology) plans row.dest row.parts over.plans_are known over.row_is.parts over.row_is.dest
 
     knows : KnowsEpochs plans row.parts
-    knows = known_from over.net plans row _ _ _ _ is_found known
+    knows = known_from over.topology plans row _ _ _ _ is_found known
 
     -- a part leaves
     pub part_told : (left : Departure) → LeavesAmong plans row.dest row.source row.parts left → IsDeparture plans row (Some left)
@@ -123,10 +123,10 @@ module _ (plans : List Plan) (row : TraceRow) (over : AreOverRow plans row) wher
     fate_told joined next next_is = by (fits_fate row.fate (last_of (last_part row.parts).hops) next) (ap (λ (o : Option ℕ). fits_fate row.fate (last_of (last_part row.parts).hops) o) (sym next_is))
       where
         led : are_joined plans row.dest row.source 0 row.parts ≡ true
-        led = (joined_tells (node_count over.net) plans over.plans_are row.dest row.source 0 row.parts parts_over).back joined
+        led = (joined_tells (node_count over.topology) plans over.plans_are row.dest row.source 0 row.parts parts_over).back joined
 
         by : (b : Bool) → goes_on plans row.dest row.fate row.parts ≡ b → IsDeparture plans row (if b then None else Some (Fate next))
-        by true e = λ k. follows_from over.net plans row _ _ _ _ is_found known (and_from (are_joined plans row.dest row.source 0 row.parts) (goes_on plans row.dest row.fate row.parts) led e)
+        by true e = λ k. follows_from over.topology plans row _ _ _ _ is_found known (and_from (are_joined plans row.dest row.source 0 row.parts) (goes_on plans row.dest row.fate row.parts) led e)
         by false e =
-            let strays = strays_from over.net plans row _ _ _ _ is_found known (and_false (are_joined plans row.dest row.source 0 row.parts) (goes_on plans row.dest row.fate row.parts) e) in
+            let strays = strays_from over.topology plans row _ _ _ _ is_found known (and_false (are_joined plans row.dest row.source 0 row.parts) (goes_on plans row.dest row.fate row.parts) e) in
             (knows, record { joined = joined; next_is = next_is; other = λ on. strays (record { joined = joined; goes_on = on }) })

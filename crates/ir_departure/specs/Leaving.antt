@@ -74,7 +74,7 @@ IsDeparture plans row (Some found) = KnowsEpochs plans row.parts × Leaves plans
 
 -- the same by plans of the installs
 abbrev pub IsDepartureOf : Topology → List Install → TraceRow → Option Departure → Type 0
-IsDepartureOf net installs row found = (plans : List Plan) × ArePlansOf net installs plans × IsDeparture plans row found
+IsDepartureOf topology installs row found = (plans : List Plan) × ArePlansOf topology installs plans × IsDeparture plans row found
 
 -- ---- what the parts of the program say
 
@@ -97,6 +97,6 @@ left_by_fate t d hops fate =
 
 -- the plans of the epochs and a row are over the nodes of one network
 pub record AreOverRow (plans : List Plan) (row : TraceRow) : Type 0 where
-  pub net : Topology
-  pub plans_are : AreOver (node_count net) plans
-  pub row_is : IsRowOver (node_count net) row
+  pub topology : Topology
+  pub plans_are : AreOver (node_count topology) plans
+  pub row_is : IsRowOver (node_count topology) row

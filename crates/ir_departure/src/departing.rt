@@ -7,15 +7,14 @@ ghost use Rattle.ir_departure.specs.Leaving.{IsDeparture, IsDepartureOf, AreOver
 use crate::departures::Departure;
 use crate::segments::{first_left, left_by_fate};
 use ir_core::Install;
-use ir_plan::Plan;
+use ir_plan::{Alone, Crew, Plan};
 use ir_tables::Topology;
 use ir_trace::TraceRow;
-use ir_trace::judging::{are_known, last_segment, plans_of};
+use ir_trace::judging::{are_known, last_segment, plans_by};
 use std::alloc::{AllocError, Global};
-use std::thread::Threads;
 
 /// Where a row leaves the walks of its epochs first, by the plans of the epochs.
-fn departure_by(plans: &[Plan], row: &TraceRow) -> Option<Departure>
+fn first_departure(plans: &[Plan], row: &TraceRow) -> Option<Departure>
     requires { AreOverRow plans.now row.now }
     ensures { IsDeparture plans.now row.now result }
 {
@@ -32,9 +31,8 @@ fn departure_by(plans: &[Plan], row: &TraceRow) -> Option<Departure>
 /// Where a row leaves the walks of its epochs first; none where it follows them, or where an epoch of it is not one of
 /// the installs. The install of epoch e stands at place e - 1.
 /// Condition: the row was read over the topology's graph; each install has a mark for each link, a root that is a
-/// node, and joins all nodes. Refused for memory alone.
+/// node, and joins all nodes. Refused for memory alone. For users of the library.
 pub fn departure(
-    rt: &(impl Threads + Sync),
     alloc: Global,
     topology: &Topology,
     installs: &[Install],
@@ -44,6 +42,21 @@ pub fn departure(
     requires row { IsRowOver (node_count topology.now) row.now }
     ensures { IfOk result (IsDepartureOf topology.now installs.now row.now) }
 {
-    let plans = plans_of(rt, alloc, topology, installs)?;
-    Ok(departure_by(plans.as_slice(), row))
+    departure_by(&Alone, alloc, topology, installs, row)
+}
+
+/// What `departure` answers, the rows of the plans made by a crew.
+pub fn departure_by(
+    crew: &impl Crew,
+    alloc: Global,
+    topology: &Topology,
+    installs: &[Install],
+    row: &TraceRow,
+) -> Result<Option<Departure>, AllocError>
+    requires installs { AreInstalls topology.now installs.now }
+    requires row { IsRowOver (node_count topology.now) row.now }
+    ensures { IfOk result (IsDepartureOf topology.now installs.now row.now) }
+{
+    let plans = plans_by(crew, alloc, topology, installs)?;
+    Ok(first_departure(plans.as_slice(), row))
 }

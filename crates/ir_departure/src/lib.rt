@@ -10,6 +10,6 @@ mod hops;
 mod laws;
 mod segments;
 
-pub use departing::departure;
+pub use departing::{departure, departure_by};
 pub use departures::Departure;
 pub use laws::departure_is_determined;

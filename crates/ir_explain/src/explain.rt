@@ -12,9 +12,9 @@ use ir_cli::{Sub, Words, read_topology};
 use ir_given::{Given, Part, Parts, Run, Told, Trouble, begin, lines_of, parts_of, told_of};
 use ir_graph::Graph;
 use ir_model::Fault;
+use ir_plan::{Alone, Crew};
 use ir_streams::MAX_INPUT_BYTES;
 use std::alloc::{AllocError, Global};
-use std::thread::Threads;
 
 /// The graph of a topology; one with no node where the text has a fault.
 fn graph_of(alloc: Global, words: &Words, topology: &Part<'_>) -> Result<Graph, AllocError> {
@@ -54,7 +54,7 @@ fn explain_unread(text: &mut String, part: &Part<'_>, kind: &str) -> Result<(), 
 
 /// Explains a line of faults.
 fn explain_line(
-    rt: &(impl Threads + Sync),
+    crew: &impl Crew,
     text: &mut String,
     run: &Run<'_>,
     told: Told<'_>,
@@ -67,7 +67,7 @@ fn explain_line(
         "script" => explain_script(text, run, told),
         "numbering" => explain_numbering(text, run, told),
         "opening" => explain_opening(text, run, told.kind),
-        "finding" => explain_finding(rt, text, run, told),
+        "finding" => explain_finding(crew, text, run, told),
         "refused" => explain_refusal(text, run, told),
         "output" => text.push_str("route: standard output: it could not be written\n"),
         "no" => text.push_str("route: no further thread was started\n"),
@@ -78,7 +78,7 @@ fn explain_line(
 
 /// Explains lines of faults, as many as are explained.
 fn explain_lines(
-    rt: &(impl Threads + Sync),
+    crew: &impl Crew,
     text: &mut String,
     run: &Run<'_>,
     faults: &[u8],
@@ -90,16 +90,28 @@ fn explain_lines(
         if place == MOST_EXPLAINED {
             return text.push_str("route: further lines are not explained\n");
         }
-        explain_line(rt, text, run, told_of(run.alloc, line)?)?;
+        explain_line(crew, text, run, told_of(run.alloc, line)?)?;
     }
     Ok(())
 }
 
 /// The explanation of a run: a line `route: ..` for each line of faults that it wrote and for a finding on its output,
 /// and one for a topology that looks like another format. `given` is what was given of the inputs, in their order.
-/// Refused for want of memory alone. Where there is something to explain, it reads the topology once more.
+/// Refused for want of memory alone. Where there is something to explain, it reads the topology once more. For users of
+/// the library.
 pub fn explanation(
-    rt: &(impl Threads + Sync),
+    alloc: Global,
+    words: &Words,
+    given: &[Given<'_>],
+    faults: &[u8],
+    output: &[u8],
+) -> Result<String, AllocError> {
+    explanation_by(&Alone, alloc, words, given, faults, output)
+}
+
+/// What `explanation` answers; plans by which it finds where a row leaves its walks are made by a crew.
+pub fn explanation_by(
+    crew: &impl Crew,
     alloc: Global,
     words: &Words,
     given: &[Given<'_>],
@@ -117,8 +129,8 @@ pub fn explanation(
             words,
             parts,
         };
-        explain_lines(rt, &mut text, &run, faults)?;
-        explain_lines(rt, &mut text, &run, found)?;
+        explain_lines(crew, &mut text, &run, faults)?;
+        explain_lines(crew, &mut text, &run, found)?;
     }
     push_note(alloc, &mut text, words.format, &parts.topology)?;
     Ok(text)

@@ -2,10 +2,10 @@
 
 use crate::script::{push_no_node, unknown_word};
 use ir_given::{
-    Part, Quoted, Run, Told, begin_at, line_at, line_with, push_departure, word_at, words_of,
+    Part, Quoted, Run, Told, begin_at, line_at, line_with, push_departure_by, word_at, words_of,
 };
+use ir_plan::Crew;
 use std::alloc::AllocError;
-use std::thread::Threads;
 
 /// Whether rows have their epochs before their hops, as those of `trace 2`, and not behind their ids.
 fn has_segments(trace: &Part<'_>) -> bool {
@@ -45,12 +45,12 @@ fn push_unknown_epoch(
 
 /// Says where the row on a line leaves the walks of its epochs, or else that it does.
 fn push_unfollowed(
-    rt: &(impl Threads + Sync),
+    crew: &impl Crew,
     text: &mut String,
     run: &Run<'_>,
     line: usize,
 ) -> Result<(), AllocError> {
-    if push_departure(rt, text, run, line)? {
+    if push_departure_by(crew, text, run, line)? {
         return Ok(());
     }
     text.push_str(
@@ -67,7 +67,7 @@ fn push_repeated(text: &mut String, run: &Run<'_>, id: &[u8]) -> Result<(), Allo
 
 /// Says what a finding on a line of these words means.
 fn push_reason(
-    rt: &(impl Threads + Sync),
+    crew: &impl Crew,
     text: &mut String,
     run: &Run<'_>,
     words: &[&[u8]],
@@ -79,7 +79,7 @@ fn push_reason(
         "BadRow" => text.push_str("this is no row of a trace, or it lacks its line feed"),
         "UnknownNode" => push_unknown_node(text, run, words),
         "UnknownEpoch" => push_unknown_epoch(text, trace, words),
-        "NotAPrefix" => push_unfollowed(rt, text, run, told.line),
+        "NotAPrefix" => push_unfollowed(crew, text, run, told.line),
         "NotAtDestination" => text.push_str(
             "it says delivered, and the walk goes on behind its last hop",
         ),
@@ -94,7 +94,7 @@ fn push_reason(
 
 /// Explains a finding. A row is quoted as it stands: a trace has no comments, and `#` begins a segment.
 pub fn explain_finding(
-    rt: &(impl Threads + Sync),
+    crew: &impl Crew,
     text: &mut String,
     run: &Run<'_>,
     told: Told<'_>,
@@ -103,6 +103,6 @@ pub fn explain_finding(
     let words = words_of(run.alloc, row)?;
     begin_at(text, &run.parts.trace, told.line)?;
     write!(text, "{}: ", Quoted(row))?;
-    push_reason(rt, text, run, words.as_slice(), told)?;
+    push_reason(crew, text, run, words.as_slice(), told)?;
     text.push_str("\n")
 }

@@ -16,7 +16,7 @@ mod refusal;
 mod script;
 mod topology;
 
-pub use explain::explanation;
+pub use explain::{explanation, explanation_by};
 pub use ir_given::{Given, Trouble};
 
 /// The most lines of faults that are explained.

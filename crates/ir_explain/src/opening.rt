@@ -155,6 +155,7 @@ fn push_reason(text: &mut String, run: &Run<'_>, kind: &str) -> Result<(), Alloc
         "Disconnected" => push_disconnected(text, run),
         "TooLarge" if nodes > MAX_NODES => push_too_many(text, nodes, "nodes", MAX_NODES),
         "TooLarge" => push_too_many(text, links, "links", MAX_LINKS),
+        "TooManyReaders" => text.push_str("the board has no place for a reader of each node"),
         "Used" => text.push_str("a fresh cell of the registry refused its plan"),
         _ => text.push_str("memory was refused while the topology was opened"),
     }

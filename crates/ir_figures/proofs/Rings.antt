@@ -109,6 +109,10 @@ module _ (s : Plan) (is : IsPlan s) (first nodes blocks : List ℕ) (marks : Lis
         goes_on = ap (λ (x : ℕ). table_port s x (node_in s from.0)) (sym node) ∙ from.3 ∙ ap (λ (x : ℕ). Some x) port;
       }
 
+  -- of one node and port there is one link
+  same_link : (c d : ℕ) → c < length marks → d < length marks → slice_index nodes c ≡ slice_index nodes d → port_of c ≡ port_of d → c ≡ d
+  same_link c d hc hd node port = omega (arith, number c hc, number d hd, ap (exits_before s.topology) node, port)
+
   pub waiting : (ring named : List ℕ) → IsRing blocks marks ring → AreLeftBy nodes ring named → (ports : List ℕ) × IsWaitingRing s named ports
   waiting ring named r n =
       let ports : List ℕ = map port_of ring in
@@ -125,6 +129,12 @@ module _ (s : Plan) (is : IsPlan s) (first nodes blocks : List ℕ) (marks : Lis
         record {
           some = omega (arith, n.every, r.some);
           every = omega (arith, size, n.every);
+          once = λ i j lt hj node alike.
+              let j_in : j < length ring = omega (arith, hj, n.every) in
+              let i_in : i < length ring = omega (arith, lt, j_in) in
+              r.once i j lt j_in
+              (same_link (slice_index ring i) (slice_index ring j) (r.nodes i i_in) (r.nodes j j_in)
+              (sym (n.each i i_in) ∙ node ∙ n.each j j_in) (sym (port i i_in) ∙ alike ∙ port j j_in));
           next = λ i lt. on i (i + 1) (omega (arith, lt, n.every)) (omega (arith, lt, n.every)) (r.arcs i (omega (arith, lt, n.every)));
           closed =
               subst (λ (k : ℕ). Waits s (slice_index named (k - 1)) (slice_index ports (k - 1)) (slice_index named 0) (slice_index ports 0)) (sym n.every)

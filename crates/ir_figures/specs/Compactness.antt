@@ -12,22 +12,22 @@ intervals_at row p = count_by (λ q. q == p) (start_ports row)
 
 -- u has a port p
 abbrev pub HasPortNumber : Plan → ℕ → ℕ → Type 0
-HasPortNumber s u p = (u < node_count s.topology) × (p < length (ports_of s.topology u))
+HasPortNumber plan u p = (u < node_count plan.topology) × (p < length (ports_of plan.topology u))
 
 -- Of the ports before port p of u, by node and then by number, that of `most` has the most intervals, and is the first
 -- that has as many.
-pub record IsMostBefore (s : Plan) (u p : ℕ) (most : Most) : Type 0 where
-  pub node : most.node < node_count s.topology
-  pub port : most.port < length (ports_of s.topology most.node)
-  pub count : most.count ≡ intervals_at (row_in s most.node) most.port
-  pub greatest : (v q : ℕ) → HasPortNumber s v q → IsEarlier v q u p → intervals_at (row_in s v) q ≤ most.count
-  pub first : (v q : ℕ) → HasPortNumber s v q → IsEarlier v q most.node most.port → intervals_at (row_in s v) q < most.count
+pub record IsMostBefore (plan : Plan) (u p : ℕ) (most : Most) : Type 0 where
+  pub node : most.node < node_count plan.topology
+  pub port : most.port < length (ports_of plan.topology most.node)
+  pub count : most.count ≡ intervals_at (row_in plan most.node) most.port
+  pub greatest : (v q : ℕ) → HasPortNumber plan v q → IsEarlier v q u p → intervals_at (row_in plan v) q ≤ most.count
+  pub first : (v q : ℕ) → HasPortNumber plan v q → IsEarlier v q most.node most.port → intervals_at (row_in plan v) q < most.count
 
 -- the same, where there is such a port
 abbrev pub AreMostBefore : Plan → ℕ → ℕ → Option Most → Type 0
-AreMostBefore s u p None = (v q : ℕ) → HasPortNumber s v q → IsEarlier v q u p → ⊥
-AreMostBefore s u p (Some most) = IsMostBefore s u p most
+AreMostBefore plan u p None = (v q : ℕ) → HasPortNumber plan v q → IsEarlier v q u p → ⊥
+AreMostBefore plan u p (Some most) = IsMostBefore plan u p most
 
 -- of all ports
 abbrev pub AreMost : Plan → Option Most → Type 0
-AreMost s most = AreMostBefore s (node_count s.topology) 0 most
+AreMost plan most = AreMostBefore plan (node_count plan.topology) 0 most

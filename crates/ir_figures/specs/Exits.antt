@@ -6,53 +6,53 @@ use Rattle.ir_model.specs.Plan.{Plan, table_port, node_in}
 
 -- how many links leave the nodes before u
 abbrev pub exits_before : Topology → ℕ → ℕ
-exits_before net u = sum_by length (take u net.ports)
+exits_before topology u = sum_by length (take u topology.ports)
 
 -- where the links of each of the first so many nodes begin, and the node that each of these links leaves
-pub record AreExits (net : Topology) (count : ℕ) (first nodes : List ℕ) : Type 0 where
+pub record AreExits (topology : Topology) (count : ℕ) (first nodes : List ℕ) : Type 0 where
   pub every : length first ≡ count
-  pub starts : (u : ℕ) → u < count → slice_index first u ≡ exits_before net u
-  pub all : length nodes ≡ exits_before net count
+  pub starts : (u : ℕ) → u < count → slice_index first u ≡ exits_before topology u
+  pub all : length nodes ≡ exits_before topology count
   pub node : (c : ℕ) → c < length nodes → slice_index nodes c < count
-  pub after : (c : ℕ) → c < length nodes → exits_before net (slice_index nodes c) ≤ c
-  pub below : (c : ℕ) → c < length nodes → c < exits_before net (slice_index nodes c + 1)
+  pub after : (c : ℕ) → c < length nodes → exits_before topology (slice_index nodes c) ≤ c
+  pub below : (c : ℕ) → c < length nodes → c < exits_before topology (slice_index nodes c + 1)
 
 -- the ports of u by label
-pub record ArePortsByLabel (s : Plan) (u : ℕ) (ports : List (Option ℕ)) : Type 0 where
-  pub every : length ports ≡ node_count s.topology
-  pub each : (a : ℕ) → a < node_count s.topology → slice_index_or ports a None ≡ table_port s u (node_in s a)
+pub record ArePortsByLabel (plan : Plan) (u : ℕ) (ports : List (Option ℕ)) : Type 0 where
+  pub every : length ports ≡ node_count plan.topology
+  pub each : (a : ℕ) → a < node_count plan.topology → slice_index_or ports a None ≡ table_port plan u (node_in plan a)
 
 -- A mark for each port of v: where what goes from u by port p to some label leaves v by that port.
-pub record AreOnward (s : Plan) (u p v count : ℕ) (marks : List Bool) : Type 0 where
-  pub every : length marks ≡ length (ports_of s.topology v)
-  pub passed : (a q : ℕ) → a < count → table_port s u (node_in s a) ≡ Some p → table_port s v (node_in s a) ≡ Some q → slice_index_or marks q false ≡ true
+pub record AreOnward (plan : Plan) (u p v count : ℕ) (marks : List Bool) : Type 0 where
+  pub every : length marks ≡ length (ports_of plan.topology v)
+  pub passed : (a q : ℕ) → a < count → table_port plan u (node_in plan a) ≡ Some p → table_port plan v (node_in plan a) ≡ Some q → slice_index_or marks q false ≡ true
   pub only : (q : ℕ) → slice_index_or marks q false ≡ true
-      → (a : ℕ) × (a < node_count s.topology) × (table_port s u (node_in s a) ≡ Some p) × (table_port s v (node_in s a) ≡ Some q)
+      → (a : ℕ) × (a < node_count plan.topology) × (table_port plan u (node_in plan a) ≡ Some p) × (table_port plan v (node_in plan a) ≡ Some q)
 
 -- the place c of blocks and marks is that of the link by port p of u
-pub record IsExitAt (s : Plan) (blocks : List ℕ) (marks : List (List Bool)) (u p c : ℕ) : Type 0 where
+pub record IsExitAt (plan : Plan) (blocks : List ℕ) (marks : List (List Bool)) (u p c : ℕ) : Type 0 where
   pub hop : Hop
-  pub leads : port_at s.topology u p ≡ Some hop
-  pub block : slice_index blocks c ≡ exits_before s.topology hop.node
-  pub onward : AreOnward s u p hop.node (node_count s.topology) (slice_index_or marks c [])
+  pub leads : port_at plan.topology u p ≡ Some hop
+  pub block : slice_index blocks c ≡ exits_before plan.topology hop.node
+  pub onward : AreOnward plan u p hop.node (node_count plan.topology) (slice_index_or marks c [])
 
 -- the node u stands behind the others, so many times
 abbrev pub AreNextExits : List ℕ → ℕ → ℕ → List ℕ → Type 0
 AreNextExits old u count new = new ≡ old ++ replicate count u
 
 -- the marks with one more, for the port of v to the label a
-pub record IsMarkedFor (s : Plan) (v a : ℕ) (old new : List Bool) : Type 0 where
+pub record IsMarkedFor (plan : Plan) (v a : ℕ) (old new : List Bool) : Type 0 where
   pub every : length new ≡ length old
   pub kept : (q : ℕ) → slice_index_or old q false ≡ true → slice_index_or new q false ≡ true
-  pub marked : (q : ℕ) → table_port s v (node_in s a) ≡ Some q → slice_index_or new q false ≡ true
-  pub only : (q : ℕ) → slice_index_or new q false ≡ true → (slice_index_or old q false ≡ true) ⊎ (table_port s v (node_in s a) ≡ Some q)
+  pub marked : (q : ℕ) → table_port plan v (node_in plan a) ≡ Some q → slice_index_or new q false ≡ true
+  pub only : (q : ℕ) → slice_index_or new q false ≡ true → (slice_index_or old q false ≡ true) ⊎ (table_port plan v (node_in plan a) ≡ Some q)
 
 -- the blocks and the marks of the first so many links
-pub record AreLinks (s : Plan) (blocks : List ℕ) (marks : List (List Bool)) (count : ℕ) : Type 0 where
+pub record AreLinks (plan : Plan) (blocks : List ℕ) (marks : List (List Bool)) (count : ℕ) : Type 0 where
   pub every_block : length blocks ≡ count
   pub every_row : length marks ≡ count
-  pub each : (v r : ℕ) → v < node_count s.topology → r < length (ports_of s.topology v) → exits_before s.topology v + r < count
-      → IsExitAt s blocks marks v r (exits_before s.topology v + r)
+  pub each : (v r : ℕ) → v < node_count plan.topology → r < length (ports_of plan.topology v) → exits_before plan.topology v + r < count
+      → IsExitAt plan blocks marks v r (exits_before plan.topology v + r)
 
 -- the nodes that links of these numbers leave
 pub record AreLeftBy (nodes ring named : List ℕ) : Type 0 where

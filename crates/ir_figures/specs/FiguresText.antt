@@ -14,12 +14,12 @@ use Rattle.ir_figures.specs.Waits.{IsWithoutRing, IsWaitingRing}
 
 -- the node behind a port
 abbrev pub behind : Topology → ℕ → ℕ → ℕ
-behind net u p = option_map_or (λ hop. hop.node) (port_at net u p) 0
+behind topology u p = option_map_or (λ hop. hop.node) (port_at topology u p) 0
 
 -- `compactness NODE NEIGHBOUR COUNT`, where there is a port
 abbrev pub most_line : List Name → Plan → Option Most → List ℕ
-most_line nodes s None = []
-most_line nodes s (Some m) = line_text (codes "compactness" ∷ name_at nodes m.node ∷ name_at nodes (behind s.topology m.node m.port) ∷ decimal m.count ∷ [])
+most_line nodes plan None = []
+most_line nodes plan (Some m) = line_text (codes "compactness" ∷ name_at nodes m.node ∷ name_at nodes (behind plan.topology m.node m.port) ∷ decimal m.count ∷ [])
 
 -- `bits ROWS TABLES`
 abbrev pub bits_line : ℕ → ℕ → List ℕ
@@ -32,18 +32,18 @@ ring_line nodes (Some ring) = line_text (codes "dependencies" ∷ codes "cycle" 
 
 -- the links of a ring that wait for each other leave these nodes; without, no links do so
 abbrev pub IsRingOf : Plan → Option (List ℕ) → Type 0
-IsRingOf s None = IsWithoutRing s
-IsRingOf s (Some ring) = (ports : List ℕ) × IsWaitingRing s ring ports
+IsRingOf plan None = IsWithoutRing plan
+IsRingOf plan (Some ring) = (ports : List ℕ) × IsWaitingRing plan ring ports
 
 -- The text has the figures of a plan, and behind them those of the field.
-pub record AreFiguresOf (nodes : List Name) (s : Plan) (text : List ℕ) : Type 0 where
+pub record AreFiguresOf (nodes : List Name) (plan : Plan) (text : List ℕ) : Type 0 where
   pub figures : List ℕ
-  pub stats : IsStatsOf nodes s figures
+  pub stats : IsStatsOf nodes plan figures
   pub most : Option Most
-  pub most_are : AreMost s most
+  pub most_are : AreMost plan most
   pub rows : ℕ
   pub tables : ℕ
-  pub bits : AreBitsBefore s (node_count s.topology) rows tables
+  pub bits : AreBitsBefore plan (node_count plan.topology) rows tables
   pub ring : Option (List ℕ)
-  pub ring_is : IsRingOf s ring
-  pub whole : text ≡ ((figures ++ most_line nodes s most) ++ bits_line rows tables) ++ ring_line nodes ring
+  pub ring_is : IsRingOf plan ring
+  pub whole : text ≡ ((figures ++ most_line nodes plan most) ++ bits_line rows tables) ++ ring_line nodes ring

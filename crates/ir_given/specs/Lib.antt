@@ -1,2 +1,4 @@
+-- what contracts promise
+pub mod Lines
 -- what bodies use
 pub mod Cut

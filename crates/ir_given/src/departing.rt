@@ -5,14 +5,14 @@ ghost use Rattle.ir_trace.specs.Checked.{AreInstalls, AreRowsOver};
 
 use crate::parts::Run;
 use ir_cli::{opening_of, root_of};
-use ir_core::{Install, OpenError, installs};
-use ir_departure::{Departure, departure};
+use ir_core::{Install, OpenError, installs_by};
+use ir_departure::{Departure, departure_by};
 use ir_graph::Graph;
+use ir_plan::Crew;
 use ir_script::{ScriptFault, parse_script};
 use ir_tables::Topology;
 use ir_trace::{FindingKind, Segment, Trace, read_trace};
 use std::alloc::{AllocError, Global};
-use std::thread::Threads;
 
 /// The segments of a row, and the graph whose nodes they name.
 #[derive(Clone, Copy)]
@@ -128,9 +128,10 @@ fn push_found(text: &mut String, way: Way<'_>, found: Departure) -> Result<(), A
     }
 }
 
-/// The installs of the run's script over the opening that its words ask for; none where either is refused.
+/// The installs of the run's script over the opening that its words ask for, the plans made by a crew; none where either
+/// is refused.
 fn installs_of(
-    rt: &(impl Threads + Sync),
+    crew: &impl Crew,
     run: &Run<'_>,
     topology: &Topology,
 ) -> Result<Option<Vec<Install>>, AllocError>
@@ -146,7 +147,7 @@ fn installs_of(
         return Ok(None);
     };
     let opening = opening_of(run.alloc, run.words, topology, root)?;
-    match installs(rt, run.alloc, &opening, script.steps()) {
+    match installs_by(crew, run.alloc, &opening, script.steps()) {
         Ok(built) => Ok(Some(built)),
         Err(OpenError::NoMemory) => Err(AllocError),
         Err(_) => Ok(None),
@@ -164,16 +165,16 @@ fn trace_of(alloc: Global, graph: &Graph, text: &[u8]) -> Result<Option<Trace>, 
     }
 }
 
-/// Says where the row on a line of the trace leaves the walks of its epochs. Answers whether it was said: not where the
-/// script or the trace is refused, or the row leaves none.
-pub fn push_departure(
-    rt: &(impl Threads + Sync),
+/// Says where the row on a line of the trace leaves the walks of its epochs, whose plans a crew makes. Answers whether it
+/// was said: not where the script or the trace is refused, or the row leaves none.
+pub fn push_departure_by(
+    crew: &impl Crew,
     text: &mut String,
     run: &Run<'_>,
     line: usize,
 ) -> Result<bool, AllocError> {
     let topology = Topology::of(run.alloc, run.graph)?;
-    let Some(built) = installs_of(rt, run, &topology)? else {
+    let Some(built) = installs_of(crew, run, &topology)? else {
         return Ok(false);
     };
     let Some(trace) = trace_of(run.alloc, run.graph, run.parts.trace.bytes)? else {
@@ -183,7 +184,7 @@ pub fn push_departure(
         return Ok(false);
     }
     let row = trace.row(line - 2);
-    let Some(found) = departure(rt, run.alloc, &topology, built.as_slice(), row)? else {
+    let Some(found) = departure_by(crew, run.alloc, &topology, built.as_slice(), row)? else {
         return Ok(false);
     };
     let segments = row.segments.as_slice();

@@ -7,7 +7,7 @@ mod lines;
 mod parts;
 mod sentence;
 
-pub use departing::push_departure;
+pub use departing::push_departure_by;
 pub use lines::{
     Told, first_word, line_at, line_with, lines_of, text_of, told_of, word_at, words_of,
 };

@@ -1,7 +1,7 @@
 //! Lines and words of texts, and what the lines of faults say.
 ghost use Rattle.std.specs.{Prelude.{◌≡◌, ◌==◌, IfOk}, List.count_by};
 ghost use Rattle.ir_model.specs.Text.{words};
-ghost use Rattle.ir_given.specs.Cut.{pointed_texts};
+ghost use Rattle.ir_given.specs.{Cut.pointed_texts, Lines.line_numbered};
 
 use ir_adjlist::digits::all_digits;
 use ir_adjlist::scan;
@@ -23,7 +23,9 @@ pub fn lines_of(alloc: Global, text: &[u8], most: usize) -> Result<Vec<&[u8]>, A
 }
 
 /// The line with this number, counted from 1; nothing where the text has no such line.
-pub fn line_at(text: &[u8], number: usize) -> &[u8] {
+pub fn line_at(text: &[u8], number: usize) -> &[u8]
+    ensures { result.now ≡ line_numbered text.now number }
+{
     let mut found: &[u8] = &[];
     let mut rest = text;
     for _turn in 0..number {

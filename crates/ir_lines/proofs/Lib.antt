@@ -4,5 +4,6 @@ pub mod RowStarts
 pub mod NodeTables
 pub mod Entries
 pub mod NodePorts
+pub mod RangeTexts
 pub mod SameLines
 pub mod NodeTexts

@@ -13,7 +13,7 @@ use Rattle.ir_show.proofs.WalkLines.{plan_next}
 use Rattle.ir_lines.proofs.Senders.{port_at_label}
 
 -- a port of the row is a port of the node
-row_port_in : (s : Plan) → IsPlan s → (u d p : ℕ) → u < node_count s.topology → port_to (by_label s u) d ≡ Some p → p < length (ports_of s.topology u)
+pub row_port_in : (s : Plan) → IsPlan s → (u d p : ℕ) → u < node_count s.topology → port_to (by_label s u) d ≡ Some p → p < length (ports_of s.topology u)
 row_port_in s is u d p u_in e =
     let n = node_count s.topology in
     let row = row_destinations s is u u_in in

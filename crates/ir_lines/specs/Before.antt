@@ -16,9 +16,9 @@ pub record AreBelow (row : List Start) (label count : ℕ) : Type 0 where
   pub others : (k : ℕ) → count ≤ k → k < length row → label ≤ slice_index (labels row) k
 
 -- Behind a text stand the lines of the first so many nodes, this many in all.
-pub record AreWritten (is_disjoint : Bool) (nodes : List Name) (s : Plan) (count lines : ℕ) (before after : List ℕ) : Type 0 where
+pub record AreWritten (is_disjoint : Bool) (nodes : List Name) (plan : Plan) (count lines : ℕ) (before after : List ℕ) : Type 0 where
   pub tables : List (List Line)
   pub every : length tables ≡ count
-  pub each : (u : ℕ) → u < count → (bits : ℕ) → IsWidth (node_count s.topology) bits → AreLinesOf is_disjoint s bits u (slice_index_or tables u [])
+  pub each : (u : ℕ) → u < count → (bits : ℕ) → IsWidth (node_count plan.topology) bits → AreLinesOf is_disjoint plan bits u (slice_index_or tables u [])
   pub sum : sum_by length tables ≡ lines
-  pub whole : after ≡ before ++ nodes_text nodes s 0 tables
+  pub whole : after ≡ before ++ nodes_text nodes plan 0 tables

@@ -18,12 +18,12 @@ abbrev pub lines_of : NodeText → ℕ
 lines_of made = made.lines
 
 -- It is the line of text of the node u, whose table has so many lines.
-pub record IsNodeText (is_disjoint : Bool) (nodes : List Name) (s : Plan) (u : ℕ) (made : NodeText) : Type 0 where
+pub record IsNodeText (is_disjoint : Bool) (nodes : List Name) (plan : Plan) (u : ℕ) (made : NodeText) : Type 0 where
   pub table : List Line
-  pub are : (bits : ℕ) → IsWidth (node_count s.topology) bits → AreLinesOf is_disjoint s bits u table
+  pub are : (bits : ℕ) → IsWidth (node_count plan.topology) bits → AreLinesOf is_disjoint plan bits u table
   pub count : length table ≡ made.lines
-  pub whole : string_bytes made.text ≡ line_text (prefix_node_words nodes s u table)
+  pub whole : string_bytes made.text ≡ line_text (prefix_node_words nodes plan u table)
 
 -- They are the lines of text of the first so many nodes.
 abbrev pub AreNodeTexts : Bool → List Name → Plan → ℕ → List NodeText → Type 0
-AreNodeTexts is_disjoint nodes s count made = AllZip (IsNodeText is_disjoint nodes s) (range_with_len 0 count) made
+AreNodeTexts is_disjoint nodes plan count made = AllZip (IsNodeText is_disjoint nodes plan) (range_with_len 0 count) made

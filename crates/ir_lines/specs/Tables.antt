@@ -8,30 +8,30 @@ use Rattle.ir_prefix.specs.declared.line.Line.{Line}
 
 -- The lines of the node u whose longest match names u's port to each other label: the fewest that forward so, the
 -- longest first, and of one length in the order of their values.
-pub record AreNestedLines (s : Plan) (bits u : ℕ) (table : List Line) : Type 0 where
+pub record AreNestedLines (plan : Plan) (bits u : ℕ) (table : List Line) : Type 0 where
   pub well : IsWellFormed bits table
-  pub forwards : IsForwardingTable (node_count s.topology) bits (by_label s u) table
-  pub fewest : IsFewestLines (node_count s.topology) bits (by_label s u) (length table)
-  pub ports : NamesPorts (by_label s u) table
+  pub forwards : IsForwardingTable (node_count plan.topology) bits (by_label plan u) table
+  pub fewest : IsFewestLines (node_count plan.topology) bits (by_label plan u) (length table)
+  pub ports : NamesPorts (by_label plan u) table
   pub order : AreLongestFirst table
   pub loads : KeepsMatches bits table
 
 -- The lines of the node u of which one alone holds each other label, and has u's port to it: the fewest that do, in the
 -- same order.
-pub record AreDisjointLines (s : Plan) (bits u : ℕ) (table : List Line) : Type 0 where
+pub record AreDisjointLines (plan : Plan) (bits u : ℕ) (table : List Line) : Type 0 where
   pub well : IsWellFormed bits table
-  pub disjoint : IsDisjointTable (node_count s.topology) bits (by_label s u) table
-  pub fewest : IsFewestDisjoint (node_count s.topology) bits (by_label s u) (length table)
-  pub ports : NamesPorts (by_label s u) table
+  pub disjoint : IsDisjointTable (node_count plan.topology) bits (by_label plan u) table
+  pub fewest : IsFewestDisjoint (node_count plan.topology) bits (by_label plan u) (length table)
+  pub ports : NamesPorts (by_label plan u) table
   pub order : AreLongestFirst table
 
 -- the lines of the node u, disjoint or not
 abbrev pub AreLinesOf : Bool → Plan → ℕ → ℕ → List Line → Type 0
-AreLinesOf false s bits u table = AreNestedLines s bits u table
-AreLinesOf true s bits u table = AreDisjointLines s bits u table
+AreLinesOf false plan bits u table = AreNestedLines plan bits u table
+AreLinesOf true plan bits u table = AreDisjointLines plan bits u table
 
 -- The lines of each node of a plan, by the least width that tells its labels apart.
-pub record AreTablesOf (is_disjoint : Bool) (s : Plan) (bits : ℕ) (tables : List (List Line)) : Type 0 where
-  pub width : IsWidth (node_count s.topology) bits
-  pub every : length tables ≡ node_count s.topology
-  pub each : (u : ℕ) → u < node_count s.topology → AreLinesOf is_disjoint s bits u (slice_index_or tables u [])
+pub record AreTablesOf (is_disjoint : Bool) (plan : Plan) (bits : ℕ) (tables : List (List Line)) : Type 0 where
+  pub width : IsWidth (node_count plan.topology) bits
+  pub every : length tables ≡ node_count plan.topology
+  pub each : (u : ℕ) → u < node_count plan.topology → AreLinesOf is_disjoint plan bits u (slice_index_or tables u [])

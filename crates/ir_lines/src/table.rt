@@ -9,8 +9,12 @@ use ir_plan::Plan;
 use ir_prefix::{Line, PrefixError, disjoint, forwarding};
 use std::alloc::{AllocError, Global};
 
-// The ports of a node to each label, by one walk along its row.
-fn ports_by_label(alloc: Global, plan: &Plan, u: u16) -> Result<Vec<Option<u16>>, AllocError>
+/// The ports of a node to each label, by one walk along its row.
+pub(crate) fn ports_by_label(
+    alloc: Global,
+    plan: &Plan,
+    u: u16,
+) -> Result<Vec<Option<u16>>, AllocError>
     requires { u < node_count plan.now.topology }
     ensures { IfOk result (λ ports. ports.items ≡ by_label plan.now u) }
 {

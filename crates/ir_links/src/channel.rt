@@ -65,7 +65,7 @@ impl<T: Bound> Model for Sender<T> {
     ghost Value = { Sender T.Place T };
 
     ghost view = { λ s. record {
-      line = record {
+      channel = record {
         name = s.pass.table_id;
         place = (arc_value s.shared).place;
         capacity = ruled_capacity (arc_value s.shared).queue;
@@ -89,7 +89,7 @@ impl<T: Bound> Model for Taker<T> {
     ghost Value = { Taker T.Place T };
 
     ghost view = { λ s. record {
-      line = record {
+      channel = record {
         name = s.pass.table_id;
         place = (arc_value s.shared).place;
         capacity = ruled_capacity (arc_value s.shared).queue;
@@ -114,7 +114,7 @@ impl<T: Bound> Model for Remains<T> {
     ghost Value = { Remains T.Place T };
 
     ghost view = { λ r. record {
-      line = record {
+      channel = record {
         name = r.pass.table_id;
         place = (arc_value r.shared).place;
         capacity = ruled_capacity (arc_value r.shared).queue;
@@ -166,8 +166,8 @@ impl<T: Bound> Channel<T> {
     /// test.
     pub fn ends(&self) -> Result<Option<(Sender<T>, Taker<T>)>, AllocError>
         ensures { IfOk result (λ given. IfSome given
-            (λ ends. (ends.0 ≡ record { line = self.now; sent = [] })
-            × (ends.1 ≡ record { line = self.now; taken = [] }))) }
+            (λ ends. (ends.0 ≡ record { channel = self.now; sent = [] })
+            × (ends.1 ≡ record { channel = self.now; taken = [] }))) }
     {
         let (_, resting) = self.base.take(0);
         let Some(mut pass) = resting else {
@@ -189,7 +189,7 @@ impl<T: Bound> Channel<T> {
 impl<T: Bound> Sender<T> {
     /// Where the channel leads.
     pub fn place(&self) -> &T::Place
-        ensures { result.now ≡ self.now.line.place }
+        ensures { result.now ≡ self.now.channel.place }
     {
         &self.shared.place
     }
@@ -200,12 +200,12 @@ impl<T: Bound> Sender<T> {
     /// many items as it can at one moment of the call, at which the push of this call was refused. They are then the last
     /// of the sent list, and each goes to the place.
     pub fn send<R: Moments<T>>(&mut self, rt: &R, item: T) -> Result<(), Full<T>>
-        requires { T.goes_to item self.old.line.place }
+        requires { T.goes_to item self.old.channel.place }
         ensures sent { MatchResult result
             (λ _. self.new ≡ record self.old { sent = self.old.sent ++ item ∷ [] })
             (λ full. (full.item ≡ item) × (self.new ≡ self.old) × WasFull T.goes_to self.old) }
         ensures moment { IfErr result (λ _. WasRefused R.was_full T.goes_to self.old) }
-        ensures line { self.new.line ≡ self.old.line }
+        ensures channel { self.new.channel ≡ self.old.channel }
     {
         let answer = rt.push(&self.shared, &mut self.pass, item);
         answer.map_err(|item| Full { item })
@@ -215,7 +215,7 @@ impl<T: Bound> Sender<T> {
 impl<T: Bound> Taker<T> {
     /// The most items that the channel holds.
     pub fn capacity(&self) -> usize
-        ensures { result ≡ self.now.line.capacity }
+        ensures { result ≡ self.now.channel.capacity }
     {
         self.shared.queue.capacity()
     }
@@ -230,9 +230,9 @@ impl<T: Bound> Taker<T> {
         ensures taken { MatchOption result
             ((self.new ≡ self.old) × WasEmpty T.goes_to self.old)
             (λ item. (self.new ≡ record self.old { taken = self.old.taken ++ item ∷ [] })
-            × T.goes_to item self.old.line.place) }
+            × T.goes_to item self.old.channel.place) }
         ensures moment { IfNone result (FoundNone R.was_empty T.goes_to self.old) }
-        ensures line { self.new.line ≡ self.old.line }
+        ensures channel { self.new.channel ≡ self.old.channel }
     {
         rt.pop(&self.shared, &mut self.pass)
     }
@@ -243,11 +243,11 @@ impl<T: Bound> Taker<T> {
 /// What was sent is what was taken and then what is left, which is no more than the channel holds, and each item of it
 /// goes to the channel's place.
 pub fn join<T: Bound>(sender: Sender<T>, taker: Taker<T>) -> Remains<T>
-    requires one { sender.line ≡ taker.line }
-    ensures line { result.line ≡ taker.line }
+    requires one { sender.channel ≡ taker.channel }
+    ensures channel { result.channel ≡ taker.channel }
     ensures left { sender.sent ≡ taker.taken ++ result.left }
-    ensures room { length result.left ≤ taker.line.capacity }
-    ensures goes { All (λ x. T.goes_to x taker.line.place) result.left }
+    ensures room { length result.left ≤ taker.channel.capacity }
+    ensures goes { All (λ x. T.goes_to x taker.channel.place) result.left }
 {
     let Sender {
         shared: _,
@@ -267,7 +267,7 @@ impl<T: Bound> Remains<T> {
     pub fn take<R: Wait>(&mut self, rt: &R) -> Option<T>
         ensures left { MatchOption result ((self.old.left ≡ []) × (self.new ≡ self.old))
             (λ item. self.old.left ≡ item ∷ self.new.left) }
-        ensures line { self.new.line ≡ self.old.line }
+        ensures channel { self.new.channel ≡ self.old.channel }
     {
         self.shared.queue.pop_as::<Empties, R>(rt, &mut self.pass)
     }
@@ -278,12 +278,12 @@ impl<T: Bound> Remains<T> {
 ///
 /// What was sent is what was taken and then what is left, and each item that is left goes to the channel's place.
 pub fn settle_into<T: Bound, R: Wait>(rt: &R, sender: Sender<T>, taker: Taker<T>, into: &mut Vec<T>)
-    requires one { sender.line ≡ taker.line }
-    requires room { vec_len into.old + taker.line.capacity ≤ vec_capacity into.old }
+    requires one { sender.channel ≡ taker.channel }
+    requires room { vec_len into.old + taker.channel.capacity ≤ vec_capacity into.old }
     ensures left { (left : List T) × (into.new.items ≡ into.old.items ++ left)
-        × (sender.sent ≡ taker.taken ++ left) × All (λ x. T.goes_to x taker.line.place) left }
+        × (sender.sent ≡ taker.taken ++ left) × All (λ x. T.goes_to x taker.channel.place) left }
     ensures room { (vec_capacity into.new ≡ vec_capacity into.old)
-        × (vec_len into.new ≤ vec_len into.old + taker.line.capacity) }
+        × (vec_len into.new ≤ vec_len into.old + taker.channel.capacity) }
 {
     let mut remains = join(sender, taker);
     for _ in rt.forever() {
@@ -303,9 +303,9 @@ pub fn settle<T: Bound, R: Wait>(
     sender: Sender<T>,
     taker: Taker<T>,
 ) -> Result<Vec<T>, (Sender<T>, Taker<T>)>
-    requires { sender.line ≡ taker.line }
+    requires { sender.channel ≡ taker.channel }
     ensures { MatchResult result
-        (λ left. (sender.sent ≡ taker.taken ++ left.items) × All (λ x. T.goes_to x taker.line.place) left.items)
+        (λ left. (sender.sent ≡ taker.taken ++ left.items) × All (λ x. T.goes_to x taker.channel.place) left.items)
         (λ ends. (ends.0 ≡ sender) × (ends.1 ≡ taker)) }
 {
     let Ok(mut left) = Vec::with_capacity(alloc, taker.capacity()) else {

@@ -5,11 +5,10 @@ ghost use Rattle.ir_worker.specs.Same.{IsSameNode};
 ghost use Rattle.ir_live_tests.specs.ByHand.{ArePartsOf, IsAway};
 
 use ir_control::{FinishError, Net, Parts, Report, finish};
-use ir_core::{Fate, OpenError, Opening, Refused, Restamp};
+use ir_core::{Fate, OpenError, Refused, Restamp};
 use ir_epochs::Receipt;
 use ir_graph::Graph;
 use ir_model::Kind;
-use ir_plan::LabelOrder;
 use ir_tables::Topology;
 use ir_worker::{Node, Turn};
 use std::alloc::Global;
@@ -46,16 +45,16 @@ pub(crate) fn opened(
 ) -> Result<Net, OpenError> {
     let (kind, root) = tree;
     let (capacity, max_packets, restamps) = limits;
-    let opening = Opening {
+    Net::new(
+        rt,
+        alloc,
         topology,
-        labels: LabelOrder::DepthFirst,
         kind,
         root,
         capacity,
         max_packets,
         restamps,
-    };
-    Net::new(rt, alloc, opening)
+    )
 }
 
 /// A net over the path a, b, c, whose links are a-b and b-c: nodes 0, 1 and 2, links 0 and 1. Its plan is of the tree with

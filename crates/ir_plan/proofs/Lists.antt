@@ -6,7 +6,7 @@ use Rattle.std.specs.List.{AllZip, range_with_len}
 use Rattle.std.specs.declared.result.Result.{Result}
 use Rattle.std.specs.declared.alloc.AllocError.{AllocError}
 use Rattle.std.proofs.lemmas.Bool.{cases_eq}
-use Rattle.std.proofs.lemmas.List.{get_or-map, length-map, get_or_push, get_or_append_left}
+use Rattle.std.proofs.lemmas.List.{get_or-map, length-map, length_push, get_or_push, get_or_append_left, map-append}
 use Rattle.ir_plan.specs.Distances.{lists_of}
 
 -- lists of vectors that were made for the numbers of a range, where P holds of each and its number
@@ -36,6 +36,22 @@ list_at made i v lt = get_or-map (λ (w : Vec ℕ). w.items) made i v [] lt
 
 pub lists_length : (made : List (Vec ℕ)) → length (lists_of made) ≡ length made
 lists_length made = length-map made (λ (w : Vec ℕ). w.items)
+
+-- one more vector behind those that were made for the first numbers
+pub list_pushed : (P : ℕ → List ℕ → Type 0) (k : ℕ) (made more : List (Vec ℕ)) (v : Vec ℕ) → length (lists_of made) ≡ k → ((i : ℕ) → i < k → P i (slice_index_or (lists_of made) i [])) → more ≡ made ++ (v ∷ []) → P k v.items
+    → (length (lists_of more) ≡ k + 1) × ((i : ℕ) → i < k + 1 → P i (slice_index_or (lists_of more) i []))
+list_pushed P k made more v len all is own = (ap length lists ∙ length_push (lists_of made) v.items ∙ ap (λ (n : ℕ). n + 1) len, at)
+  where
+    lists : lists_of more ≡ lists_of made ++ (v.items ∷ [])
+    lists = ap lists_of is ∙ map-append (λ (w : Vec ℕ). w.items) made (v ∷ [])
+
+    at : (i : ℕ) → i < k + 1 → P i (slice_index_or (lists_of more) i [])
+    at i lt =
+        subst (λ (ls : List (List ℕ)). P i (slice_index_or ls i [])) (sym lists)
+        (elim (cases_eq i k) [
+          | inl same ↦ subst (P i) (sym (get_or_push (lists_of made) v.items [] i (len ∙ sym same))) (subst (λ (u : ℕ). P u v.items) (sym same) own)
+          | inr ne ↦ subst (P i) (sym (get_or_append_left (lists_of made) (v.items ∷ []) [] i (omega (arith, len)))) (all i (omega arith))
+        ])
 
 -- one more number at the end of a list of the numbers of a function
 pub read_pushed : (f : ℕ → ℕ) (xs ys : List ℕ) (v x : ℕ) → length xs ≡ v → ((k : ℕ) → k < v → slice_index xs k ≡ f k) → ys ≡ xs ++ (x ∷ []) → x ≡ f v → (k : ℕ) → k < v + 1 → slice_index ys k ≡ f k

@@ -9,16 +9,16 @@ use Rattle.ir_model.specs.Table.{LeadsNearer}
 
 -- the intervals give each label but that of u a port that leads nearer to its node
 abbrev pub FitsTied : Plan → ℕ → List PortInterval → Type 0
-FitsTied s u set = FitsChoices (node_count s.topology) (label_in s u) (IsTied s.topology s.order (label_in s u)) set
+FitsTied plan u set = FitsChoices (node_count plan.topology) (label_in plan u) (IsTied plan.topology plan.order (label_in plan u)) set
 
 -- no set of intervals that gives each label but that of u a port that leads nearer has fewer members
 abbrev pub IsFewestOfTied : Plan → ℕ → ℕ → Type 0
-IsFewestOfTied s u count = IsFewestOfChoices (node_count s.topology) (label_in s u) (IsTied s.topology s.order (label_in s u)) count
+IsFewestOfTied plan u count = IsFewestOfChoices (node_count plan.topology) (label_in plan u) (IsTied plan.topology plan.order (label_in plan u)) count
 
 -- the marks of the port p of u, by label: where it leads nearer
-pub record AreTiedMarks (net : Topology) (order : List ℕ) (u p : ℕ) (row : List Bool) : Type 0 where
-  pub every : length row ≡ node_count net
-  pub marks : (d : ℕ) → d < node_count net → (slice_index_or row d false ≡ true) ↔ LeadsNearer net u (slice_index order d) p
+pub record AreTiedMarks (topology : Topology) (order : List ℕ) (u p : ℕ) (row : List Bool) : Type 0 where
+  pub every : length row ≡ node_count topology
+  pub marks : (d : ℕ) → d < node_count topology → (slice_index_or row d false ≡ true) ↔ LeadsNearer topology u (slice_index order d) p
 
 -- the marks of some nodes, by label
 pub record AreMarksOf (n : ℕ) (order nodes : List ℕ) (row : List Bool) : Type 0 where
@@ -27,4 +27,4 @@ pub record AreMarksOf (n : ℕ) (order nodes : List ℕ) (row : List Bool) : Typ
 
 -- the label d is that of a node, and the port p of the node with the label a leads nearer to it
 abbrev pub MayTake : Topology → List ℕ → ℕ → ℕ → ℕ → Type 0
-MayTake net order a d p = (d < node_count net) × IsTied net order a d p
+MayTake topology order a d p = (d < node_count topology) × IsTied topology order a d p

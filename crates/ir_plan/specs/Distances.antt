@@ -47,6 +47,6 @@ pub record AreDistances (columns rows : List (List ℕ)) : Type 0 where
 
 -- the differences of a network's nodes in its shortest table
 abbrev pub AreShortestDistances : Topology → (ℕ → ℕ → ℕ) → Type 0
-AreShortestDistances net far =
-    (table : ℕ → ℕ → Option ℕ) × IsShortestTable net table
-    × ((a b : ℕ) → a < node_count net → b < node_count net → far a b ≡ difference (node_count net) table a b)
+AreShortestDistances topology far =
+    (table : ℕ → ℕ → Option ℕ) × IsShortestTable topology table
+    × ((a b : ℕ) → a < node_count topology → b < node_count topology → far a b ≡ difference (node_count topology) table a b)

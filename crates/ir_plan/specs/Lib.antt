@@ -1,12 +1,14 @@
 -- what contracts promise
 pub mod Refusals
+pub mod Building
+pub mod Crew
 pub mod Shown
 pub mod Views
 pub mod TreeRows
 pub mod CompactRows
 pub mod Tour
 pub mod Starts
+pub mod Distances
 -- what bodies use
 pub mod NodeRows
 pub mod SonStarts
-pub mod Distances

@@ -11,25 +11,25 @@ use Rattle.ir_model.specs.Compact.{IsTied}
 use Rattle.ir_numbering.specs.Cells.{AreTreeCells}
 
 -- the least ports that lead nearer, by label, of the node with the label a
-pub record AreShortestPorts (net : Topology) (order : List ℕ) (a : ℕ) (ports : List (Option ℕ)) : Type 0 where
-  pub every : length ports ≡ node_count net
+pub record AreShortestPorts (topology : Topology) (order : List ℕ) (a : ℕ) (ports : List (Option ℕ)) : Type 0 where
+  pub every : length ports ≡ node_count topology
   pub own : port_to ports a ≡ None
-  pub port : (d : ℕ) → d < node_count net → d ≢ a → (p : ℕ) × (port_to ports d ≡ Some p) × IsShortestPort net (slice_index order a) (slice_index order d) p
+  pub port : (d : ℕ) → d < node_count topology → d ≢ a → (p : ℕ) × (port_to ports d ≡ Some p) × IsShortestPort topology (slice_index order a) (slice_index order d) p
 
 -- the ports, by label, of the node with the label a in the full table of a kind
 abbrev pub ArePortsOf : Kind → Topology → List ℕ → List ℕ → ℕ → List (Option ℕ) → Type 0
-ArePortsOf Tree net order parents a ports = AreTreeCells net order parents a (node_count net) ports
-ArePortsOf Shortest net order parents a ports = AreShortestPorts net order a ports
-ArePortsOf Compact net order parents a ports = AreChoices (node_count net) a (IsTied net order a) × AreChosen (node_count net) a (IsTied net order a) ports
+ArePortsOf Tree topology order parents a ports = AreTreeCells topology order parents a (node_count topology) ports
+ArePortsOf Shortest topology order parents a ports = AreShortestPorts topology order a ports
+ArePortsOf Compact topology order parents a ports = AreChoices (node_count topology) a (IsTied topology order a) × AreChosen (node_count topology) a (IsTied topology order a) ports
 
 -- the canonical row of these ports
-pub record IsNodeRow (kind : Kind) (net : Topology) (order parents : List ℕ) (a : ℕ) (row : List Start) : Type 0 where
+pub record IsNodeRow (kind : Kind) (topology : Topology) (order parents : List ℕ) (a : ℕ) (row : List Start) : Type 0 where
   pub ports : List (Option ℕ)
-  pub ports_of_kind : ArePortsOf kind net order parents a ports
-  pub destinations : IsDestinations (node_count net) a ports
-  pub canonical : IsCanonical (node_count net) a ports row
+  pub ports_of_kind : ArePortsOf kind topology order parents a ports
+  pub destinations : IsDestinations (node_count topology) a ports
+  pub canonical : IsCanonical (node_count topology) a ports row
 
 -- the rows of the first nodes
-pub record AreNodeRows (kind : Kind) (net : Topology) (order parents labels : List ℕ) (count : ℕ) (rows : List (List Start)) : Type 0 where
+pub record AreNodeRows (kind : Kind) (topology : Topology) (order parents labels : List ℕ) (count : ℕ) (rows : List (List Start)) : Type 0 where
   pub every : length rows ≡ count
-  pub each : (u : ℕ) → u < count → IsNodeRow kind net order parents (slice_index labels u) (slice_index_or rows u [])
+  pub each : (u : ℕ) → u < count → IsNodeRow kind topology order parents (slice_index labels u) (slice_index_or rows u [])

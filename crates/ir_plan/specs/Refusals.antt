@@ -4,8 +4,6 @@ use Rattle.ir_plan.specs.declared.error.PlanError.{PlanError}
 use Rattle.ir_plan.specs.declared.error.PlanError.TheVariants.{NoNode, Empty, Disconnected, NoMemory}
 use Rattle.ir_numbering.specs.declared.error.NumberError.{NumberError}
 use Rattle.ir_numbering.specs.declared.error.NumberError.TheVariants as number
-use Rattle.ir_tables.specs.declared.table.TableError.{TableError}
-use Rattle.ir_tables.specs.declared.table.TableError.TheVariants as table
 
 abbrev pub plan_code : PlanError → ℕ
 plan_code NoNode = 1
@@ -17,8 +15,3 @@ abbrev pub from_number : NumberError → PlanError
 from_number number.NoNode = NoNode
 from_number number.Disconnected = Disconnected
 from_number number.NoMemory = NoMemory
-
-abbrev pub from_table : TableError → PlanError
-from_table table.Empty = Empty
-from_table table.Disconnected = Disconnected
-from_table table.NoMemory = NoMemory

@@ -27,13 +27,13 @@ shown_table n labels rows = map (λ u. map (shown_port labels rows u) (range_wit
 
 -- the plan of these numbers and rows
 abbrev pub plan_with : Kind → ℕ → Topology → List ℕ → List ℕ → List (List Start) → Plan
-plan_with kind root net order labels rows = record {
+plan_with kind root topology order labels rows = record {
   kind = kind;
   root = root;
-  topology = net;
+  topology = topology;
   order = order;
   labels = labels;
-  table = shown_table (node_count net) labels rows;
+  table = shown_table (node_count topology) labels rows;
   rows = rows;
 }
 
@@ -49,7 +49,7 @@ pub record IsFullTable (n : ℕ) (table : ℕ → ℕ → Option ℕ) : Type 0 w
 
 -- the rows stand for a full table of a kind, whose prescribed walks exist and are short
 abbrev pub StandForTable : Kind → Topology → List ℕ → List ℕ → List ℕ → List (List Start) → Type 0
-StandForTable kind net order parents labels rows =
-    (table : ℕ → ℕ → Option ℕ) × IsTableOf kind net order parents table
-    × ((u d : ℕ) → u < node_count net → d < node_count net → (walk : List ℕ) × IsPrescribedWalk net table u d walk × (length walk ≤ node_count net))
-    × AreRows (node_count net) order labels table rows
+StandForTable kind topology order parents labels rows =
+    (table : ℕ → ℕ → Option ℕ) × IsTableOf kind topology order parents table
+    × ((u d : ℕ) → u < node_count topology → d < node_count topology → (walk : List ℕ) × IsPrescribedWalk topology table u d walk × (length walk ≤ node_count topology))
+    × AreRows (node_count topology) order labels table rows

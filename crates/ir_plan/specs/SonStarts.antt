@@ -7,29 +7,29 @@ use Rattle.ir_numbering.specs.Numbering.{Numbering, IsPortTo}
 use Rattle.ir_plan.specs.TreeRows.{subtree_end}
 
 -- a start of u for a son: at the son's label, with the port to it
-pub record IsSonStart (net : Topology) (numbers : Numbering) (u : ℕ) (start : Start) : Type 0 where
+pub record IsSonStart (topology : Topology) (numbers : Numbering) (u : ℕ) (start : Start) : Type 0 where
   pub from : 0 < start.label
-  pub label : start.label < node_count net
+  pub label : start.label < node_count topology
   pub son : slice_index numbers.parents start.label ≡ slice_index numbers.labels u
-  pub port : IsPortTo net u start.port (slice_index numbers.order start.label)
+  pub port : IsPortTo topology u start.port (slice_index numbers.order start.label)
 
 -- the start of u for its father, where the labels of the subtree of so many nodes end
-pub record IsFatherStart (net : Topology) (numbers : Numbering) (u size : ℕ) (start : Start) : Type 0 where
+pub record IsFatherStart (topology : Topology) (numbers : Numbering) (u size : ℕ) (start : Start) : Type 0 where
   pub from : 0 < slice_index numbers.labels u
-  pub label : start.label ≡ subtree_end (node_count net) (slice_index numbers.labels u) size
-  pub port : IsPortTo net u start.port (slice_index numbers.order (slice_index numbers.parents (slice_index numbers.labels u)))
+  pub label : start.label ≡ subtree_end (node_count topology) (slice_index numbers.labels u) size
+  pub port : IsPortTo topology u start.port (slice_index numbers.order (slice_index numbers.parents (slice_index numbers.labels u)))
 
 -- the starts for the sons to which the first ports of u lead
-pub record AreSonStarts (net : Topology) (numbers : Numbering) (u count : ℕ) (row : List Start) : Type 0 where
+pub record AreSonStarts (topology : Topology) (numbers : Numbering) (u count : ℕ) (row : List Start) : Type 0 where
   pub ascending : IsAscending row
-  pub each : All (λ (s : Start). IsSonStart net numbers u s × (s.port < count)) row
-  pub every : (s : Start) → IsSonStart net numbers u s → s.port < count → Contains (labels row) s.label
+  pub each : All (λ (s : Start). IsSonStart topology numbers u s × (s.port < count)) row
+  pub every : (s : Start) → IsSonStart topology numbers u s → s.port < count → Contains (labels row) s.label
 
 -- the starts for all sons of u and for its father
-pub record AreTreeStarts (net : Topology) (numbers : Numbering) (u : ℕ) (row : List Start) : Type 0 where
+pub record AreTreeStarts (topology : Topology) (numbers : Numbering) (u : ℕ) (row : List Start) : Type 0 where
   pub size : ℕ
-  pub subtree : IsSubtree (node_count net) numbers.parents (slice_index numbers.labels u) size
+  pub subtree : IsSubtree (node_count topology) numbers.parents (slice_index numbers.labels u) size
   pub ascending : IsAscending row
-  pub each : All (λ (s : Start). IsSonStart net numbers u s ⊎ IsFatherStart net numbers u size s) row
-  pub sons : (c : ℕ) → 0 < c → c < node_count net → slice_index numbers.parents c ≡ slice_index numbers.labels u → Contains (labels row) c
-  pub father : 0 < slice_index numbers.labels u → Contains (labels row) (subtree_end (node_count net) (slice_index numbers.labels u) size)
+  pub each : All (λ (s : Start). IsSonStart topology numbers u s ⊎ IsFatherStart topology numbers u size s) row
+  pub sons : (c : ℕ) → 0 < c → c < node_count topology → slice_index numbers.parents c ≡ slice_index numbers.labels u → Contains (labels row) c
+  pub father : 0 < slice_index numbers.labels u → Contains (labels row) (subtree_end (node_count topology) (slice_index numbers.labels u) size)

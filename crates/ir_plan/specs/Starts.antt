@@ -9,7 +9,7 @@ use Rattle.ir_plan.specs.declared.tour.LabelOrder.TheVariants.{DepthFirst, Tour}
 
 -- how many starts all rows have
 abbrev pub start_count : Plan → ℕ
-start_count s = sum_by length s.rows
+start_count plan = sum_by length plan.rows
 
 -- q is a plan of the kind, root and network of p
 pub record IsPlanAs (p q : Plan) : Type 0 where
@@ -20,21 +20,21 @@ pub record IsPlanAs (p q : Plan) : Type 0 where
 
 -- p is labelled by the tour of its network from its root where the plan over that has fewer starts than the depth-first
 -- plan, else depth first
-pub record HasFewerOfTwo (p : Plan) : Type 0 where
+pub record HasFewerOfTwo (plan : Plan) : Type 0 where
   pub first : Plan
-  pub first_is : IsPlanAs p first
+  pub first_is : IsPlanAs plan first
   pub numbers : HasDepthFirst first
   pub over : Plan
-  pub over_is : IsPlanAs p over
-  pub tour : IsTour p.topology p.root over.order
-  pub fewer : start_count over < start_count first → p.order ≡ over.order
-  pub others : start_count first ≤ start_count over → p.order ≡ first.order
+  pub over_is : IsPlanAs plan over
+  pub tour : IsTour plan.topology plan.root over.order
+  pub fewer : start_count over < start_count first → plan.order ≡ over.order
+  pub others : start_count first ≤ start_count over → plan.order ≡ first.order
 
 -- a tour is sought: but for trees, and up to 4,096 nodes
 abbrev pub IsToured : Plan → Type 0
-IsToured p = (p.kind ≢ Tree) × (node_count p.topology ≤ 4096)
+IsToured plan = (plan.kind ≢ Tree) × (node_count plan.topology ≤ 4096)
 
 -- A plan is labelled in this order: depth first; or by a tour where one is sought, else depth first too.
 abbrev pub IsLabelledBy : LabelOrder → Plan → Type 0
-IsLabelledBy DepthFirst p = HasDepthFirst p
-IsLabelledBy Tour p = (IsToured p → HasFewerOfTwo p) × ((IsToured p → ⊥) → HasDepthFirst p)
+IsLabelledBy DepthFirst plan = HasDepthFirst plan
+IsLabelledBy Tour plan = (IsToured plan → HasFewerOfTwo plan) × ((IsToured plan → ⊥) → HasDepthFirst plan)

@@ -59,9 +59,9 @@ shortened far (suc sweeps) order = shortened far sweeps (swept far order)
 
 -- The tour of a network from a root: the order by nearest, shortened by 16 sweeps, where nodes are as far apart as their
 -- difference in the shortest table.
-pub record IsTour (net : Topology) (root : ℕ) (tour : List ℕ) : Type 0 where
+pub record IsTour (topology : Topology) (root : ℕ) (tour : List ℕ) : Type 0 where
   pub table : ℕ → ℕ → Option ℕ
-  pub shortest : IsShortestTable net table
+  pub shortest : IsShortestTable topology table
   pub start : List ℕ
-  pub nearest : IsNearestOrder (node_count net) (difference (node_count net) table) root start
-  pub short : tour ≡ shortened (difference (node_count net) table) 16 start
+  pub nearest : IsNearestOrder (node_count topology) (difference (node_count topology) table) root start
+  pub short : tour ≡ shortened (difference (node_count topology) table) 16 start

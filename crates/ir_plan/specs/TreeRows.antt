@@ -19,17 +19,17 @@ HasStart row label port = Contains row (let start : Start = record { label = lab
 
 -- The row of u has a start for each son, at the son's label and with the port to it, and one for the father, where the
 -- labels of the subtree of u end and with the port to it; it has no other start, and no two with one port.
-pub record IsTreeRow (s : Plan) (parents : List ℕ) (size u : ℕ) : Type 0 where
-  pub numbering : IsDepthFirst (neighbors_of s.topology) (node_count s.topology) s.root s.order parents
-  pub subtree : IsSubtree (node_count s.topology) parents (label_in s u) size
-  pub sons : (w : ℕ) → IsParent s.order parents w u → (p : ℕ) × IsPortTo s.topology u p w × HasStart (row_in s u) (label_in s w) p
-  pub father : (v : ℕ) → IsParent s.order parents u v
-      → (p : ℕ) × IsPortTo s.topology u p v × HasStart (row_in s u) (subtree_end (node_count s.topology) (label_in s u) size) p
-  pub no_other : (start : Start) → Contains (row_in s u) start → (v : ℕ) × IsPortTo s.topology u start.port v
-      × ((IsParent s.order parents v u × (start.label ≡ label_in s v))
-      ⊎ (IsParent s.order parents u v × (start.label ≡ subtree_end (node_count s.topology) (label_in s u) size)))
-  pub one_each : AllPairs (λ p q. p ≢ q) (start_ports (row_in s u))
+pub record IsTreeRow (plan : Plan) (parents : List ℕ) (size u : ℕ) : Type 0 where
+  pub numbering : IsDepthFirst (neighbors_of plan.topology) (node_count plan.topology) plan.root plan.order parents
+  pub subtree : IsSubtree (node_count plan.topology) parents (label_in plan u) size
+  pub sons : (w : ℕ) → IsParent plan.order parents w u → (p : ℕ) × IsPortTo plan.topology u p w × HasStart (row_in plan u) (label_in plan w) p
+  pub father : (v : ℕ) → IsParent plan.order parents u v
+      → (p : ℕ) × IsPortTo plan.topology u p v × HasStart (row_in plan u) (subtree_end (node_count plan.topology) (label_in plan u) size) p
+  pub no_other : (start : Start) → Contains (row_in plan u) start → (v : ℕ) × IsPortTo plan.topology u start.port v
+      × ((IsParent plan.order parents v u × (start.label ≡ label_in plan v))
+      ⊎ (IsParent plan.order parents u v × (start.label ≡ subtree_end (node_count plan.topology) (label_in plan u) size)))
+  pub one_each : AllPairs (λ p q. p ≢ q) (start_ports (row_in plan u))
 
 -- the row of u is that of a tree: of the tree of some depth-first numbering of these nodes and labels
 abbrev pub HasTreeRow : Plan → ℕ → Type 0
-HasTreeRow s u = (parents : List ℕ) × (size : ℕ) × IsTreeRow s parents size u
+HasTreeRow plan u = (parents : List ℕ) × (size : ℕ) × IsTreeRow plan parents size u

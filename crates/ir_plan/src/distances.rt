@@ -5,6 +5,7 @@ ghost use Rattle.ir_plan.specs.declared.TheConstants.{MOST_TOUR_NODES};
 ghost use Rattle.ir_plan.specs.Distances.{AreColumns, AreDistances, AreShortestDistances, IsPortColumn, IsRow};
 ghost use Rattle.ir_plan.specs.Distances.{far_between, far_from, lists_of, unlike};
 
+use crate::crew::Crew;
 use crate::plan::Plan;
 use crate::threads::rows_of_a_thread;
 use ir_model::Kind;
@@ -28,7 +29,7 @@ pub struct Distances {
 impl Distances {
     /// The distances of the nodes of a plan of kind Shortest, by its rows.
     pub fn of(
-        rt: &(impl Threads + Sync),
+        crew: &impl Crew,
         alloc: Global,
         plan: &Plan,
         most: Option<usize>,
@@ -39,8 +40,8 @@ impl Distances {
         ensures shortest { IfOk result (λ far. AreShortestDistances plan.now.topology (far_between far.rows.items)) }
     {
         let nodes = plan.nodes();
-        let columns = columns_of(rt, alloc, plan, most)?;
-        let rows = rows_of(rt, alloc, columns.as_slice(), most)?;
+        let columns = crew.columns(alloc, plan, most)?;
+        let rows = crew.distances(alloc, columns.as_slice(), most)?;
         Ok(Distances { nodes, rows })
     }
 
@@ -70,8 +71,23 @@ impl Distances {
     }
 }
 
-// The ports of all nodes to each node, by its number.
-fn columns_of(
+/// The ports of all nodes to each node, by its number.
+pub fn columns_of(alloc: Global, plan: &Plan) -> Result<Vec<Vec<u16>>, AllocError>
+    ensures { IfOk result (λ columns. AreColumns (node_count plan.now.topology) (table_port plan.now)
+        (lists_of columns.items)) }
+{
+    let nodes = plan.nodes();
+    let mut columns = Vec::with_capacity(alloc, nodes)?;
+    for d in 0..nodes {
+        columns.push(column(alloc, plan, d)?)?;
+    }
+    Ok(columns)
+}
+
+/// The ports of all nodes to each node, by its number, by the rows of a plan, made in at most so
+/// many threads, or in as many as suit the processors. It is refused where a growth is refused in
+/// any of them.
+pub fn columns_in_threads(
     rt: &(impl Threads + Sync),
     alloc: Global,
     plan: &Plan,
@@ -108,8 +124,22 @@ fn column(alloc: Global, plan: &Plan, d: usize) -> Result<Vec<u16>, AllocError>
     Ok(ports)
 }
 
-// The distances of all nodes, by their columns of ports.
-fn rows_of(
+/// The distances of all nodes, by their columns of ports.
+pub fn distances_of(alloc: Global, columns: &[Vec<u16>]) -> Result<Vec<Vec<u16>>, AllocError>
+    requires few { length columns.now ≤ MOST_TOUR_NODES }
+    requires square { All (λ column. length column.items ≡ length columns.now) columns.now }
+    ensures { IfOk result (λ rows. AreDistances (lists_of columns.now) (lists_of rows.items)) }
+{
+    let mut rows = Vec::with_capacity(alloc, columns.len())?;
+    for own in columns {
+        rows.push(row(alloc, columns, own.as_slice())?)?;
+    }
+    Ok(rows)
+}
+
+/// The distances of all nodes, by their columns of ports, made in at most so many threads, or in as
+/// many as suit the processors. It is refused where a growth is refused in any of them.
+pub fn distances_in_threads(
     rt: &(impl Threads + Sync),
     alloc: Global,
     columns: &[Vec<u16>],

@@ -1,9 +1,8 @@
 ghost use Rattle.std.specs.Prelude.{◌≡◌};
-ghost use Rattle.ir_plan.specs.Refusals.{plan_code, from_number, from_table};
+ghost use Rattle.ir_plan.specs.Refusals.{plan_code, from_number};
 ghost use Rattle.ir_plan.specs.declared.error.PlanError.TheVariants.{NoMemory};
 
 use ir_numbering::NumberError;
-use ir_tables::TableError;
 use std::alloc::AllocError;
 use thiserror::Error;
 
@@ -54,18 +53,6 @@ impl From<NumberError> for PlanError {
             NumberError::NoNode => PlanError::NoNode,
             NumberError::Disconnected => PlanError::Disconnected,
             NumberError::NoMemory => PlanError::NoMemory,
-        }
-    }
-}
-
-impl From<TableError> for PlanError {
-    ghost from_gives = { λ t e. e ≡ from_table t };
-
-    fn from(error: TableError) -> PlanError {
-        match error {
-            TableError::Empty => PlanError::Empty,
-            TableError::Disconnected => PlanError::Disconnected,
-            TableError::NoMemory => PlanError::NoMemory,
         }
     }
 }

@@ -8,8 +8,8 @@ ghost use Rattle.ir_plan.specs.declared.tour.LabelOrder.{LabelOrder, TheVariants
 
 /// A network has one tour from a root.
 pub fn tour_is_determined()
-    ensures { (net : Topology) (root : ℕ) → root < node_count net → (tour other : List ℕ) → IsTour net root tour
-        → IsTour net root other → tour ≡ other }
+    ensures { (topology : Topology) (root : ℕ) → root < node_count topology → (tour other : List ℕ)
+        → IsTour topology root tour → IsTour topology root other → tour ≡ other }
 {}
 
 /// Plans of one kind, root and network that are labelled by one order have the same labels; the same table and rows too,

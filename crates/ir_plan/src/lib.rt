@@ -3,7 +3,9 @@
 //! few starts.
 #![tactic(auto)]
 
+mod building;
 mod compact;
+mod crew;
 mod distances;
 mod error;
 mod laws;
@@ -16,12 +18,15 @@ mod tour;
 mod tree;
 mod watch;
 
+pub use building::Labels;
+pub use crew::{Alone, Crew, Several};
+pub use distances::{columns_in_threads, distances_in_threads};
 pub use error::PlanError;
 pub use ir_model::{Hop, Kind};
 pub use laws::{labels_are_determined, tour_has_no_more_starts, tour_is_determined};
 pub use plan::Plan;
-pub use threads::rows_of_a_thread;
-pub use tour::{LabelOrder, plan_in_order};
+pub use threads::{rows_in_threads, rows_of_a_thread};
+pub use tour::LabelOrder;
 pub use watch::{Unwatched, Watch};
 
 /// The most nodes of a plan whose labels a tour is sought for.

@@ -49,6 +49,16 @@ impl<T> Script<T> {
     }
 }
 
+impl Script<Command> {
+    /// The commands of a live run's script, in order: what `steps` gives.
+    pub fn commands(&self) -> &[Command]
+        ensures commands { result.now ≡ self.now.steps.items }
+        ensures numbered { length self.now.steps.items ≡ length self.now.lines.items }
+    {
+        self.steps()
+    }
+}
+
 /// What a line of a script names: a step of a simulation, or a command of a live run.
 pub trait Named: Copy {
     // What a line says of these nodes and links.

@@ -1,8 +1,3 @@
-pub mod Texts
-pub mod Records
-pub mod Replays
-pub mod Runs
-pub mod Answering
-pub mod Looking
+pub mod Refusals
 pub mod Reports
 pub mod Lived

@@ -22,8 +22,8 @@ use Rattle.ir_cli.specs.declared.words.Words.{Words}
 use Rattle.ir_cli.specs.Answer.{Answer, Ran, Found, Refused, NoThread}
 use Rattle.ir_cli.specs.Lines.{opening_line, refused_line}
 use Rattle.ir_cli.specs.Openings.{opening_by}
-use Rattle.ir_shell.specs.Stops.{AnswersScripted}
-use Rattle.ir_shell.specs.Plays.{run_text}
+use Rattle.ir_answer.specs.Stops.{AnswersScripted}
+use Rattle.ir_answer.specs.Plays.{run_text}
 
 -- want of memory for a command, which stands at a place among the commands
 abbrev pub is_for_memory : ℕ × Refusal → Bool
@@ -60,13 +60,18 @@ pub record IsLiveRun (B : Type 0) (was_full was_empty : Word Parcel) (g : Adjace
   pub trace : text ≡ run_text words.restamps (names g) (topology_of_graph g) live.report.records.items
   pub told : refused ≡ refusals_text script.lines live.refusals.items
 
+-- why nothing runs over a net: it is not opened, or the board of one that was opened has no place for a reader of each node
+abbrev pub RefusesNet : Adjacency → Words → ℕ → OpenError → Type 0
+RefusesNet g words root e =
+    IsNetRefusal (opening_by words (topology_of_graph g) root) e ⊎ ((e ≡ openings.TooManyReaders) × (net : Net) × IsOpenedNet g words root net)
+
 -- the answer to a graph, a script and the number of a root: the script's live run, or the refusal of the opening; or a
 -- thread of a net that was opened was not started
 abbrev pub AnswersLive : Type 0 → Word Parcel → Word Parcel → Adjacency → Words → Listing Command → ℕ → Answer → Type 0
 AnswersLive B was_full was_empty g words script root (Ran text refused) = IsLiveRun B was_full was_empty g words root script text refused
 AnswersLive B was_full was_empty g words script root (Found text) = ⊥
 AnswersLive B was_full was_empty g words script root (Refused line) =
-    (e : OpenError) × (e ≢ openings.NoMemory) × IsNetRefusal (opening_by words (topology_of_graph g) root) e × (line ≡ opening_line e)
+    (e : OpenError) × (e ≢ openings.NoMemory) × RefusesNet g words root e × (line ≡ opening_line e)
 AnswersLive B was_full was_empty g words script root NoThread = (net : Net) × IsOpenedNet g words root net
 
 -- the answer to a graph and the lines of a script: the script's first fault comes before the refusal of the opening

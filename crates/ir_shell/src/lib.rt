@@ -1,15 +1,14 @@
-//! The program's shell: what `route` does over readers and writers.
+//! The program's shell: what `route` does over readers and writers. What it answers without threads of nodes is `ir_answer`'s.
 #![tactic(auto)]
 
-mod asking;
-mod checking;
 mod live;
-mod look;
-mod plan;
-mod play;
 mod running;
 
-pub use ir_cli::{Format, Numbering, Source, Sub, Words, WordsError, read_words};
-pub use ir_plan::{Unwatched, Watch};
+pub use ir_answer::{
+    Format, Numbering, Source, Sub, Words, WordsError, read_words, run_by, run_check, run_plan,
+    run_sim, sources_of,
+};
+pub use ir_lines::LineCrew;
+pub use ir_plan::{Alone, Crew, Several};
 pub use ir_script::{Command, Script, ScriptError, ScriptFault, parse_live, parse_script};
-pub use running::{run, sources_of};
+pub use running::{run, run_live_text};

@@ -5,13 +5,12 @@ ghost use Rattle.ir_trace.specs.Written.{HaveSegments};
 ghost use Rattle.ir_cli.specs.Openings.{AnswersTopology};
 ghost use Rattle.ir_live.specs.Lives.{IsLive};
 ghost use Rattle.ir_shell.specs.Lives.{is_for_memory, refusals_text, IsOpenedNet, AnswersLive, AnswersLiveScript, ends_somewhere};
-ghost use Rattle.ir_shell.specs.{Plays.{listing_in, run_text}, Stops.{StopsAs, Gives}};
+ghost use Rattle.ir_answer.specs.{Plays.{listing_in, run_text}, Stops.{StopsAs, Gives}};
 
-use crate::asking::{Asked, Stop, opening_stop, read_asked};
-use crate::play::run_text;
+use ir_answer::{Asked, Stop, opening_stop, read_asked, run_text};
 use ir_cli::{Reply, Words, opening_of, push_reply_line};
 use ir_control::Net;
-use ir_core::Refused;
+use ir_core::{OpenError, Refused};
 use ir_graph::Graph;
 use ir_links::Moments;
 use ir_live::{Every, Live, LiveError, run_live};
@@ -111,7 +110,7 @@ fn run_open<T: Threads + Moments<Parcel> + Sync>(
 }
 
 /// The answer to a script and a net that was opened for it. Its parts were not handed out before; that they are not handed
-/// out, or that the board has no place for a reader of each node, is told as want of memory.
+/// out is told as want of memory, and that the board has no place for a reader of each node as a refused opening.
 fn answer_net<T: Threads + Moments<Parcel> + Sync>(
     rt: &T,
     alloc: Global,
@@ -138,9 +137,8 @@ fn answer_net<T: Threads + Moments<Parcel> + Sync>(
             Ok(Reply::Ran(trace, refused))
         }
         Err(LiveError::NoThread) => Ok(Reply::NoThread),
-        Err(LiveError::Spent | LiveError::NoMemory | LiveError::TooManyReaders) => {
-            Err(Stop::NoMemory)
-        }
+        Err(LiveError::TooManyReaders) => Err(opening_stop(alloc, OpenError::TooManyReaders)),
+        Err(LiveError::Spent | LiveError::NoMemory) => Err(Stop::NoMemory),
     }
 }
 
@@ -158,7 +156,7 @@ pub fn run_commands<T: Threads + Moments<Parcel> + Sync>(
 {
     let asked = read_asked::<Command>(alloc, words, topology, script)?;
     let opening = opening_of(alloc, words, &asked.topology, asked.root)?;
-    match Net::new(rt, alloc, opening) {
+    match Net::open(rt, alloc, opening) {
         Ok(net) => answer_net(rt, alloc, words, &asked, &net),
         Err(error) => Err(opening_stop(alloc, error)),
     }

@@ -15,8 +15,8 @@ use Rattle.ir_show.specs.Quoted.{escaped, quoted}
 
 -- a node: its name, and for the eye its name and label
 abbrev pub node_line : List Name → Plan → ℕ → List ℕ
-node_line nodes s u =
-    codes "  " ++ quoted (name_at nodes u) ++ codes " [label=\"" ++ escaped (name_at nodes u) ++ spaced (decimal (label_in s u)) ++ codes "\"];\n"
+node_line nodes plan u =
+    codes "  " ++ quoted (name_at nodes u) ++ codes " [label=\"" ++ escaped (name_at nodes u) ++ spaced (decimal (label_in plan u)) ++ codes "\"];\n"
 
 -- `[START,END)`
 abbrev pub span_text : ℕ → ℕ → List ℕ
@@ -27,11 +27,11 @@ interval_text m = span_text m.start m.end
 
 -- whether the port of an interval of u's row is by a link
 abbrev pub goes_by : Topology → ℕ → ℕ → PortInterval → Bool
-goes_by net u link m = option_map_or (λ hop. hop.link == link) (port_at net u m.port) false
+goes_by topology u link m = option_map_or (λ hop. hop.link == link) (port_at topology u m.port) false
 
 -- the intervals of u's row whose port is by a link, with one space between
 abbrev pub intervals_text : Plan → ℕ → ℕ → List ℕ
-intervals_text s u link = join_with_byte 32 (map interval_text (filter (goes_by s.topology u link) (intervals_of (row_in s u))))
+intervals_text plan u link = join_with_byte 32 (map interval_text (filter (goes_by plan.topology u link) (intervals_of (row_in plan u))))
 
 -- whether x and y are u and v, in one order or the other
 abbrev pub are_ends : ℕ → ℕ → ℕ → ℕ → Bool
@@ -56,31 +56,31 @@ edge_ends nodes u v = codes "  " ++ quoted (name_at nodes u) ++ codes " -- " ++ 
 
 -- the weight of a link of u, and at each end the intervals of its port
 abbrev pub edge_labels : Plan → ℕ → Hop → List ℕ
-edge_labels s u hop =
-    codes " [label=\"" ++ decimal hop.weight ++ codes "\", taillabel=\"" ++ intervals_text s u hop.link ++ codes "\", headlabel=\"" ++ intervals_text s hop.node hop.link ++ codes "\""
+edge_labels plan u hop =
+    codes " [label=\"" ++ decimal hop.weight ++ codes "\", taillabel=\"" ++ intervals_text plan u hop.link ++ codes "\", headlabel=\"" ++ intervals_text plan hop.node hop.link ++ codes "\""
 
 -- a link of u
 abbrev pub edge_line : List Name → Plan → List ℕ → ℕ → Hop → List ℕ
-edge_line nodes s walk u hop =
-    edge_ends nodes u hop.node ++ edge_labels s u hop ++ edge_style u hop.node walk ++ codes "];\n"
+edge_line nodes plan walk u hop =
+    edge_ends nodes u hop.node ++ edge_labels plan u hop ++ edge_style u hop.node walk ++ codes "];\n"
 
 -- the links of u to later nodes, in the order of its ports
 abbrev pub edge_lines : List Name → Plan → List ℕ → ℕ → List ℕ
-edge_lines nodes s walk u = flat_map (edge_line nodes s walk u) (filter (λ hop. nat_lt u hop.node) (ports_of s.topology u))
+edge_lines nodes plan walk u = flat_map (edge_line nodes plan walk u) (filter (λ hop. nat_lt u hop.node) (ports_of plan.topology u))
 
 -- a line for each node, and a line for each link from its first node on
 abbrev pub drawing : List Name → Plan → List ℕ → List ℕ
-drawing nodes s walk =
-    codes "graph {\n" ++ flat_map (node_line nodes s) (range_with_len 0 (node_count s.topology))
-    ++ flat_map (edge_lines nodes s walk) (range_with_len 0 (node_count s.topology)) ++ codes "}\n"
+drawing nodes plan walk =
+    codes "graph {\n" ++ flat_map (node_line nodes plan) (range_with_len 0 (node_count plan.topology))
+    ++ flat_map (edge_lines nodes plan walk) (range_with_len 0 (node_count plan.topology)) ++ codes "}\n"
 
 -- the walk that is drawn in bold: that from a to b which the full table prescribes, or none
 abbrev pub IsBold : Plan → Option (ℕ × ℕ) → List ℕ → Type 0
-IsBold s None walk = walk ≡ []
-IsBold s (Some ends) walk = IsPrescribedWalk s.topology (table_port s) ends.0 ends.1 walk
+IsBold plan None walk = walk ≡ []
+IsBold plan (Some ends) walk = IsPrescribedWalk plan.topology (table_port plan) ends.0 ends.1 walk
 
 -- The text is a drawing of a plan, with the walk between these ends in bold, if there are any.
-pub record IsDrawingOf (nodes : List Name) (s : Plan) (ends : Option (ℕ × ℕ)) (text : List ℕ) : Type 0 where
+pub record IsDrawingOf (nodes : List Name) (plan : Plan) (ends : Option (ℕ × ℕ)) (text : List ℕ) : Type 0 where
   pub walk : List ℕ
-  pub bold : IsBold s ends walk
-  pub whole : text ≡ drawing nodes s walk
+  pub bold : IsBold plan ends walk
+  pub whole : text ≡ drawing nodes plan walk

@@ -19,9 +19,9 @@ pub record AreTo (n : ℕ) (weight : ℕ → ℕ → ℕ) (d : ℕ) (weights : L
   pub each : (u : ℕ) → u < n → at weights u ≡ weight u d
 
 -- weights by node are the distances to d
-pub record AreDistancesTo (net : Topology) (d : ℕ) (weights : List ℕ) : Type 0 where
-  pub every : length weights ≡ node_count net
-  pub each : (u : ℕ) → u < node_count net → IsDistance net u d (at weights u)
+pub record AreDistancesTo (topology : Topology) (d : ℕ) (weights : List ℕ) : Type 0 where
+  pub every : length weights ≡ node_count topology
+  pub each : (u : ℕ) → u < node_count topology → IsDistance topology u d (at weights u)
 
 -- if the one option is the worst of the pairs to the nodes before d, the other is the worst of these and those to d
 abbrev pub IsWorstWithThoseTo : ℕ → List ℕ → List ℕ → Option Weighed → Option Weighed → Type 0
@@ -38,23 +38,23 @@ abbrev pub sum_before : ℕ → (ℕ → ℕ → ℕ) → ℕ → ℕ
 sum_before n weight count = sum_by (λ d. sum_to n (λ u. weight u d) d) (range_with_len 0 count)
 
 -- The figures are those of the first so many destinations.
-pub record AreFiguresBefore (s : Plan) (count : ℕ) (f : Figures) : Type 0 where
+pub record AreFiguresBefore (plan : Plan) (count : ℕ) (f : Figures) : Type 0 where
   pub light_walks : f.walks ≤ 70368744177664 * count
   pub light_distances : f.distances ≤ 70368744177664 * count
-  pub reached : (u d : ℕ) → u < node_count s.topology → d < count → (weight : ℕ) × IsDistance s.topology u d weight
-  pub walks : (walk : ℕ → ℕ → ℕ) → AreWalkWeights s walk → f.walks ≡ sum_before (node_count s.topology) walk count
-  pub distances : (distance : ℕ → ℕ → ℕ) → ArePlanDistances s distance → f.distances ≡ sum_before (node_count s.topology) distance count
-  pub worst : (walk distance : ℕ → ℕ → ℕ) → AreWalkWeights s walk → ArePlanDistances s distance → IsWorstBefore (node_count s.topology) walk distance 0 count f.worst
+  pub reached : (u d : ℕ) → u < node_count plan.topology → d < count → (weight : ℕ) × IsDistance plan.topology u d weight
+  pub walks : (walk : ℕ → ℕ → ℕ) → AreWalkWeights plan walk → f.walks ≡ sum_before (node_count plan.topology) walk count
+  pub distances : (distance : ℕ → ℕ → ℕ) → ArePlanDistances plan distance → f.distances ≡ sum_before (node_count plan.topology) distance count
+  pub worst : (walk distance : ℕ → ℕ → ℕ) → AreWalkWeights plan walk → ArePlanDistances plan distance → IsWorstBefore (node_count plan.topology) walk distance 0 count f.worst
 
 -- The figures are the sums over all pairs of two nodes, and the worst of the pairs.
-pub record AreFigures (s : Plan) (f : Figures) : Type 0 where
+pub record AreFigures (plan : Plan) (f : Figures) : Type 0 where
   pub walk : ℕ → ℕ → ℕ
-  pub walks : AreWalkWeights s walk
+  pub walks : AreWalkWeights plan walk
   pub distance : ℕ → ℕ → ℕ
-  pub distances : ArePlanDistances s distance
-  pub walks_sum : f.walks ≡ sum_of_pairs (node_count s.topology) walk
-  pub distances_sum : f.distances ≡ sum_of_pairs (node_count s.topology) distance
-  pub worst_pair : IsWorstOf (node_count s.topology) walk distance (option_map (λ p. p.ends) f.worst)
+  pub distances : ArePlanDistances plan distance
+  pub walks_sum : f.walks ≡ sum_of_pairs (node_count plan.topology) walk
+  pub distances_sum : f.distances ≡ sum_of_pairs (node_count plan.topology) distance
+  pub worst_pair : IsWorstOf (node_count plan.topology) walk distance (option_map (λ p. p.ends) f.worst)
   pub weighed : IfSome f.worst (IsWeighed walk distance)
 
 -- the line of the worst pair, where there is one

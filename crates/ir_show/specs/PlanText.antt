@@ -18,19 +18,19 @@ kind_text Compact = codes "compact"
 
 -- the node at a port of u
 abbrev pub node_by : Topology → ℕ → ℕ → ℕ
-node_by net u p = option_map_or (λ hop. hop.node) (port_at net u p) 0
+node_by topology u p = option_map_or (λ hop. hop.node) (port_at topology u p) 0
 
 -- a start of u's row, and the name of the neighbour at its port
 abbrev pub start_words : List Name → Topology → ℕ → Start → List (List ℕ)
-start_words nodes net u start = decimal start.label ∷ name_at nodes (node_by net u start.port) ∷ []
+start_words nodes topology u start = decimal start.label ∷ name_at nodes (node_by topology u start.port) ∷ []
 
 -- a node: its name, its label, and its row
 abbrev pub node_words : List Name → Plan → ℕ → List (List ℕ)
-node_words nodes s u = name_at nodes u ∷ decimal (label_in s u) ∷ flat_map (start_words nodes s.topology u) (row_in s u)
+node_words nodes plan u = name_at nodes u ∷ decimal (label_in plan u) ∷ flat_map (start_words nodes plan.topology u) (row_in plan u)
 
 abbrev pub plan_head : Plan → List (List ℕ)
-plan_head s = codes "plan" ∷ kind_text s.kind ∷ decimal (node_count s.topology) ∷ decimal (sum_by length s.rows) ∷ []
+plan_head plan = codes "plan" ∷ kind_text plan.kind ∷ decimal (node_count plan.topology) ∷ decimal (sum_by length plan.rows) ∷ []
 
 -- `plan KIND N L`, and a line for each node in node order
 abbrev pub plan_text : List Name → Plan → List ℕ
-plan_text nodes s = line_text (plan_head s) ++ flat_map (λ u. line_text (node_words nodes s u)) (range_with_len 0 (node_count s.topology))
+plan_text nodes plan = line_text (plan_head plan) ++ flat_map (λ u. line_text (node_words nodes plan u)) (range_with_len 0 (node_count plan.topology))

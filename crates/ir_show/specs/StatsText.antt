@@ -13,12 +13,12 @@ use Rattle.ir_show.specs.Words.{line_text}
 
 -- walk u d is the weight of the walk that the full table prescribes from u to d
 abbrev pub AreWalkWeights : Plan → (ℕ → ℕ → ℕ) → Type 0
-AreWalkWeights s walk =
-    (u d : ℕ) → u < node_count s.topology → d < node_count s.topology → (nodes : List ℕ) × IsPrescribedWalk s.topology (table_port s) u d nodes × (walk_weight s.topology nodes ≡ walk u d)
+AreWalkWeights plan walk =
+    (u d : ℕ) → u < node_count plan.topology → d < node_count plan.topology → (nodes : List ℕ) × IsPrescribedWalk plan.topology (table_port plan) u d nodes × (walk_weight plan.topology nodes ≡ walk u d)
 
 -- distance u d is the distance from u to d
 abbrev pub ArePlanDistances : Plan → (ℕ → ℕ → ℕ) → Type 0
-ArePlanDistances s distance = (u d : ℕ) → u < node_count s.topology → d < node_count s.topology → IsDistance s.topology u d (distance u d)
+ArePlanDistances plan distance = (u d : ℕ) → u < node_count plan.topology → d < node_count plan.topology → IsDistance plan.topology u d (distance u d)
 
 -- the sum over all nodes but u, and over all ordered pairs of two nodes
 abbrev pub sum_from : ℕ → (ℕ → ℕ → ℕ) → ℕ → ℕ
@@ -28,13 +28,13 @@ abbrev pub sum_of_pairs : ℕ → (ℕ → ℕ → ℕ) → ℕ
 sum_of_pairs n weight = sum_by (sum_from n weight) (range_with_len 0 n)
 
 -- Of the first so many nodes u has a row that none exceeds, and it is the first that has.
-pub record IsGreatestAmong (s : Plan) (count u : ℕ) : Type 0 where
+pub record IsGreatestAmong (plan : Plan) (count u : ℕ) : Type 0 where
   pub node : u < count
-  pub greatest : (v : ℕ) → v < count → length (row_in s v) ≤ length (row_in s u)
-  pub first : (v : ℕ) → v < u → length (row_in s v) < length (row_in s u)
+  pub greatest : (v : ℕ) → v < count → length (row_in plan v) ≤ length (row_in plan u)
+  pub first : (v : ℕ) → v < u → length (row_in plan v) < length (row_in plan u)
 
 abbrev pub IsGreatestRow : Plan → ℕ → Type 0
-IsGreatestRow s u = IsGreatestAmong s (node_count s.topology) u
+IsGreatestRow plan u = IsGreatestAmong plan (node_count plan.topology) u
 
 -- the pair u, d stands before a, b: by the first node, then by the second
 abbrev pub IsEarlier : ℕ → ℕ → ℕ → ℕ → Type 0
@@ -66,7 +66,7 @@ count_line what count = line_text (what ∷ decimal count ∷ [])
 
 -- `stats KIND N`
 abbrev pub stats_head : Plan → List (List ℕ)
-stats_head s = codes "stats" ∷ kind_text s.kind ∷ decimal (node_count s.topology) ∷ []
+stats_head plan = codes "stats" ∷ kind_text plan.kind ∷ decimal (node_count plan.topology) ∷ []
 
 -- `WHAT NODE COUNT`
 abbrev pub node_count_line : List Name → List ℕ → ℕ → ℕ → List ℕ
@@ -74,14 +74,14 @@ node_count_line nodes what u count = line_text (what ∷ name_at nodes u ∷ dec
 
 -- the row of a node as the greatest
 abbrev pub greatest_line : List Name → Plan → ℕ → List ℕ
-greatest_line nodes s u = node_count_line nodes (codes "greatest-row") u (length (row_in s u))
+greatest_line nodes plan u = node_count_line nodes (codes "greatest-row") u (length (row_in plan u))
 
 -- the lines that count what a plan holds; full tables would hold an entry for each ordered pair of two nodes
 abbrev pub rows_text : List Name → Plan → ℕ → List ℕ
-rows_text nodes s greatest =
-    (((line_text (stats_head s) ++ count_line (codes "links") (length s.topology.links)) ++ count_line (codes "starts") (sum_by length s.rows))
-    ++ count_line (codes "entries") (node_count s.topology * (node_count s.topology - 1)))
-    ++ greatest_line nodes s greatest
+rows_text nodes plan greatest =
+    (((line_text (stats_head plan) ++ count_line (codes "links") (length plan.topology.links)) ++ count_line (codes "starts") (sum_by length plan.rows))
+    ++ count_line (codes "entries") (node_count plan.topology * (node_count plan.topology - 1)))
+    ++ greatest_line nodes plan greatest
 
 -- the lines that weigh its walks
 abbrev pub weights_text : List Name → ℕ → (ℕ → ℕ → ℕ) → (ℕ → ℕ → ℕ) → Option Pair → List ℕ
@@ -89,13 +89,13 @@ weights_text nodes n walk distance worst =
     (count_line (codes "walks") (sum_of_pairs n walk) ++ count_line (codes "distances") (sum_of_pairs n distance)) ++ worst_line nodes walk distance worst
 
 -- The text has the figures of a plan.
-pub record IsStatsOf (nodes : List Name) (s : Plan) (text : List ℕ) : Type 0 where
+pub record IsStatsOf (nodes : List Name) (plan : Plan) (text : List ℕ) : Type 0 where
   pub greatest : ℕ
-  pub greatest_row : IsGreatestRow s greatest
+  pub greatest_row : IsGreatestRow plan greatest
   pub walk : ℕ → ℕ → ℕ
-  pub walks : AreWalkWeights s walk
+  pub walks : AreWalkWeights plan walk
   pub distance : ℕ → ℕ → ℕ
-  pub distances : ArePlanDistances s distance
+  pub distances : ArePlanDistances plan distance
   pub worst : Option Pair
-  pub worst_pair : IsWorstOf (node_count s.topology) walk distance worst
-  pub whole : text ≡ rows_text nodes s greatest ++ weights_text nodes (node_count s.topology) walk distance worst
+  pub worst_pair : IsWorstOf (node_count plan.topology) walk distance worst
+  pub whole : text ≡ rows_text nodes plan greatest ++ weights_text nodes (node_count plan.topology) walk distance worst

@@ -149,7 +149,7 @@ fn pour_head<W: Writer>(parts: &mut Parts, writer: &mut W, plan: &Plan)
     parts.push(writer, b"plan");
     pour_word(parts, writer, kind_text(plan.kind()));
     pour_number(parts, writer, plan.nodes());
-    pour_number(parts, writer, plan.starts());
+    pour_number(parts, writer, plan.labels());
     parts.push(writer, b"\n");
 }
 

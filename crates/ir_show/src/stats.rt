@@ -104,7 +104,7 @@ fn push_rows(text: &mut String, graph: &Graph, plan: &Plan, greatest: u16) -> Re
     let nodes = plan.nodes();
     push_head(text, plan)?;
     push_count(text, "links", plan.topology().links())?;
-    push_count(text, "starts", plan.starts())?;
+    push_count(text, "starts", plan.labels())?;
     push_count(text, "entries", nodes * (nodes - 1))?;
     push_greatest(text, graph, plan, greatest)?;
     Ok(())

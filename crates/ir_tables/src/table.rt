@@ -187,7 +187,7 @@ impl Table {
 
     /// The weight of the walk that the table prescribes from a node to a destination. Condition: both are nodes. For
     /// users of the library.
-    pub fn weight(&self, node: u16, dest: u16) -> u32
+    pub fn distance(&self, node: u16, dest: u16) -> u32
         requires node { node < table_size self.now }
         requires dest { dest < table_size self.now }
         ensures { result ≡ weight_in self.now node dest }

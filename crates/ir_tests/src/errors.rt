@@ -34,6 +34,50 @@ fn errors_in_words(rt: HostRuntime) {
     );
 }
 
+/// The refusals, each with its number of all, and of those of an install, of a change and of an injection.
+static NUMBERS: [(Refused, [u8; 4]); 16] = [
+    (Refused::NoNode, [1, 1, 0, 1]),
+    (Refused::NoLink, [2, 0, 1, 0]),
+    (Refused::NoChannel, [3, 0, 0, 0]),
+    (Refused::NoEpoch, [4, 0, 1, 0]),
+    (Refused::HandFull, [5, 0, 0, 0]),
+    (Refused::HandEmpty, [6, 0, 0, 0]),
+    (Refused::Empty, [7, 0, 0, 0]),
+    (Refused::BadView, [8, 0, 0, 0]),
+    (Refused::Same, [9, 0, 2, 0]),
+    (Refused::EpochsFull, [10, 2, 0, 0]),
+    (Refused::Disconnected, [11, 3, 0, 0]),
+    (Refused::TooManyPackets, [12, 0, 0, 2]),
+    (Refused::NoMemory, [13, 4, 3, 3]),
+    (Refused::InboxFull, [14, 0, 0, 4]),
+    (Refused::TooManyChanges, [15, 5, 4, 0]),
+    (Refused::Used, [16, 6, 0, 0]),
+];
+
+/// The numbers of a refusal.
+fn numbers(refused: Refused) -> [u8; 4] {
+    [
+        refused.code(),
+        refused.install_number(),
+        refused.change_number(),
+        refused.inject_number(),
+    ]
+}
+
+#[test]
+fn refusals_by_their_numbers(rt: HostRuntime) -> Result<(), Fail> {
+    for (refused, wanted) in &NUMBERS {
+        if numbers(*refused) != *wanted {
+            return Err("another number".into());
+        }
+    }
+    assert!(rt; OpenError::NoNode.code() == 1 && OpenError::Empty.code() == 2);
+    assert!(rt; OpenError::Disconnected.code() == 3 && OpenError::TooLarge.code() == 4);
+    assert!(rt; OpenError::NoMemory.code() == 5 && OpenError::TooManyReaders.code() == 6);
+    assert!(rt; OpenError::Used.code() == 7);
+    Ok(())
+}
+
 /// Faults of a text, in words.
 static FAULTS: [(Fault, &'static str); 6] = [
     (

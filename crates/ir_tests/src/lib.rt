@@ -8,6 +8,8 @@ mod errors;
 #[cfg(test)]
 mod graphs;
 #[cfg(test)]
+mod lanes;
+#[cfg(test)]
 mod networks;
 #[cfg(test)]
 mod numbers;

@@ -92,7 +92,7 @@ fn way_along_tree(alloc: Global, topology: &Topology) -> Option<(Option<u16>, Op
     let ports = numbering.tree_ports(alloc, topology, 0).ok()?;
     let port = ports[numbering.label_of(2) as usize];
     let table = tree_table(alloc, topology, &numbering).ok()?;
-    Some((table.next(0, 2), port, table.weight(0, 2)))
+    Some((table.next(0, 2), port, table.distance(0, 2)))
 }
 
 #[test]

@@ -1,11 +1,10 @@
 //! Openings that are refused, and installs.
 
 use crate::networks::{Edge, HEAVY, PATH, topology_of};
-use ir_core::{Event, Install, Kind, OpenError, Opening, Refused, Step, World, installs};
+use ir_core::{Event, Install, Kind, OpenError, Opening, Step, World, installs};
 use ir_plan::LabelOrder;
 use std::alloc::Global;
 use std::test::Fail;
-use std::thread::Threads;
 
 /// The edges of a network, a root, a capacity, a number of packets and one of restamps, with what a world is opened.
 pub(crate) type Setting = (&'static [Edge], u16, usize, usize, u8);
@@ -13,15 +12,8 @@ pub(crate) type Setting = (&'static [Edge], u16, usize, usize, u8);
 /// The opening of a world along the tree, in depth-first numbers.
 pub(crate) fn along_tree(alloc: Global, setting: &Setting) -> Result<Opening, Fail> {
     let (edges, root, capacity, max_packets, restamps) = *setting;
-    Ok(Opening {
-        topology: topology_of(alloc, edges)?,
-        labels: LabelOrder::DepthFirst,
-        kind: Kind::Tree,
-        root,
-        capacity,
-        max_packets,
-        restamps,
-    })
+    let topology = topology_of(alloc, edges)?;
+    Ok(Opening::of(topology, Kind::Tree, root, capacity, max_packets, restamps))
 }
 
 /// Settings, and why there is no such world.
@@ -43,11 +35,10 @@ static OPENINGS: [(Setting, Option<OpenError>); 8] = [
 fn openings_refused(rt: HostRuntime) -> Result<(), Fail> {
     for (setting, why) in &OPENINGS {
         let opening = along_tree(rt.alloc(), setting)?;
-        if World::new(&rt, rt.alloc(), opening).err() != *why {
+        if World::open(rt.alloc(), opening).err() != *why {
             return Err("another refusal".into());
         }
     }
-    assert!(rt; OpenError::NoMemory.code() == 5 && Refused::Used.code() == 16);
     Ok(())
 }
 
@@ -110,8 +101,8 @@ fn are_built(list: &[Install], epochs: &[Built]) -> bool {
 }
 
 /// Whether steps install these epochs and no other, in depth-first numbers.
-fn is_installed(rt: &(impl Threads + Sync), alloc: Global, opening: &Opening, case: &Case) -> bool {
-    match (installs(rt, alloc, opening, case.1), case.2) {
+fn is_installed(alloc: Global, opening: &Opening, case: &Case) -> bool {
+    match (installs(alloc, opening, case.1), case.2) {
         (Ok(list), Ok(epochs)) => are_built(list.as_slice(), epochs),
         (Err(error), Err(why)) => error == why,
         _ => false,
@@ -122,9 +113,26 @@ fn is_installed(rt: &(impl Threads + Sync), alloc: Global, opening: &Opening, ca
 fn installs_of_a_list(rt: HostRuntime) -> Result<(), Fail> {
     for case in &CASES {
         let opening = along_tree(rt.alloc(), &case.0)?;
-        if !is_installed(&rt, rt.alloc(), &opening, case) {
+        if !is_installed(rt.alloc(), &opening, case) {
             return Err("other epochs".into());
         }
     }
     Ok(())
+}
+
+/// The install of a kind and root over two links that are up, in depth-first numbers.
+fn install(alloc: Global, kind: Kind, root: u16) -> Option<Install> {
+    Some(Install::of(kind, root, vec![in alloc; true; 2].ok()?))
+}
+
+#[test]
+fn an_install_of_its_fields(rt: HostRuntime) {
+    let made = install(rt.alloc(), Kind::Shortest, 2);
+    let both: [bool; 2] = [true, true];
+    assert!(rt;
+        made.is_some_and(|made| {
+            (made.kind, made.root, made.labels) == (Kind::Shortest, 2, LabelOrder::DepthFirst)
+                && made.up.as_slice() == both.as_slice()
+        })
+    );
 }

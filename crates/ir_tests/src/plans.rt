@@ -129,7 +129,7 @@ fn has_rows(plan: &Plan, rows: &[(u16, &[(u16, u16)])]) -> bool {
         }
         starts = starts.saturating_add(row.1.len());
     }
-    plan.nodes() == rows.len() && plan.starts() == starts
+    plan.nodes() == rows.len() && plan.labels() == starts
 }
 
 /// Whether the plan of a case over its topology is as it is to be.

@@ -7,7 +7,6 @@ use ir_core::Step::{Drain, Event};
 use ir_core::{Fate, Kind, Opening, Played, Record, Refused, Reply, Restamp, Step, Way, play};
 use std::alloc::Global;
 use std::test::Fail;
-use std::thread::Threads;
 
 /// What a step is told: its place among the steps, and the reply.
 type Told = (usize, Result<Reply, Refused>);
@@ -158,18 +157,44 @@ fn have_ended(played: &Played, packets: &[Ended]) -> bool {
 }
 
 /// Whether a run comes out as it is to.
-fn is_played(rt: &(impl Threads + Sync), alloc: Global, opening: Opening, run: &Run) -> bool {
-    match play(rt, alloc, opening, run.steps) {
+fn is_played(alloc: Global, opening: Opening, run: &Run) -> bool {
+    match play(alloc, opening, run.steps) {
         Ok(played) => is_told(&played, run.told) && have_ended(&played, run.packets),
         Err(_) => false,
     }
+}
+
+/// The record of a packet that was restamped once and delivered.
+fn record(alloc: Global) -> Option<Record> {
+    let mut hops = Vec::new(alloc);
+    for u in 0..3 {
+        hops.push(u).ok()?;
+    }
+    let mut restamps = Vec::new(alloc);
+    restamps.push(Restamp { epoch: 2, from: 1 }).ok()?;
+    Record::of(7, 1, 0, 2, hops, Fate::Delivered, restamps).ok()
+}
+
+#[test]
+fn a_record_of_its_fields(rt: HostRuntime) {
+    let ended: Ended = (
+        1,
+        &[0, 1, 2],
+        &[Restamp { epoch: 2, from: 1 }],
+        Fate::Delivered,
+    );
+    assert!(rt;
+        record(rt.alloc()).is_some_and(|made| {
+            (made.id, made.source, made.dest) == (7, 0, 2) && is_ended(&made, &ended)
+        })
+    );
 }
 
 #[test]
 fn runs_by_hand(rt: HostRuntime) -> Result<(), Fail> {
     for run in &RUNS {
         let opening = along_tree(rt.alloc(), &run.over)?;
-        if !is_played(&rt, rt.alloc(), opening, run) {
+        if !is_played(rt.alloc(), opening, run) {
             return Err(run.name.into());
         }
     }

@@ -4,7 +4,7 @@ ghost use Rattle.std.specs.Prelude.{◌≡◌, ◌<◌};
 ghost use Rattle.ir_model.specs.{Topology.node_count, Table.table_size};
 
 use crate::networks::{Edge, HEAVY, PATH, topology_of};
-use ir_tables::{Hop, Table, TableError, Topology, UNREACHED, is_port_list};
+use ir_tables::{Hop, Outward, Table, TableError, Topology, UNREACHED, is_port_list};
 use std::alloc::Global;
 use std::test::Fail;
 
@@ -116,7 +116,7 @@ fn has_ways(topology: &Topology, table: &Table, ways: &[Way]) -> bool
         if *u as usize >= topology.nodes() || *d as usize >= topology.nodes() {
             return false;
         }
-        if table.next(*u, *d) != *port || table.weight(*u, *d) != *distance {
+        if table.next(*u, *d) != *port || table.distance(*u, *d) != *distance {
             return false;
         }
     }
@@ -166,7 +166,7 @@ fn agrees(alloc: Global, topology: &Topology, table: &Table, d: u16) -> bool
         return false;
     };
     for (u, weight) in weights.iter().enumerate() {
-        if u >= topology.nodes() || table.weight(u as u16, d) != *weight {
+        if u >= topology.nodes() || table.distance(u as u16, d) != *weight {
             return false;
         }
     }
@@ -272,5 +272,38 @@ fn listed_ports(rt: HostRuntime) -> Result<(), Fail> {
     let mut back = PORTS;
     back[5] = Some(0);
     assert!(rt; !is_port_list(&topology, &back));
+    Ok(())
+}
+
+/// A way that parts behind its second node, and joins again at the last one.
+static JOINED: [Edge; 5] = [
+    ("s", "v", 1),
+    ("v", "x", 1),
+    ("v", "y", 1),
+    ("x", "w", 1),
+    ("y", "w", 1),
+];
+
+/// The nodes to which the first port of the first node leads nearer, by number; none where there is no such port.
+fn led_by_first(alloc: Global, topology: &Topology) -> Option<Vec<u16>> {
+    let Ok(_table) = Table::shortest(alloc, topology) else {
+        return None;
+    };
+    if topology.nodes() == 0 || topology.degree(0) == 0 {
+        return None;
+    }
+    let ways = Outward::from(alloc, topology, 0).ok()?;
+    let mut nodes = ways.nodes_by(alloc, topology, 0).ok()?;
+    nodes.sort().ok()?;
+    Some(nodes)
+}
+
+#[test]
+fn a_port_leads_to_no_node_twice(rt: HostRuntime) -> Result<(), Fail> {
+    let topology = topology_of(rt.alloc(), &JOINED)?;
+    let Some(nodes) = led_by_first(rt.alloc(), &topology) else {
+        return Err("no nodes".into());
+    };
+    assert!(rt; nodes.as_slice() == [1, 2, 3, 4].as_slice());
     Ok(())
 }

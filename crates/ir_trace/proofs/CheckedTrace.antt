@@ -129,7 +129,7 @@ over_from net [] [] are (suc e) above le = absurd (omega arith)
 over_from net [] (t ∷ plans) are (suc e) above le = absurd are
 over_from net (i ∷ installs) [] are (suc e) above le = absurd are
 over_from net (i ∷ installs) (t ∷ plans) are (suc zero) above le =
-    (are.0.3, ap (λ (n : Topology). node_count n) are.0.2 ∙ node_count-restrict i.up.items net)
+    (are.0.valid, ap (λ (n : Topology). node_count n) are.0.over ∙ node_count-restrict i.up.items net)
 over_from net (i ∷ installs) (t ∷ plans) are (suc (suc e)) above le =
     let back : suc (suc e) - 1 ≡ suc e = omega arith in
     let before : suc e - 1 ≡ e = omega arith in
@@ -142,7 +142,7 @@ links_from net installs plans are zero above le = absurd (omega arith)
 links_from net [] [] are (suc e) above le = absurd (omega arith)
 links_from net [] (t ∷ plans) are (suc e) above le = absurd are
 links_from net (i ∷ installs) [] are (suc e) above le = absurd are
-links_from net (i ∷ installs) (t ∷ plans) are (suc zero) above le = ap (λ (n : Topology). n.links) are.0.2
+links_from net (i ∷ installs) (t ∷ plans) are (suc zero) above le = ap (λ (n : Topology). n.links) are.0.over
 links_from net (i ∷ installs) (t ∷ plans) are (suc (suc e)) above le =
     let back : suc (suc e) - 1 ≡ suc e = omega arith in
     let before : suc e - 1 ≡ e = omega arith in

@@ -17,13 +17,13 @@ use Rattle.ir_trace.specs.Checked.{IsInstall, AreInstalls}
 is_install : (o : Setting) (i : Install) (s : Plan) → IsBuiltFrom o i s → IsInstall o.topology i
 is_install o i s built =
     let made = built.1 in
-    let root = made.1 in
-    let nodes = ap (λ (n : Topology). length n.ports) made.2 ∙ node_count-restrict i.up.items o.topology in
-    let root_in = made.3.root_in in
+    let root = made.labelled.1 in
+    let nodes = ap (λ (n : Topology). length n.ports) made.over ∙ node_count-restrict i.up.items o.topology in
+    let root_in = made.valid.root_in in
     record {
       root = omega (arith, root_in, nodes, root);
       marks = built.0;
-      joined = subst (λ (n : Topology). IsConnected n) made.2 made.3.connected;
+      joined = subst (λ (n : Topology). IsConnected n) made.over made.valid.connected;
     }
 
 each_install : (o : Setting) (installs : List Install) (plans : List Plan) → AreBuiltFrom o installs plans → AreInstalls o.topology installs

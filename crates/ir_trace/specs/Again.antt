@@ -16,20 +16,20 @@ use Rattle.ir_trace.specs.Written.{link_at, other_end, records_text, AreWritable
 
 -- the fate of a record, with the ends of its link
 abbrev pub fate_again : Topology → Fate → RowFate
-fate_again net fate.Delivered = read.Delivered
-fate_again net fate.Retired = read.Retired
-fate_again net (fate.Down l) = read.Down (link_at net l).low (link_at net l).high
-fate_again net (fate.Full l to) = read.Full (other_end (link_at net l) to) to
-fate_again net fate.Left = read.Left
+fate_again topology fate.Delivered = read.Delivered
+fate_again topology fate.Retired = read.Retired
+fate_again topology (fate.Down l) = read.Down (link_at topology l).low (link_at topology l).high
+fate_again topology (fate.Full l to) = read.Full (other_end (link_at topology l) to) to
+fate_again topology fate.Left = read.Left
 
 -- the row of a record, as it is read: its weight is that of its hops
 abbrev pub row_again : Topology → Record → TraceRow
-row_again net r = record {
+row_again topology r = record {
   id = r.id;
   source = r.source;
   dest = r.dest;
-  weight = walk_weight net r.hops;
-  fate = fate_again net r.fate;
+  weight = walk_weight topology r.hops;
+  fate = fate_again topology r.fate;
   parts = record { epoch = r.epoch; hops = r.hops } ∷ [];
 }
 
@@ -47,12 +47,12 @@ pub record IsTraceOf (g : Adjacency) (text : List ℕ) (records : List Record) :
 
 -- the row of a record, as it is read: its parts are the segments
 abbrev pub segments_again : Topology → Record → TraceRow
-segments_again net r = record {
+segments_again topology r = record {
   id = r.id;
   source = r.source;
   dest = r.dest;
-  weight = sum_by (λ part. walk_weight net part.hops) (parts_of r);
-  fate = fate_again net r.fate;
+  weight = sum_by (λ part. walk_weight topology part.hops) (parts_of r);
+  fate = fate_again topology r.fate;
   parts = parts_of r;
 }
 

@@ -7,8 +7,8 @@ use Rattle.ir_model.specs.Topology.{Topology, node_count, restrict}
 use Rattle.ir_model.specs.Walk.{IsConnected, IsDistance, walk_weight}
 use Rattle.ir_model.specs.Table.{IsPrescribedWalk}
 use Rattle.ir_model.specs.Plan.{Plan, table_port}
+use Rattle.ir_plan.specs.Building.{FromRoot, IsPlanBy}
 use Rattle.ir_core.specs.declared.built.Install.{Install}
-use Rattle.ir_core.specs.Meaning.{IsMade}
 use Rattle.ir_core.specs.Setting.{no_plan}
 use mathlib.Core.List.{IsPrefix}
 use Rattle.ir_core.specs.Sound.{last_of}
@@ -22,20 +22,20 @@ use Rattle.ir_trace.specs.Row.{Segment, TraceRow}
 -- ---- the epochs
 
 -- What an epoch can be installed with: a mark for each link, of which those that are up join all nodes, and a root.
-pub record IsInstall (net : Topology) (install : Install) : Type 0 where
-  pub root : install.root < node_count net
-  pub marks : length install.up.items ≡ length net.links
-  pub joined : IsConnected (restrict install.up.items net)
+pub record IsInstall (topology : Topology) (install : Install) : Type 0 where
+  pub root : install.root < node_count topology
+  pub marks : length install.up.items ≡ length topology.links
+  pub joined : IsConnected (restrict install.up.items topology)
 
 abbrev pub AreInstalls : Topology → List Install → Type 0
-AreInstalls net installs = (i : ℕ) (install : Install) → slice_get installs i ≡ Some install → IsInstall net install
+AreInstalls topology installs = (i : ℕ) (install : Install) → slice_get installs i ≡ Some install → IsInstall topology install
 
 -- a plan for each epoch: of the kind and root of its install, over the links that were up
 abbrev pub ArePlansOf : Topology → List Install → List Plan → Type 0
-ArePlansOf net [] [] = Unit {0}
-ArePlansOf net [] (t ∷ plans) = ⊥
-ArePlansOf net (i ∷ installs) [] = ⊥
-ArePlansOf net (i ∷ installs) (t ∷ plans) = IsMade i.labels i.kind i.root (restrict i.up.items net) (Some t) × ArePlansOf net installs plans
+ArePlansOf topology [] [] = Unit {0}
+ArePlansOf topology [] (t ∷ plans) = ⊥
+ArePlansOf topology (i ∷ installs) [] = ⊥
+ArePlansOf topology (i ∷ installs) (t ∷ plans) = IsPlanBy (restrict i.up.items topology) i.kind (FromRoot i.labels i.root) t × ArePlansOf topology installs plans
 
 -- the plan of an epoch
 abbrev pub plan_at : List Plan → ℕ → Plan
@@ -123,7 +123,7 @@ ArrivesShortest plans row = row.fate ≡ Delivered → IsOfShortestWays (plan_at
 
 -- the weight is the sum of the weights of the links between neighbours in the hops
 abbrev pub Weighs : Topology → TraceRow → Type 0
-Weighs net row = row.weight ≡ sum_by (λ part. walk_weight net part.hops) row.parts
+Weighs topology row = row.weight ≡ sum_by (λ part. walk_weight topology part.hops) row.parts
 
 -- no row before has the id
 abbrev pub HasNewId : List TraceRow → TraceRow → Type 0
@@ -131,35 +131,35 @@ HasNewId earlier row = (i : ℕ) (other : TraceRow) → slice_get earlier i ≡ 
 
 -- What a row is found to be, after the rows before it: the first of these that doesn't hold.
 abbrev pub IsFindingOf : Topology → List Plan → List TraceRow → TraceRow → FindingKind → Type 0
-IsFindingOf net plans earlier row UnknownEpoch = KnowsEpochs plans row.parts → ⊥
-IsFindingOf net plans earlier row NotAPrefix = KnowsEpochs plans row.parts × (FollowsWalks plans row → ⊥)
-IsFindingOf net plans earlier row NotAtDestination = KnowsEpochs plans row.parts × FollowsWalks plans row × (HasArrived plans row → ⊥)
-IsFindingOf net plans earlier row BadWeight = KnowsEpochs plans row.parts × FollowsWalks plans row × HasArrived plans row × (Weighs net row → ⊥)
-IsFindingOf net plans earlier row Repeated = KnowsEpochs plans row.parts × FollowsWalks plans row × HasArrived plans row × Weighs net row × (HasNewId earlier row → ⊥)
-IsFindingOf net plans earlier row kind = ⊥
+IsFindingOf topology plans earlier row UnknownEpoch = KnowsEpochs plans row.parts → ⊥
+IsFindingOf topology plans earlier row NotAPrefix = KnowsEpochs plans row.parts × (FollowsWalks plans row → ⊥)
+IsFindingOf topology plans earlier row NotAtDestination = KnowsEpochs plans row.parts × FollowsWalks plans row × (HasArrived plans row → ⊥)
+IsFindingOf topology plans earlier row BadWeight = KnowsEpochs plans row.parts × FollowsWalks plans row × HasArrived plans row × (Weighs topology row → ⊥)
+IsFindingOf topology plans earlier row Repeated = KnowsEpochs plans row.parts × FollowsWalks plans row × HasArrived plans row × Weighs topology row × (HasNewId earlier row → ⊥)
+IsFindingOf topology plans earlier row kind = ⊥
 
 -- A row of which there is no finding.
-pub record IsFine (net : Topology) (plans : List Plan) (earlier : List TraceRow) (row : TraceRow) : Type 0 where
+pub record IsFine (topology : Topology) (plans : List Plan) (earlier : List TraceRow) (row : TraceRow) : Type 0 where
   pub epochs : KnowsEpochs plans row.parts
   pub walks : FollowsWalks plans row
   pub arrived : HasArrived plans row
-  pub weight : Weighs net row
+  pub weight : Weighs topology row
   pub new : HasNewId earlier row
 
 abbrev pub AreFine : Topology → List Plan → List TraceRow → Type 0
-AreFine net plans rows = (k : ℕ) (row : TraceRow) → slice_get rows k ≡ Some row → IsFine net plans (take k rows) row
+AreFine topology plans rows = (k : ℕ) (row : TraceRow) → slice_get rows k ≡ Some row → IsFine topology plans (take k rows) row
 
 -- The first finding of a trace: the rows before it are fine. Its line is counted from 1, and the first row is in line 2.
-pub record IsFirstFinding (net : Topology) (plans : List Plan) (rows : List TraceRow) (line : ℕ) (kind : FindingKind) : Type 0 where
+pub record IsFirstFinding (topology : Topology) (plans : List Plan) (rows : List TraceRow) (line : ℕ) (kind : FindingKind) : Type 0 where
   pub good : List TraceRow
   pub row : TraceRow
   pub after : List TraceRow
   pub whole : rows ≡ good ++ row ∷ after
-  pub before : AreFine net plans good
+  pub before : AreFine topology plans good
   pub number : line ≡ length good + 2
-  pub finding : IsFindingOf net plans good row kind
+  pub finding : IsFindingOf topology plans good row kind
 
 -- What is found in the rows. Want of memory has line 0.
 abbrev pub Finds : Topology → List Install → List TraceRow → ℕ → FindingKind → Type 0
-Finds net installs rows line NoMemory = line ≡ 0
-Finds net installs rows line kind = (plans : List Plan) × ArePlansOf net installs plans × IsFirstFinding net plans rows line kind
+Finds topology installs rows line NoMemory = line ≡ 0
+Finds topology installs rows line kind = (plans : List Plan) × ArePlansOf topology installs plans × IsFirstFinding topology plans rows line kind

@@ -64,7 +64,7 @@ has_arrived d fate parts = not (is_delivered fate) || (last_of (last_part parts)
 
 -- the sum of the weights of the parts
 abbrev pub segments_weight : Topology → List Segment → ℕ
-segments_weight net parts = sum_by (λ part. walk_weight net part.hops) parts
+segments_weight topology parts = sum_by (λ part. walk_weight topology part.hops) parts
 
 -- the first that doesn't hold
 abbrev pub first_of_four : Bool → Bool → Bool → Bool → Option FindingKind
@@ -77,11 +77,11 @@ first_of_four known follows arrived weighs =
 
 -- what is found of a row alone
 abbrev pub found_of : Topology → List Plan → TraceRow → Option FindingKind
-found_of net plans row = first_of_four
+found_of topology plans row = first_of_four
     (are_known (length plans) row.parts)
     (are_joined plans row.dest row.source 0 row.parts && goes_on plans row.dest row.fate row.parts)
     (has_arrived row.dest row.fate row.parts)
-    (segments_weight net row.parts == row.weight)
+    (segments_weight topology row.parts == row.weight)
 
 -- the plans of the epochs are over so many nodes
 abbrev pub AreOver : ℕ → List Plan → Type 0
@@ -99,5 +99,5 @@ AreOverPlans plans d parts = (i : ℕ) (part : Segment) → slice_get parts i �
 
 -- what is found in rows, by the plans of the epochs
 abbrev pub FindsBy : Topology → List Plan → List TraceRow → ℕ → FindingKind → Type 0
-FindsBy net plans rows line NoMemory = line ≡ 0
-FindsBy net plans rows line kind = IsFirstFinding net plans rows line kind
+FindsBy topology plans rows line NoMemory = line ≡ 0
+FindsBy topology plans rows line kind = IsFirstFinding topology plans rows line kind

@@ -9,9 +9,9 @@ use Rattle.ir_trace.specs.SoundRows.{IsSoundRow}
 
 -- There is no finding in the rows. So each part of each row is a sound record of one epoch, in the words of the packet
 -- core, and a packet that was delivered in a shortest-path epoch went over its distance there.
-pub record IsSoundTrace (net : Topology) (installs : List Install) (rows : List TraceRow) : Type 0 where
+pub record IsSoundTrace (topology : Topology) (installs : List Install) (rows : List TraceRow) : Type 0 where
   pub plans : List Plan
-  pub of_installs : ArePlansOf net installs plans
-  pub fine : AreFine net plans rows
-  pub sound : (k : ℕ) (row : TraceRow) → slice_get rows k ≡ Some row → IsSoundRow net plans row
+  pub of_installs : ArePlansOf topology installs plans
+  pub fine : AreFine topology plans rows
+  pub sound : (k : ℕ) (row : TraceRow) → slice_get rows k ≡ Some row → IsSoundRow topology plans row
   pub shortest : (k : ℕ) (row : TraceRow) → slice_get rows k ≡ Some row → ArrivesShortest plans row

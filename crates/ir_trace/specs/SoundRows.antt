@@ -30,7 +30,7 @@ IsOrdered (Full from to) = Unit {0}
 IsOrdered Left = Unit {0}
 
 -- Each part is a sound record by the plan of its epoch; and the last is one with the fate of a record whose row this is.
-pub record IsSoundRow (net : Topology) (plans : List Plan) (row : TraceRow) : Type 0 where
+pub record IsSoundRow (topology : Topology) (plans : List Plan) (row : TraceRow) : Type 0 where
   pub each : (i : ℕ) (part : Segment) → slice_get row.parts i ≡ Some part → IsSound (plan_at plans part.epoch) (segment_of row.id row.dest part.epoch part.hops fate.Retired)
   pub last : IsOrdered row.fate
-      → (f : Fate) × (fate_again net f ≡ row.fate) × IsSound (plan_at plans (last_part row.parts).epoch) (segment_of row.id row.dest (last_part row.parts).epoch (last_part row.parts).hops f)
+      → (f : Fate) × (fate_again topology f ≡ row.fate) × IsSound (plan_at plans (last_part row.parts).epoch) (segment_of row.id row.dest (last_part row.parts).epoch (last_part row.parts).hops f)

@@ -10,18 +10,17 @@ ghost use Rattle.ir_trace.specs.Inspect.{is_node, next_of, leads_through, follow
 use crate::MAX_SEGMENTS;
 use crate::finding::{Finding, FindingKind};
 use crate::judging::{
-    are_known, fits_fate, is_node, last_hop, last_of, last_segment, next_of, plan_at, plans_of,
+    are_known, fits_fate, is_node, last_hop, last_of, last_segment, next_of, plan_at, plans_by,
 };
 use crate::reading::Trace;
 use crate::row::{RowFate, Segment, TraceRow};
 use crate::weight::walk_weight;
 use ir_core::Install;
 use ir_model::MAX_NODES;
-use ir_plan::Plan;
+use ir_plan::{Alone, Crew, Plan};
 use ir_tables::Topology;
 use std::alloc::Global;
 use std::collections::BTreeSet;
-use std::thread::Threads;
 
 /// Whether a plan leads from a node through these nodes.
 fn leads_through(plan: &Plan, first: u16, rest: &[u16], dest: u16) -> bool
@@ -158,12 +157,11 @@ fn found_of(topology: &Topology, plans: &[Plan], row: &TraceRow) -> Option<Findi
 /// is not that of the hops; `Repeated` where an earlier line has the id. Where there is none, each segment of each row is
 /// a sound record of its epoch, and a delivered one of a shortest-path epoch went over its distance. The install of
 /// epoch e stands at place e - 1.
-/// Plans of more than 256 nodes are made in threads, where they can be started.
+/// Nothing is started: the plans are made on the thread that calls.
 /// Condition: the trace was read over the topology's graph; each install has a mark for each link, a root that is a
-/// node, and joins all nodes. Takes as long as `judging::plans_of`, O(log k + d) for each hop and O(log r) for each of
+/// node, and joins all nodes. Takes as long as `judging::plans_by`, O(log k + d) for each hop and O(log r) for each of
 /// r rows, for at most k starts and d ports of a node.
 pub fn check_trace(
-    rt: &(impl Threads + Sync),
     alloc: Global,
     topology: &Topology,
     installs: &[Install],
@@ -174,7 +172,24 @@ pub fn check_trace(
     ensures sound { IfOk result (λ _. IsSoundTrace topology.now installs.now trace.now) }
     ensures finding { IfErr result (λ e. Finds topology.now installs.now trace.now e.line e.kind) }
 {
-    let plans = plans_of(rt, alloc, topology, installs)?;
+    check_trace_by(&Alone, alloc, topology, installs, trace)
+}
+
+/// What `check_trace` finds, the rows of the plans made by a crew: those of more than 256 nodes in threads, if it starts
+/// any.
+pub fn check_trace_by(
+    crew: &impl Crew,
+    alloc: Global,
+    topology: &Topology,
+    installs: &[Install],
+    trace: &Trace,
+) -> Result<(), Finding>
+    requires installs { AreInstalls topology.now installs.now }
+    requires rows { AreRowsOver (node_count topology.now) trace.now }
+    ensures sound { IfOk result (λ _. IsSoundTrace topology.now installs.now trace.now) }
+    ensures finding { IfErr result (λ e. Finds topology.now installs.now trace.now e.line e.kind) }
+{
+    let plans = plans_by(crew, alloc, topology, installs)?;
     check_rows(alloc, topology, plans.as_slice(), trace.all())
 }
 

@@ -2,21 +2,21 @@
 //! rows beside them.
 ghost use Rattle.std.specs.Prelude.{◌≡◌, ◌<◌, ◌≤◌, IfOk, length, nat_lt, nat_le, ◌&&◌, Some};
 ghost use Rattle.ir_model.specs.Topology.{node_count, restrict};
-ghost use Rattle.ir_core.specs.{Meaning.IsMade, Sound.last_of};
+ghost use Rattle.ir_core.specs.Sound.{last_of};
+ghost use Rattle.ir_plan.specs.Building.{FromRoot, IsPlanBy};
 ghost use Rattle.ir_trace.specs.Checked.{plan_at, last_part, IsInstall, AreInstalls, ArePlansOf};
 ghost use Rattle.ir_trace.specs.Inspect.{is_node, next_of, are_known, fits_fate};
 
 use crate::row::{RowFate, Segment};
-use ir_core::{BuildError, Install, plan_over};
-use ir_plan::Plan;
+use ir_core::{Install, plan_over_by};
+use ir_plan::{Crew, Plan, PlanError};
 use ir_tables::Topology;
 use std::alloc::{AllocError, Global};
-use std::thread::Threads;
 
-/// The plans of epochs, over the links that were up at their installs, those of more than 256 nodes made in threads.
-/// Refused for memory alone. Takes as long as the plans.
-pub fn plans_of(
-    rt: &(impl Threads + Sync),
+/// The plans of epochs, over the links that were up at their installs, their rows made by a crew. Refused for memory
+/// alone. Takes as long as the plans.
+pub fn plans_by(
+    crew: &impl Crew,
     alloc: Global,
     topology: &Topology,
     installs: &[Install],
@@ -26,27 +26,38 @@ pub fn plans_of(
 {
     let mut plans = Vec::with_capacity(alloc, installs.len())?;
     for install in installs {
-        plans.push(plan_of(rt, alloc, topology, install)?)?;
+        plans.push(plan_by(crew, alloc, topology, install)?)?;
     }
     Ok(plans)
 }
 
 /// The plan of an epoch, over the links that were up at its install.
-fn plan_of(
-    rt: &(impl Threads + Sync),
+fn plan_by(
+    crew: &impl Crew,
     alloc: Global,
     topology: &Topology,
     install: &Install,
 ) -> Result<Plan, AllocError>
     requires { IsInstall topology.now install.now }
-    ensures { IfOk result (λ plan. IsMade install.now.labels install.now.kind install.now.root
-        (restrict install.now.up.items topology.now) (Some plan)) }
+    ensures { IfOk result (IsPlanBy (restrict install.now.up.items topology.now) install.now.kind
+        (FromRoot install.now.labels install.now.root)) }
 {
     let kept = topology.only(alloc, install.up.as_slice())?;
-    match plan_over(rt, alloc, kept, install.labels, install.kind, install.root) {
+    match plan_over_by(
+        crew,
+        alloc,
+        kept,
+        install.labels,
+        install.kind,
+        install.root,
+    ) {
         Ok(plan) => Ok(plan),
-        Err(BuildError::NoMemory) => Err(AllocError),
-        Err(BuildError::Disconnected) => unreachable!(),
+        Err(error) => {
+            if error != PlanError::NoMemory {
+                unreachable!()
+            }
+            Err(AllocError)
+        }
     }
 }
 

@@ -19,7 +19,7 @@ mod weight;
 mod words;
 mod writing;
 
-pub use checking::check_trace;
+pub use checking::{check_trace, check_trace_by};
 pub use finding::{Finding, FindingKind};
 pub use outlet::{Outlet, TraceError};
 pub use reading::{Trace, read_trace};

@@ -161,11 +161,11 @@ module _ (first : Stamp) (later : List Stamp) (is : IsPlan (knows (present_stamp
 -- what is known of a parcel when a node has judged it
 abbrev pub IsJudged : Board → Way → ℕ → Verdict → Parcel → Type 0
 IsJudged b way u v p =
-    IsPlan (knows (stamp_now p)) × (u < node_count (knows (stamp_now p)).topology) × IsDue (knows (stamp_now p)) (present p.journey) u way × (v ≡ parcel_verdict p b false way u)
+    IsPlan (knows (stamp_now p)) × (u < node_count (knows (stamp_now p)).topology) × IsDue (knows (stamp_now p)) (present p.packet) u way × (v ≡ parcel_verdict p b false way u)
 
 module _ (b : Board) (way : Way) (u : ℕ) (p : Parcel) (first : Stamp) (later : List Stamp) (r : Record) (next address : ℕ) (k : IsParcelKept first later r next address) (v : Verdict)
-    (view : (let seen : Parcel = record { journey = r; first = first; later = later; next = next } in seen) ≡ p) (judging : IsJudged b way u v p) (r' : Record) (w : r' ≡ acted u way v r) where
-  inside : IsJudged b way u v (record { journey = r; first = first; later = later; next = next })
+    (view : (let seen : Parcel = record { packet = r; first = first; later = later; next = next } in seen) ≡ p) (judging : IsJudged b way u v p) (r' : Record) (w : r' ≡ acted u way v r) where
+  inside : IsJudged b way u v (record { packet = r; first = first; later = later; next = next })
   inside = subst (λ (x : Parcel). IsJudged b way u v x) (sym view) judging
 
   pub on_kept : (h : Hop) → v ≡ GoesOn h → IsParcelKept first later r' h.node address
@@ -203,13 +203,13 @@ same_full : (u : ℕ) (way : Way) (h : Hop) (r : Record) → (let full : Record 
 same_full u Inbox h r = refl
 same_full u (Link l) h r = refl
 
-pub settles_full : (b : Board) (way : Way) (u : ℕ) (p : Parcel) (h : Hop) (q q' : Parcel) → GoesOnAs b way u p h q → q' ≡ q → (o : Outcome) → o.packet ≡ record q'.journey { fate = Full h.link h.node } → o.stamp ≡ q'.first → o.later.items ≡ q'.later → o.version ≡ b.version →
+pub settles_full : (b : Board) (way : Way) (u : ℕ) (p : Parcel) (h : Hop) (q q' : Parcel) → GoesOnAs b way u p h q → q' ≡ q → (o : Outcome) → o.packet ≡ record q'.packet { fate = Full h.link h.node } → o.stamp ≡ q'.first → o.later.items ≡ q'.later → o.version ≡ b.version →
     SettlesAs b true way u p (NoRoom h) o
 settles_full b way u p h q q' on same o packet stamp later version = record {
-  verdict = judged-if_full (knows (stamp_now p)) b (λ _. true) way u (stamp_of p.journey) p.journey.dest ∙ ap (if_full (λ _. true)) on.verdict;
+  verdict = judged-if_full (knows (stamp_now p)) b (λ _. true) way u (stamp_of p.packet) p.packet.dest ∙ ap (if_full (λ _. true)) on.verdict;
   ends = tt;
-  packet = packet ∙ ap (λ (x : Parcel). let full : Record = record x.journey { fate = Full h.link h.node } in full) same
-      ∙ ap (λ (x : Record). let full : Record = record x { fate = Full h.link h.node } in full) on.journey ∙ same_full u way h p.journey;
+  packet = packet ∙ ap (λ (x : Parcel). let full : Record = record x.packet { fate = Full h.link h.node } in full) same
+      ∙ ap (λ (x : Record). let full : Record = record x { fate = Full h.link h.node } in full) on.packet ∙ same_full u way h p.packet;
   first = stamp ∙ ap (λ (x : Parcel). x.first) same ∙ on.first;
   later = later ∙ ap (λ (x : Parcel). x.later) same ∙ on.later;
   version = version;
@@ -236,16 +236,16 @@ live t b full way u stamp d v e here came = chosen (nat_lt stamp b.floor) refl
     chosen true p = absurd (by_cause (below t b full way u stamp d p))
     chosen false p = grind (arith, common_steps)
 
-pub live_on : (b b' : Board) (way : Way) (u : ℕ) (p : Parcel) (h : Hop) (q : Parcel) → GoesOnAs b way u p h q → b'.floor ≤ b.floor → b'.floor ≤ stamp_of q.journey
+pub live_on : (b b' : Board) (way : Way) (u : ℕ) (p : Parcel) (h : Hop) (q : Parcel) → GoesOnAs b way u p h q → b'.floor ≤ b.floor → b'.floor ≤ stamp_of q.packet
 live_on b b' way u p h q on rises =
-    let lt : b.floor ≤ stamp_of p.journey = live (knows (stamp_now p)) b (λ _. false) way u (stamp_of p.journey) p.journey.dest (GoesOn h) on.verdict (λ e. cc) (λ l e. cc) in
-    let same : stamp_of q.journey ≡ stamp_of p.journey = ap stamp_of on.journey in
+    let lt : b.floor ≤ stamp_of p.packet = live (knows (stamp_now p)) b (λ _. false) way u (stamp_of p.packet) p.packet.dest (GoesOn h) on.verdict (λ e. cc) (λ l e. cc) in
+    let same : stamp_of q.packet ≡ stamp_of p.packet = ap stamp_of on.packet in
     omega arith
 
 pub live_here : (b b' : Board) (refused : Bool) (way : Way) (u : ℕ) (p : Parcel) (v : Verdict) (o : Outcome) → SettlesAs b refused way u p v o → b'.floor ≤ b.floor → v ≡ Arrives → b'.floor ≤ stamp_of o.packet
 live_here b b' refused way u p v o on rises is =
-    let lt : b.floor ≤ stamp_of p.journey = live (knows (stamp_now p)) b (λ _. refused) way u (stamp_of p.journey) p.journey.dest Arrives (on.verdict ∙ is) (λ e. cc) (λ l e. cc) in
-    let same : stamp_of o.packet ≡ stamp_of p.journey = ap stamp_of on.packet in
+    let lt : b.floor ≤ stamp_of p.packet = live (knows (stamp_now p)) b (λ _. refused) way u (stamp_of p.packet) p.packet.dest Arrives (on.verdict ∙ is) (λ e. cc) (λ l e. cc) in
+    let same : stamp_of o.packet ≡ stamp_of p.packet = ap stamp_of on.packet in
     omega arith
 
 -- a packet that is below the floor is of an epoch below it
@@ -338,4 +338,4 @@ cause_of t b full way u d r (GoesOn h) e = tt
 
 pub cause_here : (b : Board) (refused : Bool) (way : Way) (u : ℕ) (p : Parcel) (v : Verdict) (o : Outcome) → SettlesAs b refused way u p v o → CauseHolds b o.packet o.packet.fate
 cause_here b refused way u p v o on =
-    subst (λ (r : Record). CauseHolds b r r.fate) (sym on.packet) (cause_of (knows (stamp_now p)) b (λ _. refused) way u p.journey.dest p.journey v on.verdict)
+    subst (λ (r : Record). CauseHolds b r r.fate) (sym on.packet) (cause_of (knows (stamp_now p)) b (λ _. refused) way u p.packet.dest p.packet v on.verdict)

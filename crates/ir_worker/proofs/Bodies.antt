@@ -20,7 +20,7 @@ use Rattle.ir_worker.proofs.Routes.{room, split_routed}
 -- it is what is seen, and what is true of every parcel holds of it
 abbrev pub IsBodyOf : Parcel → Body → Type 0
 IsBodyOf p b =
-    ((let seen : Parcel = record { journey = b.packet; first = b.first; later = b.later.items; next = b.next } in seen) ≡ p)
+    ((let seen : Parcel = record { packet = b.packet; first = b.first; later = b.later.items; next = b.next } in seen) ≡ p)
     × (IsParcelKept b.first b.later.items b.packet b.next b.address × (MAX_RESTAMPS ≤ vec_capacity b.later) × (length b.later.items ≡ length b.packet.restamps))
 
 -- another body that is the same
@@ -28,9 +28,9 @@ pub body_again : (p : Parcel) (b b' : Body) → b' ≡ b → IsBodyOf p b → Is
 body_again p b b' same is = subst (λ (x : Body). IsBodyOf p x) (sym same) is
 
 -- there is room for a hop, where it came by a link
-pub body_room : (p : Parcel) (b : Body) (u : ℕ) (way : Way) → IsBodyOf p b → IsDue (knows (stamp_now p)) (present p.journey) u way → HasRoomHere way b.packet
+pub body_room : (p : Parcel) (b : Body) (u : ℕ) (way : Way) → IsBodyOf p b → IsDue (knows (stamp_now p)) (present p.packet) u way → HasRoomHere way b.packet
 body_room p b u way is due =
-    room b.first b.later.items b.packet b.next b.address u way is.1.0 (subst (λ (x : Parcel). IsDue (knows (stamp_now x)) (present x.journey) u way) (sym is.0) due)
+    room b.first b.later.items b.packet b.next b.address u way is.1.0 (subst (λ (x : Parcel). IsDue (knows (stamp_now x)) (present x.packet) u way) (sym is.0) due)
 
 -- what comes of it by the plan of its present stamp, from what the code read
 pub body_judged : (p : Parcel) (b : Body) (board : Board) (way : Way) (u : ℕ) (t : Plan) (stamp : ℕ) (v : Verdict) → IsBodyOf p b → IsPlan t → t ≡ knows (stamp_now p) → stamp ≡ stamp_of b.packet →

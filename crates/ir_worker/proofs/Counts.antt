@@ -10,13 +10,13 @@ use Rattle.ir_core.specs.Record.{Record}
 use Rattle.ir_worker.specs.Account.{Head, head_of, one, weigh, weigh_sent, weigh_taken, weigh_settled, IsEven, IsBalanced}
 use Rattle.ir_worker.specs.Wires.{In, Out, after_taking, after_sending, TookAt, SentOver}
 
-more : (w : Record → ℕ) (items : List Parcel) (p : Parcel) → weigh w (items ++ p ∷ []) ≡ weigh w items + w p.journey
-more w items p = sum_by_push (λ (x : Parcel). w x.journey) items p
+more : (w : Record → ℕ) (items : List Parcel) (p : Parcel) → weigh w (items ++ p ∷ []) ≡ weigh w items + w p.packet
+more w items p = sum_by_push (λ (x : Parcel). w x.packet) items p
 
 pub took_weighs : (w : Record → ℕ) (inbox : In) (ins : List In) (inbox' : In) (ins' : List In) (p : Parcel) (k : ℕ) → TookAt inbox ins inbox' ins' p k →
-    weigh w inbox'.taken + weigh_taken w ins' ≡ weigh w inbox.taken + weigh_taken w ins + w p.journey
+    weigh w inbox'.taken + weigh_taken w ins' ≡ weigh w inbox.taken + weigh_taken w ins + w p.packet
 took_weighs w inbox ins inbox' ins' p zero t =
-    let a : weigh w inbox'.taken ≡ weigh w inbox.taken + w p.journey = ap (λ (x : In). weigh w x.taken) t.0 ∙ more w inbox.taken p in
+    let a : weigh w inbox'.taken ≡ weigh w inbox.taken + w p.packet = ap (λ (x : In). weigh w x.taken) t.0 ∙ more w inbox.taken p in
     let b : weigh_taken w ins' ≡ weigh_taken w ins = ap (weigh_taken w) t.1 in
     omega arith
 took_weighs w inbox ins inbox' ins' p (suc j) t =
@@ -31,7 +31,7 @@ took_weighs w inbox ins inbox' ins' p (suc j) t =
     omega arith
 
 pub sent_weighs : (w : Record → ℕ) (ports : List Hop) (outs outs' : List Out) (hop : Hop) (q : Parcel) → SentOver ports outs outs' hop q →
-    weigh_sent w outs' ≡ weigh_sent w outs + w q.journey
+    weigh_sent w outs' ≡ weigh_sent w outs + w q.packet
 sent_weighs w ports outs outs' hop q s =
     let j = s.0 in
     let was = s.1 in
@@ -45,7 +45,7 @@ sent_weighs w ports outs outs' hop q s =
 
 -- a parcel that is taken and sent on, and weighs what it weighed, leaves all even
 pub even_sent : (w : Record → ℕ) (inbox : In) (ins : List In) (inbox' : In) (ins' : List In) (outs outs' : List Out) (outcomes outcomes' : List Outcome) → IsEven w inbox ins outs outcomes →
-    (p q : Parcel) (k : ℕ) → TookAt inbox ins inbox' ins' p k → (ports : List Hop) (hop : Hop) → SentOver ports outs outs' hop q → w q.journey ≡ w p.journey → outcomes' ≡ outcomes →
+    (p q : Parcel) (k : ℕ) → TookAt inbox ins inbox' ins' p k → (ports : List Hop) (hop : Hop) → SentOver ports outs outs' hop q → w q.packet ≡ w p.packet → outcomes' ≡ outcomes →
     IsEven w inbox' ins' outs' outcomes'
 even_sent w inbox ins inbox' ins' outs outs' outcomes outcomes' ok p q k took ports hop sent same kept =
     let b = took_weighs w inbox ins inbox' ins' p k took in
@@ -55,7 +55,7 @@ even_sent w inbox ins inbox' ins' outs outs' outcomes outcomes' ok p q k took po
 
 -- and so does one that is taken and settled
 pub even_settled : (w : Record → ℕ) (inbox : In) (ins : List In) (inbox' : In) (ins' : List In) (outs outs' : List Out) (outcomes outcomes' : List Outcome) → IsEven w inbox ins outs outcomes →
-    (p : Parcel) (k : ℕ) → TookAt inbox ins inbox' ins' p k → outs' ≡ outs → (o : Outcome) → outcomes' ≡ outcomes ++ o ∷ [] → w o.packet ≡ w p.journey →
+    (p : Parcel) (k : ℕ) → TookAt inbox ins inbox' ins' p k → outs' ≡ outs → (o : Outcome) → outcomes' ≡ outcomes ++ o ∷ [] → w o.packet ≡ w p.packet →
     IsEven w inbox' ins' outs' outcomes'
 even_settled w inbox ins inbox' ins' outs outs' outcomes outcomes' ok p k took sent o settled same =
     let b = took_weighs w inbox ins inbox' ins' p k took in
@@ -76,13 +76,13 @@ head_weighs h r = one h (head_of r)
 
 -- so the account stays balanced
 pub balanced_sent : (inbox : In) (ins : List In) (inbox' : In) (ins' : List In) (outs outs' : List Out) (outcomes outcomes' : List Outcome) → IsBalanced inbox ins outs outcomes →
-    (p q : Parcel) (k : ℕ) → TookAt inbox ins inbox' ins' p k → (ports : List Hop) (hop : Hop) → SentOver ports outs outs' hop q → head_of q.journey ≡ head_of p.journey → outcomes' ≡ outcomes →
+    (p q : Parcel) (k : ℕ) → TookAt inbox ins inbox' ins' p k → (ports : List Hop) (hop : Hop) → SentOver ports outs outs' hop q → head_of q.packet ≡ head_of p.packet → outcomes' ≡ outcomes →
     IsBalanced inbox' ins' outs' outcomes'
 balanced_sent inbox ins inbox' ins' outs outs' outcomes outcomes' ok p q k took ports hop sent same kept h =
     even_sent (head_weighs h) inbox ins inbox' ins' outs outs' outcomes outcomes' (ok h) p q k took ports hop sent (ap (one h) same) kept
 
 pub balanced_settled : (inbox : In) (ins : List In) (inbox' : In) (ins' : List In) (outs outs' : List Out) (outcomes outcomes' : List Outcome) → IsBalanced inbox ins outs outcomes →
-    (p : Parcel) (k : ℕ) → TookAt inbox ins inbox' ins' p k → outs' ≡ outs → (o : Outcome) → outcomes' ≡ outcomes ++ o ∷ [] → head_of o.packet ≡ head_of p.journey →
+    (p : Parcel) (k : ℕ) → TookAt inbox ins inbox' ins' p k → outs' ≡ outs → (o : Outcome) → outcomes' ≡ outcomes ++ o ∷ [] → head_of o.packet ≡ head_of p.packet →
     IsBalanced inbox' ins' outs' outcomes'
 balanced_settled inbox ins inbox' ins' outs outs' outcomes outcomes' ok p k took sent o settled same h =
     even_settled (head_weighs h) inbox ins inbox' ins' outs outs' outcomes outcomes' (ok h) p k took sent o settled (ap (one h) same)

@@ -130,11 +130,11 @@ some_left left current e (GoesOn h) is = absurd (none-some e is)
 
 -- and there is room for the hops of one more
 pub room_more : (opening s : Stamp) (restamps allowed had current e : ℕ) (v : Verdict) (p : Parcel) → IsOfNet opening s → HasRoomOf opening restamps p →
-    allowed ≡ restamps → had ≡ length p.journey.restamps → restamp_by (allowed - had) current v ≡ Some e → hop_room (length p.journey.restamps + 1) (node_count (knows s).topology) ≤ p.journey.room
+    allowed ≡ restamps → had ≡ length p.packet.restamps → restamp_by (allowed - had) current v ≡ Some e → hop_room (length p.packet.restamps + 1) (node_count (knows s).topology) ≤ p.packet.room
 room_more opening s restamps allowed had current e v p of roomy all so_far again =
     let some = some_left (allowed - had) current e v again in
     let less = node_count (knows opening).topology - 1 in
-    let le = mul-le (length p.journey.restamps + 1 + 1) less (restamps + 1) less (omega (arith, some, all, so_far)) (omega arith) in
+    let le = mul-le (length p.packet.restamps + 1 + 1) less (restamps + 1) less (omega (arith, some, all, so_far)) (omega arith) in
     rw (roomy, over_nodes (knows opening).topology (knows s).topology of.1) (omega (arith, le))
 
 -- a restamped parcel has all stamps of the net, and is at the node
@@ -152,8 +152,8 @@ restamped_last ports u Inbox e next r came = came.0
 restamped_last ports u (Link l) e next r came = last_of-push r.hops u
 
 -- what was to go on still is, when it comes back
-pub leads_same : (h : Hop) (p q back : Parcel) → LeadsOn (knows (stamp_now p)) (present q.journey) h.link h.node → q.first ≡ p.first → q.later ≡ p.later → back ≡ q → LeadsOn (knows (stamp_now back)) (present back.journey) h.link h.node
+pub leads_same : (h : Hop) (p q back : Parcel) → LeadsOn (knows (stamp_now p)) (present q.packet) h.link h.node → q.first ≡ p.first → q.later ≡ p.later → back ≡ q → LeadsOn (knows (stamp_now back)) (present back.packet) h.link h.node
 leads_same h p q back on first later same =
     let stamps : stamp_now q ≡ stamp_now p = ap (λ (x : Stamp). present_stamp x q.later) first ∙ ap (λ (x : List Stamp). present_stamp p.first x) later in
-    subst (λ (x : Parcel). LeadsOn (knows (stamp_now x)) (present x.journey) h.link h.node) (sym same)
-    (subst (λ (s : Stamp). LeadsOn (knows s) (present q.journey) h.link h.node) (sym stamps) on)
+    subst (λ (x : Parcel). LeadsOn (knows (stamp_now x)) (present x.packet) h.link h.node) (sym same)
+    (subst (λ (s : Stamp). LeadsOn (knows s) (present q.packet) h.link h.node) (sym stamps) on)

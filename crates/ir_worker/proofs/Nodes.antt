@@ -29,17 +29,17 @@ use Rattle.ir_worker.specs.Ends.{CameBy}
 use Rattle.ir_worker.specs.Wires.{In, Out, TookAt, IsWayAt, AreEndsOf}
 use Rattle.ir_worker.proofs.Ways.{place_at}
 
-places_in : (ins : List In) → map (λ (t : In). t.line.place) ins ≡ map (λ (l : Channel Place). l.place) (lines_in ins)
+places_in : (ins : List In) → map (λ (t : In). t.channel.place) ins ≡ map (λ (l : Channel Place). l.place) (lines_in ins)
 places_in [] = refl
-places_in (t ∷ ins) = ap (λ (xs : List Place). t.line.place ∷ xs) (places_in ins)
+places_in (t ∷ ins) = ap (λ (xs : List Place). t.channel.place ∷ xs) (places_in ins)
 
-places_out : (outs : List Out) → map (λ (s : Out). s.line.place) outs ≡ map (λ (l : Channel Place). l.place) (lines_out outs)
+places_out : (outs : List Out) → map (λ (s : Out). s.channel.place) outs ≡ map (λ (l : Channel Place). l.place) (lines_out outs)
 places_out [] = refl
-places_out (s ∷ outs) = ap (λ (xs : List Place). s.line.place ∷ xs) (places_out outs)
+places_out (s ∷ outs) = ap (λ (xs : List Place). s.channel.place ∷ xs) (places_out outs)
 
 -- ends of the same channels are the ends of the same node
 pub ends_kept : (opening : Stamp) (restamps u : ℕ) (ports : List Hop) (inbox : In) (ins : List In) (outs : List Out) (inbox' : In) (ins' : List In) (outs' : List Out) →
-    AreEndsOf opening restamps u ports inbox ins outs → inbox'.line ≡ inbox.line → lines_in ins' ≡ lines_in ins → lines_out outs' ≡ lines_out outs → AreEndsOf opening restamps u ports inbox' ins' outs'
+    AreEndsOf opening restamps u ports inbox ins outs → inbox'.channel ≡ inbox.channel → lines_in ins' ≡ lines_in ins → lines_out outs' ≡ lines_out outs → AreEndsOf opening restamps u ports inbox' ins' outs'
 ends_kept opening restamps u ports inbox ins outs inbox' ins' outs' k a b c = record {
   node_in = k.node_in;
   few = k.few;
@@ -52,11 +52,11 @@ ends_kept opening restamps u ports inbox ins outs inbox' ins' outs' k a b c = re
 
 -- a parcel that was taken goes to the node
 pub record IsTakenBy (opening : Stamp) (restamps u : ℕ) (ports : List Hop) (way : Way) (p : Parcel) : Type 0 where
-  pub came : CameBy ports u way (last_of p.journey.hops) p.next
+  pub came : CameBy ports u way (last_of p.packet.hops) p.next
   pub of_net : All (λ s. IsOfNet opening s) (stamps_of p.first p.later)
-  pub few : length p.journey.restamps ≤ restamps
+  pub few : length p.packet.restamps ≤ restamps
   pub room : HasRoomOf opening restamps p
-  pub is_new : IsNew p.journey (InHand u way)
+  pub is_new : IsNew p.packet (InHand u way)
 
 pub taken_place : (opening : Stamp) (restamps u : ℕ) (ports : List Hop) (inbox : In) (ins : List In) (outs : List Out) → AreEndsOf opening restamps u ports inbox ins outs →
     (inbox' : In) (ins' : List In) (p : Parcel) (k : ℕ) → TookAt inbox ins inbox' ins' p k → (way : Way) → IsWayAt ports way k → IsTakenBy opening restamps u ports way p
@@ -65,7 +65,7 @@ taken_place opening restamps u ports inbox ins outs is inbox' ins' p zero took w
     subst (λ (w : Way). IsTakenBy opening restamps u ports w p) (sym by) (record { came = (goes.last, goes.next); of_net = goes.of_net; few = goes.few; room = goes.room; is_new = goes.fresh refl })
 taken_place opening restamps u ports inbox ins outs is inbox' ins' p (suc j) took way by =
     let mine = by.0 in
-    let here = place_at (λ (t : In). t.line.place) ins (λ (h : Hop). net_place opening restamps h.node u) ports is.in_places j mine by.1 took.1.0 took.1.1 in
+    let here = place_at (λ (t : In). t.channel.place) ins (λ (h : Hop). net_place opening restamps h.node u) ports is.in_places j mine by.1 took.1.0 took.1.1 in
     let goes : GoesTo p (net_place opening restamps mine.node u) = subst (λ (x : Place). GoesTo p x) here took.1.3 in
     subst (λ (w : Way). IsTakenBy opening restamps u ports w p) (sym by.2) (record { came = (goes.next, (j, mine, by.1, refl, goes.last)); of_net = goes.of_net; few = goes.few; room = goes.room; is_new = tt })
 
@@ -80,11 +80,11 @@ pub same_of_net : (opening : Stamp) (restamps : ℕ) (outcomes outcomes' : List 
 same_of_net opening restamps outcomes outcomes' is e = subst (λ (xs : List Outcome). ∥ AreOfNet opening restamps xs ∥₁) (sym e) is
 
 pub more_of_net : (opening : Stamp) (restamps : ℕ) (outcomes outcomes' : List Outcome) (o : Outcome) → ∥ AreOfNet opening restamps outcomes ∥₁ → outcomes' ≡ outcomes ++ o ∷ [] →
-    (p : Parcel) → All (λ s. IsOfNet opening s) (stamps_of p.first p.later) → length p.journey.restamps ≤ restamps → o.stamp ≡ p.first → o.later.items ≡ p.later → o.packet.restamps ≡ p.journey.restamps → ∥ AreOfNet opening restamps outcomes' ∥₁
+    (p : Parcel) → All (λ s. IsOfNet opening s) (stamps_of p.first p.later) → length p.packet.restamps ≤ restamps → o.stamp ≡ p.first → o.later.items ≡ p.later → o.packet.restamps ≡ p.packet.restamps → ∥ AreOfNet opening restamps outcomes' ∥₁
 more_of_net opening restamps outcomes outcomes' o is e p of few first later same =
     let here : IsOutcomeOf opening restamps o = record {
       of_net = subst (λ (x : List Stamp). All (λ (s : Stamp). IsOfNet opening s) x) (sym (ap (λ (x : Stamp). stamps_of x o.later.items) first ∙ ap (λ (x : List Stamp). stamps_of p.first x) later)) of;
-      few = let n : length o.packet.restamps ≡ length p.journey.restamps = ap length same in omega arith;
+      few = let n : length o.packet.restamps ≡ length p.packet.restamps = ap length same in omega arith;
     } in
     ∥∥₁_elim is ∥∥₁_prop (λ all. ∣ subst (λ (xs : List Outcome). AreOfNet opening restamps xs) (sym e) (All-push (IsOutcomeOf opening restamps) outcomes o all here) ∣₁)
 
@@ -94,7 +94,7 @@ current_of_net opening entries s is a b =
     (is.registry ∙ a, subst (λ (x : Topology). IsOver x (knows s).topology) b is.over)
 
 -- a restamp changes no head
-pub head_with : (x : Option ℕ) (current : Stamp) (way : Way) (u : ℕ) (p : Parcel) → head_of (with_restamp x current way u p).journey ≡ head_of p.journey
+pub head_with : (x : Option ℕ) (current : Stamp) (way : Way) (u : ℕ) (p : Parcel) → head_of (with_restamp x current way u p).packet ≡ head_of p.packet
 head_with None current way u p = refl
 head_with (Some e) current way u p = refl
 

@@ -41,15 +41,15 @@ never_now p entries never = ap (λ (xs : List Entry). p (board_of xs).current) (
 
 -- a restamp is of the current epoch
 module _ (p : ℕ → Bool) (b : Board) (none : p b.current ≡ false) (x : Parcel) (current : Stamp) (way : Way) (u : ℕ) where
-  by_left : (r : Bool) → restamps_with p (with_restamp (cond r (Some b.current) None) current way u x).journey ≡ restamps_with p x.journey
+  by_left : (r : Bool) → restamps_with p (with_restamp (cond r (Some b.current) None) current way u x).packet ≡ restamps_with p x.packet
   by_left true =
-      let s : Restamp = record { epoch = b.current; from = length (hops_here way u x.journey.hops) - 1 } in
+      let s : Restamp = record { epoch = b.current; from = length (hops_here way u x.packet.hops) - 1 } in
       let here : cond {A = ℕ} (p b.current) 1 0 ≡ 0 = ap (λ (r : Bool). cond {A = ℕ} r 1 0) none in
-      sum_by_push (λ (s : Restamp). cond (p s.epoch) 1 0) x.journey.restamps s ∙ ap (λ (k : ℕ). restamps_with p x.journey + k) here
-      ∙ (let z : restamps_with p x.journey + 0 ≡ restamps_with p x.journey = omega arith in z)
+      sum_by_push (λ (s : Restamp). cond (p s.epoch) 1 0) x.packet.restamps s ∙ ap (λ (k : ℕ). restamps_with p x.packet + k) here
+      ∙ (let z : restamps_with p x.packet + 0 ≡ restamps_with p x.packet = omega arith in z)
   by_left false = refl
 
-  by_verdict : (k : ℕ) (v : Verdict) → restamps_with p (with_restamp (restamp_by k b.current v) current way u x).journey ≡ restamps_with p x.journey
+  by_verdict : (k : ℕ) (v : Verdict) → restamps_with p (with_restamp (restamp_by k b.current v) current way u x).packet ≡ restamps_with p x.packet
   by_verdict k (CameByDown l) = refl
   by_verdict k BelowFloor = by_left (nat_lt 0 k)
   by_verdict k Arrives = refl
@@ -57,8 +57,8 @@ module _ (p : ℕ → Bool) (b : Board) (none : p b.current ≡ false) (x : Parc
   by_verdict k (NoRoom h) = refl
   by_verdict k (GoesOn h) = refl
 
-  pub ready_weighs : (allowed : ℕ) → restamps_with p (with_restamp (restamp_on allowed x b way u) current way u x).journey ≡ restamps_with p x.journey
-  ready_weighs allowed = by_verdict (allowed - length x.journey.restamps) (parcel_verdict x b false way u)
+  pub ready_weighs : (allowed : ℕ) → restamps_with p (with_restamp (restamp_on allowed x b way u) current way u x).packet ≡ restamps_with p x.packet
+  ready_weighs allowed = by_verdict (allowed - length x.packet.restamps) (parcel_verdict x b false way u)
 
 -- what a node keeps where it reads on
 pub known_later : (old new : List Entry) (inbox : In) (ins : List In) (outs : List Out) (outcomes outcomes' : List Outcome) → AreRestampsKnown old inbox ins outs outcomes → IsPrefix old new → outcomes' ≡ outcomes → AreRestampsKnown new inbox ins outs outcomes'
@@ -70,8 +70,8 @@ known_same entries inbox ins outs outcomes outcomes' known same p never = same_e
 
 module _ (old new : List Entry) (is : IsPrefix old new) (b : Board) (board : b ≡ board_of new) (allowed : ℕ) (x x' : Parcel) (current : Stamp) (way : Way) (u : ℕ)
     (ready : x' ≡ with_restamp (restamp_on allowed x b way u) current way u x) where
-  weighs : (p : ℕ → Bool) → NeverCurrent p new → restamps_with p x'.journey ≡ restamps_with p x.journey
-  weighs p never = ap (λ (y : Parcel). restamps_with p y.journey) ready ∙ ready_weighs p b (ap (λ (z : Board). p z.current) board ∙ never_now p new never) x current way u allowed
+  weighs : (p : ℕ → Bool) → NeverCurrent p new → restamps_with p x'.packet ≡ restamps_with p x.packet
+  weighs p never = ap (λ (y : Parcel). restamps_with p y.packet) ready ∙ ready_weighs p b (ap (λ (z : Board). p z.current) board ∙ never_now p new never) x current way u allowed
 
   -- a parcel that was taken and sent on
   pub known_sent : (inbox : In) (ins : List In) (inbox' : In) (ins' : List In) (outs outs' : List Out) (outcomes outcomes' : List Outcome) → AreRestampsKnown old inbox ins outs outcomes →
@@ -79,7 +79,7 @@ module _ (old new : List Entry) (is : IsPrefix old new) (b : Board) (board : b �
       AreRestampsKnown new inbox' ins' outs' outcomes'
   known_sent inbox ins inbox' ins' outs outs' outcomes outcomes' known k took way' h q on ports sent kept p never =
       even_sent (restamps_with p) inbox ins inbox' ins' outs outs' outcomes outcomes' (known p (never_earlier p old new is never)) x q k took ports h sent
-      (ap (restamps_with p) on.journey ∙ weighs p never) kept
+      (ap (restamps_with p) on.packet ∙ weighs p never) kept
 
   -- a parcel that was taken and settled
   pub known_settled : (inbox : In) (ins : List In) (inbox' : In) (ins' : List In) (outs outs' : List Out) (outcomes outcomes' : List Outcome) → AreRestampsKnown old inbox ins outs outcomes →

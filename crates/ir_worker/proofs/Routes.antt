@@ -164,15 +164,15 @@ room first later r next address u (Link l) k due =
 -- a restamped parcel is kept
 abbrev pub IsRestampable : Stamp → ℕ → Way → Parcel → Type 0
 IsRestampable s u way p =
-    (node_count (knows s).topology ≡ node_count (knows (present_stamp p.first p.later)).topology) × IsDue (knows (present_stamp p.first p.later)) (present p.journey) u way
-    × IsNew p.journey (InHand u way) × (stamp_of p.journey < s.epoch) × (length p.journey.restamps < MAX_RESTAMPS)
-    × (hop_room (length p.journey.restamps + 1) (node_count (knows s).topology) ≤ p.journey.room)
+    (node_count (knows s).topology ≡ node_count (knows (present_stamp p.first p.later)).topology) × IsDue (knows (present_stamp p.first p.later)) (present p.packet) u way
+    × IsNew p.packet (InHand u way) × (stamp_of p.packet < s.epoch) × (length p.packet.restamps < MAX_RESTAMPS)
+    × (hop_room (length p.packet.restamps + 1) (node_count (knows s).topology) ≤ p.packet.room)
 
 pub restamp_kept : (first : Stamp) (later : List Stamp) (s : Stamp) (u : ℕ) (way : Way) (r : Record) (next address : ℕ) → IsParcelKept first later r next address → u < node_count (knows s).topology →
-    (p : Parcel) → (let seen : Parcel = record { journey = r; first = first; later = later; next = next } in seen) ≡ p → IsRestampable s u way p →
+    (p : Parcel) → (let seen : Parcel = record { packet = r; first = first; later = later; next = next } in seen) ≡ p → IsRestampable s u way p →
     (address' : ℕ) → address' ≡ label_in (knows s) r.dest → (later' : List Stamp) → later' ≡ later ++ s ∷ [] → (r' : Record) → r' ≡ restamped u way s.epoch r → IsParcelKept first later' r' u address'
 restamp_kept first later s u way r next address k u_in p view may address' label later' grown r' made =
-    let ok : IsRestampable s u way (record { journey = r; first = first; later = later; next = next }) = subst (λ (x : Parcel). IsRestampable s u way x) (sym view) may in
+    let ok : IsRestampable s u way (record { packet = r; first = first; later = later; next = next }) = subst (λ (x : Parcel). IsRestampable s u way x) (sym view) may in
     let is = (present_stamp first later).sound in
     let routed = restamp_routed first later s u way r is k.routed u_in ok.0 ok.1 ok.2 ok.3 ok.4 in
     let before = subst (AreOverNodes (node_count (knows first).topology)) (split_of first later) k.nodes in

@@ -24,7 +24,7 @@ abbrev pub one : (Head → Bool) → Head → ℕ
 one p h = cond (p h) 1 0
 
 abbrev pub times : (Head → Bool) → List Parcel → ℕ
-times p items = sum_by (λ x. one p (head_of x.journey)) items
+times p items = sum_by (λ x. one p (head_of x.packet)) items
 
 abbrev pub times_settled : (Head → Bool) → List Outcome → ℕ
 times_settled p outcomes = sum_by (λ o. one p (head_of o.packet)) outcomes
@@ -42,7 +42,7 @@ IsBalanced inbox ins outs outcomes =
 
 -- what records weigh that were taken, sent and settled, whatever each record weighs
 abbrev pub weigh : (Record → ℕ) → List Parcel → ℕ
-weigh w items = sum_by (λ x. w x.journey) items
+weigh w items = sum_by (λ x. w x.packet) items
 
 abbrev pub weigh_settled : (Record → ℕ) → List Outcome → ℕ
 weigh_settled w outcomes = sum_by (λ o. w o.packet) outcomes
@@ -72,7 +72,7 @@ AreRestampsKnown entries inbox ins outs outcomes = (p : ℕ → Bool) → NeverC
 
 -- the channels of ends
 abbrev pub lines_out : List (Sender Place Parcel) → List (Channel Place)
-lines_out outs = map (λ s. s.line) outs
+lines_out outs = map (λ s. s.channel) outs
 
 abbrev pub lines_in : List (Taker Place Parcel) → List (Channel Place)
-lines_in ins = map (λ t. t.line) ins
+lines_in ins = map (λ t. t.channel) ins

@@ -19,18 +19,18 @@ use Rattle.ir_worker.specs.Seen.{Parcel, stamp_now}
 -- The core's verdict on a parcel that the node u took by this way, by a board and the plan that the stamp of its present
 -- segment knows. `full` tells whether the channel that it is to leave by is full.
 abbrev pub parcel_verdict : Parcel → Board → Bool → Way → ℕ → Verdict
-parcel_verdict p b full way u = judged (knows (stamp_now p)) b (λ _. full) way u (stamp_of p.journey) p.journey.dest
+parcel_verdict p b full way u = judged (knows (stamp_now p)) b (λ _. full) way u (stamp_of p.packet) p.packet.dest
 
 -- The epoch that it is restamped with: the current one, where its own is retired and it has had fewer restamps than are
 -- allowed.
 abbrev pub restamp_on : ℕ → Parcel → Board → Way → ℕ → Option ℕ
-restamp_on allowed p b way u = restamp_by (allowed - length p.journey.restamps) b.current (parcel_verdict p b false way u)
+restamp_on allowed p b way u = restamp_by (allowed - length p.packet.restamps) b.current (parcel_verdict p b false way u)
 
 -- The parcel after that: a new segment begins at u, of the current stamp. It is then judged as one from the inbox of u.
 abbrev pub with_restamp : Option ℕ → Stamp → Way → ℕ → Parcel → Parcel
 with_restamp None current way u p = p
 with_restamp (Some e) current way u p =
-    record { journey = restamped u way e p.journey; first = p.first; later = p.later ++ current ∷ []; next = u }
+    record { packet = restamped u way e p.packet; first = p.first; later = p.later ++ current ∷ []; next = u }
 
 abbrev pub way_then : Option ℕ → Way → Way
 way_then None way = way
@@ -39,7 +39,7 @@ way_then (Some e) way = Inbox
 -- The node u sends p on over the hop, as q.
 pub record GoesOnAs (b : Board) (way : Way) (u : ℕ) (p : Parcel) (h : Hop) (q : Parcel) : Type 0 where
   pub verdict : parcel_verdict p b false way u ≡ GoesOn h
-  pub journey : q.journey ≡ acted u way (GoesOn h) p.journey
+  pub packet : q.packet ≡ acted u way (GoesOn h) p.packet
   pub first : q.first ≡ p.first
   pub later : q.later ≡ p.later
   pub next : q.next ≡ h.node
@@ -57,7 +57,7 @@ IsEnd (GoesOn h) = ⊥
 pub record SettlesAs (b : Board) (refused : Bool) (way : Way) (u : ℕ) (p : Parcel) (v : Verdict) (o : Outcome) : Type 0 where
   pub verdict : parcel_verdict p b refused way u ≡ v
   pub ends : IsEnd v
-  pub packet : o.packet ≡ acted u way v p.journey
+  pub packet : o.packet ≡ acted u way v p.packet
   pub first : o.stamp ≡ p.first
   pub later : o.later.items ≡ p.later
   pub version : o.version ≡ b.version

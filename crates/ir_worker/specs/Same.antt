@@ -11,7 +11,7 @@ pub record IsSameNode (before after : Node) : Type 0 where
   pub opening : after.opening ≡ before.opening
   pub restamps : after.restamps ≡ before.restamps
   pub ports : after.ports.items ≡ before.ports.items
-  pub inbox : after.entrances.inbox.line ≡ before.entrances.inbox.line
+  pub inbox : after.entrances.inbox.channel ≡ before.entrances.inbox.channel
   pub ins : lines_in after.entrances.ports.items ≡ lines_in before.entrances.ports.items
   pub outs : lines_out after.outs.items ≡ lines_out before.outs.items
   pub reader : reader_board after.reader ≡ reader_board before.reader

@@ -15,7 +15,7 @@ use Rattle.ir_worker.specs.declared.parcel.Place.{Place}
 
 -- A packet's record so far, its first stamp and those of its later segments, and the node that it goes to.
 pub record Parcel : Type 0 where
-  pub journey : Record
+  pub packet : Record
   pub first : Stamp
   pub later : List Stamp
   pub next : ℕ
@@ -107,18 +107,18 @@ IsOfNet opening s = (registry_name s ≡ registry_name opening) × IsOver (knows
 
 -- the record has the room of a net of the opening's stamp that allows so many restamps
 abbrev pub HasRoomOf : Stamp → ℕ → Parcel → Type 0
-HasRoomOf opening restamps p = p.journey.room ≡ hop_room restamps (node_count (knows opening).topology)
+HasRoomOf opening restamps p = p.packet.room ≡ hop_room restamps (node_count (knows opening).topology)
 
 -- A parcel goes to a place of its net if its last hop is the place's first node and the node that it goes to the
 -- second, all its stamps are of the net, its record has the room of the net, and it has had no more restamps than the net
 -- allows, and none in an inbox.
 pub record GoesTo (p : Parcel) (place : Place) : Type 0 where
-  pub last : last_of p.journey.hops ≡ place.from
+  pub last : last_of p.packet.hops ≡ place.from
   pub next : p.next ≡ place.to
   pub of_net : All (λ s. IsOfNet place.opening s) (stamps_of p.first p.later)
-  pub few : length p.journey.restamps ≤ place.restamps
+  pub few : length p.packet.restamps ≤ place.restamps
   pub room : HasRoomOf place.opening place.restamps p
-  pub fresh : place.from ≡ place.to → p.journey.restamps ≡ []
+  pub fresh : place.from ≡ place.to → p.packet.restamps ≡ []
 
 -- a place of the net of the opening's stamp, which allows so many restamps
 abbrev pub net_place : Stamp → ℕ → ℕ → ℕ → Place

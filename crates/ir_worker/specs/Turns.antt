@@ -56,7 +56,7 @@ pub record Sends (a b : Node) (id to : ℕ) : Type 0 where
   pub parcel : Parcel
   pub way : Way
   pub takes : Takes a b parcel way
-  pub number : parcel.journey.id ≡ id
+  pub number : parcel.packet.id ≡ id
   pub current : Stamp
   pub is_current : IsCurrent (known b.reader) current
   pub hop : Hop
@@ -65,7 +65,7 @@ pub record Sends (a b : Node) (id to : ℕ) : Type 0 where
   pub node : hop.node ≡ to
   pub sent : SentOver a.ports.items a.outs.items b.outs.items hop onward
   pub outcomes : b.outcomes.items ≡ a.outcomes.items
-  pub live : (board_in a).floor ≤ stamp_of onward.journey
+  pub live : (board_in a).floor ≤ stamp_of onward.packet
 
 -- for want of memory nothing was polled, and all is as it was
 pub record IsUntouched (a b : Node) : Type 0 where
@@ -88,7 +88,7 @@ module _ (was_full was_empty : Word Parcel) where
     pub parcel : Parcel
     pub way : Way
     pub takes : Takes a b parcel way
-    pub number : parcel.journey.id ≡ id
+    pub number : parcel.packet.id ≡ id
     pub current : Stamp
     pub is_current : IsCurrent (known b.reader) current
     pub refused : Bool

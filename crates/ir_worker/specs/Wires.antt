@@ -33,9 +33,9 @@ way_after ports k = cond (nat_lt k ports) (k + 1) 0
 
 -- One parcel was taken on way k, and nothing on the others: the inbox is way 0, and port j is way j + 1.
 abbrev pub TookAt : In → List In → In → List In → Parcel → ℕ → Type 0
-TookAt inbox ins inbox' ins' p zero = (inbox' ≡ after_taking inbox p) × (ins' ≡ ins) × GoesTo p inbox.line.place
+TookAt inbox ins inbox' ins' p zero = (inbox' ≡ after_taking inbox p) × (ins' ≡ ins) × GoesTo p inbox.channel.place
 TookAt inbox ins inbox' ins' p (suc j) =
-    (inbox' ≡ inbox) × ((t : In) × (slice_get ins j ≡ Some t) × (ins' ≡ slice_set ins j (after_taking t p)) × GoesTo p t.line.place)
+    (inbox' ≡ inbox) × ((t : In) × (slice_get ins j ≡ Some t) × (ins' ≡ slice_set ins j (after_taking t p)) × GoesTo p t.channel.place)
 
 -- the way by which the core takes from way k of a node with these ports
 abbrev pub IsWayAt : List Hop → Way → ℕ → Type 0
@@ -76,6 +76,6 @@ pub record AreEndsOf (opening : Stamp) (restamps u : ℕ) (ports : List Hop) (in
   pub few : node_count (knows opening).topology ≤ MAX_NODES
   pub few_restamps : restamps ≤ MAX_RESTAMPS
   pub all_ports : ports ≡ ports_of (knows opening).topology u
-  pub inbox_place : inbox.line.place ≡ net_place opening restamps u u
-  pub in_places : map (λ (t : In). t.line.place) ins ≡ map (λ (h : Hop). net_place opening restamps h.node u) ports
-  pub out_places : map (λ (s : Out). s.line.place) outs ≡ map (λ (h : Hop). net_place opening restamps u h.node) ports
+  pub inbox_place : inbox.channel.place ≡ net_place opening restamps u u
+  pub in_places : map (λ (t : In). t.channel.place) ins ≡ map (λ (h : Hop). net_place opening restamps h.node u) ports
+  pub out_places : map (λ (s : Out). s.channel.place) outs ≡ map (λ (h : Hop). net_place opening restamps u h.node) ports

@@ -48,7 +48,7 @@ impl Entrances {
             ((self.new.inbox ≡ self.old.inbox) × (self.new.ports.items ≡ self.old.ports.items))
             (λ p. TookAt self.old.inbox self.old.ports.items self.new.inbox self.new.ports.items p self.old.next) }
         ensures empty { IfNone result (WasEmptyAt R.was_empty self.old.inbox self.old.ports.items self.old.next) }
-        ensures inbox { self.new.inbox.line ≡ self.old.inbox.line }
+        ensures inbox { self.new.inbox.channel ≡ self.old.inbox.channel }
         ensures ins { lines_in self.new.ports.items ≡ lines_in self.old.ports.items }
     {
         let way = self.next;

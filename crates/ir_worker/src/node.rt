@@ -9,10 +9,11 @@ ghost use Rattle.ir_core.specs.Record.{Record};
 use crate::entrances::Entrances;
 use crate::parcel::{Outcome, Parcel};
 use crate::passing::{pass_on, ready};
+use crate::serving::NoMemory;
 use ir_core::{Hop, Way};
 use ir_epochs::{BoardReader, BoardWriter, Receipt, Registry, Stamp};
 use ir_links::{Bound, Moments, Sender, Taker};
-use std::alloc::{AllocError, Global};
+use std::alloc::Global;
 use std::sync::atomic::{AtomicU32, Ordering};
 use std::sync::{Arc, Wait};
 
@@ -160,7 +161,7 @@ impl Node {
     /// then read.
     ///
     /// Where there is no memory for the outcome nothing is polled.
-    pub fn turn<R: Moments<Parcel>>(&mut self, rt: &R) -> Result<Turn, AllocError>
+    pub fn turn<R: Moments<Parcel>>(&mut self, rt: &R) -> Result<Turn, NoMemory>
         ensures { MatchResult result (λ turn. IsTurn R.was_full R.was_empty self.old self.new turn)
             (λ _. IsUntouched self.old self.new) }
     {

@@ -52,7 +52,7 @@ impl Model for Parcel {
     ghost Value = { Parcel };
 
     ghost view = { λ p. record {
-      journey = p.body.value.packet;
+      packet = p.body.value.packet;
       first = p.body.value.first;
       later = p.body.value.later.items;
       next = p.body.value.next;
@@ -68,7 +68,7 @@ impl Bound for Parcel {
 
     ghost use Rattle.ir_worker.specs.Seen.{GoesTo};
 
-    ghost id_of = { λ p. p.journey.id };
+    ghost id_of = { λ p. p.packet.id };
 
     ghost goes_to = { GoesTo };
 
@@ -108,7 +108,7 @@ impl Parcel {
         requires dest { dest < node_count (knows stamp).topology }
         requires few { node_count (knows stamp).topology ≤ MAX_NODES }
         ensures { IfOk result (λ p. p ≡ record {
-          journey = fresh id stamp.epoch source dest (hop_room restamps (node_count (knows stamp).topology));
+          packet = fresh id stamp.epoch source dest (hop_room restamps (node_count (knows stamp).topology));
           first = stamp;
           later = [];
           next = source;
@@ -135,33 +135,33 @@ impl Parcel {
 
     /// The epoch that it was stamped with first.
     pub fn epoch(&self) -> u32
-        ensures { result ≡ self.now.journey.epoch }
+        ensures { result ≡ self.now.packet.epoch }
     {
         self.body.packet.epoch
     }
 
     /// The destination's label in the plan of its present stamp.
     pub fn address(&self) -> u16
-        ensures { result ≡ label_in (knows (stamp_now self.now)) self.now.journey.dest }
+        ensures { result ≡ label_in (knows (stamp_now self.now)) self.now.packet.dest }
     {
         self.body.address
     }
 
     pub fn source(&self) -> u16
-        ensures { result ≡ self.now.journey.source }
+        ensures { result ≡ self.now.packet.source }
     {
         self.body.packet.source
     }
 
     pub fn dest(&self) -> u16
-        ensures { result ≡ self.now.journey.dest }
+        ensures { result ≡ self.now.packet.dest }
     {
         self.body.packet.dest
     }
 
     /// The nodes that it came by, its source first.
     pub fn hops(&self) -> &[u16]
-        ensures { result.now ≡ self.now.journey.hops }
+        ensures { result.now ≡ self.now.packet.hops }
     {
         self.body.packet.hops.as_slice()
     }
@@ -176,9 +176,9 @@ impl Parcel {
     /// The stamp of its present segment.
     pub fn stamp(&self) -> &Stamp
         ensures stamp { result.now ≡ stamp_now self.now }
-        ensures epoch { stamp_of self.now.journey ≡ result.now.epoch }
-        ensures under_way { IsSegmentUnderWay (knows (stamp_now self.now)) (present self.now.journey) self.now.next }
-        ensures last { last_of (present self.now.journey).hops ≡ last_of self.now.journey.hops }
+        ensures epoch { stamp_of self.now.packet ≡ result.now.epoch }
+        ensures under_way { IsSegmentUnderWay (knows (stamp_now self.now)) (present self.now.packet) self.now.next }
+        ensures last { last_of (present self.now.packet).hops ≡ last_of self.now.packet.hops }
     {
         match self.body.later.as_slice().last() {
             None => &self.body.first,
@@ -188,7 +188,7 @@ impl Parcel {
 
     // How many restamps it has had.
     pub(crate) fn restamped(&self) -> usize
-        ensures { result ≡ length self.now.journey.restamps }
+        ensures { result ≡ length self.now.packet.restamps }
     {
         self.body.packet.restamp_count()
     }
@@ -209,14 +209,14 @@ impl Parcel {
         requires plan { plan.now ≡ knows stamp }
         requires at_in { at < node_count (knows stamp).topology }
         requires nodes { node_count (knows stamp).topology ≡ node_count (knows (stamp_now self)).topology }
-        requires due { IsDue (knows (stamp_now self)) (present self.journey) at way }
-        requires is_new { IsNew self.journey (InHand at way) }
-        requires above { stamp_of self.journey < stamp.epoch }
-        requires left { length self.journey.restamps < MAX_RESTAMPS }
-        requires room { hop_room (length self.journey.restamps + 1) (node_count (knows stamp).topology)
-            ≤ self.journey.room }
+        requires due { IsDue (knows (stamp_now self)) (present self.packet) at way }
+        requires is_new { IsNew self.packet (InHand at way) }
+        requires above { stamp_of self.packet < stamp.epoch }
+        requires left { length self.packet.restamps < MAX_RESTAMPS }
+        requires room { hop_room (length self.packet.restamps + 1) (node_count (knows stamp).topology)
+            ≤ self.packet.room }
         ensures { result ≡ record {
-          journey = restamped at way stamp.epoch self.journey;
+          packet = restamped at way stamp.epoch self.packet;
           first = self.first;
           later =
               self.later ++ stamp ∷ [];
@@ -242,12 +242,12 @@ impl Parcel {
     ) -> Result<(Parcel, Hop), Outcome>
         requires plan { plan.now ≡ knows (stamp_now self) }
         requires at_in { at < node_count (knows (stamp_now self)).topology }
-        requires due { IsDue (knows (stamp_now self)) (present self.journey) at way }
+        requires due { IsDue (knows (stamp_now self)) (present self.packet) at way }
         ensures acts { MatchResult result (λ r. GoesOnAs board.now way at self r.1 r.0)
             (λ o. (v : Verdict) × SettlesAs board.now false way at self v o) }
-        ensures leads { IfOk result (λ r. LeadsOn (knows (stamp_now self)) (present r.0.journey) r.1.link r.1.node) }
-        ensures here { IfOk result (λ r. last_of r.0.journey.hops ≡ at) }
-        ensures table { IfOk result (λ r. next_hop (knows (stamp_now self)) at self.journey.dest ≡ Some r.1) }
+        ensures leads { IfOk result (λ r. LeadsOn (knows (stamp_now self)) (present r.0.packet) r.1.link r.1.node) }
+        ensures here { IfOk result (λ r. last_of r.0.packet.hops ≡ at) }
+        ensures table { IfOk result (λ r. next_hop (knows (stamp_now self)) at self.packet.dest ≡ Some r.1) }
     {
         let _nodes = plan.nodes();
         let verdict = self.judge(plan, board, way, at);
@@ -281,8 +281,8 @@ impl Parcel {
 
     // What it comes to where the channel of the hop that it was to go on by was full.
     pub(crate) fn refused(self, hop: Hop, version: u32) -> Outcome
-        requires leads { LeadsOn (knows (stamp_now self)) (present self.journey) hop.link hop.node }
-        ensures packet { result.packet ≡ record self.journey { fate = Full hop.link hop.node } }
+        requires leads { LeadsOn (knows (stamp_now self)) (present self.packet) hop.link hop.node }
+        ensures packet { result.packet ≡ record self.packet { fate = Full hop.link hop.node } }
         ensures stamp { result.stamp ≡ self.first }
         ensures later { result.later.items ≡ self.later }
         ensures version { result.version ≡ version }
@@ -312,8 +312,8 @@ impl Parcel {
 
     /// What is left of it at the end: its record as it is.
     pub fn into_left(self) -> Outcome
-        ensures packet { result.packet ≡ self.journey }
-        ensures left { self.journey.fate ≡ Left }
+        ensures packet { result.packet ≡ self.packet }
+        ensures left { self.packet.fate ≡ Left }
         ensures stamp { result.stamp ≡ self.first }
         ensures later { result.later.items ≡ self.later }
     {

@@ -47,16 +47,16 @@ pub fn ready(
     requires epoch { current.epoch ≡ board.now.current }
     requires live { board.now.floor ≤ board.now.current }
     requires of_net { All (λ s. IsOfNet opening.now s) (stamps_of parcel.first parcel.later) }
-    requires few { length parcel.journey.restamps ≤ restamps }
+    requires few { length parcel.packet.restamps ≤ restamps }
     requires room { HasRoomOf opening.now restamps parcel }
-    requires is_new { IsNew parcel.journey (InHand at way) }
-    requires came { CameBy ports.now at way (last_of parcel.journey.hops) parcel.next }
+    requires is_new { IsNew parcel.packet (InHand at way) }
+    requires came { CameBy ports.now at way (last_of parcel.packet.hops) parcel.next }
     ensures parcel { result.0 ≡ with_restamp (restamp_on restamps parcel board.now way at) current way at parcel }
     ensures way { result.1 ≡ way_then (restamp_on restamps parcel board.now way at) way }
     ensures of_net { All (λ s. IsOfNet opening.now s) (stamps_of result.0.first result.0.later) }
-    ensures few { length result.0.journey.restamps ≤ restamps }
+    ensures few { length result.0.packet.restamps ≤ restamps }
     ensures room { HasRoomOf opening.now restamps result.0 }
-    ensures came { CameBy ports.now at result.1 (last_of result.0.journey.hops) result.0.next }
+    ensures came { CameBy ports.now at result.1 (last_of result.0.packet.hops) result.0.next }
 {
     let plan = registry.plan(parcel.stamp());
     let _nodes = plan.nodes();
@@ -87,12 +87,12 @@ pub fn pass_on<R: Moments<Parcel>>(
     requires registry { IsOf registry.now opening.now }
     requires node_in { at < node_count (knows opening.now).topology }
     requires ports { ports.now ≡ ports_of (knows opening.now).topology at }
-    requires outs { map (λ (s : Out). s.line.place) outs.old.items
+    requires outs { map (λ (s : Out). s.channel.place) outs.old.items
         ≡ map (λ (h : Hop). net_place opening.now restamps at h.node) ports.now }
     requires of_net { All (λ s. IsOfNet opening.now s) (stamps_of parcel.first parcel.later) }
-    requires few { length parcel.journey.restamps ≤ restamps }
+    requires few { length parcel.packet.restamps ≤ restamps }
     requires room { HasRoomOf opening.now restamps parcel }
-    requires came { CameBy ports.now at way (last_of parcel.journey.hops) parcel.next }
+    requires came { CameBy ports.now at way (last_of parcel.packet.hops) parcel.next }
     ensures acts { MatchResult result
         (λ to. (h : Hop) × (q : Parcel) × GoesOnAs board.now way at parcel h q × (h.node ≡ to)
         × SentOver ports.now outs.old.items outs.new.items h q)

@@ -6,6 +6,7 @@ use crate::bells::{Bells, Idle};
 use crate::node::Node;
 use crate::parcel::Parcel;
 use ir_links::Moments;
+use std::alloc::AllocError;
 use std::marker::PhantomData;
 use std::snapshot::Snapshot;
 use std::sync::atomic::{AtomicBool, Ordering};
@@ -50,6 +51,12 @@ impl Flag for AtomicBool {
 /// There was no memory for the outcome that a turn may add.
 #[derive(Clone, Copy, Debug, PartialEq, Eq)]
 pub struct NoMemory;
+
+impl From<AllocError> for NoMemory {
+    fn from(_error: AllocError) -> NoMemory {
+        NoMemory
+    }
+}
 
 // Whether a node ends before the turn of this number.
 fn is_over<G: Gate, F: Flag>(node: u16, number: u64, gate: &G, stop: &F) -> bool

@@ -37,7 +37,7 @@ fn channel(alloc: Global) -> Result<Channel<Letter>, &'static str> {
 
 /// The two ends of a channel; none where there was no memory, and then it has none left.
 fn given(channel: &Channel<Letter>) -> Result<Option<(Sender<Letter>, Taker<Letter>)>, &'static str>
-    ensures { IfOk result (λ found. IfSome found (λ ends. ends.0.line ≡ ends.1.line)) }
+    ensures { IfOk result (λ found. IfSome found (λ ends. ends.0.channel ≡ ends.1.channel)) }
 {
     match channel.ends() {
         Ok(Some(ends)) => return Ok(Some(ends)),
@@ -52,7 +52,7 @@ fn given(channel: &Channel<Letter>) -> Result<Option<(Sender<Letter>, Taker<Lett
 
 /// The two ends of a channel; of another one, where there was no memory.
 fn ends(alloc: Global) -> Result<(Sender<Letter>, Taker<Letter>), &'static str>
-    ensures { IfOk result (λ ends. ends.0.line ≡ ends.1.line) }
+    ensures { IfOk result (λ ends. ends.0.channel ≡ ends.1.channel) }
 {
     let first = channel(alloc)?;
     if let Some(ends) = given(&first)? {
@@ -67,7 +67,7 @@ fn ends(alloc: Global) -> Result<(Sender<Letter>, Taker<Letter>), &'static str>
 
 /// Sends an item of this number, and answers whether the channel had room.
 fn send<R: Wait>(rt: &R, sender: &mut Sender<Letter>, id: u32) -> bool
-    ensures { sender.new.line ≡ sender.old.line }
+    ensures { sender.new.channel ≡ sender.old.channel }
 {
     let letter = Letter {
         id,
@@ -83,7 +83,7 @@ fn left<R: Wait>(
     sender: Sender<Letter>,
     taker: Taker<Letter>,
 ) -> Result<Vec<Letter>, &'static str>
-    requires { sender.line ≡ taker.line }
+    requires { sender.channel ≡ taker.channel }
 {
     let (sender, taker) = match settle(rt, alloc, sender, taker) {
         Ok(left) => return Ok(left),

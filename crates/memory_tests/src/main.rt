@@ -18,7 +18,7 @@ use std::thread::Threads;
 /// What is wrong first.
 fn found<R: Threads + Wait + Sync>(rt: &R, alloc: Global) -> Result<(), &'static str> {
     for run in &worlds::RUNS {
-        worlds::try_world(rt, alloc, run)?;
+        worlds::try_world(alloc, run)?;
     }
     channels::try_channel(rt, alloc)?;
     epochs::try_epochs(rt, alloc)?;

@@ -20,12 +20,12 @@ pub(crate) fn opened<R: Threads + Sync>(
     alloc: Global,
     opening: &Opening,
 ) -> Result<Net, &'static str> {
-    match Net::new(rt, alloc, copy(alloc, opening)?) {
+    match Net::open(rt, alloc, copy(alloc, opening)?) {
         Ok(net) => return Ok(net),
         Err(OpenError::NoMemory) => {}
         Err(_) => return Err("a net is refused"),
     }
-    match Net::new(rt, alloc, copy(alloc, opening)?) {
+    match Net::open(rt, alloc, copy(alloc, opening)?) {
         Ok(net) => Ok(net),
         Err(_) => Err("a net is refused again"),
     }

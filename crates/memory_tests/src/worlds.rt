@@ -4,7 +4,6 @@ use crate::networks::{copy, opening};
 use ir_core::{Event, Fate, OpenError, Opening, Refused, Way, World};
 use ir_plan::Kind;
 use std::alloc::Global;
-use std::thread::Threads;
 
 /// What is seen of a world: its packets and boards, the hops of all packets, and how many packets were delivered.
 #[derive(Clone, Copy, PartialEq, Eq)]
@@ -37,12 +36,8 @@ fn look_at(world: &World) -> Sight {
 }
 
 /// A world of an opening, or none where there was no memory.
-fn first<R: Threads + Sync>(
-    rt: &R,
-    alloc: Global,
-    opening: &Opening,
-) -> Result<Option<World>, &'static str> {
-    match World::new(rt, alloc, copy(alloc, opening)?) {
+fn first(alloc: Global, opening: &Opening) -> Result<Option<World>, &'static str> {
+    match World::open(alloc, copy(alloc, opening)?) {
         Ok(world) => Ok(Some(world)),
         Err(OpenError::NoMemory) => Ok(None),
         Err(_) => Err("a world is refused"),
@@ -50,34 +45,25 @@ fn first<R: Threads + Sync>(
 }
 
 /// A world of an opening; again, where there was no memory.
-fn opened<R: Threads + Sync>(
-    rt: &R,
-    alloc: Global,
-    opening: &Opening,
-) -> Result<World, &'static str> {
-    if let Some(world) = first(rt, alloc, opening)? {
+fn opened(alloc: Global, opening: &Opening) -> Result<World, &'static str> {
+    if let Some(world) = first(alloc, opening)? {
         return Ok(world);
     }
-    match first(rt, alloc, opening)? {
+    match first(alloc, opening)? {
         Some(world) => Ok(world),
         None => Err("a world is refused again"),
     }
 }
 
 /// Why an event is refused, if it is.
-fn refusal<R: Threads + Sync>(rt: &R, world: &mut World, event: Event) -> Option<Refused> {
-    world.apply(rt, event).err()
+fn refusal(world: &mut World, event: Event) -> Option<Refused> {
+    world.apply(event).err()
 }
 
 /// An event, refused for this cause alone; again, where there was no memory and the world stands as it was.
-fn step<R: Threads + Sync>(
-    rt: &R,
-    world: &mut World,
-    event: Event,
-    wanted: Option<Refused>,
-) -> Result<(), &'static str> {
+fn step(world: &mut World, event: Event, wanted: Option<Refused>) -> Result<(), &'static str> {
     let before = look_at(world);
-    let first = refusal(rt, world, event);
+    let first = refusal(world, event);
     if first == wanted {
         return Ok(());
     }
@@ -87,7 +73,7 @@ fn step<R: Threads + Sync>(
     if look_at(world) != before {
         return Err("a refused event changes the world");
     }
-    if refusal(rt, world, event) == wanted {
+    if refusal(world, event) == wanted {
         Ok(())
     } else {
         Err("an event answers something else the second time")
@@ -95,13 +81,9 @@ fn step<R: Threads + Sync>(
 }
 
 /// These events, and then a drain.
-fn play<R: Threads + Sync>(
-    rt: &R,
-    world: &mut World,
-    events: &[(Event, Option<Refused>)],
-) -> Result<(), &'static str> {
+fn play(world: &mut World, events: &[(Event, Option<Refused>)]) -> Result<(), &'static str> {
     for (event, wanted) in events {
-        step(rt, world, *event, *wanted)?;
+        step(world, *event, *wanted)?;
     }
     world.drain();
     Ok(())
@@ -181,9 +163,9 @@ pub static RUNS: [Run; 3] = [
 ];
 
 /// The rounds of a run, one after another.
-fn play_all<R: Threads + Sync>(rt: &R, world: &mut World, run: &Run) -> Result<(), &'static str> {
+fn play_all(world: &mut World, run: &Run) -> Result<(), &'static str> {
     for events in run.rounds {
-        play(rt, world, events)?;
+        play(world, events)?;
     }
     if look_at(world) == run.seen {
         Ok(())
@@ -193,12 +175,8 @@ fn play_all<R: Threads + Sync>(rt: &R, world: &mut World, run: &Run) -> Result<(
 }
 
 /// A run over a world of its own.
-pub(crate) fn try_world<R: Threads + Sync>(
-    rt: &R,
-    alloc: Global,
-    run: &Run,
-) -> Result<(), &'static str> {
+pub(crate) fn try_world(alloc: Global, run: &Run) -> Result<(), &'static str> {
     let opening = opening(alloc, run.capacity)?;
-    let mut world = opened(rt, alloc, &opening)?;
-    play_all(rt, &mut world, run)
+    let mut world = opened(alloc, &opening)?;
+    play_all(&mut world, run)
 }

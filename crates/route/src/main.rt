@@ -1,22 +1,25 @@
 //! `route`: interval routing over a network. `route sim` plays the lines of a script over a topology, and prints what
 //! became of its packets; `route live` does so while each node runs in a thread of its own; `route check` checks such a
 //! print; `route plan` prints the labels and rows of a topology's nodes, `route walk` a walk of that plan, `route stats`
-//! its figures, `route draw` a drawing of it, and `route prefixes` its forwarding tables. With no words it does as
-//! `route sim -`, with both texts from standard input. Where standard error is a terminal, sentences for people stand
+//! its figures, `route draw` a drawing of it, `route prefixes` its forwarding tables, and `route ranges` its ranges of
+//! labels. With no words it does as `route sim -`, with both texts from standard input. Where standard error is a terminal, sentences for people stand
 //! behind the lines of faults, and a plan that takes longer than a second says there how far it is.
 #![tactic(auto)]
 
 ghost use Rattle.std.specs.Prelude.{◌≡◌, IfOk, length};
-ghost use Rattle.ir_shell.specs.Asked.{sources_of};
+ghost use Rattle.ir_answer.specs.Asked.{sources_of};
 ghost use Rattle.ir_cli.specs.Words.{FitsItsKind};
 
+mod crew;
 mod input;
 mod keeping;
 mod progress;
 mod terminal;
 
+use crew::Shown;
 use input::{Input, open};
-use ir_explain::explanation;
+use ir_explain::explanation_by;
+use ir_plan::Several;
 use ir_shell::{Source, Sub, Words, WordsError, read_words, run, sources_of};
 use keeping::{Keeping, Kept};
 use progress::Progress;
@@ -91,9 +94,18 @@ fn explain<T: Threads + Sync>(
     }
     let told = faults.kept.whole().ok_or(AllocError)?;
     let found = output.kept.whole().ok_or(AllocError)?;
-    let text = explanation(threads, rt.alloc(), words, given.as_slice(), told, found)?;
+    let crew = Several { rt: threads };
+    let text = explanation_by(&crew, rt.alloc(), words, given.as_slice(), told, found)?;
     let _told = rt.eprint(text);
     Ok(())
+}
+
+/// Whether a subcommand shows a plan, of whose making a terminal is told.
+fn is_plan_shown(sub: Sub) -> bool {
+    match sub {
+        Sub::Plan | Sub::Walk | Sub::Stats | Sub::Draw | Sub::Prefixes | Sub::Ranges => true,
+        Sub::Sim | Sub::Live | Sub::Check => false,
+    }
 }
 
 /// Does what the words ask for over the inputs.
@@ -111,15 +123,19 @@ fn run_over<T: Threads + Wait + Sync>(
     let mut output = Keeping::new(rt.stdout(), found, true, &is_gone);
     let told = Kept::new(rt.alloc(), words.explain);
     let mut faults = Keeping::new(rt.stderr(), told, false, &is_gone);
-    let progress = Progress::new(rt);
+    let progress = Progress::new(rt, is_plan_shown(words.sub));
+    let crew = Shown {
+        rt: threads,
+        progress: &progress,
+    };
     let status = run(
         threads,
+        &crew,
         rt.alloc(),
         words,
         inputs,
         &mut output,
         &mut faults,
-        &progress,
     );
     progress.clear();
     let _explained = explain(rt, threads, words, inputs, &output, &faults);

@@ -1,5 +1,5 @@
 //! How far a plan is, on a terminal.
-use ir_shell::Watch;
+use ir_plan::Watch;
 use std::io::IsTerminal;
 use std::sync::atomic::{AtomicBool, AtomicU64, Ordering};
 use std::time::Instant;
@@ -25,9 +25,9 @@ pub struct Progress<'a> {
 }
 
 impl Progress<'_> {
-    /// Begins now.
-    pub fn new(rt: &HostRuntime) -> Progress<'_> {
-        let begun = if rt.stderr().is_terminal() {
+    /// Begins now, if anything is to be said.
+    pub fn new(rt: &HostRuntime, is_wanted: bool) -> Progress<'_> {
+        let begun = if is_wanted && rt.stderr().is_terminal() {
             Instant::now(rt).ok()
         } else {
             None

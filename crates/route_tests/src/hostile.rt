@@ -4,7 +4,7 @@
 ghost use Rattle.std.specs.Prelude.{IfOk};
 ghost use Rattle.ir_cli.specs.Words.{FitsItsKind};
 
-use ir_shell::{Unwatched, Words, WordsError, read_words, run, sources_of};
+use ir_shell::{Several, Sub, Words, WordsError, read_words, run, run_live_text, sources_of};
 use std::alloc::Global;
 use std::io;
 use std::io::{Read, Write};
@@ -180,7 +180,15 @@ fn status<T: Threads + Wait + Sync>(
     if inputs.len() != sources_of(words).len() {
         return 255;
     }
-    run(rt, alloc, words, &mut inputs, output, faults, &Unwatched)
+    run(
+        rt,
+        &Several { rt },
+        alloc,
+        words,
+        &mut inputs,
+        output,
+        faults,
+    )
 }
 
 /// Whether a run over a text ends with status 0 or 1.
@@ -418,6 +426,21 @@ fn is_so<T: Threads + Wait + Sync>(rt: &T, alloc: Global, case: &Case) -> bool {
         && faults.is_kept()
 }
 
+/// Whether the stored run as a live one, and nothing else, prints its trace.
+fn is_live<T: Threads + Wait + Sync>(rt: &T, alloc: Global) -> bool {
+    let Ok(words) = asked(alloc, "live") else {
+        return false;
+    };
+    let mut output = Sink::new(alloc, Fails::Often);
+    let mut faults = Sink::new(alloc, Fails::Never);
+    let mut inputs = [Source::of(INPUT.as_bytes(), Behind::Nothing)];
+    if words.sub != Sub::Live || inputs.len() != sources_of(&words).len() {
+        return false;
+    }
+    let status = run_live_text(rt, alloc, &words, &mut inputs, &mut output, &mut faults);
+    status == 0 && output.took(TRACE) && output.is_kept() && faults.took("")
+}
+
 /// The first of these runs that ends otherwise.
 pub(crate) fn wrong<T: Threads + Wait + Sync>(rt: &T, alloc: Global) -> Option<&'static str> {
     if !texts_end(rt, alloc) {
@@ -428,6 +451,9 @@ pub(crate) fn wrong<T: Threads + Wait + Sync>(rt: &T, alloc: Global) -> Option<&
     }
     if !are_unwritable(rt, alloc) {
         return Some("a writer that fails");
+    }
+    if !is_live(rt, alloc) {
+        return Some("a live run by itself");
     }
     for case in &CASES {
         if !is_so(rt, alloc, case) {

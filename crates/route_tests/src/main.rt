@@ -10,7 +10,7 @@ ghost use Rattle.std.specs.Prelude.{◌≡◌, length};
 ghost use Rattle.ir_cli.specs.Words.{FitsItsKind};
 
 use anyhow::Error;
-use ir_shell::{Unwatched, Words, read_words, run, sources_of};
+use ir_shell::{Several, Words, read_words, run, sources_of};
 use serde::Deserialize;
 use std::alloc::{AllocError, Global};
 use std::fs;
@@ -51,12 +51,12 @@ fn run_over<T: Threads + Wait + Sync>(
     let status = if inputs.len() == sources_of(words).len() {
         run(
             rt,
+            &Several { rt },
             alloc,
             words,
             inputs,
             &mut output,
             &mut faults,
-            &Unwatched,
         )
     } else {
         255

@@ -17,7 +17,7 @@ returns-clause-over c =
     let plan : Plan = c.in-Ok-build.plan in
     let whole : c.topology-whole.result.now ≡ opening = c.topology-whole.ensures ∙ ap (λ (p : Plan). p.topology) c.plan.ensures in
     let all : List Bool = true ∷ true ∷ [] in
-    let made : plan.topology ≡ restrict all opening = c.in-Ok-build.ensures.topology ∙ c.in-Ok.ensures ∙ ap (restrict all) whole in
+    let made : plan.topology ≡ restrict all opening = c.in-Ok-build.ensures.made.over ∙ c.in-Ok.ensures ∙ ap (restrict all) whole in
     let marks : length all ≡ length opening.links = sym c.if-links-ne2.false ∙ c.links.ensures.count ∙ ap (λ (net : Topology). length net.links) whole in
     let over : IsOver opening plan.topology = ∣ (all, marks, made) ∣₁ in
     if_there (λ (s : Stamp). IsOf c.args.registry.now s × (s.epoch ≡ c.args.epoch) × (knows s ≡ plan)) (λ (s : Stamp). IsOver opening (knows s).topology)

@@ -8,7 +8,7 @@ use Rattle.ir_control.proofs.Rows.{one_more, row_done}
 use Rattle.ir_control.proofs.channels.add_ways.Goals as goal
 
 abbrev has_way : Stamp → ℕ → ℕ → ℕ → Hop → Channel Place → Type 0
-has_way opening restamps capacity v hop line = IsNetChannel opening restamps capacity v hop.node line
+has_way opening restamps capacity v hop channel = IsNetChannel opening restamps capacity v hop.node channel
 
 pub loop-hop-preserved : goal.loop-hop-preserved
 loop-hop-preserved c =

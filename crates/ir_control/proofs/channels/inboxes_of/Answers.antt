@@ -9,14 +9,14 @@ use Rattle.ir_worker.specs.declared.parcel.Place.{Place}
 use Rattle.ir_control.specs.Wired.{IsNetChannel}
 
 abbrev AreSoFar : Stamp → ℕ → ℕ → ℕ → List (Channel Place) → Type 0
-AreSoFar opening restamps capacity u lines = (length lines ≡ u) × ((v : ℕ) (line : Channel Place) → slice_get lines v ≡ Some line → IsNetChannel opening restamps capacity v v line)
+AreSoFar opening restamps capacity u lines = (length lines ≡ u) × ((v : ℕ) (channel : Channel Place) → slice_get lines v ≡ Some channel → IsNetChannel opening restamps capacity v v channel)
 
-more : (opening : Stamp) (restamps capacity u : ℕ) (lines : List (Channel Place)) (line : Channel Place) → AreSoFar opening restamps capacity u lines → IsNetChannel opening restamps capacity u u line
-    → AreSoFar opening restamps capacity (u + 1) (lines ++ line ∷ [])
-more opening restamps capacity u lines line far here = (
-  (let n = length_push lines line in let m = far.0 in omega (arith, n, m)),
-  λ v x got. elim (get_push lines v line x got) [
-    | inl e ↦ subst (λ (x : Channel Place). IsNetChannel opening restamps capacity v v x) e.1 (subst (λ (w : ℕ). IsNetChannel opening restamps capacity w w line) (sym (e.0 ∙ far.0)) here)
+more : (opening : Stamp) (restamps capacity u : ℕ) (lines : List (Channel Place)) (channel : Channel Place) → AreSoFar opening restamps capacity u lines → IsNetChannel opening restamps capacity u u channel
+    → AreSoFar opening restamps capacity (u + 1) (lines ++ channel ∷ [])
+more opening restamps capacity u lines channel far here = (
+  (let n = length_push lines channel in let m = far.0 in omega (arith, n, m)),
+  λ v x got. elim (get_push lines v channel x got) [
+    | inl e ↦ subst (λ (x : Channel Place). IsNetChannel opening restamps capacity v v x) e.1 (subst (λ (w : ℕ). IsNetChannel opening restamps capacity w w channel) (sym (e.0 ∙ far.0)) here)
     | inr e ↦ far.1 v x e.1
   ],
 )

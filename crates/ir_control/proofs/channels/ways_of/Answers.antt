@@ -11,7 +11,7 @@ use Rattle.ir_control.proofs.Rows.{filled_none, filled_all}
 use Rattle.ir_control.proofs.channels.ways_of.Goals as goal
 
 abbrev has_way : Stamp → ℕ → ℕ → ℕ → Hop → Channel Place → Type 0
-has_way opening restamps capacity v hop line = IsNetChannel opening restamps capacity v hop.node line
+has_way opening restamps capacity v hop channel = IsNetChannel opening restamps capacity v hop.node channel
 
 pub loop-u-init : goal.loop-u-init
 loop-u-init c = (

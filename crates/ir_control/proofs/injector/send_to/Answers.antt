@@ -11,7 +11,7 @@ returns-clause-sent g c =
     sent_by c.args.outs.now.items c.args.node c.index_mut-out.result.now _ c.args.parcel c.requires.node c.index_mut-out.ensures.value c.in-Ok.ensures.sent
 
 pub returns-clause-lines : goal.returns-clause-lines
-returns-clause-lines g c = lines_kept c.args.outs.now.items c.args.node _ _ c.index_mut-out.ensures.value c.in-Ok.ensures.line
+returns-clause-lines g c = lines_kept c.args.outs.now.items c.args.node _ _ c.index_mut-out.ensures.value c.in-Ok.ensures.channel
 
 pub returns-in-Err-clause-sent : goal.returns-in-Err-clause-sent
 returns-in-Err-clause-sent g c =

@@ -11,14 +11,14 @@ use Rattle.ir_control.proofs.Telling.{part_put, part_fits, all_first, all_rest}
 use Rattle.ir_control.proofs.outcomes.place_left.Goals as goal
 
 abbrev IsDone : Parcel → Type 0
-IsDone x = x.journey.fate ≡ Left
+IsDone x = x.packet.fate ≡ Left
 
 pub place_rest-requires-clause-fits : goal.place_rest-requires-clause-fits
 place_rest-requires-clause-fits g c = λ i.
     (let popped : left_in c.loop-channel.channels.items ≡ left_in c.pop.new.self.items ++ c.in-Some.channel.left = ap left_in c.in-Some.ensures.items ∙ left_push c.pop.new.self.items c.in-Some.channel in
-    let now = part_fits (hit (λ (x : Parcel). x.journey.id) i) (sum_by (slot_weight (hit outcome_number i)) c.loop-channel.slots.items) (sum_by (slot_weight (hit outcome_number i)) c.args.slots.now.items)
-    (sum_by (hit (λ (x : Parcel). x.journey.id) i) (left_in c.args.channels.items)) (once (length c.args.slots.now.items) i) (left_in c.loop-channel.channels.items) (left_in c.pop.new.self.items) c.in-Some.channel.left popped
-    (c.loop-channel.invariant.weighs (λ t. hit (λ (s : Told). s.journey.id) i t)) (c.requires.fits i) in
+    let now = part_fits (hit (λ (x : Parcel). x.packet.id) i) (sum_by (slot_weight (hit outcome_number i)) c.loop-channel.slots.items) (sum_by (slot_weight (hit outcome_number i)) c.args.slots.now.items)
+    (sum_by (hit (λ (x : Parcel). x.packet.id) i) (left_in c.args.channels.items)) (once (length c.args.slots.now.items) i) (left_in c.loop-channel.channels.items) (left_in c.pop.new.self.items) c.in-Some.channel.left popped
+    (c.loop-channel.invariant.weighs (λ t. hit (λ (s : Told). s.packet.id) i t)) (c.requires.fits i) in
     let len = ap (λ n. once n i) c.loop-channel.invariant.len in
     omega (arith, now, len))
 

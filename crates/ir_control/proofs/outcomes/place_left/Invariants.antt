@@ -20,7 +20,7 @@ invariant-loop-channel g l = IsPlacing
     (AllIn (λ o. IsOutcomeIn l.opening o) l.slots.items)
     (All (λ x. IsParcelOf l.opening x) (left_in l.channels.items))
     ((w : Told → ℕ) → sum_by (slot_weight (λ o. w (outcome_told o))) l.slots.items + sum_by (λ x. w (told_left x)) (left_in l.channels.items) ≡ sum_by (slot_weight (λ o. w (outcome_told o))) l.fn.slots.items + sum_by (λ x. w (told_left x)) (left_in l.fn.channels.items))
-    (All (λ x. x.journey.fate ≡ Left) (left_in l.channels.items) → All (λ x. x.journey.fate ≡ Left) (left_in l.fn.channels.items))
+    (All (λ x. x.packet.fate ≡ Left) (left_in l.channels.items) → All (λ x. x.packet.fate ≡ Left) (left_in l.fn.channels.items))
 
 abbrev pub decreases-loop-channel : goal.decreases-loop-channel
 decreases-loop-channel g l = goal.left-loop-channel g l

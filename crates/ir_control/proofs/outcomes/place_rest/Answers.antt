@@ -11,21 +11,21 @@ use Rattle.ir_control.specs.Whole.{IsParcelOf}
 use Rattle.ir_control.proofs.Telling.{head_put, head_fits}
 use Rattle.ir_control.proofs.outcomes.place_rest.Goals as goal
 
-is_told : (x : Parcel) (o : Outcome) → o.packet ≡ x.journey → o.stamp ≡ x.first → o.later.items ≡ x.later → outcome_told o ≡ told_left x
+is_told : (x : Parcel) (o : Outcome) → o.packet ≡ x.packet → o.stamp ≡ x.first → o.later.items ≡ x.later → outcome_told o ≡ told_left x
 is_told x o a b d = (cc)
 
 left_in : (opening : Stamp) (x : Parcel) (o : Outcome) → outcome_told o ≡ told_left x → IsParcelOf opening x → IsOutcomeIn opening o
 left_in opening x o e is = ∣ subst (λ (t : Told). All (λ s. IsOfNet opening s) (stamps_of t.first t.later)) (sym e) is ∣₁
 
 abbrev IsDone : Parcel → Type 0
-IsDone x = x.journey.fate ≡ Left
+IsDone x = x.packet.fate ≡ Left
 
 pub place-requires-clause-fits : goal.place-requires-clause-fits
 place-requires-clause-fits g c = λ i.
-    (let now = head_fits (hit (λ (x : Parcel). x.journey.id) i) (sum_by (slot_weight (hit outcome_number i)) c.loop.slots.items) (sum_by (slot_weight (hit outcome_number i)) c.args.slots.now.items)
-    (sum_by (hit (λ (x : Parcel). x.journey.id) i) c.args.channel.left) (once (length c.args.slots.now.items) i) c.loop.channel.left c.take.new.self.left c.in-Some-take.parcel c.in-Some-take.ensures.left (c.loop.invariant.weighs (λ t. hit (λ (s : Told). s.journey.id) i t)) (c.requires.fits i) in
+    (let now = head_fits (hit (λ (x : Parcel). x.packet.id) i) (sum_by (slot_weight (hit outcome_number i)) c.loop.slots.items) (sum_by (slot_weight (hit outcome_number i)) c.args.slots.now.items)
+    (sum_by (hit (λ (x : Parcel). x.packet.id) i) c.args.channel.left) (once (length c.args.slots.now.items) i) c.loop.channel.left c.take.new.self.left c.in-Some-take.parcel c.in-Some-take.ensures.left (c.loop.invariant.weighs (λ t. hit (λ (s : Told). s.packet.id) i t)) (c.requires.fits i) in
     let len = ap (λ n. once n i) c.loop.invariant.len in
-    let same : hit outcome_number i c.into_left.result ≡ hit (λ (x : Parcel). x.journey.id) i c.in-Some-take.parcel = ap (λ j. hit (λ (s : Told). s.journey.id) i j) (is_told c.in-Some-take.parcel c.into_left.result c.into_left.ensures.packet c.into_left.ensures.stamp c.into_left.ensures.later) in
+    let same : hit outcome_number i c.into_left.result ≡ hit (λ (x : Parcel). x.packet.id) i c.in-Some-take.parcel = ap (λ j. hit (λ (s : Told). s.packet.id) i j) (is_told c.in-Some-take.parcel c.into_left.result c.into_left.ensures.packet c.into_left.ensures.stamp c.into_left.ensures.later) in
     omega (arith, now, len, same))
 
 pub place-requires-clause-belongs : goal.place-requires-clause-belongs

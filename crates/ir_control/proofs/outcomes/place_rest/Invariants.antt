@@ -20,4 +20,4 @@ invariant-loop g l = IsPlacing
     (AllIn (λ o. IsOutcomeIn l.opening o) l.slots.items)
     (All (λ x. IsParcelOf l.opening x) l.channel.left)
     ((w : Told → ℕ) → sum_by (slot_weight (λ o. w (outcome_told o))) l.slots.items + sum_by (λ x. w (told_left x)) l.channel.left ≡ sum_by (slot_weight (λ o. w (outcome_told o))) l.fn.slots.items + sum_by (λ x. w (told_left x)) l.fn.channel.left)
-    (All (λ x. x.journey.fate ≡ Left) l.channel.left → All (λ x. x.journey.fate ≡ Left) l.fn.channel.left)
+    (All (λ x. x.packet.fate ≡ Left) l.channel.left → All (λ x. x.packet.fate ≡ Left) l.fn.channel.left)

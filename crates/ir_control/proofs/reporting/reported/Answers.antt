@@ -32,7 +32,7 @@ told_in_order-requires-clause-full g c = λ k lt.
     (let none = none_weigh c.args.room.slots.items c.requires.room.slots_empty (hit outcome_number k) in
     let each = once_each c.args.nodes.items c.args.injector c.into_outs.result.items (ap (λ v. v.items) c.into_outs.ensures) _ (left_in c.left_over-settled.new.channels.items) c.left_over-settled.ensures.gathered k in
     let put = c.place_rows.ensures.weighs (hit outcome_number k) in
-    let more = c.place_left.ensures.weighs (hit (λ (t : Told). t.journey.id) k) in
+    let more = c.place_left.ensures.weighs (hit (λ (t : Told). t.packet.id) k) in
     let len = c.place_left.ensures.length ∙ c.place_rows.ensures.length ∙ c.requires.room.slots_count in
     full_here c.place_left.new.slots.items (length c.args.injector.accepted.items) k c.place_left.ensures.at (omega (arith, none, each, put, more)) (omega (arith, lt, len)))
 
@@ -56,7 +56,7 @@ returns g c =
           (λ p. (let none = none_weigh c.args.room.slots.items c.requires.room.slots_empty (outcome_weight p) in
           let all = conserved c.args.nodes.items c.args.injector c.into_outs.result.items (ap (λ v. v.items) c.into_outs.ensures) _ (left_in c.left_over-settled.new.channels.items) c.left_over-settled.ensures.gathered p in
           let put = c.place_rows.ensures.weighs (outcome_weight p) in
-          let more = c.place_left.ensures.weighs (λ (t : Told). one p (head_of t.journey)) in
+          let more = c.place_left.ensures.weighs (λ (t : Told). one p (head_of t.packet)) in
           let sum = ap (sum_by (slot_weight (outcome_weight p))) t.1 ∙ slots_weigh (slot_weight (outcome_weight p)) t.0 in
           omega (arith, none, all, put, more, sum)))
           len (numbers_are c.place_left.new.slots.items t.0 t.1 c.place_left.ensures.at);

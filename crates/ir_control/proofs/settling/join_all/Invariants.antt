@@ -20,8 +20,8 @@ invariant-loop-taker l = IsKept
     (vec_len l.channels + length l.takers.items ≤ vec_capacity l.channels)
     (vec_capacity l.channels ≡ vec_capacity l.fn.channels)
     (vec_len l.channels + length l.takers.items ≤ vec_len l.fn.channels + length l.fn.takers.items)
-    (All (λ t. t.line.place.opening ≡ l.opening) l.takers.items)
-    (All (λ t. t.line.place.restamps ≡ l.fn.restamps) l.takers.items)
+    (All (λ t. t.channel.place.opening ≡ l.opening) l.takers.items)
+    (All (λ t. t.channel.place.restamps ≡ l.fn.restamps) l.takers.items)
     (All (λ x. IsParcelOf l.opening x) (left_in l.channels.items))
     (All (λ x. IsFew l.fn.restamps x) (left_in l.channels.items))
 

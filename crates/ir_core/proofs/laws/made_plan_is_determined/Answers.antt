@@ -12,22 +12,22 @@ use Rattle.ir_core.proofs.laws.made_plan_is_determined.Goals as goal
 
 module _ (labels : LabelOrder) (kind : Kind) (root : ℕ) (net : Topology) (p q : Plan) (a : IsMade labels kind root net (Some p)) (b : IsMade labels kind root net (Some q)) where
   alike : IsPlanAs p q
-  alike = record { plan = b.3; kind = b.0 ∙ sym a.0; root = b.1 ∙ sym a.1; topology = b.2 ∙ sym a.2 }
+  alike = record { plan = b.valid; kind = b.of_kind ∙ sym a.of_kind; root = b.labelled.1 ∙ sym a.labelled.1; topology = b.over ∙ sym a.over }
 
   same : p.order ≡ q.order
-  same = order_determined labels p q a.3 alike a.4 b.4
+  same = order_determined labels p q a.valid alike a.labelled.0 b.labelled.0
 
   apart : kind ≢ Tree → p.kind ≢ Tree
-  apart other e = other (sym a.0 ∙ e)
+  apart other e = other (sym a.of_kind ∙ e)
 
   in_p : (u : ℕ) → u < node_count net → u < node_count p.topology
-  in_p u lt = subst (λ (x : Topology). u < node_count x) (sym a.2) lt
+  in_p u lt = subst (λ (x : Topology). u < node_count x) (sym a.over) lt
 
 pub returns : goal.returns
 returns c = record {
   order = same;
-  labels = λ labels kind root net p q a b. labels_same p q a.3 (alike labels kind root net p q a b) (same labels kind root net p q a b);
+  labels = λ labels kind root net p q a b. labels_same p q a.valid (alike labels kind root net p q a b) (same labels kind root net p q a b);
   tables = λ labels kind root net p q other a b u d hu hd.
-      table_same p q (apart labels kind root net p q a b other) a.3 (alike labels kind root net p q a b) (same labels kind root net p q a b) u d (in_p labels kind root net p q a b u hu) (in_p labels kind root net p q a b d hd);
-  rows = λ labels kind root net p q other a b. rows_same p q (apart labels kind root net p q a b other) a.3 (alike labels kind root net p q a b) (same labels kind root net p q a b);
+      table_same p q (apart labels kind root net p q a b other) a.valid (alike labels kind root net p q a b) (same labels kind root net p q a b) u d (in_p labels kind root net p q a b u hu) (in_p labels kind root net p q a b d hd);
+  rows = λ labels kind root net p q other a b. rows_same p q (apart labels kind root net p q a b other) a.valid (alike labels kind root net p q a b) (same labels kind root net p q a b);
 }

@@ -1,35 +1,12 @@
-use Rattle.std.proofs.Common.{◌≡◌, ◌∙◌, true, false, length, refl, sym, ap}
-use Rattle.ir_trace.specs.Row.{TraceRow}
-use Rattle.ir_trace.specs.Inspect.{are_known}
-use Rattle.ir_departure.proofs.Parts.{unknown_told, parts_over, part_told, fate_told}
+use Rattle.std.proofs.Common.{sym, subst}
+use Rattle.ir_model.specs.Topology.{node_count}
+use Rattle.ir_trace.specs.Inspect.{AreOver}
+use Rattle.ir_trace.proofs.CheckedTrace.{over_from}
 use Rattle.ir_departure.proofs.departing.departure_by.Goals as goal
 
-pub returns-then-not-are_known : goal.returns-then-not-are_known
-returns-then-not-are_known c =
-    let parts = c.as_slice-segments.ensures.value ∙ ap (λ (r : TraceRow). r.parts) c.row.view_is in
-    let unknown : are_known (length c.args.plans.now) c.args.row.now.parts ≡ false = ap (are_known (length c.args.plans.now)) (sym parts) ∙ sym c.if-not-are_known.ensures in
-    unknown_told c.args.plans.now c.args.row.now c.requires unknown
-
-pub first_left-requires : goal.first_left-requires
-first_left-requires c =
-    let parts = c.as_slice-segments.ensures.value ∙ ap (λ (r : TraceRow). r.parts) c.row.view_is in
-    let dest = ap (λ (r : TraceRow). r.dest) c.row.view_is in
-    let known : are_known (length c.args.plans.now) c.args.row.now.parts ≡ true = ap (are_known (length c.args.plans.now)) (sym parts) ∙ sym c.if-not-are_known.ensures in
-    rw (parts, dest) (parts_over c.args.plans.now c.args.row.now c.requires known)
-
-pub returns-in-Some : goal.returns-in-Some
-returns-in-Some c =
-    let parts = c.as_slice-segments.ensures.value ∙ ap (λ (r : TraceRow). r.parts) c.row.view_is in
-    let dest = ap (λ (r : TraceRow). r.dest) c.row.view_is in
-    let source = ap (λ (r : TraceRow). r.source) c.row.view_is in
-    let known : are_known (length c.args.plans.now) c.args.row.now.parts ≡ true = ap (are_known (length c.args.plans.now)) (sym parts) ∙ sym c.if-not-are_known.ensures in
-    part_told c.args.plans.now c.args.row.now c.requires known c.in-Some.left (rw (parts, dest, source) at c.in-Some.ensures.left)
-
-pub returns : goal.returns
-returns c =
-    let parts = c.as_slice-segments.ensures.value ∙ ap (λ (r : TraceRow). r.parts) c.row.view_is in
-    let dest = ap (λ (r : TraceRow). r.dest) c.row.view_is in
-    let source = ap (λ (r : TraceRow). r.source) c.row.view_is in
-    let fate = ap (λ (r : TraceRow). r.fate) c.row.view_is in
-    let known : are_known (length c.args.plans.now) c.args.row.now.parts ≡ true = ap (are_known (length c.args.plans.now)) (sym parts) ∙ sym c.if-not-are_known.ensures in
-    rw (c.left_by_fate.ensures, c.last_segment.ensures, parts, dest, fate) (fate_told c.args.plans.now c.args.row.now c.requires known (rw (parts, dest, source) at c.in_default.ensures.joined) _ refl)
+pub first_departure-requires : goal.first_departure-requires
+first_departure-requires g c = record {
+  topology = c.args.topology.now;
+  plans_are = subst (AreOver (node_count c.args.topology.now)) (sym c.as_slice.ensures.value) (over_from c.args.topology.now c.args.installs.now c.in_ok-plans.plans.items c.in_ok-plans.ensures);
+  row_is = c.requires.row;
+}

@@ -6,8 +6,8 @@ use Rattle.ir_trace.specs.Checked.{AreInstalls}
 use Rattle.ir_trace.proofs.Replayed.{replayed}
 use Rattle.ir_given.proofs.departing.installs_of.Goals as goal
 
-pub returns-in-Ok-installs : goal.returns-in-Ok-installs
-returns-in-Ok-installs g c =
-    let built : List Install = c.in-Ok-installs.built.items in
+pub returns-in-Ok-installs_by : goal.returns-in-Ok-installs_by
+returns-in-Ok-installs_by g c =
+    let built : List Install = c.in-Ok-installs_by.built.items in
     subst (λ (n : Topology). AreInstalls n built) (ap (λ (o : Opening). o.topology) c.in_ok-opening.ensures)
-    (replayed c.in_ok-opening.opening c.steps.result.now built c.in-Ok-installs.ensures.built)
+    (replayed c.in_ok-opening.opening c.steps.result.now built c.in-Ok-installs_by.ensures.built)

@@ -20,8 +20,8 @@ returns-clause-goes g c =
     let shared = arc_value c.taker.inside.shared in
     let seen = c.learn_as.ensures.rule in
     let view = c.learn_as.ensures.queue.1 in
-    let place = ap (λ t. t.line.place) c.taker.view_is in
+    let place = ap (λ t. t.channel.place) c.taker.view_is in
     let all = all_go g.T.Bound.goes_to shared.place (ruled_capacity shared.queue) (pass_view c.absorb.new.pass) seen.0
     (ap (λ v. v.terms) c.absorb.ensures.rule ∙ ap (λ v. v.terms) c.taker.invariant.1) seen.1.0 seen.1.2 in
-    subst (λ v. All (λ x. g.T.Bound.goes_to x c.args.taker.line.place) (drop (length v.taken) v.sent)) (sym view)
+    subst (λ v. All (λ x. g.T.Bound.goes_to x c.args.taker.channel.place) (drop (length v.taken) v.sent)) (sym view)
     (subst (λ p. All (λ x. g.T.Bound.goes_to x p) (drop (length (pass_view c.absorb.new.pass).taken) (pass_view c.absorb.new.pass).sent)) place all)

@@ -3,7 +3,7 @@ use Rattle.std.proofs.lemmas.List.{take_all}
 use Rattle.ir_core.specs.declared.event.Refused.TheVariants.{NoNode}
 use Rattle.ir_cli.specs.Lines.{refused_line}
 use Rattle.ir_shell.specs.Lives.{refusal_line}
-use Rattle.ir_shell.proofs.Texts.{refusals_more}
+use Rattle.ir_shell.proofs.Refusals.{refusals_more}
 use Rattle.ir_shell.proofs.live.refusals_text.Goals as goal
 
 pub loop-i-preserved : goal.loop-i-preserved

@@ -1,8 +1,8 @@
 use Rattle.ir_model.specs.Text.{lines}
 use Rattle.ir_script.specs.Command.{line_command}
 use Rattle.ir_shell.specs.Lives.{AnswersLive}
-use Rattle.ir_shell.specs.Plays.{listing_in}
-use Rattle.ir_shell.proofs.Answering.{gives_asked}
+use Rattle.ir_answer.specs.Plays.{listing_in}
+use Rattle.ir_answer.proofs.Answering.{gives_asked}
 use Rattle.ir_shell.proofs.live.run_commands.Goals as goal
 
 pub returns-in-Ok : goal.returns-in-Ok

@@ -1,23 +1,40 @@
-use Rattle.std.proofs.Common.{◌≡◌, ℕ, List, refl, subst}
-use Rattle.ir_shell.specs.Asked.{sources_of, Answers}
-use Rattle.ir_cli.specs.declared.read.Source.{Source}
+use Rattle.std.proofs.Common.{◌≡◌, ◌≢◌, ℕ, List, sym, subst}
+use denote.Enum.Bare.{same_true, same_false}
+use Rattle.ir_cli.specs.contracts.words.Sub.{the_type}
+use Rattle.ir_cli.specs.declared.words.Sub.{Sub}
+use Rattle.ir_cli.specs.declared.words.Sub.TheVariants.{Live}
+use Rattle.ir_cli.specs.Ending.{Ends}
 use Rattle.ir_cli.specs.Reading.{AreRead, IsUnread}
 use Rattle.ir_cli.specs.Told.{Sends, Tells}
-use Rattle.ir_shell.proofs.Runs.{given_up}
+use Rattle.ir_answer.specs.Asked.{sources_by, AnswersBy, NoThreads}
+use Rattle.ir_answer.proofs.Runs.{ends_more, without_live}
+use Rattle.ir_shell.specs.Asked.{LiveAnswers}
 use Rattle.ir_shell.proofs.running.run.Goals as goal
 
-pub returns-in-Err : goal.returns-in-Err
-returns-in-Err g c =
+pub returns-then-eq : goal.returns-then-eq
+returns-then-eq g c =
     let words = c.args.words.now in
     let old = c.args.inputs.now in
-    let new = c.read_inputs.new.inputs in
-    let output = c.args.output.now in (
-      c.tell_unread.result,
-      c.status_of-in-Err.ensures,
-      given_up (Answers _ g.T.Moments.was_full g.T.Moments.was_empty words) c.tell_unread.result (λ (texts : List (List ℕ)). AreRead g.R.Reader.remaining g.R.Reader.gave old texts new)
-          (IsUnread g.R.Reader.remaining g.R.Reader.gave (sources_of words) old new)
-          (Sends g.W.Writer.contents g.W.Writer.wrote g.W.Writer.settled output output) (output ≡ output)
-          (Tells g.F.Writer.contents g.F.Writer.wrote g.F.Writer.settled c.args.faults.now c.tell_unread.new.faults)
-          c.in-Err.unread.source c.in-Err.unread.why c.tell_unread.ensures
-          (subst (λ (sources : List Source). IsUnread g.R.Reader.remaining g.R.Reader.gave sources old new c.in-Err.unread.source c.in-Err.unread.why) c.sources_of.ensures c.in-Err.ensures.unread) refl,
-    )
+    let new = c.run_live_text.new.inputs in
+    let is : words.sub ≡ Live = same_true the_type tt _ _ (sym c.if-eq.ensures) in
+    subst (λ (sub : Sub). Ends (AnswersBy (LiveAnswers _ g.T.Moments.was_full g.T.Moments.was_empty) sub words) c.run_live_text.result
+    (λ (texts : List (List ℕ)). AreRead g.R.Reader.remaining g.R.Reader.gave old texts new)
+    (IsUnread g.R.Reader.remaining g.R.Reader.gave (sources_by sub words) old new)
+    (Sends g.W.Writer.contents g.W.Writer.wrote g.W.Writer.settled c.args.output.now c.run_live_text.new.output)
+    (c.run_live_text.new.output ≡ c.args.output.now)
+    (Tells g.F.Writer.contents g.F.Writer.wrote g.F.Writer.settled c.args.faults.now c.run_live_text.new.faults)) (sym is) c.run_live_text.ensures
+
+pub returns-else-eq : goal.returns-else-eq
+returns-else-eq g c =
+    let words = c.args.words.now in
+    let old = c.args.inputs.now in
+    let new = c.run_by.new.inputs in
+    let other : words.sub ≢ Live = same_false the_type _ _ (sym c.if-eq.ensures) in
+    ends_more (AnswersBy NoThreads words.sub words) (AnswersBy (LiveAnswers _ g.T.Moments.was_full g.T.Moments.was_empty) words.sub words)
+    (without_live (LiveAnswers _ g.T.Moments.was_full g.T.Moments.was_empty) words.sub other words)
+    (λ (texts : List (List ℕ)). AreRead g.R.Reader.remaining g.R.Reader.gave old texts new)
+    (IsUnread g.R.Reader.remaining g.R.Reader.gave (sources_by words.sub words) old new)
+    (Sends g.W.Writer.contents g.W.Writer.wrote g.W.Writer.settled c.args.output.now c.run_by.new.output)
+    (c.run_by.new.output ≡ c.args.output.now)
+    (Tells g.F.Writer.contents g.F.Writer.wrote g.F.Writer.settled c.args.faults.now c.run_by.new.faults)
+    c.run_by.result c.run_by.ensures

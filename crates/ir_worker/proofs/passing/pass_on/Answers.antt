@@ -15,28 +15,28 @@ pub act-requires-clause-due : goal.act-requires-clause-due
 act-requires-clause-due g c =
     let p = c.args.parcel in
     due_at c.args.opening.now (present_stamp p.first p.later) c.plan-plan.result.now (c.plan-plan.ensures ∙ ap knows c.stamp.ensures.stamp) c.nodes-nodes.ensures.plan (now_of_net c.args.opening.now p.first p.later c.requires.of_net).1
-    p.journey p.next c.args.at c.args.way c.args.ports.now c.requires.ports c.stamp.ensures.under_way c.stamp.ensures.last c.requires.came
+    p.packet p.next c.args.at c.args.way c.args.ports.now c.requires.ports c.stamp.ensures.under_way c.stamp.ensures.last c.requires.came
 
 pub port_of_hop-port-requires : goal.port_of_hop-port-requires
 port_of_hop-port-requires g c =
     let p = c.args.parcel in
-    let there = port_there (knows c.args.opening.now).topology (knows (present_stamp p.first p.later)) (now_of_net c.args.opening.now p.first p.later c.requires.of_net).1 c.args.at p.journey.dest c.in-Ok.onward.1 c.in-Ok.ensures.table in
+    let there = port_there (knows c.args.opening.now).topology (knows (present_stamp p.first p.later)) (now_of_net c.args.opening.now p.first p.later c.requires.of_net).1 c.args.at p.packet.dest c.in-Ok.onward.1 c.in-Ok.ensures.table in
     subst (λ (xs : List Hop). ∥ ((j : ℕ) × (slice_get xs j ≡ Some c.in-Ok.onward.1)) ∥₁) (sym c.requires.ports) there
 
 pub index_mut-out-requires : goal.index_mut-out-requires
 index_mut-out-requires g c =
     let lt = slice_get_within c.args.ports.now c.port_of_hop-port.result c.in-Ok.onward.1 c.port_of_hop-port.ensures in
-    let many = as_many (λ (s : Out). s.line.place) c.args.outs.now.items (λ (h : Hop). net_place c.args.opening.now c.args.restamps c.args.at h.node) c.args.ports.now c.requires.outs in
+    let many = as_many (λ (s : Out). s.channel.place) c.args.outs.now.items (λ (h : Hop). net_place c.args.opening.now c.args.restamps c.args.at h.node) c.args.ports.now c.requires.outs in
     omega (arith, c.args.outs.now.ok.0)
 
 pub send-requires-after_bounds : goal.send-requires-after_bounds
 send-requires-after_bounds g c κs within =
     let lt = slice_get_within c.args.ports.now c.port_of_hop-port.result c.in-Ok.onward.1 c.port_of_hop-port.ensures in
-    let many = as_many (λ (s : Out). s.line.place) c.args.outs.now.items (λ (h : Hop). net_place c.args.opening.now c.args.restamps c.args.at h.node) c.args.ports.now c.requires.outs in
+    let many = as_many (λ (s : Out). s.channel.place) c.args.outs.now.items (λ (h : Hop). net_place c.args.opening.now c.args.restamps c.args.at h.node) c.args.ports.now c.requires.outs in
     let on = c.in-Ok.ensures.acts in
     goes_out c.args.opening.now c.args.restamps c.args.at c.args.ports.now c.args.outs.now.items c.requires.outs c.args.parcel c.in-Ok.onward.0 c.requires.of_net c.requires.few c.requires.room c.in-Ok.onward.1 c.port_of_hop-port.result c.index_mut-out.result.now
     (elsewhere c.args.opening.now c.args.at c.port_of_hop-port.result c.args.ports.now c.in-Ok.onward.1 c.requires.ports c.port_of_hop-port.ensures)
-    on.first on.later (ap (λ (r : Record). r.restamps) on.journey) (ap (λ (r : Record). r.room) on.journey) c.in-Ok.ensures.here on.next c.port_of_hop-port.ensures (omega arith) c.index_mut-out.ensures.value
+    on.first on.later (ap (λ (r : Record). r.restamps) on.packet) (ap (λ (r : Record). r.room) on.packet) c.in-Ok.ensures.here on.next c.port_of_hop-port.ensures (omega arith) c.index_mut-out.ensures.value
 
 pub refused-requires : goal.refused-requires
 refused-requires g c =
@@ -46,7 +46,7 @@ refused-requires g c =
 pub returns-in-Ok-send-clause-acts : goal.returns-in-Ok-send-clause-acts
 returns-in-Ok-send-clause-acts g c =
     let lt = slice_get_within c.args.ports.now c.port_of_hop-port.result c.in-Ok.onward.1 c.port_of_hop-port.ensures in
-    let many = as_many (λ (s : Out). s.line.place) c.args.outs.now.items (λ (h : Hop). net_place c.args.opening.now c.args.restamps c.args.at h.node) c.args.ports.now c.requires.outs in (
+    let many = as_many (λ (s : Out). s.channel.place) c.args.outs.now.items (λ (h : Hop). net_place c.args.opening.now c.args.restamps c.args.at h.node) c.args.ports.now c.requires.outs in (
       c.in-Ok.onward.1,
       c.in-Ok.onward.0,
       c.in-Ok.ensures.acts,
@@ -56,12 +56,12 @@ returns-in-Ok-send-clause-acts g c =
 
 pub returns-in-Ok-send-clause-lines : goal.returns-in-Ok-send-clause-lines
 returns-in-Ok-send-clause-lines g c =
-    lines_out_kept c.args.outs.now.items c.port_of_hop-port.result c.send.new.self c.index_mut-out.result.now c.index_mut-out.ensures.value c.send.ensures.line
+    lines_out_kept c.args.outs.now.items c.port_of_hop-port.result c.send.new.self c.index_mut-out.result.now c.index_mut-out.ensures.value c.send.ensures.channel
 
 pub returns-in-Err-send-clause-acts : goal.returns-in-Err-send-clause-acts
 returns-in-Err-send-clause-acts g c =
     let lt = slice_get_within c.args.ports.now c.port_of_hop-port.result c.in-Ok.onward.1 c.port_of_hop-port.ensures in
-    let many = as_many (λ (s : Out). s.line.place) c.args.outs.now.items (λ (h : Hop). net_place c.args.opening.now c.args.restamps c.args.at h.node) c.args.ports.now c.requires.outs in
+    let many = as_many (λ (s : Out). s.channel.place) c.args.outs.now.items (λ (h : Hop). net_place c.args.opening.now c.args.restamps c.args.at h.node) c.args.ports.now c.requires.outs in
     let kept = c.in-Err-send.ensures.sent in (
       true,
       NoRoom c.in-Ok.onward.1,

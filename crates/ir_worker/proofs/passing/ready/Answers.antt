@@ -19,7 +19,7 @@ pub restamp-requires-in-Some-clause-due : goal.restamp-requires-in-Some-clause-d
 restamp-requires-in-Some-clause-due c =
     let p = c.args.parcel in
     due_at c.args.opening.now (present_stamp p.first p.later) c.plan-plan.result.now (c.plan-plan.ensures ∙ ap knows c.stamp.ensures.stamp) c.nodes-nodes.ensures.plan (now_of_net c.args.opening.now p.first p.later c.requires.of_net).1
-    p.journey p.next c.args.at c.args.way c.args.ports.now c.requires.ports c.stamp.ensures.under_way c.stamp.ensures.last c.requires.came
+    p.packet p.next c.args.at c.args.way c.args.ports.now c.requires.ports c.stamp.ensures.under_way c.stamp.ensures.last c.requires.came
 
 pub returns-in-Some-clause-of_net : goal.returns-in-Some-clause-of_net
 returns-in-Some-clause-of_net c =
@@ -31,7 +31,7 @@ pub returns-in-Some-clause-came : goal.returns-in-Some-clause-came
 returns-in-Some-clause-came c =
     let p = c.args.parcel in
     let made = c.restamp-in-Some.ensures in
-    (ap (λ (x : Parcel). last_of x.journey.hops) made ∙ restamped_last c.args.ports.now c.args.at c.args.way c.args.current.epoch p.next p.journey c.requires.came, ap (λ (x : Parcel). x.next) made)
+    (ap (λ (x : Parcel). last_of x.packet.hops) made ∙ restamped_last c.args.ports.now c.args.at c.args.way c.args.current.epoch p.next p.packet c.requires.came, ap (λ (x : Parcel). x.next) made)
 
 pub restamp-requires-in-Some-clause-room : goal.restamp-requires-in-Some-clause-room
 restamp-requires-in-Some-clause-room c =

@@ -1,6 +1,4 @@
-use Rattle.std.specs.Prelude.{◌≡◌, ℕ, length}
-use Rattle.std.proofs.Common.{◌∷◌, ◌∙◌, arith, sym, subst}
-use Rattle.ir_worker.specs.Turns.{MayEnd}
+use Rattle.std.proofs.Common.{◌∷◌, arith}
 use Rattle.ir_worker.proofs.Serves.{same_then}
 use Rattle.ir_worker.proofs.serving.serve.Goals as goal
 

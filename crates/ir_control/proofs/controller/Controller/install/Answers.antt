@@ -13,20 +13,20 @@ use Rattle.ir_control.proofs.controller.Controller.install.Goals as goal
 pub change-requires-clause-fits : goal.change-requires-clause-fits
 change-requires-clause-fits g c =
     let s = c.in-Ok-register.stamp in
-    let of : IsOf (arc_value c.args.self.now.registry) s = subst (λ (r : Registry). IsOf r s) c.deref.ensures c.in-Ok-register.ensures.0 in
-    fits_install c.args.self.now.opening s (published c.args.self.now.writer) c.args.self.now.used c.args.self.now.used_up.0 c.in-Ok-register.ensures.1
+    let of : IsOf (arc_value c.args.self.now.registry) s = subst (λ (r : Registry). IsOf r s) c.deref.ensures c.in-Ok-register.ensures.answer.0 in
+    fits_install c.args.self.now.opening s (published c.args.self.now.writer) c.args.self.now.used c.args.self.now.used_up.0 c.in-Ok-register.ensures.answer.1
     (of ∙ sym c.args.self.now.of_registry) c.args.self.now.registry_is c.args.self.now.topology_is c.args.self.now.few_links
-    (ap (λ (t : Plan). t.topology) c.in-Ok-register.ensures.2 ∙ c.in-Ok.ensures.2)
+    (ap (λ (t : Plan). t.topology) c.in-Ok-register.ensures.answer.2 ∙ c.in-Ok.ensures.answer.over)
 
-pub returns-in-Ok-change : goal.returns-in-Ok-change
-returns-in-Ok-change g c =
+pub returns-in-Ok-change-clause-answer : goal.returns-in-Ok-change-clause-answer
+returns-in-Ok-change-clause-answer g c =
     let s = c.in-Ok-register.stamp in
     record {
-      allowed = sym c.install_refusal.ensures ∙ c.in-None.is;
+      allowed = sym c.install_refusal.ensures.refusal ∙ c.in-None.is;
       stamp = s;
-      epoch = c.in-Ok-register.ensures.1;
-      registered = subst (λ (r : Registry). IsOf r s) c.deref.ensures c.in-Ok-register.ensures.0;
-      plan = subst (λ (t : Plan). IsMade c.args.self.now.labels c.args.kind c.args.root (topology_up c.args.self.now) (Some t)) (sym c.in-Ok-register.ensures.2) c.in-Ok.ensures;
+      epoch = c.in-Ok-register.ensures.answer.1;
+      registered = subst (λ (r : Registry). IsOf r s) c.deref.ensures c.in-Ok-register.ensures.answer.0;
+      plan = subst (λ (t : Plan). IsMade c.args.self.now.labels c.args.kind c.args.root (topology_up c.args.self.now) (Some t)) (sym c.in-Ok-register.ensures.answer.2) c.in-Ok.ensures.answer;
       publishes = record {
         published_is = c.in-Ok-change.ensures.answer.0;
         told_is = c.in-Ok-change.ensures.answer.1;

@@ -1,18 +1,31 @@
-use Rattle.std.specs.Prelude.{Err, take, length}
-use Rattle.std.proofs.Common.{subst, ap, ◌∙◌, refl, inl}
+use Rattle.std.proofs.Common.{subst, ap, ◌∙◌}
+use Rattle.std.proofs.lemmas.Result.{err_from_is_err_and}
 use Rattle.ir_model.specs.Plan.{Plan}
-use Rattle.ir_model.specs.Topology.{Topology, restrict}
-use Rattle.ir_model.specs.Walk.{IsDisconnected}
+use Rattle.ir_model.specs.Topology.{Topology}
+use Rattle.ir_plan.specs.Building.{FromRoot, IsPlanBy}
 use Rattle.ir_core.specs.declared.board.Board.{Board}
 use Rattle.ir_epochs.specs.Entries.{board_of}
 use Rattle.ir_epochs.specs.Handles.{published}
+use Rattle.ir_epochs.specs.Stamps.{knows}
+use Rattle.ir_control.proofs.Numbered.{no_plan}
+use Rattle.ir_control.proofs.Unplanned.{later_refused, up_in}
 use Rattle.ir_control.proofs.controller.Controller.plan.Goals as goal
 
-pub returns-in-Err-Disconnected : goal.returns-in-Err-Disconnected
-returns-in-Err-Disconnected g c =
-    inl (
-      refl,
-      subst (λ (net : Topology). IsDisconnected (restrict (take (length net.links) (board_of (published c.args.self.now.writer)).up) net)) (c.topology-topology.ensures ∙ ap (λ (t : Plan). t.topology) c.plan.ensures)
-          (subst (λ (b : Board). IsDisconnected (restrict (take (length c.topology-topology.result.now.links) b.up) c.topology-topology.result.now)) c.board-board.ensures.board
-          (c.plan_up.ensures.disconnected (c.in-Err-Disconnected.is ∙ ap Err c.in-Err-Disconnected.field-0-is))),
-    )
+pub returns-in_err-plan-clause-answer : goal.returns-in_err-plan-clause-answer
+returns-in_err-plan-clause-answer g c =
+    let own = c.args.self.now in
+    let is = err_from_is_err_and c.from_residual.result c.from_residual.ensures.1 in
+    rw (is.1, is.2)
+    (later_refused (knows own.opening).topology c.topology-topology.result.now (board_of (published own.writer)) c.board-board.result (c.topology-topology.ensures ∙ ap (λ (t : Plan). t.topology) c.plan.ensures) c.board-board.ensures.board own.labels c.args.root c.requires _
+    c.in_err-plan.ensures.refused)
+
+pub returns-in_err-plan-clause-number : goal.returns-in_err-plan-clause-number
+returns-in_err-plan-clause-number g c =
+    let is = err_from_is_err_and c.from_residual.result c.from_residual.ensures.1 in
+    rw (is.1, is.2) (no_plan _)
+
+pub returns-clause-answer : goal.returns-clause-answer
+returns-clause-answer g c =
+    let own = c.args.self.now in
+    subst (λ (b : Board). IsPlanBy (up_in (knows own.opening).topology b) c.args.kind (FromRoot own.labels c.args.root) c.in_ok-plan.plan) c.board-board.ensures.board
+    (subst (λ (net : Topology). IsPlanBy (up_in net c.board-board.result) c.args.kind (FromRoot own.labels c.args.root) c.in_ok-plan.plan) (c.topology-topology.ensures ∙ ap (λ (t : Plan). t.topology) c.plan.ensures) c.in_ok-plan.ensures.made)

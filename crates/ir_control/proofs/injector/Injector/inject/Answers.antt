@@ -20,7 +20,7 @@ abbrev entry : ℕ → ℕ → ℕ → ℕ → Accepted
 entry id epoch source dest = record { id = id; epoch = epoch; source = source; dest = dest }
 
 abbrev parcel_of : ℕ → ℕ → ℕ → Stamp → ℕ → ℕ → Parcel
-parcel_of nodes restamps id s source dest = record { journey = fresh id s.epoch source dest (hop_room restamps nodes); first = s; later = []; next = source }
+parcel_of nodes restamps id s source dest = record { packet = fresh id s.epoch source dest (hop_room restamps nodes); first = s; later = []; next = source }
 
 pub send_to-requires-clause-stamp : goal.send_to-requires-clause-stamp
 send_to-requires-clause-stamp g c =
@@ -29,7 +29,7 @@ send_to-requires-clause-stamp g c =
 pub send_to-requires-clause-room : goal.send_to-requires-clause-room
 send_to-requires-clause-room g c =
     let n = c.args.self.now in
-    ap (λ (p : Parcel). p.journey.room) c.in-Ok.ensures
+    ap (λ (p : Parcel). p.packet.room) c.in-Ok.ensures
     ∙ ap (λ (s : Stamp). hop_room n.restamps (node_count (knows s).topology)) c.again.ensures
     ∙ ap (λ (k : ℕ). hop_room n.restamps k) (over_nodes (knows n.opening).topology (knows n.newest).topology n.newest_of.1)
 
@@ -38,13 +38,13 @@ invariant_of-self-2-clause-account g c =
     let a : Accepted = entry c.len-count.result c.epoch-epoch.result c.args.source c.args.dest in
     account_more c.args.self.now.outs.items c.send_to.new.outs.items c.args.source c.in-Ok.parcel c.args.self.now.accepted.items c.push_reserved.new.self.items a
     c.if-not-send_to.ensures.sent (c.push_reserved.ensures.items ∙ ap (λ (xs : List Accepted). xs ++ a ∷ []) c.reserve.ensures.items)
-    (ap (λ (p : Parcel). head_of p.journey) c.in-Ok.ensures
+    (ap (λ (p : Parcel). head_of p.packet) c.in-Ok.ensures
     ∙ ap (λ (e : ℕ). head_at (entry c.len-count.result e c.args.source c.args.dest)) (ap (λ (s : Stamp). s.epoch) c.again.ensures ∙ sym c.epoch-epoch.ensures.value))
     c.args.self.now.account
 
 pub invariant_of-self-2-clause-fresh : goal.invariant_of-self-2-clause-fresh
 invariant_of-self-2-clause-fresh g c =
-    fresh_more c.args.self.now.outs.items c.send_to.new.outs.items c.args.source c.in-Ok.parcel c.if-not-send_to.ensures.sent (ap (λ (p : Parcel). p.journey.restamps) c.in-Ok.ensures) c.args.self.now.fresh
+    fresh_more c.args.self.now.outs.items c.send_to.new.outs.items c.args.source c.in-Ok.parcel c.if-not-send_to.ensures.sent (ap (λ (p : Parcel). p.packet.restamps) c.in-Ok.ensures) c.args.self.now.fresh
 
 pub invariant_of-self-then-not-send_to-clause-fresh : goal.invariant_of-self-then-not-send_to-clause-fresh
 invariant_of-self-then-not-send_to-clause-fresh g c = λ p. ap (weigh_sent (restamps_with p)) c.if-not-send_to.ensures.sent.0 ∙ c.args.self.now.fresh p

@@ -3,7 +3,8 @@ use Rattle.ir_core.specs.declared.board.Board.{Board}
 use Rattle.ir_core.specs.Inside.{world_of}
 use Rattle.ir_core.proofs.Keeps.{newest_known, installed_at}
 use Rattle.ir_core.proofs.Refusals.{none_there, install_free}
-use Rattle.ir_core.proofs.Installing.{refused_here, asked_here, disconnected_here, made_plan, installed_here, installed_world}
+use Rattle.ir_core.proofs.Installing.{refused_here, asked_here, plan_refused_here, made_plan, installed_here, installed_world}
+use Rattle.std.proofs.lemmas.Result.{err_from_is_err_and}
 use Rattle.ir_core.proofs.world.World.install.Goals as goal
 
 pub returns-in-Some : goal.returns-in-Some
@@ -12,21 +13,24 @@ returns-in-Some g c =
     let asked = asked_here (world_of c.self.inside) c.nodes.result c.len-epochs.result c.newest-newest.result c.args.root c.install_refusal.result c.nodes.ensures.count (omega (arith, c.self.inside.plans.ok.0, c.len-epochs.ensures)) n c.install_refusal.ensures in
     refused_here (world_of c.self.inside) _ c.self.view_is c.args.kind c.args.root _ (asked ∙ c.in-Some.is)
 
-pub returns-in-Err-Disconnected : goal.returns-in-Err-Disconnected
-returns-in-Err-Disconnected g c =
+pub returns-in_err-plan : goal.returns-in_err-plan
+returns-in_err-plan g c =
     let n = newest_known _ _ c.self.view_is c.newest-newest.result c.newest-newest.ensures.value in
     let asked = asked_here (world_of c.self.inside) c.nodes.result c.len-epochs.result c.newest-newest.result c.args.root c.install_refusal.result c.nodes.ensures.count (omega (arith, c.self.inside.plans.ok.0, c.len-epochs.ensures)) n c.install_refusal.ensures in
-    disconnected_here (world_of c.self.inside) _ c.self.view_is c.args.kind c.args.root c.newest-newest.result n (asked ∙ none_there c.install_refusal.result c.in_default.not-Some)
-    (c.plan_up.ensures.disconnected (cc (c.in-Err-Disconnected.is, c.in-Err-Disconnected.field-0-is)))
+    let free = install_free c.nodes.result c.len-epochs.result c.newest-newest.result c.args.root (sym c.install_refusal.ensures ∙ none_there c.install_refusal.result c.in_default.not-Some) in
+    let no = err_from_is_err_and c.from_residual.result c.from_residual.ensures.1 in
+    rw (no.1, no.2)
+    (plan_refused_here (world_of c.self.inside) _ c.self.view_is c.args.kind c.args.root c.newest-newest.result n (asked ∙ none_there c.install_refusal.result c.in_default.not-Some)
+    (omega (arith, free.0, c.nodes.ensures.count)) c.self.inside.labels _ c.in_err-plan.ensures.refused)
 
 pub invariant_of-self-2 : goal.invariant_of-self-2
 invariant_of-self-2 g c =
     let n = newest_known _ _ c.self.view_is c.newest-newest.result c.newest-newest.ensures.value in
     let free = install_free c.nodes.result c.len-epochs.result c.newest-newest.result c.args.root (sym c.install_refusal.ensures ∙ none_there c.install_refusal.result c.in_default.not-Some) in
     record {
-      world = installed_at (world_of c.self.inside) c.self.invariant.world refl (c.len-epochs.result + 1) c.newest-newest.result c.installed.result c.in-Ok.plan c.reserve.new.self.items c.push-2.new.self.items c.push.new.self.items
+      world = installed_at (world_of c.self.inside) c.self.invariant.world refl (c.len-epochs.result + 1) c.newest-newest.result c.installed.result c.in_ok-plan.plan c.reserve.new.self.items c.push-2.new.self.items c.push.new.self.items
           n (omega (arith, c.self.inside.plans.ok.0, c.len-epochs.ensures, free.1)) free.2 (omega (arith, c.self.inside.plans.ok.0, c.len-epochs.ensures))
-          (made_plan _ c.args.kind c.args.root (take (length c.self.inside.topology.links) c.newest-newest.result.up) c.in-Ok.plan c.in-Ok.ensures.made) c.installed.ensures c.reserve.ensures.items (c.in-Ok-push-2.ensures.items ∙ ap (λ (b : Board). c.reserve.new.self.items ++ b ∷ []) c.in-Ok-new.ensures) c.in-Ok-push.ensures.items;
+          (made_plan _ c.args.kind c.args.root (take (length c.self.inside.topology.links) c.newest-newest.result.up) c.in_ok-plan.plan c.in_ok-plan.ensures.made) c.installed.ensures c.reserve.ensures.items (c.in-Ok-push-2.ensures.items ∙ ap (λ (b : Board). c.reserve.new.self.items ++ b ∷ []) c.in-Ok.ensures) c.in-Ok-push.ensures.items;
       room = c.self.invariant.room;
     }
 
@@ -34,8 +38,8 @@ pub returns : goal.returns
 returns g c =
     let n = newest_known _ _ c.self.view_is c.newest-newest.result c.newest-newest.ensures.value in
     let asked = asked_here (world_of c.self.inside) c.nodes.result c.len-epochs.result c.newest-newest.result c.args.root c.install_refusal.result c.nodes.ensures.count (omega (arith, c.self.inside.plans.ok.0, c.len-epochs.ensures)) n c.install_refusal.ensures in
-    installed_here (world_of c.self.inside) _ c.self.view_is c.args.kind c.args.root (c.len-epochs.result + 1) c.newest-newest.result c.in-Ok.plan _ n
+    installed_here (world_of c.self.inside) _ c.self.view_is c.args.kind c.args.root (c.len-epochs.result + 1) c.newest-newest.result c.in_ok-plan.plan _ n
     (asked ∙ none_there c.install_refusal.result c.in_default.not-Some)
-    c.in-Ok.ensures.made (omega (arith, c.self.inside.plans.ok.0, c.len-epochs.ensures))
-    (installed_world (world_of c.self.inside) c.self.invariant.world.plans.some refl (c.len-epochs.result + 1) c.newest-newest.result c.installed.result c.in-Ok.plan c.reserve.new.self.items c.push-2.new.self.items c.push.new.self.items
-    c.installed.ensures c.reserve.ensures.items (c.in-Ok-push-2.ensures.items ∙ ap (λ (b : Board). c.reserve.new.self.items ++ b ∷ []) c.in-Ok-new.ensures) c.in-Ok-push.ensures.items)
+    c.in_ok-plan.ensures.made (omega (arith, c.self.inside.plans.ok.0, c.len-epochs.ensures))
+    (installed_world (world_of c.self.inside) c.self.invariant.world.plans.some refl (c.len-epochs.result + 1) c.newest-newest.result c.installed.result c.in_ok-plan.plan c.reserve.new.self.items c.push-2.new.self.items c.push.new.self.items
+    c.installed.ensures c.reserve.ensures.items (c.in-Ok-push-2.ensures.items ∙ ap (λ (b : Board). c.reserve.new.self.items ++ b ∷ []) c.in-Ok.ensures) c.in-Ok-push.ensures.items)

@@ -7,7 +7,7 @@ use Rattle.ir_core.proofs.world.World.step.Goals as goal
 
 pub returns-in-Event-clause-history : goal.returns-in-Event-clause-history
 returns-in-Event-clause-history g c = λ log k.
-    subst (λ (s : Step). StepsAfter log s c.apply.result c.args.self.now.opening c.apply.new.self) (sym c.in-Event.is) (c.apply.ensures.history log k)
+    subst (λ (s : Step). StepsAfter log s c.apply_by.result c.args.self.now.opening c.apply_by.new.self) (sym c.in-Event.is) (c.apply_by.ensures.history log k)
 
 pub returns-in-Drain-clause-history : goal.returns-in-Drain-clause-history
 returns-in-Drain-clause-history g c = λ log k.

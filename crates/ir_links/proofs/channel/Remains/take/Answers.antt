@@ -26,7 +26,7 @@ invariant_of-self g c =
     ((same.0 ∙ is.0, same.2 ∙ is.1), both.0, both.1)
 
 same_remaining : {P T : Type 0} (place : P) (cap : ℕ) (name_0 name_1 : TableId) (left_0 left_1 : List T) → name_1 ≡ name_0 → left_1 ≡ left_0
-    → ◌≡◌ {A = Remains P T} (record { line = record { name = name_1; place = place; capacity = cap }; left = left_1 }) (record { line = record { name = name_0; place = place; capacity = cap }; left = left_0 })
+    → ◌≡◌ {A = Remains P T} (record { channel = record { name = name_1; place = place; capacity = cap }; left = left_1 }) (record { channel = record { name = name_0; place = place; capacity = cap }; left = left_0 })
 same_remaining place cap name_0 name_1 left_0 left_1 names lefts = (cc)
 
 module _ {P T : Type 0} (now : Remains P T) (old : List T) (new : Remains P T) where

@@ -30,15 +30,15 @@ returns-in-Install g c = subst (λ (k : Command). IsCarriedOut g.R.Moments.was_f
 
 pub returns-in-Retire : goal.returns-in-Retire
 returns-in-Retire g c = known g.R.Moments.was_full _ (command.Retire c.in-Retire.floor) c.args.self.now _ c.err-in-Retire.result c.answered-in-Retire.result c.answered-in-Retire.ensures c.in-Retire.is
-    (changed_as _ (change.Retire c.in-Retire.floor) c.args.self.now _ c.retire.result c.err-in-Retire.result c.err-in-Retire.ensures.value refl c.retire.ensures)
+    (changed_as _ (change.Retire c.in-Retire.floor) c.args.self.now _ c.retire.result c.err-in-Retire.result c.err-in-Retire.ensures.value refl c.retire.ensures.answer)
 
 pub returns-in-Down : goal.returns-in-Down
 returns-in-Down g c = known g.R.Moments.was_full _ (command.Down c.in-Down.link) c.args.self.now _ c.err-in-Down.result c.answered-in-Down.result c.answered-in-Down.ensures c.in-Down.is
-    (changed_as _ (change.Down c.in-Down.link) c.args.self.now _ c.down.result c.err-in-Down.result c.err-in-Down.ensures.value refl c.down.ensures)
+    (changed_as _ (change.Down c.in-Down.link) c.args.self.now _ c.down.result c.err-in-Down.result c.err-in-Down.ensures.value refl c.down.ensures.answer)
 
 pub returns-in-Up : goal.returns-in-Up
 returns-in-Up g c = known g.R.Moments.was_full _ (command.Up c.in-Up.link) c.args.self.now _ c.err-in-Up.result c.answered-in-Up.result c.answered-in-Up.ensures c.in-Up.is
-    (changed_as _ (change.Up c.in-Up.link) c.args.self.now _ c.up.result c.err-in-Up.result c.err-in-Up.ensures.value refl c.up.ensures)
+    (changed_as _ (change.Up c.in-Up.link) c.args.self.now _ c.up.result c.err-in-Up.result c.err-in-Up.ensures.value refl c.up.ensures.answer)
 
 pub returns-in-Drain : goal.returns-in-Drain
 returns-in-Drain g c = subst (λ (k : Command). IsCarriedOut g.R.Moments.was_full k c.args.self.now (Ok None) c.args.self.now) (sym c.in-Drain.is) (refl, refl, refl)

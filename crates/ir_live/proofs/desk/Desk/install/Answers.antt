@@ -10,7 +10,7 @@ use Rattle.ir_live.proofs.desk.Desk.install.Goals as goal
 
 pub returns-in-Some : goal.returns-in-Some
 returns-in-Some g c =
-    let i = c.in-Ok.ensures in
+    let i = c.in-Ok.ensures.answer in
     let s : Stamp = i.stamp in
     let by : installed_by (told c.in-Ok.receipt) ≡ Some s = ap installed_by (i.publishes.told_is ∙ i.publishes.published_is) ∙ installed_last (published c.args.self.now.controller.writer) (Install s) s in
     let same : s ≡ c.again.result = cc (by, c.in-Some.ensures.installed, c.again.ensures) in
@@ -29,6 +29,6 @@ returns-in-Some g c =
 
 pub unreachable-requires : goal.unreachable-requires
 unreachable-requires g c =
-    let i = c.in-Ok.ensures in
+    let i = c.in-Ok.ensures.answer in
     let by : installed_by (told c.in-Ok.receipt) ≡ Some i.stamp = ap installed_by (i.publishes.told_is ∙ i.publishes.published_is) ∙ installed_last (published c.args.self.now.controller.writer) (Install i.stamp) i.stamp in
     absurd (cc (by, c.in-None.ensures.installed))

@@ -9,7 +9,7 @@ returns-clause-took g c =
 
 pub returns-clause-ins : goal.returns-clause-ins
 returns-clause-ins g c =
-    lines_in_kept c.args.self.now.ports.items (c.args.self.now.next - 1) c.take-2.new.self c.index_mut-taker.result.now c.index_mut-taker.ensures.value c.take-2.ensures.line
+    lines_in_kept c.args.self.now.ports.items (c.args.self.now.next - 1) c.take-2.new.self c.index_mut-taker.result.now c.index_mut-taker.ensures.value c.take-2.ensures.channel
 
 pub returns-clause-empty : goal.returns-clause-empty
 returns-clause-empty g c =

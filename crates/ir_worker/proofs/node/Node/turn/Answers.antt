@@ -65,7 +65,7 @@ pub ready-parcel-requires-clause-came : goal.ready-parcel-requires-clause-came
 ready-parcel-requires-clause-came g c =
     let n = c.args.self.now in
     let place = (taken_place n.opening n.restamps n.index n.ports.items n.entrances.inbox n.entrances.ports.items n.outs.items n.ends c.poll.new.self.inbox c.poll.new.self.ports.items c.in-Some.parcel n.entrances.next c.in-Some.ensures.took c.way-way.result c.way-way.ensures).came in
-    subst (λ (xs : List Hop). CameBy xs n.index c.way-way.result (last_of c.in-Some.parcel.journey.hops) c.in-Some.parcel.next) (sym c.as_slice-ports.ensures.value) place
+    subst (λ (xs : List Hop). CameBy xs n.index c.way-way.result (last_of c.in-Some.parcel.packet.hops) c.in-Some.parcel.next) (sym c.as_slice-ports.ensures.value) place
 
 pub invariant_of-self-in-Ok-1 : goal.invariant_of-self-in-Ok-1
 invariant_of-self-in-Ok-1 g c =
@@ -73,7 +73,7 @@ invariant_of-self-in-Ok-1 g c =
     let p = c.in-Some.parcel in
     let b = c.read-board.result in
     let x = restamp_on n.restamps p b c.way-way.result n.index in
-    let same = ap (λ (y : Parcel). head_of y.journey) c.ready-parcel.ensures.parcel ∙ head_with x c.stamp.result c.way-way.result n.index p in
+    let same = ap (λ (y : Parcel). head_of y.packet) c.ready-parcel.ensures.parcel ∙ head_with x c.stamp.result c.way-way.result n.index p in
     let a = c.in-Ok.ensures.acts in
     record {
       of_registry = n.of_registry;
@@ -81,7 +81,7 @@ invariant_of-self-in-Ok-1 g c =
       ends = ends_kept n.opening n.restamps n.index n.ports.items n.entrances.inbox n.entrances.ports.items n.outs.items c.poll.new.self.inbox c.poll.new.self.ports.items c.pass_on.new.outs.items n.ends
           c.poll.ensures.inbox c.poll.ensures.ins c.pass_on.ensures.lines;
       account = balanced_sent n.entrances.inbox n.entrances.ports.items c.poll.new.self.inbox c.poll.new.self.ports.items n.outs.items c.pass_on.new.outs.items n.outcomes.items c.reserve.new.self.items n.account
-          p a.1 n.entrances.next c.in-Some.ensures.took c.as_slice-ports.result.now a.0 a.4 (ap head_of a.2.journey ∙ same) c.reserve.ensures.items;
+          p a.1 n.entrances.next c.in-Some.ensures.took c.as_slice-ports.result.now a.0 a.4 (ap head_of a.2.packet ∙ same) c.reserve.ensures.items;
       restamped = known_sent (known n.reader) (known c.read-board.new.self) c.read-board.ensures.later b c.read-board.ensures.board n.restamps p c.ready-parcel.result.0 c.stamp.result c.way-way.result n.index c.ready-parcel.ensures.parcel
           n.entrances.inbox n.entrances.ports.items c.poll.new.self.inbox c.poll.new.self.ports.items n.outs.items c.pass_on.new.outs.items n.outcomes.items c.reserve.new.self.items n.restamped
           n.entrances.next c.in-Some.ensures.took c.ready-parcel.result.1 a.0 a.1 a.2 c.as_slice-ports.result.now a.4 c.reserve.ensures.items;
@@ -95,7 +95,7 @@ invariant_of-self-in-Err g c =
     let p = c.in-Some.parcel in
     let b = c.read-board.result in
     let x = restamp_on n.restamps p b c.way-way.result n.index in
-    let same = ap (λ (y : Parcel). head_of y.journey) c.ready-parcel.ensures.parcel ∙ head_with x c.stamp.result c.way-way.result n.index p in
+    let same = ap (λ (y : Parcel). head_of y.packet) c.ready-parcel.ensures.parcel ∙ head_with x c.stamp.result c.way-way.result n.index p in
     let a = c.in-Err.ensures.acts in
     let behind = settled_behind n.outcomes.items c.reserve.new.self.items c.push_reserved.new.self.items c.in-Err.outcome c.push_reserved.ensures.items c.reserve.ensures.items in
     record {

@@ -15,6 +15,6 @@ invariant_of-result c =
     record {
       epoch = ap (λ (r : Record). r.epoch) c.act.ensures ∙ k.first_epoch;
       sound = refused_sound i.first i.later.items i.packet _ _ k c.args.hop
-          (subst (λ (p : Parcel). LeadsOn (knows (stamp_now p)) (present p.journey) c.args.hop.link c.args.hop.node) (sym is.0) c.requires.leads)
+          (subst (λ (p : Parcel). LeadsOn (knows (stamp_now p)) (present p.packet) c.args.hop.link c.args.hop.node) (sym is.0) c.requires.leads)
           c.act.new.self c.act.ensures;
     }

@@ -1,0 +1,122 @@
+-- The answers that show a plan, by what was read before it is built.
+use Rattle.std.proofs.Common.{◌≡◌, ◌≢◌, ℕ, List, Option, Some, None, MatchOption, refl, sym, subst}
+use Rattle.ir_model.specs.declared.Kind.{Kind}
+use Rattle.ir_model.specs.Graph.{Name, Adjacency, names}
+use Rattle.ir_model.specs.Topology.{Topology}
+use Rattle.ir_model.specs.OfGraph.{topology_of_graph}
+use Rattle.ir_model.specs.Plan.{Plan}
+use Rattle.ir_model.specs.Text.{lines}
+use Rattle.ir_order.specs.Order.{order_fault, IsOrder}
+use Rattle.ir_order.specs.declared.fault.OrderFaultKind.{OrderFaultKind}
+use Rattle.ir_cli.specs.declared.words.Words.{Words}
+use Rattle.ir_cli.specs.Answer.{Answer, Ran, Found, Refused, NoThread}
+use Rattle.ir_cli.specs.Lines.{numbering_line}
+use Rattle.ir_cli.specs.Openings.{topology_fault, topology_graph, root_name, root_in, label_order, AnswersRoot, AnswersOrder}
+use Rattle.ir_answer.specs.declared.look.Look.{Look}
+use Rattle.ir_answer.specs.declared.look.Look.TheVariants.{Plan as Planning, Walk, Stats, Draw, Prefixes, Ranges as Ranging}
+use Rattle.ir_answer.specs.declared.look.Show.{Show}
+use Rattle.ir_answer.specs.declared.look.Show.TheVariants.{Between, Drawing}
+use Rattle.ir_answer.specs.Looks.{from_name, to_name, Says, AnswerShows, AnswersEnds, AnswersBothEnds, AnswersShow, AnswersAsked, AnswersLook, AnswersLabels, AreTexts, LookAnswers, IsNode, IsLabelling, IsDrawn, IsShow, RefusesLabels, RefusesEnds, RefusesShow}
+use Rattle.ir_plan.specs.Building.{Labelling, FromRoot, ByList, IsPlanBy}
+use Rattle.ir_answer.specs.Plans.{AnswersText}
+use Rattle.ir_answer.proofs.Answering.{option_more, of_graph, of_root}
+
+-- ---- labels
+
+of_order : (g : Adjacency) (ls : List (List ℕ)) (answers : List ℕ → Answer → Type 0) (answer : Answer) (places : List ℕ)
+    → IsOrder (names g) ls places → answers places answer → AnswersOrder g ls answers answer
+of_order g ls answers answer places is holds =
+    subst (λ (first : Option (ℕ × OrderFaultKind)). MatchOption first ((order : List ℕ) × IsOrder (names g) ls order × answers order answer) (λ f. answer ≡ Refused (numbering_line f)))
+    (sym is.no_fault) (places, is, holds)
+
+of_labels : (words : Words) (order : Option (List ℕ)) (g : Adjacency) (answers : Labelling → Answer → Type 0) (labels : Labelling) (answer : Answer)
+    → IsLabelling words order g labels → answers labels answer → AnswersLabels words order g answers answer
+of_labels words None g answers labels answer (root, is, same) holds =
+    of_root g (root_name words) (λ u. answers (FromRoot (label_order words.numbering) u)) answer root is (subst (λ (l : Labelling). answers l answer) same holds)
+of_labels words (Some text) g answers labels answer (places, is, same) holds =
+    of_order g (lines text) (λ order. answers (ByList order)) answer places is (subst (λ (l : Labelling). answers l answer) same holds)
+
+refuses_labels : (words : Words) (order : Option (List ℕ)) (g : Adjacency) (answers : Labelling → Answer → Type 0) (line : List ℕ)
+    → RefusesLabels words order g line → AnswersLabels words order g answers (Refused line)
+refuses_labels words None g answers line refuses = option_more (root_in (names g) (root_name words)) (λ same. same) (λ u none. absurd none) refuses
+refuses_labels words (Some text) g answers line refuses =
+    option_more (order_fault (names g) (lines text)) (λ (none : (order : List ℕ) × IsOrder (names g) (lines text) order × ⊥). absurd none.2) (λ f same. same) refuses
+
+-- ---- what is shown
+
+of_ends : (g : Adjacency) (from to : Option Name) (answers : ℕ → ℕ → Answer → Type 0) (answer : Answer) (a b : ℕ)
+    → IsNode g from a → IsNode g to b → answers a b answer → AnswersEnds g from to answers answer
+of_ends g from to answers answer a b first second holds =
+    of_root g from (λ x. AnswersRoot g to (λ y. answers x y)) answer a first (of_root g to (λ y. answers a y) answer b second holds)
+
+refuses_ends : (g : Adjacency) (from to : Option Name) (answers : ℕ → ℕ → Answer → Type 0) (line : List ℕ)
+    → RefusesEnds g from to line → AnswersEnds g from to answers (Refused line)
+refuses_ends g from to answers line refuses =
+    option_more (root_in (names g) from) (λ same. same) (λ a. option_more (root_in (names g) to) (λ same. same) (λ b none. absurd none)) refuses
+
+of_drawn : (from to : Option Name) (g : Adjacency) (answers : Show → Answer → Type 0) (show : Show) (answer : Answer)
+    → IsDrawn from to g show → answers show answer → AnswersBothEnds g from to (λ ends. answers (Drawing ends)) answer
+of_drawn None to g answers show answer same holds = subst (λ (s : Show). answers s answer) same holds
+of_drawn (Some from) None g answers show answer same holds = subst (λ (s : Show). answers s answer) same holds
+of_drawn (Some from) (Some to) g answers show answer (a, b, first, second, same) holds =
+    of_ends g (Some from) (Some to) (λ x y. answers (Drawing (Some (x, y)))) answer a b first second (subst (λ (s : Show). answers s answer) same holds)
+
+of_show : (look : Look) (words : Words) (g : Adjacency) (answers : Show → Answer → Type 0) (show : Show) (answer : Answer)
+    → IsShow look words g show → answers show answer → AnswersAsked look words g answers answer
+of_show Planning words g answers show answer same holds = subst (λ (s : Show). answers s answer) same holds
+of_show Walk words g answers show answer (a, b, first, second, same) holds =
+    of_ends g (from_name words) (to_name words) (λ x y. answers (Between x y)) answer a b first second (subst (λ (s : Show). answers s answer) same holds)
+of_show Stats words g answers show answer same holds = subst (λ (s : Show). answers s answer) same holds
+of_show Draw words g answers show answer is holds = of_drawn (from_name words) (to_name words) g answers show answer is holds
+of_show Prefixes words g answers show answer same holds = subst (λ (s : Show). answers s answer) same holds
+of_show Ranging words g answers show answer same holds = subst (λ (s : Show). answers s answer) same holds
+
+refuses_drawn : (from to : Option Name) (g : Adjacency) (answers : Show → Answer → Type 0) (line : List ℕ)
+    → AnswersBothEnds g from to (λ ends answer. ⊥) (Refused line) → AnswersBothEnds g from to (λ ends. answers (Drawing ends)) (Refused line)
+refuses_drawn None to g answers line refuses = absurd refuses
+refuses_drawn (Some from) None g answers line refuses = absurd refuses
+refuses_drawn (Some from) (Some to) g answers line refuses = refuses_ends g (Some from) (Some to) (λ x y. answers (Drawing (Some (x, y)))) line refuses
+
+refuses_show : (look : Look) (words : Words) (g : Adjacency) (answers : Show → Answer → Type 0) (line : List ℕ)
+    → RefusesShow look words g line → AnswersAsked look words g answers (Refused line)
+refuses_show Planning words g answers line refuses = absurd refuses
+refuses_show Walk words g answers line refuses = refuses_ends g (from_name words) (to_name words) (λ x y. answers (Between x y)) line refuses
+refuses_show Stats words g answers line refuses = absurd refuses
+refuses_show Draw words g answers line refuses = refuses_drawn (from_name words) (to_name words) g answers line refuses
+refuses_show Prefixes words g answers line refuses = absurd refuses
+refuses_show Ranging words g answers line refuses = absurd refuses
+
+-- ---- answers to the texts
+module _ (look : Look) (words : Words) (texts : List (List ℕ)) (topology : List ℕ) (order : Option (List ℕ)) (are : AreTexts texts topology order)
+    (g : Adjacency) (sound : topology_fault words.format (lines topology) ≡ None) (graph : g ≡ topology_graph words.format (lines topology)) where
+  by_graph : (answer : Answer) → AnswersLabels words order g (AnswersLook look words g) answer → LookAnswers look words texts answer
+  by_graph answer holds = (
+    topology,
+    order,
+    are,
+    of_graph words.format (lines topology) (λ h. AnswersLabels words order h (AnswersLook look words h)) answer sound
+        (subst (λ (h : Adjacency). AnswersLabels words order h (AnswersLook look words h) answer) graph holds),
+  )
+
+  -- labels are refused
+  pub without_labels : (line : List ℕ) → RefusesLabels words order g line → LookAnswers look words texts (Refused line)
+  without_labels line refuses = by_graph (Refused line) (refuses_labels words order g (AnswersLook look words g) line refuses)
+
+  -- an end is refused
+  pub without_show : (labels : Labelling) → IsLabelling words order g labels → (line : List ℕ) → RefusesShow look words g line → LookAnswers look words texts (Refused line)
+  without_show labels is line refuses =
+      by_graph (Refused line) (of_labels words order g (AnswersLook look words g) labels (Refused line) is (refuses_show look words g (AnswersShow words g labels) line refuses))
+
+  -- the plan is shown, or refused
+  pub with_show : (labels : Labelling) → IsLabelling words order g labels → (show : Show) → IsShow look words g show
+      → (answer : Answer) → AnswersShow words g labels show answer → LookAnswers look words texts answer
+  with_show labels is show shown answer holds =
+      by_graph answer (of_labels words order g (AnswersLook look words g) labels answer is (of_show look words g (AnswersShow words g labels) show answer shown holds))
+
+-- what shows a plan is an answer
+pub shown_plan : (g : Adjacency) (kind : Kind) (labels : Labelling) (show : Show) (plan : Plan) → IsPlanBy (topology_of_graph g) kind labels plan
+    → (answer : Answer) → AnswerShows show (names g) plan answer → AnswersText g kind labels (Says show (names g)) answer
+shown_plan g kind labels show plan built (Ran text refusals) shows = (record { plan = plan; built = built; said = shows.0 }, shows.1)
+shown_plan g kind labels show plan built (Found text) shows = absurd shows
+shown_plan g kind labels show plan built (Refused line) shows = absurd shows
+shown_plan g kind labels show plan built NoThread shows = absurd shows

@@ -1,0 +1,119 @@
+-- How a run ends.
+use Rattle.std.proofs.Common.{◌≡◌, ◌≢◌, ℕ, Bool, List, Result, Ok, Err, inl, inr, refl, sym, subst, string_bytes}
+use Rattle.ir_streams.specs.declared.reading.NoInput.{NoInput}
+use Rattle.ir_streams.specs.declared.reading.NoInput.TheVariants.{Unreadable, TooLarge, NoMemory}
+use Rattle.ir_cli.specs.declared.ending.Ending.{Ending}
+use Rattle.ir_cli.specs.declared.ending.Ending.TheVariants as endings
+use Rattle.ir_cli.specs.declared.read.Source.{Source}
+use Rattle.ir_cli.specs.declared.words.Words.{Words}
+use Rattle.ir_cli.specs.declared.words.Sub.{Sub}
+use Rattle.ir_cli.specs.declared.words.Sub.TheVariants.{Plan, Walk, Stats, Draw, Prefixes, Ranges, Sim, Live, Check}
+use Rattle.ir_cli.specs.Answer.{Answer, Ran, Found, Refused, NoThread}
+use Rattle.ir_cli.specs.Ending.{EndsAs, Ends}
+use Rattle.ir_cli.specs.Replied.{RepliesAs, UnreadAs}
+use Rattle.ir_cli.specs.Replies.{answer_of}
+use Rattle.ir_cli.specs.declared.reply.Reply.{Reply}
+use Rattle.ir_cli.specs.Words.{FitsItsKind}
+use Rattle.ir_answer.specs.Asked.{AnswersBy, FitsSub, NoThreads}
+use Rattle.ir_answer.specs.Stops.{Gives, GivenAs}
+use Rattle.ir_answer.specs.declared.asking.Stop.{Stop}
+use Rattle.ir_answer.specs.declared.asking.Stop.TheVariants as stops
+
+-- a source that was not read
+pub given_up : (answers : List (List ℕ) → Answer → Type 0) (ending : Ending) (read : List (List ℕ) → Type 0) (stops : Source → NoInput → Type 0) (out : Bool → List ℕ → Type 0) (unused : Type 0) (told : List ℕ → Type 0)
+    → (source : Source) (why : NoInput) → UnreadAs source ending why told → stops source why → unused → EndsAs answers ending read stops out unused told
+given_up answers ending read stops out unused told source Unreadable outcome stopped nothing =
+    subst (λ (e : Ending). EndsAs answers e read stops out unused told) (sym outcome.0) (source, stopped, nothing, outcome.1)
+given_up answers ending read stops out unused told source TooLarge outcome stopped nothing =
+    subst (λ (e : Ending). EndsAs answers e read stops out unused told) (sym outcome.0) (source, stopped, nothing, outcome.1)
+given_up answers ending read stops out unused told source NoMemory outcome stopped nothing =
+    subst (λ (e : Ending). EndsAs answers e read stops out unused told) (sym outcome.0) (inr (source, stopped), nothing, outcome.1)
+
+-- what was given of an answer is how a run ends
+module _ (P : List (List ℕ) → Answer → Type 0) (texts : List (List ℕ)) (out : Bool → List ℕ → Type 0) (unused : Type 0) (told : List ℕ → Type 0) where
+  abbrev pub EndsSo : Ending → Type 0
+  EndsSo ending = EndsAs P ending (λ read. read ≡ texts) (λ source why. ⊥) out unused told
+
+  replied : (ending : Ending) (answer : Answer) → P texts answer → RepliesAs ending answer out unused told → EndsSo ending
+  replied endings.Done (Ran text refused) holds given = (texts, text, refused, refl, holds, given.0, given.1)
+  replied endings.Unreadable (Ran text refused) holds given = absurd given
+  replied endings.TooLarge (Ran text refused) holds given = absurd given
+  replied endings.Refused (Ran text refused) holds given = absurd given
+  replied endings.Found (Ran text refused) holds given = absurd given
+  replied endings.Unwritable (Ran text refused) holds given = (texts, Ran text refused, text, refl, holds, refl, given.0, given.1)
+  replied endings.NoMemory (Ran text refused) holds given = absurd given
+  replied endings.NoThread (Ran text refused) holds given = absurd given
+  replied endings.Done (Found line) holds given = absurd given
+  replied endings.Unreadable (Found line) holds given = absurd given
+  replied endings.TooLarge (Found line) holds given = absurd given
+  replied endings.Refused (Found line) holds given = absurd given
+  replied endings.Found (Found line) holds given = (texts, line, refl, holds, given.0, given.1)
+  replied endings.Unwritable (Found line) holds given = (texts, Found line, line, refl, holds, refl, given.0, given.1)
+  replied endings.NoMemory (Found line) holds given = absurd given
+  replied endings.NoThread (Found line) holds given = absurd given
+  replied endings.Done (Refused line) holds given = absurd given
+  replied endings.Unreadable (Refused line) holds given = absurd given
+  replied endings.TooLarge (Refused line) holds given = absurd given
+  replied endings.Refused (Refused line) holds given = (texts, line, refl, holds, given.0, given.1)
+  replied endings.Found (Refused line) holds given = absurd given
+  replied endings.Unwritable (Refused line) holds given = absurd given
+  replied endings.NoMemory (Refused line) holds given = absurd given
+  replied endings.NoThread (Refused line) holds given = absurd given
+  replied endings.Done NoThread holds given = absurd given
+  replied endings.Unreadable NoThread holds given = absurd given
+  replied endings.TooLarge NoThread holds given = absurd given
+  replied endings.Refused NoThread holds given = absurd given
+  replied endings.Found NoThread holds given = absurd given
+  replied endings.Unwritable NoThread holds given = absurd given
+  replied endings.NoMemory NoThread holds given = absurd given
+  replied endings.NoThread NoThread holds given = (texts, refl, holds, given.0, given.1)
+
+  pub ends_given : (given : Result Reply Stop) (ending : Ending) → Gives (P texts) given → GivenAs given ending out unused told → EndsSo ending
+  ends_given (Ok reply) ending holds given = replied ending (answer_of reply) holds given
+  ends_given (Err (stops.Refused line)) ending holds given = replied ending (Refused (string_bytes line)) holds given
+  ends_given (Err stops.NoMemory) ending holds (same, nothing, line) = subst EndsSo (sym same) (inl (texts, refl), nothing, line)
+
+-- a run that ends by some answers ends by more
+module _ (P Q : List (List ℕ) → Answer → Type 0) (more : (texts : List (List ℕ)) (answer : Answer) → P texts answer → Q texts answer)
+    (read : List (List ℕ) → Type 0) (stops : Source → NoInput → Type 0) (out : Bool → List ℕ → Type 0) (unused : Type 0) (told : List ℕ → Type 0) where
+  ends_as_more : (ending : Ending) → EndsAs P ending read stops out unused told → EndsAs Q ending read stops out unused told
+  ends_as_more endings.Done (texts, text, refused, was_read, answers, wrote, line) =
+      (texts, text, refused, was_read, more texts (Ran text refused) answers, wrote, line)
+  ends_as_more endings.Unreadable holds = holds
+  ends_as_more endings.TooLarge holds = holds
+  ends_as_more endings.Refused (texts, line, was_read, answers, nothing, was_told) =
+      (texts, line, was_read, more texts (Refused line) answers, nothing, was_told)
+  ends_as_more endings.Found (texts, line, was_read, answers, wrote, was_told) =
+      (texts, line, was_read, more texts (Found line) answers, wrote, was_told)
+  ends_as_more endings.Unwritable (texts, answer, text, was_read, answers, is_printed, wrote, was_told) =
+      (texts, answer, text, was_read, more texts answer answers, is_printed, wrote, was_told)
+  ends_as_more endings.NoMemory holds = holds
+  ends_as_more endings.NoThread (texts, was_read, answers, nothing, was_told) = (texts, was_read, more texts NoThread answers, nothing, was_told)
+
+  pub ends_more : (status : ℕ) → Ends P status read stops out unused told → Ends Q status read stops out unused told
+  ends_more status (ending, same, holds) = (ending, same, ends_as_more ending holds)
+
+-- what is answered to another subcommand hangs on no answer of `live`
+pub without_live : (live : Words → List (List ℕ) → Answer → Type 0) (sub : Sub) → sub ≢ Live → (words : Words) (texts : List (List ℕ)) (answer : Answer)
+    → AnswersBy NoThreads sub words texts answer → AnswersBy live sub words texts answer
+without_live live Plan other words texts answer holds = holds
+without_live live Walk other words texts answer holds = holds
+without_live live Stats other words texts answer holds = holds
+without_live live Draw other words texts answer holds = holds
+without_live live Prefixes other words texts answer holds = holds
+without_live live Ranges other words texts answer holds = holds
+without_live live Sim other words texts answer holds = holds
+without_live live Live other words texts answer holds = absurd (other refl)
+without_live live Check other words texts answer holds = holds
+
+-- words that fit their kind fit each subcommand
+pub fits_sub : (sub : Sub) (words : Words) → FitsItsKind words → FitsSub sub words
+fits_sub Plan words fits = fits
+fits_sub Walk words fits = fits
+fits_sub Stats words fits = fits
+fits_sub Draw words fits = fits
+fits_sub Prefixes words fits = fits
+fits_sub Ranges words fits = fits
+fits_sub Sim words fits = tt
+fits_sub Live words fits = tt
+fits_sub Check words fits = tt

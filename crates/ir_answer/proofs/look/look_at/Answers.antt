@@ -1,0 +1,32 @@
+use Rattle.std.proofs.Common.{ℕ, List}
+use Rattle.ir_cli.specs.Answer.{Refused}
+use Rattle.ir_cli.specs.Reading.{texts_of}
+use Rattle.ir_answer.specs.Looks.{order_in, AnswersShow, RefusesShow, LookAnswers}
+use Rattle.ir_plan.specs.Building.{labelling_of}
+use Rattle.ir_answer.proofs.Answering.{stops_more, gives_more}
+use Rattle.ir_answer.proofs.Looking.{with_show, without_show}
+use Rattle.ir_answer.proofs.look.look_at.Goals as goal
+
+pub returns-in-Ok : goal.returns-in-Ok
+returns-in-Ok g c =
+    let look = c.args.look in
+    let w = c.args.words.now in
+    let texts : List (List ℕ) = texts_of c.args.texts.now in
+    let graph = c.in_ok-graph.graph in
+    let labels = labelling_of c.in_ok-labels.labels in
+    gives_more (AnswersShow w graph labels c.in-Ok.show) (LookAnswers look w texts)
+    (with_show look w texts c.look_texts.result.0.now (order_in c.look_texts.result.1) c.look_texts.ensures.texts graph c.in_ok-graph.ensures.sound c.in_ok-graph.ensures.graph
+    labels c.in_ok-labels.ensures.labels c.in-Ok.show c.in-Ok.ensures.show)
+    c.show_plan.result c.show_plan.ensures
+
+pub returns-in-Err : goal.returns-in-Err
+returns-in-Err g c =
+    let look = c.args.look in
+    let w = c.args.words.now in
+    let texts : List (List ℕ) = texts_of c.args.texts.now in
+    let graph = c.in_ok-graph.graph in
+    let labels = labelling_of c.in_ok-labels.labels in
+    stops_more (RefusesShow look w graph) (λ line. LookAnswers look w texts (Refused line))
+    (without_show look w texts c.look_texts.result.0.now (order_in c.look_texts.result.1) c.look_texts.ensures.texts graph c.in_ok-graph.ensures.sound c.in_ok-graph.ensures.graph
+    labels c.in_ok-labels.ensures.labels)
+    c.in-Err.stop c.in-Err.ensures.stop

@@ -1,0 +1,98 @@
+-- What the words ask for: which inputs are read, and the answers to their texts.
+use Rattle.std.specs.Prelude.{◌≡◌, ℕ, if◌then◌else◌, List, [], ◌∷◌}
+use Rattle.ir_model.specs.Text.{lines}
+use Rattle.ir_cli.specs.declared.words.Words.{Words}
+use Rattle.ir_cli.specs.declared.read.Source.{Source}
+use Rattle.ir_cli.specs.declared.read.Source.TheVariants.{Input, Topology, Script, Trace, Numbering}
+use Rattle.ir_cli.specs.declared.words.Sub.{Sub}
+use Rattle.ir_cli.specs.declared.words.Sub.TheVariants.{Plan, Walk, Stats, Draw, Prefixes, Ranges, Sim, Live, Check}
+use Rattle.ir_answer.specs.declared.look.Look.TheVariants as look
+use Rattle.ir_answer.specs.Looks.{LookAnswers}
+use Rattle.ir_cli.specs.Answer.{Answer, NoThread}
+use Rattle.ir_cli.specs.Words.{is_one_input, has_order, FitsItsKind}
+use Rattle.ir_cli.specs.Cut.{topology_part, script_part, EndsWithBytes}
+use Rattle.ir_cli.specs.Openings.{AnswersTopology}
+use Rattle.ir_answer.specs.Plays.{AnswersScript}
+use Rattle.ir_answer.specs.Checks.{AnswersChecked}
+
+-- the inputs of `plan`, `walk`, `stats`, `draw`, `prefixes` and `ranges`, of `sim` and `live`, and of `check`, in the
+-- order of reading
+abbrev pub look_sources : Words → List Source
+look_sources words = (if is_one_input words then Input else Topology) ∷ (if has_order words then Numbering ∷ [] else [])
+
+abbrev pub sim_sources : Words → List Source
+sim_sources words = if is_one_input words then Input ∷ [] else Topology ∷ Script ∷ []
+
+abbrev pub check_sources : Words → List Source
+check_sources words = if is_one_input words then Input ∷ [] else Topology ∷ Script ∷ Trace ∷ []
+
+-- the texts of a topology and of a script: the parts of one text that is cut, or two texts
+abbrev pub AreTwo : List (List ℕ) → List ℕ → List ℕ → Type 0
+AreTwo [] topology script = ⊥
+AreTwo (input ∷ []) topology script = (lines topology ≡ topology_part (lines input)) × (lines script ≡ script_part (lines input))
+AreTwo (first ∷ second ∷ []) topology script = (topology ≡ first) × (script ≡ second)
+AreTwo (first ∷ second ∷ third ∷ texts) topology script = ⊥
+
+-- the texts of a topology, of a script and of a trace: the parts of one text that is cut, or three texts
+abbrev pub AreThree : List (List ℕ) → List ℕ → List ℕ → List ℕ → Type 0
+AreThree [] topology script trace = ⊥
+AreThree (input ∷ []) topology script trace =
+    (lines topology ≡ topology_part (lines input)) × (lines script ≡ topology_part (script_part (lines input)))
+    × (lines trace ≡ script_part (script_part (lines input))) × EndsWithBytes input trace
+AreThree (first ∷ second ∷ []) topology script trace = ⊥
+AreThree (first ∷ second ∷ third ∷ []) topology script trace = (topology ≡ first) × (script ≡ second) × (trace ≡ third)
+AreThree (first ∷ second ∷ third ∷ fourth ∷ texts) topology script trace = ⊥
+
+-- the answers of `sim` and of `check` to the texts of their inputs
+abbrev pub SimAnswers : Words → List (List ℕ) → Answer → Type 0
+SimAnswers words texts answer =
+    (topology script : List ℕ) × AreTwo texts topology script
+    × AnswersTopology words.format (lines topology) (AnswersScript words (lines script)) answer
+
+abbrev pub CheckAnswers : Words → List (List ℕ) → Answer → Type 0
+CheckAnswers words texts answer =
+    (topology script trace : List ℕ) × AreThree texts topology script trace
+    × AnswersTopology words.format (lines topology) (AnswersChecked words (lines script) trace) answer
+
+-- the same, by the subcommand
+abbrev pub sources_by : Sub → Words → List Source
+sources_by Plan words = look_sources words
+sources_by Walk words = look_sources words
+sources_by Stats words = look_sources words
+sources_by Draw words = look_sources words
+sources_by Prefixes words = look_sources words
+sources_by Ranges words = look_sources words
+sources_by Sim words = sim_sources words
+sources_by Live words = sim_sources words
+sources_by Check words = check_sources words
+
+abbrev pub sources_of : Words → List Source
+sources_of words = sources_by words.sub words
+
+-- the words may be those of the subcommand: where a plan is shown, an order that is a file's is of no tree
+abbrev pub FitsSub : Sub → Words → Type 0
+FitsSub Sim words = Unit {0}
+FitsSub Live words = Unit {0}
+FitsSub Check words = Unit {0}
+FitsSub sub words = FitsItsKind words
+
+-- the answers of a subcommand, of which those of `live` are another crate's
+module _ (live : Words → List (List ℕ) → Answer → Type 0) where
+  abbrev pub AnswersBy : Sub → Words → List (List ℕ) → Answer → Type 0
+  AnswersBy Plan words texts answer = LookAnswers look.Plan words texts answer
+  AnswersBy Walk words texts answer = LookAnswers look.Walk words texts answer
+  AnswersBy Stats words texts answer = LookAnswers look.Stats words texts answer
+  AnswersBy Draw words texts answer = LookAnswers look.Draw words texts answer
+  AnswersBy Prefixes words texts answer = LookAnswers look.Prefixes words texts answer
+  AnswersBy Ranges words texts answer = LookAnswers look.Ranges words texts answer
+  AnswersBy Sim words texts answer = SimAnswers words texts answer
+  AnswersBy Live words texts answer = live words texts answer
+  AnswersBy Check words texts answer = CheckAnswers words texts answer
+
+  -- the answers to the texts of the inputs that the words ask for
+  abbrev pub Answers : Words → List (List ℕ) → Answer → Type 0
+  Answers words texts answer = AnswersBy words.sub words texts answer
+
+-- the answer of `live` where no thread is started
+abbrev pub NoThreads : Words → List (List ℕ) → Answer → Type 0
+NoThreads words texts answer = answer ≡ NoThread

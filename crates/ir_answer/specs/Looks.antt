@@ -1,0 +1,152 @@
+-- What a topology comes to as a text that shows its plan: its rows, the order of its labels, a walk, its figures, a
+-- drawing, its forwarding tables, or its ranges of labels.
+use Rattle.std.specs.Prelude.{◌≡◌, ◌<◌, ℕ, IfSome, List, [], ◌∷◌, Option, None, Some, if◌then◌else◌, string_bytes}
+use Rattle.std.specs.Option.{option_map}
+use Rattle.std.specs.Borrow.{Bor}
+use Rattle.ir_model.specs.Graph.{Name, Adjacency, names}
+use Rattle.ir_model.specs.Text.{lines}
+use Rattle.ir_show.specs.PlanText.{plan_text}
+use Rattle.ir_show.specs.WalkText.{IsWalkOf}
+use Rattle.ir_figures.specs.FiguresText.{AreFiguresOf}
+use Rattle.ir_show.specs.Drawing.{IsDrawingOf}
+use Rattle.ir_lines.specs.OrderText.{order_text}
+use Rattle.ir_lines.specs.PrefixesText.{IsPrefixesOf}
+use Rattle.ir_lines.specs.RangesText.{ranges_text}
+use Rattle.ir_cli.specs.declared.words.Words.{Words}
+use Rattle.ir_answer.specs.declared.look.Show.{Show}
+use Rattle.ir_answer.specs.declared.look.Show.TheVariants.{Rows, Between, Figures, Drawing, Tables, Ranges, Order}
+use Rattle.ir_answer.specs.declared.look.Look.{Look}
+use Rattle.ir_answer.specs.declared.look.Look.TheVariants.{Plan as Planning, Walk, Stats, Draw, Prefixes, Ranges as Ranging}
+use Rattle.ir_order.specs.Order.{IsOrder}
+use Rattle.ir_cli.specs.Answer.{Answer, Ran, Found, Refused, NoThread}
+use Rattle.ir_cli.specs.Openings.{root_name, root_in, label_order, AnswersTopology, AnswersRoot, AnswersOrder}
+use Rattle.ir_model.specs.Plan.{Plan}
+use Rattle.ir_plan.specs.Building.{Labelling, FromRoot, ByList}
+use Rattle.ir_answer.specs.Plans.{AnswersText}
+
+-- the names of the ends of a walk, if the words have them
+abbrev pub from_name : Words → Option Name
+from_name words = option_map string_bytes words.from
+
+abbrev pub to_name : Words → Option Name
+to_name words = option_map string_bytes words.to
+
+-- The answer to a graph and the names of two ends: the refusal of the first end that is no node, or else an answer to their
+-- numbers. Where there is no name the end is the first node.
+abbrev pub AnswersEnds : Adjacency → Option Name → Option Name → (ℕ → ℕ → Answer → Type 0) → Answer → Type 0
+AnswersEnds g from to answers = AnswersRoot g from (λ a. AnswersRoot g to (λ b. answers a b))
+
+-- the same where the ends are left out unless both are named
+abbrev pub AnswersBothEnds : Adjacency → Option Name → Option Name → (Option (ℕ × ℕ) → Answer → Type 0) → Answer → Type 0
+AnswersBothEnds g None to answers = answers None
+AnswersBothEnds g (Some from) None answers = answers None
+AnswersBothEnds g (Some from) (Some to) answers = AnswersEnds g (Some from) (Some to) (λ a b. answers (Some (a, b)))
+
+-- what a text of a plan says, by what is shown
+abbrev pub Says : Show → List Name → Plan → List ℕ → Type 0
+Says Rows nodes plan text = text ≡ plan_text nodes plan
+Says (Between a b) nodes plan text = IsWalkOf nodes plan a b text
+Says Figures nodes plan text = AreFiguresOf nodes plan text
+Says (Drawing ends) nodes plan text = IsDrawingOf nodes plan ends text
+Says (Tables is_disjoint) nodes plan text = IsPrefixesOf is_disjoint nodes plan text
+Says Ranges nodes plan text = text ≡ ranges_text nodes plan
+Says Order nodes plan text = text ≡ order_text nodes plan
+
+-- what an answer says of a plan, by what is shown
+abbrev pub AnswerShows : Show → List Name → Plan → Answer → Type 0
+AnswerShows show nodes plan (Ran text refusals) = Says show nodes plan text × (refusals ≡ [])
+AnswerShows show nodes plan (Found text) = ⊥
+AnswerShows show nodes plan (Refused line) = ⊥
+AnswerShows show nodes plan NoThread = ⊥
+
+-- the ends of what is shown, if it has any, are among so many nodes
+abbrev pub AreAmong : ℕ → Show → Type 0
+AreAmong n Rows = Unit {0}
+AreAmong n (Between a b) = (a < n) × (b < n)
+AreAmong n Figures = Unit {0}
+AreAmong n (Drawing ends) = IfSome ends (λ e. (e.0 < n) × (e.1 < n))
+AreAmong n (Tables is_disjoint) = Unit {0}
+AreAmong n Ranges = Unit {0}
+AreAmong n Order = Unit {0}
+
+-- the answer to a graph and labels, by what is shown
+abbrev pub AnswersShow : Words → Adjacency → Labelling → Show → Answer → Type 0
+AnswersShow words g labels show = AnswersText g words.kind labels (Says show (names g))
+
+-- what `plan` shows: the rows, or the order of the labels
+abbrev pub rows_or_order : Words → Show
+rows_or_order words = if words.order_alone then Order else Rows
+
+-- The answer to a graph, by what is asked for: the refusal of an end that is no node, or else an answer to what is to be
+-- shown.
+abbrev pub AnswersAsked : Look → Words → Adjacency → (Show → Answer → Type 0) → Answer → Type 0
+AnswersAsked Planning words g answers = answers (rows_or_order words)
+AnswersAsked Walk words g answers = AnswersEnds g (from_name words) (to_name words) (λ a b. answers (Between a b))
+AnswersAsked Stats words g answers = answers Figures
+AnswersAsked Draw words g answers = AnswersBothEnds g (from_name words) (to_name words) (λ ends. answers (Drawing ends))
+AnswersAsked Prefixes words g answers = answers (Tables words.disjoint)
+AnswersAsked Ranging words g answers = answers Ranges
+
+-- the answer to a graph and labels, by what is asked for
+abbrev pub AnswersLook : Look → Words → Adjacency → Labelling → Answer → Type 0
+AnswersLook look words g labels = AnswersAsked look words g (AnswersShow words g labels)
+
+-- The answer to a graph: that to its labels from the root that the words name, or by an order where there is one.
+abbrev pub AnswersLabels : Words → Option (List ℕ) → Adjacency → (Labelling → Answer → Type 0) → Answer → Type 0
+AnswersLabels words None g answers = AnswersRoot g (root_name words) (λ root. answers (FromRoot (label_order words.numbering) root))
+AnswersLabels words (Some order) g answers = AnswersOrder g (lines order) (λ places. answers (ByList places))
+
+-- the text of an order, if there is one
+abbrev pub order_in : Option (Bor (List ℕ)) → Option (List ℕ)
+order_in order = option_map (λ (text : Bor (List ℕ)). text.now) order
+
+-- the texts of a topology and, where there is one, of an order
+abbrev pub AreTexts : List (List ℕ) → List ℕ → Option (List ℕ) → Type 0
+AreTexts [] topology order = ⊥
+AreTexts (first ∷ []) topology None = topology ≡ first
+AreTexts (first ∷ []) topology (Some order) = ⊥
+AreTexts (first ∷ second ∷ []) topology None = ⊥
+AreTexts (first ∷ second ∷ []) topology (Some order) = (topology ≡ first) × (order ≡ second)
+AreTexts (first ∷ second ∷ third ∷ texts) topology order = ⊥
+
+-- the answers to the text of a topology, or to that text and an order's
+abbrev pub LookAnswers : Look → Words → List (List ℕ) → Answer → Type 0
+LookAnswers look words texts answer =
+    (topology : List ℕ) × (order : Option (List ℕ)) × AreTexts texts topology order
+    × AnswersTopology words.format (lines topology) (λ g. AnswersLabels words order g (AnswersLook look words g)) answer
+
+-- ---- what is read before a plan is built
+
+-- the number of a node of this name, or of the first where there is no name
+abbrev pub IsNode : Adjacency → Option Name → ℕ → Type 0
+IsNode g name u = root_in (names g) name ≡ Some u
+
+-- the labels that the words ask for
+abbrev pub IsLabelling : Words → Option (List ℕ) → Adjacency → Labelling → Type 0
+IsLabelling words None g labels = (root : ℕ) × IsNode g (root_name words) root × (labels ≡ FromRoot (label_order words.numbering) root)
+IsLabelling words (Some order) g labels = (places : List ℕ) × IsOrder (names g) (lines order) places × (labels ≡ ByList places)
+
+-- what the words ask to be drawn
+abbrev pub IsDrawn : Option Name → Option Name → Adjacency → Show → Type 0
+IsDrawn None to g show = show ≡ Drawing None
+IsDrawn (Some from) None g show = show ≡ Drawing None
+IsDrawn (Some from) (Some to) g show = (a b : ℕ) × IsNode g (Some from) a × IsNode g (Some to) b × (show ≡ Drawing (Some (a, b)))
+
+-- what the words ask to be shown
+abbrev pub IsShow : Look → Words → Adjacency → Show → Type 0
+IsShow Planning words g show = show ≡ rows_or_order words
+IsShow Walk words g show = (a b : ℕ) × IsNode g (from_name words) a × IsNode g (to_name words) b × (show ≡ Between a b)
+IsShow Stats words g show = show ≡ Figures
+IsShow Draw words g show = IsDrawn (from_name words) (to_name words) g show
+IsShow Prefixes words g show = show ≡ Tables words.disjoint
+IsShow Ranging words g show = show ≡ Ranges
+
+-- the line of a refusal that comes before any plan: of the root or the order, of an end
+abbrev pub RefusesLabels : Words → Option (List ℕ) → Adjacency → List ℕ → Type 0
+RefusesLabels words order g line = AnswersLabels words order g (λ labels answer. ⊥) (Refused line)
+
+abbrev pub RefusesEnds : Adjacency → Option Name → Option Name → List ℕ → Type 0
+RefusesEnds g from to line = AnswersEnds g from to (λ a b answer. ⊥) (Refused line)
+
+abbrev pub RefusesShow : Look → Words → Adjacency → List ℕ → Type 0
+RefusesShow look words g line = AnswersAsked look words g (λ show answer. ⊥) (Refused line)

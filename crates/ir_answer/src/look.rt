@@ -1,0 +1,239 @@
+//! What is shown of a topology's plan, from the text of the topology.
+ghost use Rattle.std.specs.Prelude.{◌≡◌, ◌≢◌, ◌<◌, ℕ, IfOk, IfErr, IsSome, length, string_bytes};
+ghost use Rattle.ir_model.specs.{Graph.names, Topology.node_count};
+ghost use Rattle.ir_answer.specs.Asked.{look_sources};
+ghost use Rattle.ir_answer.specs.Looks.{from_name, to_name, AnswersShow, AreAmong, AreTexts, Says, AnswerShows, order_in, IsNode, IsLabelling, IsShow, RefusesLabels, RefusesEnds, RefusesShow, LookAnswers, rows_or_order};
+ghost use Rattle.ir_answer.specs.Stops.{StopsAs, Gives};
+ghost use Rattle.ir_model.specs.OfGraph.{topology_of_graph};
+ghost use Rattle.ir_plan.specs.Building.{MayLabel, labelling_of};
+ghost use Rattle.ir_cli.specs.{Reading.texts_of, Replies.answer_of, Words.FitsItsKind};
+
+use crate::asking::{Stop, opening_stop, read_graph, read_node};
+use ir_cli::{Reply, Words, label_order, numbering_line};
+use ir_core::OpenError;
+use ir_figures::figures_text;
+use ir_graph::Graph;
+use ir_lines::{LineCrew, order_text, ranges_text};
+use ir_model::Kind;
+use ir_order::{OrderFaultKind, read_order};
+use ir_plan::{Labels, Plan};
+use ir_show::plan_text::PlanText;
+use ir_show::{draw_text, walk_text};
+use ir_tables::Topology;
+use std::alloc::{AllocError, Global};
+
+/// What of a plan is asked for.
+#[derive(Clone, Copy, Debug, PartialEq, Eq)]
+pub enum Look {
+    /// Its rows.
+    Plan,
+    /// A walk of it.
+    Walk,
+    /// Its figures.
+    Stats,
+    /// A drawing of it.
+    Draw,
+    /// Its forwarding tables.
+    Prefixes,
+    /// Its ranges of labels.
+    Ranges,
+}
+
+/// What of a plan is shown.
+#[derive(Clone, Copy, Debug, PartialEq, Eq)]
+pub enum Show {
+    Rows,
+    /// The walk from a node to another.
+    Between(u16, u16),
+    Figures,
+    /// A drawing, with the walk between two nodes in bold if there are any.
+    Drawing(Option<(u16, u16)>),
+    /// The forwarding tables, disjoint or not.
+    Tables(bool),
+    /// The ranges of labels.
+    Ranges,
+    /// The order of the labels.
+    Order,
+}
+
+/// What is shown of a plan other than its rows.
+fn text_of(
+    crew: &impl LineCrew,
+    alloc: Global,
+    graph: &Graph,
+    plan: &Plan,
+    show: Show,
+    most: Option<usize>,
+) -> Result<String, AllocError>
+    requires nodes { node_count plan.now.topology ≡ length graph.now }
+    requires ends { AreAmong (length graph.now) show }
+    requires no_rows { show ≢ Show.Rows }
+    ensures { IfOk result (λ text. Says show (names graph.now) plan.now (string_bytes text)) }
+{
+    match show {
+        Show::Rows => unreachable!(),
+        Show::Between(from, to) => walk_text(alloc, graph, plan, from, to),
+        Show::Figures => figures_text(alloc, graph, plan),
+        Show::Drawing(ends) => draw_text(alloc, graph, plan, ends),
+        Show::Tables(is_disjoint) => crew.prefixes(alloc, graph, plan, is_disjoint, most),
+        Show::Ranges => ranges_text(alloc, graph, plan),
+        Show::Order => order_text(alloc, graph, plan),
+    }
+}
+
+/// What is shown of a plan. The text of its rows is written as it is made, and each other text is made whole.
+fn reply_of(
+    crew: &impl LineCrew,
+    alloc: Global,
+    graph: Graph,
+    plan: Plan,
+    show: Show,
+    most: Option<usize>,
+) -> Result<Reply, AllocError>
+    requires nodes { node_count plan.topology ≡ length graph }
+    requires ends { AreAmong (length graph) show }
+    ensures { IfOk result (λ reply. AnswerShows show (names graph) plan (answer_of reply)) }
+{
+    if show == Show::Rows {
+        return Ok(Reply::Plan(PlanText::new(alloc, graph, plan)?));
+    }
+    let text = text_of(crew, alloc, &graph, &plan, show, most)?;
+    Ok(Reply::Ran(text, String::new(alloc)))
+}
+
+/// The texts of a topology and, where the words have one, of an order.
+fn look_texts<'a>(words: &Words, texts: &'a [Vec<u8>]) -> (&'a [u8], Option<&'a [u8]>)
+    requires kind { FitsItsKind words.now }
+    requires texts { length texts.now ≡ length (look_sources words.now) }
+    ensures texts { AreTexts (texts_of texts.now) result.0.now (order_in result.1) }
+    ensures kind { IsSome result.1 → words.now.kind ≢ Kind.Tree }
+{
+    if words.has_order() {
+        (texts[0].as_slice(), Some(texts[1].as_slice()))
+    } else {
+        (texts[0].as_slice(), None)
+    }
+}
+
+/// By what the words ask the nodes to be labelled: from the root that they name, or by an order where there is one.
+fn read_labels(
+    alloc: Global,
+    words: &Words,
+    graph: &Graph,
+    order: Option<&[u8]>,
+) -> Result<Labels, Stop>
+    requires { IsSome order → words.now.kind ≢ Kind.Tree }
+    ensures labels { IfOk result (λ labels. IsLabelling words.now (order_in order.entry) graph.now
+        (labelling_of labels)) }
+    ensures may { IfOk result (λ labels. MayLabel (topology_of_graph graph.now) words.now.kind (labelling_of labels)) }
+    ensures stop { IfErr result (λ s. StopsAs s
+        (RefusesLabels words.now (order_in order.entry) graph.now)) }
+{
+    let Some(text) = order else {
+        let root = read_node(alloc, graph, &words.root)?;
+        return Ok(Labels::FromRoot(label_order(&words.numbering), root));
+    };
+    match read_order(alloc, graph, text) {
+        Ok(order) => Ok(Labels::Listed(order)),
+        Err(fault) => match fault.kind {
+            OrderFaultKind::NoMemory => Err(Stop::NoMemory),
+            kind => Err(Stop::Refused(numbering_line(alloc, fault.line, kind)?)),
+        },
+    }
+}
+
+/// The numbers of the ends that the words name.
+fn read_ends(alloc: Global, words: &Words, graph: &Graph) -> Result<(u16, u16), Stop>
+    ensures from { IfOk result (λ ends. IsNode graph.now (from_name words.now) ends.0) }
+    ensures to { IfOk result (λ ends. IsNode graph.now (to_name words.now) ends.1) }
+    ensures among { IfOk result (λ ends. 0 < length graph.now
+        → (ends.0 < length graph.now) × (ends.1 < length graph.now)) }
+    ensures stop { IfErr result (λ s. StopsAs s (RefusesEnds graph.now (from_name words.now) (to_name words.now))) }
+{
+    let from = read_node(alloc, graph, &words.from)?;
+    let to = read_node(alloc, graph, &words.to)?;
+    Ok((from, to))
+}
+
+/// What `plan` shows: the rows, or the order of the labels.
+fn rows_or_order(words: &Words) -> Show
+    ensures shown { result ≡ rows_or_order words.now }
+    ensures among { (n : ℕ) → AreAmong n result }
+{
+    if words.order_alone {
+        Show::Order
+    } else {
+        Show::Rows
+    }
+}
+
+/// What of a plan is to be shown, with the ends that the words name. A drawing has ends only where both are named.
+fn read_show(alloc: Global, look: Look, words: &Words, graph: &Graph) -> Result<Show, Stop>
+    ensures show { IfOk result (λ show. IsShow look words.now graph.now show) }
+    ensures among { IfOk result (λ show. 0 < length graph.now → AreAmong (length graph.now) show) }
+    ensures stop { IfErr result (λ s. StopsAs s (RefusesShow look words.now graph.now)) }
+{
+    match look {
+        Look::Plan => Ok(rows_or_order(words)),
+        Look::Stats => Ok(Show::Figures),
+        Look::Prefixes => Ok(Show::Tables(words.disjoint)),
+        Look::Ranges => Ok(Show::Ranges),
+        Look::Walk => {
+            let (from, to) = read_ends(alloc, words, graph)?;
+            Ok(Show::Between(from, to))
+        }
+        Look::Draw => {
+            if words.from.is_none() || words.to.is_none() {
+                return Ok(Show::Drawing(None));
+            }
+            let ends = read_ends(alloc, words, graph)?;
+            Ok(Show::Drawing(Some(ends)))
+        }
+    }
+}
+
+/// The answer that shows a plan, or tells what refuses it.
+fn show_plan(
+    crew: &impl LineCrew,
+    alloc: Global,
+    words: &Words,
+    graph: Graph,
+    labels: Labels,
+    show: Show,
+) -> Result<Reply, Stop>
+    requires labels { MayLabel (topology_of_graph graph) words.now.kind (labelling_of labels) }
+    requires ends { 0 < length graph → AreAmong (length graph) show }
+    ensures { Gives (AnswersShow words.now graph (labelling_of labels) show) result }
+{
+    let topology = Topology::of(alloc, &graph)?;
+    match Plan::build_by(crew, alloc, topology, words.kind, labels, words.threads) {
+        Ok(plan) => {
+            let _nodes = plan.nodes();
+            Ok(reply_of(crew, alloc, graph, plan, show, words.threads)?)
+        }
+        Err((error, _topology)) => Err(opening_stop(alloc, OpenError::from(error))),
+    }
+}
+
+/// The answer to the text of a topology, and to that of an order where the words have one: what is shown of the plan.
+/// Refused are, in this order, the topology's first fault, the order's or a root that is no node, an end that is none, and
+/// what refuses the plan. The plan's rows are made by a crew.
+pub fn look_at(
+    crew: &impl LineCrew,
+    alloc: Global,
+    look: Look,
+    words: &Words,
+    texts: &[Vec<u8>],
+) -> Result<Reply, Stop>
+    requires kind { FitsItsKind words.now }
+    requires texts { length texts.now ≡ length (look_sources words.now) }
+    ensures { Gives (LookAnswers look words.now (texts_of texts.now)) result }
+{
+    let (topology, order) = look_texts(words, texts);
+    let graph = read_graph(alloc, words.format, topology)?;
+    let labels = read_labels(alloc, words, &graph, order)?;
+    match read_show(alloc, look, words, &graph) {
+        Ok(show) => show_plan(crew, alloc, words, graph, labels, show),
+        Err(stop) => Err(stop),
+    }
+}

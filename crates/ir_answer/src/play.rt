@@ -1,0 +1,116 @@
+//! A run of a script's steps, from the texts of a topology and a script.
+ghost use Rattle.std.specs.{Prelude.{◌≡◌, false, IfOk, string_bytes}, List.list_any};
+ghost use Rattle.ir_model.specs.{Graph.names, OfGraph.topology_of_graph, Text.lines};
+ghost use Rattle.ir_trace.specs.Written.{HaveSegments};
+ghost use Rattle.ir_cli.specs.Openings.{AnswersTopology};
+ghost use Rattle.ir_answer.specs.{Plays.{wants_memory, refused_text, run_text, AnswersScript}, Stops.Gives};
+
+use crate::asking::{Stop, opening_stop, read_asked};
+use ir_cli::{Reply, Words, opening_of, push_reply_line};
+use ir_core::{Played, Record, Refused, Reply as Answered, Step, play_by};
+use ir_graph::Graph;
+use ir_plan::Crew;
+use ir_tables::Topology;
+use ir_trace::{trace_text, trace_text_2};
+use std::alloc::{AllocError, Global};
+
+/// Whether some step wanted memory.
+fn wants_memory(replies: &[Result<Answered, Refused>]) -> bool
+    ensures { result ≡ list_any wants_memory replies.now }
+{
+    replies
+        .iter()
+        .any(|reply| matches!(*reply, Err(Refused::NoMemory)))
+}
+
+/// A line for each step that was refused.
+fn refused_text(
+    alloc: Global,
+    lines: &[usize],
+    replies: &[Result<Answered, Refused>],
+) -> Result<String, AllocError>
+    ensures { IfOk result (λ text. string_bytes text ≡ refused_text lines.now replies.now) }
+{
+    let mut text = String::new(alloc);
+    for i in 0..lines.len().min(replies.len()) {
+        push_reply_line(&mut text, lines[i], replies[i])?;
+    }
+    Ok(text)
+}
+
+/// The trace of records: that of their segments where packets may be restamped.
+pub fn run_text(
+    alloc: Global,
+    graph: &Graph,
+    topology: &Topology,
+    restamps: u8,
+    records: &[Record],
+) -> Result<String, AllocError>
+    requires over { topology.now ≡ topology_of_graph graph.now }
+    requires records { HaveSegments topology.now records.now }
+    ensures { IfOk result (λ text. string_bytes text
+        ≡ run_text restamps (names graph.now) topology.now records.now) }
+{
+    if restamps == 0 {
+        trace_text(alloc, graph, topology, records)
+    } else {
+        trace_text_2(alloc, graph, topology, records)
+    }
+}
+
+/// The trace of a run, and a line for each step that was refused.
+fn run_texts(
+    alloc: Global,
+    graph: &Graph,
+    topology: &Topology,
+    restamps: u8,
+    lines: &[usize],
+    played: Played,
+) -> Result<(String, String), AllocError>
+    requires over { topology.now ≡ topology_of_graph graph.now }
+    requires opened { played.world.opening.topology ≡ topology.now }
+    ensures in_memory { IfOk result (λ _. list_any wants_memory played.replies.items ≡ false) }
+    ensures trace { IfOk result (λ texts. string_bytes texts.0
+        ≡ run_text restamps (names graph.now) topology.now played.world.records) }
+    ensures told { IfOk result (λ texts. string_bytes texts.1 ≡ refused_text lines.now played.replies.items) }
+{
+    let Played { world, replies } = played;
+    if wants_memory(replies.as_slice()) {
+        return Err(AllocError);
+    }
+    let _nodes = world.nodes();
+    let records = world.into_records();
+    let trace = run_text(alloc, graph, topology, restamps, records.as_slice())?;
+    let refused = refused_text(alloc, lines, replies.as_slice())?;
+    Ok((trace, refused))
+}
+
+/// The answer of `sim` to the texts of a topology and of a script: the trace of the packets, and a line for each step that
+/// was refused. Plans are made by a crew.
+pub fn simulate(
+    crew: &impl Crew,
+    alloc: Global,
+    words: &Words,
+    topology: &[u8],
+    script: &[u8],
+) -> Result<Reply, Stop>
+    ensures { Gives (AnswersTopology words.now.format (lines topology.now)
+        (AnswersScript words.now (lines script.now))) result }
+{
+    let asked = read_asked::<Step>(alloc, words, topology, script)?;
+    let opening = opening_of(alloc, words, &asked.topology, asked.root)?;
+    match play_by(crew, alloc, opening, asked.script.steps()) {
+        Ok(played) => {
+            let (trace, refused) = run_texts(
+                alloc,
+                &asked.graph,
+                &asked.topology,
+                words.restamps,
+                asked.script.lines(),
+                played,
+            )?;
+            Ok(Reply::Ran(trace, refused))
+        }
+        Err(error) => Err(opening_stop(alloc, error)),
+    }
+}

@@ -1,0 +1,11 @@
+use Rattle.std.proofs.Common.{◌≡◌, ℕ, ◌<◌, ◌≤◌, arith, subst, sym, ⊎_elim}
+use Rattle.std.proofs.lemmas.Bool.{cases_lt}
+use Rattle.ir_lanes.specs.Equation.{IsMet}
+use Rattle.ir_lanes.proofs.equation.are_met.Goals as goal
+
+pub loop-u-preserved : goal.loop-u-preserved
+loop-u-preserved c v lt =
+    ⊎_elim (λ (less : v < c.loop-u.u). c.loop-u.invariant v less)
+    (λ (ge : c.loop-u.u ≤ v). let same : v ≡ c.loop-u.u = omega (arith, lt, ge) in
+    let P : ℕ → Type 0 = λ x. IsMet c.args.topology.now c.args.unit c.args.starts.now c.args.lanes.now x in
+    subst P (sym same) (c.is_met.ensures c.if-not-is_met.false)) (cases_lt v c.loop-u.u)

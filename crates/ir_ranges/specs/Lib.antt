@@ -1,0 +1,4 @@
+-- what contracts promise
+pub mod Ranges
+-- what bodies use
+pub mod Runs

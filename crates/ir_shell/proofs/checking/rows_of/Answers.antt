@@ -1,7 +1,0 @@
-use Rattle.std.proofs.Common.{sym, subst}
-use Rattle.ir_model.specs.Topology.{Topology, node_count}
-use Rattle.ir_trace.specs.Checked.{AreRowsOver}
-use Rattle.ir_shell.proofs.checking.rows_of.Goals as goal
-
-pub check_trace-requires-clause-rows : goal.check_trace-requires-clause-rows
-check_trace-requires-clause-rows g c κs within = subst (λ (n : Topology). AreRowsOver (node_count n) c.in-Ok.read) (sym c.requires.over) c.in-Ok.ensures.within

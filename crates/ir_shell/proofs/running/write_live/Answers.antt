@@ -1,0 +1,25 @@
+use Rattle.std.proofs.Common.{◌≡◌}
+use Rattle.ir_model.specs.Text.{lines}
+use Rattle.ir_cli.specs.Openings.{AnswersTopology}
+use Rattle.ir_cli.specs.Reading.{texts_of}
+use Rattle.ir_cli.specs.Told.{Sends, Tells}
+use Rattle.ir_answer.proofs.Answering.{gives_more}
+use Rattle.ir_answer.proofs.Runs.{ends_given}
+use Rattle.ir_shell.specs.Asked.{LiveAnswers}
+use Rattle.ir_shell.specs.Lives.{AnswersLiveScript}
+use Rattle.ir_shell.proofs.running.write_live.Goals as goal
+
+pub returns : goal.returns
+returns g c =
+    let words = c.args.words.now in
+    let texts = texts_of c.args.texts.now in
+    let output = c.args.output.now in
+    let topology = c.two_texts.result.0.now in
+    let script = c.two_texts.result.1.now in
+    ends_given (LiveAnswers _ g.T.Moments.was_full g.T.Moments.was_empty words) texts
+    (Sends g.W.Writer.contents g.W.Writer.wrote g.W.Writer.settled output c.write_given.new.output) (c.write_given.new.output ≡ output)
+    (Tells g.F.Writer.contents g.F.Writer.wrote g.F.Writer.settled c.args.faults.now c.write_given.new.faults)
+    c.run_commands-given.result c.write_given.result
+    (gives_more (AnswersTopology words.format (lines topology) (AnswersLiveScript _ g.T.Moments.was_full g.T.Moments.was_empty words (lines script)))
+    (LiveAnswers _ g.T.Moments.was_full g.T.Moments.was_empty words texts) (λ answer holds. (topology, script, c.two_texts.ensures, holds)) c.run_commands-given.result c.run_commands-given.ensures)
+    c.write_given.ensures

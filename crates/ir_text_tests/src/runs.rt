@@ -1,0 +1,117 @@
+//! A run, what its epochs were installed with, the check of its trace, and a plan, by calls that take no handle.
+ghost use Rattle.std.specs.Prelude.{◌≡◌};
+ghost use Rattle.ir_model.specs.OfGraph.{topology_of_graph};
+ghost use Rattle.ir_trace.specs.Checked.{AreInstalls};
+
+use ir_core::{Event, Install, Kind, Opening, Played, Record, Refused, Step, installs, play};
+use ir_graph::Graph;
+use ir_plan::{Alone, Plan};
+use ir_script::parse_live;
+use ir_tables::Topology;
+use ir_trace::{check_trace, check_trace_by, read_trace};
+use std::alloc::Global;
+
+/// A packet goes from a to c, and one from c to a by the plan of a second epoch; the last step is refused.
+static STEPS: [Step; 5] = [
+    Step::Event(Event::Inject(0, 2)),
+    Step::Drain,
+    Step::Event(Event::Install(Kind::Shortest, 1)),
+    Step::Event(Event::Retire(1)),
+    Step::Event(Event::Up(0)),
+];
+
+/// The path from a to b to c.
+fn path(alloc: Global) -> Option<Graph> {
+    let mut graph = Graph::new(alloc);
+    graph.add_edge("a", "b", 1).ok()?;
+    graph.add_edge("b", "c", 1).ok()?;
+    Some(graph)
+}
+
+/// Whether a packet went from a to c over b.
+fn went(record: &Record) -> bool {
+    record.hops.as_slice() == [0, 1, 2].as_slice()
+}
+
+/// Whether this is the run of the steps.
+fn is_run(played: Played) -> bool {
+    let Played { world, replies } = played;
+    let is_refused = replies.as_slice().last() == Some(&Err(Refused::Same));
+    let records = world.into_records();
+    match records.as_slice() {
+        [record] => is_refused && went(record),
+        _ => false,
+    }
+}
+
+/// Whether a text is a trace over a graph that is sound by these installs, if a crew finds the same.
+fn is_clean(
+    alloc: Global,
+    graph: &Graph,
+    topology: &Topology,
+    built: &[Install],
+    text: &str,
+) -> Option<bool>
+    requires over { topology.now ≡ topology_of_graph graph.now }
+    requires installs { AreInstalls topology.now built.now }
+{
+    let Ok(trace) = read_trace(alloc, text.as_bytes(), graph) else {
+        return None;
+    };
+    let found = check_trace(alloc, topology, built, &trace);
+    if check_trace_by(&Alone, alloc, topology, built, &trace) == found {
+        Some(found == Ok(()))
+    } else {
+        None
+    }
+}
+
+/// Whether a trace is sound by the installs of the steps over the path, opened with the kind Tree.
+fn is_checked(alloc: Global, text: &str) -> Option<bool> {
+    let graph = path(alloc)?;
+    let Ok(topology) = Topology::of(alloc, &graph) else {
+        return None;
+    };
+    let Ok(over) = topology.try_clone(alloc) else {
+        return None;
+    };
+    let opening = Opening::of(over, Kind::Tree, 0, 16, 16, 0);
+    let Ok(built) = installs(alloc, &opening, &STEPS) else {
+        return None;
+    };
+    let is_clean = is_clean(alloc, &graph, &topology, built.as_slice(), text)?;
+    Some(built.len() == 2 && is_clean)
+}
+
+/// Whether the steps are played over the path.
+fn is_played(alloc: Global) -> Option<bool> {
+    let graph = path(alloc)?;
+    let topology = Topology::of(alloc, &graph).ok()?;
+    let opening = Opening::of(topology, Kind::Tree, 0, 16, 16, 0);
+    let played = play(alloc, opening, &STEPS).ok()?;
+    Some(is_run(played))
+}
+
+#[test]
+fn a_run_and_the_check_of_its_trace(rt: HostRuntime) {
+    assert!(rt; is_played(rt.alloc()) == Some(true));
+    let sound = is_checked(rt.alloc(), "trace 1\n0 1 a c 2 delivered a b c\n");
+    let wrong = is_checked(rt.alloc(), "trace 1\n0 1 a c 1 delivered a b\n");
+    assert!(rt; (sound, wrong) == (Some(true), Some(false)));
+}
+
+/// How many labels the plan of the path has, and how many commands a script of a live run over it.
+fn counts(alloc: Global) -> Option<(usize, usize)> {
+    let graph = path(alloc)?;
+    let topology = Topology::of(alloc, &graph).ok()?;
+    let script = parse_live(alloc, b"inject a c\ndrain\n".as_slice(), &graph, &topology).ok()?;
+    match Plan::build(alloc, topology, Kind::Shortest, 0) {
+        Ok(plan) => Some((plan.labels(), script.commands().len())),
+        Err(_) => None,
+    }
+}
+
+#[test]
+fn a_plan_and_a_script(rt: HostRuntime) {
+    assert!(rt; counts(rt.alloc()) == Some((4, 2)));
+}
