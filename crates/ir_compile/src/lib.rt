@@ -40,10 +40,18 @@ pub fn compile(alloc: Global, n: u16, own: u16, ports: &[Option<u16>]) -> Result
     Ok(canonical_row(alloc, n, own, ports)?)
 }
 
-// The row, where the ports are known to be a list of destinations.
-fn canonical_row(alloc: Global, n: u16, own: u16, ports: &[Option<u16>]) -> Result<Row, AllocError>
+/// The row that `compile` makes, of ports that are known to be a list of destinations, which it does not test. Condition:
+/// `is_destinations`. It is refused for memory alone. Takes O(n).
+pub fn canonical_row(
+    alloc: Global,
+    n: u16,
+    own: u16,
+    ports: &[Option<u16>],
+) -> Result<Row, AllocError>
     requires { IsDestinations n own ports.now }
-    ensures { IfOk result (λ row. IsCanonical n own ports.now row) }
+    ensures canonical { IfOk result (λ row. IsCanonical n own ports.now row) }
+    ensures fits { IfOk result (λ row. Fits n own ports.now (intervals_of row)) }
+    ensures fewest { IfOk result (λ row. IsFewest n own ports.now (length row)) }
 {
     let mut words = changes(alloc, n, own, ports)?;
     if words.is_empty() {

@@ -9,7 +9,7 @@ ghost use Rattle.ir_plan.specs.{Shown.StandForTable, NodeRows.IsNodeRow};
 
 use crate::compact::compact_row;
 use crate::tree::tree_row;
-use ir_compile::{CompileError, compile};
+use ir_compile::canonical_row;
 use ir_lookup::Row;
 use ir_model::Kind;
 use ir_numbering::Numbering;
@@ -101,9 +101,5 @@ pub fn row_of(alloc: Global, nodes: u16, own: u16, ports: &[Option<u16>]) -> Res
     requires { IsDestinations nodes own ports.now }
     ensures { IfOk result (λ row. IsCanonical nodes own ports.now row) }
 {
-    match compile(alloc, nodes, own, ports) {
-        Ok(row) => Ok(row),
-        Err(CompileError::BadRow) => unreachable!(),
-        Err(CompileError::NoMemory) => Err(AllocError),
-    }
+    canonical_row(alloc, nodes, own, ports)
 }

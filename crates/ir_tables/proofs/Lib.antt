@@ -6,6 +6,7 @@ pub mod Offering
 pub mod OfGraph
 pub mod Ways
 pub mod Runs
+pub mod LinkKeys
 pub mod Cuts
 pub mod Leading
 pub mod Flooding

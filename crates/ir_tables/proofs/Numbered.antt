@@ -9,7 +9,7 @@ use Rattle.ir_model.specs.declared.Link.{Link}
 use Rattle.ir_model.specs.declared.Hop.{Hop}
 use Rattle.ir_model.specs.Topology.{Topology, node_count, port_at, Joins, IsPort, IsTopology, port_back}
 use Rattle.ir_graph.proofs.Joined.{place-append}
-use Rattle.ir_tables.specs.Numbered.{Numbers, links_at, links_from, joins_nodes, link_between, entry_port, ports_at, ports_from, topology_of_rows}
+use Rattle.ir_tables.specs.Numbered.{Numbers, AreOrdered, links_at, links_from, joins_nodes, link_between, entry_port, ports_at, ports_from, topology_of_rows}
 
 -- what a mapped filter gives comes from an element that passes
 kept_from : {A B : Type 0} (f : A → B) (t : A → Bool) (xs : List A) (p : ℕ) (y : B) → slice_get (map f (filter t xs)) p ≡ Some y
@@ -223,6 +223,11 @@ module _ (rows : List Numbers) where
         kept later zero (suc j) a b = absurd (let same : f x ≡ hop = cc a in clash j other b (ap (λ (k : Hop). k.node) same ∙ e))
         kept later (suc i) zero a b = absurd (let same : f x ≡ other = cc b in clash i hop a (ap (λ (k : Hop). k.node) same ∙ sym e))
         kept later (suc i) (suc j) a b = ap suc (later i j a b)
+
+    -- the ends of each link ascend
+    pub links_ordered : AreOrdered links
+    links_ordered l link at = let edge : IsEdge link = link_edge l link at in
+        (edge.ordered, omega (arith, ok.few, ok.reach link.low edge.place (link.high, link.weight) edge.edge))
 
     rows_count : node_count net ≡ length rows
     rows_count = length-ports_from links 0 rows

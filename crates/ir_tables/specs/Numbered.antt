@@ -1,6 +1,7 @@
 -- The network of nodes that are numbers, each with its neighbours in order and the weight to each.
-use Rattle.std.specs.Prelude.{◌≡◌, ℕ, ◌+◌, ◌<◌, ◌≤◌, true, length, take, get_or, ◌==◌, ◌||◌, ◌&&◌, Bool, not, List, [], ◌∷◌, ◌++◌, map, filter, nat_lt}
+use Rattle.std.specs.Prelude.{◌≡◌, ℕ, ◌+◌, ◌*◌, ◌<◌, ◌==◌, ◌||◌, ◌&&◌, Bool, not, Some, List, [], ◌∷◌, ◌++◌, length, map, filter, nat_lt, slice_get, All, Contains}
 use Rattle.std.specs.List.{position_or_len}
+use Rattle.std.specs.List.Sorted.{IsNonDecreasing}
 use Rattle.ir_model.specs.declared.Link.{Link}
 use Rattle.ir_model.specs.declared.Hop.{Hop}
 use Rattle.ir_model.specs.Topology.{Topology}
@@ -26,14 +27,34 @@ joins_nodes u v link = link.low == u && link.high == v || link.low == v && link.
 abbrev pub link_between : List Link → ℕ → ℕ → ℕ
 link_between links u v = position_or_len (joins_nodes u v) links
 
--- a link that joins u and v has a number from the first up to, and without, the second
-abbrev pub JoinsWithin : List Link → ℕ → ℕ → ℕ → ℕ → Type 0
-JoinsWithin links from to u v = (k : ℕ) (d : Link) → k < length links → joins_nodes u v (get_or links k d) ≡ true → (from ≤ k) × (k < to)
+-- the key of two ends
+abbrev pub ends_key : ℕ → ℕ → ℕ
+ends_key low high = low * 65536 + high
 
--- how many links the first nodes of these have to later nodes, for the first none, one, two and so on
-pub record AreBegins (rows : List Numbers) (count : ℕ) (begins : List ℕ) : Type 0 where
-  pub len : length begins ≡ count
-  pub at : (i : ℕ) → i < count → get_or begins i 0 ≡ length (links_from 0 (take i rows))
+-- the key of the link with number l: its ends, and behind them its number
+abbrev pub link_key : Link → ℕ → ℕ
+link_key link l = ends_key link.low link.high * 65536 + l
+
+-- the key is that of a link
+pub record IsLinkKey (links : List Link) (key : ℕ) : Type 0 where
+  pub l : ℕ
+  pub link : Link
+  pub at : slice_get links l ≡ Some link
+  pub is : key ≡ link_key link l
+
+-- the keys of the first n of these links, and no others
+pub record AreKeysOf (links : List Link) (n : ℕ) (keys : List ℕ) : Type 0 where
+  pub each : (l : ℕ) (link : Link) → l < n → slice_get links l ≡ Some link → Contains keys (link_key link l)
+  pub only : All (IsLinkKey links) keys
+
+-- the keys of these links, in ascending order
+pub record AreLinkKeys (links : List Link) (keys : List ℕ) : Type 0 where
+  pub rising : IsNonDecreasing keys
+  pub all : AreKeysOf links (length links) keys
+
+-- each link has two ends, the smaller first, which are numbers of two bytes
+abbrev pub AreOrdered : List Link → Type 0
+AreOrdered links = (l : ℕ) (link : Link) → slice_get links l ≡ Some link → (link.low < link.high) × (link.high < 65536)
 
 -- the port of u to a neighbour
 abbrev pub entry_port : List Link → ℕ → ℕ × ℕ → Hop

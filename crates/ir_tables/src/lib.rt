@@ -7,6 +7,7 @@
 mod adjacency;
 mod frontier;
 mod keyed;
+mod link_keys;
 mod listed;
 mod outward;
 mod port_rows;

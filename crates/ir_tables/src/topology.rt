@@ -4,6 +4,7 @@ ghost use Rattle.ir_model.specs.{declared.Hop.Hop, OfGraph.topology_of_graph, de
 ghost use Rattle.ir_tables.specs.Views.{topology_view};
 
 use crate::adjacency::{links_of, ports_of};
+use crate::link_keys::link_keys;
 use crate::port_rows::PortRows;
 use ir_graph::Graph;
 use ir_model::{Hop, Link};
@@ -29,16 +30,16 @@ impl Model for Topology {
 impl Topology {
     /// The topology of a graph. Its nodes are places in node order. Its links are the edges that are no self-loops, in
     /// edge order. The ports of a node are its other neighbours, in adjacency order. A graph with no node is accepted;
-    /// it is refused for memory alone. Takes O(n + q) on average, for n nodes and q the sum of the squares of the
-    /// degrees.
+    /// it is refused for memory alone. Takes O(n + m log m) on average, for n nodes and m links.
     pub fn of(alloc: Global, graph: &Graph) -> Result<Topology, AllocError>
         ensures { IfOk result (λ t. t ≡ topology_of_graph graph.now) }
     {
         let nodes = graph.number_of_nodes();
-        let (links, begins) = links_of(alloc, graph)?;
+        let links = links_of(alloc, graph)?;
+        let keys = link_keys(alloc, links.as_slice())?;
         let mut ports = PortRows::new(alloc)?;
         for u in 0..nodes {
-            let row = ports_of(alloc, graph, links.as_slice(), begins.as_slice(), u)?;
+            let row = ports_of(alloc, graph, links.as_slice(), keys.as_slice(), u)?;
             ports = ports.with(row.as_slice())?;
         }
         Ok(Topology { links, ports })

@@ -1,6 +1,6 @@
 //! Destination lists, rows and intervals.
 
-use ir_compile::{CompileError, compile};
+use ir_compile::{CompileError, canonical_row, compile, is_destinations};
 use ir_lookup::{Row, in_interval};
 use std::alloc::Global;
 use std::test::Fail;
@@ -96,6 +96,17 @@ fn finds(row: &Row, ports: &[Option<u16>]) -> bool {
     true
 }
 
+/// Whether ports that are known to be a list of destinations have the starts of a case.
+fn is_known(alloc: Global, n: u16, case: &Case) -> bool {
+    if !is_destinations(n, case.own, case.ports) {
+        return false;
+    }
+    match canonical_row(alloc, n, case.own, case.ports) {
+        Ok(row) => has_starts(&row, case.starts),
+        Err(_) => false,
+    }
+}
+
 /// Whether the ports of a case are compiled to its row.
 fn is_compiled(alloc: Global, case: &Case) -> bool {
     let Ok(n) = u16::try_from(case.ports.len()) else {
@@ -104,7 +115,7 @@ fn is_compiled(alloc: Global, case: &Case) -> bool {
     let Ok(row) = compile(alloc, n, case.own, case.ports) else {
         return false;
     };
-    has_starts(&row, case.starts) && finds(&row, case.ports)
+    has_starts(&row, case.starts) && finds(&row, case.ports) && is_known(alloc, n, case)
 }
 
 #[test]

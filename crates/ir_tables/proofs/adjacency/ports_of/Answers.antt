@@ -1,13 +1,12 @@
-use Rattle.std.proofs.Common.{◌≡◌, ◌+◌, ◌<◌, ◌++◌, ◌∷◌, [], ℕ, List, Some, length, subst, sym, ap, ◌∙◌, arith, take, slice_get}
+use Rattle.std.proofs.Common.{◌≡◌, ◌<◌, ◌++◌, ◌∷◌, [], ℕ, List, Some, length, subst, sym, ap, ◌∙◌, arith, take, slice_get}
 use Rattle.std.proofs.lemmas.Option.{slice_get_within}
 use Rattle.ir_model.specs.declared.Link.{Link}
 use Rattle.ir_model.specs.declared.Hop.{Hop}
 use Rattle.ir_model.specs.Places.{neighbors_at}
-use Rattle.ir_tables.specs.Numbered.{Numbers, link_between, links_from, ports_at}
+use Rattle.ir_tables.specs.Numbered.{AreOrdered, Numbers, link_between, links_from, ports_at}
 use Rattle.ir_tables.specs.ByPlace.{row_numbers, neighbor_rows}
 use Rattle.ir_tables.proofs.OfGraph.{next_entry, ports_more, ports_same, row_of_node, graph_numbered}
-use Rattle.ir_tables.proofs.Numbered.{port_link}
-use Rattle.ir_tables.proofs.Runs.{begins_within, joins_in_run}
+use Rattle.ir_tables.proofs.Numbered.{links_ordered, port_link}
 use Rattle.ir_tables.proofs.adjacency.ports_of.Goals as goal
 use Rattle.ir_tables.proofs.adjacency.ports_of.Goals.{then-v-u+in_ok-push, else-v-u}
 
@@ -25,15 +24,9 @@ overflow_cast-link c =
     subst Q (sym c.requires.links) (slice_get_within (links_from 0 (neighbor_rows g)) (link_between (links_from 0 (neighbor_rows g)) u c.unwrap-v.result.0) link.0 link.1) in
     omega (arith, within, c.link_between-link.ensures, c.requires.few)
 
-pub link_between-link-requires-clause-within : goal.link_between-link-requires-clause-within
-link_between-link-requires-clause-within c = let g = c.args.graph.now in
-    let low : c.min-low.result + 1 < length g + 1 = omega (arith, c.min-low.ensures, c.requires.node) in
-    omega (arith, begins_within (neighbor_rows g) (length g + 1) c.args.begins.now (c.min-low.result + 1) c.requires.begins low, ap length c.requires.links)
-
-pub link_between-link-requires-clause-run : goal.link_between-link-requires-clause-run
-link_between-link-requires-clause-run c = let g = c.args.graph.now in
-    let low : c.min-low.result + 1 < length g + 1 = omega (arith, c.min-low.ensures, c.requires.node) in
-    rw (c.min-low.ensures, c.requires.links) (joins_in_run (neighbor_rows g) (length g + 1) c.args.begins.now c.args.u c.unwrap-v.result.0 c.requires.begins (omega (arith, low, c.min-low.ensures)))
+pub link_between-link-requires-clause-ordered : goal.link_between-link-requires-clause-ordered
+link_between-link-requires-clause-ordered c = let g = c.args.graph.now in
+    subst AreOrdered (sym c.requires.links) (links_ordered (neighbor_rows g) (graph_numbered g c.number_of_nodes-nodes.ensures.graph))
 
 pub loop-place-preserved : goal.loop-place-preserved
 loop-place-preserved c =
