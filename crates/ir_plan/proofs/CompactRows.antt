@@ -13,6 +13,7 @@ use Rattle.ir_model.specs.Plan.{AreLabels}
 use Rattle.ir_model.proofs.Chosen.{choices_same}
 use Rattle.std.proofs.lemmas.Option.{slice_get_within}
 use Rattle.ir_model.proofs.Best.{Marks, IsBestBelow}
+use Rattle.ir_lanes.specs.Marks.{PortMarks, ArePortMarks}
 use Rattle.ir_plan.specs.CompactRows.{AreMarksOf, AreTiedMarks, MayTake}
 use Rattle.ir_tables.specs.FromNode.{AreFrom, AreLedBy}
 use Rattle.ir_compile.specs.Runs.{HasMarked}
@@ -27,6 +28,18 @@ tied_choices net ok order labels named u weights are = record {
       let there = named.there u are.node in
       let other : u ≢ slice_index order d = λ e. ne (sym (ap (slice_index labels) e ∙ named.back d hd)) in
       let w = some_nearer net ok u weights are (slice_index order d) (named.node d hd) other in
+      (w.0, subst (λ (x : ℕ). LeadsNearer net x (slice_index order d) w.0) (sym there) w.1);
+}
+
+-- the same by the marks of all ports
+pub tied_marked : (net : Topology) (order labels : List ℕ) → AreLabels (node_count net) order labels → (u : ℕ) → u < node_count net → (marks : PortMarks) → ArePortMarks net order marks
+    → AreChoices (node_count net) (slice_index labels u) (IsTied net order (slice_index labels u))
+tied_marked net order labels named u hu marks are = record {
+  has_own = named.label u hu;
+  some = λ d hd ne.
+      let there = named.there u hu in
+      let other : u ≢ slice_index order d = λ e. ne (sym (ap (slice_index labels) e ∙ named.back d hd)) in
+      let w = are.nearer u d hu (omega (arith, hd, named.every_label)) other in
       (w.0, subst (λ (x : ℕ). LeadsNearer net x (slice_index order d) w.0) (sym there) w.1);
 }
 
@@ -50,6 +63,12 @@ module _ (net : Topology) (ok : IsTopology net) (order labels : List ℕ) (named
   none_may p nodes led none d may =
       let has = (led.each (slice_index order d)).1 (subst (λ (x : ℕ). LeadsNearer net x (slice_index order d) p) (named.there u hu) may.1) in
       omega (arith, has.1, none)
+
+  -- a port of which no label is marked can be taken by no label
+  pub unmarked_may : (p : ℕ) (row : List Bool) (marked : List ℕ) → AreTiedMarks net order u p row → HasMarked (node_count net) row marked → length marked ≡ 0 → (d : ℕ) → MayTake net order (slice_index labels u) d p → ⊥
+  unmarked_may p row marked are has none d may =
+      let at = has.every d may.0 ((marks_may p row are d).0 may) in
+      omega (arith, at.1, none)
 
   -- what a label may take is a port of u
   pub no_port_past : (d q : ℕ) → length (ports_of net u) ≤ q → MayTake net order (slice_index labels u) d q → ⊥

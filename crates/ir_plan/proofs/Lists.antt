@@ -1,6 +1,6 @@
 -- Lists that threads made.
-use Rattle.std.proofs.Common.{◌≡◌, ℕ, zero, suc, ◌+◌, ◌<◌, List, [], ◌∷◌, length, map, ◌++◌, Ok, Err, refl, ap, sym, ◌∙◌, subst, inl, inr, arith}
-use Rattle.std.specs.Prelude.{IfOk, MatchResult, slice_index, slice_index_or}
+use Rattle.std.proofs.Common.{◌≡◌, ℕ, zero, suc, ◌+◌, ◌<◌, List, [], ◌∷◌, length, map, ◌++◌, Ok, Err, Option, Some, None, refl, ap, sym, ◌∙◌, subst, inl, inr, arith}
+use Rattle.std.specs.Prelude.{IfOk, IfSome, OnOk, MatchResult, slice_index, slice_index_or}
 use Rattle.std.specs.Global.{Vec}
 use Rattle.std.specs.List.{AllZip, range_with_len}
 use Rattle.std.specs.declared.result.Result.{Result}
@@ -62,6 +62,34 @@ read_pushed f xs ys v x len own e is k lt =
       | inr ne ↦ get_or_append_left xs (x ∷ []) 0 k (omega (arith, len)) ∙ own k (omega arith)
     ]
 
+-- what was made for the numbers of a range, where P holds of each and its number
+pub made_for_range : {T : Type 0} (P : ℕ → T → Type 0) (a k : ℕ) (made : List T) → AllZip (λ (u : ℕ) (one : Result T AllocError). IfOk one (P u)) (range_with_len a k) (map Ok made)
+    → (length made ≡ k) × ((i : ℕ) (d : T) → i < k → P (a + i) (slice_index_or made i d))
+made_for_range P a zero [] zipped = (refl, λ i d lt. absurd (omega (arith, lt)))
+made_for_range P a zero (x ∷ xs) zipped = absurd zipped
+made_for_range P a (suc k) [] zipped = absurd zipped
+made_for_range {T} P a (suc k) (x ∷ xs) zipped =
+    let later = made_for_range P (a + 1) k xs zipped.1 in
+    (ap suc later.0, at later.1)
+  where
+    at : ((i : ℕ) (d : T) → i < k → P (a + 1 + i) (slice_index_or xs i d)) → (i : ℕ) (d : T) → i < suc k → P (a + i) (slice_index_or (x ∷ xs) i d)
+    at later zero d lt = let e : a ≡ a + 0 = omega arith in subst (λ (u : ℕ). P u x) e zipped.0
+    at later (suc i) d lt = let e : a + 1 + i ≡ a + suc i = omega arith in subst (λ (u : ℕ). P u (slice_index_or xs i d)) e (later i d (omega (arith, lt)))
+
+pub words_made : (P : ℕ → Option (Vec ℕ) → Type 0) (k : ℕ) (results : List (Result (Option (Vec ℕ)) AllocError)) (made : List (Option (Vec ℕ)))
+    → AllZip (λ (u : ℕ) (one : Result (Option (Vec ℕ)) AllocError). IfOk one (P u)) (range_with_len 0 k) results → results ≡ map Ok made
+    → (length made ≡ k) × ((i : ℕ) → i < length made → P i (slice_index_or made i None))
+words_made P k results made h is =
+    let all = made_for_range P 0 k made (subst (λ (rs : List (Result (Option (Vec ℕ)) AllocError)). AllZip (λ (u : ℕ) (one : Result (Option (Vec ℕ)) AllocError). IfOk one (P u)) (range_with_len 0 k) rs) is h) in
+    (all.0, λ i lt. let e : 0 + i ≡ i = omega arith in subst (λ (u : ℕ). P u (slice_index_or made i None)) e (all.1 i None (omega (arith, lt, all.0))))
+
+-- what was found for each number, where something was found for all
+pub found_each : (P : ℕ → List ℕ → Type 0) (lists : List (Vec ℕ)) → ((i : ℕ) → i < length lists → IfSome (slice_index_or (map Some lists) i None) (λ (v : Vec ℕ). P i v.items))
+    → (i : ℕ) → i < length lists → P i (slice_index_or (lists_of lists) i [])
+found_each P [] all i lt = absurd (omega (arith, lt))
+found_each P (x ∷ xs) all zero lt = all 0 lt
+found_each P (x ∷ xs) all (suc i) lt = found_each (λ j list. P (suc j) list) xs (λ j l. all (suc j) (omega (arith, l))) i (omega (arith, lt))
+
 -- what holds of the value in an `Ok`
 pub of_match : {T E : Type 0} (r : Result T E) (P R : T → Type 0) (Q : E → Type 0) → MatchResult r P Q → ((v : T) → P v → R v) → IfOk r R
 of_match (Ok v) P R Q h f = f v h
@@ -70,3 +98,13 @@ of_match (Err e) P R Q h f = tt
 pub of_ok : {T E : Type 0} (r : Result T E) (P R : T → Type 0) → IfOk r P → ((v : T) → P v → R v) → IfOk r R
 of_ok (Ok v) P R h f = f v h
 of_ok (Err e) P R h f = tt
+
+-- the same, of what two clauses say of it
+pub of_both : {T E : Type 0} (r : Result T E) (P Q R : T → Type 0) → IfOk r P → IfOk r Q → ((v : T) → P v → Q v → R v) → IfOk r R
+of_both (Ok v) P Q R h k f = f v h k
+of_both (Err e) P Q R h k f = tt
+
+-- what holds anyway holds where there is an `Ok`
+pub on_ok : {T E : Type 0} (r : Result T E) (P : Type 0) → P → OnOk r P
+on_ok (Ok v) P h = h
+on_ok (Err e) P h = tt

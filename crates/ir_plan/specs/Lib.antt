@@ -11,4 +11,5 @@ pub mod Starts
 pub mod Distances
 -- what bodies use
 pub mod NodeRows
+pub mod Ties
 pub mod SonStarts

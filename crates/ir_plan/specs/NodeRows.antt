@@ -1,5 +1,5 @@
 -- The row of one node, and the ports that it was compiled from.
-use Rattle.std.specs.Prelude.{◌≡◌, ◌≢◌, ℕ, ◌<◌, Option, Some, None, List, [], length, slice_index, slice_index_or}
+use Rattle.std.specs.Prelude.{◌≡◌, ◌≢◌, ℕ, ◌+◌, ◌-◌, ◌<◌, min, Option, Some, None, List, [], length, slice_index, slice_index_or}
 use Rattle.ir_model.specs.declared.Kind.{Kind}
 use Rattle.ir_model.specs.declared.Kind.TheVariants.{Tree, Shortest, Compact}
 use Rattle.ir_model.specs.Topology.{Topology, node_count}
@@ -33,3 +33,8 @@ pub record IsNodeRow (kind : Kind) (topology : Topology) (order parents : List �
 pub record AreNodeRows (kind : Kind) (topology : Topology) (order parents labels : List ℕ) (count : ℕ) (rows : List (List Start)) : Type 0 where
   pub every : length rows ≡ count
   pub each : (u : ℕ) → u < count → IsNodeRow kind topology order parents (slice_index labels u) (slice_index_or rows u [])
+
+-- the rows of nodes from one on, at most so many
+pub record AreRowsFrom (kind : Kind) (topology : Topology) (order parents labels : List ℕ) (first most : ℕ) (rows : List (List Start)) : Type 0 where
+  pub every : length rows ≡ min most (node_count topology - first)
+  pub each : (k : ℕ) → k < length rows → IsNodeRow kind topology order parents (slice_index labels (first + k)) (slice_index_or rows k [])

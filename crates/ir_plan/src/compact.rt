@@ -1,14 +1,15 @@
 //! The row of a node in a compact plan: the fewest intervals over all choices of ports that lead nearer.
 
-ghost use Rattle.std.specs.Prelude.{◌≡◌, ◌<◌, ℕ, Contains, IfOk, length, slice_index};
+ghost use Rattle.std.specs.Prelude.{◌≡◌, ◌<◌, ℕ, Contains, IfOk, IfSome, OnOk, length, slice_index};
 ghost use Rattle.ir_model.specs.{declared.Kind.TheVariants.Compact, Topology.{node_count, ports_of}, Walk.IsConnected};
-ghost use Rattle.ir_model.specs.Plan.{AreLabels};
+ghost use Rattle.ir_model.specs.{Choices.AreChoices, Compact.IsTied, Plan.AreLabels};
 ghost use Rattle.ir_model.proofs.Steps.{AreLongest};
 ghost use Rattle.ir_tables.specs.FromNode.{AreFrom};
 ghost use Rattle.ir_compile.specs.Runs.{HasMarked};
-ghost use Rattle.ir_plan.specs.{NodeRows.{IsNodeRow, ArePortsOf}, CompactRows.{AreMarksOf, MayTake}};
+ghost use Rattle.ir_plan.specs.{NodeRows.{IsNodeRow, ArePortsOf}, CompactRows.{AreMarksOf, MayTake}, Ties.AreTies};
 
 use crate::rows::row_of;
+use crate::ties::Ties;
 use ir_compile::{keep_longer, ports_of_runs};
 use ir_lookup::Row;
 use ir_numbering::Numbering;
@@ -20,16 +21,18 @@ pub fn compact_row(
     alloc: Global,
     topology: &Topology,
     numbering: &Numbering,
+    ties: &Option<Ties>,
     u: u16,
 ) -> Result<Row, AllocError>
     requires labels { AreLabels (node_count topology.now) numbering.now.order numbering.now.labels }
+    requires ties { IfSome ties.now (AreTies topology.now numbering.now.order) }
     requires connected { IsConnected topology.now }
     requires node { u < node_count topology.now }
     ensures { IfOk result (λ row. IsNodeRow Compact topology.now numbering.now.order numbering.now.parents
         (slice_index numbering.now.labels u) row) }
 {
     let nodes = topology.nodes() as u16;
-    let ports = chosen_ports(alloc, topology, numbering, u)?;
+    let ports = chosen_ports(alloc, topology, numbering, ties, u)?;
     row_of(alloc, nodes, numbering.label_of(u), ports.as_slice())
 }
 
@@ -38,20 +41,21 @@ fn chosen_ports(
     alloc: Global,
     topology: &Topology,
     numbering: &Numbering,
+    ties: &Option<Ties>,
     u: u16,
 ) -> Result<Vec<Option<u16>>, AllocError>
     requires labels { AreLabels (node_count topology.now) numbering.now.order numbering.now.labels }
+    requires ties { IfSome ties.now (AreTies topology.now numbering.now.order) }
     requires connected { IsConnected topology.now }
     requires node { u < node_count topology.now }
     ensures { IfOk result (λ ports. ArePortsOf Compact topology.now numbering.now.order numbering.now.parents
         (slice_index numbering.now.labels u) ports.items) }
 {
     let nodes = topology.nodes() as u16;
-    let ways = Outward::from(alloc, topology, u)?;
+    let (counts, ports) = runs_by(alloc, topology, numbering, ties, u)?;
     if nodes == 1 {
         return vec![in alloc; None; 1];
     }
-    let (counts, ports) = longest_runs(alloc, topology, numbering, &ways, u)?;
     ports_of_runs(
         alloc,
         nodes,
@@ -59,6 +63,73 @@ fn chosen_ports(
         counts.as_slice(),
         ports.as_slice(),
     )
+}
+
+// For each label how many labels the longest run of one port from it on has, and the least such port. Each label but that
+// of the node has a port that leads nearer.
+fn runs_by(
+    alloc: Global,
+    topology: &Topology,
+    numbering: &Numbering,
+    ties: &Option<Ties>,
+    u: u16,
+) -> Result<(Vec<u16>, Vec<u16>), AllocError>
+    requires labels { AreLabels (node_count topology.now) numbering.now.order numbering.now.labels }
+    requires ties { IfSome ties.now (AreTies topology.now numbering.now.order) }
+    requires connected { IsConnected topology.now }
+    requires node { u < node_count topology.now }
+    ensures counts { IfOk result (λ made. length made.0.items ≡ node_count topology.now) }
+    ensures ports { IfOk result (λ made. length made.1.items ≡ node_count topology.now) }
+    ensures longest { IfOk result (λ made. AreLongest (node_count topology.now) (slice_index numbering.now.labels u)
+        (MayTake topology.now numbering.now.order (slice_index numbering.now.labels u)) made.0.items made.1.items) }
+    ensures tied { OnOk result (AreChoices (node_count topology.now) (slice_index numbering.now.labels u)
+        (IsTied topology.now numbering.now.order (slice_index numbering.now.labels u))) }
+{
+    let _nodes = topology.nodes();
+    match ties {
+        Some(ties) => marked_runs(alloc, topology, numbering, ties, u),
+        None => {
+            let ways = Outward::from(alloc, topology, u)?;
+            longest_runs(alloc, topology, numbering, &ways, u)
+        }
+    }
+}
+
+// The same runs, by the marks of all ports.
+fn marked_runs(
+    alloc: Global,
+    topology: &Topology,
+    numbering: &Numbering,
+    ties: &Ties,
+    u: u16,
+) -> Result<(Vec<u16>, Vec<u16>), AllocError>
+    requires labels { AreLabels (node_count topology.now) numbering.now.order numbering.now.labels }
+    requires ties { AreTies topology.now numbering.now.order ties.now }
+    requires node { u < node_count topology.now }
+    ensures counts { IfOk result (λ made. length made.0.items ≡ node_count topology.now) }
+    ensures ports { IfOk result (λ made. length made.1.items ≡ node_count topology.now) }
+    ensures longest { IfOk result (λ made. AreLongest (node_count topology.now) (slice_index numbering.now.labels u)
+        (MayTake topology.now numbering.now.order (slice_index numbering.now.labels u)) made.0.items made.1.items) }
+{
+    let nodes = topology.nodes() as u16;
+    let own = numbering.label_of(u);
+    let mut counts = vec![in alloc; 0u16; nodes as usize]?;
+    let mut ports = vec![in alloc; 0u16; nodes as usize]?;
+    for p in 0..topology.degree(u) {
+        let (row, marked) = ties.row(alloc, topology, u, p)?;
+        if !marked.is_empty() {
+            keep_longer(
+                nodes,
+                own,
+                row.as_slice(),
+                marked.as_slice(),
+                p as u16,
+                counts.as_mut_slice(),
+                ports.as_mut_slice(),
+            );
+        }
+    }
+    Ok((counts, ports))
 }
 
 // For each label how many labels the longest run of one port from it on has, and the least such port. The marks of one

@@ -3,6 +3,7 @@
 //! few starts.
 #![tactic(auto)]
 
+mod batches;
 mod building;
 mod compact;
 mod crew;
@@ -10,10 +11,12 @@ mod distances;
 mod error;
 mod laws;
 mod nearest;
+mod patience;
 mod plan;
 mod rows;
 mod sweeps;
 mod threads;
+mod ties;
 mod tour;
 mod tree;
 mod watch;

@@ -1,13 +1,15 @@
 //! The row of each node, from the shortest ways or the tree of that node alone.
 
-ghost use Rattle.std.specs.Prelude.{◌≡◌, ◌<◌, IfOk, length, map, slice_index};
+ghost use Rattle.std.specs.Prelude.{◌≡◌, ◌<◌, IfOk, IfSome, length, map, slice_index};
 ghost use Rattle.ir_model.specs.{declared.Kind.TheVariants.{Tree, Shortest}, Topology.node_count, Walk.IsConnected};
 ghost use Rattle.ir_model.specs.{Plan.AreLabels, Compiled.{IsDestinations, IsCanonical}};
 ghost use Rattle.ir_numbering.specs.Numbering.{IsNumberingOf};
-ghost use Rattle.ir_tables.specs.FromNode.{held_at};
-ghost use Rattle.ir_plan.specs.{Shown.StandForTable, NodeRows.IsNodeRow};
+ghost use Rattle.ir_tables.specs.FromNode.{AreLeastPorts, held_at};
+ghost use Rattle.ir_plan.specs.{Shown.StandForTable, NodeRows.IsNodeRow, Ties.AreTies};
 
+use crate::batches::shortest_rows;
 use crate::compact::compact_row;
+use crate::ties::Ties;
 use crate::tree::tree_row;
 use ir_compile::canonical_row;
 use ir_lookup::Row;
@@ -29,24 +31,51 @@ pub fn rows_of(
     ensures { IfOk result (λ rows. StandForTable kind topology.now numbering.now.order numbering.now.parents
         numbering.now.labels rows.items) }
 {
+    match kind {
+        Kind::Tree => rows_by_nodes(alloc, topology, numbering, kind, &None),
+        Kind::Shortest => shortest_rows(alloc, topology, numbering),
+        Kind::Compact => {
+            let ties = Ties::of(alloc, topology, numbering)?;
+            rows_by_nodes(alloc, topology, numbering, kind, &ties)
+        }
+    }
+}
+
+/// The row of each node, by number, made node by node.
+pub fn rows_by_nodes(
+    alloc: Global,
+    topology: &Topology,
+    numbering: &Numbering,
+    kind: Kind,
+    ties: &Option<Ties>,
+) -> Result<Vec<Row>, AllocError>
+    requires labels { AreLabels (node_count topology.now) numbering.now.order numbering.now.labels }
+    requires tree { kind ≡ Tree → IsNumberingOf topology.now numbering.now }
+    requires ties { IfSome ties.now (AreTies topology.now numbering.now.order) }
+    requires connected { IsConnected topology.now }
+    ensures { IfOk result (λ rows. StandForTable kind topology.now numbering.now.order numbering.now.parents
+        numbering.now.labels rows.items) }
+{
     let nodes = topology.nodes() as u16;
     let mut rows = Vec::with_capacity(alloc, nodes as usize)?;
     for u in 0..nodes {
-        rows.push(row_at(alloc, topology, numbering, kind, u)?)?;
+        rows.push(row_at(alloc, topology, numbering, kind, ties, u)?)?;
     }
     Ok(rows)
 }
 
-/// The row of a node.
+/// The row of a node; that of a compact plan by the ties where they were found, else by a search and floods.
 pub fn row_at(
     alloc: Global,
     topology: &Topology,
     numbering: &Numbering,
     kind: Kind,
+    ties: &Option<Ties>,
     u: u16,
 ) -> Result<Row, AllocError>
     requires labels { AreLabels (node_count topology.now) numbering.now.order numbering.now.labels }
     requires tree { kind ≡ Tree → IsNumberingOf topology.now numbering.now }
+    requires ties { IfSome ties.now (AreTies topology.now numbering.now.order) }
     requires connected { IsConnected topology.now }
     requires node { u < node_count topology.now }
     ensures { IfOk result (λ row. IsNodeRow kind topology.now numbering.now.order numbering.now.parents
@@ -54,13 +83,13 @@ pub fn row_at(
 {
     match kind {
         Kind::Tree => tree_row(alloc, topology, numbering, u),
-        Kind::Shortest => shortest_row(alloc, topology, numbering, u),
-        Kind::Compact => compact_row(alloc, topology, numbering, u),
+        Kind::Shortest => searched_row(alloc, topology, numbering, u),
+        Kind::Compact => compact_row(alloc, topology, numbering, ties, u),
     }
 }
 
-// The row of a node in the shortest table.
-fn shortest_row(
+/// The row of a node in the shortest table, by a search from it alone.
+pub fn searched_row(
     alloc: Global,
     topology: &Topology,
     numbering: &Numbering,
@@ -72,9 +101,26 @@ fn shortest_row(
     ensures { IfOk result (λ row. IsNodeRow Shortest topology.now numbering.now.order numbering.now.parents
         (slice_index numbering.now.labels u) row) }
 {
-    let nodes = topology.nodes() as u16;
     let ways = Outward::from(alloc, topology, u)?;
-    let ports = ports_by_label(alloc, nodes, numbering, ways.least_ports())?;
+    shortest_row(alloc, topology, numbering, u, ways.least_ports())
+}
+
+/// The row of a node in the shortest table, by its least ports that lead nearer, by node.
+pub fn shortest_row(
+    alloc: Global,
+    topology: &Topology,
+    numbering: &Numbering,
+    u: u16,
+    by_node: &[Option<u16>],
+) -> Result<Row, AllocError>
+    requires labels { AreLabels (node_count topology.now) numbering.now.order numbering.now.labels }
+    requires node { u < node_count topology.now }
+    requires ports { AreLeastPorts topology.now u by_node.now }
+    ensures { IfOk result (λ row. IsNodeRow Shortest topology.now numbering.now.order numbering.now.parents
+        (slice_index numbering.now.labels u) row) }
+{
+    let nodes = topology.nodes() as u16;
+    let ports = ports_by_label(alloc, nodes, numbering, by_node)?;
     row_of(alloc, nodes, numbering.label_of(u), ports.as_slice())
 }
 

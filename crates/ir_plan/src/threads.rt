@@ -1,12 +1,18 @@
 //! The rows of all nodes, made in several threads.
 
-ghost use Rattle.std.specs.Prelude.{◌≡◌, ◌<◌, IfOk, slice_index};
-ghost use Rattle.ir_model.specs.{Topology.node_count, Walk.IsConnected, Plan.AreLabels, declared.Kind.TheVariants.Tree};
+ghost use Rattle.std.specs.Prelude.{◌≡◌, ◌*◌, ◌<◌, ◌≤◌, ℕ, None, IfOk, IfSome, flat_map, length, slice_index, slice_index_or};
+ghost use Rattle.ir_lanes.specs.Marks.{AreBatchWords};
+ghost use Rattle.ir_model.specs.{Topology.node_count, Walk.IsConnected, Plan.AreLabels};
+ghost use Rattle.ir_model.specs.declared.Kind.TheVariants.{Shortest, Tree};
 ghost use Rattle.ir_numbering.specs.Numbering.{IsNumberingOf};
-ghost use Rattle.ir_plan.specs.{Shown.StandForTable, NodeRows.IsNodeRow};
+ghost use Rattle.ir_plan.specs.{Shown.StandForTable, NodeRows.{AreNodeRows, AreRowsFrom, IsNodeRow}, Ties.AreTies};
 
+use crate::batches::{BATCH, LEAST_BATCHED, batch_rows, joined};
+use crate::patience::Patience;
 use crate::rows::row_at;
+use crate::ties::{Ties, all_found, are_held, order_of};
 use crate::watch::Watch;
+use ir_lanes::{PortMarks, words_to};
 use ir_lookup::Row;
 use ir_model::Kind;
 use ir_numbering::Numbering;
@@ -43,6 +49,168 @@ pub fn rows_in_threads(
     ensures { IfOk result (λ rows. StandForTable kind topology.now numbering.now.order numbering.now.parents
         numbering.now.labels rows.items) }
 {
+    match kind {
+        Kind::Tree => nodes_in_threads(rt, alloc, topology, numbering, kind, &None, most, watch),
+        Kind::Shortest => shortest_in_threads(rt, alloc, topology, numbering, most, watch),
+        Kind::Compact => {
+            let ties = ties_in_threads(rt, alloc, topology, numbering, most)?;
+            nodes_in_threads(rt, alloc, topology, numbering, kind, &ties, most, watch)
+        }
+    }
+}
+
+// The row of each node in the shortest table, by number, made in batches.
+fn shortest_in_threads(
+    rt: &(impl Threads + Sync),
+    alloc: Global,
+    topology: &Topology,
+    numbering: &Numbering,
+    most: Option<usize>,
+    watch: &(impl Watch + Sync),
+) -> Result<Vec<Row>, AllocError>
+    requires labels { AreLabels (node_count topology.now) numbering.now.order numbering.now.labels }
+    requires connected { IsConnected topology.now }
+    ensures { IfOk result (λ rows. StandForTable Shortest topology.now numbering.now.order numbering.now.parents
+        numbering.now.labels rows.items) }
+{
+    let nodes = topology.nodes();
+    if nodes < LEAST_BATCHED {
+        return nodes_in_threads(
+            rt,
+            alloc,
+            topology,
+            numbering,
+            Kind::Shortest,
+            &None,
+            most,
+            watch,
+        );
+    }
+    let batches = batches_in_threads(rt, alloc, topology, numbering, most, watch)?;
+    joined(alloc, nodes, batches)
+}
+
+// The rows of each batch in the shortest table.
+fn batches_in_threads(
+    rt: &(impl Threads + Sync),
+    alloc: Global,
+    topology: &Topology,
+    numbering: &Numbering,
+    most: Option<usize>,
+    watch: &(impl Watch + Sync),
+) -> Result<Vec<Vec<Row>>, AllocError>
+    requires labels { AreLabels (node_count topology.now) numbering.now.order numbering.now.labels }
+    requires connected { IsConnected topology.now }
+    ensures { IfOk result (λ batches. AreNodeRows Shortest topology.now numbering.now.order numbering.now.parents
+        numbering.now.labels (node_count topology.now) (flat_map (λ batch. batch.items) batches.items)) }
+{
+    let nodes = topology.nodes();
+    let patience = &Patience::new();
+    (0..nodes.div_ceil(BATCH))
+        .into_par_iter()
+        .with_min_len(rows_of_a_thread(nodes, most).div_ceil(BATCH))
+        .map(
+            |batch: usize| -> Result<Vec<Row>, AllocError>
+                requires { (batch * 16 < node_count topology.now)
+                    × AreLabels (node_count topology.now) numbering.now.order numbering.now.labels
+                    × IsConnected topology.now }
+                ensures { IfOk result (λ rows. AreRowsFrom Shortest topology.entry.now numbering.entry.now.order
+                    numbering.entry.now.parents numbering.entry.now.labels (batch * 16) 16 rows.items) }
+            { batch_rows(alloc, topology, numbering, batch, patience, watch) },
+        )
+        .collect::<Result<Vec<Vec<Row>>, AllocError>>(rt, alloc)?
+}
+
+// The ties of a network, where there are any, found in batches.
+fn ties_in_threads(
+    rt: &(impl Threads + Sync),
+    alloc: Global,
+    topology: &Topology,
+    numbering: &Numbering,
+    most: Option<usize>,
+) -> Result<Option<Ties>, AllocError>
+    requires { AreLabels (node_count topology.now) numbering.now.order numbering.now.labels }
+    ensures { IfOk result (λ found. IfSome found (AreTies topology.now numbering.now.order)) }
+{
+    if !are_held(topology) {
+        return Ok(None);
+    }
+    let order = order_of(alloc, topology, numbering)?;
+    let found = words_in_threads(rt, alloc, topology, order.as_slice(), most)?;
+    let Some(batches) = all_found(alloc, found)? else {
+        return Ok(None);
+    };
+    let marks = PortMarks::from_batches(alloc, topology, order.as_slice(), batches)?;
+    Ok(Some(Ties { order, marks }))
+}
+
+// The words of all ports for each batch of nodes of a list, where they were found.
+fn words_in_threads(
+    rt: &(impl Threads + Sync),
+    alloc: Global,
+    topology: &Topology,
+    order: &[u16],
+    most: Option<usize>,
+) -> Result<Vec<Option<Vec<u16>>>, AllocError>
+    requires { (d : ℕ) → d < length order.now → slice_index order.now d < node_count topology.now }
+    ensures each { IfOk result (λ found. (b : ℕ) → b < length found.items
+        → IfSome (slice_index_or found.items b None) (λ words. AreBatchWords topology.now order.now b words.items)) }
+    ensures enough { IfOk result (λ found. length order.now ≤ length found.items * 16) }
+{
+    let nodes = order.len();
+    let patience = &Patience::new();
+    (0..nodes.div_ceil(BATCH))
+        .into_par_iter()
+        .with_min_len(rows_of_a_thread(nodes, most).div_ceil(BATCH))
+        .map(
+            |batch: usize| -> Result<Option<Vec<u16>>, AllocError>
+                requires { (batch * 16 < length order.now)
+                    × ((d : ℕ) → d < length order.now → slice_index order.now d < node_count topology.now) }
+                ensures { IfOk result (λ found. IfSome found (λ words. AreBatchWords topology.entry.now
+                    order.entry.now batch words.items)) }
+            { words_by(alloc, topology, order, batch, patience) },
+        )
+        .collect::<Result<Vec<Option<Vec<u16>>>, AllocError>>(rt, alloc)?
+}
+
+// The words of all ports for a batch of nodes of a list, where the lanes are tried and find them.
+fn words_by(
+    alloc: Global,
+    topology: &Topology,
+    order: &[u16],
+    batch: usize,
+    patience: &Patience,
+) -> Result<Option<Vec<u16>>, AllocError>
+    requires nodes { (d : ℕ) → d < length order.now → slice_index order.now d < node_count topology.now }
+    requires batch { batch * 16 < length order.now }
+    ensures { IfOk result (λ found. IfSome found (λ words. AreBatchWords topology.now order.now batch words.items)) }
+{
+    if !patience.tries() {
+        return Ok(None);
+    }
+    let found = words_to(alloc, topology, order, batch)?;
+    patience.learns(found.is_some());
+    Ok(found)
+}
+
+// The row of each node, by number, made node by node.
+fn nodes_in_threads(
+    rt: &(impl Threads + Sync),
+    alloc: Global,
+    topology: &Topology,
+    numbering: &Numbering,
+    kind: Kind,
+    ties: &Option<Ties>,
+    most: Option<usize>,
+    watch: &(impl Watch + Sync),
+) -> Result<Vec<Row>, AllocError>
+    requires labels { AreLabels (node_count topology.now) numbering.now.order numbering.now.labels }
+    requires tree { kind ≡ Tree → IsNumberingOf topology.now numbering.now }
+    requires ties { IfSome ties.now (AreTies topology.now numbering.now.order) }
+    requires connected { IsConnected topology.now }
+    ensures { IfOk result (λ rows. StandForTable kind topology.now numbering.now.order numbering.now.parents
+        numbering.now.labels rows.items) }
+{
     let nodes = topology.nodes();
     (0..nodes)
         .into_par_iter()
@@ -51,10 +219,11 @@ pub fn rows_in_threads(
             |u: usize| -> Result<Row, AllocError>
                 requires { (u < node_count topology.now)
                     × AreLabels (node_count topology.now) numbering.now.order numbering.now.labels
-                    × (kind ≡ Tree → IsNumberingOf topology.now numbering.now) × IsConnected topology.now }
+                    × (kind ≡ Tree → IsNumberingOf topology.now numbering.now)
+                    × IfSome ties.now (AreTies topology.now numbering.now.order) × IsConnected topology.now }
                 ensures { IfOk result (λ row. IsNodeRow kind topology.entry.now numbering.entry.now.order
                     numbering.entry.now.parents (slice_index numbering.entry.now.labels u) row) }
-            { row_in_thread(alloc, topology, numbering, kind, u, watch) },
+            { row_in_thread(alloc, topology, numbering, kind, ties, u, watch) },
         )
         .collect::<Result<Vec<Row>, AllocError>>(rt, alloc)?
 }
@@ -65,18 +234,20 @@ fn row_in_thread(
     topology: &Topology,
     numbering: &Numbering,
     kind: Kind,
+    ties: &Option<Ties>,
     u: usize,
     watch: &impl Watch,
 ) -> Result<Row, AllocError>
     requires labels { AreLabels (node_count topology.now) numbering.now.order numbering.now.labels }
     requires tree { kind ≡ Tree → IsNumberingOf topology.now numbering.now }
+    requires ties { IfSome ties.now (AreTies topology.now numbering.now.order) }
     requires connected { IsConnected topology.now }
     requires node { u < node_count topology.now }
     ensures { IfOk result (λ row. IsNodeRow kind topology.now numbering.now.order numbering.now.parents
         (slice_index numbering.now.labels u) row) }
 {
     let nodes = topology.nodes();
-    let row = row_at(alloc, topology, numbering, kind, u as u16)?;
+    let row = row_at(alloc, topology, numbering, kind, ties, u as u16)?;
     watch.row_made(nodes);
     Ok(row)
 }

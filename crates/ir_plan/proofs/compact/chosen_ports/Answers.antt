@@ -4,7 +4,7 @@ use Rattle.std.specs.Prelude.{slice_index}
 use Rattle.ir_model.specs.Topology.{node_count}
 use Rattle.ir_model.proofs.Steps.{longest_are_steps, steps_are_chosen}
 use Rattle.ir_plan.specs.CompactRows.{MayTake}
-use Rattle.ir_plan.proofs.CompactRows.{tied_choices, may_choices, chosen_of_may}
+use Rattle.ir_plan.proofs.CompactRows.{may_choices, chosen_of_may}
 use Rattle.ir_plan.proofs.compact.chosen_ports.Goals as goal
 
 pub ports_of_runs-requires-clause-two : goal.ports_of_runs-requires-clause-two
@@ -20,7 +20,7 @@ ports_of_runs-requires-clause-steps c =
     let named = c.requires.labels in
     let ok = c.nodes-nodes.ensures.topology in
     let two : 1 < n = omega (arith, c.requires.node, c.nodes-nodes.ensures.count, c.if-nodes-eq1.false) in
-    let tied = tied_choices net ok numbers.order numbers.labels named u c.in_ok-ways.ways.weights c.in_ok-ways.ensures.distances in
+    let tied = c.in_ok-counts.ensures.tied in
     let valid = may_choices net ok numbers.order numbers.labels named u c.requires.node tied in
     rw (c.nodes-nodes.ensures.count, c.label_of.ensures, c.as_slice.ensures.value)
     (longest_are_steps n own (MayTake net numbers.order own) two valid c.in_ok-counts.counts.items c.in_ok-counts.ports.items c.in_ok-counts.ensures.longest c.in_ok-counts.ensures.counts)
@@ -35,7 +35,7 @@ returns c =
     let named = c.requires.labels in
     let ok = c.nodes-nodes.ensures.topology in
     let two : 1 < n = omega (arith, c.requires.node, c.nodes-nodes.ensures.count, c.if-nodes-eq1.false) in
-    let tied = tied_choices net ok numbers.order numbers.labels named u c.in_ok-ways.ways.weights c.in_ok-ways.ensures.distances in
+    let tied = c.in_ok-counts.ensures.tied in
     let valid = may_choices net ok numbers.order numbers.labels named u c.requires.node tied in
     let counts = c.in_ok-counts.counts.items in
     let ports = c.in_ok-counts.ports.items in

@@ -1,5 +1,5 @@
 use Rattle.std.proofs.Common.{◌≡◌, ◌<◌, ◌-◌, ◌∙◌, ℕ, List, Ok, Err, ap, subst, arith}
-use Rattle.std.specs.Prelude.{IfOk, MatchResult, slice_index}
+use Rattle.std.specs.Prelude.{IfOk, IfSome, MatchResult, slice_index}
 use Rattle.std.specs.List.{AllZip, range_with_len}
 use Rattle.std.specs.declared.result.Result.{Result}
 use Rattle.std.specs.declared.alloc.AllocError.{AllocError}
@@ -12,8 +12,9 @@ use Rattle.ir_model.specs.declared.Kind.TheVariants.{Tree}
 use Rattle.ir_model.specs.Row.{Start}
 use Rattle.ir_numbering.specs.Numbering.{IsNumberingOf}
 use Rattle.ir_plan.specs.NodeRows.{IsNodeRow}
+use Rattle.ir_plan.specs.Ties.{AreTies}
 use Rattle.ir_plan.proofs.NodeRows.{rows_of_range, node_rows_stand}
-use Rattle.ir_plan.proofs.threads.rows_in_threads.Goals as goal
+use Rattle.ir_plan.proofs.threads.nodes_in_threads.Goals as goal
 
 -- what holds of the value in an `Ok`
 of_match : {T E : Type 0} (r : Result T E) (P R : T → Type 0) (Q : E → Type 0) → MatchResult r P Q → ((v : T) → P v → R v) → IfOk r R
@@ -24,8 +25,8 @@ pub collect-requires-clause-ready : goal.collect-requires-clause-ready
 collect-requires-clause-ready g c κs within =
     let ends = c.into_par_iter.ensures in
     let net = c.args.topology.now in
-    let inside = nat_range-All (λ (u : ℕ). (u < node_count net) × AreLabels (node_count net) c.args.numbering.now.order c.args.numbering.now.labels × (c.args.kind ≡ Tree → IsNumberingOf net c.args.numbering.now) × IsConnected net) 0 c.nodes-nodes.result
-    (λ i low high. (omega (arith, high, c.nodes-nodes.ensures.count), c.requires.labels, c.requires.tree, c.requires.connected)) in
+    let inside = nat_range-All (λ (u : ℕ). (u < node_count net) × AreLabels (node_count net) c.args.numbering.now.order c.args.numbering.now.labels × (c.args.kind ≡ Tree → IsNumberingOf net c.args.numbering.now) × IfSome c.args.ties.now (AreTies net c.args.numbering.now.order) × IsConnected net) 0 c.nodes-nodes.result
+    (λ i low high. (omega (arith, high, c.nodes-nodes.ensures.count), c.requires.labels, c.requires.tree, c.requires.ties, c.requires.connected)) in
     rw (c.map.ensures.base, c.map.ensures.f, c.with_min_len.ensures.base, ends.0, ends.1) (λ k d lt. (inside k d lt, λ y p. tt))
 
 pub returns : goal.returns

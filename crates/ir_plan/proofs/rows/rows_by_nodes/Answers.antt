@@ -2,7 +2,7 @@ use Rattle.std.proofs.Common.{◌≡◌, ℕ, subst, arith}
 use Rattle.ir_model.specs.Topology.{node_count}
 use Rattle.ir_plan.specs.NodeRows.{AreNodeRows}
 use Rattle.ir_plan.proofs.NodeRows.{node_rows_more, node_rows_stand}
-use Rattle.ir_plan.proofs.rows.rows_of.Goals as goal
+use Rattle.ir_plan.proofs.rows.rows_by_nodes.Goals as goal
 
 pub loop-u-preserved : goal.loop-u-preserved
 loop-u-preserved c =

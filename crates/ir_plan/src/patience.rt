@@ -1,0 +1,42 @@
+//! For how long the lanes are left alone once a search in them found nothing.
+
+use std::sync::atomic::{AtomicU64, Ordering};
+
+/// How many batches go without the lanes. Threads share it. Nothing is promised of it, and no row depends on it.
+#[derive(Drop)]
+pub struct Patience {
+    /// How many batches from now on.
+    left: AtomicU64,
+    /// How many behind the next one that finds nothing.
+    next: AtomicU64,
+}
+
+impl Patience {
+    /// None so far.
+    pub fn new() -> Patience {
+        Patience {
+            left: AtomicU64::new(0),
+            next: AtomicU64::new(1),
+        }
+    }
+
+    /// Whether the lanes are tried for a batch.
+    pub fn tries(&self) -> bool {
+        let left = self.left.load(Ordering::SeqCst);
+        if left > 0 {
+            self.left.store(left - 1, Ordering::SeqCst);
+        }
+        left == 0
+    }
+
+    /// Learns whether a batch found anything: behind those that did not one by one, the next 1, 2, 4 .. go without.
+    pub fn learns(&self, has_found: bool) {
+        if has_found {
+            self.next.store(1, Ordering::SeqCst);
+        } else {
+            let next = self.next.load(Ordering::SeqCst);
+            self.left.store(next, Ordering::SeqCst);
+            self.next.store(next.saturating_mul(2), Ordering::SeqCst);
+        }
+    }
+}
