@@ -2,7 +2,7 @@
 // pass of Dijkstra at its own node that hands the least port on, in O(n + m) memory for a thread. `scale table 1
 // shortest FILE` fills a table of n * n ports first, from one pass of Dijkstra for each destination. Both print the
 // text that `route plan --kind KIND --format edgelist FILE` prints. KIND is shortest, or tree, whose rows come from the
-// subtrees alone. Built by `rustc -O`; it takes a weighted edge list, and is no part of the gate.
+// subtrees alone. `scale distances 1 shortest FILE` prints the sum of the distances of all pairs. Built by `rustc -O`; it takes a weighted edge list, and is no part of the gate.
 use std::cmp::Reverse;
 use std::collections::{BinaryHeap, HashMap};
 use std::io::Write;
@@ -228,6 +228,18 @@ fn rows_by_table(labelled: &Labelled) -> Vec<Row> {
     (0..n).map(|own| starts(&table[own * n..(own + 1) * n], own)).collect()
 }
 
+/// The sum of the distances of all pairs, each of them both ways.
+fn sum_of_distances(labelled: &Labelled) -> u64 {
+    let n = labelled.nodes.len();
+    let mut room = Room::new(n);
+    let mut sum = 0;
+    for from in 0..n {
+        room.reach(labelled, from);
+        sum += room.weights.iter().map(|&weight| weight as u64).sum::<u64>();
+    }
+    sum
+}
+
 fn print(network: &Network, labelled: &Labelled, kind: &str, rows: &[Row]) -> std::io::Result<()> {
     let n = rows.len();
     let total: usize = rows.iter().map(Vec::len).sum();
@@ -256,9 +268,13 @@ fn print(network: &Network, labelled: &Labelled, kind: &str, rows: &[Row]) -> st
 
 fn main() {
     let words: Vec<String> = std::env::args().skip(1).collect();
-    let [way, threads, kind, file] = words.as_slice() else { panic!("scale rows|table THREADS shortest|tree FILE") };
+    let [way, threads, kind, file] = words.as_slice() else { panic!("scale rows|table|distances THREADS shortest|tree FILE") };
     let network = read(&std::fs::read_to_string(file).expect("a text"));
     let labelled = Labelled::of(&network);
+    if way == "distances" {
+        println!("{}", sum_of_distances(&labelled));
+        return;
+    }
     let rows = match way.as_str() {
         "rows" => rows(&labelled, threads.parse().expect("a number of threads"), kind == "tree"),
         _ => rows_by_table(&labelled),

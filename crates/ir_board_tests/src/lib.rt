@@ -7,6 +7,8 @@ mod crews;
 #[cfg(test)]
 mod epochs;
 #[cfg(test)]
+mod errors;
+#[cfg(test)]
 mod links;
 #[cfg(test)]
 mod plans;

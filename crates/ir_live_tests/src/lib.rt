@@ -4,6 +4,8 @@
 #[cfg(test)]
 mod by_hand;
 #[cfg(test)]
+mod errors;
+#[cfg(test)]
 mod fates;
 #[cfg(test)]
 mod gates;

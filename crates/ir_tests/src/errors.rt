@@ -4,7 +4,9 @@ use ir_adjlist::{Fault, TextError};
 use ir_compile::CompileError;
 use ir_core::{OpenError, Refused};
 use ir_numbering::{NumberError, OrderError};
+use ir_order::{OrderFault, OrderFaultKind};
 use ir_plan::PlanError;
+use ir_streams::{CallError, NoInput};
 use ir_tables::TableError;
 use std::alloc::Global;
 use std::fmt::Display;
@@ -26,7 +28,6 @@ fn errors_in_words(rt: HostRuntime) {
     assert!(rt;
         tells(alloc, &TableError::Empty, "the topology has no node")
             && tells(alloc, &NumberError::NoNode, "the root is no node")
-            && tells(alloc, &OrderError::Twice, "a node stands twice")
             && tells(alloc, &CompileError::BadRow, each)
             && tells(alloc, &PlanError::NoMemory, "out of memory")
             && tells(alloc, &OpenError::Disconnected, apart)
@@ -103,4 +104,58 @@ fn faults_of_a_text_in_words(rt: HostRuntime) -> Result<(), Fail> {
         }
     }
     Ok(())
+}
+
+/// What is wrong with an order's text, with its number and its words.
+static ORDER_FAULTS: [(OrderFaultKind, u8, &'static str); 6] = [
+    (OrderFaultKind::BadByte, 1, "line 7: bad byte"),
+    (OrderFaultKind::BadRow, 2, "line 7: more than one word"),
+    (OrderFaultKind::UnknownNode, 3, "line 7: no such node"),
+    (OrderFaultKind::Twice, 4, "line 7: a node stands twice"),
+    (OrderFaultKind::Missing, 5, "line 7: a node is missing"),
+    (OrderFaultKind::NoMemory, 6, "line 7: out of memory"),
+];
+
+#[test]
+fn faults_of_an_order_in_words(rt: HostRuntime) -> Result<(), Fail> {
+    for (kind, number, words) in &ORDER_FAULTS {
+        let error = OrderFault {
+            line: 7,
+            kind: *kind,
+        };
+        if *kind as u8 != *number || !tells(rt.alloc(), &error, words) {
+            return Err("another number, or other words".into());
+        }
+    }
+    Ok(())
+}
+
+/// What is wrong with a list of nodes, with its number and its words.
+static ORDER_ERRORS: [(OrderError, u8, &'static str); 4] = [
+    (OrderError::NoNode, 1, "a place holds no node"),
+    (OrderError::Twice, 2, "a node stands twice"),
+    (OrderError::Missing, 3, "a node is missing"),
+    (OrderError::NoMemory, 4, "out of memory"),
+];
+
+#[test]
+fn errors_of_an_order_in_words(rt: HostRuntime) -> Result<(), Fail> {
+    for (error, number, words) in &ORDER_ERRORS {
+        if error.code() != *number || !tells(rt.alloc(), error, words) {
+            return Err("another number, or other words".into());
+        }
+    }
+    Ok(())
+}
+
+#[test]
+fn failed_calls_in_words(rt: HostRuntime) {
+    let alloc = rt.alloc();
+    assert!(rt;
+        tells(alloc, &NoInput::Unreadable, "unreadable")
+            && tells(alloc, &NoInput::TooLarge, "too large")
+            && tells(alloc, &NoInput::NoMemory, "out of memory")
+            && tells(alloc, &CallError::Interrupted, "the call was interrupted")
+            && tells(alloc, &CallError::Failed, "the call failed")
+    );
 }

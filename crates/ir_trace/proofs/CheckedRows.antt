@@ -1,5 +1,5 @@
 -- What the checker computes of a row is what the definition says of it.
-use Rattle.std.proofs.Common.{◌≡◌, ◌<◌, ◌≤◌, ◌-◌, ◌==◌, ℕ, zero, suc, Bool, true, false, not, ◌&&◌, ◌||◌, List, [], ◌∷◌, ◌++◌, length, slice_get, nat_lt, nat_le, Option, Some, None, refl, sym, ap, subst, ◌∙◌, arith, inl, inr, ⊎_elim}
+use Rattle.std.proofs.Common.{◌≡◌, ◌⊎◌, ◌<◌, ◌≤◌, ◌-◌, ◌==◌, ℕ, zero, suc, Bool, true, false, not, ◌&&◌, ◌||◌, List, [], ◌∷◌, ◌++◌, length, slice_get, nat_lt, nat_le, Option, Some, None, refl, sym, ap, subst, ◌∙◌, arith, inl, inr, ⊎_elim}
 use Rattle.std.specs.List.{list_all}
 use Rattle.std.proofs.lemmas.Bool.{and_parts, and_from, or_cases, eqb-true, eq-eqb, ltb-true, lt-ltb, leb-true, le-leb, both_ways}
 use Rattle.std.proofs.lemmas.Option.{slice_get-get_or}
@@ -15,9 +15,9 @@ use Rattle.ir_core.specs.Sound.{last_of}
 use Rattle.ir_trace.specs.declared.row.RowFate.{RowFate}
 use Rattle.ir_trace.specs.declared.row.RowFate.TheVariants.{Delivered, Retired, Down, Full, Left}
 use Rattle.ir_trace.specs.declared.finding.FindingKind.{FindingKind}
-use Rattle.ir_trace.specs.declared.finding.FindingKind.TheVariants.{UnknownEpoch, NotAPrefix, NotAtDestination, BadWeight}
+use Rattle.ir_trace.specs.declared.finding.FindingKind.TheVariants.{NotTrace, BadRow, UnknownNode, UnknownEpoch, NotAPrefix, NotAtDestination, BadWeight, Repeated, NoMemory}
 use Rattle.ir_trace.specs.Row.{Segment, TraceRow}
-use Rattle.ir_trace.specs.Checked.{plan_at, no_part, last_part, is_part_over, IsRowOver, KnowsEpochs, IsFrontOfWalk, IsWholeWalk, AreJoined, ArePair, GoesOn, FollowsWalks, HasArrived, Weighs, IsOfShortestWays, ArrivesShortest}
+use Rattle.ir_trace.specs.Checked.{plan_at, no_part, last_part, is_part_over, IsRowOver, KnowsEpochs, IsFrontOfWalk, IsWholeWalk, AreJoined, ArePair, GoesOn, FollowsWalks, HasArrived, Weighs, IsOfShortestWays, ArrivesShortest, HasNewId, IsFindingOf, IsFine}
 use Rattle.ir_trace.specs.Inspect.{is_node, next_of, leads_through, follows_from, are_known, are_joined, fits_fate, goes_on, is_delivered, has_arrived, segments_weight, first_of_four, found_of, AreOver, IsOverPlan, AreOverPlans}
 use Rattle.ir_trace.proofs.Inspecting.{part_facts}
 use Rattle.ir_trace.proofs.Fronts.{leads_through-push, front, front_back, whole, whole_back}
@@ -29,6 +29,10 @@ pub record Tells (b : Bool) (P : Type 0) : Type 0 where
 
 no : (b : Bool) (P : Type 0) → Tells b P → b ≡ false → P → ⊥
 no b P t e p = both_ways b e (t.back p)
+
+off : (b : Bool) (P : Type 0) → Tells b P → (P → ⊥) → b ≡ false
+off true P t none = absurd (none (t.yes refl))
+off false P t none = refl
 
 -- ---- epochs
 
@@ -219,7 +223,7 @@ IsFound net plans row (Some BadWeight) = KnowsEpochs plans row.parts × FollowsW
 IsFound net plans row (Some kind) = ⊥
 
 module _ (net : Topology) (plans : List Plan) (row : TraceRow) (over : AreOver (node_count net) plans) (is : IsRowOver (node_count net) row) where
-  last_is : slice_get row.parts (length row.parts - 1) ≡ Some (last_part row.parts)
+  pub last_is : slice_get row.parts (length row.parts - 1) ≡ Some (last_part row.parts)
   last_is = slice_get-get_or row.parts (length row.parts - 1) no_part (let some = is.some in omega arith)
 
   follows : are_known (length plans) row.parts ≡ true → Tells (are_joined plans row.dest row.source 0 row.parts && goes_on plans row.dest row.fate row.parts) (FollowsWalks plans row)
@@ -256,6 +260,60 @@ module _ (net : Topology) (plans : List Plan) (row : TraceRow) (over : AreOver (
       by true true true true ha hb hc he =
           let joined = (and_parts (are_joined plans row.dest row.source 0 row.parts) (goes_on plans row.dest row.fate row.parts) hb).0 in
           (known_tells (length plans) row.parts ha, (follows ha).yes hb, (arrives ha joined).yes hc, sym (eqb-true (segments_weight net row.parts) row.weight he))
+
+  -- ---- what is said of the row is what is computed
+
+  known_is : Tells (are_known (length plans) row.parts) (KnowsEpochs plans row.parts)
+  known_is = record { yes = λ e. known_tells (length plans) row.parts e; back = λ p. known_back (length plans) row.parts p }
+
+  weighs_is : Tells (segments_weight net row.parts == row.weight) (Weighs net row)
+  weighs_is = record { yes = λ e. sym (eqb-true (segments_weight net row.parts) row.weight e); back = λ w. eq-eqb (segments_weight net row.parts) row.weight (sym w) }
+
+  computed : (a b c e : Bool) → are_known (length plans) row.parts ≡ a → (are_joined plans row.dest row.source 0 row.parts && goes_on plans row.dest row.fate row.parts) ≡ b → has_arrived row.dest row.fate row.parts ≡ c → (segments_weight net row.parts == row.weight) ≡ e
+      → found_of net plans row ≡ first_of_four a b c e
+  computed a b c e ha hb hc he =
+      let follow = are_joined plans row.dest row.source 0 row.parts && goes_on plans row.dest row.fate row.parts in
+      let arrived = has_arrived row.dest row.fate row.parts in
+      let weighs = segments_weight net row.parts == row.weight in
+      ap (λ (x : Bool). first_of_four x follow arrived weighs) ha
+      ∙ ap (λ (x : Bool). first_of_four a x arrived weighs) hb
+      ∙ ap (λ (x : Bool). first_of_four a b x weighs) hc
+      ∙ ap (λ (x : Bool). first_of_four a b c x) he
+
+  joined_from : (are_joined plans row.dest row.source 0 row.parts && goes_on plans row.dest row.fate row.parts) ≡ true → are_joined plans row.dest row.source 0 row.parts ≡ true
+  joined_from e = (and_parts (are_joined plans row.dest row.source 0 row.parts) (goes_on plans row.dest row.fate row.parts) e).0
+
+  -- a finding of the row alone is the one that is computed; where its id alone is not new, none is computed
+  pub is_found_as : (earlier : List TraceRow) (kind : FindingKind) → IsFindingOf net plans earlier row kind
+      → (found_of net plans row ≡ Some kind) ⊎ ((kind ≡ Repeated) × (found_of net plans row ≡ None) × (HasNewId earlier row → ⊥))
+  is_found_as earlier NotTrace h = absurd h
+  is_found_as earlier BadRow h = absurd h
+  is_found_as earlier UnknownNode h = absurd h
+  is_found_as earlier NoMemory h = absurd h
+  is_found_as earlier UnknownEpoch h =
+      inl (computed false (are_joined plans row.dest row.source 0 row.parts && goes_on plans row.dest row.fate row.parts) (has_arrived row.dest row.fate row.parts) (segments_weight net row.parts == row.weight) (off _ _ known_is h) refl refl refl)
+  is_found_as earlier NotAPrefix h =
+      let known = known_is.back h.0 in
+      inl (computed true false (has_arrived row.dest row.fate row.parts) (segments_weight net row.parts == row.weight) known (off _ _ (follows known) h.1) refl refl)
+  is_found_as earlier NotAtDestination h =
+      let known = known_is.back h.0 in
+      let walks = (follows known).back h.1 in
+      inl (computed true true false (segments_weight net row.parts == row.weight) known walks (off _ _ (arrives known (joined_from walks)) h.2) refl)
+  is_found_as earlier BadWeight h =
+      let known = known_is.back h.0 in
+      let walks = (follows known).back h.1 in
+      inl (computed true true true false known walks ((arrives known (joined_from walks)).back h.2) (off _ _ weighs_is h.3))
+  is_found_as earlier Repeated h =
+      let known = known_is.back h.0 in
+      let walks = (follows known).back h.1 in
+      inr (refl, computed true true true true known walks ((arrives known (joined_from walks)).back h.2) (weighs_is.back h.3), h.4)
+
+  -- nothing is computed of a fine row
+  pub is_fine_as : (earlier : List TraceRow) → IsFine net plans earlier row → found_of net plans row ≡ None
+  is_fine_as earlier fine =
+      let known = known_is.back fine.epochs in
+      let walks = (follows known).back fine.walks in
+      computed true true true true known walks ((arrives known (joined_from walks)).back fine.arrived) (weighs_is.back fine.weight)
 
   -- with a kind of shortest ways the whole of the last walk weighs the distance
   pub shortest : KnowsEpochs plans row.parts → HasArrived plans row → ArrivesShortest plans row

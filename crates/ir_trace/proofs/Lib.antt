@@ -20,3 +20,6 @@ pub mod ReadWithin
 pub mod ReadAgain
 pub mod SegmentsAgain
 pub mod Replayed
+pub mod OneTree
+pub mod Routing
+pub mod OneAnswer

@@ -1,5 +1,5 @@
 -- The installs of a list of steps join all nodes.
-use Rattle.std.proofs.Common.{◌≡◌, ◌∙◌, ℕ, zero, suc, Some, List, [], ◌∷◌, length, ap, subst, arith}
+use Rattle.std.proofs.Common.{◌∙◌, zero, suc, List, [], ◌∷◌, length, ap, subst, arith}
 use Rattle.std.proofs.lemmas.Option.{none-some, same_Some}
 use Rattle.ir_model.specs.Topology.{Topology}
 use Rattle.ir_model.specs.Walk.{IsConnected}

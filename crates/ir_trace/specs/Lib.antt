@@ -10,6 +10,7 @@ pub mod Checked
 pub mod Inspect
 pub mod SoundRows
 pub mod Sound
+pub mod Judged
 -- what bodies use
 pub mod Spelled
 pub mod Line

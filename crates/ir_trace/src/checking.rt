@@ -1,10 +1,11 @@
 //! Traces checked against what each epoch was installed with.
-ghost use Rattle.std.specs.Prelude.{◌≡◌, ◌<◌, ◌≤◌, List, true, IfOk, IfErr, length, nat_lt, nat_le, ◌&&◌, ◌||◌, ◌==◌, not, Some};
+ghost use Rattle.std.specs.Prelude.{◌≡◌, ◌≢◌, ◌<◌, ◌≤◌, List, true, IfOk, IfErr, length, nat_lt, nat_le, ◌&&◌, ◌||◌, ◌==◌, not, Some};
 ghost use Rattle.std.specs.List.{list_all};
 ghost use Rattle.ir_model.specs.Topology.{node_count};
 ghost use Rattle.ir_core.specs.Sound.{last_of};
 ghost use Rattle.ir_trace.specs.Checked.{plan_at, is_part_over, IsRowOver, AreRowsOver, AreInstalls, AreFine, Finds};
-ghost use Rattle.ir_trace.specs.Sound.{IsSoundTrace};
+ghost use Rattle.ir_trace.specs.declared.finding.FindingKind.TheVariants.{NoMemory};
+ghost use Rattle.ir_trace.specs.{Sound.{IsSoundTrace}, Judged.{FindsNothing, IsOnlyFinding}};
 ghost use Rattle.ir_trace.specs.Inspect.{is_node, next_of, leads_through, follows_from, are_known, are_joined, fits_fate, goes_on, is_delivered, has_arrived, segments_weight, found_of, AreOver, IsOverPlan, AreOverPlans, FindsBy};
 
 use crate::MAX_SEGMENTS;
@@ -171,6 +172,9 @@ pub fn check_trace(
     requires rows { AreRowsOver (node_count topology.now) trace.now }
     ensures sound { IfOk result (λ _. IsSoundTrace topology.now installs.now trace.now) }
     ensures finding { IfErr result (λ e. Finds topology.now installs.now trace.now e.line e.kind) }
+    ensures nothing { IfOk result (λ _. FindsNothing topology.now installs.now trace.now) }
+    ensures only { IfErr result (λ e. e.kind ≢ NoMemory
+        → IsOnlyFinding topology.now installs.now trace.now e.line e.kind) }
 {
     check_trace_by(&Alone, alloc, topology, installs, trace)
 }
@@ -188,6 +192,9 @@ pub fn check_trace_by(
     requires rows { AreRowsOver (node_count topology.now) trace.now }
     ensures sound { IfOk result (λ _. IsSoundTrace topology.now installs.now trace.now) }
     ensures finding { IfErr result (λ e. Finds topology.now installs.now trace.now e.line e.kind) }
+    ensures nothing { IfOk result (λ _. FindsNothing topology.now installs.now trace.now) }
+    ensures only { IfErr result (λ e. e.kind ≢ NoMemory
+        → IsOnlyFinding topology.now installs.now trace.now e.line e.kind) }
 {
     let plans = plans_by(crew, alloc, topology, installs)?;
     check_rows(alloc, topology, plans.as_slice(), trace.all())

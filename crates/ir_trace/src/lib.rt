@@ -9,6 +9,7 @@
 mod checking;
 mod finding;
 pub mod judging;
+mod laws;
 mod numbers;
 mod outlet;
 mod reading;
@@ -21,6 +22,7 @@ mod writing;
 
 pub use checking::{check_trace, check_trace_by};
 pub use finding::{Finding, FindingKind};
+pub use laws::{check_is_determined, plans_of_installs_route_alike};
 pub use outlet::{Outlet, TraceError};
 pub use reading::{Trace, read_trace};
 pub use row::{RowFate, Segment, TraceRow, Version};
