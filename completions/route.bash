@@ -9,7 +9,8 @@ _bentzolu_subcommands() {
 _bentzolu_options() {
     case ${1-} in
         plan) echo '--format --kind --root --capacity --packets --explain --no-explain --threads --numbering --order --help' ;;
-        stats | ranges) echo '--format --kind --root --capacity --packets --explain --no-explain --threads --numbering --help' ;;
+        stats) echo '--format --kind --root --capacity --packets --explain --no-explain --threads --numbering --with --help' ;;
+        ranges) echo '--format --kind --root --capacity --packets --explain --no-explain --threads --numbering --help' ;;
         walk | draw) echo '--format --kind --root --capacity --packets --explain --no-explain --threads --numbering --from --to --help' ;;
         prefixes) echo '--format --kind --root --capacity --packets --explain --no-explain --threads --numbering --disjoint --help' ;;
         check) echo '--format --kind --root --capacity --packets --explain --no-explain --numbering --help' ;;
@@ -48,7 +49,7 @@ _bentzolu() {
                 compopt -o filenames 2> /dev/null
                 COMPREPLY+=($(compgen -f -- "$word"))
             fi ;;
-        --root | --capacity | --packets | --threads | --from | --to) ;;
+        --root | --capacity | --packets | --threads | --from | --to | --with) ;;
         *)
             if [ -z "$subcommand" ] && [[ $word != -* ]] || [ "$subcommand" = help ]; then
                 COMPREPLY=($(compgen -W "$(_bentzolu_subcommands)" -- "$word"))

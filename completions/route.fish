@@ -30,6 +30,7 @@ complete -c route -n '__fish_seen_subcommand_from plan walk stats draw prefixes 
 complete -c route -n '__fish_seen_subcommand_from walk draw' -l from -x -d 'The node that the walk goes from'
 complete -c route -n '__fish_seen_subcommand_from walk draw' -l to -x -d 'The node that it goes to'
 complete -c route -n '__fish_seen_subcommand_from plan' -l order -d 'The order of the labels in place of the rows'
+complete -c route -n '__fish_seen_subcommand_from stats' -l with -x -d 'A second plan, for the links that wait in both together'
 complete -c route -n '__fish_seen_subcommand_from prefixes' -l disjoint -d 'Prefixes of which no two hold one label'
 complete -c route -n '__fish_seen_subcommand_from sim live check' -l numbering -x -a 'depth-first tour' -d 'How each plan is numbered'
 complete -c route -n '__fish_seen_subcommand_from sim live' -l restamps -x -a '0 1 2 3' -d 'The most restamps of a packet'

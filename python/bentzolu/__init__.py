@@ -5,16 +5,16 @@
     plan = bentzolu.plan(graph, kind="compact")
     run = bentzolu.simulate(graph, [("inject", 0, 7), ("drain",)])
 
-The calls are `plan`, `walk`, `stats`, `prefixes`, `draw`, `simulate`, `live` and `check`; `help(bentzolu.calls)` tells what
-all of them take.
+The calls are `plan`, `walk`, `stats`, `prefixes`, `ranges`, `draw`, `simulate`, `live` and `check`; `help(bentzolu.calls)`
+tells what all of them take.
 """
-from .calls import check, draw, live, names_of, plan, prefixes, simulate, stats, walk
+from .calls import check, draw, live, names_of, plan, prefixes, ranges, simulate, stats, walk
 from .errors import (
     BentzoluError, DirectedGraphError, FormatError, GraphError, MultigraphError, ProgramNotFoundError, RouteError, StepError,
     TopologyWarning, UnknownNodeError, WeightError,
 )
 from .graphs import scaled
-from .label_ranges import Range, check_ranges, ranges
+from .label_ranges import Range, check_ranges, read_ranges
 from .names import Names
 from .program import find as find_program
 from .texts import (
@@ -29,6 +29,6 @@ __all__ = [
     "Names", "NodePlan", "NodePrefixes", "Packet", "Plan", "Prefix", "Prefixes", "ProgramNotFoundError", "Range", "Refused",
     "RouteError", "Run", "Segment", "Stats", "StepError", "TopologyWarning", "UnknownNodeError", "Verdict", "Walk",
     "WalkStep", "WeightError", "Worst", "check", "check_ranges", "draw", "find_program", "live", "names_of", "plan",
-    "prefixes", "ranges", "read_plan", "read_prefixes", "read_stats", "read_trace", "read_walk", "scaled", "simulate",
-    "stats", "walk", "write_trace",
+    "prefixes", "ranges", "read_plan", "read_prefixes", "read_ranges", "read_stats", "read_trace", "read_walk", "scaled",
+    "simulate", "stats", "walk", "write_trace",
 ]

@@ -19,6 +19,7 @@ import os
 
 from . import drawing, program as programs, texts
 from .errors import GraphError
+from .label_ranges import read_ranges
 from .sources import read_text, script_of, topology_of
 
 
@@ -113,6 +114,22 @@ def prefixes(
     words = [*words, "--disjoint"] if disjoint else words
     output, names = ask("prefixes", graph, kind, root, weight, program, timeout, words)
     return texts.read_prefixes(output, names)
+
+
+def ranges(graph, kind="shortest", root=None, *, weight="weight", program=None, timeout=None, words=()):
+    """The fewest ranges of labels by which each node sends on, for tables that match ranges: ascending, none past the
+    greatest label to 0, the own label in none and each other label in exactly one.
+
+    Parameters
+    ----------
+    graph, kind, root, weight, program, timeout, words : as for `plan`
+
+    Returns
+    -------
+    dict, by node, of tuples of `Range`, each with `first`, `last` and `to`
+    """
+    output, names = ask("ranges", graph, kind, root, weight, program, timeout, words)
+    return read_ranges(output, names)
 
 
 def draw(

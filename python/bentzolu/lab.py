@@ -16,7 +16,7 @@ from .lab_judge import Judge
 from .lab_net import LabError, Network, links_of, play, without_link
 from .lab_space import apart
 from .lab_traffic import Traffic
-from .label_ranges import check_ranges, ranges
+from .label_ranges import check_ranges, read_ranges
 
 KINDS = ("tree", "shortest", "compact")
 MOST_NODES = 256
@@ -85,14 +85,17 @@ def read_topology(path):
 
 
 def plan_of(text, form, kind, words, order=None):
-    """The plan of a topology, with an order of labels as text or without."""
+    """The plan of a topology and its ranges, with an order of labels as text or without."""
     with tempfile.TemporaryDirectory(prefix="bentzolu-") as folder:
         if order is not None:
             file = pathlib.Path(folder) / "order"
             file.write_text(order)
             words = ["--numbering", str(file)]
-        said, _ = programs.run(["plan", "--format", form, "--kind", kind, *words], [("topology", text)])
-    return texts.read_plan(said)
+        asked = ["--format", form, "--kind", kind, *words]
+        rows, ranges = (programs.run([sub, *asked], [("topology", text)]).output for sub in ("plan", "ranges"))
+    plan, found = texts.read_plan(rows), read_ranges(ranges)
+    check_ranges(plan, found)
+    return plan, found
 
 
 def order_of(plan):
@@ -116,7 +119,8 @@ def is_connected(nodes, links):
 
 
 def second_plan(words, text, form, first):
-    """The plan that is changed to. With a link down it is made without the link, under the labels of the first."""
+    """The plan that is changed to, and its ranges. With a link down it is made without the link, under the labels of the
+    first."""
     chosen = ["--root", words.root] if words.root else ["--numbering", words.numbering] if words.numbering else []
     if not words.down:
         return plan_of(text, form, words.to, chosen)
@@ -130,27 +134,25 @@ def second_plan(words, text, form, first):
 
 
 def checked_plans(words, text, form):
-    """Both plans by their epochs; LabError where they don't do for a lab."""
+    """Both plans by their epochs, and their ranges; LabError where they don't do for a lab."""
     chosen = ["--root", words.root] if words.root else ["--numbering", words.numbering] if words.numbering else []
-    first = plan_of(text, form, words.kind, chosen)
-    plans = {1: first, 2: second_plan(words, text, form, first)}
+    first, first_ranges = plan_of(text, form, words.kind, chosen)
+    second, second_ranges = second_plan(words, text, form, first)
+    plans = {1: first, 2: second}
     if not 2 <= len(first.nodes) <= MOST_NODES:
         raise LabError(f"it wants 2 to {MOST_NODES} nodes")
-    if first.labels != plans[2].labels:
+    if first.labels != second.labels:
         raise LabError("these plans number nodes otherwise: give --numbering FILE")
     for plan in plans.values():
         if max(len(plan.path(a, b)) for a in plan.nodes for b in plan.nodes) > MOST_LINKS_OF_A_WALK:
             raise LabError(f"a walk has more than {MOST_LINKS_OF_A_WALK} links")
-    return plans
+    return plans, {1: first_ranges, 2: second_ranges}
 
 
 def prepare(words):
     """The lab that the words ask for, as far as it can be made without touching anything."""
     text, form = read_topology(words.topology)
-    plans = checked_plans(words, text, form)
-    found = {epoch: ranges(plan) for epoch, plan in plans.items()}
-    for epoch, plan in plans.items():
-        check_ranges(plan, found[epoch])
+    plans, found = checked_plans(words, text, form)
     network = Network(plans[1], links_of(text, form))
     draw = random.Random(words.seed)
 

@@ -1,11 +1,13 @@
-"""A plan's intervals as ranges of labels, for tables that match ranges: nftables, P4, TCAMs, arrays of C.
+"""Ranges of labels, for tables that match ranges: nftables, P4, TCAMs, arrays of C; what `route ranges` prints.
 
-They are computed here from what `route plan` prints, and are those that `route ranges` prints. Nothing of this module is
-proved, so `check_ranges` compares them, label by label, with the plan's intervals before they are used.
+That the program's ranges are those of the plan is proved; nothing of this module is. So `check_ranges` compares what was
+read, label by label, with the plan's intervals before it is used.
 """
+import re
 from typing import Hashable, NamedTuple
 
 from .errors import FormatError
+from .texts import SameNames, headed, number
 
 
 class Range(NamedTuple):
@@ -16,46 +18,34 @@ class Range(NamedTuple):
     to: Hashable
 
 
-def pieces(interval, labels):
-    """An interval as pairs of a first and a last label below `labels`: two where it goes on past the greatest to 0."""
-    if interval.start < interval.end:
-        return [(interval.start, interval.end - 1)]
-    front = [(0, interval.end - 1)] if interval.end > 0 else []
-    return [*front, (interval.start, labels - 1)]
+RANGE = re.compile("([0-9]+)-([0-9]+)")
 
 
-def cut(first, last, own):
-    """What is left of a range without the own label."""
-    parts = [(first, last)] if not first <= own <= last else [(first, own - 1), (own + 1, last)]
-    return [(low, high) for low, high in parts if low <= high]
+def read_range(word, to, line, names):
+    """A range, of a word `FROM-TO` and the one behind it."""
+    found = RANGE.fullmatch(word)
+    if not found:
+        raise FormatError(f"{word!r} is no range", line)
+    return Range(int(found[1]), int(found[2]), names.node(to))
 
 
-def ranges_of(node, labels):
-    """The ranges of one node of a plan with so many labels."""
-    parts = sorted(
-        (low, high, it.to)
-        for it in node.intervals
-        for first, last in pieces(it, labels)
-        for low, high in cut(first, last, node.label)
-    )
-    found = []
-    for first, last, to in parts:
-        if found and found[-1].last + 1 == first and found[-1].to == to:
-            found[-1] = found[-1]._replace(last=last)
-        else:
-            found.append(Range(first, last, to))
-    return tuple(found)
-
-
-def ranges(plan):
-    """The ranges of each node of a plan, in ascending order, none of them past the greatest label to 0. The own label is
-    in none, each other label in exactly one, and two that touch name different neighbours. They are computed by this
-    package and not proved: `check_ranges` compares them with the plan."""
-    return {name: ranges_of(node, len(plan.nodes)) for name, node in plan.nodes.items()}
+def read_ranges(text, names=SameNames):
+    """The ranges of each node, of the text that `route ranges` prints; `names` leads names back to nodes."""
+    first, lines = headed(text, "ranges", 4)
+    nodes = {}
+    for line, words in lines:
+        if len(words) < 2 or len(words) % 2 != 0:
+            raise FormatError("a range without a neighbour", line)
+        number(words[1], line)
+        found = (read_range(word, to, line, names) for word, to in zip(words[2::2], words[3::2]))
+        nodes[names.node(words[0])] = tuple(found)
+    if len(nodes) != number(first[2], 1) or sum(map(len, nodes.values())) != number(first[3], 1):
+        raise FormatError("not as many nodes and ranges as it says", 1)
+    return nodes
 
 
 def check_ranges(plan, found):
-    """FormatError unless `found` is what `ranges` promises: it goes through all labels of each node, and asks the plan's
+    """FormatError unless `found` has the ranges of a plan: it goes through all labels of each node, and asks the plan's
     intervals for the neighbour of each."""
     if set(found) != set(plan.nodes):
         raise FormatError("the ranges are not of the plan's nodes")

@@ -5,7 +5,7 @@ import unittest
 
 import common  # noqa: F401
 from bentzolu import __main__ as program
-from bentzolu import ranges
+from bentzolu import check_ranges, read_ranges
 from bentzolu.lab import is_connected, order_of
 from bentzolu.lab_judge import Judge
 from bentzolu.lab_net import Network, links_of, without_link
@@ -14,6 +14,7 @@ from bentzolu.texts import read_plan
 # A ring a b c d: epoch 1 is the tree a b c d, epoch 2 has the shortest ways.
 TREE = read_plan("plan tree 4 6\na 0 0 b\nb 1 0 a 2 c\nc 2 0 b 3 d\nd 3 0 c\n")
 SHORT = read_plan("plan shortest 4 8\na 0 1 b 3 d\nb 1 0 a 2 c\nc 2 0 b 3 d\nd 3 0 a 2 c\n")
+RANGES = read_ranges("ranges shortest 4 8\na 0 1-2 b 3-3 d\nb 1 0-0 a 2-3 c\nc 2 0-1 b 3-3 d\nd 3 0-1 a 2-2 c\n")
 RING = [("a", "b"), ("b", "c"), ("c", "d"), ("d", "a")]
 PAIRS = [(0, 3), (3, 1), (1, 2)]
 
@@ -39,11 +40,12 @@ class Topologies(unittest.TestCase):
 
 class Scripts(unittest.TestCase):
     def test_elements(self):
+        check_ranges(SHORT, RANGES)
         network = Network(SHORT, RING)
         elements = "element netdev bz ways { fd00:2::0 : goto mine, fd00:2::1-fd00:2::2 : goto to_2, fd00:2::3 : goto to_4 }"
-        self.assertEqual(network.elements("a", ranges(SHORT), 2), elements)
-        self.assertIn(f"add {elements}\n", network.install("a", ranges(SHORT), 2))
-        self.assertIn(f"delete {elements}\n", network.retire("a", ranges(SHORT), 2))
+        self.assertEqual(network.elements("a", RANGES, 2), elements)
+        self.assertIn(f"add {elements}\n", network.install("a", RANGES, 2))
+        self.assertIn(f"delete {elements}\n", network.retire("a", RANGES, 2))
         self.assertIn("set 0xfd000002\n", network.stamp("a", 2))
 
     def test_names(self):

@@ -3,7 +3,7 @@ import random
 import unittest
 
 from common import bentzolu, graphs, needs_route
-from bentzolu import FormatError, Interval, NodePlan, Plan, Range, check_ranges, ranges
+from bentzolu import FormatError, Interval, NodePlan, Plan, Range, check_ranges, read_ranges
 
 
 def some_plan(draw):
@@ -33,31 +33,42 @@ def plain(plan, node):
     return tuple(Range(*it) for it in found)
 
 
+def plain_of_all(plan):
+    return {node: plain(plan, node) for node in plan.nodes}
+
+
 class Ranges(unittest.TestCase):
     def test_random_plans(self):
         draw = random.Random(59)
         for i in range(500):
             plan = some_plan(draw)
-            found = ranges(plan)
             with self.subTest(i):
-                self.assertEqual(found, {node: plain(plan, node) for node in plan.nodes})
-                check_ranges(plan, found)
+                check_ranges(plan, plain_of_all(plan))
 
-    def test_one_node(self):
-        self.assertEqual(ranges(Plan("tree", {"a": NodePlan("a", 0, ())})), {"a": ()})
+    def test_read(self):
+        self.assertEqual(read_ranges("ranges tree 1 0\na 0\n"), {"a": ()})
+        found = read_ranges("ranges tree 3 5\na 1 0-0 b 2-2 b\nb 0 1-1 a 2-2 c\nc 2 0-1 b\n")
+        self.assertEqual(found, {"a": ((0, 0, "b"), (2, 2, "b")), "b": ((1, 1, "a"), (2, 2, "c")), "c": ((0, 1, "b"),)})
+        self.assertEqual(found["a"][1], Range(first=2, last=2, to="b"))
+        for wrong in (
+            "", "plan tree 1 0\na 0\n", "ranges tree 2 0\na 0\n", "ranges tree 1 1\na 0\n", "ranges tree 1 0\na x\n", "ranges tree 1 1\na 0 1-2\n",
+            "ranges tree 1 1\na 0 1-x b\n", "ranges tree 1 1\na 0 1 b\n", "ranges tree\na 0\n", "ranges tree 1 0\na\n",
+        ):
+            with self.subTest(wrong=wrong), self.assertRaises(FormatError):
+                read_ranges(wrong)
 
     def test_documented_row(self):
         nodes = {f"n{i}": NodePlan(f"n{i}", i, ()) for i in range(14)}
         row = (Interval(0, 5, "PaloAlto"), Interval(5, 0, "Boulder"))
         nodes["n4"] = NodePlan("n4", 4, row)
-        self.assertEqual(ranges(Plan("tree", nodes))["n4"], ((0, 3, "PaloAlto"), (5, 13, "Boulder")))
+        self.assertEqual(plain(Plan("tree", nodes), "n4"), ((0, 3, "PaloAlto"), (5, 13, "Boulder")))
 
     def test_faults(self):
         plan = Plan("tree", {
             "a": NodePlan("a", 0, (Interval(0, 0, "b"),)), "b": NodePlan("b", 1, (Interval(0, 2, "a"), Interval(2, 0, "c"))),
             "c": NodePlan("c", 2, (Interval(1, 1, "b"),)),
         })
-        right = ranges(plan)
+        right = plain_of_all(plan)
         self.assertEqual(right, {"a": ((1, 2, "b"),), "b": ((0, 0, "a"), (2, 2, "c")), "c": ((0, 1, "b"),)})
         for node, wrong in (
             ("a", ()), ("a", ((1, 1, "b"),)), ("a", ((1, 1, "b"), (2, 2, "b"))), ("a", ((1, 2, "c"),)), ("a", ((0, 2, "b"),)),
@@ -69,13 +80,13 @@ class Ranges(unittest.TestCase):
             check_ranges(plan, {"a": right["a"]})
 
     @needs_route
-    def test_plans_of_the_program(self):
+    def test_ranges_of_the_program(self):
         for name, graph in graphs():
             for kind in ("tree", "shortest", "compact"):
                 with self.subTest(name, kind=kind):
                     plan = bentzolu.plan(graph, kind)
-                    found = ranges(plan)
-                    self.assertEqual(found, {node: plain(plan, node) for node in plan.nodes})
+                    found = bentzolu.ranges(graph, kind)
+                    self.assertEqual(found, plain_of_all(plan))
                     check_ranges(plan, found)
 
 

@@ -1,25 +1,37 @@
 -- The answers that show a plan, by what was read before it is built.
-use Rattle.std.proofs.Common.{◌≡◌, ◌≢◌, ℕ, List, Option, Some, None, MatchOption, refl, sym, subst}
+use Rattle.std.proofs.Common.{◌≡◌, ◌≢◌, ◌<◌, ℕ, List, Option, Some, None, MatchOption, string_bytes, refl, sym, subst, arith}
+use Rattle.std.specs.Option.{option_map}
 use Rattle.ir_model.specs.declared.Kind.{Kind}
 use Rattle.ir_model.specs.Graph.{Name, Adjacency, names}
-use Rattle.ir_model.specs.Topology.{Topology}
+use Rattle.ir_model.specs.Topology.{Topology, node_count}
 use Rattle.ir_model.specs.OfGraph.{topology_of_graph}
-use Rattle.ir_model.specs.Plan.{Plan}
+use Rattle.ir_model.specs.Plan.{Plan, IsPlan}
+use Rattle.ir_plan.specs.declared.error.PlanError.{PlanError}
+use Rattle.ir_plan.specs.declared.error.PlanError.TheVariants as plans
+use Rattle.ir_plan.specs.declared.tour.LabelOrder.TheVariants as orders
 use Rattle.ir_model.specs.Text.{lines}
 use Rattle.ir_order.specs.Order.{order_fault, IsOrder}
 use Rattle.ir_order.specs.declared.fault.OrderFaultKind.{OrderFaultKind}
 use Rattle.ir_cli.specs.declared.words.Words.{Words}
+use Rattle.ir_cli.specs.declared.words.Second.{Second}
 use Rattle.ir_cli.specs.Answer.{Answer, Ran, Found, Refused, NoThread}
 use Rattle.ir_cli.specs.Lines.{numbering_line}
 use Rattle.ir_cli.specs.Openings.{topology_fault, topology_graph, root_name, root_in, label_order, AnswersRoot, AnswersOrder}
 use Rattle.ir_answer.specs.declared.look.Look.{Look}
 use Rattle.ir_answer.specs.declared.look.Look.TheVariants.{Plan as Planning, Walk, Stats, Draw, Prefixes, Ranges as Ranging}
 use Rattle.ir_answer.specs.declared.look.Show.{Show}
-use Rattle.ir_answer.specs.declared.look.Show.TheVariants.{Between, Drawing}
-use Rattle.ir_answer.specs.Looks.{from_name, to_name, Says, AnswerShows, AnswersEnds, AnswersBothEnds, AnswersShow, AnswersAsked, AnswersLook, AnswersLabels, AreTexts, LookAnswers, IsNode, IsLabelling, IsDrawn, IsShow, RefusesLabels, RefusesEnds, RefusesShow}
-use Rattle.ir_plan.specs.Building.{Labelling, FromRoot, ByList, IsPlanBy}
+use Rattle.ir_answer.specs.declared.look.Show.TheVariants.{Between, Beside, Drawing}
+use Rattle.ir_answer.specs.Looks.{from_name, to_name, Says, AnswerShows, AnswersEnds, AnswersBothEnds, AnswersFigures, AnswersShow, AnswersAsked, AnswersLook, AnswersLabels, AreTexts, LookAnswers, IsNode, IsLabelling, AreShown, IsDrawn, IsShow, RefusesLabels, RefusesEnds, RefusesFigures, RefusesShow}
+use Rattle.ir_plan.specs.Building.{Labelling, FromRoot, ByList, IsPlanBy, RefusesPlan}
 use Rattle.ir_answer.specs.Plans.{AnswersText}
 use Rattle.ir_answer.proofs.Answering.{option_more, of_graph, of_root}
+
+-- over the network of a plan, memory alone refuses a second one from a node
+pub second_refused : (s : Plan) → IsPlan s → (root : ℕ) → root < node_count s.topology → (e : PlanError) → RefusesPlan s.topology (FromRoot orders.DepthFirst root) e → e ≡ plans.NoMemory
+second_refused s is root lt plans.Empty none = absurd (omega (arith, lt, none))
+second_refused s is root lt plans.NoNode past = absurd (omega (arith, lt, past.1))
+second_refused s is root lt plans.Disconnected (some, has, apart) = (let walk = is.connected apart.0 apart.1 apart.2 apart.3 in absurd (apart.4 walk.0 walk.1))
+second_refused s is root lt plans.NoMemory any = refl
 
 -- ---- labels
 
@@ -61,12 +73,18 @@ of_drawn (Some from) None g answers show answer same holds = subst (λ (s : Show
 of_drawn (Some from) (Some to) g answers show answer (a, b, first, second, same) holds =
     of_ends g (Some from) (Some to) (λ x y. answers (Drawing (Some (x, y)))) answer a b first second (subst (λ (s : Show). answers s answer) same holds)
 
+of_figures : (second : Option Second) (g : Adjacency) (answers : Show → Answer → Type 0) (show : Show) (answer : Answer)
+    → AreShown second g show → answers show answer → AnswersFigures second g answers answer
+of_figures None g answers show answer same holds = subst (λ (s : Show). answers s answer) same holds
+of_figures (Some second) g answers show answer (root, is, same) holds =
+    of_root g (option_map string_bytes second.root) (λ u. answers (Beside second.kind u)) answer root is (subst (λ (s : Show). answers s answer) same holds)
+
 of_show : (look : Look) (words : Words) (g : Adjacency) (answers : Show → Answer → Type 0) (show : Show) (answer : Answer)
     → IsShow look words g show → answers show answer → AnswersAsked look words g answers answer
 of_show Planning words g answers show answer same holds = subst (λ (s : Show). answers s answer) same holds
 of_show Walk words g answers show answer (a, b, first, second, same) holds =
     of_ends g (from_name words) (to_name words) (λ x y. answers (Between x y)) answer a b first second (subst (λ (s : Show). answers s answer) same holds)
-of_show Stats words g answers show answer same holds = subst (λ (s : Show). answers s answer) same holds
+of_show Stats words g answers show answer is holds = of_figures words.second g answers show answer is holds
 of_show Draw words g answers show answer is holds = of_drawn (from_name words) (to_name words) g answers show answer is holds
 of_show Prefixes words g answers show answer same holds = subst (λ (s : Show). answers s answer) same holds
 of_show Ranging words g answers show answer same holds = subst (λ (s : Show). answers s answer) same holds
@@ -77,11 +95,16 @@ refuses_drawn None to g answers line refuses = absurd refuses
 refuses_drawn (Some from) None g answers line refuses = absurd refuses
 refuses_drawn (Some from) (Some to) g answers line refuses = refuses_ends g (Some from) (Some to) (λ x y. answers (Drawing (Some (x, y)))) line refuses
 
+refuses_figures : (second : Option Second) (g : Adjacency) (answers : Show → Answer → Type 0) (line : List ℕ)
+    → RefusesFigures second g line → AnswersFigures second g answers (Refused line)
+refuses_figures None g answers line refuses = absurd refuses
+refuses_figures (Some second) g answers line refuses = option_more (root_in (names g) (option_map string_bytes second.root)) (λ same. same) (λ u none. absurd none) refuses
+
 refuses_show : (look : Look) (words : Words) (g : Adjacency) (answers : Show → Answer → Type 0) (line : List ℕ)
     → RefusesShow look words g line → AnswersAsked look words g answers (Refused line)
 refuses_show Planning words g answers line refuses = absurd refuses
 refuses_show Walk words g answers line refuses = refuses_ends g (from_name words) (to_name words) (λ x y. answers (Between x y)) line refuses
-refuses_show Stats words g answers line refuses = absurd refuses
+refuses_show Stats words g answers line refuses = refuses_figures words.second g answers line refuses
 refuses_show Draw words g answers line refuses = refuses_drawn (from_name words) (to_name words) g answers line refuses
 refuses_show Prefixes words g answers line refuses = absurd refuses
 refuses_show Ranging words g answers line refuses = absurd refuses

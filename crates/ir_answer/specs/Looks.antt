@@ -7,21 +7,24 @@ use Rattle.ir_model.specs.Graph.{Name, Adjacency, names}
 use Rattle.ir_model.specs.Text.{lines}
 use Rattle.ir_show.specs.PlanText.{plan_text}
 use Rattle.ir_show.specs.WalkText.{IsWalkOf}
-use Rattle.ir_figures.specs.FiguresText.{AreFiguresOf}
+use Rattle.ir_figures.specs.FiguresText.{AreFiguresOf, AreFiguresBeside}
 use Rattle.ir_show.specs.Drawing.{IsDrawingOf}
 use Rattle.ir_lines.specs.OrderText.{order_text}
 use Rattle.ir_lines.specs.PrefixesText.{IsPrefixesOf}
 use Rattle.ir_lines.specs.RangesText.{ranges_text}
 use Rattle.ir_cli.specs.declared.words.Words.{Words}
+use Rattle.ir_cli.specs.declared.words.Second.{Second}
+use Rattle.ir_model.specs.declared.Kind.{Kind}
+use Rattle.ir_plan.specs.declared.tour.LabelOrder.TheVariants.{DepthFirst}
 use Rattle.ir_answer.specs.declared.look.Show.{Show}
-use Rattle.ir_answer.specs.declared.look.Show.TheVariants.{Rows, Between, Figures, Drawing, Tables, Ranges, Order}
+use Rattle.ir_answer.specs.declared.look.Show.TheVariants.{Rows, Between, Figures, Beside, Drawing, Tables, Ranges, Order}
 use Rattle.ir_answer.specs.declared.look.Look.{Look}
 use Rattle.ir_answer.specs.declared.look.Look.TheVariants.{Plan as Planning, Walk, Stats, Draw, Prefixes, Ranges as Ranging}
 use Rattle.ir_order.specs.Order.{IsOrder}
 use Rattle.ir_cli.specs.Answer.{Answer, Ran, Found, Refused, NoThread}
 use Rattle.ir_cli.specs.Openings.{root_name, root_in, label_order, AnswersTopology, AnswersRoot, AnswersOrder}
 use Rattle.ir_model.specs.Plan.{Plan}
-use Rattle.ir_plan.specs.Building.{Labelling, FromRoot, ByList}
+use Rattle.ir_plan.specs.Building.{Labelling, FromRoot, ByList, IsPlanBy}
 use Rattle.ir_answer.specs.Plans.{AnswersText}
 
 -- the names of the ends of a walk, if the words have them
@@ -42,11 +45,22 @@ AnswersBothEnds g None to answers = answers None
 AnswersBothEnds g (Some from) None answers = answers None
 AnswersBothEnds g (Some from) (Some to) answers = AnswersEnds g (Some from) (Some to) (λ a b. answers (Some (a, b)))
 
+-- The answer to a graph where figures are asked for: the refusal of a second plan's root that is no node, or else an answer
+-- to what is to be shown. Where the root has no name it is the first node.
+abbrev pub AnswersFigures : Option Second → Adjacency → (Show → Answer → Type 0) → Answer → Type 0
+AnswersFigures None g answers = answers Figures
+AnswersFigures (Some second) g answers = AnswersRoot g (option_map string_bytes second.root) (λ root. answers (Beside second.kind root))
+
+-- the text is that of a plan's figures beside a second plan of this kind, numbered depth first from this root
+abbrev pub IsFiguresBeside : Kind → ℕ → List Name → Plan → List ℕ → Type 0
+IsFiguresBeside kind root nodes plan text = (second : Plan) × IsPlanBy plan.topology kind (FromRoot DepthFirst root) second × AreFiguresBeside nodes plan second text
+
 -- what a text of a plan says, by what is shown
 abbrev pub Says : Show → List Name → Plan → List ℕ → Type 0
 Says Rows nodes plan text = text ≡ plan_text nodes plan
 Says (Between a b) nodes plan text = IsWalkOf nodes plan a b text
 Says Figures nodes plan text = AreFiguresOf nodes plan text
+Says (Beside kind root) nodes plan text = IsFiguresBeside kind root nodes plan text
 Says (Drawing ends) nodes plan text = IsDrawingOf nodes plan ends text
 Says (Tables is_disjoint) nodes plan text = IsPrefixesOf is_disjoint nodes plan text
 Says Ranges nodes plan text = text ≡ ranges_text nodes plan
@@ -59,11 +73,12 @@ AnswerShows show nodes plan (Found text) = ⊥
 AnswerShows show nodes plan (Refused line) = ⊥
 AnswerShows show nodes plan NoThread = ⊥
 
--- the ends of what is shown, if it has any, are among so many nodes
+-- the ends of what is shown, or its second root, if it has any, are among so many nodes
 abbrev pub AreAmong : ℕ → Show → Type 0
 AreAmong n Rows = Unit {0}
 AreAmong n (Between a b) = (a < n) × (b < n)
 AreAmong n Figures = Unit {0}
+AreAmong n (Beside kind root) = root < n
 AreAmong n (Drawing ends) = IfSome ends (λ e. (e.0 < n) × (e.1 < n))
 AreAmong n (Tables is_disjoint) = Unit {0}
 AreAmong n Ranges = Unit {0}
@@ -77,12 +92,12 @@ AnswersShow words g labels show = AnswersText g words.kind labels (Says show (na
 abbrev pub rows_or_order : Words → Show
 rows_or_order words = if words.order_alone then Order else Rows
 
--- The answer to a graph, by what is asked for: the refusal of an end that is no node, or else an answer to what is to be
--- shown.
+-- The answer to a graph, by what is asked for: the refusal of an end or a second root that is no node, or else an answer to
+-- what is to be shown.
 abbrev pub AnswersAsked : Look → Words → Adjacency → (Show → Answer → Type 0) → Answer → Type 0
 AnswersAsked Planning words g answers = answers (rows_or_order words)
 AnswersAsked Walk words g answers = AnswersEnds g (from_name words) (to_name words) (λ a b. answers (Between a b))
-AnswersAsked Stats words g answers = answers Figures
+AnswersAsked Stats words g answers = AnswersFigures words.second g answers
 AnswersAsked Draw words g answers = AnswersBothEnds g (from_name words) (to_name words) (λ ends. answers (Drawing ends))
 AnswersAsked Prefixes words g answers = answers (Tables words.disjoint)
 AnswersAsked Ranging words g answers = answers Ranges
@@ -126,6 +141,11 @@ abbrev pub IsLabelling : Words → Option (List ℕ) → Adjacency → Labelling
 IsLabelling words None g labels = (root : ℕ) × IsNode g (root_name words) root × (labels ≡ FromRoot (label_order words.numbering) root)
 IsLabelling words (Some order) g labels = (places : List ℕ) × IsOrder (names g) (lines order) places × (labels ≡ ByList places)
 
+-- the figures that the words ask for
+abbrev pub AreShown : Option Second → Adjacency → Show → Type 0
+AreShown None g show = show ≡ Figures
+AreShown (Some second) g show = (root : ℕ) × IsNode g (option_map string_bytes second.root) root × (show ≡ Beside second.kind root)
+
 -- what the words ask to be drawn
 abbrev pub IsDrawn : Option Name → Option Name → Adjacency → Show → Type 0
 IsDrawn None to g show = show ≡ Drawing None
@@ -136,17 +156,20 @@ IsDrawn (Some from) (Some to) g show = (a b : ℕ) × IsNode g (Some from) a × 
 abbrev pub IsShow : Look → Words → Adjacency → Show → Type 0
 IsShow Planning words g show = show ≡ rows_or_order words
 IsShow Walk words g show = (a b : ℕ) × IsNode g (from_name words) a × IsNode g (to_name words) b × (show ≡ Between a b)
-IsShow Stats words g show = show ≡ Figures
+IsShow Stats words g show = AreShown words.second g show
 IsShow Draw words g show = IsDrawn (from_name words) (to_name words) g show
 IsShow Prefixes words g show = show ≡ Tables words.disjoint
 IsShow Ranging words g show = show ≡ Ranges
 
--- the line of a refusal that comes before any plan: of the root or the order, of an end
+-- the line of a refusal that comes before any plan: of the root or the order, of an end, of a second root
 abbrev pub RefusesLabels : Words → Option (List ℕ) → Adjacency → List ℕ → Type 0
 RefusesLabels words order g line = AnswersLabels words order g (λ labels answer. ⊥) (Refused line)
 
 abbrev pub RefusesEnds : Adjacency → Option Name → Option Name → List ℕ → Type 0
 RefusesEnds g from to line = AnswersEnds g from to (λ a b answer. ⊥) (Refused line)
+
+abbrev pub RefusesFigures : Option Second → Adjacency → List ℕ → Type 0
+RefusesFigures second g line = AnswersFigures second g (λ show answer. ⊥) (Refused line)
 
 abbrev pub RefusesShow : Look → Words → Adjacency → List ℕ → Type 0
 RefusesShow look words g line = AnswersAsked look words g (λ show answer. ⊥) (Refused line)

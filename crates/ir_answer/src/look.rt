@@ -2,7 +2,7 @@
 ghost use Rattle.std.specs.Prelude.{◌≡◌, ◌≢◌, ◌<◌, ℕ, IfOk, IfErr, IsSome, length, string_bytes};
 ghost use Rattle.ir_model.specs.{Graph.names, Topology.node_count};
 ghost use Rattle.ir_answer.specs.Asked.{look_sources};
-ghost use Rattle.ir_answer.specs.Looks.{from_name, to_name, AnswersShow, AreAmong, AreTexts, Says, AnswerShows, order_in, IsNode, IsLabelling, IsShow, RefusesLabels, RefusesEnds, RefusesShow, LookAnswers, rows_or_order};
+ghost use Rattle.ir_answer.specs.Looks.{from_name, to_name, AnswersShow, AreAmong, AreTexts, Says, AnswerShows, order_in, IsNode, IsLabelling, AreShown, IsShow, RefusesLabels, RefusesEnds, RefusesFigures, RefusesShow, LookAnswers, rows_or_order, IsFiguresBeside};
 ghost use Rattle.ir_answer.specs.Stops.{StopsAs, Gives};
 ghost use Rattle.ir_model.specs.OfGraph.{topology_of_graph};
 ghost use Rattle.ir_plan.specs.Building.{MayLabel, labelling_of};
@@ -11,12 +11,12 @@ ghost use Rattle.ir_cli.specs.{Reading.texts_of, Replies.answer_of, Words.FitsIt
 use crate::asking::{Stop, opening_stop, read_graph, read_node};
 use ir_cli::{Reply, Words, label_order, numbering_line};
 use ir_core::OpenError;
-use ir_figures::figures_text;
+use ir_figures::{figures_text, figures_text_beside};
 use ir_graph::Graph;
 use ir_lines::{LineCrew, order_text, ranges_text};
 use ir_model::Kind;
 use ir_order::{OrderFaultKind, read_order};
-use ir_plan::{Labels, Plan};
+use ir_plan::{LabelOrder, Labels, Plan, PlanError};
 use ir_show::plan_text::PlanText;
 use ir_show::{draw_text, walk_text};
 use ir_tables::Topology;
@@ -46,6 +46,9 @@ pub enum Show {
     /// The walk from a node to another.
     Between(u16, u16),
     Figures,
+    /// The figures, and the links that wait for each other where packets of a second plan are under way too, which is of
+    /// this kind and numbered depth first from this node.
+    Beside(Kind, u16),
     /// A drawing, with the walk between two nodes in bold if there are any.
     Drawing(Option<(u16, u16)>),
     /// The forwarding tables, disjoint or not.
@@ -54,6 +57,35 @@ pub enum Show {
     Ranges,
     /// The order of the labels.
     Order,
+}
+
+/// The figures of a plan, and the links that wait for each other in it and in a second one of this kind, numbered depth
+/// first from this root. The second is over the same network, so that memory alone refuses it.
+fn beside_text(
+    crew: &impl LineCrew,
+    alloc: Global,
+    graph: &Graph,
+    plan: &Plan,
+    kind: Kind,
+    root: u16,
+    most: Option<usize>,
+) -> Result<String, AllocError>
+    requires nodes { node_count plan.now.topology ≡ length graph.now }
+    requires root { root < length graph.now }
+    ensures { IfOk result (λ text. IsFiguresBeside kind root (names graph.now) plan.now (string_bytes text)) }
+{
+    let _nodes = plan.nodes();
+    let topology = plan.topology().try_clone(alloc)?;
+    let labels = Labels::FromRoot(LabelOrder::DepthFirst, root);
+    match Plan::build_by(crew, alloc, topology, kind, labels, most) {
+        Ok(second) => Ok(figures_text_beside(alloc, graph, plan, &second)?),
+        Err((error, _topology)) => {
+            if error != PlanError::NoMemory {
+                unreachable!()
+            }
+            Err(AllocError)
+        }
+    }
 }
 
 /// What is shown of a plan other than its rows.
@@ -74,6 +106,7 @@ fn text_of(
         Show::Rows => unreachable!(),
         Show::Between(from, to) => walk_text(alloc, graph, plan, from, to),
         Show::Figures => figures_text(alloc, graph, plan),
+        Show::Beside(kind, root) => beside_text(crew, alloc, graph, plan, kind, root, most),
         Show::Drawing(ends) => draw_text(alloc, graph, plan, ends),
         Show::Tables(is_disjoint) => crew.prefixes(alloc, graph, plan, is_disjoint, most),
         Show::Ranges => ranges_text(alloc, graph, plan),
@@ -167,6 +200,19 @@ fn rows_or_order(words: &Words) -> Show
     }
 }
 
+/// The figures, beside those of a second plan if the words ask for one.
+fn read_figures(alloc: Global, words: &Words, graph: &Graph) -> Result<Show, Stop>
+    ensures show { IfOk result (λ show. AreShown words.now.second graph.now show) }
+    ensures among { IfOk result (λ show. 0 < length graph.now → AreAmong (length graph.now) show) }
+    ensures stop { IfErr result (λ s. StopsAs s (RefusesFigures words.now.second graph.now)) }
+{
+    let Some(second) = &words.second else {
+        return Ok(Show::Figures);
+    };
+    let root = read_node(alloc, graph, &second.root)?;
+    Ok(Show::Beside(second.kind, root))
+}
+
 /// What of a plan is to be shown, with the ends that the words name. A drawing has ends only where both are named.
 fn read_show(alloc: Global, look: Look, words: &Words, graph: &Graph) -> Result<Show, Stop>
     ensures show { IfOk result (λ show. IsShow look words.now graph.now show) }
@@ -175,7 +221,7 @@ fn read_show(alloc: Global, look: Look, words: &Words, graph: &Graph) -> Result<
 {
     match look {
         Look::Plan => Ok(rows_or_order(words)),
-        Look::Stats => Ok(Show::Figures),
+        Look::Stats => read_figures(alloc, words, graph),
         Look::Prefixes => Ok(Show::Tables(words.disjoint)),
         Look::Ranges => Ok(Show::Ranges),
         Look::Walk => {
@@ -216,8 +262,8 @@ fn show_plan(
 }
 
 /// The answer to the text of a topology, and to that of an order where the words have one: what is shown of the plan.
-/// Refused are, in this order, the topology's first fault, the order's or a root that is no node, an end that is none, and
-/// what refuses the plan. The plan's rows are made by a crew.
+/// Refused are, in this order, the topology's first fault, the order's or a root that is no node, an end or a second
+/// plan's root that is none, and what refuses the plan. The plan's rows are made by a crew.
 pub fn look_at(
     crew: &impl LineCrew,
     alloc: Global,

@@ -220,6 +220,14 @@ const ORDERED: [Taken; 1] = [Taken {
     need: Need::Free,
 }];
 
+/// The second plan of figures.
+const BESIDE: [Taken; 1] = [Taken {
+    name: "with",
+    help: "A second plan over the topology, and the links that wait for each other in both together; its root is by default that of --root, else the first node",
+    takes: Takes::Word("KIND[,ROOT]"),
+    need: Need::Free,
+}];
+
 /// The flag of prefixes.
 const PREFIXED: [Taken; 1] = [Taken {
     name: "disjoint",
@@ -301,7 +309,7 @@ static SUBCOMMANDS: [Spelled; 9] = [
         about: "Prints the figures of a topology's plan: its starts, its greatest row, its walks",
         lines: "",
         args: &SHOWN,
-        own: &[],
+        own: &BESIDE,
     },
     Spelled {
         name: "draw",

@@ -21,7 +21,7 @@ pub use open::{label_order, no_root, opening_of, read_topology, root_of};
 pub use parting::cut;
 pub use read::{Source, Unread, read_inputs};
 pub use reply::{Reply, tell_unread, write_reply};
-pub use words::{Format, Numbering, Sub, Words, WordsError, read_words};
+pub use words::{Format, Numbering, Second, Sub, Words, WordsError, read_words};
 pub use write::tell;
 
 /// The most threads that make the rows of a plan.

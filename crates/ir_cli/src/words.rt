@@ -42,6 +42,14 @@ pub enum Numbering {
     File(String),
 }
 
+/// A second plan over a topology, beside the first.
+#[derive(Debug, Drop)]
+pub struct Second {
+    pub kind: Kind,
+    /// The name of its root; the first node where there is none.
+    pub root: Option<String>,
+}
+
 /// What the words ask for. The files are the one word `-`, which stands for standard input with all texts, or else one
 /// for each text: the topology for `plan`, `walk`, `stats`, `draw`, `prefixes` and `ranges`, the topology and the script
 /// for `sim` and `live`, and the trace too for `check`. No other number of files is read, and `-` beside another file is
@@ -67,6 +75,9 @@ pub struct Words {
     /// The names of the nodes that a walk goes from and to: both for `walk`, both or none for `draw`.
     pub from: Option<String>,
     pub to: Option<String>,
+    /// The plan whose packets may be under way beside those of the first, for `stats`. Its root is that of the first where the
+    /// words name none for it.
+    pub second: Option<Second>,
     /// Whether no number is to match two lines of a node, for `prefixes`.
     pub disjoint: bool,
     /// Whether the order of the labels is to stand in place of the rows, for `plan`.
@@ -202,13 +213,44 @@ fn numbering_of(alloc: Global, found: &ArgMatches<'_>) -> Result<Numbering, Allo
     }
 }
 
+/// The kind of a word, if it is that of one.
+fn kind_of(word: &str) -> Option<Kind> {
+    match word {
+        "tree" => Some(Kind::Tree),
+        "shortest" => Some(Kind::Shortest),
+        "compact" => Some(Kind::Compact),
+        _ => None,
+    }
+}
+
+/// The word for a second plan as its kind and the name of its root, if that stands behind a comma.
+fn parts_of_second(word: &str) -> (&str, Option<&str>) {
+    match word.split_once(',') {
+        Some((kind, root)) => (kind, Some(root)),
+        None => (word, None),
+    }
+}
+
+/// The second plan that is asked for, if there is one of this kind. Its root is by default that of the first plan.
+fn second_of(
+    alloc: Global,
+    found: &ArgMatches<'_>,
+    first: &Option<String>,
+) -> Result<Option<Second>, AllocError> {
+    let (word, named) = parts_of_second(found.get_str("with").unwrap_or(""));
+    let Some(kind) = kind_of(word) else {
+        return Ok(None);
+    };
+    let root = match (named, first) {
+        (Some(name), _) => Some(String::from_str(alloc, name)?),
+        (None, Some(name)) => Some(String::from_str(alloc, name.as_str())?),
+        (None, None) => None,
+    };
+    Ok(Some(Second { kind, root }))
+}
+
 /// The words of a subcommand.
 fn words_of(alloc: Global, sub: Sub, found: &ArgMatches<'_>) -> Result<Words, AllocError> {
-    let kind = match found.get_str("kind") {
-        Some("tree") => Kind::Tree,
-        Some("compact") => Kind::Compact,
-        _ => Kind::Shortest,
-    };
     let restamps = found.get_one::<usize>("restamps").unwrap_or(0);
     let root = word_of(alloc, found, "root")?;
     let from = word_of(alloc, found, "from")?;
@@ -222,7 +264,8 @@ fn words_of(alloc: Global, sub: Sub, found: &ArgMatches<'_>) -> Result<Words, Al
     Ok(Words {
         sub,
         format: format_of(found),
-        kind,
+        kind: kind_of(found.get_str("kind").unwrap_or("shortest")).unwrap_or(Kind::Shortest),
+        second: second_of(alloc, found, &root)?,
         root,
         numbering: numbering_of(alloc, found)?,
         capacity: found.get_one::<usize>("capacity").unwrap_or(16),
@@ -327,11 +370,23 @@ fn fault_text(alloc: Global, words: &Words, name: &str, fault: &str) -> Result<S
     Ok(text)
 }
 
+/// What is wrong with the word for a second plan, if anything is.
+fn second_fault(found: &ArgMatches<'_>, words: &Words) -> Option<&'static str> {
+    if found.get_str("with").is_some() && words.second.is_none() {
+        Some("'--with' takes 'tree', 'shortest' or 'compact', and behind a comma a root")
+    } else {
+        None
+    }
+}
+
 /// The words of a subcommand's name and its matches, if nothing is wrong with them.
 fn words_found(alloc: Global, name: &str, found: &ArgMatches<'_>) -> Result<Words, WordsError>
     ensures { IfOk result (λ words. FitsItsKind words) }
 {
     let words = words_of(alloc, sub_of(name), found)?;
+    if let Some(fault) = second_fault(found, &words) {
+        return Err(WordsError::Usage(fault_text(alloc, &words, name, fault)?));
+    }
     match fault_of(&words) {
         None => Ok(words),
         Some(fault) => Err(WordsError::Usage(fault_text(alloc, &words, name, fault)?)),
@@ -350,8 +405,8 @@ fn all_words<'a>(alloc: Global, words: &'a [String]) -> Result<Vec<&'a str>, All
 
 /// What the words behind the program's name ask for. Words that are refused give the text for standard error, `--help` and
 /// `--version` the text for standard output. Refused are also a number of files that the subcommand does not take, and `-`
-/// beside another file; a numbering other than depth first of a tree; and a file's numbering beside a root, on standard
-/// input, or of a run.
+/// beside another file; a numbering other than depth first of a tree; a file's numbering beside a root, on standard
+/// input, or of a run; and a second plan of no kind.
 pub fn read_words(alloc: Global, words: &[String]) -> Result<Words, WordsError>
     ensures { IfOk result (λ words. FitsItsKind words) }
 {

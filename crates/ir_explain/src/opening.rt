@@ -20,7 +20,13 @@ fn unknown_option<'a>(graph: &Graph, words: &'a Words) -> (&'static str, &'a str
             return (option, name.as_str());
         }
     }
-    ("--root", "")
+    match &words.second {
+        Some(second) => (
+            "--with",
+            second.root.as_ref().map_or("", |name| name.as_str()),
+        ),
+        None => ("--root", ""),
+    }
 }
 
 /// Says that the topology has no node, and why.

@@ -1,7 +1,9 @@
+pub mod Also
 pub mod Counted
 pub mod Links
 pub mod Offsets
 pub mod Onward
+pub mod Results
 pub mod Rings
 pub mod Turns
 pub mod Widths

@@ -4,61 +4,61 @@ use Rattle.std.proofs.lemmas.Bool.{cases_lt}
 use Rattle.std.proofs.lemmas.List.{get_or_push, get_or_append_left}
 use Rattle.std.specs.Global.{Vec}
 use Rattle.ir_model.specs.declared.Hop.{Hop}
-use Rattle.ir_model.specs.Topology.{node_count, ports_of, port_at}
-use Rattle.ir_model.specs.Plan.{Plan}
+use Rattle.ir_model.specs.Topology.{Topology, node_count, ports_of, port_at}
 use Rattle.ir_cycles.specs.Arcs.{marks_of}
-use Rattle.ir_figures.specs.Exits.{exits_before, AreOnward, IsExitAt, AreLinks}
+use Rattle.ir_figures.specs.Exits.{exits_before, AreAwaited, IsExitAt, AreLinks}
 use Rattle.ir_figures.proofs.Offsets.{before_more, one_node}
 
 -- a number is that of one link alone
-pub one_link : (s : Plan) (u p v r : ℕ) → u < node_count s.topology → v < node_count s.topology → p < length (ports_of s.topology u) → r < length (ports_of s.topology v)
-    → exits_before s.topology v + r ≡ exits_before s.topology u + p → (v ≡ u) × (r ≡ p)
-one_link s u p v r hu hv hp hr e =
-    let same : v ≡ u = one_node s.topology v u (exits_before s.topology v + r) hv hu (omega arith) (omega (arith, before_more s.topology v hv, hr)) (omega (arith, e)) (omega (arith, e, before_more s.topology u hu, hp)) in
-    (same, omega (arith, e, ap (exits_before s.topology) same))
+pub one_link : (net : Topology) (u p v r : ℕ) → u < node_count net → v < node_count net → p < length (ports_of net u) → r < length (ports_of net v)
+    → exits_before net v + r ≡ exits_before net u + p → (v ≡ u) × (r ≡ p)
+one_link net u p v r hu hv hp hr e =
+    let same : v ≡ u = one_node net v u (exits_before net v + r) hv hu (omega arith) (omega (arith, before_more net v hv, hr)) (omega (arith, e)) (omega (arith, e, before_more net u hu, hp)) in
+    (same, omega (arith, e, ap (exits_before net) same))
 
--- what is told of a link's place stays where the lists grow
-exit_kept : (s : Plan) (blocks : List ℕ) (marks : List (List Bool)) (block : ℕ) (row : List Bool) (v r c : ℕ) → c < length blocks → c < length marks → IsExitAt s blocks marks v r c → IsExitAt s (blocks ++ block ∷ []) (marks ++ row ∷ []) v r c
-exit_kept s blocks marks block row v r c a b old = record {
-  hop = old.hop;
-  leads = old.leads;
-  block = get_or_append_left blocks (block ∷ []) 0 c a ∙ old.block;
-  onward = subst (AreOnward s v r old.hop.node (node_count s.topology)) (sym (get_or_append_left marks (row ∷ []) [] c b)) old.onward;
-}
+module _ (net : Topology) (waits : ℕ → ℕ → ℕ → ℕ → Type 0) where
+  -- what is told of a link's place stays where the lists grow
+  exit_kept : (blocks : List ℕ) (marks : List (List Bool)) (block : ℕ) (row : List Bool) (v r c : ℕ) → c < length blocks → c < length marks → IsExitAt net waits blocks marks v r c → IsExitAt net waits (blocks ++ block ∷ []) (marks ++ row ∷ []) v r c
+  exit_kept blocks marks block row v r c a b old = record {
+    hop = old.hop;
+    leads = old.leads;
+    block = get_or_append_left blocks (block ∷ []) 0 c a ∙ old.block;
+    onward = subst (AreAwaited net waits v r old.hop.node) (sym (get_or_append_left marks (row ∷ []) [] c b)) old.onward;
+  }
 
--- the next link
-pub links_more : (s : Plan) (blocks : List ℕ) (marks : List (List Bool)) (block : ℕ) (row : List Bool) (u p count : ℕ) (hop : Hop) → u < node_count s.topology → p < length (ports_of s.topology u)
-    → count ≡ exits_before s.topology u + p → port_at s.topology u p ≡ Some hop → block ≡ exits_before s.topology hop.node → AreOnward s u p hop.node (node_count s.topology) row
-    → AreLinks s blocks marks count → AreLinks s (blocks ++ block ∷ []) (marks ++ row ∷ []) (count + 1)
-links_more s blocks marks block row u p count hop hu hp here at begins onward so_far =
-    let new : IsExitAt s (blocks ++ block ∷ []) (marks ++ row ∷ []) u p count = record {
-      hop = hop;
-      leads = at;
-      block = get_or_push blocks block 0 count so_far.every_block ∙ begins;
-      onward = subst (AreOnward s u p hop.node (node_count s.topology)) (sym (get_or_push marks row [] count so_far.every_row)) onward;
-    } in
-    record {
-      every_block = length-append blocks (block ∷ []) ∙ omega (arith, so_far.every_block);
-      every_row = length-append marks (row ∷ []) ∙ omega (arith, so_far.every_row);
-      each = λ v r hv hr below. elim (cases_lt (exits_before s.topology v + r) count) [
-        | inl l ↦
-            exit_kept s blocks marks block row v r (exits_before s.topology v + r) (omega (arith, l, so_far.every_block)) (omega (arith, l, so_far.every_row)) (so_far.each v r hv hr l)
-        | inr g ↦
-            let last : exits_before s.topology v + r ≡ count = omega (arith, g, below) in
-            let same = one_link s u p v r hu hv hp hr (last ∙ here) in
-            subst (IsExitAt s (blocks ++ block ∷ []) (marks ++ row ∷ []) v r) (sym last)
-            (subst (λ (x : ℕ). IsExitAt s (blocks ++ block ∷ []) (marks ++ row ∷ []) x r count) (sym same.0)
-            (subst (λ (x : ℕ). IsExitAt s (blocks ++ block ∷ []) (marks ++ row ∷ []) u x count) (sym same.1) new))
-      ];
-    }
+  -- the next link
+  pub links_more : (blocks : List ℕ) (marks : List (List Bool)) (block : ℕ) (row : List Bool) (u p count : ℕ) (hop : Hop) → u < node_count net → p < length (ports_of net u)
+      → count ≡ exits_before net u + p → port_at net u p ≡ Some hop → block ≡ exits_before net hop.node → AreAwaited net waits u p hop.node row
+      → AreLinks net waits blocks marks count → AreLinks net waits (blocks ++ block ∷ []) (marks ++ row ∷ []) (count + 1)
+  links_more blocks marks block row u p count hop hu hp here at begins onward so_far =
+      let new : IsExitAt net waits (blocks ++ block ∷ []) (marks ++ row ∷ []) u p count = record {
+        hop = hop;
+        leads = at;
+        block = get_or_push blocks block 0 count so_far.every_block ∙ begins;
+        onward = subst (AreAwaited net waits u p hop.node) (sym (get_or_push marks row [] count so_far.every_row)) onward;
+      } in
+      record {
+        every_block = length-append blocks (block ∷ []) ∙ omega (arith, so_far.every_block);
+        every_row = length-append marks (row ∷ []) ∙ omega (arith, so_far.every_row);
+        each = λ v r hv hr below. elim (cases_lt (exits_before net v + r) count) [
+          | inl l ↦
+              exit_kept blocks marks block row v r (exits_before net v + r) (omega (arith, l, so_far.every_block)) (omega (arith, l, so_far.every_row)) (so_far.each v r hv hr l)
+          | inr g ↦
+              let last : exits_before net v + r ≡ count = omega (arith, g, below) in
+              let same = one_link net u p v r hu hv hp hr (last ∙ here) in
+              subst (IsExitAt net waits (blocks ++ block ∷ []) (marks ++ row ∷ []) v r) (sym last)
+              (subst (λ (x : ℕ). IsExitAt net waits (blocks ++ block ∷ []) (marks ++ row ∷ []) x r count) (sym same.0)
+              (subst (λ (x : ℕ). IsExitAt net waits (blocks ++ block ∷ []) (marks ++ row ∷ []) u x count) (sym same.1) new))
+        ];
+      }
+
+  pub no_links : (blocks : List ℕ) (marks : List (List Bool)) → length blocks ≡ 0 → length marks ≡ 0 → AreLinks net waits blocks marks 0
+  no_links blocks marks a b = record {
+    every_block = a;
+    every_row = b;
+    each = λ v r hv hr below. absurd (omega (arith, below));
+  }
 
 pub marks_push : (rows : List (Vec Bool)) (row : Vec Bool) → marks_of (rows ++ row ∷ []) ≡ marks_of rows ++ row.items ∷ []
 marks_push [] row = refl
 marks_push (r ∷ rows) row = ap (λ (xs : List (List Bool)). r.items ∷ xs) (marks_push rows row)
-
-pub no_links : (s : Plan) (blocks : List ℕ) (marks : List (List Bool)) → length blocks ≡ 0 → length marks ≡ 0 → AreLinks s blocks marks 0
-no_links s blocks marks a b = record {
-  every_block = a;
-  every_row = b;
-  each = λ v r hv hr below. absurd (omega (arith, below));
-}

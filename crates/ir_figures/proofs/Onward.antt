@@ -7,9 +7,10 @@ use Rattle.ir_model.specs.declared.Hop.{Hop}
 use Rattle.ir_model.specs.declared.Kind.{Kind}
 use Rattle.ir_model.specs.declared.Kind.TheVariants.{Tree, Shortest, Compact}
 use Rattle.ir_model.specs.Topology.{node_count, ports_of, port_at}
-use Rattle.ir_model.specs.Plan.{Plan, IsPlan, IsTableOf, table_port, node_in}
+use Rattle.ir_model.specs.Plan.{Plan, IsPlan, IsTableOf, table_port, node_in, label_in}
 use Rattle.ir_show.proofs.WalkLines.{plan_next}
-use Rattle.ir_figures.specs.Exits.{AreOnward, IsMarkedFor}
+use Rattle.ir_figures.specs.Exits.{AreOnward, AreAwaited, IsMarkedFor}
+use Rattle.ir_figures.specs.Waits.{Waits}
 
 -- no port leads from a node to itself
 own_none : (s : Plan) → IsPlan s → (k : Kind) → s.kind ≡ k → (d : ℕ) → d < node_count s.topology → table_port s d d ≡ None
@@ -91,4 +92,26 @@ onward_passed_by s u p v a marks other so_far = record {
     | inr ne ↦ so_far.passed b q (omega (arith, below, ne)) by on
   ];
   only = so_far.only;
+}
+
+-- where what comes over a link leaves by a port, the link waits for that one
+pub awaited : (s : Plan) → IsPlan s → (u p : ℕ) (hop : Hop) (marks : List Bool) → u < node_count s.topology → port_at s.topology u p ≡ Some hop
+    → AreOnward s u p hop.node (node_count s.topology) marks → AreAwaited s.topology (Waits s) u p hop.node marks
+awaited s is u p hop marks lt leads onward = record {
+  every = onward.every;
+  marked = λ q w.
+      let label : node_in s (label_in s w.goal) ≡ w.goal = is.labels.there w.goal w.to in
+      onward.passed (label_in s w.goal) q (is.labels.label w.goal w.to) (ap (table_port s u) label ∙ w.leaves) (ap (table_port s hop.node) label ∙ w.goes_on);
+  only = λ q at.
+      let from = onward.only q at in
+      record {
+        goal = node_in s from.0;
+        hop = hop;
+        from = lt;
+        to = is.labels.node from.0 from.1;
+        leaves = from.2;
+        leads = leads;
+        there = refl;
+        goes_on = from.3;
+      };
 }

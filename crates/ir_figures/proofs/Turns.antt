@@ -110,11 +110,11 @@ module _ (s : Plan) (is : IsPlan s) (tree : s.kind ≡ Tree) where
       by hop leads one two (inr down) (inl back) =
           absurd (no_turn s is u p v q w hop leads (sym (one_parent v u hop.node v_in w.from (port_facts s.topology is.topology v q hop leads).to down back)))
 
-  pub tree_without_ring : IsWithoutRing s
+  pub tree_without_ring : IsWithoutRing (Waits s)
   tree_without_ring = (number, rises)
 
 -- numbers that rise around a ring would rise above themselves
-module _ (s : Plan) (nodes ports : List ℕ) (without : IsWithoutRing s) (ring : IsWaitingRing s nodes ports) where
+module _ (waits : ℕ → ℕ → ℕ → ℕ → Type 0) (nodes ports : List ℕ) (without : IsWithoutRing waits) (ring : IsWaitingRing waits nodes ports) where
   at : ℕ → ℕ
   at i = without.0 (slice_index nodes i) (slice_index ports i)
 

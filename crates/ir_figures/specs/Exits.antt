@@ -29,12 +29,27 @@ pub record AreOnward (plan : Plan) (u p v count : ℕ) (marks : List Bool) : Typ
   pub only : (q : ℕ) → slice_index_or marks q false ≡ true
       → (a : ℕ) × (a < node_count plan.topology) × (table_port plan u (node_in plan a) ≡ Some p) × (table_port plan v (node_in plan a) ≡ Some q)
 
--- the place c of blocks and marks is that of the link by port p of u
-pub record IsExitAt (plan : Plan) (blocks : List ℕ) (marks : List (List Bool)) (u p c : ℕ) : Type 0 where
-  pub hop : Hop
-  pub leads : port_at plan.topology u p ≡ Some hop
-  pub block : slice_index blocks c ≡ exits_before plan.topology hop.node
-  pub onward : AreOnward plan u p hop.node (node_count plan.topology) (slice_index_or marks c [])
+-- by which links wait for which
+module _ (topology : Topology) (waits : ℕ → ℕ → ℕ → ℕ → Type 0) where
+  -- a mark for each port of v: where the link by port p of u waits for the one by that port
+  pub record AreAwaited (u p v : ℕ) (marks : List Bool) : Type 0 where
+    pub every : length marks ≡ length (ports_of topology v)
+    pub marked : (q : ℕ) → waits u p v q → slice_index_or marks q false ≡ true
+    pub only : (q : ℕ) → slice_index_or marks q false ≡ true → waits u p v q
+
+  -- the place c of blocks and marks is that of the link by port p of u
+  pub record IsExitAt (blocks : List ℕ) (marks : List (List Bool)) (u p c : ℕ) : Type 0 where
+    pub hop : Hop
+    pub leads : port_at topology u p ≡ Some hop
+    pub block : slice_index blocks c ≡ exits_before topology hop.node
+    pub onward : AreAwaited u p hop.node (slice_index_or marks c [])
+
+  -- the blocks and the marks of the first so many links
+  pub record AreLinks (blocks : List ℕ) (marks : List (List Bool)) (count : ℕ) : Type 0 where
+    pub every_block : length blocks ≡ count
+    pub every_row : length marks ≡ count
+    pub each : (v r : ℕ) → v < node_count topology → r < length (ports_of topology v) → exits_before topology v + r < count
+        → IsExitAt blocks marks v r (exits_before topology v + r)
 
 -- the node u stands behind the others, so many times
 abbrev pub AreNextExits : List ℕ → ℕ → ℕ → List ℕ → Type 0
@@ -47,12 +62,18 @@ pub record IsMarkedFor (plan : Plan) (v a : ℕ) (old new : List Bool) : Type 0 
   pub marked : (q : ℕ) → table_port plan v (node_in plan a) ≡ Some q → slice_index_or new q false ≡ true
   pub only : (q : ℕ) → slice_index_or new q false ≡ true → (slice_index_or old q false ≡ true) ⊎ (table_port plan v (node_in plan a) ≡ Some q)
 
--- the blocks and the marks of the first so many links
-pub record AreLinks (plan : Plan) (blocks : List ℕ) (marks : List (List Bool)) (count : ℕ) : Type 0 where
-  pub every_block : length blocks ≡ count
-  pub every_row : length marks ≡ count
-  pub each : (v r : ℕ) → v < node_count plan.topology → r < length (ports_of plan.topology v) → exits_before plan.topology v + r < count
-      → IsExitAt plan blocks marks v r (exits_before plan.topology v + r)
+-- of the first so many places those are marked that were marked, or are so in another row
+pub record AreMarkedAlso (count : ℕ) (old other new : List Bool) : Type 0 where
+  pub every : length new ≡ length old
+  pub kept : (q : ℕ) → slice_index_or old q false ≡ true → slice_index_or new q false ≡ true
+  pub also : (q : ℕ) → q < count → slice_index_or other q false ≡ true → slice_index_or new q false ≡ true
+  pub only : (q : ℕ) → slice_index_or new q false ≡ true → (slice_index_or old q false ≡ true) ⊎ (slice_index_or other q false ≡ true)
+
+-- the same of each of the first so many rows, and the others stay
+pub record AreRowsMarkedAlso (count : ℕ) (old others new : List (List Bool)) : Type 0 where
+  pub every : length new ≡ length old
+  pub done : (c : ℕ) → c < count → AreMarkedAlso (length (slice_index_or others c [])) (slice_index_or old c []) (slice_index_or others c []) (slice_index_or new c [])
+  pub rest : (c : ℕ) → count ≤ c → slice_index_or new c [] ≡ slice_index_or old c []
 
 -- the nodes that links of these numbers leave
 pub record AreLeftBy (nodes ring named : List ℕ) : Type 0 where

@@ -10,7 +10,7 @@ use Rattle.ir_show.specs.StatsText.{IsStatsOf}
 use Rattle.ir_figures.specs.declared.most.Most.{Most}
 use Rattle.ir_figures.specs.Compactness.{AreMost}
 use Rattle.ir_figures.specs.RowBits.{AreBitsBefore}
-use Rattle.ir_figures.specs.Waits.{IsWithoutRing, IsWaitingRing}
+use Rattle.ir_figures.specs.Waits.{Waits, WaitsInEither, IsWithoutRing, IsWaitingRing}
 
 -- the node behind a port
 abbrev pub behind : Topology → ℕ → ℕ → ℕ
@@ -25,15 +25,15 @@ most_line nodes plan (Some m) = line_text (codes "compactness" ∷ name_at nodes
 abbrev pub bits_line : ℕ → ℕ → List ℕ
 bits_line rows tables = line_text (codes "bits" ∷ decimal rows ∷ decimal tables ∷ [])
 
--- `dependencies acyclic`, or `dependencies cycle` and the nodes that the links of a ring leave
-abbrev pub ring_line : List Name → Option (List ℕ) → List ℕ
-ring_line nodes None = line_text (codes "dependencies" ∷ codes "acyclic" ∷ [])
-ring_line nodes (Some ring) = line_text (codes "dependencies" ∷ codes "cycle" ∷ map (name_at nodes) ring)
+-- `WORD acyclic`, or `WORD cycle` and the nodes that the links of a ring leave
+abbrev pub ring_line : List ℕ → List Name → Option (List ℕ) → List ℕ
+ring_line word nodes None = line_text (word ∷ codes "acyclic" ∷ [])
+ring_line word nodes (Some ring) = line_text (word ∷ codes "cycle" ∷ map (name_at nodes) ring)
 
 -- the links of a ring that wait for each other leave these nodes; without, no links do so
-abbrev pub IsRingOf : Plan → Option (List ℕ) → Type 0
-IsRingOf plan None = IsWithoutRing plan
-IsRingOf plan (Some ring) = (ports : List ℕ) × IsWaitingRing plan ring ports
+abbrev pub IsRingOf : (ℕ → ℕ → ℕ → ℕ → Type 0) → Option (List ℕ) → Type 0
+IsRingOf waits None = IsWithoutRing waits
+IsRingOf waits (Some ring) = (ports : List ℕ) × IsWaitingRing waits ring ports
 
 -- The text has the figures of a plan, and behind them those of the field.
 pub record AreFiguresOf (nodes : List Name) (plan : Plan) (text : List ℕ) : Type 0 where
@@ -45,5 +45,14 @@ pub record AreFiguresOf (nodes : List Name) (plan : Plan) (text : List ℕ) : Ty
   pub tables : ℕ
   pub bits : AreBitsBefore plan (node_count plan.topology) rows tables
   pub ring : Option (List ℕ)
-  pub ring_is : IsRingOf plan ring
-  pub whole : text ≡ ((figures ++ most_line nodes plan most) ++ bits_line rows tables) ++ ring_line nodes ring
+  pub ring_is : IsRingOf (Waits plan) ring
+  pub whole : text ≡ ((figures ++ most_line nodes plan most) ++ bits_line rows tables) ++ ring_line (codes "dependencies") nodes ring
+
+-- The text has all figures of a plan, and behind them whether links wait for each other in a ring while packets of a second
+-- plan are under way too.
+pub record AreFiguresBeside (nodes : List Name) (plan second : Plan) (text : List ℕ) : Type 0 where
+  pub figures : List ℕ
+  pub figures_are : AreFiguresOf nodes plan figures
+  pub ring : Option (List ℕ)
+  pub ring_is : IsRingOf (WaitsInEither plan second) ring
+  pub whole : text ≡ figures ++ ring_line (codes "together") nodes ring

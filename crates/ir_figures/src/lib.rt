@@ -1,5 +1,6 @@
 //! The figures of a plan that its field knows it by: the most intervals at one port (van Leeuwen and Tan 1987), the bits
-//! of the rows, and whether links wait for each other in a ring (Dally and Seitz 1987); and the text of all figures.
+//! of the rows, and whether links wait for each other in a ring, of one plan or of two together (Dally and Seitz 1987);
+//! and the text of all figures.
 #![tactic(auto)]
 
 mod bits;
@@ -12,5 +13,5 @@ mod waits;
 pub use bits::{Bits, bits_of};
 pub use laws::{numbers_rule_out_rings, tree_plans_have_no_ring};
 pub use most::{Most, most_intervals};
-pub use text::figures_text;
-pub use waits::waiting_ring;
+pub use text::{figures_text, figures_text_beside};
+pub use waits::{waiting_ring, waiting_ring_together};

@@ -1,14 +1,14 @@
 //! The text of a plan's figures, those of the field among them.
-ghost use Rattle.std.specs.Prelude.{◌≡◌, ◌<◌, ◌++◌, ℕ, IfOk, IfSome, OnOk, flat_map, length, map, slice_index, string_bytes};
+ghost use Rattle.std.specs.Prelude.{◌≡◌, ◌<◌, ◌++◌, ℕ, IfOk, IfSome, OnOk, codes, flat_map, length, map, slice_index, string_bytes};
 ghost use Rattle.std.specs.Option.{option_map};
 ghost use Rattle.ir_model.specs.{Graph.names, Topology.node_count};
 ghost use Rattle.ir_trace.specs.{Rows.spaced, Written.name_at};
 ghost use Rattle.ir_figures.specs.Compactness.{HasPortNumber};
-ghost use Rattle.ir_figures.specs.FiguresText.{most_line, bits_line, ring_line, AreFiguresOf};
+ghost use Rattle.ir_figures.specs.FiguresText.{most_line, bits_line, ring_line, AreFiguresOf, AreFiguresBeside};
 
 use crate::bits::{Bits, bits_of};
 use crate::most::{Most, most_intervals};
-use crate::waits::waiting_ring;
+use crate::waits::{waiting_ring, waiting_ring_together};
 use ir_graph::Graph;
 use ir_plan::Plan;
 use ir_show::stats_text;
@@ -63,18 +63,24 @@ fn push_names(text: &mut String, graph: &Graph, ring: &[u16]) -> Result<(), Allo
     Ok(())
 }
 
-/// Writes the line of the ring of links that wait for each other, if there is one.
+/// Writes the line of the ring of links that wait for each other, if there is one, behind a word.
 #[tactic(auto, using(ir_show::proofs::PlanLines::words_of_a_line))]
-fn push_ring(text: &mut String, graph: &Graph, ring: &Option<Vec<u16>>) -> Result<(), AllocError>
+fn push_ring(
+    text: &mut String,
+    word: &str,
+    graph: &Graph,
+    ring: &Option<Vec<u16>>,
+) -> Result<(), AllocError>
     requires { IfSome ring.now (λ r. (i : ℕ) → i < length r.items → slice_index r.items i < length graph.now) }
     ensures { OnOk result (string_bytes text.new
-        ≡ string_bytes text.old ++ ring_line (names graph.now) (option_map (λ r. r.items) ring.now)) }
+        ≡ string_bytes text.old ++ ring_line word.now (names graph.now) (option_map (λ r. r.items) ring.now)) }
 {
+    text.push_str(word)?;
     let Some(ring) = ring else {
-        text.push_str("dependencies acyclic\n")?;
+        text.push_str(" acyclic\n")?;
         return Ok(());
     };
-    text.push_str("dependencies cycle")?;
+    text.push_str(" cycle")?;
     push_names(text, graph, ring.as_slice())?;
     text.push_str("\n")?;
     Ok(())
@@ -91,6 +97,25 @@ pub fn figures_text(alloc: Global, graph: &Graph, plan: &Plan) -> Result<String,
     let mut text = stats_text(alloc, graph, plan)?;
     push_most(&mut text, graph, plan, most_intervals(plan))?;
     push_bits(&mut text, bits_of(plan))?;
-    push_ring(&mut text, graph, &ring)?;
+    push_ring(&mut text, "dependencies", graph, &ring)?;
+    Ok(text)
+}
+
+/// The text of the figures of a plan, and behind it the line of a ring of links that wait for each other in that plan and a
+/// second one together. Conditions: both plans are over the graph's network. It is refused for memory alone. Takes as long
+/// as `figures_text` and `waiting_ring_together`.
+pub fn figures_text_beside(
+    alloc: Global,
+    graph: &Graph,
+    plan: &Plan,
+    second: &Plan,
+) -> Result<String, AllocError>
+    requires nodes { node_count plan.now.topology ≡ length graph.now }
+    requires over { second.now.topology ≡ plan.now.topology }
+    ensures { IfOk result (λ text. AreFiguresBeside (names graph.now) plan.now second.now (string_bytes text)) }
+{
+    let ring = waiting_ring_together(alloc, plan, second)?;
+    let mut text = figures_text(alloc, graph, plan)?;
+    push_ring(&mut text, "together", graph, &ring)?;
     Ok(text)
 }

@@ -1,9 +1,9 @@
 //! Rings of directed links that wait for each other.
 ghost use Rattle.std.specs.Prelude.{◌≡◌, ◌↔◌, ◌+◌, ◌<◌, ℕ, List, Some, IsTrue, IfNone, IfOk, IfSome, OnOk, length, slice_index};
 ghost use Rattle.ir_model.specs.{Topology.{node_count, ports_of}, Plan.IsPlan};
-ghost use Rattle.ir_cycles.specs.Arcs.{marks_of};
-ghost use Rattle.ir_figures.specs.Waits.{IsWithoutRing, IsWaitingRing};
-ghost use Rattle.ir_figures.specs.Exits.{exits_before, AreExits, ArePortsByLabel, AreOnward, IsMarkedFor, AreLinks, AreLeftBy};
+ghost use Rattle.ir_cycles.specs.Arcs.{marks_of, width_of, IsDigraph, IsAcyclic, IsRing};
+ghost use Rattle.ir_figures.specs.Waits.{Waits, WaitsInEither, IsWithoutRing, IsWaitingRing};
+ghost use Rattle.ir_figures.specs.Exits.{exits_before, AreExits, ArePortsByLabel, AreOnward, IsMarkedFor, AreLinks, AreMarkedAlso, AreRowsMarkedAlso, AreLeftBy};
 
 use crate::exits::{Exits, exits_of};
 use ir_cycles::ring_of;
@@ -87,10 +87,10 @@ fn push_links(
     requires plan { IsPlan plan.now }
     requires node { u < node_count plan.now.topology }
     requires first { (nodes : List ℕ) × AreExits plan.now.topology (node_count plan.now.topology) first.now nodes }
-    requires links { AreLinks plan.now links.old.begins.items (marks_of links.old.marks.items)
-        (exits_before plan.now.topology u) }
-    ensures { OnOk result (AreLinks plan.now links.new.begins.items (marks_of links.new.marks.items)
-        (exits_before plan.now.topology (u + 1))) }
+    requires links { AreLinks plan.now.topology (Waits plan.now) links.old.begins.items
+        (marks_of links.old.marks.items) (exits_before plan.now.topology u) }
+    ensures { OnOk result (AreLinks plan.now.topology (Waits plan.now) links.new.begins.items
+        (marks_of links.new.marks.items) (exits_before plan.now.topology (u + 1))) }
 {
     let ports = ports_by_label(alloc, plan, u)?;
     for p in 0..plan.topology().degree(u) {
@@ -105,8 +105,8 @@ fn push_links(
 /// The links of a plan's network.
 fn links_of(alloc: Global, plan: &Plan, first: &[u32]) -> Result<Links, AllocError>
     requires first { (nodes : List ℕ) × AreExits plan.now.topology (node_count plan.now.topology) first.now nodes }
-    ensures { IfOk result (λ links. AreLinks plan.now links.begins.items (marks_of links.marks.items)
-        (exits_before plan.now.topology (node_count plan.now.topology))) }
+    ensures { IfOk result (λ links. AreLinks plan.now.topology (Waits plan.now) links.begins.items
+        (marks_of links.marks.items) (exits_before plan.now.topology (node_count plan.now.topology))) }
 {
     let mut links = Links {
         begins: Vec::new(alloc),
@@ -130,6 +130,48 @@ fn nodes_of(alloc: Global, nodes: &[u16], ring: &[u32]) -> Result<Vec<u16>, Allo
     Ok(named)
 }
 
+/// Marks in a row what another one marks.
+fn mark_also(row: &mut Vec<bool>, other: &[bool])
+    requires { length row.old.items ≡ length other.now }
+    ensures { AreMarkedAlso (length other.now) row.old.items other.now row.new.items }
+{
+    for q in 0..other.len() {
+        if other[q] {
+            row[q] = true;
+        }
+    }
+}
+
+/// Marks in each row what another list's row marks.
+fn mark_rows_also(rows: &mut Vec<Vec<bool>>, others: &[Vec<bool>])
+    requires every { length rows.old.items ≡ length others.now }
+    requires wide { (c : ℕ) → c < length others.now
+        → width_of (marks_of rows.old.items) c ≡ width_of (marks_of others.now) c }
+    ensures { AreRowsMarkedAlso (length others.now) (marks_of rows.old.items) (marks_of others.now)
+        (marks_of rows.new.items) }
+{
+    for c in 0..others.len() {
+        mark_also(&mut rows[c], others[c].as_slice());
+    }
+}
+
+/// The nodes that the links of a ring leave, if there is one.
+fn ring_in(alloc: Global, exits: &Exits, links: &Links) -> Result<Option<Vec<u16>>, AllocError>
+    requires digraph { IsDigraph links.now.begins.items (marks_of links.now.marks.items) }
+    requires every { length exits.now.nodes.items ≡ length links.now.marks.items }
+    ensures acyclic { IfOk result (λ found.
+        IfNone found (IsAcyclic links.now.begins.items (marks_of links.now.marks.items))) }
+    ensures ring { IfOk result (λ found. IfSome found (λ nodes. (ring : List ℕ)
+        × IsRing links.now.begins.items (marks_of links.now.marks.items) ring
+        × AreLeftBy exits.now.nodes.items ring nodes.items)) }
+{
+    let Some(ring) = ring_of(alloc, links.begins.as_slice(), links.marks.as_slice())? else {
+        return Ok(None);
+    };
+    let named = nodes_of(alloc, exits.nodes.as_slice(), ring.as_slice())?;
+    Ok(Some(named))
+}
+
 /// Nodes that directed links leave which wait for each other in a ring, in order; None where the links can be numbered
 /// such that each waits for greater ones alone. A link waits for another one where a walk that the plan prescribes takes
 /// them one behind the other: packets that hold one's buffer wait for room in the other's (Dally and Seitz 1987).
@@ -137,16 +179,35 @@ fn nodes_of(alloc: Global, nodes: &[u16], ring: &[u32]) -> Result<Vec<u16>, Allo
 /// It takes a byte for each directed link and port of the node that it leads to. Refused for memory alone. Takes
 /// O(n * n log n + n m), for n nodes and m links.
 pub fn waiting_ring(alloc: Global, plan: &Plan) -> Result<Option<Vec<u16>>, AllocError>
-    ensures acyclic { IfOk result (λ found. IfNone found (IsWithoutRing plan.now)) }
+    ensures acyclic { IfOk result (λ found. IfNone found (IsWithoutRing (Waits plan.now))) }
     ensures ring { IfOk result (λ found.
-        IfSome found (λ nodes. (ports : List ℕ) × IsWaitingRing plan.now nodes.items ports)) }
+        IfSome found (λ nodes. (ports : List ℕ) × IsWaitingRing (Waits plan.now) nodes.items ports)) }
 {
     let _nodes = plan.nodes();
     let exits = exits_of(alloc, plan.topology())?;
     let links = links_of(alloc, plan, exits.first.as_slice())?;
-    let Some(ring) = ring_of(alloc, links.begins.as_slice(), links.marks.as_slice())? else {
-        return Ok(None);
-    };
-    let named = nodes_of(alloc, exits.nodes.as_slice(), ring.as_slice())?;
-    Ok(Some(named))
+    ring_in(alloc, &exits, &links)
+}
+
+/// The same of two plans over one network together: a link waits for another one where it does so in either plan, as while
+/// packets of both are under way in shared buffers.
+///
+/// Condition: both plans are over the same network. It takes two bytes for each directed link and port of the node that it
+/// leads to. Refused for memory alone. Takes as long as `waiting_ring` of both plans.
+pub fn waiting_ring_together(
+    alloc: Global,
+    plan: &Plan,
+    second: &Plan,
+) -> Result<Option<Vec<u16>>, AllocError>
+    requires { second.now.topology ≡ plan.now.topology }
+    ensures acyclic { IfOk result (λ found. IfNone found (IsWithoutRing (WaitsInEither plan.now second.now))) }
+    ensures ring { IfOk result (λ found. IfSome found (λ nodes. (ports : List ℕ)
+        × IsWaitingRing (WaitsInEither plan.now second.now) nodes.items ports)) }
+{
+    let _nodes = (plan.nodes(), second.nodes());
+    let exits = exits_of(alloc, plan.topology())?;
+    let mut links = links_of(alloc, plan, exits.first.as_slice())?;
+    let more = links_of(alloc, second, exits.first.as_slice())?;
+    mark_rows_also(&mut links.marks, more.marks.as_slice());
+    ring_in(alloc, &exits, &links)
 }

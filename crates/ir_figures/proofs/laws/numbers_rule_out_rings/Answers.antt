@@ -1,5 +1,9 @@
+use Rattle.ir_figures.specs.Waits.{Waits, WaitsInEither}
 use Rattle.ir_figures.proofs.Turns.{no_ring}
 use Rattle.ir_figures.proofs.laws.numbers_rule_out_rings.Goals as goal
 
-pub returns : goal.returns
-returns c = λ s nodes ports without ring. no_ring s nodes ports without ring
+pub returns-clause-alone : goal.returns-clause-alone
+returns-clause-alone c = λ s nodes ports without ring. no_ring (Waits s) nodes ports without ring
+
+pub returns-clause-together : goal.returns-clause-together
+returns-clause-together c = λ s t nodes ports without ring. no_ring (WaitsInEither s t) nodes ports without ring
