@@ -2,7 +2,7 @@
 
 # The subcommands.
 _bentzolu_subcommands() {
-    echo 'plan walk stats draw prefixes ranges sim live check help'
+    echo 'plan walk stats compare draw prefixes ranges sim live check help'
 }
 
 # The options of a subcommand, or of the program where there is none.
@@ -11,9 +11,10 @@ _bentzolu_options() {
         plan) echo '--format --kind --root --capacity --packets --explain --no-explain --threads --numbering --order --help' ;;
         stats) echo '--format --kind --root --capacity --packets --explain --no-explain --threads --numbering --with --help' ;;
         ranges) echo '--format --kind --root --capacity --packets --explain --no-explain --threads --numbering --help' ;;
+        compare) echo '--format --root --explain --no-explain --threads --help' ;;
         walk | draw) echo '--format --kind --root --capacity --packets --explain --no-explain --threads --numbering --from --to --help' ;;
         prefixes) echo '--format --kind --root --capacity --packets --explain --no-explain --threads --numbering --disjoint --help' ;;
-        check) echo '--format --kind --root --capacity --packets --explain --no-explain --numbering --help' ;;
+        check) echo '--format --kind --root --capacity --packets --explain --no-explain --numbering --whole --help' ;;
         sim | live) echo '--format --kind --root --capacity --packets --explain --no-explain --numbering --restamps --help' ;;
         '') echo '--help --version' ;;
     esac

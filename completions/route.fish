@@ -1,6 +1,7 @@
 # Completions of route for fish. tests/completions holds them to the options of the program.
-set -l subcommands plan walk stats draw prefixes ranges sim live check help
-set -l others plan walk stats draw prefixes ranges sim live check
+set -l subcommands plan walk stats compare draw prefixes ranges sim live check help
+set -l others plan walk stats compare draw prefixes ranges sim live check
+set -l single plan walk stats draw prefixes ranges sim live check
 
 complete -c route -n "not __fish_seen_subcommand_from $subcommands" -f
 complete -c route -n "not __fish_seen_subcommand_from $subcommands" -l version -d 'Print the version'
@@ -9,6 +10,7 @@ complete -c route -l help -d 'Print the help'
 complete -c route -n "not __fish_seen_subcommand_from $subcommands" -a plan -d 'Print the labels and intervals of the nodes'
 complete -c route -n "not __fish_seen_subcommand_from $subcommands" -a walk -d 'Print the walk from one node to another'
 complete -c route -n "not __fish_seen_subcommand_from $subcommands" -a stats -d 'Print the figures of a plan'
+complete -c route -n "not __fish_seen_subcommand_from $subcommands" -a compare -d 'Print the figures of plans of all kinds'
 complete -c route -n "not __fish_seen_subcommand_from $subcommands" -a draw -d 'Print a drawing for Graphviz'
 complete -c route -n "not __fish_seen_subcommand_from $subcommands" -a prefixes -d 'Print the fewest prefixes by which each node sends on'
 complete -c route -n "not __fish_seen_subcommand_from $subcommands" -a ranges -d 'Print the fewest ranges by which each node sends on'
@@ -19,13 +21,13 @@ complete -c route -n "not __fish_seen_subcommand_from $subcommands" -a help -d '
 complete -c route -n '__fish_seen_subcommand_from help' -f -a "$others"
 
 complete -c route -n "__fish_seen_subcommand_from $others" -l format -x -a 'adjlist edgelist' -d 'The format of the topology'
-complete -c route -n "__fish_seen_subcommand_from $others" -l kind -x -a 'tree shortest compact' -d 'How the first plan routes'
+complete -c route -n "__fish_seen_subcommand_from $single" -l kind -x -a 'tree shortest compact' -d 'How the first plan routes'
 complete -c route -n "__fish_seen_subcommand_from $others" -l root -x -d 'The root of the first plan'
-complete -c route -n "__fish_seen_subcommand_from $others" -l capacity -x -d 'The most packets in each channel and inbox'
-complete -c route -n "__fish_seen_subcommand_from $others" -l packets -x -d 'The most packets'
+complete -c route -n "__fish_seen_subcommand_from $single" -l capacity -x -d 'The most packets in each channel and inbox'
+complete -c route -n "__fish_seen_subcommand_from $single" -l packets -x -d 'The most packets'
 complete -c route -n "__fish_seen_subcommand_from $others" -l explain -d 'Sentences behind the lines of faults'
 complete -c route -n "__fish_seen_subcommand_from $others" -l no-explain -d 'No such sentences, on a terminal either'
-complete -c route -n '__fish_seen_subcommand_from plan walk stats draw prefixes ranges' -l threads -x -d 'The most threads that make rows'
+complete -c route -n '__fish_seen_subcommand_from plan walk stats compare draw prefixes ranges' -l threads -x -d 'The most threads that make rows'
 complete -c route -n '__fish_seen_subcommand_from plan walk stats draw prefixes ranges' -l numbering -r -d 'How nodes are numbered'
 complete -c route -n '__fish_seen_subcommand_from walk draw' -l from -x -d 'The node that the walk goes from'
 complete -c route -n '__fish_seen_subcommand_from walk draw' -l to -x -d 'The node that it goes to'
@@ -33,4 +35,5 @@ complete -c route -n '__fish_seen_subcommand_from plan' -l order -d 'The order o
 complete -c route -n '__fish_seen_subcommand_from stats' -l with -x -d 'A second plan, for the links that wait in both together'
 complete -c route -n '__fish_seen_subcommand_from prefixes' -l disjoint -d 'Prefixes of which no two hold one label'
 complete -c route -n '__fish_seen_subcommand_from sim live check' -l numbering -x -a 'depth-first tour' -d 'How each plan is numbered'
+complete -c route -n '__fish_seen_subcommand_from check' -l whole -d 'Judge rows beside the script, too'
 complete -c route -n '__fish_seen_subcommand_from sim live' -l restamps -x -a '0 1 2 3' -d 'The most restamps of a packet'

@@ -5,10 +5,10 @@
     plan = bentzolu.plan(graph, kind="compact")
     run = bentzolu.simulate(graph, [("inject", 0, 7), ("drain",)])
 
-The calls are `plan`, `walk`, `stats`, `prefixes`, `ranges`, `draw`, `simulate`, `live` and `check`; `help(bentzolu.calls)`
-tells what all of them take.
+The calls are `plan`, `compile_many`, `walk`, `stats`, `prefixes`, `ranges`, `draw`, `simulate`, `live` and `check`;
+`help(bentzolu.calls)` tells what all of them take.
 """
-from .calls import check, draw, live, names_of, plan, prefixes, ranges, simulate, stats, walk
+from .calls import check, compile_many, draw, live, names_of, plan, prefixes, ranges, simulate, stats, walk
 from .errors import (
     BentzoluError, DirectedGraphError, FormatError, GraphError, MultigraphError, ProgramNotFoundError, RouteError, StepError,
     TopologyWarning, UnknownNodeError, WeightError,
@@ -28,7 +28,7 @@ __all__ = [
     "BentzoluError", "Bits", "Compactness", "DirectedGraphError", "FormatError", "GraphError", "Interval", "MultigraphError",
     "Names", "NodePlan", "NodePrefixes", "Packet", "Plan", "Prefix", "Prefixes", "ProgramNotFoundError", "Range", "Refused",
     "RouteError", "Run", "Segment", "Stats", "StepError", "TopologyWarning", "UnknownNodeError", "Verdict", "Walk",
-    "WalkStep", "WeightError", "Worst", "check", "check_ranges", "draw", "find_program", "live", "names_of", "plan",
-    "prefixes", "ranges", "read_plan", "read_prefixes", "read_ranges", "read_stats", "read_trace", "read_walk", "scaled",
+    "WalkStep", "WeightError", "Worst", "check", "check_ranges", "compile_many", "draw", "find_program", "live", "names_of",
+    "plan", "prefixes", "ranges", "read_plan", "read_prefixes", "read_ranges", "read_stats", "read_trace", "read_walk", "scaled",
     "simulate", "stats", "walk", "write_trace",
 ]

@@ -2,7 +2,7 @@
 import argparse
 import sys
 
-from . import __version__, commands, lab, program
+from . import __version__, commands, inside, lab, program
 from .convert import READERS
 from .errors import BentzoluError
 
@@ -46,11 +46,13 @@ ABOUT = {
 
 
 class Version(argparse.Action):
-    """Prints the versions of the package and of the program that it calls."""
+    """Prints the version of the package, where the library is, and which program there is."""
 
     def __call__(self, parser, *_):
         print(f"bentzolu {__version__}")
         try:
+            if inside.library():
+                print(f"the library at {inside.library().path}, in this process")
             print(f"{program.version()} at {program.find()}")
         except BentzoluError as error:
             print(error)

@@ -9,13 +9,15 @@ What all calls take:
   intervals) or `"tree"` (along a depth-first tree).
 - `root`: the node from which labels are numbered; the first node by default.
 - `weight`: the name of the edges' attribute that is the weight, 1 where an edge has none; None for 1 everywhere.
-- `program`: the path of `route`; by default what `find_program` finds.
-- `timeout`: seconds, past which `subprocess.TimeoutExpired` is raised.
+- `program`: the path of `route`; by default the library in this process answers where there is one (`bentzolu.inside`), and
+  else the program that `find_program` finds.
+- `timeout`: seconds, past which `subprocess.TimeoutExpired` is raised; a call with it goes to the program.
 - `words`: further words of the command line, as `("--numbering", "tour")`.
 
 What the program refuses is a `RouteError`, with the sentence that says why.
 """
 import os
+from concurrent.futures import ThreadPoolExecutor
 
 from . import drawing, program as programs, texts
 from .errors import GraphError
@@ -62,6 +64,44 @@ def plan(graph, kind="shortest", root=None, *, weight="weight", program=None, ti
     """
     output, names = ask("plan", graph, kind, root, weight, program, timeout, words)
     return texts.read_plan(output, names)
+
+
+def compile_many(
+    graphs, kind="shortest", root=None, *, weight="weight", program=None, timeout=None, words=(), jobs=None, progress=False,
+):
+    """The plans of many graphs, in their order.
+
+    Parameters
+    ----------
+    graphs : what has graphs of NetworkX, lists of edges, or paths of files
+    jobs : how many plans are made at a time; as many as there are processors by default
+    progress : whether `tqdm`, where it is there, shows how many are made
+    kind, root, weight, program, timeout, words : as for `plan`, of each graph
+
+    Returns
+    -------
+    list of Plan
+    """
+    def made(graph):
+        return plan(graph, kind, root, weight=weight, program=program, timeout=timeout, words=words)
+
+    graphs = list(graphs)
+    with ThreadPoolExecutor(jobs or os.cpu_count() or 1) as crew:
+        plans = [crew.submit(made, graph) for graph in graphs]
+        try:
+            return [it.result() for it in (told(plans) if progress else plans)]
+        finally:
+            for it in plans:
+                it.cancel()
+
+
+def told(plans):
+    """The same plans to come, of which `tqdm` tells how many are made, where it is there."""
+    try:
+        from tqdm import tqdm
+    except ImportError:
+        return plans
+    return tqdm(plans, unit="plan")
 
 
 def walk(graph, source, target, kind="shortest", root=None, *, weight="weight", program=None, timeout=None, words=()):

@@ -1,4 +1,4 @@
-"""The program `route`: where it is, running it, and the sentences that it says."""
+"""The program `route`: where it is, running it, and the sentences that it says; or the library in its place."""
 import os
 import pathlib
 import re
@@ -6,6 +6,7 @@ import shutil
 import subprocess
 import tempfile
 
+from . import inside
 from .errors import ProgramNotFoundError, RouteError, fault_of
 
 VARIABLE = "BENTZOLU_ROUTE"
@@ -72,7 +73,8 @@ class Said:
 
 
 def run(words, texts, program=None, timeout=None, findings=False, names=None):
-    """Runs a subcommand over texts, which are given as files, and answers what it printed, as `Said`.
+    """Runs a subcommand over texts, which are given as files, and answers what it printed, as `Said`. The library in this
+    process answers where there is one, and neither a program nor a limit of time is asked for.
 
     `words` are the words before the files; `texts` are pairs of a name and a text, or a path that is given as it is. A
     status above 0 is a RouteError, but with `findings` not the status 1 that comes with an answer on standard output.
@@ -80,25 +82,35 @@ def run(words, texts, program=None, timeout=None, findings=False, names=None):
     table `names` leads back to.
     """
     words = list(words) if any(word in EXPLAIN for word in words) else [*words[:1], "--explain", *words[1:]]
+    shown, path = {}, None
+    answer = inside.answered(words, texts, shown) if inside.is_chosen(program, timeout) else None
+    if answer is None:
+        path = find(program)
+        answer = of_program(path, words, texts, shown, timeout)
+    status, (output, faults) = answer[0], (part.decode("utf-8", "replace") for part in answer[1:])
+    said = split(path or "route", status, output, faults, shown, names)
+    if status != 0 and not (findings and status == 1 and output):
+        refuse_other(path, said)
+        content = content_of(said.faults, texts)
+        raise RouteError(status, said.faults, content, sentence_of(said, texts))
+    if not output.startswith(HEADS):
+        refuse_other(path, said)
+    return said
+
+
+def of_program(path, words, texts, shown, timeout):
+    """The status, the output and the faults of the program, which is given the texts as files; `shown` gets the name of each
+    text by its file."""
     with tempfile.TemporaryDirectory(prefix="bentzolu-") as folder:
-        files, shown = [], {}
+        files = []
         for name, text in texts:
             file = text if isinstance(text, pathlib.Path) else pathlib.Path(folder) / name
             if file is not text:
                 file.write_bytes(text.encode("utf-8"))
                 shown[str(file)] = f"the {name}"
             files.append(str(file))
-        path = find(program)
         done = started([path, *words, "--", *files], timeout)
-    output, faults = (part.decode("utf-8", "replace") for part in (done.stdout, done.stderr))
-    said = split(path, done.returncode, output, faults, shown, names)
-    if done.returncode != 0 and not (findings and done.returncode == 1 and output):
-        refuse_other(path, said)
-        content = content_of(said.faults, texts)
-        raise RouteError(done.returncode, said.faults, content, sentence_of(said, texts))
-    if not output.startswith(HEADS):
-        refuse_other(path, said)
-    return said
+    return done.returncode, done.stdout, done.stderr
 
 
 def split(path, status, output, faults, shown, names):
@@ -139,7 +151,9 @@ def sentence_of(said, texts):
 
 
 def refuse_other(path, said):
-    """Refuses another program that has the name: net-tools has a `route` too."""
+    """Refuses another program that has the name: net-tools has a `route` too. The library, of no path, is none."""
+    if path is None:
+        return
     if said.status in (1, 2, 3) and fault_of(said.status, said.faults)[2] not in ("usage", "unknown"):
         return
     try:

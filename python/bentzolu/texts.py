@@ -1,9 +1,11 @@
 """What `route` prints, as data: plans, walks, figures, forwarding tables, traces and findings."""
 import re
+from array import array
 from bisect import bisect_right
 from collections import Counter
 from dataclasses import dataclass, field
 from fractions import Fraction
+from functools import cached_property
 from typing import Any, Dict, Hashable, NamedTuple, Optional, Tuple
 
 from . import shown
@@ -15,6 +17,15 @@ MOST_SHOWN = 16  # the most intervals, nodes or steps that a representation has
 def counted(number, one, more=None):
     """A number of things with their name."""
     return f"{number:,} {one if number == 1 else more or one + 's'}"
+
+
+def array_of(numbers):
+    """Whole numbers as an array of NumPy where that is there, else of `array`."""
+    try:
+        import numpy
+    except ImportError:
+        return array("q", numbers)
+    return numpy.array(numbers, dtype=numpy.int64)
 
 
 class SameNames:
@@ -167,10 +178,37 @@ class ByNode:
 @dataclass(frozen=True, repr=False)
 class Plan(ByNode):
     """The labels and intervals of all nodes: `kind` is `shortest`, `tree` or `compact`, `nodes` has a `NodePlan` for each
-    node of the graph. In a notebook a plan is shown as a table."""
+    node of the graph. In a notebook a plan is shown as a table.
+
+    As arrays, with the nodes numbered in their order in `nodes`: `starts` has the labels at which the intervals of all
+    nodes begin, `ports` the number of the neighbour of each, and those of node i stand from `rows[i]` up to but without
+    `rows[i + 1]`. They are arrays of NumPy where that is there, else of `array`.
+    """
 
     kind: str
     nodes: Dict[Hashable, NodePlan]
+
+    @cached_property
+    def _arrays(self):
+        numbers = {node: i for i, node in enumerate(self.nodes)}
+        starts, ports, rows = [], [], [0]
+        for it in self.nodes.values():
+            starts += it.starts
+            ports += map(numbers.__getitem__, it.neighbours)
+            rows.append(len(starts))
+        return tuple(map(array_of, (starts, ports, rows)))
+
+    @property
+    def starts(self):
+        return self._arrays[0]
+
+    @property
+    def ports(self):
+        return self._arrays[1]
+
+    @property
+    def rows(self):
+        return self._arrays[2]
 
     @property
     def intervals(self):

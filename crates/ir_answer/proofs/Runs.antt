@@ -7,7 +7,7 @@ use Rattle.ir_cli.specs.declared.ending.Ending.TheVariants as endings
 use Rattle.ir_cli.specs.declared.read.Source.{Source}
 use Rattle.ir_cli.specs.declared.words.Words.{Words}
 use Rattle.ir_cli.specs.declared.words.Sub.{Sub}
-use Rattle.ir_cli.specs.declared.words.Sub.TheVariants.{Plan, Walk, Stats, Draw, Prefixes, Ranges, Sim, Live, Check}
+use Rattle.ir_cli.specs.declared.words.Sub.TheVariants.{Plan, Walk, Stats, Compare, Draw, Prefixes, Ranges, Sim, Live, Check}
 use Rattle.ir_cli.specs.Answer.{Answer, Ran, Found, Refused, NoThread}
 use Rattle.ir_cli.specs.Ending.{EndsAs, Ends}
 use Rattle.ir_cli.specs.Replied.{RepliesAs, UnreadAs}
@@ -99,6 +99,7 @@ pub without_live : (live : Words → List (List ℕ) → Answer → Type 0) (sub
 without_live live Plan other words texts answer holds = holds
 without_live live Walk other words texts answer holds = holds
 without_live live Stats other words texts answer holds = holds
+without_live live Compare other words texts answer holds = holds
 without_live live Draw other words texts answer holds = holds
 without_live live Prefixes other words texts answer holds = holds
 without_live live Ranges other words texts answer holds = holds
@@ -111,6 +112,7 @@ pub fits_sub : (sub : Sub) (words : Words) → FitsItsKind words → FitsSub sub
 fits_sub Plan words fits = fits
 fits_sub Walk words fits = fits
 fits_sub Stats words fits = fits
+fits_sub Compare words fits = tt
 fits_sub Draw words fits = fits
 fits_sub Prefixes words fits = fits
 fits_sub Ranges words fits = fits

@@ -5,9 +5,10 @@ use Rattle.ir_cli.specs.declared.words.Words.{Words}
 use Rattle.ir_cli.specs.declared.read.Source.{Source}
 use Rattle.ir_cli.specs.declared.read.Source.TheVariants.{Input, Topology, Script, Trace, Numbering}
 use Rattle.ir_cli.specs.declared.words.Sub.{Sub}
-use Rattle.ir_cli.specs.declared.words.Sub.TheVariants.{Plan, Walk, Stats, Draw, Prefixes, Ranges, Sim, Live, Check}
+use Rattle.ir_cli.specs.declared.words.Sub.TheVariants.{Plan, Walk, Stats, Compare, Draw, Prefixes, Ranges, Sim, Live, Check}
 use Rattle.ir_answer.specs.declared.look.Look.TheVariants as look
 use Rattle.ir_answer.specs.Looks.{LookAnswers}
+use Rattle.ir_answer.specs.Compares.{compare_sources, CompareAnswers}
 use Rattle.ir_cli.specs.Answer.{Answer, NoThread}
 use Rattle.ir_cli.specs.Words.{is_one_input, has_order, FitsItsKind}
 use Rattle.ir_cli.specs.Cut.{topology_part, script_part, EndsWithBytes}
@@ -59,6 +60,7 @@ abbrev pub sources_by : Sub → Words → List Source
 sources_by Plan words = look_sources words
 sources_by Walk words = look_sources words
 sources_by Stats words = look_sources words
+sources_by Compare words = compare_sources words
 sources_by Draw words = look_sources words
 sources_by Prefixes words = look_sources words
 sources_by Ranges words = look_sources words
@@ -74,6 +76,7 @@ abbrev pub FitsSub : Sub → Words → Type 0
 FitsSub Sim words = Unit {0}
 FitsSub Live words = Unit {0}
 FitsSub Check words = Unit {0}
+FitsSub Compare words = Unit {0}
 FitsSub sub words = FitsItsKind words
 
 -- the answers of a subcommand, of which those of `live` are another crate's
@@ -82,6 +85,7 @@ module _ (live : Words → List (List ℕ) → Answer → Type 0) where
   AnswersBy Plan words texts answer = LookAnswers look.Plan words texts answer
   AnswersBy Walk words texts answer = LookAnswers look.Walk words texts answer
   AnswersBy Stats words texts answer = LookAnswers look.Stats words texts answer
+  AnswersBy Compare words texts answer = CompareAnswers words texts answer
   AnswersBy Draw words texts answer = LookAnswers look.Draw words texts answer
   AnswersBy Prefixes words texts answer = LookAnswers look.Prefixes words texts answer
   AnswersBy Ranges words texts answer = LookAnswers look.Ranges words texts answer

@@ -1,39 +1,86 @@
 //! A check of a trace, from the texts of a topology, a script and a trace.
-ghost use Rattle.std.specs.Prelude.{◌≡◌, MatchResult};
-ghost use Rattle.ir_model.specs.{OfGraph.topology_of_graph, Text.lines};
-ghost use Rattle.ir_trace.specs.Checked.{AreInstalls};
+ghost use Rattle.std.specs.Prelude.{◌≡◌, true, MatchResult, IfOk, IfErr};
+ghost use Rattle.ir_model.specs.{OfGraph.topology_of_graph, Text.lines, Topology.node_count};
+ghost use Rattle.ir_trace.specs.Checked.{AreInstalls, AreRowsOver};
+ghost use Rattle.ir_whole.specs.Whole.{run_of, HaveOwnIds, AreWhole, FindsWhole};
 ghost use Rattle.ir_cli.specs.Openings.{AnswersTopology};
-ghost use Rattle.ir_answer.specs.{Checks.{IsClean, IsFound, AnswersTrace, AnswersChecked}, Stops.Gives};
+ghost use Rattle.ir_answer.specs.Checks.{IsCleanTrace, IsFound, AnswersRows, AnswersTraceAsked, AnswersChecked, run_with};
+ghost use Rattle.ir_answer.specs.Stops.{Gives};
 
 use crate::asking::{Asked, Stop, opening_stop, read_asked};
-use ir_cli::{Reply, Words, finding_line, ok_line, opening_of};
+use ir_cli::{Reply, Words, finding_line, ok_line, opening_of, whole_line};
 use ir_core::{Install, Step, installs_by};
 use ir_graph::Graph;
 use ir_plan::Crew;
 use ir_tables::Topology;
-use ir_trace::{Finding, FindingKind, check_trace_by, read_trace};
+use ir_trace::{Finding, FindingKind, Trace, check_trace_by, read_trace};
+use ir_whole::{WholeFinding, WholeKind, check_whole};
 use std::alloc::Global;
 
-/// How many rows a trace has, or its first finding.
-fn rows_of(
+/// The trace that a text is, if it has no finding, or its first finding.
+fn trace_of(
     crew: &impl Crew,
     alloc: Global,
     graph: &Graph,
     topology: &Topology,
     built: &[Install],
     trace: &[u8],
-) -> Result<usize, Finding>
+) -> Result<Trace, Finding>
     requires over { topology.now ≡ topology_of_graph graph.now }
     requires installs { AreInstalls topology.now built.now }
-    ensures { MatchResult result (IsClean graph.now built.now trace.now) (IsFound graph.now built.now trace.now) }
+    ensures answer { MatchResult result (IsCleanTrace graph.now built.now trace.now)
+        (IsFound graph.now built.now trace.now) }
+    ensures rows { IfOk result (λ read. AreRowsOver (node_count topology.now) read) }
 {
     let read = match read_trace(alloc, trace, graph) {
         Ok(read) => read,
         Err(finding) => return Err(finding),
     };
     match check_trace_by(crew, alloc, topology, built, &read) {
-        Ok(()) => Ok(read.rows()),
+        Ok(()) => Ok(read),
         Err(finding) => Err(finding),
+    }
+}
+
+/// The first finding of a trace beside its script, where the words ask for it.
+fn beside_script(
+    alloc: Global,
+    words: &Words,
+    topology: &Topology,
+    steps: &[Step],
+    read: &Trace,
+) -> Result<(), WholeFinding>
+    requires rows { AreRowsOver (node_count topology.now) read.now }
+    requires ids { HaveOwnIds read.now }
+    ensures whole { IfOk result (λ _. words.now.whole ≡ true → AreWhole (run_with words.now topology.now steps.now)
+        read.now) }
+    ensures finding { IfErr result (λ e. (words.now.whole ≡ true) × FindsWhole
+        (run_with words.now topology.now steps.now) read.now e.line e.kind) }
+{
+    if !words.whole {
+        return Ok(());
+    }
+    check_whole(alloc, topology, steps, words.capacity, words.packets, read)
+}
+
+/// The answer to a trace without a finding of its own.
+fn answer_clean(
+    alloc: Global,
+    words: &Words,
+    asked: &Asked<Step>,
+    read: &Trace,
+) -> Result<Reply, Stop>
+    requires rows { AreRowsOver (node_count asked.now.topology) read.now }
+    requires ids { HaveOwnIds read.now }
+    ensures { Gives (AnswersRows words.now.whole (run_with words.now asked.now.topology asked.now.script.steps.items)
+        read.now) result }
+{
+    match beside_script(alloc, words, &asked.topology, asked.script.steps(), read) {
+        Ok(()) => Ok(Reply::Ran(ok_line(alloc, read.rows())?, String::new(alloc))),
+        Err(finding) => match finding.kind {
+            WholeKind::NoMemory => Err(Stop::NoMemory),
+            _ => Ok(Reply::Found(whole_line(alloc, finding)?)),
+        },
     }
 }
 
@@ -41,16 +88,18 @@ fn rows_of(
 fn answer_trace(
     crew: &impl Crew,
     alloc: Global,
+    words: &Words,
     asked: &Asked<Step>,
     built: &[Install],
     trace: &[u8],
 ) -> Result<Reply, Stop>
     requires over { asked.now.topology ≡ topology_of_graph asked.now.graph }
     requires installs { AreInstalls asked.now.topology built.now }
-    ensures { Gives (AnswersTrace asked.now.graph trace.now built.now) result }
+    ensures { Gives (AnswersTraceAsked words.now.whole asked.now.graph trace.now built.now
+        (run_with words.now asked.now.topology asked.now.script.steps.items)) result }
 {
-    match rows_of(crew, alloc, &asked.graph, &asked.topology, built, trace) {
-        Ok(rows) => Ok(Reply::Ran(ok_line(alloc, rows)?, String::new(alloc))),
+    match trace_of(crew, alloc, &asked.graph, &asked.topology, built, trace) {
+        Ok(read) => answer_clean(alloc, words, asked, &read),
         Err(finding) => match finding.kind {
             FindingKind::NoMemory => Err(Stop::NoMemory),
             _ => Ok(Reply::Found(finding_line(alloc, finding)?)),
@@ -59,7 +108,8 @@ fn answer_trace(
 }
 
 /// The answer of `check` to the texts of a topology, of a script and of a trace: `ok N` for a sound trace of N rows, or the
-/// first finding. Plans are made by a crew.
+/// first finding; where the words ask for it, the rows are judged beside the script too, behind that. Plans are made by a
+/// crew.
 pub fn check(
     crew: &impl Crew,
     alloc: Global,
@@ -74,7 +124,7 @@ pub fn check(
     let asked = read_asked::<Step>(alloc, words, topology, script)?;
     let opening = opening_of(alloc, words, &asked.topology, asked.root)?;
     match installs_by(crew, alloc, &opening, asked.script.steps()) {
-        Ok(built) => answer_trace(crew, alloc, &asked, built.as_slice(), trace),
+        Ok(built) => answer_trace(crew, alloc, words, &asked, built.as_slice(), trace),
         Err(error) => Err(opening_stop(alloc, error)),
     }
 }

@@ -7,6 +7,8 @@
 
 mod asking;
 mod checking;
+mod comparing;
+mod laws;
 mod look;
 mod play;
 mod running;
@@ -14,5 +16,6 @@ mod running;
 pub use asking::{Asked, Stop, opening_stop, read_asked, two_texts};
 pub use ir_cli::{Format, Numbering, Source, Sub, Words, WordsError, read_words};
 pub use ir_plan::{Alone, Crew, Several};
+pub use laws::{check_has_one_answer, installs_have_the_same_plans};
 pub use play::run_text;
 pub use running::{run_by, run_check, run_plan, run_sim, sources_by, sources_of, write_given};

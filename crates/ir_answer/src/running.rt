@@ -7,6 +7,7 @@ ghost use Rattle.ir_cli.specs.Words.{FitsItsKind};
 
 use crate::asking::{Stop, three_texts, two_texts};
 use crate::checking::check;
+use crate::comparing::{compare, compare_sources};
 use crate::look::{Look, look_at};
 use crate::play::simulate;
 use ir_cli::{
@@ -43,6 +44,7 @@ pub fn sources_by(sub: Sub, words: &Words) -> &'static [Source]
         Sub::Plan | Sub::Walk | Sub::Stats | Sub::Draw | Sub::Prefixes | Sub::Ranges => {
             look_sources(words)
         }
+        Sub::Compare => compare_sources(words),
         Sub::Sim | Sub::Live | Sub::Check if is_one => &[Source::Input],
         Sub::Sim | Sub::Live => &[Source::Topology, Source::Script],
         Sub::Check => &[Source::Topology, Source::Script, Source::Trace],
@@ -72,6 +74,7 @@ fn answer_by<C: LineCrew>(
         Sub::Plan => look_at(crew, alloc, Look::Plan, words, texts),
         Sub::Walk => look_at(crew, alloc, Look::Walk, words, texts),
         Sub::Stats => look_at(crew, alloc, Look::Stats, words, texts),
+        Sub::Compare => compare(crew, alloc, words, texts),
         Sub::Draw => look_at(crew, alloc, Look::Draw, words, texts),
         Sub::Prefixes => look_at(crew, alloc, Look::Prefixes, words, texts),
         Sub::Ranges => look_at(crew, alloc, Look::Ranges, words, texts),
@@ -231,7 +234,7 @@ pub fn run_check<R: Reader, W: Writer, F: Writer>(
 ///
 /// The subcommands of a plan read a topology, and an order where the words have one, and write its plan with a line for
 /// each node or the order of the labels, a walk of it, its figures, a drawing of it, or the fewest prefixes or ranges by
-/// which each node sends on. `sim`
+/// which each node sends on; `compare` writes the figures of plans of each kind and order of labels. `sim`
 /// and `check` are `run_sim` and `run_check`, and `plan` is `run_plan`: the text is the same for any crew. `live` wants
 /// threads of nodes, so its inputs are read, and it is told as `no thread`.
 ///

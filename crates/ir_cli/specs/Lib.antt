@@ -1,5 +1,7 @@
 -- what contracts promise
 pub mod Words
+pub mod CommandLine
+pub mod Meaning
 pub mod Cut
 pub mod Lines
 pub mod Answer
@@ -9,3 +11,6 @@ pub mod Replied
 pub mod Ending
 pub mod Reading
 pub mod Told
+-- what bodies use
+pub mod Typed
+pub mod Taking

@@ -10,6 +10,9 @@ use Rattle.ir_trace.specs.Codes as findings
 use Rattle.ir_trace.specs.declared.finding.Finding.{Finding}
 use Rattle.ir_trace.specs.declared.finding.FindingKind.{FindingKind}
 use Rattle.ir_trace.specs.Rows.{spaced}
+use Rattle.ir_whole.specs.Codes.{whole_code}
+use Rattle.ir_whole.specs.declared.finding.WholeFinding.{WholeFinding}
+use Rattle.ir_whole.specs.declared.finding.WholeKind.{WholeKind}
 use Rattle.ir_order.specs.Order.{order_fault_code}
 use Rattle.ir_order.specs.declared.fault.OrderFaultKind.{OrderFaultKind}
 use Rattle.ir_script.specs.Script as scripts
@@ -84,6 +87,19 @@ finding_name kind = word_of finding_words (findings.finding_code kind)
 -- `finding LINE KIND`
 abbrev pub finding_line : Finding → List ℕ
 finding_line f = numbered_line (codes "finding") f.line (finding_name f.kind)
+
+-- those of the findings beside a script
+abbrev pub whole_words : List (List ℕ)
+whole_words =
+    codes "NeverInjected" ∷ codes "NotYetInstalled" ∷ codes "NeverDown" ∷ codes "NeverRetired" ∷ codes "NeverFull"
+    ∷ codes "NoMemory" ∷ []
+
+abbrev pub whole_name : WholeKind → List ℕ
+whole_name kind = word_of whole_words (whole_code kind)
+
+-- the same of a finding beside a script
+abbrev pub whole_line : WholeFinding → List ℕ
+whole_line f = numbered_line (codes "finding") f.line (whole_name f.kind)
 
 -- `ok N`
 abbrev pub ok_line : ℕ → List ℕ

@@ -1,7 +1,11 @@
 -- What the words of the command line say of their files, and the numbers of their refusals.
-use Rattle.std.specs.Prelude.{◌≡◌, ◌≢◌, ℕ, Bool, true, false, List, [], ◌∷◌, ◌||◌, ◌-◌, if◌then◌else◌, bytes_eq, codes, string_bytes, map, length, drop}
+use Rattle.std.specs.Prelude.{◌≡◌, ◌≢◌, ℕ, ◌==◌, Bool, true, false, not, is_some, List, [], ◌∷◌, ◌&&◌, ◌||◌, ◌-◌, if◌then◌else◌, bytes_eq, codes, string_bytes, map, length, drop}
 use Rattle.ir_model.specs.Graph.{Name}
+use Rattle.std.specs.List.{list_all}
+use Rattle.ir_model.specs.declared.Kind.{Kind}
 use Rattle.ir_model.specs.declared.Kind.TheVariants.{Tree}
+use Rattle.ir_cli.specs.declared.words.Sub.{Sub}
+use Rattle.ir_cli.specs.declared.words.Sub.TheVariants.{Sim, Live, Check}
 use Rattle.ir_cli.specs.declared.words.Numbering.{Numbering}
 use Rattle.ir_cli.specs.declared.words.Numbering.TheVariants.{DepthFirst, Tour, File}
 use Rattle.ir_cli.specs.declared.words.Words.{Words}
@@ -23,6 +27,33 @@ is_one_input words = is_dash (map string_bytes words.files.items)
 -- a name ends in these letters
 abbrev pub ends_in : Name → Name → Bool
 ends_in name ending = bytes_eq ending (drop (length name - length ending) name)
+
+-- how many texts a subcommand reads
+abbrev pub texts_wanted : Sub → ℕ
+texts_wanted Sim = 2
+texts_wanted Live = 2
+texts_wanted Check = 3
+texts_wanted _ = 1
+
+-- a file's name is no dash
+abbrev pub is_no_dash : Name → Bool
+is_no_dash file = not (bytes_eq file (codes "-"))
+
+-- the files are `-` alone, or one for each text, of which none is `-`
+abbrev pub has_its_files : Words → Bool
+has_its_files words = is_one_input words
+    || ((length words.files.items == texts_wanted words.sub) && list_all (λ file. is_no_dash (string_bytes file)) words.files.items)
+
+-- a tour is of no tree, and a file of an order is no dash and stands beside no root
+abbrev pub takes_numbering : Numbering → Kind → Bool → Bool
+takes_numbering DepthFirst kind has_root = true
+takes_numbering Tour Tree has_root = false
+takes_numbering Tour kind has_root = true
+takes_numbering (File name) kind has_root = is_no_dash (string_bytes name) && not has_root
+
+-- the words have the files and the numbering that their subcommand takes
+abbrev pub AreTaken : Words → Type 0
+AreTaken words = (has_its_files words ≡ true) × (takes_numbering words.numbering words.kind (is_some words.root) ≡ true)
 
 -- the format of a file, by its name
 abbrev pub format_of_name : Name → Format

@@ -9,13 +9,14 @@ mod open;
 mod parting;
 mod read;
 mod reply;
+mod typed;
 mod words;
 mod write;
 
 pub use ending::{Ending, status_of};
 pub use lines::{
     finding_line, numbering_line, ok_line, opening_line, push_reply_line, script_line,
-    too_large_line, topology_line, unreadable_line,
+    too_large_line, topology_line, unreadable_line, whole_line,
 };
 pub use open::{label_order, no_root, opening_of, read_topology, root_of};
 pub use parting::cut;

@@ -1,6 +1,6 @@
 //! The lines that tell of a refusal, and of an input that was not read.
 ghost use Rattle.std.specs.Prelude.{◌≡◌, ◌∷◌, ◌++◌, [], IfOk, OnOk, codes, string_bytes};
-ghost use Rattle.ir_cli.specs.Lines.{finding_line, ok_line, topology_line, script_line, numbering_line, opening_line, unreadable_line, too_large_line, numbered_line, reply_line};
+ghost use Rattle.ir_cli.specs.Lines.{finding_line, whole_line, ok_line, topology_line, script_line, numbering_line, opening_line, unreadable_line, too_large_line, numbered_line, reply_line};
 
 use crate::read::Source;
 use ir_core::{OpenError, Refused, Reply};
@@ -9,6 +9,7 @@ use ir_order::OrderFaultKind;
 use ir_script::ScriptFault;
 use ir_trace::Finding;
 use ir_trace::text::{push_next_number, push_word};
+use ir_whole::WholeFinding;
 use std::alloc::{AllocError, Global};
 
 /// The words of the faults of a topology, in the order of their numbers, which are counted from 1.
@@ -86,6 +87,16 @@ static FINDINGS: [&str; 9] = [
     "NoMemory",
 ];
 
+/// Those of the findings beside a script.
+static BESIDE_SCRIPT: [&str; 6] = [
+    "NeverInjected",
+    "NotYetInstalled",
+    "NeverDown",
+    "NeverRetired",
+    "NeverFull",
+    "NoMemory",
+];
+
 /// Writes a line that says what is wrong where: a word, the number of a line, and a name.
 fn push_line(text: &mut String, what: &str, line: usize, name: &str) -> Result<(), AllocError>
     ensures { OnOk result (string_bytes text.new ≡ string_bytes text.old ++ numbered_line what.now line name.now) }
@@ -133,6 +144,20 @@ pub fn finding_line(alloc: Global, finding: Finding) -> Result<String, AllocErro
         "finding",
         finding.line,
         FINDINGS[finding.kind as usize - 1],
+    )?;
+    Ok(text)
+}
+
+/// The line of a finding beside a script.
+pub fn whole_line(alloc: Global, finding: WholeFinding) -> Result<String, AllocError>
+    ensures { IfOk result (λ text. string_bytes text ≡ whole_line finding) }
+{
+    let mut text = String::new(alloc);
+    push_line(
+        &mut text,
+        "finding",
+        finding.line,
+        BESIDE_SCRIPT[finding.kind as usize - 1],
     )?;
     Ok(text)
 }

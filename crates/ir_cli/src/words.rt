@@ -1,9 +1,14 @@
 //! The words of the command line.
 
-ghost use Rattle.std.specs.Prelude.{◌≡◌, true, None, IfOk};
-ghost use Rattle.ir_cli.specs.Words.{format_of_name, FitsItsKind, is_one_input, has_order, words_code};
+ghost use Rattle.std.specs.Prelude.{◌≡◌, ◌∷◌, true, is_some, None, IfOk, codes, map, string_bytes};
+ghost use Rattle.std.specs.List.{list_all};
+ghost use Rattle.clap.specs.Words.{found_of, rows_of, subcommand_rows_of};
+ghost use Rattle.clap.specs.Walk.{texts};
+ghost use Rattle.ir_cli.specs.Words.{AreTaken, FitsItsKind, format_of_name, has_its_files, is_no_dash, takes_numbering, texts_wanted, is_one_input, has_order, words_code};
+ghost use Rattle.ir_cli.specs.Meaning.{Asks, HasItsSecond, Means, MeansMet};
 
 use crate::command::{route_command, usage_of};
+use crate::typed::{choose, files_of, is_set, numbering_of, second_of, typed, word_of};
 use clap::ArgMatches;
 use clap::error::ErrorKind;
 use ir_model::Kind;
@@ -16,6 +21,7 @@ pub enum Sub {
     Plan,
     Walk,
     Stats,
+    Compare,
     Draw,
     Prefixes,
     Ranges,
@@ -51,9 +57,9 @@ pub struct Second {
 }
 
 /// What the words ask for. The files are the one word `-`, which stands for standard input with all texts, or else one
-/// for each text: the topology for `plan`, `walk`, `stats`, `draw`, `prefixes` and `ranges`, the topology and the script
-/// for `sim` and `live`, and the trace too for `check`. No other number of files is read, and `-` beside another file is
-/// refused.
+/// for each text: the topology for `plan`, `walk`, `stats`, `compare`, `draw`, `prefixes` and `ranges`, the topology and
+/// the script for `sim` and `live`, and the trace too for `check`. No other number of files is read, and `-` beside another
+/// file is refused.
 #[derive(Drop)]
 pub struct Words {
     pub sub: Sub,
@@ -82,6 +88,8 @@ pub struct Words {
     pub disjoint: bool,
     /// Whether the order of the labels is to stand in place of the rows, for `plan`.
     pub order_alone: bool,
+    /// Whether rows are also judged beside the script and each other, for `check`.
+    pub whole: bool,
     /// Whether sentences for people are to stand behind the lines of faults.
     pub explain: bool,
     pub files: Vec<String>,
@@ -170,21 +178,9 @@ fn refused(alloc: Global, error: &clap::Error) -> WordsError {
     }
 }
 
-/// The word of an option, if there is one.
-fn word_of(
-    alloc: Global,
-    found: &ArgMatches<'_>,
-    name: &str,
-) -> Result<Option<String>, AllocError> {
-    match found.get_str(name) {
-        Some(word) => Ok(Some(String::from_str(alloc, word)?)),
-        None => Ok(None),
-    }
-}
-
 /// The format of a file by its name: that of edge lists where it ends in `.edgelist`, as `.weighted.edgelist` does, or in
 /// `.wel`, else that of adjacency lists.
-fn format_of_file(name: &str) -> Format
+pub(crate) fn format_of_file(name: &str) -> Format
     ensures { result ≡ format_of_name name.now }
 {
     let bytes = name.as_bytes();
@@ -195,101 +191,71 @@ fn format_of_file(name: &str) -> Format
     }
 }
 
-/// The format that the words name, else that of the topology's file.
-fn format_of(found: &ArgMatches<'_>) -> Format {
-    match found.get_str("format") {
-        Some("edgelist") => Format::EdgeList,
-        Some(_) => Format::AdjList,
-        None => format_of_file(found.get_str("topology").unwrap_or("-")),
-    }
-}
-
-/// The numbering that is asked for.
-fn numbering_of(alloc: Global, found: &ArgMatches<'_>) -> Result<Numbering, AllocError> {
-    match found.get_str("numbering") {
-        None | Some("depth-first") => Ok(Numbering::DepthFirst),
-        Some("tour") => Ok(Numbering::Tour),
-        Some(file) => Ok(Numbering::File(String::from_str(alloc, file)?)),
-    }
-}
-
-/// The kind of a word, if it is that of one.
-fn kind_of(word: &str) -> Option<Kind> {
-    match word {
-        "tree" => Some(Kind::Tree),
-        "shortest" => Some(Kind::Shortest),
-        "compact" => Some(Kind::Compact),
-        _ => None,
-    }
-}
-
-/// The word for a second plan as its kind and the name of its root, if that stands behind a comma.
-fn parts_of_second(word: &str) -> (&str, Option<&str>) {
-    match word.split_once(',') {
-        Some((kind, root)) => (kind, Some(root)),
-        None => (word, None),
-    }
-}
-
-/// The second plan that is asked for, if there is one of this kind. Its root is by default that of the first plan.
-fn second_of(
-    alloc: Global,
-    found: &ArgMatches<'_>,
-    first: &Option<String>,
-) -> Result<Option<Second>, AllocError> {
-    let (word, named) = parts_of_second(found.get_str("with").unwrap_or(""));
-    let Some(kind) = kind_of(word) else {
-        return Ok(None);
+/// The words of a subcommand of this name. No words that the parser takes have a name or a number that is not taken here.
+fn words_of(alloc: Global, name: &str, found: &ArgMatches<'_>) -> Result<Words, WordsError>
+    ensures { IfOk result (λ words. Means name.now (rows_of (found_of found.now)) words) }
+{
+    let Some(all) = choose(name, found) else {
+        return Err(WordsError::Usage(String::from_str(alloc, UNREAD)?));
     };
-    let root = match (named, first) {
-        (Some(name), _) => Some(String::from_str(alloc, name)?),
-        (None, Some(name)) => Some(String::from_str(alloc, name.as_str())?),
-        (None, None) => None,
-    };
-    Ok(Some(Second { kind, root }))
-}
-
-/// The words of a subcommand.
-fn words_of(alloc: Global, sub: Sub, found: &ArgMatches<'_>) -> Result<Words, AllocError> {
-    let restamps = found.get_one::<usize>("restamps").unwrap_or(0);
-    let root = word_of(alloc, found, "root")?;
-    let from = word_of(alloc, found, "from")?;
-    let to = word_of(alloc, found, "to")?;
-    let mut files = Vec::new(alloc);
-    for name in ["topology", "script", "trace"] {
-        if let Some(file) = word_of(alloc, found, name)? {
-            files.push(file)?;
-        }
-    }
     Ok(Words {
-        sub,
-        format: format_of(found),
-        kind: kind_of(found.get_str("kind").unwrap_or("shortest")).unwrap_or(Kind::Shortest),
-        second: second_of(alloc, found, &root)?,
-        root,
+        sub: all.sub,
+        format: all.format,
+        kind: all.kind,
+        second: second_of(alloc, found)?,
+        root: word_of(alloc, found, "root")?,
         numbering: numbering_of(alloc, found)?,
-        capacity: found.get_one::<usize>("capacity").unwrap_or(16),
-        packets: found.get_one::<usize>("packets").unwrap_or(4096),
-        restamps: u8::try_from(restamps).unwrap_or(0),
-        threads: found.get_one::<usize>("threads"),
-        from,
-        to,
-        disjoint: found.get_flag("disjoint"),
-        order_alone: found.get_flag("order"),
-        explain: found.get_flag("explain") && !found.get_flag("no-explain"),
-        files,
+        capacity: all.capacity,
+        packets: all.packets,
+        restamps: all.restamps,
+        threads: all.threads,
+        from: word_of(alloc, found, "from")?,
+        to: word_of(alloc, found, "to")?,
+        disjoint: is_set(found, "disjoint"),
+        order_alone: is_set(found, "order"),
+        whole: is_set(found, "whole"),
+        explain: is_set(found, "explain") && !is_set(found, "no-explain"),
+        files: files_of(alloc, found)?,
     })
 }
 
-/// Whether the files are `-` alone, or one for each text with no `-` among them.
-fn has_its_files(words: &Words) -> bool {
-    let texts = match words.sub {
-        Sub::Plan | Sub::Walk | Sub::Stats | Sub::Draw | Sub::Prefixes | Sub::Ranges => 1,
+/// How many texts a subcommand reads.
+fn texts_wanted(sub: Sub) -> usize
+    ensures { result ≡ texts_wanted sub }
+{
+    match sub {
+        Sub::Plan
+        | Sub::Walk
+        | Sub::Stats
+        | Sub::Compare
+        | Sub::Draw
+        | Sub::Prefixes
+        | Sub::Ranges => 1,
         Sub::Sim | Sub::Live => 2,
         Sub::Check => 3,
-    };
+    }
+}
+
+/// Whether the name of a file is none for standard input.
+fn is_no_dash(file: &str) -> bool
+    ensures { result ≡ is_no_dash file.now }
+{
+    file != "-"
+}
+
+/// Whether none of the files is standard input.
+fn are_named(files: &[String]) -> bool
+    ensures { result ≡ list_all (λ file. is_no_dash (string_bytes file)) files.now }
+{
+    files.iter().all(|file| is_no_dash(file.as_str()))
+}
+
+/// Whether the files are `-` alone, or one for each text with no `-` among them.
+fn has_its_files(words: &Words) -> bool
+    ensures { result ≡ has_its_files words.now }
+{
     words.is_one_input()
-        || (words.files.len() == texts && words.files.iter().all(|file| file.as_str() != "-"))
+        || (words.files.len() == texts_wanted(words.sub) && are_named(&words.files))
 }
 
 /// Whether the numbering may be that of a plan of this kind.
@@ -299,11 +265,16 @@ fn fits_its_kind(words: &Words) -> bool
     !words.has_order() || words.kind != Kind::Tree
 }
 
+/// What stands for words that the parser took and that are not read, of which there are none.
+static UNREAD: &str = "error: the words are not read\n";
+
 /// That a tree takes another numbering than depth first.
 static TREE_NUMBERING: &str = "'--kind tree' takes '--numbering depth-first' alone";
 
 /// What is wrong with the numbering of the words, if anything is.
-fn numbering_fault(words: &Words) -> Option<&'static str> {
+fn numbering_fault(words: &Words) -> Option<&'static str>
+    ensures { result ≡ None → takes_numbering words.now.numbering words.now.kind (is_some words.now.root) ≡ true }
+{
     match &words.numbering {
         Numbering::Tour if words.kind == Kind::Tree => Some(TREE_NUMBERING),
         Numbering::File(name) if name.as_str() == "-" => {
@@ -315,21 +286,6 @@ fn numbering_fault(words: &Words) -> Option<&'static str> {
             )
         }
         Numbering::DepthFirst | Numbering::Tour | Numbering::File(_) => None,
-    }
-}
-
-/// The subcommand of a name.
-fn sub_of(name: &str) -> Sub {
-    match name {
-        "sim" => Sub::Sim,
-        "live" => Sub::Live,
-        "check" => Sub::Check,
-        "walk" => Sub::Walk,
-        "stats" => Sub::Stats,
-        "draw" => Sub::Draw,
-        "prefixes" => Sub::Prefixes,
-        "ranges" => Sub::Ranges,
-        _ => Sub::Plan,
     }
 }
 
@@ -345,7 +301,8 @@ fn files_wanted(sub: Sub) -> &'static str {
 
 /// What is wrong with words, if anything is.
 fn fault_of(words: &Words) -> Option<&'static str>
-    ensures { result ≡ None → FitsItsKind words.now }
+    ensures kind { result ≡ None → FitsItsKind words.now }
+    ensures taken { result ≡ None → AreTaken words.now }
 {
     if !has_its_files(words) {
         return Some(files_wanted(words.sub));
@@ -371,8 +328,10 @@ fn fault_text(alloc: Global, words: &Words, name: &str, fault: &str) -> Result<S
 }
 
 /// What is wrong with the word for a second plan, if anything is.
-fn second_fault(found: &ArgMatches<'_>, words: &Words) -> Option<&'static str> {
-    if found.get_str("with").is_some() && words.second.is_none() {
+fn second_fault(found: &ArgMatches<'_>, words: &Words) -> Option<&'static str>
+    ensures { result ≡ None → HasItsSecond (rows_of (found_of found.now)) words.now }
+{
+    if typed(found, "with").is_some() && words.second.is_none() {
         Some("'--with' takes 'tree', 'shortest' or 'compact', and behind a comma a root")
     } else {
         None
@@ -381,9 +340,12 @@ fn second_fault(found: &ArgMatches<'_>, words: &Words) -> Option<&'static str> {
 
 /// The words of a subcommand's name and its matches, if nothing is wrong with them.
 fn words_found(alloc: Global, name: &str, found: &ArgMatches<'_>) -> Result<Words, WordsError>
-    ensures { IfOk result (λ words. FitsItsKind words) }
+    ensures kind { IfOk result (λ words. FitsItsKind words) }
+    ensures taken { IfOk result (λ words. AreTaken words) }
+    ensures means { IfOk result (λ words. Means name.now (rows_of (found_of found.now)) words) }
+    ensures second { IfOk result (λ words. HasItsSecond (rows_of (found_of found.now)) words) }
 {
-    let words = words_of(alloc, sub_of(name), found)?;
+    let words = words_of(alloc, name, found)?;
     if let Some(fault) = second_fault(found, &words) {
         return Err(WordsError::Usage(fault_text(alloc, &words, name, fault)?));
     }
@@ -393,8 +355,22 @@ fn words_found(alloc: Global, name: &str, found: &ArgMatches<'_>) -> Result<Word
     }
 }
 
+/// The words of the subcommand that was met, if nothing is wrong with them.
+fn words_met(alloc: Global, found: &ArgMatches<'_>) -> Result<Words, WordsError>
+    ensures kind { IfOk result (λ words. FitsItsKind words) }
+    ensures taken { IfOk result (λ words. AreTaken words) }
+    ensures means { IfOk result (λ words. MeansMet (subcommand_rows_of found.now) words) }
+{
+    match found.subcommand() {
+        Some((name, inner)) => words_found(alloc, name, inner),
+        None => Err(WordsError::Usage(String::from_str(alloc, UNREAD)?)),
+    }
+}
+
 /// The program's name and the words behind it.
-fn all_words<'a>(alloc: Global, words: &'a [String]) -> Result<Vec<&'a str>, AllocError> {
+fn all_words<'a>(alloc: Global, words: &'a [String]) -> Result<Vec<&'a str>, AllocError>
+    ensures { IfOk result (λ all. texts all.items ≡ codes "route" ∷ map string_bytes words.now) }
+{
     let mut all: Vec<&str> = Vec::with_capacity(alloc, words.len() + 1)?;
     all.push("route")?;
     for word in words {
@@ -408,14 +384,13 @@ fn all_words<'a>(alloc: Global, words: &'a [String]) -> Result<Vec<&'a str>, All
 /// beside another file; a numbering other than depth first of a tree; a file's numbering beside a root, on standard
 /// input, or of a run; and a second plan of no kind.
 pub fn read_words(alloc: Global, words: &[String]) -> Result<Words, WordsError>
-    ensures { IfOk result (λ words. FitsItsKind words) }
+    ensures kind { IfOk result (λ words. FitsItsKind words) }
+    ensures taken { IfOk result (λ words. AreTaken words) }
+    ensures means { IfOk result (λ found. Asks (map string_bytes words.now) found) }
 {
     let all = all_words(alloc, words)?;
     match route_command(alloc)?.try_get_matches_from(all.as_slice()) {
-        Ok(found) => match found.subcommand() {
-            Some((name, inner)) => words_found(alloc, name, inner),
-            None => Err(WordsError::NoMemory),
-        },
+        Ok(found) => words_met(alloc, &found),
         Err(error) => Err(refused(alloc, &error)),
     }
 }

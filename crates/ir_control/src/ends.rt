@@ -19,13 +19,13 @@ fn append<T: Drop>(into: &mut Vec<T>, mut from: Vec<T>)
 }
 
 // Each in a slot of its own, at the end of a row that has room.
-pub(crate) fn append_slots<T: Drop>(into: &mut Vec<Option<T>>, mut from: Vec<T>)
+pub(crate) fn append_slots<T: Drop>(into: &mut Vec<Option<T>>, from: Vec<T>)
     requires { vec_len into.old + vec_len from ≤ vec_capacity into.old }
     ensures items { into.new.items ≡ into.old.items ++ map (λ x. Some x) from.items }
     ensures room { vec_capacity into.old ≤ vec_capacity into.new }
 {
-    while !from.is_empty() {
-        into.push_reserved(Some(from.remove(0)));
+    for item in from {
+        into.push_reserved(Some(item));
     }
 }
 

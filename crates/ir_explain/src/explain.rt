@@ -1,29 +1,19 @@
 //! The explanation of a run.
 
 use crate::MOST_EXPLAINED;
-use crate::finding::explain_finding;
+use crate::finding::{explain_finding, explain_ok};
+use crate::graph::graph_of;
 use crate::notes::push_note;
 use crate::numbering::explain_numbering;
 use crate::opening::explain_opening;
 use crate::refusal::explain_refusal;
 use crate::script::explain_script;
 use crate::topology::explain_topology;
-use ir_cli::{Sub, Words, read_topology};
+use ir_cli::{Sub, Words};
 use ir_given::{Given, Part, Parts, Run, Told, Trouble, begin, lines_of, parts_of, told_of};
-use ir_graph::Graph;
-use ir_model::Fault;
 use ir_plan::{Alone, Crew};
 use ir_streams::MAX_INPUT_BYTES;
 use std::alloc::{AllocError, Global};
-
-/// The graph of a topology; one with no node where the text has a fault.
-fn graph_of(alloc: Global, words: &Words, topology: &Part<'_>) -> Result<Graph, AllocError> {
-    match read_topology(alloc, words.format, topology.bytes) {
-        Ok(graph) => Ok(graph),
-        Err(error) if error.kind == Fault::NoMemory => Err(AllocError),
-        Err(_) => Ok(Graph::new(alloc)),
-    }
-}
 
 /// The text of which a line of faults speaks.
 fn part_of<'a>(parts: &Parts<'a>, what: &str) -> Part<'a> {
@@ -69,6 +59,7 @@ fn explain_line(
         "opening" => explain_opening(text, run, told.kind),
         "finding" => explain_finding(crew, text, run, told),
         "refused" => explain_refusal(text, run, told),
+        "ok" => explain_ok(text, run),
         "output" => text.push_str("route: standard output: it could not be written\n"),
         "no" => text.push_str("route: no further thread was started\n"),
         "out" => text.push_str("route: memory was refused\n"),
@@ -95,7 +86,7 @@ fn explain_lines(
     Ok(())
 }
 
-/// The explanation of a run: a line `route: ..` for each line of faults that it wrote and for a finding on its output,
+/// The explanation of a run: a line `route: ..` for each line of faults that it wrote and for what a check found,
 /// and one for a topology that looks like another format. `given` is what was given of the inputs, in their order.
 /// Refused for want of memory alone. Where there is something to explain, it reads the topology once more. For users of
 /// the library.
@@ -132,6 +123,6 @@ pub fn explanation_by(
         explain_lines(crew, &mut text, &run, faults)?;
         explain_lines(crew, &mut text, &run, found)?;
     }
-    push_note(alloc, &mut text, words.format, &parts.topology)?;
+    push_note(alloc, &mut text, words, &parts.topology)?;
     Ok(text)
 }

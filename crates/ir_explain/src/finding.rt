@@ -2,7 +2,8 @@
 
 use crate::script::{push_no_node, unknown_word};
 use ir_given::{
-    Part, Quoted, Run, Told, begin_at, line_at, line_with, push_departure_by, word_at, words_of,
+    FileName, Part, Quoted, Run, Told, begin, begin_at, line_at, line_with, push_departure_by,
+    word_at, words_of,
 };
 use ir_plan::Crew;
 use std::alloc::AllocError;
@@ -65,6 +66,42 @@ fn push_repeated(text: &mut String, run: &Run<'_>, id: &[u8]) -> Result<(), Allo
     write!(text, "the id {} stands on line {line} already", Quoted(id))
 }
 
+/// Says why no run of the script can have had a row, and answers whether that was found of it.
+fn push_beside(text: &mut String, run: &Run<'_>, kind: &str) -> Result<bool, AllocError> {
+    let script = FileName(run.parts.script.file);
+    match kind {
+        "NeverInjected" => write!(
+            text,
+            "no inject in {script} can be its packet's, beside those of the rows before it"
+        )?,
+        "NotYetInstalled" => write!(
+            text,
+            "its first epoch is beyond those that installs in {script} above its inject can have made"
+        )?,
+        "NeverDown" => write!(text, "no line of {script} takes that link down")?,
+        "NeverRetired" => write!(text, "no line of {script} retires its epoch")?,
+        "NeverFull" => {
+            let capacity = run.words.capacity;
+            write!(
+                text,
+                "fewer packets than --capacity ({capacity}) can have been in that channel"
+            )?
+        }
+        _ => return Ok(false),
+    }
+    Ok(true)
+}
+
+/// Says what was not looked at where there is no finding.
+pub fn explain_ok(text: &mut String, run: &Run<'_>) -> Result<(), AllocError> {
+    begin(text, run.parts.trace.file)?;
+    text.push_str(if run.words.whole {
+        "injects, epochs and causes of drops are there, as far as script and rows tell; missing rows were not looked at\n"
+    } else {
+        "hops and weights are those of the plans; injects, causes of drops and missing rows were not looked at (--whole looks at the first two)\n"
+    })
+}
+
 /// Says what a finding on a line of these words means.
 fn push_reason(
     crew: &impl Crew,
@@ -74,6 +111,9 @@ fn push_reason(
     told: Told<'_>,
 ) -> Result<(), AllocError> {
     let trace = &run.parts.trace;
+    if push_beside(text, run, told.kind)? {
+        return Ok(());
+    }
     match told.kind {
         "NotTrace" => text.push_str("a trace begins with the line 'trace 1' or 'trace 2'"),
         "BadRow" => text.push_str("this is no row of a trace, or it lacks its line feed"),

@@ -8,12 +8,14 @@
 mod bytes;
 mod explain;
 mod finding;
+mod graph;
 mod nearest;
 mod notes;
 mod numbering;
 mod opening;
 mod refusal;
 mod script;
+mod seen;
 mod topology;
 
 pub use explain::{explanation, explanation_by};

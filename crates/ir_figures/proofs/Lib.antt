@@ -2,8 +2,11 @@ pub mod Also
 pub mod Counted
 pub mod Links
 pub mod Offsets
+pub mod OneComparison
+pub mod OneRow
 pub mod Onward
 pub mod Results
 pub mod Rings
+pub mod Rows
 pub mod Turns
 pub mod Widths

@@ -3,5 +3,7 @@ pub mod RowBits
 pub mod Compactness
 pub mod FiguresText
 pub mod Waits
+pub mod Compared
 -- what bodies use
 pub mod Exits
+pub mod Columns

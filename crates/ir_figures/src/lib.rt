@@ -1,9 +1,10 @@
 //! The figures of a plan that its field knows it by: the most intervals at one port (van Leeuwen and Tan 1987), the bits
 //! of the rows, and whether links wait for each other in a ring, of one plan or of two together (Dally and Seitz 1987);
-//! and the text of all figures.
+//! the text of all figures; and a text that compares the plans of a network by their figures.
 #![tactic(auto)]
 
 mod bits;
+mod compared;
 mod exits;
 mod laws;
 mod most;
@@ -11,7 +12,8 @@ mod text;
 mod waits;
 
 pub use bits::{Bits, bits_of};
-pub use laws::{numbers_rule_out_rings, tree_plans_have_no_ring};
+pub use compared::compare_text;
+pub use laws::{comparison_is_determined, numbers_rule_out_rings, tree_plans_have_no_ring};
 pub use most::{Most, most_intervals};
 pub use text::{figures_text, figures_text_beside};
 pub use waits::{waiting_ring, waiting_ring_together};

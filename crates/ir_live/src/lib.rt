@@ -12,4 +12,4 @@ mod working;
 pub use ir_core::Command;
 pub use live::{Live, LiveError};
 pub use running::run_live;
-pub use starter::{Every, Starter};
+pub use starter::Starter;

@@ -5,7 +5,7 @@ ghost use Rattle.ir_control.specs.declared.injector.Injector.{Injector};
 
 use ir_control::Injector;
 use ir_worker::Node;
-use std::thread::SpawnError;
+use std::thread::{SpawnError, Threads};
 
 /// Says of each node whether its thread is to be started, and is shown the injector once the commands are carried out and
 /// each node that came back. It has a word for a thread that was not started, for an injector and for a node that was
@@ -37,11 +37,9 @@ pub trait Starter {
         ensures { came_back self.now node.now };
 }
 
-/// Each node's thread is to be started.
-#[derive(Clone, Copy, Debug, PartialEq, Eq)]
-pub struct Every;
-
-impl Starter for Every {
+/// A runtime is a starter that has each node's thread started. Who takes any runtime with this bound knows of its words no
+/// more than of another starter's.
+impl<R: Threads> Starter for R {
     ghost unstarted = { λ _ _. Unit {0} };
 
     ghost came_back = { λ _ _. Unit {0} };

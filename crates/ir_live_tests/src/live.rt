@@ -2,7 +2,7 @@
 use crate::by_hand::{Became, network, opened, path, tells_all};
 use ir_control::{Injector, Net};
 use ir_core::{Fate, Kind, Refused};
-use ir_live::{Command, Every, Live, LiveError, Starter, run_live};
+use ir_live::{Command, Live, LiveError, Starter, run_live};
 use ir_worker::{Gate, Node};
 use std::alloc::Global;
 use std::sync::Wait;
@@ -90,7 +90,7 @@ pub(crate) fn run<R: Threads + Wait + Sync, G: Gate>(
     gate: &G,
 ) -> Option<Live> {
     let stop = AtomicBool::new(false);
-    run_live(rt, alloc, net, commands, gate, &stop, &Every).ok()
+    run_live(rt, alloc, net, commands, gate, &stop, rt).ok()
 }
 
 fn error<R: Threads + Wait + Sync, S: Starter>(
@@ -150,8 +150,7 @@ fn are_run<R: Threads + Wait + Sync>(rt: &R, alloc: Global, net: &Net) -> bool {
 // Whether they are run so, and the net is then spent.
 fn runs_once<R: Threads + Wait + Sync>(rt: &R, alloc: Global) -> Option<bool> {
     let net = path(rt, alloc, 16, 0)?;
-    let is_spent = are_run(rt, alloc, &net)
-        && error(rt, alloc, &net, &Every) == Some(LiveError::Spent);
+    let is_spent = are_run(rt, alloc, &net) && error(rt, alloc, &net, rt) == Some(LiveError::Spent);
     Some(is_spent)
 }
 
@@ -180,7 +179,7 @@ fn not_started<R: Threads + Wait + Sync>(
 ) -> Option<(Option<LiveError>, Option<LiveError>)> {
     let net = path(rt, alloc, 16, 0)?;
     let first = error(rt, alloc, &net, &AllBut(1));
-    Some((first, error(rt, alloc, &net, &Every)))
+    Some((first, error(rt, alloc, &net, rt)))
 }
 
 #[test]

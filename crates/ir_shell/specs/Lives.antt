@@ -1,18 +1,21 @@
 -- What a graph, a root and a script come to as a live run.
-use Rattle.std.specs.Prelude.{◌≡◌, ◌≢◌, ◌+◌, ◌^◌, ◌⊎◌, ℕ, Bool, true, false, List, None, flat_map, slice_index_or}
+use Rattle.std.specs.Prelude.{◌≡◌, ◌≢◌, ◌+◌, ◌<◌, ◌^◌, ◌⊎◌, ℕ, Bool, true, false, List, None, flat_map, slice_index_or}
 use Rattle.std.specs.List.{list_any}
 use Rattle.ir_model.specs.Graph.{Adjacency, names}
 use Rattle.ir_model.specs.OfGraph.{topology_of_graph}
+use Rattle.ir_model.specs.Topology.{node_count}
 use Rattle.ir_core.specs.declared.event.Refused.{Refused as Refusal}
 use Rattle.ir_core.specs.declared.event.Refused.TheVariants as refusals
 use Rattle.ir_core.specs.declared.event.OpenError.{OpenError}
 use Rattle.ir_core.specs.declared.event.OpenError.TheVariants as openings
 use Rattle.ir_core.specs.Opened.{open_refused}
 use Rattle.ir_core.specs.declared.command.Command.{Command}
+use Rattle.ir_control.specs.declared.injector.Injector.{Injector}
 use Rattle.ir_control.specs.declared.net.Net.{Net}
 use Rattle.ir_control.specs.Nets.{IsNetFor}
 use Rattle.ir_control.specs.Opened.{IsNetRefusal}
 use Rattle.ir_links.specs.Ends.{Word}
+use Rattle.ir_worker.specs.declared.node.Node.{Node}
 use Rattle.ir_worker.specs.Seen.{Parcel}
 use Rattle.ir_live.specs.declared.live.Live.{Live}
 use Rattle.ir_live.specs.Lives.{IsLive}
@@ -47,34 +50,37 @@ pub record IsOpenedNet (g : Adjacency) (words : Words) (root : ℕ) (net : Net) 
 abbrev pub ends_somewhere : ℕ → ℕ → Type 0
 ends_somewhere node turns = Unit {0} ⊎ (Unit {0} ⊎ (turns + 1 ≡ 2 ^ 64))
 
--- The commands of a script are carried out over such a net while its nodes turn on threads of their own, and none of them
--- wants memory. The words tell of refused pushes and pops. The text is the trace of the records that are reported, each of which is a
--- sound record by the plans of its epochs: epoch 1 has the plan that the words ask for, and each other epoch the one that
--- the install of the script asked for which it is of. The refused lines are those of the commands that were refused.
-pub record IsLiveRun (B : Type 0) (was_full was_empty : Word Parcel) (g : Adjacency) (words : Words) (root : ℕ) (script : Listing Command) (text refused : List ℕ) : Type 0 where
-  pub net : Net
-  pub live : Live
-  pub opened : IsOpenedNet g words root net
-  pub ran : IsLive B was_full was_empty ends_somewhere (λ _. Unit {0}) (λ _. Unit {0}) net script.steps live
-  pub in_memory : list_any is_for_memory live.refusals.items ≡ false
-  pub trace : text ≡ run_text words.restamps (names g) (topology_of_graph g) live.report.records.items
-  pub told : refused ≡ refusals_text script.lines live.refusals.items
-
 -- why nothing runs over a net: it is not opened, or the board of one that was opened has no place for a reader of each node
 abbrev pub RefusesNet : Adjacency → Words → ℕ → OpenError → Type 0
 RefusesNet g words root e =
     IsNetRefusal (opening_by words (topology_of_graph g) root) e ⊎ ((e ≡ openings.TooManyReaders) × (net : Net) × IsOpenedNet g words root net)
 
--- the answer to a graph, a script and the number of a root: the script's live run, or the refusal of the opening; or a
--- thread of a net that was opened was not started
-abbrev pub AnswersLive : Type 0 → Word Parcel → Word Parcel → Adjacency → Words → Listing Command → ℕ → Answer → Type 0
-AnswersLive B was_full was_empty g words script root (Ran text refused) = IsLiveRun B was_full was_empty g words root script text refused
-AnswersLive B was_full was_empty g words script root (Found text) = ⊥
-AnswersLive B was_full was_empty g words script root (Refused line) =
-    (e : OpenError) × (e ≢ openings.NoMemory) × RefusesNet g words root e × (line ≡ opening_line e)
-AnswersLive B was_full was_empty g words script root NoThread = (net : Net) × IsOpenedNet g words root net
+-- In the words for a refused push and a refused pop, for a thread that was not started, for a node that was shown as it came back and for an injector
+-- that was shown behind the commands.
+module _ (B : Type 0) (was_full was_empty : Word Parcel) (unstarted : ℕ → Type 0) (came_back : Node → Type 0) (was_closed : Injector → Type 0) where
+  -- The commands of a script are carried out over such a net while its nodes turn on threads of their own, and none of them
+  -- wants memory. The text is the trace of the records that are reported, each of which is a
+  -- sound record by the plans of its epochs: epoch 1 has the plan that the words ask for, and each other epoch the one that
+  -- the install of the script asked for which it is of. The refused lines are those of the commands that were refused.
+  pub record IsLiveRun (g : Adjacency) (words : Words) (root : ℕ) (script : Listing Command) (text refused : List ℕ) : Type 0 where
+    pub net : Net
+    pub live : Live
+    pub opened : IsOpenedNet g words root net
+    pub ran : IsLive B was_full was_empty ends_somewhere came_back was_closed net script.steps live
+    pub in_memory : list_any is_for_memory live.refusals.items ≡ false
+    pub trace : text ≡ run_text words.restamps (names g) (topology_of_graph g) live.report.records.items
+    pub told : refused ≡ refusals_text script.lines live.refusals.items
 
--- the answer to a graph and the lines of a script: the script's first fault comes before the refusal of the opening
-abbrev pub AnswersLiveScript : Type 0 → Word Parcel → Word Parcel → Words → List (List ℕ) → Adjacency → Answer → Type 0
-AnswersLiveScript B was_full was_empty words script g answer =
-    AnswersScripted line_command words script (λ g. AnswersLive B was_full was_empty g words) g answer
+  -- the answer to a graph, a script and the number of a root: the script's live run, or the refusal of the opening; or the
+  -- thread of a node of a net that was opened was not started
+  abbrev pub AnswersLive : Adjacency → Words → Listing Command → ℕ → Answer → Type 0
+  AnswersLive g words script root (Ran text refused) = IsLiveRun g words root script text refused
+  AnswersLive g words script root (Found text) = ⊥
+  AnswersLive g words script root (Refused line) =
+      (e : OpenError) × (e ≢ openings.NoMemory) × RefusesNet g words root e × (line ≡ opening_line e)
+  AnswersLive g words script root NoThread =
+      (net : Net) × IsOpenedNet g words root net × ((u : ℕ) × (u < node_count net.topology) × unstarted u)
+
+  -- the answer to a graph and the lines of a script: the script's first fault comes before the refusal of the opening
+  abbrev pub AnswersLiveScript : Words → List (List ℕ) → Adjacency → Answer → Type 0
+  AnswersLiveScript words script g answer = AnswersScripted line_command words script (λ g. AnswersLive g words) g answer

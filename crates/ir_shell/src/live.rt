@@ -1,9 +1,9 @@
 //! A live run of a script's commands, from the texts of a topology and a script.
-ghost use Rattle.std.specs.{Prelude.{◌≡◌, ◌≢◌, false, IfOk, slice_index_or, string_bytes}, Borrow.Bor, List.list_any};
+ghost use Rattle.std.specs.{Prelude.{◌≡◌, ◌≢◌, false, IfOk, IfErr, slice_index_or, string_bytes}, Borrow.Bor, List.list_any};
 ghost use Rattle.ir_model.specs.{Graph.names, OfGraph.topology_of_graph, Text.lines};
 ghost use Rattle.ir_trace.specs.Written.{HaveSegments};
 ghost use Rattle.ir_cli.specs.Openings.{AnswersTopology};
-ghost use Rattle.ir_live.specs.Lives.{IsLive};
+ghost use Rattle.ir_live.specs.Lives.{IsLive, IsRefusal};
 ghost use Rattle.ir_shell.specs.Lives.{is_for_memory, refusals_text, IsOpenedNet, AnswersLive, AnswersLiveScript, ends_somewhere};
 ghost use Rattle.ir_answer.specs.{Plays.{listing_in, run_text}, Stops.{StopsAs, Gives}};
 
@@ -13,7 +13,7 @@ use ir_control::Net;
 use ir_core::{OpenError, Refused};
 use ir_graph::Graph;
 use ir_links::Moments;
-use ir_live::{Every, Live, LiveError, run_live};
+use ir_live::{Live, LiveError, Starter, run_live};
 use ir_script::Command;
 use ir_tables::Topology;
 use ir_worker::{Gate, Parcel};
@@ -96,22 +96,23 @@ fn live_texts(
 }
 
 /// A live run in which each node has a thread, makes every turn, and ends once the commands are carried out.
-fn run_open<T: Threads + Moments<Parcel> + Sync>(
+fn run_open<T: Threads + Moments<Parcel> + Starter + Sync>(
     rt: &T,
     alloc: Global,
     net: &Net,
     commands: &[Command],
 ) -> Result<Live, LiveError>
-    ensures { IfOk result (λ live. IsLive (Bor T) T.was_full T.was_empty ends_somewhere (λ _. Unit {0})
-        (λ _. Unit {0}) net.now commands.now live) }
+    ensures live { IfOk result (λ live. IsLive (Bor T) T.was_full T.was_empty ends_somewhere (T.came_back rt.now)
+        (T.was_closed rt.now) net.now commands.now live) }
+    ensures refused { IfErr result (λ error. IsRefusal T.unstarted net.now rt.now error) }
 {
     let stop = AtomicBool::new(false);
-    run_live(rt, alloc, net, commands, &Open, &stop, &Every)
+    run_live(rt, alloc, net, commands, &Open, &stop, rt)
 }
 
 /// The answer to a script and a net that was opened for it. Its parts were not handed out before; that they are not handed
 /// out is told as want of memory, and that the board has no place for a reader of each node as a refused opening.
-fn answer_net<T: Threads + Moments<Parcel> + Sync>(
+fn answer_net<T: Threads + Moments<Parcel> + Starter + Sync>(
     rt: &T,
     alloc: Global,
     words: &Words,
@@ -120,8 +121,8 @@ fn answer_net<T: Threads + Moments<Parcel> + Sync>(
 ) -> Result<Reply, Stop>
     requires over { asked.now.topology ≡ topology_of_graph asked.now.graph }
     requires opened { IsOpenedNet asked.now.graph words.now asked.now.root net.now }
-    ensures { Gives (AnswersLive (Bor T) T.was_full T.was_empty asked.now.graph words.now (listing_in asked.now.script)
-        asked.now.root) result }
+    ensures { Gives (AnswersLive (Bor T) T.was_full T.was_empty (T.unstarted rt.now) (T.came_back rt.now)
+        (T.was_closed rt.now) asked.now.graph words.now (listing_in asked.now.script) asked.now.root) result }
 {
     let _nodes = asked.topology.nodes();
     match run_open(rt, alloc, net, asked.script.steps()) {
@@ -144,7 +145,7 @@ fn answer_net<T: Threads + Moments<Parcel> + Sync>(
 
 /// The answer of `live` to the texts of a topology and of a script: the trace of the packets, and a line for each command
 /// that was refused.
-pub fn run_commands<T: Threads + Moments<Parcel> + Sync>(
+pub fn run_commands<T: Threads + Moments<Parcel> + Starter + Sync>(
     rt: &T,
     alloc: Global,
     words: &Words,
@@ -152,7 +153,8 @@ pub fn run_commands<T: Threads + Moments<Parcel> + Sync>(
     script: &[u8],
 ) -> Result<Reply, Stop>
     ensures { Gives (AnswersTopology words.now.format (lines topology.now)
-        (AnswersLiveScript (Bor T) T.was_full T.was_empty words.now (lines script.now))) result }
+        (AnswersLiveScript (Bor T) T.was_full T.was_empty (T.unstarted rt.now) (T.came_back rt.now)
+        (T.was_closed rt.now) words.now (lines script.now))) result }
 {
     let asked = read_asked::<Command>(alloc, words, topology, script)?;
     let opening = opening_of(alloc, words, &asked.topology, asked.root)?;

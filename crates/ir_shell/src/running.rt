@@ -10,13 +10,14 @@ use ir_answer::{run_by, sources_by, two_texts, write_given};
 use ir_cli::{Ending, Sub, Words, read_inputs, status_of, tell_unread};
 use ir_lines::LineCrew;
 use ir_links::Moments;
+use ir_live::Starter;
 use ir_streams::{Reader, Writer};
 use ir_worker::Parcel;
 use std::alloc::Global;
 use std::thread::Threads;
 
 /// Answers the texts of the inputs of a live run, and writes the answer.
-fn write_live<T: Threads + Moments<Parcel> + Sync, W: Writer, F: Writer>(
+fn write_live<T: Threads + Moments<Parcel> + Starter + Sync, W: Writer, F: Writer>(
     rt: &T,
     alloc: Global,
     words: &Words,
@@ -25,8 +26,9 @@ fn write_live<T: Threads + Moments<Parcel> + Sync, W: Writer, F: Writer>(
     faults: &mut F,
 ) -> Ending
     requires { length texts.now ≡ length (sim_sources words.now) }
-    ensures { EndsAs (LiveAnswers (Bor T) T.was_full T.was_empty words.now) result (λ read. read ≡ texts_of texts.now)
-        (λ source why. ⊥) (Sends W.contents W.wrote W.settled output.old output.new) (output.new ≡ output.old)
+    ensures { EndsAs (LiveAnswers (Bor T) T.was_full T.was_empty (T.unstarted rt.now) (T.came_back rt.now)
+        (T.was_closed rt.now) words.now) result (λ read. read ≡ texts_of texts.now) (λ source why. ⊥)
+        (Sends W.contents W.wrote W.settled output.old output.new) (output.new ≡ output.old)
         (Tells F.contents F.wrote F.settled faults.old faults.new) }
 {
     let (topology, script) = two_texts(words, texts);
@@ -41,16 +43,15 @@ fn write_live<T: Threads + Moments<Parcel> + Sync, W: Writer, F: Writer>(
 /// Condition: there is one reader where `words.is_one_input()`, whose text the first line that is exactly `%%` cuts into the
 /// two, and else one of the topology and one of the script. The answer is the exit status: 0 done; 1 an input is refused,
 /// or a reader or writer failed; 3 want of memory, also where a command wanted it, or a thread that was not started.
-pub fn run_live_text<T: Threads + Moments<Parcel> + Sync, R: Reader, W: Writer, F: Writer>(
-    rt: &T,
-    alloc: Global,
-    words: &Words,
-    inputs: &mut [R],
-    output: &mut W,
-    faults: &mut F,
-) -> u8
+pub fn run_live_text<
+    T: Threads + Moments<Parcel> + Starter + Sync,
+    R: Reader,
+    W: Writer,
+    F: Writer,
+>(rt: &T, alloc: Global, words: &Words, inputs: &mut [R], output: &mut W, faults: &mut F) -> u8
     requires { length inputs.old ≡ length (sim_sources words.now) }
-    ensures { Ends (LiveAnswers (Bor T) T.was_full T.was_empty words.now) result
+    ensures { Ends (LiveAnswers (Bor T) T.was_full T.was_empty (T.unstarted rt.now) (T.came_back rt.now)
+        (T.was_closed rt.now) words.now) result
         (λ texts. AreRead R.remaining R.gave inputs.old texts inputs.new)
         (IsUnread R.remaining R.gave (sim_sources words.now) inputs.old inputs.new)
         (Sends W.contents W.wrote W.settled output.old output.new) (output.new ≡ output.old)
@@ -80,7 +81,13 @@ pub fn run_live_text<T: Threads + Moments<Parcel> + Sync, R: Reader, W: Writer, 
 /// of all texts, which the first lines that are exactly `%%` cut. The status is 0 where all is done; 1 for an input that is
 /// refused, a finding, or a reader or writer that failed; 3 for want of memory, also where a step or a thread wanted it, or a
 /// thread of a node that was not started.
-pub fn run<T: Threads + Moments<Parcel> + Sync, C: LineCrew, R: Reader, W: Writer, F: Writer>(
+pub fn run<
+    T: Threads + Moments<Parcel> + Starter + Sync,
+    C: LineCrew,
+    R: Reader,
+    W: Writer,
+    F: Writer,
+>(
     rt: &T,
     crew: &C,
     alloc: Global,
@@ -91,7 +98,8 @@ pub fn run<T: Threads + Moments<Parcel> + Sync, C: LineCrew, R: Reader, W: Write
 ) -> u8
     requires kind { FitsItsKind words.now }
     requires inputs { length inputs.old ≡ length (sources_of words.now) }
-    ensures { Ends (Answers (LiveAnswers (Bor T) T.was_full T.was_empty) words.now) result
+    ensures { Ends (Answers (LiveAnswers (Bor T) T.was_full T.was_empty (T.unstarted rt.now) (T.came_back rt.now)
+        (T.was_closed rt.now)) words.now) result
         (λ texts. AreRead R.remaining R.gave inputs.old texts inputs.new)
         (IsUnread R.remaining R.gave (sources_of words.now) inputs.old inputs.new)
         (Sends W.contents W.wrote W.settled output.old output.new) (output.new ≡ output.old)

@@ -30,23 +30,23 @@ one_drawing nodes s ends text other x y =
 abbrev pub Agree : ℕ → (ℕ → ℕ → ℕ) → (ℕ → ℕ → ℕ) → Type 0
 Agree n f g = (u d : ℕ) → u < n → d < n → f u d ≡ g u d
 
-same_walks : (s : Plan) (f g : ℕ → ℕ → ℕ) → AreWalkWeights s f → AreWalkWeights s g → Agree (node_count s.topology) f g
+pub same_walks : (s : Plan) (f g : ℕ → ℕ → ℕ) → AreWalkWeights s f → AreWalkWeights s g → Agree (node_count s.topology) f g
 same_walks s f g x y = λ u d hu hd.
     let a = x u d hu hd in
     let b = y u d hu hd in
     sym a.2 ∙ ap (walk_weight s.topology) (prescribed_unique s.topology (table_port s) u d a.0 b.0 a.1 b.1) ∙ b.2
 
-same_distances : (s : Plan) (f g : ℕ → ℕ → ℕ) → ArePlanDistances s f → ArePlanDistances s g → Agree (node_count s.topology) f g
+pub same_distances : (s : Plan) (f g : ℕ → ℕ → ℕ) → ArePlanDistances s f → ArePlanDistances s g → Agree (node_count s.topology) f g
 same_distances s f g x y = λ u d hu hd. distance_unique s.topology u d (f u d) (g u d) (x u d hu hd) (y u d hu hd)
 
-same_pair_sums : (n : ℕ) (f g : ℕ → ℕ → ℕ) → Agree n f g → sum_of_pairs n f ≡ sum_of_pairs n g
+pub same_pair_sums : (n : ℕ) (f g : ℕ → ℕ → ℕ) → Agree n f g → sum_of_pairs n f ≡ sum_of_pairs n g
 same_pair_sums n f g same =
     same_sums (sum_from n f) (sum_from n g) n
     (λ u hu. same_sums (λ d. if u == d then 0 else f u d) (λ d. if u == d then 0 else g u d) n
     (λ d hd. ap (λ (w : ℕ). if u == d then 0 else w) (same u d hu hd)))
 
 -- one node has the first greatest row
-one_greatest : (s : Plan) (u v : ℕ) → IsGreatestRow s u → IsGreatestRow s v → u ≡ v
+pub one_greatest : (s : Plan) (u v : ℕ) → IsGreatestRow s u → IsGreatestRow s v → u ≡ v
 one_greatest s u v x y =
     ⊎_elim (λ e. e) (λ ne. ⊎_elim
     (λ less. (let a = y.first u less in let b = x.greatest v y.node in absurd (omega (arith, a, b))))
@@ -61,7 +61,7 @@ in_order : (a b c d : ℕ) → ((a ≡ c) × (b ≡ d)) ⊎ (IsEarlier a b c d �
 in_order a b c d = grind arith
 
 -- one pair is the first worst
-one_worst : (n : ℕ) (walk distance : ℕ → ℕ → ℕ) (a b c d : ℕ) → IsWorst n walk distance a b → IsWorst n walk distance c d → (a ≡ c) × (b ≡ d)
+pub one_worst : (n : ℕ) (walk distance : ℕ → ℕ → ℕ) (a b c d : ℕ) → IsWorst n walk distance a b → IsWorst n walk distance c d → (a ≡ c) × (b ≡ d)
 one_worst n walk distance a b c d x y =
     ⊎_elim (λ same. same)
     (λ apart. ⊎_elim
@@ -71,7 +71,7 @@ one_worst n walk distance a b c d x y =
     (in_order a b c d)
 
 -- weights that agree have one worst pair
-worst_along : (n : ℕ) (f g f' g' : ℕ → ℕ → ℕ) → Agree n f f' → Agree n g g' → (a b : ℕ) → IsWorst n f g a b → IsWorst n f' g' a b
+pub worst_along : (n : ℕ) (f g f' g' : ℕ → ℕ → ℕ) → Agree n f f' → Agree n g g' → (a b : ℕ) → IsWorst n f g a b → IsWorst n f' g' a b
 worst_along n f g f' g' walks distances a b x = record {
   from = x.from;
   to = x.to;

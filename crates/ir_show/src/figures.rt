@@ -34,7 +34,8 @@ fn figures_with(alloc: Global, plan: &Plan, d: u16, before: Figures) -> Result<F
     })
 }
 
-/// The figures of a plan. They take memory for one destination's worth. It is refused for memory alone.
+/// The figures of a plan. They take memory for one destination's worth. It is refused for memory alone. Takes
+/// O(n (n + m) log n), for n nodes and m links.
 pub fn figures_of(alloc: Global, plan: &Plan) -> Result<Figures, AllocError>
     ensures { IfOk result (λ f. AreFigures plan.now f) }
 {

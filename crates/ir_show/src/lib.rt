@@ -12,10 +12,11 @@ mod weights;
 mod worst;
 
 pub use draw::draw_text;
+pub use figures::{Figures, figures_of};
 pub use laws::{
     drawing_is_determined, escaped_text_is_read_again, stats_text_is_determined,
     walk_text_is_determined,
 };
-pub use stats::stats_text;
+pub use stats::{greatest_row, stats_text};
 pub use walk::walk_text;
-pub use worst::Pair;
+pub use worst::{Pair, Weighed};

@@ -12,8 +12,8 @@ use ir_plan::Plan;
 use ir_trace::text::{push_name, push_next_number, push_word};
 use std::alloc::{AllocError, Global};
 
-/// The first node with a row that no other node's exceeds.
-fn greatest_row(plan: &Plan) -> u16
+/// The first node with a row that no other node's exceeds. Takes O(n), for n nodes.
+pub fn greatest_row(plan: &Plan) -> u16
     ensures { IsGreatestRow plan.now result }
 {
     let mut best = 0;

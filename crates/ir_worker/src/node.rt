@@ -173,7 +173,7 @@ impl Node {
         let id = parcel.id();
         let board = self.reader.read();
         let ports = self.ports.as_slice();
-        let (parcel, way) = ready(
+        let judged = ready(
             &self.registry,
             &self.opening,
             self.restamps,
@@ -186,15 +186,13 @@ impl Node {
         );
         match pass_on(
             rt,
-            &self.registry,
             &self.opening,
             self.restamps,
             &board,
             self.index,
             ports,
             &mut self.outs,
-            way,
-            parcel,
+            judged,
         ) {
             Ok(to) => Ok(Turn::Sent(id, to)),
             Err(outcome) => {

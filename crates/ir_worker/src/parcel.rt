@@ -232,25 +232,25 @@ impl Parcel {
         self
     }
 
-    // What a node makes of it that took it by this way, by this board: it is to go on by a hop, or it is settled.
+    // What a node makes of it that took it by this way, by its verdict by this board: it is to go on by a hop, or it is
+    // settled.
     pub(crate) fn act(
         mut self,
-        plan: &Plan,
         board: &Board,
         way: Way,
         at: u16,
+        verdict: Verdict,
     ) -> Result<(Parcel, Hop), Outcome>
-        requires plan { plan.now ≡ knows (stamp_now self) }
+        requires plan { IsPlan (knows (stamp_now self)) }
         requires at_in { at < node_count (knows (stamp_now self)).topology }
         requires due { IsDue (knows (stamp_now self)) (present self.packet) at way }
+        requires verdict { verdict ≡ parcel_verdict self board.now false way at }
         ensures acts { MatchResult result (λ r. GoesOnAs board.now way at self r.1 r.0)
             (λ o. (v : Verdict) × SettlesAs board.now false way at self v o) }
         ensures leads { IfOk result (λ r. LeadsOn (knows (stamp_now self)) (present r.0.packet) r.1.link r.1.node) }
         ensures here { IfOk result (λ r. last_of r.0.packet.hops ≡ at) }
         ensures table { IfOk result (λ r. next_hop (knows (stamp_now self)) at self.packet.dest ≡ Some r.1) }
     {
-        let _nodes = plan.nodes();
-        let verdict = self.judge(plan, board, way, at);
         let body = &mut *self.body;
         body.packet.act(
             at,

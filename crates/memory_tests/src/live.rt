@@ -3,7 +3,7 @@
 use crate::nets::opened;
 use crate::networks::opening;
 use ir_core::{Fate, Refused};
-use ir_live::{Command, Every, Live, LiveError, run_live};
+use ir_live::{Command, Live, LiveError, run_live};
 use ir_worker::Gate;
 use std::alloc::Global;
 use std::sync::Wait;
@@ -37,7 +37,7 @@ fn run<R: Threads + Wait + Sync>(rt: &R, alloc: Global) -> Result<Live, LiveErro
         &commands,
         &Open,
         &AtomicBool::new(false),
-        &Every,
+        rt,
     )
 }
 

@@ -103,7 +103,13 @@ fn explain<T: Threads + Sync>(
 /// Whether a subcommand shows a plan, of whose making a terminal is told.
 fn is_plan_shown(sub: Sub) -> bool {
     match sub {
-        Sub::Plan | Sub::Walk | Sub::Stats | Sub::Draw | Sub::Prefixes | Sub::Ranges => true,
+        Sub::Plan
+        | Sub::Walk
+        | Sub::Stats
+        | Sub::Compare
+        | Sub::Draw
+        | Sub::Prefixes
+        | Sub::Ranges => true,
         Sub::Sim | Sub::Live | Sub::Check => false,
     }
 }

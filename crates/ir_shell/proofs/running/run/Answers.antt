@@ -17,7 +17,7 @@ returns-then-eq g c =
     let old = c.args.inputs.now in
     let new = c.run_live_text.new.inputs in
     let is : words.sub ≡ Live = same_true the_type tt _ _ (sym c.if-eq.ensures) in
-    subst (λ (sub : Sub). Ends (AnswersBy (LiveAnswers _ g.T.Moments.was_full g.T.Moments.was_empty) sub words) c.run_live_text.result
+    subst (λ (sub : Sub). Ends (AnswersBy (LiveAnswers _ g.T.Moments.was_full g.T.Moments.was_empty (g.T.Starter.unstarted c.args.rt.now) (g.T.Starter.came_back c.args.rt.now) (g.T.Starter.was_closed c.args.rt.now)) sub words) c.run_live_text.result
     (λ (texts : List (List ℕ)). AreRead g.R.Reader.remaining g.R.Reader.gave old texts new)
     (IsUnread g.R.Reader.remaining g.R.Reader.gave (sources_by sub words) old new)
     (Sends g.W.Writer.contents g.W.Writer.wrote g.W.Writer.settled c.args.output.now c.run_live_text.new.output)
@@ -30,8 +30,8 @@ returns-else-eq g c =
     let old = c.args.inputs.now in
     let new = c.run_by.new.inputs in
     let other : words.sub ≢ Live = same_false the_type _ _ (sym c.if-eq.ensures) in
-    ends_more (AnswersBy NoThreads words.sub words) (AnswersBy (LiveAnswers _ g.T.Moments.was_full g.T.Moments.was_empty) words.sub words)
-    (without_live (LiveAnswers _ g.T.Moments.was_full g.T.Moments.was_empty) words.sub other words)
+    ends_more (AnswersBy NoThreads words.sub words) (AnswersBy (LiveAnswers _ g.T.Moments.was_full g.T.Moments.was_empty (g.T.Starter.unstarted c.args.rt.now) (g.T.Starter.came_back c.args.rt.now) (g.T.Starter.was_closed c.args.rt.now)) words.sub words)
+    (without_live (LiveAnswers _ g.T.Moments.was_full g.T.Moments.was_empty (g.T.Starter.unstarted c.args.rt.now) (g.T.Starter.came_back c.args.rt.now) (g.T.Starter.was_closed c.args.rt.now)) words.sub other words)
     (λ (texts : List (List ℕ)). AreRead g.R.Reader.remaining g.R.Reader.gave old texts new)
     (IsUnread g.R.Reader.remaining g.R.Reader.gave (sources_by words.sub words) old new)
     (Sends g.W.Writer.contents g.W.Writer.wrote g.W.Writer.settled c.args.output.now c.run_by.new.output)

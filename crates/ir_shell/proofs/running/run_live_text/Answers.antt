@@ -15,7 +15,7 @@ returns-in-Err g c =
     let output = c.args.output.now in (
       c.tell_unread.result,
       c.status_of-in-Err.ensures,
-      given_up (LiveAnswers _ g.T.Moments.was_full g.T.Moments.was_empty words) c.tell_unread.result (λ (texts : List (List ℕ)). AreRead g.R.Reader.remaining g.R.Reader.gave old texts new)
+      given_up (LiveAnswers _ g.T.Moments.was_full g.T.Moments.was_empty (g.T.Starter.unstarted c.args.rt.now) (g.T.Starter.came_back c.args.rt.now) (g.T.Starter.was_closed c.args.rt.now) words) c.tell_unread.result (λ (texts : List (List ℕ)). AreRead g.R.Reader.remaining g.R.Reader.gave old texts new)
           (IsUnread g.R.Reader.remaining g.R.Reader.gave (sim_sources words) old new)
           (Sends g.W.Writer.contents g.W.Writer.wrote g.W.Writer.settled output output) (output ≡ output)
           (Tells g.F.Writer.contents g.F.Writer.wrote g.F.Writer.settled c.args.faults.now c.tell_unread.new.faults)

@@ -16,10 +16,10 @@ returns g c =
     let output = c.args.output.now in
     let topology = c.two_texts.result.0.now in
     let script = c.two_texts.result.1.now in
-    ends_given (LiveAnswers _ g.T.Moments.was_full g.T.Moments.was_empty words) texts
+    ends_given (LiveAnswers _ g.T.Moments.was_full g.T.Moments.was_empty (g.T.Starter.unstarted c.args.rt.now) (g.T.Starter.came_back c.args.rt.now) (g.T.Starter.was_closed c.args.rt.now) words) texts
     (Sends g.W.Writer.contents g.W.Writer.wrote g.W.Writer.settled output c.write_given.new.output) (c.write_given.new.output ≡ output)
     (Tells g.F.Writer.contents g.F.Writer.wrote g.F.Writer.settled c.args.faults.now c.write_given.new.faults)
     c.run_commands-given.result c.write_given.result
-    (gives_more (AnswersTopology words.format (lines topology) (AnswersLiveScript _ g.T.Moments.was_full g.T.Moments.was_empty words (lines script)))
-    (LiveAnswers _ g.T.Moments.was_full g.T.Moments.was_empty words texts) (λ answer holds. (topology, script, c.two_texts.ensures, holds)) c.run_commands-given.result c.run_commands-given.ensures)
+    (gives_more (AnswersTopology words.format (lines topology) (AnswersLiveScript _ g.T.Moments.was_full g.T.Moments.was_empty (g.T.Starter.unstarted c.args.rt.now) (g.T.Starter.came_back c.args.rt.now) (g.T.Starter.was_closed c.args.rt.now) words (lines script)))
+    (LiveAnswers _ g.T.Moments.was_full g.T.Moments.was_empty (g.T.Starter.unstarted c.args.rt.now) (g.T.Starter.came_back c.args.rt.now) (g.T.Starter.was_closed c.args.rt.now) words texts) (λ answer holds. (topology, script, c.two_texts.ensures, holds)) c.run_commands-given.result c.run_commands-given.ensures)
     c.write_given.ensures

@@ -36,33 +36,33 @@ invariant_of-self-clause-causes g c =
     let n = c.args.self.now in
     causes_same (known n.reader) n.outcomes.items c.reserve.new.self.items n.causes c.reserve.ensures.items
 
-pub ready-parcel-requires-clause-current : goal.ready-parcel-requires-clause-current
-ready-parcel-requires-clause-current g c =
+pub ready-judged-requires-clause-current : goal.ready-judged-requires-clause-current
+ready-judged-requires-clause-current g c =
     let n = c.args.self.now in
     current_of_net n.opening (known c.read-board.new.self) c.stamp.result c.stamp.ensures (c.read-board.ensures.opening.registry ∙ n.of_board.0) (c.read-board.ensures.opening.topology ∙ n.of_board.1)
 
-pub ready-parcel-requires-clause-of_net : goal.ready-parcel-requires-clause-of_net
-ready-parcel-requires-clause-of_net g c =
+pub ready-judged-requires-clause-of_net : goal.ready-judged-requires-clause-of_net
+ready-judged-requires-clause-of_net g c =
     let n = c.args.self.now in
     (taken_place n.opening n.restamps n.index n.ports.items n.entrances.inbox n.entrances.ports.items n.outs.items n.ends c.poll.new.self.inbox c.poll.new.self.ports.items c.in-Some.parcel n.entrances.next c.in-Some.ensures.took c.way-way.result c.way-way.ensures).of_net
 
-pub ready-parcel-requires-clause-few : goal.ready-parcel-requires-clause-few
-ready-parcel-requires-clause-few g c =
+pub ready-judged-requires-clause-few : goal.ready-judged-requires-clause-few
+ready-judged-requires-clause-few g c =
     let n = c.args.self.now in
     (taken_place n.opening n.restamps n.index n.ports.items n.entrances.inbox n.entrances.ports.items n.outs.items n.ends c.poll.new.self.inbox c.poll.new.self.ports.items c.in-Some.parcel n.entrances.next c.in-Some.ensures.took c.way-way.result c.way-way.ensures).few
 
-pub ready-parcel-requires-clause-room : goal.ready-parcel-requires-clause-room
-ready-parcel-requires-clause-room g c =
+pub ready-judged-requires-clause-room : goal.ready-judged-requires-clause-room
+ready-judged-requires-clause-room g c =
     let n = c.args.self.now in
     (taken_place n.opening n.restamps n.index n.ports.items n.entrances.inbox n.entrances.ports.items n.outs.items n.ends c.poll.new.self.inbox c.poll.new.self.ports.items c.in-Some.parcel n.entrances.next c.in-Some.ensures.took c.way-way.result c.way-way.ensures).room
 
-pub ready-parcel-requires-clause-is_new : goal.ready-parcel-requires-clause-is_new
-ready-parcel-requires-clause-is_new g c =
+pub ready-judged-requires-clause-is_new : goal.ready-judged-requires-clause-is_new
+ready-judged-requires-clause-is_new g c =
     let n = c.args.self.now in
     (taken_place n.opening n.restamps n.index n.ports.items n.entrances.inbox n.entrances.ports.items n.outs.items n.ends c.poll.new.self.inbox c.poll.new.self.ports.items c.in-Some.parcel n.entrances.next c.in-Some.ensures.took c.way-way.result c.way-way.ensures).is_new
 
-pub ready-parcel-requires-clause-came : goal.ready-parcel-requires-clause-came
-ready-parcel-requires-clause-came g c =
+pub ready-judged-requires-clause-came : goal.ready-judged-requires-clause-came
+ready-judged-requires-clause-came g c =
     let n = c.args.self.now in
     let place = (taken_place n.opening n.restamps n.index n.ports.items n.entrances.inbox n.entrances.ports.items n.outs.items n.ends c.poll.new.self.inbox c.poll.new.self.ports.items c.in-Some.parcel n.entrances.next c.in-Some.ensures.took c.way-way.result c.way-way.ensures).came in
     subst (λ (xs : List Hop). CameBy xs n.index c.way-way.result (last_of c.in-Some.parcel.packet.hops) c.in-Some.parcel.next) (sym c.as_slice-ports.ensures.value) place
@@ -73,7 +73,7 @@ invariant_of-self-in-Ok-1 g c =
     let p = c.in-Some.parcel in
     let b = c.read-board.result in
     let x = restamp_on n.restamps p b c.way-way.result n.index in
-    let same = ap (λ (y : Parcel). head_of y.packet) c.ready-parcel.ensures.parcel ∙ head_with x c.stamp.result c.way-way.result n.index p in
+    let same = ap (λ (y : Parcel). head_of y.packet) c.ready-judged.ensures.parcel ∙ head_with x c.stamp.result c.way-way.result n.index p in
     let a = c.in-Ok.ensures.acts in
     record {
       of_registry = n.of_registry;
@@ -82,9 +82,9 @@ invariant_of-self-in-Ok-1 g c =
           c.poll.ensures.inbox c.poll.ensures.ins c.pass_on.ensures.lines;
       account = balanced_sent n.entrances.inbox n.entrances.ports.items c.poll.new.self.inbox c.poll.new.self.ports.items n.outs.items c.pass_on.new.outs.items n.outcomes.items c.reserve.new.self.items n.account
           p a.1 n.entrances.next c.in-Some.ensures.took c.as_slice-ports.result.now a.0 a.4 (ap head_of a.2.packet ∙ same) c.reserve.ensures.items;
-      restamped = known_sent (known n.reader) (known c.read-board.new.self) c.read-board.ensures.later b c.read-board.ensures.board n.restamps p c.ready-parcel.result.0 c.stamp.result c.way-way.result n.index c.ready-parcel.ensures.parcel
+      restamped = known_sent (known n.reader) (known c.read-board.new.self) c.read-board.ensures.later b c.read-board.ensures.board n.restamps p c.ready-judged.result.parcel c.stamp.result c.way-way.result n.index c.ready-judged.ensures.parcel
           n.entrances.inbox n.entrances.ports.items c.poll.new.self.inbox c.poll.new.self.ports.items n.outs.items c.pass_on.new.outs.items n.outcomes.items c.reserve.new.self.items n.restamped
-          n.entrances.next c.in-Some.ensures.took c.ready-parcel.result.1 a.0 a.1 a.2 c.as_slice-ports.result.now a.4 c.reserve.ensures.items;
+          n.entrances.next c.in-Some.ensures.took c.ready-judged.result.way a.0 a.1 a.2 c.as_slice-ports.result.now a.4 c.reserve.ensures.items;
       of_net = same_of_net n.opening n.restamps n.outcomes.items c.reserve.new.self.items n.of_net c.reserve.ensures.items;
       causes = causes_later (known n.reader) (known c.read-board.new.self) n.outcomes.items c.reserve.new.self.items n.causes c.read-board.ensures.later c.reserve.ensures.items;
     }
@@ -95,7 +95,7 @@ invariant_of-self-in-Err g c =
     let p = c.in-Some.parcel in
     let b = c.read-board.result in
     let x = restamp_on n.restamps p b c.way-way.result n.index in
-    let same = ap (λ (y : Parcel). head_of y.packet) c.ready-parcel.ensures.parcel ∙ head_with x c.stamp.result c.way-way.result n.index p in
+    let same = ap (λ (y : Parcel). head_of y.packet) c.ready-judged.ensures.parcel ∙ head_with x c.stamp.result c.way-way.result n.index p in
     let a = c.in-Err.ensures.acts in
     let behind = settled_behind n.outcomes.items c.reserve.new.self.items c.push_reserved.new.self.items c.in-Err.outcome c.push_reserved.ensures.items c.reserve.ensures.items in
     record {
@@ -105,13 +105,13 @@ invariant_of-self-in-Err g c =
           c.poll.ensures.inbox c.poll.ensures.ins c.pass_on.ensures.lines;
       account = balanced_settled n.entrances.inbox n.entrances.ports.items c.poll.new.self.inbox c.poll.new.self.ports.items n.outs.items c.pass_on.new.outs.items n.outcomes.items c.push_reserved.new.self.items n.account
           p n.entrances.next c.in-Some.ensures.took a.3 c.in-Err.outcome behind (ap head_of a.2.packet ∙ same);
-      restamped = known_settled (known n.reader) (known c.read-board.new.self) c.read-board.ensures.later b c.read-board.ensures.board n.restamps p c.ready-parcel.result.0 c.stamp.result c.way-way.result n.index c.ready-parcel.ensures.parcel
+      restamped = known_settled (known n.reader) (known c.read-board.new.self) c.read-board.ensures.later b c.read-board.ensures.board n.restamps p c.ready-judged.result.parcel c.stamp.result c.way-way.result n.index c.ready-judged.ensures.parcel
           n.entrances.inbox n.entrances.ports.items c.poll.new.self.inbox c.poll.new.self.ports.items n.outs.items c.pass_on.new.outs.items n.outcomes.items c.push_reserved.new.self.items n.restamped
-          n.entrances.next c.in-Some.ensures.took a.3 c.ready-parcel.result.1 a.0 a.1 c.in-Err.outcome a.2 behind;
-      of_net = more_of_net n.opening n.restamps n.outcomes.items c.push_reserved.new.self.items c.in-Err.outcome n.of_net behind c.ready-parcel.result.0 c.ready-parcel.ensures.of_net c.ready-parcel.ensures.few
+          n.entrances.next c.in-Some.ensures.took a.3 c.ready-judged.result.way a.0 a.1 c.in-Err.outcome a.2 behind;
+      of_net = more_of_net n.opening n.restamps n.outcomes.items c.push_reserved.new.self.items c.in-Err.outcome n.of_net behind c.ready-judged.result.parcel c.ready-judged.ensures.of_net c.ready-judged.ensures.few
           a.2.first a.2.later (ap (λ (r : Record). r.restamps) a.2.packet);
       causes = causes_more (known n.reader) (known c.read-board.new.self) n.outcomes.items c.push_reserved.new.self.items c.in-Err.outcome n.causes c.read-board.ensures.later behind (ap (λ k. k + 1) a.2.version ∙ c.read-board.ensures.version)
-          (subst (λ (x : Board). CauseHolds x c.in-Err.outcome.packet c.in-Err.outcome.packet.fate) c.read-board.ensures.board (cause_here c.read-board.result a.0 c.ready-parcel.result.1 n.index c.ready-parcel.result.0 a.1 c.in-Err.outcome a.2));
+          (subst (λ (x : Board). CauseHolds x c.in-Err.outcome.packet c.in-Err.outcome.packet.fate) c.read-board.ensures.board (cause_here c.read-board.result a.0 c.ready-judged.result.way n.index c.ready-judged.result.parcel a.1 c.in-Err.outcome a.2));
     }
 
 pub returns-in-Ok : goal.returns-in-Ok
@@ -119,8 +119,8 @@ returns-in-Ok g c =
     let n = c.args.self.now in
     let p = c.in-Some.parcel in
     let a = c.in-Ok.ensures.acts in
-    let on = goes_by_board c.read-board.result (board_of (known c.read-board.new.self)) n.restamps p c.stamp.result c.way-way.result c.ready-parcel.result.1 n.index c.ready-parcel.result.0 a.0 a.1
-    c.read-board.ensures.board c.ready-parcel.ensures.parcel c.ready-parcel.ensures.way a.2 in
+    let on = goes_by_board c.read-board.result (board_of (known c.read-board.new.self)) n.restamps p c.stamp.result c.way-way.result c.ready-judged.result.way n.index c.ready-judged.result.parcel a.0 a.1
+    c.read-board.ensures.board c.ready-judged.ensures.parcel c.ready-judged.ensures.way a.2 in
     let x = restamp_on n.restamps p (board_of (known c.read-board.new.self)) c.way-way.result n.index in
     record {
       same = record { index = refl; registry = refl; opening = refl; restamps = refl; ports = refl; inbox = c.poll.ensures.inbox; ins = c.poll.ensures.ins; outs = c.pass_on.ensures.lines; reader = c.read-board.ensures.same };
@@ -149,8 +149,8 @@ returns-in-Err g c =
     let n = c.args.self.now in
     let p = c.in-Some.parcel in
     let a = c.in-Err.ensures.acts in
-    let on = settles_by_board c.read-board.result (board_of (known c.read-board.new.self)) n.restamps p c.stamp.result c.way-way.result c.ready-parcel.result.1 n.index c.ready-parcel.result.0 a.0 a.1 c.in-Err.outcome
-    c.read-board.ensures.board c.ready-parcel.ensures.parcel c.ready-parcel.ensures.way a.2 in
+    let on = settles_by_board c.read-board.result (board_of (known c.read-board.new.self)) n.restamps p c.stamp.result c.way-way.result c.ready-judged.result.way n.index c.ready-judged.result.parcel a.0 a.1 c.in-Err.outcome
+    c.read-board.ensures.board c.ready-judged.ensures.parcel c.ready-judged.ensures.way a.2 in
     let x = restamp_on n.restamps p (board_of (known c.read-board.new.self)) c.way-way.result n.index in
     record {
       same = record { index = refl; registry = refl; opening = refl; restamps = refl; ports = refl; inbox = c.poll.ensures.inbox; ins = c.poll.ensures.ins; outs = c.pass_on.ensures.lines; reader = c.read-board.ensures.same };

@@ -1,5 +1,4 @@
 use Rattle.std.proofs.Common.{subst, ap, sym, length, ◌∙◌}
-use Rattle.ir_model.specs.Plan.{IsPlan}
 use Rattle.ir_core.specs.Record.{Record}
 use Rattle.ir_worker.specs.declared.parcel.Body.{Body}
 use Rattle.ir_worker.specs.Seen.{IsSoundByStamps, stamps_of}
@@ -16,8 +15,8 @@ pub invariant_of-self : goal.invariant_of-self
 invariant_of-self c =
     let i = c.deref_mut-body.result.now in
     let is = body_again c.args.self c.self.inside.body.value i c.deref_mut-body.ensures.value (c.self.view_is, c.self.invariant) in
-    let judging : IsJudged c.args.board.now c.args.way c.args.at c.judge-verdict.result c.args.self = (subst IsPlan c.requires.plan c.nodes-nodes.ensures.plan, c.requires.at_in, c.requires.due, c.judge-verdict.ensures) in (
-      on_kept c.args.board.now c.args.way c.args.at c.args.self i.first i.later.items i.packet i.next i.address is.1.0 c.judge-verdict.result is.0 judging c.act.new.self c.act.ensures c.in-GoesOn.hop c.in-GoesOn.is,
+    let judging : IsJudged c.args.board.now c.args.way c.args.at c.args.verdict c.args.self = (c.requires.plan, c.requires.at_in, c.requires.due, c.requires.verdict) in (
+      on_kept c.args.board.now c.args.way c.args.at c.args.self i.first i.later.items i.packet i.next i.address is.1.0 c.args.verdict is.0 judging c.act.new.self c.act.ensures c.in-GoesOn.hop c.in-GoesOn.is,
       is.1.1,
       is.1.2 ∙ ap (λ (r : Record). length r.restamps) (sym c.act.ensures),
     )
@@ -26,24 +25,24 @@ pub returns-in-GoesOn-clause-leads : goal.returns-in-GoesOn-clause-leads
 returns-in-GoesOn-clause-leads c =
     let i = c.deref_mut-body.result.now in
     let is = body_again c.args.self c.self.inside.body.value i c.deref_mut-body.ensures.value (c.self.view_is, c.self.invariant) in
-    let judging : IsJudged c.args.board.now c.args.way c.args.at c.judge-verdict.result c.args.self = (subst IsPlan c.requires.plan c.nodes-nodes.ensures.plan, c.requires.at_in, c.requires.due, c.judge-verdict.ensures) in
-    on_leads c.args.board.now c.args.way c.args.at c.args.self i.first i.later.items i.packet i.next i.address is.1.0 c.judge-verdict.result is.0 judging c.act.new.self c.act.ensures c.in-GoesOn.hop c.in-GoesOn.is
+    let judging : IsJudged c.args.board.now c.args.way c.args.at c.args.verdict c.args.self = (c.requires.plan, c.requires.at_in, c.requires.due, c.requires.verdict) in
+    on_leads c.args.board.now c.args.way c.args.at c.args.self i.first i.later.items i.packet i.next i.address is.1.0 c.args.verdict is.0 judging c.act.new.self c.act.ensures c.in-GoesOn.hop c.in-GoesOn.is
 
 pub returns-in-GoesOn-clause-here : goal.returns-in-GoesOn-clause-here
 returns-in-GoesOn-clause-here c =
     let i = c.deref_mut-body.result.now in
     let is = body_again c.args.self c.self.inside.body.value i c.deref_mut-body.ensures.value (c.self.view_is, c.self.invariant) in
-    let judging : IsJudged c.args.board.now c.args.way c.args.at c.judge-verdict.result c.args.self = (subst IsPlan c.requires.plan c.nodes-nodes.ensures.plan, c.requires.at_in, c.requires.due, c.judge-verdict.ensures) in
-    on_here c.args.board.now c.args.way c.args.at c.args.self i.first i.later.items i.packet i.next i.address is.1.0 c.judge-verdict.result is.0 judging c.act.new.self c.act.ensures c.in-GoesOn.hop c.in-GoesOn.is
+    let judging : IsJudged c.args.board.now c.args.way c.args.at c.args.verdict c.args.self = (c.requires.plan, c.requires.at_in, c.requires.due, c.requires.verdict) in
+    on_here c.args.board.now c.args.way c.args.at c.args.self i.first i.later.items i.packet i.next i.address is.1.0 c.args.verdict is.0 judging c.act.new.self c.act.ensures c.in-GoesOn.hop c.in-GoesOn.is
 
 pub invariant_of-result : goal.invariant_of-result
 invariant_of-result c =
     let i = c.deref_mut-body.result.now in
     let is = body_again c.args.self c.self.inside.body.value i c.deref_mut-body.ensures.value (c.self.view_is, c.self.invariant) in
-    let judging : IsJudged c.args.board.now c.args.way c.args.at c.judge-verdict.result c.args.self = (subst IsPlan c.requires.plan c.nodes-nodes.ensures.plan, c.requires.at_in, c.requires.due, c.judge-verdict.ensures) in
+    let judging : IsJudged c.args.board.now c.args.way c.args.at c.args.verdict c.args.self = (c.requires.plan, c.requires.at_in, c.requires.due, c.requires.verdict) in
     let out = c.into_inner-packet.ensures in
     record {
       epoch = ap (λ (b : Body). b.packet.epoch) out ∙ (ap (λ (r : Record). r.epoch) c.act.ensures ∙ is.1.0.first_epoch) ∙ sym (ap (λ (b : Body). b.first.epoch) out);
       sound = subst (λ (b : Body). ∥ IsSoundByStamps (stamps_of b.first b.later.items) b.packet ∥₁) (sym out)
-          (on_sound c.args.board.now c.args.way c.args.at c.args.self i.first i.later.items i.packet i.next i.address is.1.0 c.judge-verdict.result is.0 judging c.act.new.self c.act.ensures);
+          (on_sound c.args.board.now c.args.way c.args.at c.args.self i.first i.later.items i.packet i.next i.address is.1.0 c.args.verdict is.0 judging c.act.new.self c.act.ensures);
     }

@@ -1,0 +1,53 @@
+//! What compares the plans of a topology, from the text of the topology.
+ghost use Rattle.std.specs.Prelude.{◌≡◌, ◌∷◌, [], length};
+ghost use Rattle.ir_answer.specs.Compares.{compare_sources, CompareAnswers};
+ghost use Rattle.ir_answer.specs.Stops.{Gives};
+ghost use Rattle.ir_cli.specs.Reading.{texts_of};
+
+use crate::asking::{Stop, opening_stop, read_graph, read_node};
+use ir_cli::{Reply, Source, Words};
+use ir_core::OpenError;
+use ir_figures::compare_text;
+use ir_plan::Crew;
+use ir_tables::Topology;
+use std::alloc::Global;
+
+/// Where the text of the topology is read.
+pub fn compare_sources(words: &Words) -> &'static [Source]
+    ensures { result.now ≡ compare_sources words.now }
+{
+    if words.is_one_input() {
+        &[Source::Input]
+    } else {
+        &[Source::Topology]
+    }
+}
+
+/// The one text, of a topology.
+fn one_text<'a>(texts: &'a [Vec<u8>]) -> &'a [u8]
+    requires { length texts.now ≡ 1 }
+    ensures { texts_of texts.now ≡ result.now ∷ [] }
+{
+    texts[0].as_slice()
+}
+
+/// The answer to the text of a topology: what compares its plans from the root that the words name. Refused are, in this
+/// order, the topology's first fault, a root that is no node, and what refuses the plans. The plans' rows are made by a crew.
+pub fn compare(
+    crew: &impl Crew,
+    alloc: Global,
+    words: &Words,
+    texts: &[Vec<u8>],
+) -> Result<Reply, Stop>
+    requires { length texts.now ≡ length (compare_sources words.now) }
+    ensures { Gives (CompareAnswers words.now (texts_of texts.now)) result }
+{
+    let text = one_text(texts);
+    let graph = read_graph(alloc, words.format, text)?;
+    let root = read_node(alloc, &graph, &words.root)?;
+    let topology = Topology::of(alloc, &graph)?;
+    match compare_text(crew, alloc, topology, root, words.threads) {
+        Ok(text) => Ok(Reply::Ran(text, String::new(alloc))),
+        Err(error) => Err(opening_stop(alloc, OpenError::from(error))),
+    }
+}

@@ -1,0 +1,137 @@
+-- What the words behind the program's name mean, field by field.
+use Rattle.std.specs.Prelude.{◌≡◌, ◌≢◌, ◌≤◌, ◌==◌, ℕ, Bool, true, false, not, ◌&&◌, if◌then◌else◌, List, [], ◌∷◌, ◌++◌, map, Option, Some, None, MatchOption, unwrap_or, option_map, option_to_list, bytes_eq, codes, string_bytes}
+use Rattle.std.specs.Option.{option_map_or, option_or}
+use Rattle.std.specs.List.{list_any, before_first, after_first}
+use Rattle.std.specs.Str.Parse.{IsNumeral, digits_value, without_leading_plus}
+use Rattle.clap.specs.Words.{Row, Text, first_of, one_of, subcommand_of}
+use Rattle.ir_model.specs.declared.Kind.{Kind}
+use Rattle.ir_model.specs.declared.Kind.TheVariants.{Tree, Shortest, Compact}
+use Rattle.ir_core.specs.declared.TheConstants.{MAX_CAPACITY, MAX_PACKETS, MAX_RESTAMPS}
+use Rattle.ir_cli.specs.declared.TheConstants.{MAX_THREADS, DEFAULT_CAPACITY, DEFAULT_PACKETS, DEFAULT_RESTAMPS}
+use Rattle.ir_cli.specs.declared.words.Sub.{Sub}
+use Rattle.ir_cli.specs.declared.words.Sub.TheVariants as subs
+use Rattle.ir_cli.specs.declared.words.Format.{Format}
+use Rattle.ir_cli.specs.declared.words.Format.TheVariants.{AdjList, EdgeList}
+use Rattle.ir_cli.specs.declared.words.Numbering.{Numbering}
+use Rattle.ir_cli.specs.declared.words.Numbering.TheVariants.{DepthFirst, Tour, File}
+use Rattle.ir_cli.specs.declared.words.Second.{Second}
+use Rattle.ir_cli.specs.declared.words.Words.{Words}
+use Rattle.ir_cli.specs.Words.{format_of_name}
+use Rattle.ir_cli.specs.declared.command.Choices.{Choices}
+use Rattle.ir_cli.specs.CommandLine.{AreTheirWords, route}
+
+abbrev pub sub_word : Sub → Text
+sub_word subs.Plan = codes "plan"
+sub_word subs.Walk = codes "walk"
+sub_word subs.Stats = codes "stats"
+sub_word subs.Compare = codes "compare"
+sub_word subs.Draw = codes "draw"
+sub_word subs.Prefixes = codes "prefixes"
+sub_word subs.Ranges = codes "ranges"
+sub_word subs.Sim = codes "sim"
+sub_word subs.Live = codes "live"
+sub_word subs.Check = codes "check"
+
+abbrev pub kind_word : Kind → Text
+kind_word Tree = codes "tree"
+kind_word Shortest = codes "shortest"
+kind_word Compact = codes "compact"
+
+abbrev pub format_word : Format → Text
+format_word AdjList = codes "adjlist"
+format_word EdgeList = codes "edgelist"
+
+-- the word of the kind, which the comparison of plans does not take
+abbrev pub first_kind : List Row → Text
+first_kind rows = unwrap_or (first_of (codes "kind") rows) (codes "shortest")
+
+-- a word that names no order of its own is the name of a file
+abbrev pub IsNumbering : Numbering → Text → Type 0
+IsNumbering DepthFirst word = word ≡ codes "depth-first"
+IsNumbering Tour word = word ≡ codes "tour"
+IsNumbering (File name) word = (word ≡ string_bytes name) × (word ≢ codes "depth-first") × (word ≢ codes "tour")
+
+-- the word that numbers the nodes
+abbrev pub numbering_word : List Row → Text
+numbering_word rows = unwrap_or (first_of (codes "numbering") rows) (codes "depth-first")
+
+-- the topology's file, whose name tells the format where `--format` does not
+abbrev pub topology_name : List Row → Text
+topology_name rows = unwrap_or (first_of (codes "topology") rows) (codes "-")
+
+abbrev pub IsFormat : Format → List Row → Type 0
+IsFormat format rows =
+    MatchOption (first_of (codes "format") rows) (format ≡ format_of_name (topology_name rows)) (λ word. word ≡ format_word format)
+
+-- What an option of this name is given is a decimal number in a range; or the option is not given, and has no default.
+abbrev pub IsNumber : Text → List Row → ℕ → ℕ → Option ℕ → Type 0
+IsNumber name rows least most None = one_of name rows ≡ None
+IsNumber name rows least most (Some n) = (word : Text) × (one_of name rows ≡ Some word) × IsNumeral 10 (without_leading_plus word)
+    × (n ≡ digits_value 10 (without_leading_plus word)) × (least ≤ n) × (n ≤ most)
+
+-- The same as a number, with another one where there is none, as where the subcommand has no such option.
+abbrev pub IsNumberElse : Text → List Row → ℕ → ℕ → ℕ → ℕ → Type 0
+IsNumberElse name rows least most other n = (given : Option ℕ) × IsNumber name rows least most given × (n ≡ unwrap_or given other)
+
+-- a flag stands among the words
+abbrev pub is_set : Text → List Row → Bool
+is_set name rows = option_map_or (λ word. bytes_eq word (codes "true")) (first_of name rows) false
+
+-- the files, in order
+abbrev pub files_in : List Row → List Text
+files_in rows = option_to_list (first_of (codes "topology") rows) ++ option_to_list (first_of (codes "script") rows)
+    ++ option_to_list (first_of (codes "trace") rows)
+
+-- the word of a second plan
+abbrev pub second_word : List Row → Text
+second_word rows = unwrap_or (first_of (codes "with") rows) []
+
+abbrev pub is_comma : ℕ → Bool
+is_comma byte = byte == 44
+
+-- its kind, before a comma
+abbrev pub second_kind : Text → Text
+second_kind word = before_first is_comma word
+
+-- the name of its root, behind a comma
+abbrev pub second_root : Text → Option Text
+second_root word = if list_any is_comma word then Some (after_first is_comma word) else None
+
+-- The second plan that a word asks for, its root by default that of the first plan; none where the word has no kind.
+abbrev pub IsSecond : Text → Option Text → Option Second → Type 0
+IsSecond word first None = (kind : Kind) → kind_word kind ≢ second_kind word
+IsSecond word first (Some second) =
+    (kind_word second.kind ≡ second_kind word) × (option_map string_bytes second.root ≡ option_or (second_root word) first)
+
+-- there is a second plan where one is asked for
+abbrev pub HasItsSecond : List Row → Words → Type 0
+HasItsSecond rows words = first_of (codes "with") rows ≢ None → words.second ≢ None
+
+-- The words of a subcommand of this name, with these options, flags and files, mean this.
+pub record Means (name : Text) (rows : List Row) (words : Words) : Type 0 where
+  pub sub : sub_word words.sub ≡ name
+  pub format : IsFormat words.format rows
+  pub kind : kind_word words.kind ≡ first_kind rows
+  pub root : option_map string_bytes words.root ≡ first_of (codes "root") rows
+  pub numbering : IsNumbering words.numbering (numbering_word rows)
+  pub capacity : IsNumberElse (codes "capacity") rows 1 MAX_CAPACITY (digits_value 10 DEFAULT_CAPACITY.now) words.capacity
+  pub packets : IsNumberElse (codes "packets") rows 1 MAX_PACKETS (digits_value 10 DEFAULT_PACKETS.now) words.packets
+  pub restamps : IsNumberElse (codes "restamps") rows 0 MAX_RESTAMPS (digits_value 10 DEFAULT_RESTAMPS.now) words.restamps
+  pub threads : IsNumber (codes "threads") rows 1 MAX_THREADS words.threads
+  pub from : option_map string_bytes words.from ≡ first_of (codes "from") rows
+  pub to : option_map string_bytes words.to ≡ first_of (codes "to") rows
+  pub second : IsSecond (second_word rows) (first_of (codes "root") rows) words.second
+  pub disjoint : words.disjoint ≡ is_set (codes "disjoint") rows
+  pub order_alone : words.order_alone ≡ is_set (codes "order") rows
+  pub whole : words.whole ≡ is_set (codes "whole") rows
+  pub explain : words.explain ≡ (is_set (codes "explain") rows && not (is_set (codes "no-explain") rows))
+  pub files : map string_bytes words.files.items ≡ files_in rows
+
+-- What was met means this: a subcommand, with its options, flags and files.
+abbrev pub MeansMet : Option (Text × List Row) → Words → Type 0
+MeansMet None words = ⊥
+MeansMet (Some met) words = Means met.0 met.1 words × HasItsSecond met.1 words
+
+-- The words behind the program's name mean this, as the parser reads them by the command line.
+abbrev pub Asks : List Text → Words → Type 0
+Asks typed words = (choices : Choices) × AreTheirWords choices × MeansMet (subcommand_of (route choices) (codes "route" ∷ typed)) words

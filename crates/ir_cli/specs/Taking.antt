@@ -1,0 +1,61 @@
+-- What clap reads of the arguments and subcommands that the tables have.
+use Rattle.std.specs.Prelude.{◌≡◌, codes, ℕ, pos, true, false, List, [], ◌∷◌, Some, None, map, fold}
+use Rattle.std.specs.Int.{int_max, int_min}
+use Rattle.std.specs.Borrow.{Bor}
+use Rattle.clap.specs.Words.{App, Rule, Shape, Text, new_rule, shape_of, signed_between, with_rule}
+use Rattle.clap.specs.Simple.{new_shape}
+use Rattle.clap.specs.declared.builder.action.ArgAction.TheVariants.{SetTrue}
+use Rattle.clap.specs.declared.builder.command.Command.{Command}
+use Rattle.clap.specs.declared.builder.command.Command.TheViews.{out-Command}
+use Rattle.clap.specs.declared.builder.value_parser.ValueParser.TheVariants as vp
+use Rattle.ir_cli.specs.declared.command.Takes.{Takes}
+use Rattle.ir_cli.specs.declared.command.Takes.TheVariants.{Nothing, Word, WordOf, Number, File}
+use Rattle.ir_cli.specs.declared.command.Need.{Need}
+use Rattle.ir_cli.specs.declared.command.Need.TheVariants.{Free, Must, Else, Beside}
+use Rattle.ir_cli.specs.declared.command.Choice.{Choice}
+use Rattle.ir_cli.specs.declared.command.Choice.TheVariants.{Format, Kind, Numbering}
+use Rattle.ir_cli.specs.declared.command.Choices.{Choices}
+use Rattle.ir_cli.specs.declared.command.Taken.{Taken}
+
+abbrev pub rule_named : Text → Takes → Rule
+rule_named name Nothing = record (new_rule name) { long = Some name; action = Some SetTrue }
+rule_named name (File value) = record (new_rule name) { value_names = 1 }
+rule_named name _ = record (new_rule name) { long = Some name; value_names = 1 }
+
+abbrev pub choice_words : Choices → Choice → Bor (List (Bor Text))
+choice_words choices Format = choices.formats
+choice_words choices Kind = choices.kinds
+choice_words choices Numbering = choices.numberings
+
+abbrev pub rule_valued : Choices → Takes → Rule → Rule
+rule_valued choices (WordOf value choice) rule = record rule { parser = Some (vp.Names (choice_words choices choice)) }
+rule_valued choices (Number value least most) rule =
+    record rule { parser = Some (signed_between (int_max (pos 0) (pos least)) (int_min (pos 65535) (pos most))) }
+rule_valued choices _ rule = rule
+
+abbrev pub rule_needed : Need → Rule → Rule
+rule_needed Free rule = rule
+rule_needed Must rule = record rule { required = true }
+rule_needed (Else word) rule = record rule { defaults = word.now ∷ [] }
+rule_needed (Beside other) rule = record rule { is_free = false }
+
+abbrev pub rule_taken : Choices → Taken → Rule
+rule_taken choices taken = rule_needed taken.need (rule_valued choices taken.takes (rule_named taken.name.now taken.takes))
+
+-- what is read of a table
+abbrev pub rules_taken : Choices → List Taken → List Rule
+rules_taken choices all = map (rule_taken choices) all
+
+abbrev pub with_taken : Choices → App → List Taken → App
+with_taken choices app all = fold (λ a taken. with_rule a (rule_taken choices taken)) app all
+
+-- the program, before its subcommands
+abbrev pub program_app : App
+program_app = record {
+  top = record (new_shape (codes "route")) { has_version = true; subcommand_required = true };
+  subs = [];
+}
+
+-- a command is what its parser reads of a subcommand
+abbrev pub IsSubcommand : Shape → Command → Type 0
+IsSubcommand shape made = (shape_of made ≡ shape) × ((out-Command made).has_globals ≡ false)

@@ -1,0 +1,243 @@
+//! What was typed for the options, flags and files of a subcommand, as the fields of its words.
+
+ghost use Rattle.std.specs.Prelude.{◌≡◌, ◌≢◌, ◌<◌, ◌++◌, Some, IfOk, IfSome, MatchOption, OnOk, codes, map, option_map, option_to_list, string_bytes, unwrap_or};
+ghost use Rattle.clap.specs.Words.{first_of, found_of, rows_of};
+ghost use Rattle.ir_model.specs.declared.Kind.{Kind};
+ghost use Rattle.ir_cli.specs.Meaning.{IsFormat, IsNumber, IsNumberElse, IsNumbering, IsSecond, files_in, first_kind, is_set, kind_word, numbering_word, second_kind, second_root, second_word, sub_word};
+ghost use Rattle.ir_cli.specs.Typed.{AreTyped};
+
+use crate::MAX_THREADS;
+use crate::words::{Format, Numbering, Second, Sub, format_of_file};
+use clap::ArgMatches;
+use ir_core::{MAX_CAPACITY, MAX_PACKETS, MAX_RESTAMPS};
+use ir_model::Kind;
+use std::alloc::{AllocError, Global};
+
+/// The word of an option or a file, if there is one.
+pub fn typed<'a>(found: &ArgMatches<'a>, name: &str) -> Option<&'a str>
+    ensures { option_map (λ word. word.now) result ≡ first_of name.now (rows_of (found_of found.now)) }
+{
+    found.get_str(name)
+}
+
+/// The same as a text of its own.
+pub fn word_of(
+    alloc: Global,
+    found: &ArgMatches<'_>,
+    name: &str,
+) -> Result<Option<String>, AllocError>
+    ensures { IfOk result (λ word. option_map string_bytes word ≡ first_of name.now (rows_of (found_of found.now))) }
+{
+    match typed(found, name) {
+        Some(word) => Ok(Some(String::from_str(alloc, word)?)),
+        None => Ok(None),
+    }
+}
+
+/// Whether a flag stands among the words.
+pub fn is_set(found: &ArgMatches<'_>, name: &str) -> bool
+    ensures { result ≡ is_set name.now (rows_of (found_of found.now)) }
+{
+    match typed(found, name) {
+        Some(word) => word == "true",
+        None => false,
+    }
+}
+
+/// The number of an option, if it is one in this range.
+fn number_of(found: &ArgMatches<'_>, name: &str, least: usize, most: usize) -> Option<usize>
+    ensures { IfSome result (λ n. IsNumber name.now (rows_of (found_of found.now)) least most (Some n)) }
+{
+    let number = found.get_one::<usize>(name)?;
+    if least <= number && number <= most {
+        Some(number)
+    } else {
+        None
+    }
+}
+
+/// The same, and none where the option is not given.
+fn number_if_given(
+    found: &ArgMatches<'_>,
+    name: &str,
+    least: usize,
+    most: usize,
+) -> Option<Option<usize>>
+    ensures { IfSome result (λ n. IsNumber name.now (rows_of (found_of found.now)) least most n) }
+{
+    match typed(found, name) {
+        Some(_) => Some(Some(number_of(found, name, least, most)?)),
+        None => Some(None),
+    }
+}
+
+/// The same, and another number where the option is not given.
+fn number_or(
+    found: &ArgMatches<'_>,
+    name: &str,
+    least: usize,
+    most: usize,
+    other: usize,
+) -> Option<usize>
+    ensures { IfSome result (λ n. IsNumberElse name.now (rows_of (found_of found.now)) least most other n) }
+{
+    match number_if_given(found, name, least, most)? {
+        Some(number) => Some(number),
+        None => Some(other),
+    }
+}
+
+/// The subcommand of a name.
+fn sub_of(name: &str) -> Option<Sub>
+    ensures { IfSome result (λ sub. sub_word sub ≡ name.now) }
+{
+    match name {
+        "plan" => Some(Sub::Plan),
+        "walk" => Some(Sub::Walk),
+        "stats" => Some(Sub::Stats),
+        "compare" => Some(Sub::Compare),
+        "draw" => Some(Sub::Draw),
+        "prefixes" => Some(Sub::Prefixes),
+        "ranges" => Some(Sub::Ranges),
+        "sim" => Some(Sub::Sim),
+        "live" => Some(Sub::Live),
+        "check" => Some(Sub::Check),
+        _ => None,
+    }
+}
+
+/// The kind of a word, if it is that of one.
+fn kind_in(word: &str) -> Option<Kind>
+    ensures { MatchOption result ((kind : Kind) → kind_word kind ≢ word.now) (λ kind. kind_word kind ≡ word.now) }
+{
+    match word {
+        "tree" => Some(Kind::Tree),
+        "shortest" => Some(Kind::Shortest),
+        "compact" => Some(Kind::Compact),
+        _ => None,
+    }
+}
+
+/// The kind that is named, else that of shortest ways, as where the subcommand takes none.
+fn kind_of(found: &ArgMatches<'_>) -> Option<Kind>
+    ensures { IfSome result (λ kind. kind_word kind ≡ first_kind (rows_of (found_of found.now))) }
+{
+    kind_in(typed(found, "kind").unwrap_or("shortest"))
+}
+
+/// The word of a second plan as its kind and the name of its root, if that stands behind a comma.
+fn parts_of_second(word: &str) -> (&str, Option<&str>)
+    ensures kind { result.0.now ≡ second_kind word.now }
+    ensures root { option_map (λ name. name.now) result.1 ≡ second_root word.now }
+{
+    match word.split_once(',') {
+        Some((kind, root)) => (kind, Some(root)),
+        None => (word, None),
+    }
+}
+
+/// The second plan that is asked for, if there is one of this kind. Its root is by default that of the first plan.
+pub fn second_of(alloc: Global, found: &ArgMatches<'_>) -> Result<Option<Second>, AllocError>
+    ensures { IfOk result (λ second. IsSecond (second_word (rows_of (found_of found.now)))
+        (first_of (codes "root") (rows_of (found_of found.now))) second) }
+{
+    let (word, named) = parts_of_second(typed(found, "with").unwrap_or(""));
+    let Some(kind) = kind_in(word) else {
+        return Ok(None);
+    };
+    let root = match named {
+        Some(name) => Some(String::from_str(alloc, name)?),
+        None => word_of(alloc, found, "root")?,
+    };
+    Ok(Some(Second { kind, root }))
+}
+
+/// The format that is named, else that of the topology's file.
+fn format_of(found: &ArgMatches<'_>) -> Option<Format>
+    ensures { IfSome result (λ format. IsFormat format (rows_of (found_of found.now))) }
+{
+    match typed(found, "format") {
+        Some("adjlist") => Some(Format::AdjList),
+        Some("edgelist") => Some(Format::EdgeList),
+        Some(_) => None,
+        None => Some(format_of_file(typed(found, "topology").unwrap_or("-"))),
+    }
+}
+
+/// The numbering that is asked for.
+pub fn numbering_of(alloc: Global, found: &ArgMatches<'_>) -> Result<Numbering, AllocError>
+    ensures { IfOk result (λ numbering. IsNumbering numbering (numbering_word (rows_of (found_of found.now)))) }
+{
+    match typed(found, "numbering").unwrap_or("depth-first") {
+        "depth-first" => Ok(Numbering::DepthFirst),
+        "tour" => Ok(Numbering::Tour),
+        file => Ok(Numbering::File(String::from_str(alloc, file)?)),
+    }
+}
+
+/// Puts the file of a name behind others, if it is given.
+fn push_file(
+    alloc: Global,
+    files: &mut Vec<String>,
+    found: &ArgMatches<'_>,
+    name: &str,
+) -> Result<(), AllocError>
+    ensures { OnOk result (map string_bytes files.new.items ≡ map string_bytes files.old.items
+        ++ option_to_list (first_of name.now (rows_of (found_of found.now)))) }
+{
+    if let Some(file) = word_of(alloc, found, name)? {
+        files.push(file)?;
+    }
+    Ok(())
+}
+
+/// The files, in order.
+pub fn files_of(alloc: Global, found: &ArgMatches<'_>) -> Result<Vec<String>, AllocError>
+    ensures { IfOk result (λ files. map string_bytes files.items ≡ files_in (rows_of (found_of found.now))) }
+{
+    let mut files = Vec::new(alloc);
+    push_file(alloc, &mut files, found, "topology")?;
+    push_file(alloc, &mut files, found, "script")?;
+    push_file(alloc, &mut files, found, "trace")?;
+    Ok(files)
+}
+
+/// A few restamps; none where there is no number.
+fn few(number: Option<usize>) -> u8
+    requires { IfSome number (λ n. n < 256) }
+    ensures { result ≡ unwrap_or number 0 }
+{
+    match number {
+        Some(number) => number as u8,
+        None => 0,
+    }
+}
+
+/// What is chosen or counted.
+#[derive(Clone, Copy)]
+pub struct Chosen {
+    pub sub: Sub,
+    pub format: Format,
+    pub kind: Kind,
+    pub capacity: usize,
+    pub packets: usize,
+    pub restamps: u8,
+    pub threads: Option<usize>,
+}
+
+/// What is chosen or counted by the words of a subcommand of this name, if each of them is a name or a number that is
+/// taken.
+pub fn choose(name: &str, found: &ArgMatches<'_>) -> Option<Chosen>
+    ensures { IfSome result (λ all. AreTyped name.now (rows_of (found_of found.now)) all) }
+{
+    let restamps = number_if_given(found, "restamps", 0, MAX_RESTAMPS)?;
+    Some(Chosen {
+        sub: sub_of(name)?,
+        format: format_of(found)?,
+        kind: kind_of(found)?,
+        capacity: number_or(found, "capacity", 1, MAX_CAPACITY, 16)?,
+        packets: number_or(found, "packets", 1, MAX_PACKETS, 4096)?,
+        restamps: few(restamps),
+        threads: number_if_given(found, "threads", 1, MAX_THREADS as usize)?,
+    })
+}

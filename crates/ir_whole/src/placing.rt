@@ -1,0 +1,84 @@
+//! The injects of which rows can be the packets.
+ghost use Rattle.std.specs.Prelude.{◌≡◌, ◌≤◌, length, take};
+ghost use Rattle.ir_whole.specs.Judged.{fits, fits_any, are_placed, first_of_three};
+
+use crate::finding::WholeKind;
+use crate::injecting::Inject;
+
+/// What a row wants of its packet's inject: the ends, and an epoch that was installed above it.
+#[derive(Clone, Copy)]
+pub struct Wanted {
+    pub source: u16,
+    pub dest: u16,
+    pub epoch: u32,
+}
+
+/// Whether an inject has the ends, and the epoch is one of those above it.
+fn fits(wanted: Wanted, inject: Inject) -> bool
+    ensures { result ≡ fits wanted inject }
+{
+    wanted.source == inject.source
+        && wanted.dest == inject.dest
+        && wanted.epoch as usize <= inject.epochs
+}
+
+/// Whether an inject is as is wanted; any is where nothing is.
+fn fits_any(wanted: Option<Wanted>, inject: Inject) -> bool
+    ensures { result ≡ fits_any wanted inject }
+{
+    match wanted {
+        None => true,
+        Some(wanted) => fits(wanted, inject),
+    }
+}
+
+/// Whether for each number of a packet there is an inject as it is wanted, in the order of the numbers.
+fn are_placed(table: &[Option<Wanted>], injects: &[Inject]) -> bool
+    ensures { result ≡ are_placed table.now injects.now }
+{
+    let mut next = 0;
+    for inject in injects {
+        if next == table.len() {
+            return true;
+        }
+        if fits_any(table[next], *inject) {
+            next += 1;
+        }
+    }
+    next == table.len()
+}
+
+/// The first of what is found of a row.
+fn first_of_three(
+    is_injected: bool,
+    is_installed: bool,
+    cause: Option<WholeKind>,
+) -> Option<WholeKind>
+    ensures { result ≡ first_of_three is_injected is_installed cause }
+{
+    if !is_injected {
+        return Some(WholeKind::NeverInjected);
+    }
+    if !is_installed {
+        return Some(WholeKind::NotYetInstalled);
+    }
+    cause
+}
+
+/// The first of what is found of a row, where so many numbers of packets are used.
+pub fn found_of(
+    ends: &[Option<Wanted>],
+    stamps: &[Option<Wanted>],
+    used: usize,
+    injects: &[Inject],
+    cause: Option<WholeKind>,
+) -> Option<WholeKind>
+    requires ends { used ≤ length ends.now }
+    requires stamps { used ≤ length stamps.now }
+    ensures { result ≡ first_of_three (are_placed (take used ends.now) injects.now)
+        (are_placed (take used stamps.now) injects.now) cause }
+{
+    let is_injected = are_placed(&ends[..used], injects);
+    let is_installed = are_placed(&stamps[..used], injects);
+    first_of_three(is_injected, is_installed, cause)
+}

@@ -1,0 +1,56 @@
+-- What a call over texts in memory comes to.
+use Rattle.std.specs.Prelude.{◌≡◌, ◌⊎◌, ℕ, Bool, false, List, [], ◌++◌, Some, length, map, take, drop, slice_get}
+use Rattle.ir_streams.specs.Writing.{Writes}
+use Rattle.ir_cli.specs.declared.read.Source.{Source}
+use Rattle.ir_cli.specs.declared.read.Source.TheVariants.{Input, Topology, Script, Trace, Numbering}
+use Rattle.ir_cli.specs.declared.words.Words.{Words}
+use Rattle.ir_cli.specs.Words.{FitsItsKind}
+use Rattle.ir_cli.specs.Ending.{Ends}
+use Rattle.ir_cli.specs.Lines.{out_of_memory_line}
+use Rattle.ir_answer.specs.Asked.{sources_of, Answers, NoThreads}
+use Rattle.page.specs.declared.Lengths.{Lengths}
+
+-- the text of a source: one of three
+abbrev pub text_for : List ℕ → List ℕ → List ℕ → Source → List ℕ
+text_for topology script trace Input = topology
+text_for topology script trace Topology = topology
+text_for topology script trace Script = script
+text_for topology script trace Numbering = script
+text_for topology script trace Trace = trace
+
+-- what a vector that was empty has of a text that was written to it: all, or a front where memory was wanting
+abbrev pub IsInVector : Bool → List ℕ → List ℕ → Type 0
+IsInVector sent text items = Writes sent (Some []) (Some items) text
+
+-- The faults are these lines, and sentences behind them where the words ask for sentences.
+abbrev pub AreFaults : Words → List ℕ → List ℕ → Type 0
+AreFaults words lines faults =
+    (sent : Bool) × (front sentences : List ℕ) × IsInVector sent lines front × (faults ≡ front ++ sentences) × (words.explain ≡ false → sentences ≡ [])
+
+-- Words are followed over the texts of their sources: the run ends by the answers of the program.
+abbrev pub IsFollowed : Words → (Source → List ℕ) → ℕ → List ℕ → List ℕ → Type 0
+IsFollowed words text status output faults =
+    Ends (Answers NoThreads words) status (λ read. read ≡ map text (sources_of words))
+    (λ source why. (place : ℕ) × (slice_get (sources_of words) place ≡ Some source))
+    (λ sent written. IsInVector sent written output) (output ≡ []) (λ lines. AreFaults words lines faults)
+
+-- Words that fit their kind were followed; or words were refused by a text.
+abbrev pub IsCallAnswer : (Source → List ℕ) → ℕ → List ℕ → List ℕ → Type 0
+IsCallAnswer text status output faults =
+    ((words : Words) × FitsItsKind words × IsFollowed words text status output faults) ⊎ ((status ≡ 2) × (output ≡ []))
+
+-- memory was refused, and nothing is told but that
+abbrev pub IsOutOfMemory : ℕ → List ℕ → List ℕ → Type 0
+IsOutOfMemory status output faults = (status ≡ 3) × (output ≡ []) × (faults ≡ out_of_memory_line)
+
+-- The room has what there is room for of the text, and behind that what it had; the length is that of the text.
+abbrev pub IsPut : List ℕ → ℕ → List ℕ → List ℕ → Type 0
+IsPut text told old new = (told ≡ length text) × (new ≡ take (length old) text ++ drop (length text) old)
+
+-- A call over these texts answers this status, and puts its output and its faults into their rooms.
+pub record IsCall (topology script trace : List ℕ) (status : ℕ) (lengths : Lengths) (output_old output_new faults_old faults_new : List ℕ) : Type 0 where
+  pub output : List ℕ
+  pub faults : List ℕ
+  pub answer : IsCallAnswer (text_for topology script trace) status output faults ⊎ IsOutOfMemory status output faults
+  pub output_put : IsPut output lengths.output output_old output_new
+  pub faults_put : IsPut faults lengths.faults faults_old faults_new

@@ -1,0 +1,155 @@
+//! The answer of a call, in memory.
+ghost use Rattle.std.specs.Prelude.{◌≡◌, false, [], IfOk, map, string_bytes};
+ghost use Rattle.ir_answer.specs.Asked.{sources_of};
+ghost use Rattle.ir_cli.specs.Words.{FitsItsKind};
+ghost use Rattle.page.specs.Calls.{text_for, IsFollowed, IsCallAnswer};
+
+use crate::words::asked;
+use ir_answer::{Alone, Source, Words, WordsError, run_by, sources_of};
+use ir_explain::{Given, Trouble, explanation};
+use std::alloc::{AllocError, Global};
+
+/// The most bytes of a line of faults that tells of one input.
+const LINE: usize = 128;
+
+/// The line of faults of an output that was not taken whole.
+static UNWRITABLE: &str = "output unwritable\n";
+
+/// A status, the output and the faults.
+#[derive(Drop)]
+pub struct Answered {
+    pub status: u32,
+    pub output: Vec<u8>,
+    pub faults: Vec<u8>,
+}
+
+/// The text of a source.
+fn text_for<'a>(topology: &'a [u8], script: &'a [u8], trace: &'a [u8], source: Source) -> &'a [u8]
+    ensures { result.now ≡ text_for topology.now script.now trace.now source }
+{
+    match source {
+        Source::Input | Source::Topology => topology,
+        Source::Script | Source::Numbering => script,
+        Source::Trace => trace,
+    }
+}
+
+/// The texts of the sources that the words ask for, in order.
+fn texts_of<'a>(
+    alloc: Global,
+    words: &Words,
+    topology: &'a [u8],
+    script: &'a [u8],
+    trace: &'a [u8],
+) -> Result<Vec<&'a [u8]>, AllocError>
+    ensures { IfOk result (λ texts. map (λ text. text.now) texts.items
+        ≡ map (text_for topology.now script.now trace.now) (sources_of words.now)) }
+{
+    let sources = sources_of(words);
+    let mut texts = Vec::with_capacity(alloc, sources.len())?;
+    for i in 0..sources.len() {
+        texts.push(text_for(topology, script, trace, sources[i]))?;
+    }
+    Ok(texts)
+}
+
+/// Sentences for people on a run that wrote these faults and this output; none where the words ask for none.
+fn sentences(
+    alloc: Global,
+    words: &Words,
+    texts: &[&[u8]],
+    faults: &[u8],
+    output: &[u8],
+) -> Result<String, AllocError>
+    ensures { IfOk result (λ text. words.now.explain ≡ false → string_bytes text ≡ []) }
+{
+    if !words.explain {
+        return Ok(String::new(alloc));
+    }
+    let mut given = Vec::with_capacity(alloc, texts.len())?;
+    for text in texts {
+        given.push(Given {
+            bytes: *text,
+            trouble: Trouble::Unknown,
+        })?;
+    }
+    explanation(alloc, words, given.as_slice(), faults, output)
+}
+
+/// Whether the output was not taken whole, which for a text in memory is want of memory.
+fn is_cut(status: u8, faults: &[u8]) -> bool {
+    status == 1 && faults == UNWRITABLE.as_bytes()
+}
+
+/// Does what the words ask for over the texts.
+fn followed(
+    alloc: Global,
+    words: &Words,
+    topology: &[u8],
+    script: &[u8],
+    trace: &[u8],
+) -> Result<Answered, AllocError>
+    requires { FitsItsKind words.now }
+    ensures { IfOk result (λ it. IsFollowed words.now (text_for topology.now script.now trace.now)
+        it.status it.output.items it.faults.items) }
+{
+    let texts = texts_of(alloc, words, topology, script, trace)?;
+    let mut inputs = texts_of(alloc, words, topology, script, trace)?;
+    let mut output = Vec::new(alloc);
+    let mut faults = Vec::with_capacity(alloc, LINE)?;
+    let status = run_by(
+        &Alone,
+        alloc,
+        words,
+        inputs.as_mut_slice(),
+        &mut output,
+        &mut faults,
+    );
+    if is_cut(status, faults.as_slice()) {
+        return Err(AllocError);
+    }
+    let text = sentences(
+        alloc,
+        words,
+        texts.as_slice(),
+        faults.as_slice(),
+        output.as_slice(),
+    )?;
+    faults.extend_from_slice(text.as_bytes())?;
+    Ok(Answered {
+        status: status.into(),
+        output,
+        faults,
+    })
+}
+
+/// The answer to words that are refused: their text.
+fn refused(alloc: Global, text: &String) -> Result<Answered, AllocError>
+    ensures { IfOk result (λ it. (it.status ≡ 2) × (it.output.items ≡ [])) }
+{
+    let mut faults = Vec::new(alloc);
+    faults.extend_from_slice(text.as_bytes())?;
+    Ok(Answered {
+        status: 2,
+        output: Vec::new(alloc),
+        faults,
+    })
+}
+
+/// Does what the words of a text ask for. It is refused for memory alone.
+pub fn answer_to(
+    alloc: Global,
+    words: &[u8],
+    topology: &[u8],
+    script: &[u8],
+    trace: &[u8],
+) -> Result<Answered, AllocError>
+    ensures { IfOk result (λ it. IsCallAnswer (text_for topology.now script.now trace.now)
+        it.status it.output.items it.faults.items) }
+{
+    match asked(alloc, words) {
+        Ok(words) => followed(alloc, &words, topology, script, trace),
+        Err(WordsError::Usage(text) | WordsError::Help(text)) => refused(alloc, &text),
+        Err(WordsError::NoMemory) => Err(AllocError),
+    }
+}
