@@ -1,14 +1,25 @@
 -- What a call over texts in memory comes to.
-use Rattle.std.specs.Prelude.{◌≡◌, ◌⊎◌, ℕ, Bool, false, List, [], ◌++◌, Some, length, map, take, drop, slice_get}
+use Rattle.std.specs.Prelude.{◌≡◌, ◌⊎◌, ℕ, Bool, false, List, [], ◌∷◌, ◌++◌, Some, length, map, take, drop, slice_get, codes}
+use Rattle.ir_model.specs.Text.{lines}
 use Rattle.ir_streams.specs.Writing.{Writes}
 use Rattle.ir_cli.specs.declared.read.Source.{Source}
 use Rattle.ir_cli.specs.declared.read.Source.TheVariants.{Input, Topology, Script, Trace, Numbering}
 use Rattle.ir_cli.specs.declared.words.Words.{Words}
 use Rattle.ir_cli.specs.Words.{FitsItsKind}
+use Rattle.ir_cli.specs.Meaning.{Asks}
 use Rattle.ir_cli.specs.Ending.{Ends}
 use Rattle.ir_cli.specs.Lines.{out_of_memory_line}
 use Rattle.ir_answer.specs.Asked.{sources_of, Answers, NoThreads}
 use Rattle.page.specs.declared.Lengths.{Lengths}
+
+-- no words are the words `sim -`
+abbrev pub or_sim : List (List ℕ) → List (List ℕ)
+or_sim [] = codes "sim" ∷ codes "-" ∷ []
+or_sim (word ∷ words) = word ∷ words
+
+-- the words that a text is: its lines, each a word
+abbrev pub typed_words : List ℕ → List (List ℕ)
+typed_words text = or_sim (lines text)
 
 -- the text of a source: one of three
 abbrev pub text_for : List ℕ → List ℕ → List ℕ → Source → List ℕ
@@ -34,10 +45,10 @@ IsFollowed words text status output faults =
     (λ source why. (place : ℕ) × (slice_get (sources_of words) place ≡ Some source))
     (λ sent written. IsInVector sent written output) (output ≡ []) (λ lines. AreFaults words lines faults)
 
--- Words that fit their kind were followed; or words were refused by a text.
-abbrev pub IsCallAnswer : (Source → List ℕ) → ℕ → List ℕ → List ℕ → Type 0
-IsCallAnswer text status output faults =
-    ((words : Words) × FitsItsKind words × IsFollowed words text status output faults) ⊎ ((status ≡ 2) × (output ≡ []))
+-- What the words ask for was followed, and fits its kind; or the words were refused by a text.
+abbrev pub IsCallAnswer : List (List ℕ) → (Source → List ℕ) → ℕ → List ℕ → List ℕ → Type 0
+IsCallAnswer typed text status output faults =
+    ((words : Words) × Asks typed words × FitsItsKind words × IsFollowed words text status output faults) ⊎ ((status ≡ 2) × (output ≡ []))
 
 -- memory was refused, and nothing is told but that
 abbrev pub IsOutOfMemory : ℕ → List ℕ → List ℕ → Type 0
@@ -47,10 +58,10 @@ IsOutOfMemory status output faults = (status ≡ 3) × (output ≡ []) × (fault
 abbrev pub IsPut : List ℕ → ℕ → List ℕ → List ℕ → Type 0
 IsPut text told old new = (told ≡ length text) × (new ≡ take (length old) text ++ drop (length text) old)
 
--- A call over these texts answers this status, and puts its output and its faults into their rooms.
-pub record IsCall (topology script trace : List ℕ) (status : ℕ) (lengths : Lengths) (output_old output_new faults_old faults_new : List ℕ) : Type 0 where
+-- A call with the words of a text, over these texts, answers this status, and puts its output and its faults into their rooms.
+pub record IsCall (words topology script trace : List ℕ) (status : ℕ) (lengths : Lengths) (output_old output_new faults_old faults_new : List ℕ) : Type 0 where
   pub output : List ℕ
   pub faults : List ℕ
-  pub answer : IsCallAnswer (text_for topology script trace) status output faults ⊎ IsOutOfMemory status output faults
+  pub answer : IsCallAnswer (typed_words words) (text_for topology script trace) status output faults ⊎ IsOutOfMemory status output faults
   pub output_put : IsPut output lengths.output output_old output_new
   pub faults_put : IsPut faults lengths.faults faults_old faults_new

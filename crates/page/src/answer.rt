@@ -2,7 +2,7 @@
 ghost use Rattle.std.specs.Prelude.{◌≡◌, false, [], IfOk, map, string_bytes};
 ghost use Rattle.ir_answer.specs.Asked.{sources_of};
 ghost use Rattle.ir_cli.specs.Words.{FitsItsKind};
-ghost use Rattle.page.specs.Calls.{text_for, IsFollowed, IsCallAnswer};
+ghost use Rattle.page.specs.Calls.{typed_words, text_for, IsFollowed, IsCallAnswer};
 
 use crate::words::asked;
 use ir_answer::{Alone, Source, Words, WordsError, run_by, sources_of};
@@ -144,7 +144,7 @@ pub fn answer_to(
     script: &[u8],
     trace: &[u8],
 ) -> Result<Answered, AllocError>
-    ensures { IfOk result (λ it. IsCallAnswer (text_for topology.now script.now trace.now)
+    ensures { IfOk result (λ it. IsCallAnswer (typed_words words.now) (text_for topology.now script.now trace.now)
         it.status it.output.items it.faults.items) }
 {
     match asked(alloc, words) {

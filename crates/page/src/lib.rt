@@ -47,7 +47,8 @@ pub extern "C" fn bentzolu_run(
     faults: &mut [u8],
     lengths: &mut Lengths,
 ) -> u32
-    ensures { IsCall topology.now script.now trace.now result lengths.new output.old output.new faults.old faults.new }
+    ensures { IsCall words.now topology.now script.now trace.now result lengths.new
+        output.old output.new faults.old faults.new }
 {
     match answer_to(alloc, words, topology, script, trace) {
         Ok(it) => {

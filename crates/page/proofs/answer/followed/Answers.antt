@@ -1,4 +1,4 @@
-use Rattle.std.proofs.Common.{◌≡◌, ℕ, false, [], ◌++◌, List, map, length, Some, Result, Bor, sym, ap, ◌∙◌, subst, refl}
+use Rattle.std.proofs.Common.{ℕ, List, map, length, Some, Result, Bor, sym, ap, ◌∙◌, subst, refl}
 use Rattle.std.proofs.lemmas.List.{length-map}
 use Rattle.std.specs.Global.{Vec}
 use Rattle.std.specs.Io.KnownBytes.{Keeps, WriteAppends}
