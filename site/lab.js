@@ -170,7 +170,31 @@ async function refreshPlan() {
   }
 }
 
+// An own text clears what an example has for nodes that are not there: its root, and its script.
+function leaveExample(text) {
+  const example = EXAMPLES[byId("example").value], words = new Set(text.split(/\s+/));
+  if (!example) return;
+  if (state.root === example.root && !words.has(state.root)) state.root = byId("root").value = "";
+  const injected = [...state.script.matchAll(/^\s*inject\s+(\S+)\s+(\S+)/gm)].flatMap(found => found.slice(1));
+  if (state.script !== example.script || injected.every(name => words.has(name))) return;
+  state.script = byId("script").value = "";
+  showGutter("script");
+}
+
+// Whether a text has no node of the example that was chosen.
+function isOtherThanExample(text) {
+  const example = EXAMPLES[byId("example").value], words = new Set(text.split(/\s+/));
+  return Boolean(example) && !example.topology.split(/\s+/).some(word => word !== "" && !/^[0-9]+$/.test(word) && words.has(word));
+}
+
+// The format that the lines of a text have: a weighted edge list where each has two nodes and a number.
+function formatOf(text) {
+  const lines = text.split("\n").map(line => line.split("#")[0].trim()).filter(line => line !== "");
+  return lines.length > 0 && lines.every(line => /^\S+\s+\S+\s+[0-9]+$/.test(line)) ? "edgelist" : "adjlist";
+}
+
 function setTopology(text, isDrawn) {
+  leaveExample(text);
   state.topology = text;
   byId("topology").value = text;
   if (!isDrawn) state.manual = null;

@@ -46,7 +46,11 @@ function isSettled() {
 
 function listenToTexts() {
   const changed = {
-    topology: later(() => { state.places = ""; setTopology(byId("topology").value); }),
+    topology: later(() => {
+      const text = byId("topology").value;
+      if (isOtherThanExample(text)) setFormat(formatOf(text));
+      { state.places = ""; setTopology(text); };
+    }),
     script: later(() => setScript(byId("script").value)),
     trace: later(() => ownTrace(byId("trace").value)),
   };

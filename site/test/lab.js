@@ -36,6 +36,11 @@ async function example(page, place) {
 
 async function tryPlan(page) {
   same("the first example", (await textOf(page, "told")).split(",")[0], "tree plan of 14 nodes and 21 links: 26 intervals");
+  await page.type("#topology", "home desk tv phone\ndesk printer\n");
+  await page.until("state.topology.startsWith('home')");
+  await settled(page);
+  same("an own network behind an example", (await textOf(page, "told")).split(",")[0], "tree plan of 5 nodes and 4 links: 8 intervals");
+  same("what belonged to the example is gone", await page.value("[state.root, state.script, document.getElementById('script').value]"), ["", "", ""]);
   await example(page, 1);
   same("a plan", await textOf(page, "plan"), "plan shortest 6 10\na 0 1 b 4 c\nb 1 2 d 3 e 4 a\nc 4 0 a 5 f\nd 2 3 b\ne 3 4 b\nf 5 0 c\n");
   await page.click("#tab-plan");
