@@ -1,5 +1,6 @@
 -- what contracts promise
 pub mod Code
 pub mod Allowed
+pub mod PortBits
 -- what bodies use
 pub mod Runs

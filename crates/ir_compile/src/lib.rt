@@ -11,12 +11,14 @@ mod choices;
 mod error;
 mod round;
 mod runs;
+mod words;
 
 pub use choices::{choose, compile_choices, ports_of_runs};
 pub use error::CompileError;
 use ir_lookup::{Row, WORD_BASE};
 pub use runs::keep_longer;
 use std::alloc::{AllocError, Global};
+pub use words::{WORD_PORTS, runs_by_words};
 
 /// The most ports of a node.
 pub const MAX_PORTS: usize = 65_536;

@@ -1,5 +1,5 @@
 -- Marks of ports, for the nodes of a list.
-use Rattle.std.proofs.Common.{◌≡◌, ◌≢◌, ◌↔◌, ℕ, zero, suc, w16, ◌+◌, ◌-◌, ◌*◌, ◌/◌, ◌%◌, ◌<◌, ◌≤◌, ◌^◌, ◌⊎◌, inl, inr, Bool, true, false, min, List, [], ◌∷◌, ◌++◌, length, set, slice_index, slice_index_or, refl, sym, ap, subst, ◌∙◌, arith, ⊎_elim, length-set, get_or-set_same, get_or-set_other}
+use Rattle.std.proofs.Common.{◌≡◌, ◌≢◌, ◌↔◌, ℕ, zero, suc, w16, ◌+◌, ◌-◌, ◌*◌, ◌/◌, ◌%◌, ◌<◌, ◌≤◌, ◌^◌, ◌⊎◌, inl, inr, Bool, true, false, min, List, [], ◌∷◌, ◌++◌, length, get_or, set, slice_index, slice_index_or, refl, sym, ap, subst, ◌∙◌, arith, ⊎_elim, length-set, get_or-set_same, get_or-set_other}
 use Rattle.std.specs.Prelude.{Contains}
 use Rattle.std.specs.Global.{Vec}
 use Rattle.std.proofs.lemmas.Bool.{cases_eq, cases_lt}
@@ -8,7 +8,7 @@ use Rattle.std.proofs.Math.Nat.{div-div-eq-div-mul, div-mul-le_self, zero-div}
 use Rattle.std.proofs.Math.Pow.{pow_mono}
 use Rattle.std.proofs.lemmas.Nat.{shr_le, mul-le, pow-add}
 use Rattle.std.proofs.lemmas.Nat.Bits.{bit_at-trailing_zeros}
-use Rattle.std.proofs.lemmas.List.{get_or_append_left, get_or_push, length_push, map-append}
+use Rattle.std.proofs.lemmas.List.{get_or_append_left, get_or_push, get_or_read, get_or-map, length_push, length-map, map-append}
 use Rattle.std.proofs.lemmas.List.Elements.{Contains-append_left}
 use Rattle.ir_model.specs.Topology.{Topology, node_count, ports_of}
 use Rattle.ir_model.specs.Table.{LeadsNearer}
@@ -50,6 +50,12 @@ batch_more net nodes b made more v long all is own =
 
 -- ---- what the marks of a port tell
 
+-- where the ports of a node begin, as it was read
+pub begin_read : (net : Topology) (nodes : List ℕ) (marks : PortMarks) → ArePortMarks net nodes marks → (u : ℕ) → u < node_count net → (begins : List ℕ) → begins ≡ marks.begins
+    → (read : ℕ) → read ≡ get_or begins u read → read ≡ ports_before net u
+begin_read net nodes marks are u u_in begins same read is =
+    get_or_read marks.begins u read (omega (arith, u_in, are.every)) (is ∙ ap (λ (xs : List ℕ). get_or xs u read) same) 0 ∙ are.begin u u_in
+
 -- from each other node some port leads nearer to a node of the list
 pub nearer_in_batches : (net : Topology) (nodes : List ℕ) (batches : List (List ℕ)) → length nodes ≤ length batches * 16 → AreBatches net nodes batches
     → (u d : ℕ) → u < node_count net → d < length nodes → u ≢ slice_index nodes d → (p : ℕ) × LeadsNearer net u (slice_index nodes d) p
@@ -60,6 +66,12 @@ nearer_in_batches net nodes batches enough all u d u_in d_in other =
     let node : slice_index made.ends (d % 16) ≡ slice_index nodes d =
     made.sixteen.each (d % 16) (omega arith) ∙ (ap (node_from nodes) at ∙ ap (slice_index nodes) last) in
     subst (λ x. (p : ℕ) × LeadsNearer net u x p) node (made.told.nearer u (d % 16) u_in (omega arith) (λ e. other (e ∙ node)))
+
+-- the words of a batch, as they were read
+pub words_read : (batches : List (Vec ℕ)) (lists : List (List ℕ)) → word_lists batches ≡ lists → (b : ℕ) → b < length lists → (read : Vec ℕ) → read ≡ get_or batches b read → read.items ≡ slice_index_or lists b []
+words_read batches lists same b b_in read is =
+    let here : b < length batches = omega (arith, b_in, ap length same, length-map batches (λ (w : Vec ℕ). w.items)) in
+    ap (λ (w : Vec ℕ). w.items) is ∙ sym (get_or-map (λ (w : Vec ℕ). w.items) batches b read [] here) ∙ ap (λ (ls : List (List ℕ)). slice_index_or ls b []) same
 
 module _ (net : Topology) (nodes : List ℕ) (marks : PortMarks) (are : ArePortMarks net nodes marks) (u p b : ℕ) (u_in : u < node_count net) (p_in : p < length (ports_of net u)) (b_in : b * 16 < length nodes) where
   pub has_batch : b < length marks.batches

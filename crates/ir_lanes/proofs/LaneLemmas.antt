@@ -115,3 +115,24 @@ near_put at lanes to room long near low i =
     let P : ℕ → Type 0 = λ j. get_or (put_chunk at lanes to) j 0 ≤ far in
     subst P is (omega (arith, get_or-put_chunk_at at lanes to k 0 (omega (arith, k_in, long)) (omega (arith, room, long)), low k k_in)))
     (λ (above : at + 16 ≤ i). omega (arith, get_or-put_chunk_above at lanes to i 0 (omega (arith, above, long)), near i)) (cases_lt i (at + 16))) (cases_lt i at)
+
+-- ---- the bit of each lane
+
+pub place_bits : (k : ℕ) → k < 16 → slice_index (1 ∷ 2 ∷ 4 ∷ 8 ∷ 16 ∷ 32 ∷ 64 ∷ 128 ∷ 256 ∷ 512 ∷ 1024 ∷ 2048 ∷ 4096 ∷ 8192 ∷ 16384 ∷ 32768 ∷ []) k ≡ 2 ^ k
+place_bits zero l = refl
+place_bits (suc zero) l = refl
+place_bits (suc (suc zero)) l = refl
+place_bits (suc (suc (suc zero))) l = refl
+place_bits (suc (suc (suc (suc zero)))) l = refl
+place_bits (suc (suc (suc (suc (suc zero))))) l = refl
+place_bits (suc (suc (suc (suc (suc (suc zero)))))) l = refl
+place_bits (suc (suc (suc (suc (suc (suc (suc zero))))))) l = refl
+place_bits (suc (suc (suc (suc (suc (suc (suc (suc zero)))))))) l = refl
+place_bits (suc (suc (suc (suc (suc (suc (suc (suc (suc zero))))))))) l = refl
+place_bits (suc (suc (suc (suc (suc (suc (suc (suc (suc (suc zero)))))))))) l = refl
+place_bits (suc (suc (suc (suc (suc (suc (suc (suc (suc (suc (suc zero))))))))))) l = refl
+place_bits (suc (suc (suc (suc (suc (suc (suc (suc (suc (suc (suc (suc zero)))))))))))) l = refl
+place_bits (suc (suc (suc (suc (suc (suc (suc (suc (suc (suc (suc (suc (suc zero))))))))))))) l = refl
+place_bits (suc (suc (suc (suc (suc (suc (suc (suc (suc (suc (suc (suc (suc (suc zero)))))))))))))) l = refl
+place_bits (suc (suc (suc (suc (suc (suc (suc (suc (suc (suc (suc (suc (suc (suc (suc zero))))))))))))))) l = refl
+place_bits (suc (suc (suc (suc (suc (suc (suc (suc (suc (suc (suc (suc (suc (suc (suc (suc k)))))))))))))))) l = absurd (omega (arith, l))

@@ -6,3 +6,4 @@ pub mod Bellman
 pub mod Ends
 pub mod Words
 pub mod Batches
+pub mod PortLanes

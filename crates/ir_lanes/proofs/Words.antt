@@ -44,6 +44,12 @@ port_before net v u p less v_in p_in =
     let up : ports_before net (v + 1) ≤ ports_before net u = take_mono net.ports (v + 1) u (omega (arith, less)) in
     omega (arith, up, before_more net v v_in, p_in)
 
+-- the ports of a node stand among all
+pub ports_within : (net : Topology) (u : ℕ) → u < node_count net → ports_before net u + length (ports_of net u) ≤ ports_before net (node_count net)
+ports_within net u u_in =
+    let up : ports_before net (u + 1) ≤ ports_before net (node_count net) = take_mono net.ports (u + 1) (node_count net) (omega (arith, u_in)) in
+    omega (arith, up, before_more net u u_in)
+
 -- ---- pushes
 
 pub pushing_none : (net : Topology) (weights : List ℕ) (u : ℕ) (old : List ℕ) → IsPushing net weights u 0 old old

@@ -2,13 +2,15 @@
 ghost use Rattle.std.specs.Prelude.{◌≡◌, ◌↔◌, ℕ, ◌+◌, ◌*◌, ◌<◌, ◌≤◌, [], false, IfOk, IfSome, OnOk, length, slice_index, slice_index_or};
 ghost use Rattle.ir_model.specs.Topology.{node_count, ports_of};
 ghost use Rattle.ir_lanes.specs.{Inward.{ports_before}, Views.port_marks_of};
-ghost use Rattle.ir_lanes.specs.Marks.{AreBatchWords, AreBatches, AreMarked, AreMarksTo, ArePortMarks, AreSixteen, PortMarks, PutsWord, node_from, word_lists};
+ghost use Rattle.ir_lanes.specs.Marks.{AreBatchWords, AreBatches, AreMarked, AreMarksTo, ArePortMarks, ArePushedTied};
+ghost use Rattle.ir_lanes.specs.Marks.{AreSixteen, AreTied, PortMarks, PutsWord, node_from, word_lists};
 
 use crate::inward::InwardLanes;
-use crate::vectors::LANES;
+use crate::vectors::{LANES, with_port};
 use ir_tables::Topology;
 use std::alloc::{AllocError, Global};
 use std::marker::Model;
+use std::simd::prelude::*;
 
 /// A mark for each port of each node and each place of a list of nodes: whether the port leads nearer to the node there.
 /// Takes 2 m n bits, for n nodes in the list and m links.
@@ -96,6 +98,33 @@ impl PortMarks {
         Ok((row, marked))
     }
 
+    /// For each place of the list a word whose bits are the ports of a node that lead nearer to the node there; up to
+    /// fifteen words more stand behind these. Condition: these are the marks for the list, and the node has at most 32
+    /// ports. It is refused for memory alone. Takes O(n) for each port, for n nodes in the list.
+    pub fn tied(
+        &self,
+        alloc: Global,
+        topology: &Topology,
+        order: &[u16],
+        node: u16,
+    ) -> Result<Vec<u32>, AllocError>
+        requires marks { ArePortMarks topology.now order.now self.now }
+        requires few { length order.now ≤ 65536 }
+        requires node { node < node_count topology.now }
+        requires ports { length (ports_of topology.now node) ≤ 32 }
+        ensures { IfOk result (λ tied. AreTied topology.now order.now node tied.items) }
+    {
+        let _nodes = topology.nodes();
+        let begin = self.begins[node as usize];
+        let ports = topology.ports(node as usize).len();
+        let count = order.len().div_ceil(LANES);
+        let mut tied = Vec::with_capacity(alloc, count * LANES)?;
+        for batch in 0..count {
+            push_tied(self.batches[batch].as_slice(), begin, ports, &mut tied)?;
+        }
+        Ok(tied)
+    }
+
     // The word of a port in a batch.
     fn word(&self, batch: usize, place: usize) -> u16
         requires batch { batch < length self.now.batches }
@@ -138,6 +167,25 @@ pub fn sixteen_from(alloc: Global, nodes: &[u16], first: usize) -> Result<Vec<u1
         sixteen.push(node_from(nodes, first, k))?;
     }
     Ok(sixteen)
+}
+
+// Puts sixteen words behind the others, whose bits are the ports, of some whose words stand from `begin` on, in whose
+// words the bit of the place is set.
+fn push_tied(
+    words: &[u16],
+    begin: usize,
+    ports: usize,
+    tied: &mut Vec<u32>,
+) -> Result<(), AllocError>
+    requires few { ports ≤ 32 }
+    requires words { begin + ports ≤ length words.now }
+    ensures { OnOk result (ArePushedTied words.now begin ports tied.old.items tied.new.items) }
+{
+    let mut lanes = u32x16::splat(0);
+    for p in 0..ports {
+        lanes = with_port(lanes, words[begin + p], p as u32);
+    }
+    tied.extend_from_slice(&lanes.to_array())
 }
 
 // The node so far behind a place of a list, or the last one.

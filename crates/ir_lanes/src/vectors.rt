@@ -1,7 +1,7 @@
 //! Sixteen lanes at a time, and what each operation leaves in each of them.
-ghost use Rattle.std.specs.Prelude.{◌≡◌, ◌↔◌, ℕ, ◌+◌, ◌*◌, ◌<◌, ◌≤◌, min, length, slice_index, IsTrue};
+ghost use Rattle.std.specs.Prelude.{◌≡◌, ◌↔◌, ℕ, ◌+◌, ◌*◌, ◌^◌, ◌<◌, ◌≤◌, min, length, slice_index, IsTrue};
 ghost use Rattle.ir_lanes.specs.Lanes.{HasLanes, far, most_added};
-ghost use Rattle.ir_lanes.specs.Inward.{IsSet};
+ghost use Rattle.ir_lanes.specs.{Inward.IsSet, Marks.HasPort};
 
 use std::simd::prelude::*;
 
@@ -59,6 +59,28 @@ pub fn same_lanes(a: u32x16, b: u32x16) -> u16
     ensures { (k : ℕ) → k < 16 → IsSet result k ↔ (slice_index a k ≡ slice_index b k) }
 {
     a.simd_eq(b).to_bitmask() as u16
+}
+
+// In each lane its bit alone.
+#[inline(always)]
+fn places() -> u32x16
+    ensures { HasLanes result (λ k. 2 ^ k) }
+{
+    u32x16::from_array([
+        1, 2, 4, 8, 16, 32, 64, 128, 256, 512, 1024, 2048, 4096, 8192, 16384, 32768,
+    ])
+}
+
+/// What each lane had, with the bit of a port beside it where the lane's bit is set in a word.
+#[inline(always)]
+pub fn with_port(lanes: u32x16, word: u16, port: u32) -> u32x16
+    requires long { length lanes ≡ 16 }
+    requires port { port < 32 }
+    ensures { HasPort lanes word port result }
+{
+    let bits = places();
+    let set = (u32x16::splat(word as u32) & bits).simd_eq(bits);
+    lanes | set.select(u32x16::splat(1 << port), u32x16::splat(0))
 }
 
 /// Whether each lane holds what is near.

@@ -7,13 +7,16 @@ use Rattle.std.proofs.lemmas.Grind.{get_or_default_zero}
 use Rattle.std.proofs.lemmas.List.Elements.{Contains-get_or}
 use Rattle.ir_model.specs.Topology.{Topology, IsTopology, node_count, ports_of}
 use Rattle.ir_model.specs.Table.{LeadsNearer}
-use Rattle.ir_model.specs.Choices.{AreChoices, AreChosen}
+use Rattle.ir_model.specs.Choices.{AreChoices, AreChosen, label_from}
 use Rattle.ir_model.specs.Compact.{IsTied}
 use Rattle.ir_model.specs.Plan.{AreLabels}
 use Rattle.ir_model.proofs.Chosen.{choices_same}
 use Rattle.std.proofs.lemmas.Option.{slice_get_within}
 use Rattle.ir_model.proofs.Best.{Marks, IsBestBelow}
-use Rattle.ir_lanes.specs.Marks.{PortMarks, ArePortMarks}
+use Rattle.ir_model.proofs.Steps.{AreLongest}
+use Rattle.ir_lanes.specs.Marks.{PortMarks, ArePortMarks, AreTied}
+use Rattle.ir_compile.specs.PortBits.{MayTakeBit}
+use Rattle.ir_compile.proofs.PortBits.{has_some}
 use Rattle.ir_plan.specs.CompactRows.{AreMarksOf, AreTiedMarks, MayTake}
 use Rattle.ir_tables.specs.FromNode.{AreFrom, AreLedBy}
 use Rattle.ir_compile.specs.Runs.{HasMarked}
@@ -69,6 +72,38 @@ module _ (net : Topology) (ok : IsTopology net) (order labels : List ℕ) (named
   unmarked_may p row marked are has none d may =
       let at = has.every d may.0 ((marks_may p row are d).0 may) in
       omega (arith, at.1, none)
+
+  -- the words of the labels tell which ports they may take
+  pub words_may : (words : List ℕ) → AreTied net order u words → length (ports_of net u) ≤ 32 → (d p : ℕ) → MayTakeBit (node_count net) words d p ↔ MayTake net order (slice_index labels u) d p
+  words_may words are few d p =
+      let there = named.there u hu in
+      let place : d < node_count net → d < length order = λ hd. omega (arith, hd, named.every_label) in (
+        (λ may. (may.0, subst (λ (x : ℕ). LeadsNearer net x (slice_index order d) p) (sym there) ((are.bit d p (place may.0)).0 may.2))),
+        (λ may.
+            let near : LeadsNearer net u (slice_index order d) p = subst (λ (x : ℕ). LeadsNearer net x (slice_index order d) p) there may.1 in
+            let within = slice_get_within (ports_of net u) p near.0 near.2 in
+            (may.0, omega (arith, within, few), (are.bit d p (place may.0)).1 near)),
+      )
+
+  -- and that of each other label has one
+  pub words_some : (words : List ℕ) → AreTied net order u words → (marks : PortMarks) → ArePortMarks net order marks → (d : ℕ) → d < node_count net → d ≢ slice_index labels u → 0 < slice_index words d
+  words_some words tied marks are d hd ne =
+      let other : u ≢ slice_index order d = λ e. ne (sym (ap (slice_index labels) e ∙ named.back d hd)) in
+      let place : d < length order = omega (arith, hd, named.every_label) in
+      let w = are.nearer u d hu place other in
+      has_some (slice_index words d) w.0 ((tied.bit d w.0 place).1 w.1)
+
+  -- so the longest runs by the words are those of the ports that lead nearer
+  pub words_longest : (words : List ℕ) → AreTied net order u words → length (ports_of net u) ≤ 32 → (counts ports : List ℕ) → AreLongest (node_count net) (slice_index labels u) (MayTakeBit (node_count net) words) counts ports
+      → AreLongest (node_count net) (slice_index labels u) (MayTake net order (slice_index labels u)) counts ports
+  words_longest words are few counts ports longest a l off =
+      let run = longest a l off in
+      record {
+        within = run.within;
+        serves = λ i b ne. (words_may words are few (label_from (node_count net) a i) (slice_index ports a)).0 (run.serves i b ne);
+        longest = λ p t b serves. run.longest p t b (λ i j ne. (words_may words are few (label_from (node_count net) a i) p).1 (serves i j ne));
+        least = λ p serves. run.least p (λ i j ne. (words_may words are few (label_from (node_count net) a i) p).1 (serves i j ne));
+      }
 
   -- what a label may take is a port of u
   pub no_port_past : (d q : ℕ) → length (ports_of net u) ≤ q → MayTake net order (slice_index labels u) d q → ⊥

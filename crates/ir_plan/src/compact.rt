@@ -1,6 +1,6 @@
 //! The row of a node in a compact plan: the fewest intervals over all choices of ports that lead nearer.
 
-ghost use Rattle.std.specs.Prelude.{◌≡◌, ◌<◌, ℕ, Contains, IfOk, IfSome, OnOk, length, slice_index};
+ghost use Rattle.std.specs.Prelude.{◌≡◌, ◌<◌, ◌≤◌, ℕ, Contains, IfOk, IfSome, OnOk, length, slice_index};
 ghost use Rattle.ir_model.specs.{declared.Kind.TheVariants.Compact, Topology.{node_count, ports_of}, Walk.IsConnected};
 ghost use Rattle.ir_model.specs.{Choices.AreChoices, Compact.IsTied, Plan.AreLabels};
 ghost use Rattle.ir_model.proofs.Steps.{AreLongest};
@@ -10,7 +10,7 @@ ghost use Rattle.ir_plan.specs.{NodeRows.{IsNodeRow, ArePortsOf}, CompactRows.{A
 
 use crate::rows::row_of;
 use crate::ties::Ties;
-use ir_compile::{keep_longer, ports_of_runs};
+use ir_compile::{WORD_PORTS, keep_longer, ports_of_runs, runs_by_words};
 use ir_lookup::Row;
 use ir_numbering::Numbering;
 use ir_tables::{Outward, Topology};
@@ -97,6 +97,52 @@ fn runs_by(
 
 // The same runs, by the marks of all ports.
 fn marked_runs(
+    alloc: Global,
+    topology: &Topology,
+    numbering: &Numbering,
+    ties: &Ties,
+    u: u16,
+) -> Result<(Vec<u16>, Vec<u16>), AllocError>
+    requires labels { AreLabels (node_count topology.now) numbering.now.order numbering.now.labels }
+    requires ties { AreTies topology.now numbering.now.order ties.now }
+    requires node { u < node_count topology.now }
+    ensures counts { IfOk result (λ made. length made.0.items ≡ node_count topology.now) }
+    ensures ports { IfOk result (λ made. length made.1.items ≡ node_count topology.now) }
+    ensures longest { IfOk result (λ made. AreLongest (node_count topology.now) (slice_index numbering.now.labels u)
+        (MayTake topology.now numbering.now.order (slice_index numbering.now.labels u)) made.0.items made.1.items) }
+{
+    let _nodes = topology.nodes();
+    if topology.degree(u) > WORD_PORTS {
+        return port_runs(alloc, topology, numbering, ties, u);
+    }
+    word_runs(alloc, topology, numbering, ties, u)
+}
+
+// The same runs, by a word of ports for each label.
+fn word_runs(
+    alloc: Global,
+    topology: &Topology,
+    numbering: &Numbering,
+    ties: &Ties,
+    u: u16,
+) -> Result<(Vec<u16>, Vec<u16>), AllocError>
+    requires labels { AreLabels (node_count topology.now) numbering.now.order numbering.now.labels }
+    requires ties { AreTies topology.now numbering.now.order ties.now }
+    requires node { u < node_count topology.now }
+    requires ports { length (ports_of topology.now u) ≤ 32 }
+    ensures counts { IfOk result (λ made. length made.0.items ≡ node_count topology.now) }
+    ensures ports { IfOk result (λ made. length made.1.items ≡ node_count topology.now) }
+    ensures longest { IfOk result (λ made. AreLongest (node_count topology.now) (slice_index numbering.now.labels u)
+        (MayTake topology.now numbering.now.order (slice_index numbering.now.labels u)) made.0.items made.1.items) }
+{
+    let nodes = topology.nodes() as u16;
+    let own = numbering.label_of(u);
+    let tied = ties.tied(alloc, topology, u)?;
+    runs_by_words(alloc, nodes, own, tied.as_slice())
+}
+
+// The same runs, port by port.
+fn port_runs(
     alloc: Global,
     topology: &Topology,
     numbering: &Numbering,

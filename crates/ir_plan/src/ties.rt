@@ -2,6 +2,7 @@
 
 ghost use Rattle.std.specs.Prelude.{[], ◌≡◌, ◌*◌, ◌<◌, ◌≤◌, ℕ, Some, None, IfOk, IfSome, length, map, slice_index, slice_index_or};
 ghost use Rattle.ir_model.specs.{Topology.{node_count, ports_of}, Plan.AreLabels};
+ghost use Rattle.ir_lanes.specs.Marks.{AreTied};
 ghost use Rattle.ir_compile.specs.Runs.{HasMarked};
 ghost use Rattle.ir_plan.specs.{CompactRows.AreTiedMarks, Ties.AreTies};
 
@@ -59,6 +60,19 @@ impl Ties {
     {
         let _nodes = topology.nodes();
         self.marks.row(alloc, topology, self.order.as_slice(), u, p)
+    }
+
+    /// For each label a word whose bits are the ports of a node that lead nearer to the node of the label, and up to
+    /// fifteen words more.
+    pub fn tied(&self, alloc: Global, topology: &Topology, u: u16) -> Result<Vec<u32>, AllocError>
+        requires ties { AreTies topology.now self.now.order.items self.now }
+        requires every { length self.now.order.items ≡ node_count topology.now }
+        requires node { u < node_count topology.now }
+        requires ports { length (ports_of topology.now u) ≤ 32 }
+        ensures { IfOk result (λ tied. AreTied topology.now self.now.order.items u tied.items) }
+    {
+        let _nodes = topology.nodes();
+        self.marks.tied(alloc, topology, self.order.as_slice(), u)
     }
 }
 

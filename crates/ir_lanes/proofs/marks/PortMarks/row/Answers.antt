@@ -1,20 +1,13 @@
-use Rattle.std.proofs.Common.{◌≡◌, ◌*◌, ◌↔◌, ◌∙◌, ◌+◌, ◌<◌, ◌≤◌, [], ℕ, List, length, get_or, ap, sym, subst, arith}
+use Rattle.std.proofs.Common.{◌≡◌, ◌*◌, ◌↔◌, ◌∙◌, ◌+◌, ◌<◌, ◌≤◌, [], ℕ, List, length, ap, sym, subst, arith}
 use Rattle.std.specs.Prelude.{slice_index, slice_index_or}
-use Rattle.std.proofs.lemmas.List.{get_or_read}
-use Rattle.ir_model.specs.Topology.{Topology, node_count}
+use Rattle.ir_model.specs.Topology.{node_count}
 use Rattle.ir_model.specs.Table.{LeadsNearer}
 use Rattle.ir_model.proofs.Walks.{degree_bound}
 use Rattle.ir_lanes.specs.Inward.{IsSet, ports_before}
-use Rattle.ir_lanes.specs.Marks.{PortMarks, ArePortMarks}
+use Rattle.ir_lanes.specs.Marks.{PortMarks}
 use Rattle.ir_lanes.proofs.Words.{before_few}
-use Rattle.ir_lanes.proofs.Batches.{has_place, marked_here, IsMarkedTo, marked_more}
+use Rattle.ir_lanes.proofs.Batches.{begin_read, has_place, marked_here, IsMarkedTo, marked_more}
 use Rattle.ir_lanes.proofs.marks.PortMarks.row.Goals as goal
-
--- where the ports of a node begin, as it was read
-begin_read : (net : Topology) (nodes : List ℕ) (marks : PortMarks) → ArePortMarks net nodes marks → (u : ℕ) → u < node_count net → (begins : List ℕ) → begins ≡ marks.begins
-    → (read : ℕ) → read ≡ get_or begins u read → read ≡ ports_before net u
-begin_read net nodes marks are u u_in begins same read is =
-    get_or_read marks.begins u read (omega (arith, u_in, are.every)) (is ∙ ap (λ (xs : List ℕ). get_or xs u read) same) 0 ∙ are.begin u u_in
 
 pub overflow_add-place : goal.overflow_add-place
 overflow_add-place c =
