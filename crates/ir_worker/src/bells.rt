@@ -10,8 +10,8 @@ use std::sync::atomic::{AtomicBool, Ordering};
 use std::thread;
 use std::thread::Parker;
 
-// How often all ways are polled in vain before a node is about to sleep.
-const LOOKS: u8 = 4;
+// How often all ways are polled in vain, and others are given way, before a node is about to sleep.
+const LOOKS: u8 = 2;
 
 /// A bell beside which one thread sleeps, and which others ring.
 #[derive(Drop)]
