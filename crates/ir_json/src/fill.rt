@@ -1,0 +1,84 @@
+//! Templates with the words of a line in place of their signs.
+ghost use Rattle.std.specs.Prelude.{◌≡◌, ◌<◌, ◌++◌, [], true, OnOk, IfOk, length, nat_lt, drop, string_bytes};
+ghost use Rattle.std.specs.List.{list_all};
+ghost use Rattle.ir_model.specs.Text.{words_of};
+ghost use Rattle.ir_json.specs.Signs.{sign_of, sign_text, words_after, first_word, part_text, part_left, filled, left};
+
+use crate::sign::{Sign, sign_of};
+use crate::words::{before_mark, behind_mark, push_goal, push_number, push_quoted};
+use ir_adjlist::scan::next_word;
+use std::alloc::AllocError;
+
+/// The first word of a line, none being empty, and what follows it.
+pub fn first_word(line: &[u8]) -> (&[u8], &[u8])
+    ensures word { result.0.now ≡ first_word (words_of line.now) }
+    ensures rest { words_of result.1.now ≡ drop 1 (words_of line.now) }
+{
+    match next_word(line) {
+        Some((word, rest)) => (word, rest),
+        None => (&[], line),
+    }
+}
+
+/// Writes what stands in place of a sign for a word.
+fn push_shown(text: &mut String, sign: Sign, word: &[u8]) -> Result<(), AllocError>
+    ensures { OnOk result (string_bytes text.new ≡ string_bytes text.old ++ sign_text sign word.now) }
+{
+    match sign {
+        Sign::Text => push_quoted(text, word),
+        Sign::Count => push_number(text, word),
+        Sign::Goal => push_goal(text, word),
+        Sign::Front => push_number(text, before_mark(word)),
+        Sign::Behind => push_number(text, behind_mark(word)),
+        Sign::Skipped => Ok(()),
+    }
+}
+
+/// What follows a sign's word.
+fn after_sign<'a>(sign: Sign, line: &'a [u8], rest: &'a [u8]) -> &'a [u8]
+    requires { words_of rest.now ≡ drop 1 (words_of line.now) }
+    ensures { words_of result.now ≡ words_after sign (words_of line.now) }
+{
+    match sign {
+        Sign::Front => line,
+        _ => rest,
+    }
+}
+
+/// Writes what a byte of a template comes to, and answers what of the line is left behind it.
+fn push_part<'a>(text: &mut String, byte: u8, line: &'a [u8]) -> Result<&'a [u8], AllocError>
+    requires { byte < 128 }
+    ensures text { OnOk result (string_bytes text.new ≡ string_bytes text.old
+        ++ part_text byte (sign_of byte) (words_of line.now)) }
+    ensures rest { IfOk result (λ rest. words_of rest.now ≡ part_left (sign_of byte) (words_of line.now)) }
+{
+    match sign_of(byte) {
+        None => {
+            text.push(byte as char)?;
+            Ok(line)
+        }
+        Some(sign) => {
+            let (word, rest) = first_word(line);
+            push_shown(text, sign, word)?;
+            Ok(after_sign(sign, line, rest))
+        }
+    }
+}
+
+/// Writes a template with the words of a line in place of its signs, and answers what of the line is left behind them.
+pub fn push_filled<'a>(
+    text: &mut String,
+    template: &str,
+    line: &'a [u8],
+) -> Result<&'a [u8], AllocError>
+    requires { list_all (λ b. nat_lt b 128) template.now ≡ true }
+    ensures text { OnOk result (string_bytes text.new ≡ string_bytes text.old ++ filled template.now (words_of line.now)) }
+    ensures rest { IfOk result (λ rest. words_of rest.now ≡ left template.now (words_of line.now)) }
+{
+    let mut rest = line;
+    let bytes = template.as_bytes();
+    for byte in bytes {
+        rest = push_part(text, *byte, rest)?;
+    }
+    Ok(rest)
+}

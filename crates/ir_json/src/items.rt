@@ -1,0 +1,132 @@
+//! The words behind a line's front as a list.
+ghost use Rattle.std.specs.Prelude.{◌≡◌, ◌≤◌, ◌++◌, [], true, OnOk, nat_lt, length, drop, codes, string_bytes};
+ghost use Rattle.std.specs.List.{list_all};
+ghost use Rattle.ir_model.specs.Text.{words_of};
+ghost use Rattle.ir_json.specs.Lists.{comma, names_from, pairs_from, opens_segment, between, segment_word, segments_from, items_text};
+
+use crate::fill::push_filled;
+use crate::form::Items;
+use crate::words::{push_number, push_quoted};
+use ir_adjlist::scan::next_word;
+use std::alloc::AllocError;
+
+/// What stands before an item of a list.
+fn comma(is_first: bool) -> &'static str
+    ensures { result.now ≡ comma is_first }
+{
+    if is_first { "" } else { "," }
+}
+
+/// Writes each word as a string, with commas between.
+fn push_names(text: &mut String, line: &[u8]) -> Result<(), AllocError>
+    ensures { OnOk result (string_bytes text.new ≡ string_bytes text.old ++ names_from true (words_of line.now)) }
+{
+    let mut rest = line;
+    let mut is_first = true;
+    while let Some((word, after)) = next_word(rest) {
+        text.push_str(comma(is_first))?;
+        push_quoted(text, word)?;
+        rest = after;
+        is_first = false;
+    }
+    Ok(())
+}
+
+/// What follows the word at the front, if there is one.
+fn behind_word(line: &[u8]) -> &[u8]
+    ensures rest { words_of result.now ≡ drop 1 (words_of line.now) }
+    ensures shorter { length result.now ≤ length line.now }
+{
+    match next_word(line) {
+        Some((_, rest)) => rest,
+        None => line,
+    }
+}
+
+/// Writes each two words in a template, with commas between.
+fn push_pairs(text: &mut String, template: &str, line: &[u8]) -> Result<(), AllocError>
+    requires { list_all (λ b. nat_lt b 128) template.now ≡ true }
+    ensures { OnOk result (string_bytes text.new ≡ string_bytes text.old
+        ++ pairs_from template.now true (words_of line.now)) }
+{
+    let mut rest = line;
+    let mut is_first = true;
+    while let Some((_, after)) = next_word(rest) {
+        text.push_str(comma(is_first))?;
+        push_filled(text, template, rest)?;
+        rest = behind_word(after);
+        is_first = false;
+    }
+    Ok(())
+}
+
+/// Whether a word is one `#EPOCH`.
+fn opens_segment(word: &[u8]) -> bool
+    ensures { result ≡ opens_segment word.now }
+{
+    matches!(word.first(), Some(b'#'))
+}
+
+/// What stands before a word of a row of segments.
+fn between(before: &[u8], word: &[u8]) -> &'static str
+    ensures { result.now ≡ between before.now word.now }
+{
+    if opens_segment(word) {
+        if before.is_empty() { "" } else { "]}," }
+    } else if opens_segment(before) {
+        ""
+    } else {
+        ","
+    }
+}
+
+/// Writes a mark, which opens a segment, or a hop.
+fn push_segment_word(text: &mut String, word: &[u8]) -> Result<(), AllocError>
+    ensures { OnOk result (string_bytes text.new ≡ string_bytes text.old ++ segment_word word.now) }
+{
+    if opens_segment(word) {
+        text.push_str("{\"epoch\":")?;
+        push_number(text, &word[1..])?;
+        text.push_str(",\"hops\":[")?;
+    } else {
+        push_quoted(text, word)?;
+    }
+    Ok(())
+}
+
+/// Writes the segments of a row.
+fn push_segments(text: &mut String, line: &[u8]) -> Result<(), AllocError>
+    ensures { OnOk result (string_bytes text.new ≡ string_bytes text.old ++ segments_from [] (words_of line.now)) }
+{
+    let mut rest = line;
+    let mut before: &[u8] = &[];
+    while let Some((word, after)) = next_word(rest) {
+        text.push_str(between(before, word))?;
+        push_segment_word(text, word)?;
+        rest = after;
+        before = word;
+    }
+    if !before.is_empty() {
+        text.push_str("]}")?;
+    }
+    Ok(())
+}
+
+/// Writes what the words behind a line's front are.
+pub fn push_items(
+    text: &mut String,
+    items: Items,
+    template: &str,
+    line: &[u8],
+) -> Result<(), AllocError>
+    requires { list_all (λ b. nat_lt b 128) template.now ≡ true }
+    ensures { OnOk result (string_bytes text.new ≡ string_bytes text.old
+        ++ items_text items template.now (words_of line.now)) }
+{
+    match items {
+        Items::NoItems => Ok(()),
+        Items::Names => push_names(text, line),
+        Items::Pairs => push_pairs(text, template, line),
+        Items::Segments => push_segments(text, line),
+    }
+}

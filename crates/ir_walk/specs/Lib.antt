@@ -1,0 +1,5 @@
+-- what contracts promise
+pub mod Alone
+pub mod Plans
+-- what bodies use
+pub mod Stops
