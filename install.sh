@@ -59,7 +59,7 @@ zsh=$prefix/share/zsh/site-functions/_$name
 fish=$prefix/share/fish/vendor_completions.d/$name.fish
 
 if [ "$act" = uninstall ]; then
-    grep -qs '^\.TH .* "Bentzolu" ' "$manual" ||
+    grep -qs '^\.TH .* "Bentzolu[ "]' "$manual" ||
         refuse "nothing is removed: there is no manual page of this program at $manual" 1
     for file in "$prefix/bin/$name" "$bash" "$zsh" "$fish" "$manual"; do
         [ ! -e "$file" ] || { rm -f "$file" && echo "$file"; }
@@ -72,11 +72,17 @@ program=$here/crates/route/out/route
 [ -f "$program" ] && [ -x "$program" ] ||
     refuse "the program is not built: there is no crates/route/out/route. First run (cd crates/route && rt run < stdin)" 1
 
+# What the program calls itself by that name.
+case $name in
+    bentzolu*) own=bentzolu ;;
+    *) own=route ;;
+esac
+
 # Writes a file with the program's name in place of `route`, where that stands as a word: `renamed FROM TO`.
 renamed() {
     mkdir -p "$(dirname "$2")"
     upper=$(printf %s "$name" | tr a-z A-Z)
-    sed -E -e "s/^\.TH ROUTE /.TH $upper /" \
+    sed -E -e "s/^\.TH ROUTE /.TH $upper /" -e "s/^route: /$own: /" \
         -e "s/(^|[ \"'(]|\\\\fB)route(\$|[ \"')]|\\\\)/\1$name\2/g" -e "s/(^|[ \"'(]|\\\\fB)route(\$|[ \"')]|\\\\)/\1$name\2/g" "$1" > "$2"
     chmod 644 "$2"
     echo "$2"

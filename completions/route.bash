@@ -7,15 +7,17 @@ _bentzolu_subcommands() {
 
 # The options of a subcommand, or of the program where there is none.
 _bentzolu_options() {
+    local routed='-f --format -k --kind -r --root -n --numbering' told='-o --output --quiet --explain --no-explain --help'
     case ${1-} in
-        plan) echo '--format --kind --root --capacity --packets --explain --no-explain --threads --numbering --order --help' ;;
-        stats) echo '--format --kind --root --capacity --packets --explain --no-explain --threads --numbering --with --help' ;;
-        ranges) echo '--format --kind --root --capacity --packets --explain --no-explain --threads --numbering --help' ;;
-        compare) echo '--format --root --explain --no-explain --threads --help' ;;
-        walk | draw) echo '--format --kind --root --capacity --packets --explain --no-explain --threads --numbering --from --to --help' ;;
-        prefixes) echo '--format --kind --root --capacity --packets --explain --no-explain --threads --numbering --disjoint --help' ;;
-        check) echo '--format --kind --root --capacity --packets --explain --no-explain --numbering --whole --help' ;;
-        sim | live) echo '--format --kind --root --capacity --packets --explain --no-explain --numbering --restamps --help' ;;
+        plan) echo "$routed --threads --order --json $told" ;;
+        walk) echo "$routed --threads --from --to --json $told" ;;
+        stats) echo "$routed --threads --with --json $told" ;;
+        compare) echo "-f --format -r --root --threads --json $told" ;;
+        draw) echo "$routed --threads --from --to --node --svg $told" ;;
+        prefixes) echo "$routed --threads --disjoint --json $told" ;;
+        ranges) echo "$routed --threads --json $told" ;;
+        sim | live) echo "$routed --capacity --packets --restamps --json $told" ;;
+        check) echo "$routed --capacity --packets --whole --json $told" ;;
         '') echo '--help --version' ;;
     esac
 }
@@ -23,11 +25,26 @@ _bentzolu_options() {
 # The values of an option of a subcommand, where they are few. A numbering may be a file too, but for runs.
 _bentzolu_values() {
     case $1,${2-} in
-        --format,*) echo 'adjlist edgelist' ;;
-        --kind,*) echo 'tree shortest compact' ;;
-        --numbering,sim | --numbering,live | --numbering,check) echo 'depth-first tour' ;;
+        -f,* | --format,*) echo 'adjlist edgelist' ;;
+        -k,* | --kind,*) echo 'tree shortest compact' ;;
+        -n,sim | -n,live | -n,check | --numbering,sim | --numbering,live | --numbering,check) echo 'depth-first tour' ;;
         --restamps,*) echo '0 1 2 3' ;;
     esac
+}
+
+# The nodes that begin so of the first word that is a file: of an edge list the first two words of a line, else all of it.
+_bentzolu_nodes() {
+    local file words
+    for file in "${COMP_WORDS[@]:2}"; do
+        [ -f "$file" ] || continue
+        case " ${COMP_WORDS[*]} $file " in
+            *edgelist* | *.wel\ *) words=2 ;;
+            *) words=16384 ;;
+        esac
+        head -c 1048576 -- "$file" | sed 's/#.*//' | FRONT=${1-} awk -v most="$words" '
+            { for (i = 1; i <= NF && i <= most; i++) if (index($i, ENVIRON["FRONT"]) == 1) print $i }' | LC_ALL=C sort -u
+        return
+    done
 }
 
 _bentzolu() {
@@ -43,14 +60,18 @@ _bentzolu() {
         before=${COMP_WORDS[COMP_CWORD - 2]}
     fi
     case $before in
-        --format | --kind | --restamps) COMPREPLY=($(compgen -W "$(_bentzolu_values "$before")" -- "$word")) ;;
-        --numbering)
+        -f | --format | -k | --kind | --restamps) COMPREPLY=($(compgen -W "$(_bentzolu_values "$before")" -- "$word")) ;;
+        -n | --numbering)
             COMPREPLY=($(compgen -W 'depth-first tour' -- "$word"))
             if [ -z "$(_bentzolu_values "$before" "$subcommand")" ]; then
                 compopt -o filenames 2> /dev/null
                 COMPREPLY+=($(compgen -f -- "$word"))
             fi ;;
-        --root | --capacity | --packets | --threads | --from | --to | --with) ;;
+        -o | --output)
+            compopt -o filenames 2> /dev/null
+            COMPREPLY=($(compgen -f -- "$word")) ;;
+        -r | --root | --from | --to | --node) mapfile -t COMPREPLY < <(_bentzolu_nodes "$word") ;;
+        --capacity | --packets | --threads | --with) ;;
         *)
             if [ -z "$subcommand" ] && [[ $word != -* ]] || [ "$subcommand" = help ]; then
                 COMPREPLY=($(compgen -W "$(_bentzolu_subcommands)" -- "$word"))

@@ -22,7 +22,7 @@ from .texts import (
     Walk, WalkStep, Worst, read_plan, read_prefixes, read_stats, read_trace, read_walk, write_trace,
 )
 
-__version__ = "1.0.0"
+__version__ = "2.0.0"
 
 __all__ = [
     "BentzoluError", "Bits", "Compactness", "DirectedGraphError", "FormatError", "GraphError", "Interval", "MultigraphError",

@@ -37,7 +37,7 @@ def find(program=None):
 
 
 def version(program=None):
-    """The first line that the program prints for `--version`, as `route 1.0.0`."""
+    """The first line that the program prints for `--version`, as `route 2.0.0` or `bentzolu 2.0.0`."""
     path = find(program)
     done = started([path, "--version"], None)
     lines = done.stdout.decode("utf-8", "replace").splitlines()
@@ -115,7 +115,7 @@ def of_program(path, words, texts, shown, timeout):
 
 def split(path, status, output, faults, shown, names):
     """What was printed, with the sentences apart and in them each text by its name, and nodes in place of names."""
-    fronts = tuple({"route: ", f"{os.path.basename(path)}: "})
+    fronts = tuple({"route: ", "bentzolu: ", f"{os.path.basename(path)}: "})
     lines, sentences = [], []
     for line in faults.splitlines(keepends=True):
         front = next((it for it in fronts if line.startswith(it)), None)

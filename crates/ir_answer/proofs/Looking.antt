@@ -1,5 +1,5 @@
 -- The answers that show a plan, by what was read before it is built.
-use Rattle.std.proofs.Common.{◌≡◌, ◌≢◌, ◌<◌, ℕ, List, Option, Some, None, MatchOption, string_bytes, refl, sym, subst, arith}
+use Rattle.std.proofs.Common.{◌≡◌, ◌≢◌, ◌<◌, ℕ, Bool, List, Option, Some, None, MatchOption, string_bytes, refl, sym, subst, arith}
 use Rattle.std.specs.Option.{option_map}
 use Rattle.ir_model.specs.declared.Kind.{Kind}
 use Rattle.ir_model.specs.Graph.{Name, Adjacency, names}
@@ -20,10 +20,11 @@ use Rattle.ir_cli.specs.Openings.{topology_fault, topology_graph, root_name, roo
 use Rattle.ir_answer.specs.declared.look.Look.{Look}
 use Rattle.ir_answer.specs.declared.look.Look.TheVariants.{Plan as Planning, Walk, Stats, Draw, Prefixes, Ranges as Ranging}
 use Rattle.ir_answer.specs.declared.look.Show.{Show}
-use Rattle.ir_answer.specs.declared.look.Show.TheVariants.{Between, Beside, Drawing}
-use Rattle.ir_answer.specs.Looks.{from_name, to_name, Says, AnswerShows, AnswersEnds, AnswersBothEnds, AnswersFigures, AnswersShow, AnswersAsked, AnswersLook, AnswersLabels, AreTexts, LookAnswers, IsNode, IsLabelling, AreShown, IsDrawn, IsShow, RefusesLabels, RefusesEnds, RefusesFigures, RefusesShow}
+use Rattle.ir_answer.specs.declared.look.Show.TheVariants.{Between, Beside, Drawing, Circle}
+use Rattle.ir_answer.specs.Looks.{from_name, to_name, drawn_name, Says, AnswerShows, AnswersEnds, AnswersBothEnds, AnswersDrawn, AnswersFigures, AnswersShow, AnswersAsked, AnswersLook, AnswersLabels, AreTexts, LookAnswers, IsNode, IsLabelling, AreShown, IsNetwork, IsOneDrawn, IsShow, RefusesLabels, RefusesEnds, RefusesFigures, RefusesShow}
 use Rattle.ir_plan.specs.Building.{Labelling, FromRoot, ByList, IsPlanBy, RefusesPlan}
-use Rattle.ir_answer.specs.Plans.{AnswersText}
+use Rattle.ir_walk.specs.Alone.{IsWalkOfPlan}
+use Rattle.ir_answer.specs.Plans.{AnswersText, IsTextOfPlan}
 use Rattle.ir_answer.proofs.Answering.{option_more, of_graph, of_root}
 
 -- over the network of a plan, memory alone refuses a second one from a node
@@ -66,12 +67,18 @@ refuses_ends : (g : Adjacency) (from to : Option Name) (answers : ℕ → ℕ �
 refuses_ends g from to answers line refuses =
     option_more (root_in (names g) from) (λ same. same) (λ a. option_more (root_in (names g) to) (λ same. same) (λ b none. absurd none)) refuses
 
-of_drawn : (from to : Option Name) (g : Adjacency) (answers : Show → Answer → Type 0) (show : Show) (answer : Answer)
-    → IsDrawn from to g show → answers show answer → AnswersBothEnds g from to (λ ends. answers (Drawing ends)) answer
-of_drawn None to g answers show answer same holds = subst (λ (s : Show). answers s answer) same holds
-of_drawn (Some from) None g answers show answer same holds = subst (λ (s : Show). answers s answer) same holds
-of_drawn (Some from) (Some to) g answers show answer (a, b, first, second, same) holds =
+of_network : (from to : Option Name) (g : Adjacency) (answers : Show → Answer → Type 0) (show : Show) (answer : Answer)
+    → IsNetwork from to g show → answers show answer → AnswersBothEnds g from to (λ ends. answers (Drawing ends)) answer
+of_network None to g answers show answer same holds = subst (λ (s : Show). answers s answer) same holds
+of_network (Some from) None g answers show answer same holds = subst (λ (s : Show). answers s answer) same holds
+of_network (Some from) (Some to) g answers show answer (a, b, first, second, same) holds =
     of_ends g (Some from) (Some to) (λ x y. answers (Drawing (Some (x, y)))) answer a b first second (subst (λ (s : Show). answers s answer) same holds)
+
+of_drawn : (node : Option Name) (is_svg : Bool) (from to : Option Name) (g : Adjacency) (answers : Show → Answer → Type 0) (show : Show) (answer : Answer)
+    → IsOneDrawn node is_svg from to g show → answers show answer → AnswersDrawn node is_svg from to g answers answer
+of_drawn None is_svg from to g answers show answer is holds = of_network from to g answers show answer is holds
+of_drawn (Some node) is_svg from to g answers show answer (u, is, same) holds =
+    of_root g (Some node) (λ v. answers (Circle v is_svg)) answer u is (subst (λ (s : Show). answers s answer) same holds)
 
 of_figures : (second : Option Second) (g : Adjacency) (answers : Show → Answer → Type 0) (show : Show) (answer : Answer)
     → AreShown second g show → answers show answer → AnswersFigures second g answers answer
@@ -85,15 +92,20 @@ of_show Planning words g answers show answer same holds = subst (λ (s : Show). 
 of_show Walk words g answers show answer (a, b, first, second, same) holds =
     of_ends g (from_name words) (to_name words) (λ x y. answers (Between x y)) answer a b first second (subst (λ (s : Show). answers s answer) same holds)
 of_show Stats words g answers show answer is holds = of_figures words.second g answers show answer is holds
-of_show Draw words g answers show answer is holds = of_drawn (from_name words) (to_name words) g answers show answer is holds
+of_show Draw words g answers show answer is holds = of_drawn (drawn_name words) words.svg (from_name words) (to_name words) g answers show answer is holds
 of_show Prefixes words g answers show answer same holds = subst (λ (s : Show). answers s answer) same holds
 of_show Ranging words g answers show answer same holds = subst (λ (s : Show). answers s answer) same holds
 
-refuses_drawn : (from to : Option Name) (g : Adjacency) (answers : Show → Answer → Type 0) (line : List ℕ)
+refuses_network : (from to : Option Name) (g : Adjacency) (answers : Show → Answer → Type 0) (line : List ℕ)
     → AnswersBothEnds g from to (λ ends answer. ⊥) (Refused line) → AnswersBothEnds g from to (λ ends. answers (Drawing ends)) (Refused line)
-refuses_drawn None to g answers line refuses = absurd refuses
-refuses_drawn (Some from) None g answers line refuses = absurd refuses
-refuses_drawn (Some from) (Some to) g answers line refuses = refuses_ends g (Some from) (Some to) (λ x y. answers (Drawing (Some (x, y)))) line refuses
+refuses_network None to g answers line refuses = absurd refuses
+refuses_network (Some from) None g answers line refuses = absurd refuses
+refuses_network (Some from) (Some to) g answers line refuses = refuses_ends g (Some from) (Some to) (λ x y. answers (Drawing (Some (x, y)))) line refuses
+
+refuses_drawn : (node : Option Name) (is_svg : Bool) (from to : Option Name) (g : Adjacency) (answers : Show → Answer → Type 0) (line : List ℕ)
+    → AnswersDrawn node is_svg from to g (λ show answer. ⊥) (Refused line) → AnswersDrawn node is_svg from to g answers (Refused line)
+refuses_drawn None is_svg from to g answers line refuses = refuses_network from to g answers line refuses
+refuses_drawn (Some node) is_svg from to g answers line refuses = option_more (root_in (names g) (Some node)) (λ same. same) (λ u none. absurd none) refuses
 
 refuses_figures : (second : Option Second) (g : Adjacency) (answers : Show → Answer → Type 0) (line : List ℕ)
     → RefusesFigures second g line → AnswersFigures second g answers (Refused line)
@@ -105,7 +117,7 @@ refuses_show : (look : Look) (words : Words) (g : Adjacency) (answers : Show →
 refuses_show Planning words g answers line refuses = absurd refuses
 refuses_show Walk words g answers line refuses = refuses_ends g (from_name words) (to_name words) (λ x y. answers (Between x y)) line refuses
 refuses_show Stats words g answers line refuses = refuses_figures words.second g answers line refuses
-refuses_show Draw words g answers line refuses = refuses_drawn (from_name words) (to_name words) g answers line refuses
+refuses_show Draw words g answers line refuses = refuses_drawn (drawn_name words) words.svg (from_name words) (to_name words) g answers line refuses
 refuses_show Prefixes words g answers line refuses = absurd refuses
 refuses_show Ranging words g answers line refuses = absurd refuses
 
@@ -143,3 +155,8 @@ shown_plan g kind labels show plan built (Ran text refusals) shows = (record { p
 shown_plan g kind labels show plan built (Found text) shows = absurd shows
 shown_plan g kind labels show plan built (Refused line) shows = absurd shows
 shown_plan g kind labels show plan built NoThread shows = absurd shows
+
+-- what tells the walk of a plan that is not built is a text of that plan
+pub walk_says : (g : Adjacency) (kind : Kind) (labels : Labelling) (a b : ℕ) (text : List ℕ) → IsWalkOfPlan (names g) (topology_of_graph g) kind labels a b text
+    → IsTextOfPlan g kind labels (Says (Between a b) (names g)) text
+walk_says g kind labels a b text is = record { plan = is.plan; built = is.built; said = is.walks }

@@ -14,7 +14,7 @@ use Rattle.ir_cli.specs.Replied.{RepliesAs, UnreadAs}
 use Rattle.ir_cli.specs.Replies.{answer_of}
 use Rattle.ir_cli.specs.declared.reply.Reply.{Reply}
 use Rattle.ir_cli.specs.Words.{FitsItsKind}
-use Rattle.ir_answer.specs.Asked.{AnswersBy, FitsSub, NoThreads}
+use Rattle.ir_answer.specs.Asked.{PlainBy, AnswersBy, FitsSub, NoThreads}
 use Rattle.ir_answer.specs.Stops.{Gives, GivenAs}
 use Rattle.ir_answer.specs.declared.asking.Stop.{Stop}
 use Rattle.ir_answer.specs.declared.asking.Stop.TheVariants as stops
@@ -94,18 +94,22 @@ module _ (P Q : List (List ℕ) → Answer → Type 0) (more : (texts : List (Li
   ends_more status (ending, same, holds) = (ending, same, ends_as_more ending holds)
 
 -- what is answered to another subcommand hangs on no answer of `live`
+plain_without_live : (live : Words → List (List ℕ) → Answer → Type 0) (sub : Sub) → sub ≢ Live → (words : Words) (texts : List (List ℕ)) (answer : Answer)
+    → PlainBy NoThreads sub words texts answer → PlainBy live sub words texts answer
+plain_without_live live Plan other words texts answer holds = holds
+plain_without_live live Walk other words texts answer holds = holds
+plain_without_live live Stats other words texts answer holds = holds
+plain_without_live live Compare other words texts answer holds = holds
+plain_without_live live Draw other words texts answer holds = holds
+plain_without_live live Prefixes other words texts answer holds = holds
+plain_without_live live Ranges other words texts answer holds = holds
+plain_without_live live Sim other words texts answer holds = holds
+plain_without_live live Live other words texts answer holds = absurd (other refl)
+plain_without_live live Check other words texts answer holds = holds
+
 pub without_live : (live : Words → List (List ℕ) → Answer → Type 0) (sub : Sub) → sub ≢ Live → (words : Words) (texts : List (List ℕ)) (answer : Answer)
     → AnswersBy NoThreads sub words texts answer → AnswersBy live sub words texts answer
-without_live live Plan other words texts answer holds = holds
-without_live live Walk other words texts answer holds = holds
-without_live live Stats other words texts answer holds = holds
-without_live live Compare other words texts answer holds = holds
-without_live live Draw other words texts answer holds = holds
-without_live live Prefixes other words texts answer holds = holds
-without_live live Ranges other words texts answer holds = holds
-without_live live Sim other words texts answer holds = holds
-without_live live Live other words texts answer holds = absurd (other refl)
-without_live live Check other words texts answer holds = holds
+without_live live sub other words texts answer (plain, holds, same) = (plain, plain_without_live live sub other words texts plain holds, same)
 
 -- words that fit their kind fit each subcommand
 pub fits_sub : (sub : Sub) (words : Words) → FitsItsKind words → FitsSub sub words

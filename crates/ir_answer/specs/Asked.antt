@@ -15,6 +15,7 @@ use Rattle.ir_cli.specs.Cut.{topology_part, script_part, EndsWithBytes}
 use Rattle.ir_cli.specs.Openings.{AnswersTopology}
 use Rattle.ir_answer.specs.Plays.{AnswersScript}
 use Rattle.ir_answer.specs.Checks.{AnswersChecked}
+use Rattle.ir_answer.specs.Formed.{InForm}
 
 -- the inputs of `plan`, `walk`, `stats`, `draw`, `prefixes` and `ranges`, of `sim` and `live`, and of `check`, in the
 -- order of reading
@@ -79,19 +80,23 @@ FitsSub Check words = Unit {0}
 FitsSub Compare words = Unit {0}
 FitsSub sub words = FitsItsKind words
 
--- the answers of a subcommand, of which those of `live` are another crate's
+-- the answers of a subcommand as text, of which those of `live` are another crate's
 module _ (live : Words → List (List ℕ) → Answer → Type 0) where
+  abbrev pub PlainBy : Sub → Words → List (List ℕ) → Answer → Type 0
+  PlainBy Plan words texts answer = LookAnswers look.Plan words texts answer
+  PlainBy Walk words texts answer = LookAnswers look.Walk words texts answer
+  PlainBy Stats words texts answer = LookAnswers look.Stats words texts answer
+  PlainBy Compare words texts answer = CompareAnswers words texts answer
+  PlainBy Draw words texts answer = LookAnswers look.Draw words texts answer
+  PlainBy Prefixes words texts answer = LookAnswers look.Prefixes words texts answer
+  PlainBy Ranges words texts answer = LookAnswers look.Ranges words texts answer
+  PlainBy Sim words texts answer = SimAnswers words texts answer
+  PlainBy Live words texts answer = live words texts answer
+  PlainBy Check words texts answer = CheckAnswers words texts answer
+
+  -- the same in the form that the words ask for
   abbrev pub AnswersBy : Sub → Words → List (List ℕ) → Answer → Type 0
-  AnswersBy Plan words texts answer = LookAnswers look.Plan words texts answer
-  AnswersBy Walk words texts answer = LookAnswers look.Walk words texts answer
-  AnswersBy Stats words texts answer = LookAnswers look.Stats words texts answer
-  AnswersBy Compare words texts answer = CompareAnswers words texts answer
-  AnswersBy Draw words texts answer = LookAnswers look.Draw words texts answer
-  AnswersBy Prefixes words texts answer = LookAnswers look.Prefixes words texts answer
-  AnswersBy Ranges words texts answer = LookAnswers look.Ranges words texts answer
-  AnswersBy Sim words texts answer = SimAnswers words texts answer
-  AnswersBy Live words texts answer = live words texts answer
-  AnswersBy Check words texts answer = CheckAnswers words texts answer
+  AnswersBy sub words texts answer = InForm sub words (PlainBy sub words) texts answer
 
   -- the answers to the texts of the inputs that the words ask for
   abbrev pub Answers : Words → List (List ℕ) → Answer → Type 0

@@ -1,6 +1,6 @@
 -- What a topology comes to as a text that shows its plan: its rows, the order of its labels, a walk, its figures, a
--- drawing, its forwarding tables, or its ranges of labels.
-use Rattle.std.specs.Prelude.{◌≡◌, ◌<◌, ℕ, IfSome, List, [], ◌∷◌, Option, None, Some, if◌then◌else◌, string_bytes}
+-- drawing, the circle of its labels, its forwarding tables, or its ranges of labels.
+use Rattle.std.specs.Prelude.{◌≡◌, ◌<◌, ℕ, Bool, IfSome, List, [], ◌∷◌, Option, None, Some, if◌then◌else◌, string_bytes}
 use Rattle.std.specs.Option.{option_map}
 use Rattle.std.specs.Borrow.{Bor}
 use Rattle.ir_model.specs.Graph.{Name, Adjacency, names}
@@ -9,6 +9,8 @@ use Rattle.ir_show.specs.PlanText.{plan_text}
 use Rattle.ir_show.specs.WalkText.{IsWalkOf}
 use Rattle.ir_figures.specs.FiguresText.{AreFiguresOf, AreFiguresBeside}
 use Rattle.ir_show.specs.Drawing.{IsDrawingOf}
+use Rattle.ir_circle.specs.Circle.{circle_svg}
+use Rattle.ir_circle.specs.Ring.{circle_dot}
 use Rattle.ir_lines.specs.OrderText.{order_text}
 use Rattle.ir_lines.specs.PrefixesText.{IsPrefixesOf}
 use Rattle.ir_lines.specs.RangesText.{ranges_text}
@@ -17,7 +19,7 @@ use Rattle.ir_cli.specs.declared.words.Second.{Second}
 use Rattle.ir_model.specs.declared.Kind.{Kind}
 use Rattle.ir_plan.specs.declared.tour.LabelOrder.TheVariants.{DepthFirst}
 use Rattle.ir_answer.specs.declared.look.Show.{Show}
-use Rattle.ir_answer.specs.declared.look.Show.TheVariants.{Rows, Between, Figures, Beside, Drawing, Tables, Ranges, Order}
+use Rattle.ir_answer.specs.declared.look.Show.TheVariants.{Rows, Between, Figures, Beside, Drawing, Circle, Tables, Ranges, Order}
 use Rattle.ir_answer.specs.declared.look.Look.{Look}
 use Rattle.ir_answer.specs.declared.look.Look.TheVariants.{Plan as Planning, Walk, Stats, Draw, Prefixes, Ranges as Ranging}
 use Rattle.ir_order.specs.Order.{IsOrder}
@@ -34,6 +36,10 @@ from_name words = option_map string_bytes words.from
 abbrev pub to_name : Words → Option Name
 to_name words = option_map string_bytes words.to
 
+-- the name of the node whose intervals are drawn, if the words have one
+abbrev pub drawn_name : Words → Option Name
+drawn_name words = option_map string_bytes words.node
+
 -- The answer to a graph and the names of two ends: the refusal of the first end that is no node, or else an answer to their
 -- numbers. Where there is no name the end is the first node.
 abbrev pub AnswersEnds : Adjacency → Option Name → Option Name → (ℕ → ℕ → Answer → Type 0) → Answer → Type 0
@@ -45,6 +51,12 @@ AnswersBothEnds g None to answers = answers None
 AnswersBothEnds g (Some from) None answers = answers None
 AnswersBothEnds g (Some from) (Some to) answers = AnswersEnds g (Some from) (Some to) (λ a b. answers (Some (a, b)))
 
+-- The answer to a graph where a drawing is asked for: the refusal of a node or an end that is none, or else an answer to the
+-- circle of the node, where one is named, or to the network.
+abbrev pub AnswersDrawn : Option Name → Bool → Option Name → Option Name → Adjacency → (Show → Answer → Type 0) → Answer → Type 0
+AnswersDrawn None is_svg from to g answers = AnswersBothEnds g from to (λ ends. answers (Drawing ends))
+AnswersDrawn (Some node) is_svg from to g answers = AnswersRoot g (Some node) (λ u. answers (Circle u is_svg))
+
 -- The answer to a graph where figures are asked for: the refusal of a second plan's root that is no node, or else an answer
 -- to what is to be shown. Where the root has no name it is the first node.
 abbrev pub AnswersFigures : Option Second → Adjacency → (Show → Answer → Type 0) → Answer → Type 0
@@ -55,6 +67,10 @@ AnswersFigures (Some second) g answers = AnswersRoot g (option_map string_bytes 
 abbrev pub IsFiguresBeside : Kind → ℕ → List Name → Plan → List ℕ → Type 0
 IsFiguresBeside kind root nodes plan text = (second : Plan) × IsPlanBy plan.topology kind (FromRoot DepthFirst root) second × AreFiguresBeside nodes plan second text
 
+-- the circle of labels with the intervals of a node: as SVG, or for Graphviz
+abbrev pub circle_text : Bool → List Name → Plan → ℕ → List ℕ
+circle_text is_svg nodes plan u = if is_svg then circle_svg nodes plan u else circle_dot nodes plan u
+
 -- what a text of a plan says, by what is shown
 abbrev pub Says : Show → List Name → Plan → List ℕ → Type 0
 Says Rows nodes plan text = text ≡ plan_text nodes plan
@@ -62,6 +78,7 @@ Says (Between a b) nodes plan text = IsWalkOf nodes plan a b text
 Says Figures nodes plan text = AreFiguresOf nodes plan text
 Says (Beside kind root) nodes plan text = IsFiguresBeside kind root nodes plan text
 Says (Drawing ends) nodes plan text = IsDrawingOf nodes plan ends text
+Says (Circle u is_svg) nodes plan text = text ≡ circle_text is_svg nodes plan u
 Says (Tables is_disjoint) nodes plan text = IsPrefixesOf is_disjoint nodes plan text
 Says Ranges nodes plan text = text ≡ ranges_text nodes plan
 Says Order nodes plan text = text ≡ order_text nodes plan
@@ -73,13 +90,14 @@ AnswerShows show nodes plan (Found text) = ⊥
 AnswerShows show nodes plan (Refused line) = ⊥
 AnswerShows show nodes plan NoThread = ⊥
 
--- the ends of what is shown, or its second root, if it has any, are among so many nodes
+-- the ends of what is shown, its node, or its second root, if it has any, are among so many nodes
 abbrev pub AreAmong : ℕ → Show → Type 0
 AreAmong n Rows = Unit {0}
 AreAmong n (Between a b) = (a < n) × (b < n)
 AreAmong n Figures = Unit {0}
 AreAmong n (Beside kind root) = root < n
 AreAmong n (Drawing ends) = IfSome ends (λ e. (e.0 < n) × (e.1 < n))
+AreAmong n (Circle u is_svg) = u < n
 AreAmong n (Tables is_disjoint) = Unit {0}
 AreAmong n Ranges = Unit {0}
 AreAmong n Order = Unit {0}
@@ -98,7 +116,7 @@ abbrev pub AnswersAsked : Look → Words → Adjacency → (Show → Answer → 
 AnswersAsked Planning words g answers = answers (rows_or_order words)
 AnswersAsked Walk words g answers = AnswersEnds g (from_name words) (to_name words) (λ a b. answers (Between a b))
 AnswersAsked Stats words g answers = AnswersFigures words.second g answers
-AnswersAsked Draw words g answers = AnswersBothEnds g (from_name words) (to_name words) (λ ends. answers (Drawing ends))
+AnswersAsked Draw words g answers = AnswersDrawn (drawn_name words) words.svg (from_name words) (to_name words) g answers
 AnswersAsked Prefixes words g answers = answers (Tables words.disjoint)
 AnswersAsked Ranging words g answers = answers Ranges
 
@@ -146,22 +164,31 @@ abbrev pub AreShown : Option Second → Adjacency → Show → Type 0
 AreShown None g show = show ≡ Figures
 AreShown (Some second) g show = (root : ℕ) × IsNode g (option_map string_bytes second.root) root × (show ≡ Beside second.kind root)
 
+-- the drawing of the network, with the ends where both are named
+abbrev pub IsNetwork : Option Name → Option Name → Adjacency → Show → Type 0
+IsNetwork None to g show = show ≡ Drawing None
+IsNetwork (Some from) None g show = show ≡ Drawing None
+IsNetwork (Some from) (Some to) g show = (a b : ℕ) × IsNode g (Some from) a × IsNode g (Some to) b × (show ≡ Drawing (Some (a, b)))
+
+-- the circle of the node, where one is named, or the network
+abbrev pub IsOneDrawn : Option Name → Bool → Option Name → Option Name → Adjacency → Show → Type 0
+IsOneDrawn None is_svg from to g show = IsNetwork from to g show
+IsOneDrawn (Some node) is_svg from to g show = (u : ℕ) × IsNode g (Some node) u × (show ≡ Circle u is_svg)
+
 -- what the words ask to be drawn
-abbrev pub IsDrawn : Option Name → Option Name → Adjacency → Show → Type 0
-IsDrawn None to g show = show ≡ Drawing None
-IsDrawn (Some from) None g show = show ≡ Drawing None
-IsDrawn (Some from) (Some to) g show = (a b : ℕ) × IsNode g (Some from) a × IsNode g (Some to) b × (show ≡ Drawing (Some (a, b)))
+abbrev pub IsDrawn : Words → Adjacency → Show → Type 0
+IsDrawn words g show = IsOneDrawn (drawn_name words) words.svg (from_name words) (to_name words) g show
 
 -- what the words ask to be shown
 abbrev pub IsShow : Look → Words → Adjacency → Show → Type 0
 IsShow Planning words g show = show ≡ rows_or_order words
 IsShow Walk words g show = (a b : ℕ) × IsNode g (from_name words) a × IsNode g (to_name words) b × (show ≡ Between a b)
 IsShow Stats words g show = AreShown words.second g show
-IsShow Draw words g show = IsDrawn (from_name words) (to_name words) g show
+IsShow Draw words g show = IsDrawn words g show
 IsShow Prefixes words g show = show ≡ Tables words.disjoint
 IsShow Ranging words g show = show ≡ Ranges
 
--- the line of a refusal that comes before any plan: of the root or the order, of an end, of a second root
+-- the line of a refusal that comes before any plan: of the root or the order, of an end, of a second root, of a node
 abbrev pub RefusesLabels : Words → Option (List ℕ) → Adjacency → List ℕ → Type 0
 RefusesLabels words order g line = AnswersLabels words order g (λ labels answer. ⊥) (Refused line)
 
@@ -170,6 +197,9 @@ RefusesEnds g from to line = AnswersEnds g from to (λ a b answer. ⊥) (Refused
 
 abbrev pub RefusesFigures : Option Second → Adjacency → List ℕ → Type 0
 RefusesFigures second g line = AnswersFigures second g (λ show answer. ⊥) (Refused line)
+
+abbrev pub RefusesDrawn : Words → Adjacency → List ℕ → Type 0
+RefusesDrawn words g line = AnswersDrawn (drawn_name words) words.svg (from_name words) (to_name words) g (λ show answer. ⊥) (Refused line)
 
 abbrev pub RefusesShow : Look → Words → Adjacency → List ℕ → Type 0
 RefusesShow look words g line = AnswersAsked look words g (λ show answer. ⊥) (Refused line)

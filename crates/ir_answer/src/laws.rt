@@ -1,11 +1,11 @@
-//! Laws of checks, each the contract of a function with an empty body.
-ghost use Rattle.std.specs.Prelude.{◌≡◌, ℕ, List};
+//! Laws of checks and of the form of answers, each the contract of a function with an empty body.
+ghost use Rattle.std.specs.Prelude.{◌≡◌, ℕ, false, List};
 ghost use Rattle.ir_model.specs.Graph.{Adjacency};
 ghost use Rattle.ir_core.specs.declared.{built.Install.Install, event.Step.Step, opening.Opening.Opening};
 ghost use Rattle.ir_core.specs.Installed.{AreInstallsOf};
 ghost use Rattle.ir_script.specs.Script.{Listing};
-ghost use Rattle.ir_cli.specs.{Answer.Answer, declared.words.Words.Words};
-ghost use Rattle.ir_answer.specs.{Agreed.HaveSamePlans, Asked.CheckAnswers, Checks.{AnswersCheck, AnswersChecked}};
+ghost use Rattle.ir_cli.specs.{Answer.Answer, declared.words.{Sub.Sub, Words.Words}};
+ghost use Rattle.ir_answer.specs.{Agreed.HaveSamePlans, Asked.CheckAnswers, Checks.{AnswersCheck, AnswersChecked}, Formed.asked_form};
 
 /// Two lists of installs of one opening and one list of steps have the same plans. So it is one by which of them a
 /// trace is checked.
@@ -25,4 +25,10 @@ pub fn check_has_one_answer()
         → AnswersChecked words script trace g one → AnswersChecked words script trace g other → one ≡ other }
     ensures texts { (words : Words) (texts : List (List ℕ)) (one other : Answer)
         → CheckAnswers words texts one → CheckAnswers words texts other → one ≡ other }
+{}
+
+/// Where the words ask for no JSON, an answer in the form that they ask for is the answer.
+pub fn text_is_as_it_was()
+    ensures { (sub : Sub) (words : Words) (plain : Answer) → words.json ≡ false
+        → asked_form sub words plain ≡ plain }
 {}

@@ -1,14 +1,17 @@
 //! What is shown of a topology's plan, from the text of the topology.
-ghost use Rattle.std.specs.Prelude.{◌≡◌, ◌≢◌, ◌<◌, ℕ, IfOk, IfErr, IsSome, length, string_bytes};
+ghost use Rattle.std.specs.Prelude.{◌≡◌, ◌≢◌, ◌<◌, ℕ, IfOk, IfErr, IfSome, IsSome, length, string_bytes};
 ghost use Rattle.ir_model.specs.{Graph.names, Topology.node_count};
 ghost use Rattle.ir_answer.specs.Asked.{look_sources};
-ghost use Rattle.ir_answer.specs.Looks.{from_name, to_name, AnswersShow, AreAmong, AreTexts, Says, AnswerShows, order_in, IsNode, IsLabelling, AreShown, IsShow, RefusesLabels, RefusesEnds, RefusesFigures, RefusesShow, LookAnswers, rows_or_order, IsFiguresBeside};
+ghost use Rattle.ir_answer.specs.Looks.{from_name, to_name, circle_text, AnswersShow, AreAmong, AreTexts, Says, AnswerShows, order_in, IsNode, IsLabelling, AreShown, IsDrawn, IsShow, RefusesLabels, RefusesEnds, RefusesFigures, RefusesDrawn, RefusesShow, LookAnswers, rows_or_order, IsFiguresBeside};
 ghost use Rattle.ir_answer.specs.Stops.{StopsAs, Gives};
 ghost use Rattle.ir_model.specs.OfGraph.{topology_of_graph};
 ghost use Rattle.ir_plan.specs.Building.{MayLabel, labelling_of};
+ghost use Rattle.ir_walk.specs.Plans.{NeedsNoTour};
+ghost use Rattle.ir_answer.specs.Plans.{AnswersText};
 ghost use Rattle.ir_cli.specs.{Reading.texts_of, Replies.answer_of, Words.FitsItsKind};
 
 use crate::asking::{Stop, opening_stop, read_graph, read_node};
+use ir_circle::{circle_dot, circle_svg};
 use ir_cli::{Reply, Words, label_order, numbering_line};
 use ir_core::OpenError;
 use ir_figures::{figures_text, figures_text_beside};
@@ -20,6 +23,7 @@ use ir_plan::{LabelOrder, Labels, Plan, PlanError};
 use ir_show::plan_text::PlanText;
 use ir_show::{draw_text, walk_text};
 use ir_tables::Topology;
+use ir_walk::{needs_no_tour, walk_text_alone};
 use std::alloc::{AllocError, Global};
 
 /// What of a plan is asked for.
@@ -51,6 +55,8 @@ pub enum Show {
     Beside(Kind, u16),
     /// A drawing, with the walk between two nodes in bold if there are any.
     Drawing(Option<(u16, u16)>),
+    /// The circle of labels with the intervals of a node: as SVG, or for Graphviz.
+    Circle(u16, bool),
     /// The forwarding tables, disjoint or not.
     Tables(bool),
     /// The ranges of labels.
@@ -88,6 +94,25 @@ fn beside_text(
     }
 }
 
+/// The circle of labels with the intervals of a node: as SVG, or for Graphviz.
+fn circle_text(
+    alloc: Global,
+    graph: &Graph,
+    plan: &Plan,
+    node: u16,
+    is_svg: bool,
+) -> Result<String, AllocError>
+    requires nodes { node_count plan.now.topology ≡ length graph.now }
+    requires node { node < length graph.now }
+    ensures { IfOk result (λ text. string_bytes text ≡ circle_text is_svg (names graph.now) plan.now node) }
+{
+    if is_svg {
+        circle_svg(alloc, graph, plan, node)
+    } else {
+        circle_dot(alloc, graph, plan, node)
+    }
+}
+
 /// What is shown of a plan other than its rows.
 fn text_of(
     crew: &impl LineCrew,
@@ -108,6 +133,7 @@ fn text_of(
         Show::Figures => figures_text(alloc, graph, plan),
         Show::Beside(kind, root) => beside_text(crew, alloc, graph, plan, kind, root, most),
         Show::Drawing(ends) => draw_text(alloc, graph, plan, ends),
+        Show::Circle(node, is_svg) => circle_text(alloc, graph, plan, node, is_svg),
         Show::Tables(is_disjoint) => crew.prefixes(alloc, graph, plan, is_disjoint, most),
         Show::Ranges => ranges_text(alloc, graph, plan),
         Show::Order => order_text(alloc, graph, plan),
@@ -213,7 +239,24 @@ fn read_figures(alloc: Global, words: &Words, graph: &Graph) -> Result<Show, Sto
     Ok(Show::Beside(second.kind, root))
 }
 
-/// What of a plan is to be shown, with the ends that the words name. A drawing has ends only where both are named.
+/// What is to be drawn: the circle of the node that the words name, or else the network, with ends only where both are named.
+fn read_drawing(alloc: Global, words: &Words, graph: &Graph) -> Result<Show, Stop>
+    ensures show { IfOk result (λ show. IsDrawn words.now graph.now show) }
+    ensures among { IfOk result (λ show. 0 < length graph.now → AreAmong (length graph.now) show) }
+    ensures stop { IfErr result (λ s. StopsAs s (RefusesDrawn words.now graph.now)) }
+{
+    if words.node.is_some() {
+        let node = read_node(alloc, graph, &words.node)?;
+        return Ok(Show::Circle(node, words.svg));
+    }
+    if words.from.is_none() || words.to.is_none() {
+        return Ok(Show::Drawing(None));
+    }
+    let ends = read_ends(alloc, words, graph)?;
+    Ok(Show::Drawing(Some(ends)))
+}
+
+/// What of a plan is to be shown, with the nodes that the words name.
 fn read_show(alloc: Global, look: Look, words: &Words, graph: &Graph) -> Result<Show, Stop>
     ensures show { IfOk result (λ show. IsShow look words.now graph.now show) }
     ensures among { IfOk result (λ show. 0 < length graph.now → AreAmong (length graph.now) show) }
@@ -228,17 +271,50 @@ fn read_show(alloc: Global, look: Look, words: &Words, graph: &Graph) -> Result<
             let (from, to) = read_ends(alloc, words, graph)?;
             Ok(Show::Between(from, to))
         }
-        Look::Draw => {
-            if words.from.is_none() || words.to.is_none() {
-                return Ok(Show::Drawing(None));
-            }
-            let ends = read_ends(alloc, words, graph)?;
-            Ok(Show::Drawing(Some(ends)))
-        }
+        Look::Draw => read_drawing(alloc, words, graph),
     }
 }
 
-/// The answer that shows a plan, or tells what refuses it.
+/// The ends of a walk that is shown, where its plan need not be built: that is of a kind other than Tree, and no tour is
+/// sought for its labels.
+fn ends_alone(show: Show, kind: Kind, nodes: usize, labels: &Labels) -> Option<(u16, u16)>
+    ensures shown { IfSome result (λ ends. show ≡ Show.Between ends.0 ends.1) }
+    ensures kind { IsSome result → kind ≢ Kind.Tree }
+    ensures alone { IsSome result → NeedsNoTour nodes (labelling_of labels.now) }
+{
+    let Show::Between(from, to) = show else {
+        return None;
+    };
+    if kind == Kind::Tree || !needs_no_tour(nodes, labels) {
+        return None;
+    }
+    Some((from, to))
+}
+
+/// The answer that tells the walk of a plan between two nodes, or what refuses that plan, which is not built.
+fn show_walk(
+    alloc: Global,
+    graph: &Graph,
+    topology: &Topology,
+    kind: Kind,
+    labels: Labels,
+    ends: (u16, u16),
+) -> Result<Reply, Stop>
+    requires kind { kind ≢ Kind.Tree }
+    requires topology { topology.now ≡ topology_of_graph graph.now }
+    requires ends { 0 < length graph.now → (ends.0 < length graph.now) × (ends.1 < length graph.now) }
+    requires labels { MayLabel topology.now kind (labelling_of labels) }
+    requires alone { NeedsNoTour (node_count topology.now) (labelling_of labels) }
+    ensures { Gives (AnswersText graph.now kind (labelling_of labels)
+        (Says (Show.Between ends.0 ends.1) (names graph.now))) result }
+{
+    match walk_text_alone(alloc, graph, topology, kind, labels, ends) {
+        Ok(text) => Ok(Reply::Ran(text, String::new(alloc))),
+        Err(error) => Err(opening_stop(alloc, OpenError::from(error))),
+    }
+}
+
+/// The answer that shows a plan, or tells what refuses it. A walk is told without its plan where that need not be built.
 fn show_plan(
     crew: &impl LineCrew,
     alloc: Global,
@@ -252,6 +328,9 @@ fn show_plan(
     ensures { Gives (AnswersShow words.now graph (labelling_of labels) show) result }
 {
     let topology = Topology::of(alloc, &graph)?;
+    if let Some(ends) = ends_alone(show, words.kind, topology.nodes(), &labels) {
+        return show_walk(alloc, &graph, &topology, words.kind, labels, ends);
+    }
     match Plan::build_by(crew, alloc, topology, words.kind, labels, words.threads) {
         Ok(plan) => {
             let _nodes = plan.nodes();
@@ -262,8 +341,8 @@ fn show_plan(
 }
 
 /// The answer to the text of a topology, and to that of an order where the words have one: what is shown of the plan.
-/// Refused are, in this order, the topology's first fault, the order's or a root that is no node, an end or a second
-/// plan's root that is none, and what refuses the plan. The plan's rows are made by a crew.
+/// Refused are, in this order, the topology's first fault, the order's or a root that is no node, an end, a circle's node or
+/// a second plan's root that is none, and what refuses the plan. The plan's rows are made by a crew.
 pub fn look_at(
     crew: &impl LineCrew,
     alloc: Global,

@@ -1,13 +1,14 @@
 //! Runs of the program, from bytes to bytes.
 ghost use Rattle.std.specs.Prelude.{◌≡◌, length};
-ghost use Rattle.ir_answer.specs.Asked.{look_sources, sim_sources, check_sources, sources_by, sources_of, SimAnswers, CheckAnswers, FitsSub, AnswersBy, Answers, NoThreads};
-ghost use Rattle.ir_answer.specs.{Looks.LookAnswers, Stops.{Gives, GivenAs}};
+ghost use Rattle.ir_answer.specs.Asked.{look_sources, sim_sources, check_sources, sources_by, sources_of, SimAnswers, CheckAnswers, FitsSub, PlainBy, AnswersBy, Answers, NoThreads};
+ghost use Rattle.ir_answer.specs.{Formed.InForm, Looks.LookAnswers, Stops.{Gives, GivenAs}};
 ghost use Rattle.ir_cli.specs.{Ending.{EndsAs, Ends}, Reading.{texts_of, AreRead, IsUnread}, Told.{Sends, Tells}};
 ghost use Rattle.ir_cli.specs.Words.{FitsItsKind};
 
 use crate::asking::{Stop, three_texts, two_texts};
 use crate::checking::check;
 use crate::comparing::{compare, compare_sources};
+use crate::forming::in_form;
 use crate::look::{Look, look_at};
 use crate::play::simulate;
 use ir_cli::{
@@ -58,7 +59,7 @@ pub fn sources_of(words: &Words) -> &'static [Source]
     sources_by(words.sub, words)
 }
 
-/// The answer of a subcommand to the texts of the inputs. That of `live` is that no thread was started.
+/// The answer of a subcommand to the texts of the inputs, as text. That of `live` is that no thread was started.
 fn answer_by<C: LineCrew>(
     crew: &C,
     alloc: Global,
@@ -68,7 +69,7 @@ fn answer_by<C: LineCrew>(
 ) -> Result<Reply, Stop>
     requires kind { FitsSub sub words.now }
     requires texts { length texts.now ≡ length (sources_by sub words.now) }
-    ensures { Gives (AnswersBy NoThreads sub words.now (texts_of texts.now)) result }
+    ensures { Gives (PlainBy NoThreads sub words.now (texts_of texts.now)) result }
 {
     match sub {
         Sub::Plan => look_at(crew, alloc, Look::Plan, words, texts),
@@ -112,7 +113,7 @@ pub fn write_given<W: Writer, F: Writer>(
     }
 }
 
-/// Answers the texts of the inputs, and writes the answer.
+/// Answers the texts of the inputs, and writes the answer in the form that the words ask for.
 fn write_answer<C: LineCrew, W: Writer, F: Writer>(
     crew: &C,
     alloc: Global,
@@ -128,7 +129,8 @@ fn write_answer<C: LineCrew, W: Writer, F: Writer>(
         (Sends W.contents W.wrote W.settled output.old output.new) (output.new ≡ output.old)
         (Tells F.contents F.wrote F.settled faults.old faults.new) }
 {
-    write_given(answer_by(crew, alloc, sub, words, texts), output, faults)
+    let plain = answer_by(crew, alloc, sub, words, texts);
+    write_given(in_form(alloc, sub, words, plain), output, faults)
 }
 
 /// Does what a subcommand does over readers and writers, and answers the exit status.
@@ -159,7 +161,7 @@ fn run_as<C: LineCrew, R: Reader, W: Writer, F: Writer>(
 }
 
 /// Reads a topology, and an order where the words have one, and writes the plan that the words ask for: a line for each node
-/// with its label and its row, or with its name alone in the order of the labels.
+/// with its label and its row, or with its name alone in the order of the labels; as JSON where the words ask for that.
 ///
 /// Conditions: an order is of no plan of kind Tree; there is a reader for the topology, or for all of standard input where
 /// `words.is_one_input()`, and one for the order if there is one. The answer is the exit status: 0 done; 1 an input is
@@ -173,7 +175,7 @@ pub fn run_plan<R: Reader, W: Writer, F: Writer>(
 ) -> u8
     requires kind { FitsItsKind words.now }
     requires inputs { length inputs.old ≡ length (look_sources words.now) }
-    ensures { Ends (LookAnswers Look.Plan words.now) result
+    ensures { Ends (InForm Sub.Plan words.now (LookAnswers Look.Plan words.now)) result
         (λ texts. AreRead R.remaining R.gave inputs.old texts inputs.new)
         (IsUnread R.remaining R.gave (look_sources words.now) inputs.old inputs.new)
         (Sends W.contents W.wrote W.settled output.old output.new) (output.new ≡ output.old)
@@ -184,7 +186,7 @@ pub fn run_plan<R: Reader, W: Writer, F: Writer>(
 
 /// Reads a topology and a script, plays the script's steps in a world over the topology, and writes the trace of its
 /// packets: of version 1 where no packet may be restamped, else of version 2. Each step that is refused is a line
-/// `refused LINE NAME` of the faults.
+/// `refused LINE NAME` of the faults. The trace is JSON where the words ask for that.
 ///
 /// Condition: there is one reader where `words.is_one_input()`, whose text the first line that is exactly `%%` cuts into the
 /// two, and else one of the topology and one of the script. The answer is the exit status: 0 done; 1 an input is refused,
@@ -197,7 +199,7 @@ pub fn run_sim<R: Reader, W: Writer, F: Writer>(
     faults: &mut F,
 ) -> u8
     requires inputs { length inputs.old ≡ length (sim_sources words.now) }
-    ensures { Ends (SimAnswers words.now) result
+    ensures { Ends (InForm Sub.Sim words.now (SimAnswers words.now)) result
         (λ texts. AreRead R.remaining R.gave inputs.old texts inputs.new)
         (IsUnread R.remaining R.gave (sim_sources words.now) inputs.old inputs.new)
         (Sends W.contents W.wrote W.settled output.old output.new) (output.new ≡ output.old)
@@ -207,7 +209,8 @@ pub fn run_sim<R: Reader, W: Writer, F: Writer>(
 }
 
 /// Reads a topology, a script and a trace, and writes `ok N` for a trace of N rows, or its first finding: `finding LINE
-/// KIND`. The epochs of the rows are those of the script's installs, where its changes of the board alone are played.
+/// KIND`, as JSON where the words ask for that. The epochs of the rows are those of the script's installs, where its changes
+/// of the board alone are played.
 ///
 /// Condition: there is one reader where `words.is_one_input()`, whose text the first two lines that are exactly `%%` cut
 /// into the three, and else one of the topology, one of the script and one of the trace. The answer is the exit status:
@@ -220,7 +223,7 @@ pub fn run_check<R: Reader, W: Writer, F: Writer>(
     faults: &mut F,
 ) -> u8
     requires inputs { length inputs.old ≡ length (check_sources words.now) }
-    ensures { Ends (CheckAnswers words.now) result
+    ensures { Ends (InForm Sub.Check words.now (CheckAnswers words.now)) result
         (λ texts. AreRead R.remaining R.gave inputs.old texts inputs.new)
         (IsUnread R.remaining R.gave (check_sources words.now) inputs.old inputs.new)
         (Sends W.contents W.wrote W.settled output.old output.new) (output.new ≡ output.old)
@@ -234,7 +237,8 @@ pub fn run_check<R: Reader, W: Writer, F: Writer>(
 ///
 /// The subcommands of a plan read a topology, and an order where the words have one, and write its plan with a line for
 /// each node or the order of the labels, a walk of it, its figures, a drawing of it, or the fewest prefixes or ranges by
-/// which each node sends on; `compare` writes the figures of plans of each kind and order of labels. `sim`
+/// which each node sends on; `compare` writes the figures of plans of each kind and order of labels. What is
+/// written is text, or its JSON where the words ask for that; a drawing is text. `sim`
 /// and `check` are `run_sim` and `run_check`, and `plan` is `run_plan`: the text is the same for any crew. `live` wants
 /// threads of nodes, so its inputs are read, and it is told as `no thread`.
 ///

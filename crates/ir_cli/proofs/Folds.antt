@@ -1,5 +1,5 @@
 -- A fold over what is left of a list.
-use Rattle.std.proofs.Common.{◌≡◌, ◌∙◌, ◌+◌, ◌<◌, ◌≤◌, ℕ, suc, List, ◌∷◌, length, drop, sym, ap, ap₂, arith, drop-cons, drop_of_length-le}
+use Rattle.std.proofs.Common.{◌≡◌, ◌∙◌, ◌+◌, ◌<◌, ℕ, suc, List, length, drop, sym, ap, ap₂, arith, drop-cons}
 use Rattle.std.specs.List.{fold, slice_index_or}
 
 -- one more element
@@ -8,7 +8,3 @@ pub fold_next : {X Y : Type 0} (f : Y → X → Y) (a b : Y) (xs : List X) (i : 
 fold_next f a b xs i x d lt at is =
     let next : i + 1 ≡ suc i = omega arith in
     ap₂ (λ y k. fold f y (drop k xs)) is next ∙ ap (λ y. fold f (f a y) (drop (suc i) xs)) at ∙ sym (ap (fold f a) (drop-cons xs i d lt))
-
--- nothing is left
-pub fold_end : {X Y : Type 0} (f : Y → X → Y) (a : Y) (xs : List X) (i : ℕ) → length xs ≤ i → fold f a (drop i xs) ≡ a
-fold_end f a xs i past = ap (fold f a) (drop_of_length-le xs past)

@@ -1,3 +1,4 @@
+pub mod Alike
 pub mod Cutting
 pub mod Ends
 pub mod Inputs
@@ -5,3 +6,5 @@ pub mod Given
 pub mod Folds
 pub mod Simple
 pub mod Table
+pub mod Subcommand
+pub mod Failing

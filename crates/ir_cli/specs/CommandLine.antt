@@ -1,14 +1,16 @@
 -- The command line: what each subcommand takes, with a line for each option, flag and file. How words are read by it is
--- told by the parser's own definitions (`Walk` of clap): `--NAME VALUE` or `--NAME=VALUE` gives an option its value, words
--- that are no options go to the files in order, and behind `--` all words are files.
-use Rattle.std.specs.Prelude.{◌≡◌, ℕ, pos, true, false, List, [], ◌∷◌, ◌++◌, Some, codes}
+-- told by the parser's own definitions (`Walk` of clap): `--NAME VALUE` or `--NAME=VALUE` gives an option its value, as `-X
+-- VALUE` does with its letter, words that are no options go to the files in order, and behind `--` all words are files.
+use Rattle.std.specs.Prelude.{◌≡◌, ℕ, pos, true, false, List, [], ◌∷◌, ◌++◌, Some, codes, slice_get}
 use Rattle.std.specs.Borrow.{Bor}
 use Rattle.clap.specs.Words.{App, Rule, Shape, Text, new_rule}
 use Rattle.clap.specs.Walk.{texts}
 use Rattle.clap.specs.Simple.{new_shape}
 use Rattle.clap.specs.declared.builder.action.ArgAction.TheVariants.{SetTrue}
 use Rattle.clap.specs.declared.builder.value_parser.ValueParser.TheVariants as takes
-use Rattle.ir_cli.specs.declared.command.Choices.{Choices}
+use Rattle.ir_cli.specs.declared.help.Called.{Called}
+use Rattle.ir_cli.specs.declared.help.Called.TheVariants.{Route, Bentzolu}
+use Rattle.ir_cli.specs.declared.options.Choices.{Choices}
 use Rattle.ir_core.specs.declared.TheConstants.{MAX_CAPACITY, MAX_PACKETS, MAX_RESTAMPS}
 use Rattle.ir_cli.specs.declared.TheConstants.{MAX_THREADS, DEFAULT_CAPACITY, DEFAULT_PACKETS, DEFAULT_RESTAMPS}
 
@@ -28,6 +30,10 @@ choice name words = record (option name) { parser = Some (takes.Names words) }
 abbrev pub number : Text → ℕ → ℕ → Rule
 number name least most = record (option name) { parser = Some (takes.Signed (pos least) (pos most)) }
 
+-- also `-X VALUE`, with this letter
+abbrev pub lettered : Text → Rule → Rule
+lettered letter rule = record rule { short = slice_get letter 0 }
+
 -- a file, by its place
 abbrev pub file : Text → Rule
 file name = record (new_rule name) { value_names = 1 }
@@ -40,13 +46,14 @@ needed rule = record rule { required = true }
 abbrev pub or_else : Text → Rule → Rule
 or_else word rule = record rule { defaults = word ∷ [] }
 
--- it may be given beside another alone
-abbrev pub beside : Rule → Rule
-beside rule = record rule { is_free = false }
-
 -- a subcommand
 abbrev pub taking : Text → List Rule → Shape
 taking name rules = record (new_shape name) { rules = rules }
+
+-- the name that the program is called by, and calls itself
+abbrev pub name_of : Called → Text
+name_of Route = codes "route"
+name_of Bentzolu = codes "bentzolu"
 
 -- the words of which one may be chosen
 abbrev pub AreTheirWords : Choices → Type 0
@@ -54,71 +61,98 @@ AreTheirWords choices = (texts choices.formats.now ≡ codes "adjlist" ∷ codes
     × (texts choices.kinds.now ≡ codes "tree" ∷ codes "shortest" ∷ codes "compact" ∷ [])
     × (texts choices.numberings.now ≡ codes "depth-first" ∷ codes "tour" ∷ [])
 
--- the flag of `plan`
+-- the flag of output as JSON
+abbrev pub json : Rule
+json = flag (codes "json")
+
+abbrev pub as_json : List Rule
+as_json = json ∷ []
+
+-- how all tell what they tell: to a file, with sentences for people, or with nothing on standard error
+abbrev pub telling : List Rule
+telling =
+    lettered (codes "o") (option (codes "output"))
+    ∷ flag (codes "quiet")
+    ∷ flag (codes "explain")
+    ∷ flag (codes "no-explain")
+    ∷ []
+
+-- what those take that show a plan
+abbrev pub shown : List Rule
+shown =
+    lettered (codes "n") (or_else (codes "depth-first") (option (codes "numbering")))
+    ∷ number (codes "threads") 1 MAX_THREADS
+    ∷ needed (file (codes "topology"))
+    ∷ []
+
+-- the flags of `plan`
 abbrev pub ordered : List Rule
-ordered = flag (codes "order") ∷ []
+ordered = flag (codes "order") ∷ json ∷ []
 
 -- the ends of `walk`
 abbrev pub ends : List Rule
-ends = needed (option (codes "from")) ∷ needed (option (codes "to")) ∷ []
+ends = needed (option (codes "from")) ∷ needed (option (codes "to")) ∷ json ∷ []
 
 -- the second plan of `stats`
 abbrev pub second : List Rule
-second = option (codes "with") ∷ []
+second = option (codes "with") ∷ json ∷ []
 
--- the ends of `draw`
+-- what `draw` draws: the ends of a walk, or a node
 abbrev pub drawn : List Rule
-drawn = beside (option (codes "from")) ∷ beside (option (codes "to")) ∷ []
+drawn =
+    option (codes "from")
+    ∷ option (codes "to")
+    ∷ option (codes "node")
+    ∷ flag (codes "svg")
+    ∷ []
 
--- the flag of `prefixes`
+-- the flags of `prefixes`
 abbrev pub prefixed : List Rule
-prefixed = flag (codes "disjoint") ∷ []
+prefixed = flag (codes "disjoint") ∷ json ∷ []
 
--- the flag of `check`
+-- the flags of `check`
 abbrev pub whole_flag : List Rule
-whole_flag = flag (codes "whole") ∷ []
+whole_flag = flag (codes "whole") ∷ json ∷ []
+
+-- the capacity of a run's channels and inboxes, and its most packets
+abbrev pub counted : List Rule
+counted =
+    or_else DEFAULT_CAPACITY.now (number (codes "capacity") 1 MAX_CAPACITY)
+    ∷ or_else DEFAULT_PACKETS.now (number (codes "packets") 1 MAX_PACKETS)
+    ∷ []
 
 module _ (choices : Choices) where
-  -- what all take, but the comparison of plans
-  abbrev pub common : List Rule
-  common =
-      choice (codes "format") choices.formats
-      ∷ or_else (codes "shortest") (choice (codes "kind") choices.kinds)
-      ∷ option (codes "root")
-      ∷ or_else DEFAULT_CAPACITY.now (number (codes "capacity") 1 MAX_CAPACITY)
-      ∷ or_else DEFAULT_PACKETS.now (number (codes "packets") 1 MAX_PACKETS)
-      ∷ flag (codes "explain")
-      ∷ flag (codes "no-explain")
-      ∷ []
+  -- the format of the topology
+  abbrev pub format : Rule
+  format = lettered (codes "f") (choice (codes "format") choices.formats)
 
-  -- what those take that show a plan
-  abbrev pub shown : List Rule
-  shown =
-      number (codes "threads") 1 MAX_THREADS
-      ∷ or_else (codes "depth-first") (option (codes "numbering"))
-      ∷ needed (file (codes "topology"))
+  -- what those take that make a plan of one kind
+  abbrev pub routed : List Rule
+  routed =
+      format
+      ∷ lettered (codes "k") (or_else (codes "shortest") (choice (codes "kind") choices.kinds))
+      ∷ lettered (codes "r") (option (codes "root"))
       ∷ []
 
   -- what the comparison of plans takes
   abbrev pub compared : List Rule
   compared =
-      choice (codes "format") choices.formats
-      ∷ option (codes "root")
-      ∷ flag (codes "explain")
-      ∷ flag (codes "no-explain")
+      format
+      ∷ lettered (codes "r") (option (codes "root"))
       ∷ number (codes "threads") 1 MAX_THREADS
       ∷ needed (file (codes "topology"))
       ∷ []
 
   -- how the plans of a run are numbered
   abbrev pub run_numbering : Rule
-  run_numbering = or_else (codes "depth-first") (choice (codes "numbering") choices.numberings)
+  run_numbering = lettered (codes "n") (or_else (codes "depth-first") (choice (codes "numbering") choices.numberings))
 
   -- what those take that play a script
   abbrev pub played : List Rule
   played =
       run_numbering
-      ∷ or_else DEFAULT_RESTAMPS.now (number (codes "restamps") 0 MAX_RESTAMPS)
+      ∷ counted
+      ++ or_else DEFAULT_RESTAMPS.now (number (codes "restamps") 0 MAX_RESTAMPS)
       ∷ needed (file (codes "topology"))
       ∷ file (codes "script")
       ∷ []
@@ -127,49 +161,50 @@ module _ (choices : Choices) where
   abbrev pub checked : List Rule
   checked =
       run_numbering
-      ∷ needed (file (codes "topology"))
+      ∷ counted
+      ++ needed (file (codes "topology"))
       ∷ file (codes "script")
       ∷ file (codes "trace")
       ∷ []
 
   -- the subcommands
   abbrev pub plan : Shape
-  plan = taking (codes "plan") (common ++ shown ++ ordered)
+  plan = taking (codes "plan") (routed ++ shown ++ ordered ++ telling)
 
   abbrev pub walk : Shape
-  walk = taking (codes "walk") (common ++ shown ++ ends)
+  walk = taking (codes "walk") (routed ++ shown ++ ends ++ telling)
 
   abbrev pub stats : Shape
-  stats = taking (codes "stats") (common ++ shown ++ second)
+  stats = taking (codes "stats") (routed ++ shown ++ second ++ telling)
 
   abbrev pub compare : Shape
-  compare = taking (codes "compare") compared
+  compare = taking (codes "compare") (compared ++ as_json ++ telling)
 
   abbrev pub draw : Shape
-  draw = taking (codes "draw") (common ++ shown ++ drawn)
+  draw = taking (codes "draw") (routed ++ shown ++ drawn ++ telling)
 
   abbrev pub prefixes : Shape
-  prefixes = taking (codes "prefixes") (common ++ shown ++ prefixed)
+  prefixes = taking (codes "prefixes") (routed ++ shown ++ prefixed ++ telling)
 
   abbrev pub ranges : Shape
-  ranges = taking (codes "ranges") (common ++ shown)
+  ranges = taking (codes "ranges") (routed ++ shown ++ as_json ++ telling)
 
   abbrev pub sim : Shape
-  sim = taking (codes "sim") (common ++ played)
+  sim = taking (codes "sim") (routed ++ played ++ as_json ++ telling)
 
   abbrev pub live : Shape
-  live = taking (codes "live") (common ++ played)
+  live = taking (codes "live") (routed ++ played ++ as_json ++ telling)
 
   abbrev pub check : Shape
-  check = taking (codes "check") (common ++ checked ++ whole_flag)
+  check = taking (codes "check") (routed ++ checked ++ whole_flag ++ telling)
 
   abbrev pub subcommands : List Shape
   subcommands =
       plan ∷ walk ∷ stats ∷ compare ∷ draw ∷ prefixes ∷ ranges ∷ sim ∷ live ∷ check ∷ []
 
   -- the program
-  abbrev pub route : App
-  route = record {
-    top = record (new_shape (codes "route")) { is_leaf = false; has_version = true; subcommand_required = true };
+  abbrev pub program : Called → App
+  program called = record {
+    top = record (new_shape (name_of called)) { is_leaf = false; has_version = true; subcommand_required = true };
     subs = subcommands;
   }

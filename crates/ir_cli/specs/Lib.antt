@@ -2,6 +2,7 @@
 pub mod Words
 pub mod CommandLine
 pub mod Meaning
+pub mod Refusals
 pub mod Cut
 pub mod Lines
 pub mod Answer

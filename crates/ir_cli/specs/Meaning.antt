@@ -1,9 +1,9 @@
 -- What the words behind the program's name mean, field by field.
-use Rattle.std.specs.Prelude.{◌≡◌, ◌≢◌, ◌≤◌, ◌==◌, ℕ, Bool, true, false, not, ◌&&◌, if◌then◌else◌, List, [], ◌∷◌, ◌++◌, map, Option, Some, None, MatchOption, unwrap_or, option_map, option_to_list, bytes_eq, codes, string_bytes}
+use Rattle.std.specs.Prelude.{◌≡◌, ◌≢◌, ◌≤◌, ◌==◌, ℕ, Bool, false, not, ◌&&◌, if◌then◌else◌, List, [], ◌∷◌, ◌++◌, map, Option, Some, None, MatchOption, unwrap_or, option_map, option_to_list, bytes_eq, codes, string_bytes}
 use Rattle.std.specs.Option.{option_map_or, option_or}
 use Rattle.std.specs.List.{list_any, before_first, after_first}
 use Rattle.std.specs.Str.Parse.{IsNumeral, digits_value, without_leading_plus}
-use Rattle.clap.specs.Words.{Row, Text, first_of, one_of, subcommand_of}
+use Rattle.clap.specs.Words.{Kinds, Row, Text, fault_of, first_of, one_of, subcommand_of}
 use Rattle.ir_model.specs.declared.Kind.{Kind}
 use Rattle.ir_model.specs.declared.Kind.TheVariants.{Tree, Shortest, Compact}
 use Rattle.ir_core.specs.declared.TheConstants.{MAX_CAPACITY, MAX_PACKETS, MAX_RESTAMPS}
@@ -17,8 +17,10 @@ use Rattle.ir_cli.specs.declared.words.Numbering.TheVariants.{DepthFirst, Tour, 
 use Rattle.ir_cli.specs.declared.words.Second.{Second}
 use Rattle.ir_cli.specs.declared.words.Words.{Words}
 use Rattle.ir_cli.specs.Words.{format_of_name}
-use Rattle.ir_cli.specs.declared.command.Choices.{Choices}
-use Rattle.ir_cli.specs.CommandLine.{AreTheirWords, route}
+use Rattle.ir_cli.specs.declared.help.Called.{Called}
+use Rattle.ir_cli.specs.declared.help.Called.TheVariants.{Route}
+use Rattle.ir_cli.specs.declared.options.Choices.{Choices}
+use Rattle.ir_cli.specs.CommandLine.{AreTheirWords, name_of, program}
 
 abbrev pub sub_word : Sub → Text
 sub_word subs.Plan = codes "plan"
@@ -120,11 +122,16 @@ pub record Means (name : Text) (rows : List Row) (words : Words) : Type 0 where
   pub threads : IsNumber (codes "threads") rows 1 MAX_THREADS words.threads
   pub from : option_map string_bytes words.from ≡ first_of (codes "from") rows
   pub to : option_map string_bytes words.to ≡ first_of (codes "to") rows
+  pub node : option_map string_bytes words.node ≡ first_of (codes "node") rows
+  pub svg : words.svg ≡ is_set (codes "svg") rows
   pub second : IsSecond (second_word rows) (first_of (codes "root") rows) words.second
   pub disjoint : words.disjoint ≡ is_set (codes "disjoint") rows
   pub order_alone : words.order_alone ≡ is_set (codes "order") rows
   pub whole : words.whole ≡ is_set (codes "whole") rows
   pub explain : words.explain ≡ (is_set (codes "explain") rows && not (is_set (codes "no-explain") rows))
+  pub json : words.json ≡ is_set (codes "json") rows
+  pub output : option_map string_bytes words.output ≡ first_of (codes "output") rows
+  pub quiet : words.quiet ≡ is_set (codes "quiet") rows
   pub files : map string_bytes words.files.items ≡ files_in rows
 
 -- What was met means this: a subcommand, with its options, flags and files.
@@ -132,6 +139,19 @@ abbrev pub MeansMet : Option (Text × List Row) → Words → Type 0
 MeansMet None words = ⊥
 MeansMet (Some met) words = Means met.0 met.1 words × HasItsSecond met.1 words
 
--- The words behind the program's name mean this, as the parser reads them by the command line.
+module _ (called : Called) where
+  -- what the parser finds wrong with the words behind the program's name, by the command line
+  abbrev pub faults : Choices → List Text → Kinds
+  faults choices typed = fault_of (program choices called) (name_of called ∷ typed)
+
+  -- the subcommand that it meets, with its options, flags and files
+  abbrev pub met : Choices → List Text → Option (Text × List Row)
+  met choices typed = subcommand_of (program choices called) (name_of called ∷ typed)
+
+  -- The words behind the program's name mean this: the parser finds nothing wrong with them, and reads them so.
+  abbrev pub AsksAs : List Text → Words → Type 0
+  AsksAs typed words = (choices : Choices) × AreTheirWords choices × (faults choices typed ≡ []) × MeansMet (met choices typed) words
+
+-- the same where the program is called `route`
 abbrev pub Asks : List Text → Words → Type 0
-Asks typed words = (choices : Choices) × AreTheirWords choices × MeansMet (subcommand_of (route choices) (codes "route" ∷ typed)) words
+Asks typed words = AsksAs Route typed words

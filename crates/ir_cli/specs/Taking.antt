@@ -1,5 +1,5 @@
 -- What clap reads of the arguments and subcommands that the tables have.
-use Rattle.std.specs.Prelude.{◌≡◌, codes, ℕ, pos, true, false, List, [], ◌∷◌, Some, None, map, fold}
+use Rattle.std.specs.Prelude.{◌≡◌, ℕ, pos, true, false, List, [], ◌∷◌, Option, Some, None, map, fold}
 use Rattle.std.specs.Int.{int_max, int_min}
 use Rattle.std.specs.Borrow.{Bor}
 use Rattle.clap.specs.Words.{App, Rule, Shape, Text, new_rule, shape_of, signed_between, with_rule}
@@ -8,19 +8,23 @@ use Rattle.clap.specs.declared.builder.action.ArgAction.TheVariants.{SetTrue}
 use Rattle.clap.specs.declared.builder.command.Command.{Command}
 use Rattle.clap.specs.declared.builder.command.Command.TheViews.{out-Command}
 use Rattle.clap.specs.declared.builder.value_parser.ValueParser.TheVariants as vp
-use Rattle.ir_cli.specs.declared.command.Takes.{Takes}
-use Rattle.ir_cli.specs.declared.command.Takes.TheVariants.{Nothing, Word, WordOf, Number, File}
-use Rattle.ir_cli.specs.declared.command.Need.{Need}
-use Rattle.ir_cli.specs.declared.command.Need.TheVariants.{Free, Must, Else, Beside}
-use Rattle.ir_cli.specs.declared.command.Choice.{Choice}
-use Rattle.ir_cli.specs.declared.command.Choice.TheVariants.{Format, Kind, Numbering}
-use Rattle.ir_cli.specs.declared.command.Choices.{Choices}
-use Rattle.ir_cli.specs.declared.command.Taken.{Taken}
+use Rattle.ir_cli.specs.declared.options.Takes.{Takes}
+use Rattle.ir_cli.specs.declared.options.Takes.TheVariants.{Nothing, WordOf, Number, File}
+use Rattle.ir_cli.specs.declared.options.Need.{Need}
+use Rattle.ir_cli.specs.declared.options.Need.TheVariants.{Free, Must, Else}
+use Rattle.ir_cli.specs.declared.options.Choice.{Choice}
+use Rattle.ir_cli.specs.declared.options.Choice.TheVariants.{Format, Kind, Numbering}
+use Rattle.ir_cli.specs.declared.options.Choices.{Choices}
+use Rattle.ir_cli.specs.declared.options.Taken.{Taken}
 
 abbrev pub rule_named : Text → Takes → Rule
 rule_named name Nothing = record (new_rule name) { long = Some name; action = Some SetTrue }
 rule_named name (File value) = record (new_rule name) { value_names = 1 }
 rule_named name _ = record (new_rule name) { long = Some name; value_names = 1 }
+
+abbrev pub rule_lettered : Option ℕ → Rule → Rule
+rule_lettered None rule = rule
+rule_lettered (Some letter) rule = record rule { short = Some letter }
 
 abbrev pub choice_words : Choices → Choice → Bor (List (Bor Text))
 choice_words choices Format = choices.formats
@@ -37,10 +41,9 @@ abbrev pub rule_needed : Need → Rule → Rule
 rule_needed Free rule = rule
 rule_needed Must rule = record rule { required = true }
 rule_needed (Else word) rule = record rule { defaults = word.now ∷ [] }
-rule_needed (Beside other) rule = record rule { is_free = false }
 
 abbrev pub rule_taken : Choices → Taken → Rule
-rule_taken choices taken = rule_needed taken.need (rule_valued choices taken.takes (rule_named taken.name.now taken.takes))
+rule_taken choices taken = rule_needed taken.need (rule_lettered taken.letter (rule_valued choices taken.takes (rule_named taken.name.now taken.takes)))
 
 -- what is read of a table
 abbrev pub rules_taken : Choices → List Taken → List Rule
@@ -50,9 +53,9 @@ abbrev pub with_taken : Choices → App → List Taken → App
 with_taken choices app all = fold (λ a taken. with_rule a (rule_taken choices taken)) app all
 
 -- the program, before its subcommands
-abbrev pub program_app : App
-program_app = record {
-  top = record (new_shape (codes "route")) { has_version = true; subcommand_required = true };
+abbrev pub program_app : Text → App
+program_app name = record {
+  top = record (new_shape name) { has_version = true; subcommand_required = true };
   subs = [];
 }
 

@@ -1,7 +1,8 @@
 -- What the words of the command line say of their files, and the numbers of their refusals.
-use Rattle.std.specs.Prelude.{◌≡◌, ◌≢◌, ℕ, ◌==◌, Bool, true, false, not, is_some, List, [], ◌∷◌, ◌&&◌, ◌||◌, ◌-◌, if◌then◌else◌, bytes_eq, codes, string_bytes, map, length, drop}
+use Rattle.std.specs.Prelude.{◌≡◌, ◌≢◌, ℕ, ◌==◌, Bool, true, false, not, is_some, List, [], ◌∷◌, ◌&&◌, ◌||◌, ◌-◌, if◌then◌else◌, bytes_eq, codes, string_bytes, map, length, drop, slice_get}
 use Rattle.ir_model.specs.Graph.{Name}
 use Rattle.std.specs.List.{list_all}
+use Rattle.std.specs.Option.{option_map_or}
 use Rattle.ir_model.specs.declared.Kind.{Kind}
 use Rattle.ir_model.specs.declared.Kind.TheVariants.{Tree}
 use Rattle.ir_cli.specs.declared.words.Sub.{Sub}
@@ -23,6 +24,16 @@ is_dash (file ∷ other ∷ files) = false
 -- `-` stands for one input of all texts
 abbrev pub is_one_input : Words → Bool
 is_one_input words = is_dash (map string_bytes words.files.items)
+
+-- the file at a place, from 0; standard input where there is none
+abbrev pub file_at : Words → ℕ → Name
+file_at words place = option_map_or string_bytes (slice_get words.files.items place) (codes "-")
+
+-- the file of an order of nodes; standard input where there is none
+abbrev pub order_name : Numbering → Name
+order_name (File name) = string_bytes name
+order_name DepthFirst = codes "-"
+order_name Tour = codes "-"
 
 -- a name ends in these letters
 abbrev pub ends_in : Name → Name → Bool
@@ -51,9 +62,19 @@ takes_numbering Tour Tree has_root = false
 takes_numbering Tour kind has_root = true
 takes_numbering (File name) kind has_root = is_no_dash (string_bytes name) && not has_root
 
--- the words have the files and the numbering that their subcommand takes
+-- both or none
+abbrev pub alike : Bool → Bool → Bool
+alike one other = if one then other else not other
+
+-- A walk that is drawn has both of its ends or none, a node is drawn beside no walk, and SVG is of a node.
+abbrev pub takes_drawing : Words → Bool
+takes_drawing words = alike (is_some words.from) (is_some words.to)
+    && (not (is_some words.node && is_some words.from) && (not words.svg || is_some words.node))
+
+-- the words have the files, the numbering and the drawing that their subcommand takes
 abbrev pub AreTaken : Words → Type 0
 AreTaken words = (has_its_files words ≡ true) × (takes_numbering words.numbering words.kind (is_some words.root) ≡ true)
+    × (takes_drawing words ≡ true)
 
 -- the format of a file, by its name
 abbrev pub format_of_name : Name → Format

@@ -4,8 +4,11 @@
 
 mod command;
 mod ending;
+mod faults;
+mod help;
 mod lines;
 mod open;
+mod options;
 mod parting;
 mod read;
 mod reply;
@@ -14,6 +17,7 @@ mod words;
 mod write;
 
 pub use ending::{Ending, status_of};
+pub use help::Called;
 pub use lines::{
     finding_line, numbering_line, ok_line, opening_line, push_reply_line, script_line,
     too_large_line, topology_line, unreadable_line, whole_line,
@@ -22,7 +26,7 @@ pub use open::{label_order, no_root, opening_of, read_topology, root_of};
 pub use parting::cut;
 pub use read::{Source, Unread, read_inputs};
 pub use reply::{Reply, tell_unread, write_reply};
-pub use words::{Format, Numbering, Second, Sub, Words, WordsError, read_words};
+pub use words::{Format, Numbering, Second, Sub, Words, WordsError, read_words, read_words_as};
 pub use write::tell;
 
 /// The most threads that make the rows of a plan.

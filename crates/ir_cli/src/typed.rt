@@ -1,10 +1,13 @@
 //! What was typed for the options, flags and files of a subcommand, as the fields of its words.
 
-ghost use Rattle.std.specs.Prelude.{◌≡◌, ◌≢◌, ◌<◌, ◌++◌, Some, IfOk, IfSome, MatchOption, OnOk, codes, map, option_map, option_to_list, string_bytes, unwrap_or};
+ghost use Rattle.std.specs.Prelude.{◌≡◌, ◌≢◌, ◌<◌, ◌++◌, ℕ, Option, Some, IfOk, IfSome, MatchOption, OnOk, codes, map, option_map, option_to_list, string_bytes, unwrap_or};
 ghost use Rattle.clap.specs.Words.{first_of, found_of, rows_of};
 ghost use Rattle.ir_model.specs.declared.Kind.{Kind};
 ghost use Rattle.ir_cli.specs.Meaning.{IsFormat, IsNumber, IsNumberElse, IsNumbering, IsSecond, files_in, first_kind, is_set, kind_word, numbering_word, second_kind, second_root, second_word, sub_word};
 ghost use Rattle.ir_cli.specs.Typed.{AreTyped};
+ghost use Rattle.ir_cli.specs.declared.typed.Chosen.{Chosen};
+ghost use Rattle.ir_cli.specs.declared.words.Format.{Format};
+ghost use Rattle.ir_cli.specs.declared.words.Sub.{Sub};
 
 use crate::MAX_THREADS;
 use crate::words::{Format, Numbering, Second, Sub, format_of_file};
@@ -46,7 +49,8 @@ pub fn is_set(found: &ArgMatches<'_>, name: &str) -> bool
 
 /// The number of an option, if it is one in this range.
 fn number_of(found: &ArgMatches<'_>, name: &str, least: usize, most: usize) -> Option<usize>
-    ensures { IfSome result (λ n. IsNumber name.now (rows_of (found_of found.now)) least most (Some n)) }
+    ensures { MatchOption result ((n : ℕ) → IsNumber name.now (rows_of (found_of found.now)) least most (Some n) → ⊥)
+        (λ n. IsNumber name.now (rows_of (found_of found.now)) least most (Some n)) }
 {
     let number = found.get_one::<usize>(name)?;
     if least <= number && number <= most {
@@ -63,7 +67,8 @@ fn number_if_given(
     least: usize,
     most: usize,
 ) -> Option<Option<usize>>
-    ensures { IfSome result (λ n. IsNumber name.now (rows_of (found_of found.now)) least most n) }
+    ensures { MatchOption result ((n : Option ℕ) → IsNumber name.now (rows_of (found_of found.now)) least most n → ⊥)
+        (λ n. IsNumber name.now (rows_of (found_of found.now)) least most n) }
 {
     match typed(found, name) {
         Some(_) => Some(Some(number_of(found, name, least, most)?)),
@@ -79,7 +84,8 @@ fn number_or(
     most: usize,
     other: usize,
 ) -> Option<usize>
-    ensures { IfSome result (λ n. IsNumberElse name.now (rows_of (found_of found.now)) least most other n) }
+    ensures { MatchOption result ((n : ℕ) → IsNumberElse name.now (rows_of (found_of found.now)) least most other n → ⊥)
+        (λ n. IsNumberElse name.now (rows_of (found_of found.now)) least most other n) }
 {
     match number_if_given(found, name, least, most)? {
         Some(number) => Some(number),
@@ -89,7 +95,7 @@ fn number_or(
 
 /// The subcommand of a name.
 fn sub_of(name: &str) -> Option<Sub>
-    ensures { IfSome result (λ sub. sub_word sub ≡ name.now) }
+    ensures { MatchOption result ((sub : Sub) → sub_word sub ≢ name.now) (λ sub. sub_word sub ≡ name.now) }
 {
     match name {
         "plan" => Some(Sub::Plan),
@@ -120,7 +126,8 @@ fn kind_in(word: &str) -> Option<Kind>
 
 /// The kind that is named, else that of shortest ways, as where the subcommand takes none.
 fn kind_of(found: &ArgMatches<'_>) -> Option<Kind>
-    ensures { IfSome result (λ kind. kind_word kind ≡ first_kind (rows_of (found_of found.now))) }
+    ensures { MatchOption result ((kind : Kind) → kind_word kind ≢ first_kind (rows_of (found_of found.now)))
+        (λ kind. kind_word kind ≡ first_kind (rows_of (found_of found.now))) }
 {
     kind_in(typed(found, "kind").unwrap_or("shortest"))
 }
@@ -154,7 +161,8 @@ pub fn second_of(alloc: Global, found: &ArgMatches<'_>) -> Result<Option<Second>
 
 /// The format that is named, else that of the topology's file.
 fn format_of(found: &ArgMatches<'_>) -> Option<Format>
-    ensures { IfSome result (λ format. IsFormat format (rows_of (found_of found.now))) }
+    ensures { MatchOption result ((format : Format) → IsFormat format (rows_of (found_of found.now)) → ⊥)
+        (λ format. IsFormat format (rows_of (found_of found.now))) }
 {
     match typed(found, "format") {
         Some("adjlist") => Some(Format::AdjList),
@@ -228,7 +236,8 @@ pub struct Chosen {
 /// What is chosen or counted by the words of a subcommand of this name, if each of them is a name or a number that is
 /// taken.
 pub fn choose(name: &str, found: &ArgMatches<'_>) -> Option<Chosen>
-    ensures { IfSome result (λ all. AreTyped name.now (rows_of (found_of found.now)) all) }
+    ensures { MatchOption result ((all : Chosen) → AreTyped name.now (rows_of (found_of found.now)) all → ⊥)
+        (λ all. AreTyped name.now (rows_of (found_of found.now)) all) }
 {
     let restamps = number_if_given(found, "restamps", 0, MAX_RESTAMPS)?;
     Some(Chosen {

@@ -1,14 +1,20 @@
 //! The words of the command line.
 
-ghost use Rattle.std.specs.Prelude.{◌≡◌, ◌∷◌, true, is_some, None, IfOk, codes, map, string_bytes};
-ghost use Rattle.std.specs.List.{list_all};
-ghost use Rattle.clap.specs.Words.{found_of, rows_of, subcommand_rows_of};
+ghost use Rattle.std.specs.Prelude.{◌≡◌, ◌≢◌, ◌⊎◌, ◌∷◌, Some, IfOk, IfErr, map, string_bytes};
+ghost use Rattle.clap.specs.Words.{found_of, kind_of, rows_of, subcommand_rows_of};
 ghost use Rattle.clap.specs.Walk.{texts};
-ghost use Rattle.ir_cli.specs.Words.{AreTaken, FitsItsKind, format_of_name, has_its_files, is_no_dash, takes_numbering, texts_wanted, is_one_input, has_order, words_code};
-ghost use Rattle.ir_cli.specs.Meaning.{Asks, HasItsSecond, Means, MeansMet};
+ghost use Rattle.clap.specs.declared.error.kind.ErrorKind.TheVariants.{DisplayHelp, DisplayVersion, OutOfMemory};
+ghost use Rattle.ir_cli.specs.Words.{AreTaken, FitsItsKind, file_at, format_of_name, order_name, is_one_input, has_order, words_code};
+ghost use Rattle.ir_cli.specs.Meaning.{Asks, AsksAs, HasItsSecond, Means, MeansMet};
+ghost use Rattle.ir_cli.specs.Refusals.{AsksForHelp, AsksForHelpAs, FailsOn, IsMistake, NoneAsked, RefusesAs, RefusesWords};
+ghost use Rattle.ir_cli.specs.CommandLine.{name_of};
+ghost use Rattle.ir_cli.specs.declared.words.Words.{Words};
+ghost use Rattle.ir_cli.specs.declared.words.WordsError.TheVariants.{NoMemory};
 
-use crate::command::{route_command, usage_of};
-use crate::typed::{choose, files_of, is_set, numbering_of, second_of, typed, word_of};
+use crate::command::route_command;
+use crate::faults::{fault_of, fault_text, second_fault};
+use crate::help::Called;
+use crate::typed::{choose, files_of, is_set, numbering_of, second_of, word_of};
 use clap::ArgMatches;
 use clap::error::ErrorKind;
 use ir_model::Kind;
@@ -78,9 +84,13 @@ pub struct Words {
     pub restamps: u8,
     /// The most threads that make the rows of a plan, from 1 to 256; as many as suit the processors where there is none.
     pub threads: Option<usize>,
-    /// The names of the nodes that a walk goes from and to: both for `walk`, both or none for `draw`.
+    /// The names of the nodes that a walk goes from and to: both for `walk`, both or none for `draw`, and none beside `node`.
     pub from: Option<String>,
     pub to: Option<String>,
+    /// The name of the node whose intervals are drawn in place of the topology, for `draw`.
+    pub node: Option<String>,
+    /// Whether they are drawn as SVG, beside `node` alone.
+    pub svg: bool,
     /// The plan whose packets may be under way beside those of the first, for `stats`. Its root is that of the first where the
     /// words name none for it.
     pub second: Option<Second>,
@@ -92,6 +102,12 @@ pub struct Words {
     pub whole: bool,
     /// Whether sentences for people are to stand behind the lines of faults.
     pub explain: bool,
+    /// Whether the output is JSON; never for `draw`.
+    pub json: bool,
+    /// The name of the file that the output goes to; standard output where there is none.
+    pub output: Option<String>,
+    /// Whether nothing is to stand on standard error.
+    pub quiet: bool,
     pub files: Vec<String>,
 }
 
@@ -104,7 +120,9 @@ impl Words {
     }
 
     /// The name of the file at a place; `-` where there is none.
-    pub fn file(&self, place: usize) -> &str {
+    pub fn file(&self, place: usize) -> &str
+        ensures { result.now ≡ file_at self.now place }
+    {
         match self.files.get(place) {
             Some(name) => name.as_str(),
             None => "-",
@@ -112,7 +130,9 @@ impl Words {
     }
 
     /// The name of the file of an order of nodes; `-` where there is none.
-    pub fn order_file(&self) -> &str {
+    pub fn order_file(&self) -> &str
+        ensures { result.now ≡ order_name self.now.numbering }
+    {
         match &self.numbering {
             Numbering::File(name) => name.as_str(),
             Numbering::DepthFirst | Numbering::Tour => "-",
@@ -155,26 +175,33 @@ impl WordsError {
 }
 
 impl<T: Drop> From<AllocFailed<T>> for WordsError {
+    ghost from_gives = { λ _ e. e ≡ NoMemory };
+
     fn from(_error: AllocFailed<T>) -> WordsError {
         WordsError::NoMemory
     }
 }
 
 impl From<AllocError> for WordsError {
+    ghost from_gives = { λ _ e. e ≡ NoMemory };
+
     fn from(_error: AllocError) -> WordsError {
         WordsError::NoMemory
     }
 }
 
 /// An error of the parser as the text to print.
-fn refused(alloc: Global, error: &clap::Error) -> WordsError {
-    if error.kind() == ErrorKind::OutOfMemory {
+fn refused(alloc: Global, error: &clap::Error) -> WordsError
+    ensures { FailsOn (IsMistake (kind_of error.now) × (kind_of error.now ≢ OutOfMemory))
+        ((kind_of error.now ≡ DisplayHelp) ⊎ (kind_of error.now ≡ DisplayVersion)) result }
+{
+    let Ok(text) = error.to_string(alloc) else {
         return WordsError::NoMemory;
-    }
-    match error.to_string(alloc) {
-        Err(_) => WordsError::NoMemory,
-        Ok(text) if error.use_stderr() => WordsError::Usage(text),
-        Ok(text) => WordsError::Help(text),
+    };
+    match error.kind() {
+        ErrorKind::OutOfMemory => WordsError::NoMemory,
+        ErrorKind::DisplayHelp | ErrorKind::DisplayVersion => WordsError::Help(text),
+        _ => WordsError::Usage(text),
     }
 }
 
@@ -191,9 +218,13 @@ pub(crate) fn format_of_file(name: &str) -> Format
     }
 }
 
+/// What stands for words that the parser took and that are not read, of which there are none.
+static UNREAD: &str = "error: the words are not read\n";
+
 /// The words of a subcommand of this name. No words that the parser takes have a name or a number that is not taken here.
 fn words_of(alloc: Global, name: &str, found: &ArgMatches<'_>) -> Result<Words, WordsError>
-    ensures { IfOk result (λ words. Means name.now (rows_of (found_of found.now)) words) }
+    ensures means { IfOk result (λ words. Means name.now (rows_of (found_of found.now)) words) }
+    ensures refused { IfErr result (FailsOn ((words : Words) → Means name.now (rows_of (found_of found.now)) words → ⊥) ⊥) }
 {
     let Some(all) = choose(name, found) else {
         return Err(WordsError::Usage(String::from_str(alloc, UNREAD)?));
@@ -211,186 +242,96 @@ fn words_of(alloc: Global, name: &str, found: &ArgMatches<'_>) -> Result<Words, 
         threads: all.threads,
         from: word_of(alloc, found, "from")?,
         to: word_of(alloc, found, "to")?,
+        node: word_of(alloc, found, "node")?,
+        svg: is_set(found, "svg"),
         disjoint: is_set(found, "disjoint"),
         order_alone: is_set(found, "order"),
         whole: is_set(found, "whole"),
         explain: is_set(found, "explain") && !is_set(found, "no-explain"),
+        json: is_set(found, "json"),
+        output: word_of(alloc, found, "output")?,
+        quiet: is_set(found, "quiet"),
         files: files_of(alloc, found)?,
     })
 }
 
-/// How many texts a subcommand reads.
-fn texts_wanted(sub: Sub) -> usize
-    ensures { result ≡ texts_wanted sub }
-{
-    match sub {
-        Sub::Plan
-        | Sub::Walk
-        | Sub::Stats
-        | Sub::Compare
-        | Sub::Draw
-        | Sub::Prefixes
-        | Sub::Ranges => 1,
-        Sub::Sim | Sub::Live => 2,
-        Sub::Check => 3,
-    }
-}
-
-/// Whether the name of a file is none for standard input.
-fn is_no_dash(file: &str) -> bool
-    ensures { result ≡ is_no_dash file.now }
-{
-    file != "-"
-}
-
-/// Whether none of the files is standard input.
-fn are_named(files: &[String]) -> bool
-    ensures { result ≡ list_all (λ file. is_no_dash (string_bytes file)) files.now }
-{
-    files.iter().all(|file| is_no_dash(file.as_str()))
-}
-
-/// Whether the files are `-` alone, or one for each text with no `-` among them.
-fn has_its_files(words: &Words) -> bool
-    ensures { result ≡ has_its_files words.now }
-{
-    words.is_one_input()
-        || (words.files.len() == texts_wanted(words.sub) && are_named(&words.files))
-}
-
-/// Whether the numbering may be that of a plan of this kind.
-fn fits_its_kind(words: &Words) -> bool
-    ensures { result ≡ true → FitsItsKind words.now }
-{
-    !words.has_order() || words.kind != Kind::Tree
-}
-
-/// What stands for words that the parser took and that are not read, of which there are none.
-static UNREAD: &str = "error: the words are not read\n";
-
-/// That a tree takes another numbering than depth first.
-static TREE_NUMBERING: &str = "'--kind tree' takes '--numbering depth-first' alone";
-
-/// What is wrong with the numbering of the words, if anything is.
-fn numbering_fault(words: &Words) -> Option<&'static str>
-    ensures { result ≡ None → takes_numbering words.now.numbering words.now.kind (is_some words.now.root) ≡ true }
-{
-    match &words.numbering {
-        Numbering::Tour if words.kind == Kind::Tree => Some(TREE_NUMBERING),
-        Numbering::File(name) if name.as_str() == "-" => {
-            Some("'--numbering' takes 'depth-first', 'tour' or a file, not '-'")
-        }
-        Numbering::File(_) if words.root.is_some() => {
-            Some(
-                "'--root' does not go with a file's '--numbering', of which the first node is the root",
-            )
-        }
-        Numbering::DepthFirst | Numbering::Tour | Numbering::File(_) => None,
-    }
-}
-
-/// What a subcommand of several texts takes.
-fn files_wanted(sub: Sub) -> &'static str {
-    match sub {
-        Sub::Live => "'route live' takes the files of a topology and of a script, or '-' alone",
-        Sub::Check =>
-            "'route check' takes the files of a topology, of a script and of a trace, or '-' alone",
-        _ => "'route sim' takes the files of a topology and of a script, or '-' alone",
-    }
-}
-
-/// What is wrong with words, if anything is.
-fn fault_of(words: &Words) -> Option<&'static str>
-    ensures kind { result ≡ None → FitsItsKind words.now }
-    ensures taken { result ≡ None → AreTaken words.now }
-{
-    if !has_its_files(words) {
-        return Some(files_wanted(words.sub));
-    }
-    if let Some(fault) = numbering_fault(words) {
-        return Some(fault);
-    }
-    if fits_its_kind(words) {
-        None
-    } else {
-        Some(TREE_NUMBERING)
-    }
-}
-
-/// The text for standard error that says what is wrong with words of a subcommand of this name.
-fn fault_text(alloc: Global, words: &Words, name: &str, fault: &str) -> Result<String, AllocError> {
-    let mut text = format!(in alloc; "error: {fault}\n\n")?;
-    if !has_its_files(words) {
-        write!(text, "Usage: {}\n\n", usage_of(name))?;
-    }
-    text.push_str("For more information, try '--help'.\n")?;
-    Ok(text)
-}
-
-/// What is wrong with the word for a second plan, if anything is.
-fn second_fault(found: &ArgMatches<'_>, words: &Words) -> Option<&'static str>
-    ensures { result ≡ None → HasItsSecond (rows_of (found_of found.now)) words.now }
-{
-    if typed(found, "with").is_some() && words.second.is_none() {
-        Some("'--with' takes 'tree', 'shortest' or 'compact', and behind a comma a root")
-    } else {
-        None
-    }
-}
-
 /// The words of a subcommand's name and its matches, if nothing is wrong with them.
-fn words_found(alloc: Global, name: &str, found: &ArgMatches<'_>) -> Result<Words, WordsError>
+fn words_found(
+    alloc: Global,
+    called: Called,
+    name: &str,
+    found: &ArgMatches<'_>,
+) -> Result<Words, WordsError>
     ensures kind { IfOk result (λ words. FitsItsKind words) }
     ensures taken { IfOk result (λ words. AreTaken words) }
     ensures means { IfOk result (λ words. Means name.now (rows_of (found_of found.now)) words) }
     ensures second { IfOk result (λ words. HasItsSecond (rows_of (found_of found.now)) words) }
+    ensures refused { IfErr result (FailsOn (NoneAsked (Some (name.now, rows_of (found_of found.now)))) ⊥) }
 {
     let words = words_of(alloc, name, found)?;
     if let Some(fault) = second_fault(found, &words) {
-        return Err(WordsError::Usage(fault_text(alloc, &words, name, fault)?));
+        return Err(WordsError::Usage(fault_text(alloc, called, &words, name, fault)?));
     }
-    match fault_of(&words) {
+    match fault_of(called, &words) {
         None => Ok(words),
-        Some(fault) => Err(WordsError::Usage(fault_text(alloc, &words, name, fault)?)),
+        Some(fault) => Err(WordsError::Usage(fault_text(alloc, called, &words, name, fault)?)),
     }
 }
 
 /// The words of the subcommand that was met, if nothing is wrong with them.
-fn words_met(alloc: Global, found: &ArgMatches<'_>) -> Result<Words, WordsError>
+fn words_met(alloc: Global, called: Called, found: &ArgMatches<'_>) -> Result<Words, WordsError>
     ensures kind { IfOk result (λ words. FitsItsKind words) }
     ensures taken { IfOk result (λ words. AreTaken words) }
     ensures means { IfOk result (λ words. MeansMet (subcommand_rows_of found.now) words) }
+    ensures refused { IfErr result (FailsOn (NoneAsked (subcommand_rows_of found.now)) ⊥) }
 {
     match found.subcommand() {
-        Some((name, inner)) => words_found(alloc, name, inner),
+        Some((name, inner)) => words_found(alloc, called, name, inner),
         None => Err(WordsError::Usage(String::from_str(alloc, UNREAD)?)),
     }
 }
 
 /// The program's name and the words behind it.
-fn all_words<'a>(alloc: Global, words: &'a [String]) -> Result<Vec<&'a str>, AllocError>
-    ensures { IfOk result (λ all. texts all.items ≡ codes "route" ∷ map string_bytes words.now) }
+fn all_words<'a>(
+    alloc: Global,
+    called: Called,
+    words: &'a [String],
+) -> Result<Vec<&'a str>, AllocError>
+    ensures { IfOk result (λ all. texts all.items ≡ name_of called ∷ map string_bytes words.now) }
 {
     let mut all: Vec<&str> = Vec::with_capacity(alloc, words.len() + 1)?;
-    all.push("route")?;
+    all.push(called.name())?;
     for word in words {
         all.push(word.as_str())?;
     }
     Ok(all)
 }
 
-/// What the words behind the program's name ask for. Words that are refused give the text for standard error, `--help` and
-/// `--version` the text for standard output. Refused are also a number of files that the subcommand does not take, and `-`
-/// beside another file; a numbering other than depth first of a tree; a file's numbering beside a root, on standard
-/// input, or of a run; and a second plan of no kind.
+/// What the words behind the program's name ask for, where it is called so. Words that are refused give the text for standard
+/// error, `--help` and `--version` the text for standard output. Refused are also a number of files that the subcommand does
+/// not take, and `-` beside another file; a numbering other than depth first of a tree; a file's numbering beside a root, on
+/// standard input, or of a run; a second plan of no kind; a drawn walk with one end, a node beside one, and SVG of no node.
+pub fn read_words_as(alloc: Global, called: Called, words: &[String]) -> Result<Words, WordsError>
+    ensures kind { IfOk result (λ words. FitsItsKind words) }
+    ensures taken { IfOk result (λ words. AreTaken words) }
+    ensures means { IfOk result (λ found. AsksAs called (map string_bytes words.now) found) }
+    ensures refused { IfErr result
+        (FailsOn (RefusesAs called (map string_bytes words.now)) (AsksForHelpAs called (map string_bytes words.now))) }
+{
+    let all = all_words(alloc, called, words)?;
+    match route_command(alloc, called)?.try_get_matches_from(all.as_slice()) {
+        Ok(found) => words_met(alloc, called, &found),
+        Err(error) => Err(refused(alloc, &error)),
+    }
+}
+
+/// The same where the program is called `route`.
 pub fn read_words(alloc: Global, words: &[String]) -> Result<Words, WordsError>
     ensures kind { IfOk result (λ words. FitsItsKind words) }
     ensures taken { IfOk result (λ words. AreTaken words) }
     ensures means { IfOk result (λ found. Asks (map string_bytes words.now) found) }
+    ensures refused { IfErr result
+        (FailsOn (RefusesWords (map string_bytes words.now)) (AsksForHelp (map string_bytes words.now))) }
 {
-    let all = all_words(alloc, words)?;
-    match route_command(alloc)?.try_get_matches_from(all.as_slice()) {
-        Ok(found) => words_met(alloc, &found),
-        Err(error) => Err(refused(alloc, &error)),
-    }
+    read_words_as(alloc, Called::Route, words)
 }

@@ -9,6 +9,7 @@ use crate::opening::explain_opening;
 use crate::refusal::explain_refusal;
 use crate::script::explain_script;
 use crate::topology::explain_topology;
+use crate::unlearnt::push_unlearnt;
 use ir_cli::{Sub, Words};
 use ir_given::{Given, Part, Parts, Run, Told, Trouble, begin, lines_of, parts_of, told_of};
 use ir_plan::{Alone, Crew};
@@ -42,6 +43,15 @@ fn explain_unread(text: &mut String, part: &Part<'_>, kind: &str) -> Result<(), 
     })
 }
 
+/// Says which output was not written.
+fn explain_unwritten(text: &mut String, words: &Words) -> Result<(), AllocError> {
+    match &words.output {
+        Some(file) if file.as_str() != "-" => begin(text, file.as_str())?,
+        _ => text.push_str("route: standard output: ")?,
+    }
+    text.push_str("it could not be written\n")
+}
+
 /// Explains a line of faults.
 fn explain_line(
     crew: &impl Crew,
@@ -60,7 +70,7 @@ fn explain_line(
         "finding" => explain_finding(crew, text, run, told),
         "refused" => explain_refusal(text, run, told),
         "ok" => explain_ok(text, run),
-        "output" => text.push_str("route: standard output: it could not be written\n"),
+        "output" => explain_unwritten(text, run.words),
         "no" => text.push_str("route: no further thread was started\n"),
         "out" => text.push_str("route: memory was refused\n"),
         _ => Ok(()),
@@ -87,7 +97,7 @@ fn explain_lines(
 }
 
 /// The explanation of a run: a line `route: ..` for each line of faults that it wrote and for what a check found,
-/// and one for a topology that looks like another format. `given` is what was given of the inputs, in their order.
+/// one for a topology that looks like another format, and one for a packet of a simulation whose install was not learnt. `given` is what was given of the inputs, in their order.
 /// Refused for want of memory alone. Where there is something to explain, it reads the topology once more. For users of
 /// the library.
 pub fn explanation(
@@ -124,5 +134,8 @@ pub fn explanation_by(
         explain_lines(crew, &mut text, &run, found)?;
     }
     push_note(alloc, &mut text, words, &parts.topology)?;
+    if words.sub == Sub::Sim {
+        push_unlearnt(alloc, &mut text, &parts.script, faults)?;
+    }
     Ok(text)
 }

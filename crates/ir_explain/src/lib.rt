@@ -17,6 +17,7 @@ mod refusal;
 mod script;
 mod seen;
 mod topology;
+mod unlearnt;
 
 pub use explain::{explanation, explanation_by};
 pub use ir_given::{Given, Trouble};

@@ -1,6 +1,7 @@
 //! The name that a word may have meant.
 
 use crate::{MOST_EDITS, MOST_NAMES};
+use ir_adjlist::digits::all_digits;
 use ir_graph::Graph;
 use ir_model::MAX_NAME_BYTES;
 use std::alloc::{AllocError, Global};
@@ -9,14 +10,15 @@ use strsim::generic_levenshtein;
 /// A name, and how many edits lead to it.
 type Near<'a> = Option<(usize, &'a str)>;
 
-/// What is nearer to a word: what was found, or a further name.
+/// What is nearer to a word: what was found, or a further name. Nothing is near to a number, which is one edit away from
+/// many others.
 fn nearer<'a>(
     alloc: Global,
     word: &[u8],
     found: Near<'a>,
     name: &'a str,
 ) -> Result<Near<'a>, AllocError> {
-    if word.len() > MAX_NAME_BYTES {
+    if word.len() > MAX_NAME_BYTES || all_digits(word) {
         return Ok(found);
     }
     let edits = generic_levenshtein(alloc, word, name.as_bytes())?;

@@ -13,6 +13,7 @@ fn unknown_option<'a>(graph: &Graph, words: &'a Words) -> (&'static str, &'a str
         ("--root", &words.root),
         ("--from", &words.from),
         ("--to", &words.to),
+        ("--node", &words.node),
     ] {
         if let Some(name) = name
             && !graph.has_node(name.as_str())

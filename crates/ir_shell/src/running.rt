@@ -1,12 +1,12 @@
 //! Runs of the program among which are live ones, from bytes to bytes.
 ghost use Rattle.std.specs.{Prelude.{◌≡◌, length}, Borrow.Bor};
-ghost use Rattle.ir_answer.specs.Asked.{sim_sources, sources_of, Answers};
+ghost use Rattle.ir_answer.specs.{Asked.{sim_sources, sources_of, Answers}, Formed.InForm};
 ghost use Rattle.ir_shell.specs.Asked.{LiveAnswers};
 ghost use Rattle.ir_cli.specs.{Ending.{EndsAs, Ends}, Reading.{texts_of, AreRead, IsUnread}, Told.{Sends, Tells}};
 ghost use Rattle.ir_cli.specs.Words.{FitsItsKind};
 
 use crate::live::run_commands;
-use ir_answer::{run_by, sources_by, two_texts, write_given};
+use ir_answer::{in_form, run_by, sources_by, two_texts, write_given};
 use ir_cli::{Ending, Sub, Words, read_inputs, status_of, tell_unread};
 use ir_lines::LineCrew;
 use ir_links::Moments;
@@ -16,7 +16,7 @@ use ir_worker::Parcel;
 use std::alloc::Global;
 use std::thread::Threads;
 
-/// Answers the texts of the inputs of a live run, and writes the answer.
+/// Answers the texts of the inputs of a live run, and writes the answer in the form that the words ask for.
 fn write_live<T: Threads + Moments<Parcel> + Starter + Sync, W: Writer, F: Writer>(
     rt: &T,
     alloc: Global,
@@ -26,19 +26,20 @@ fn write_live<T: Threads + Moments<Parcel> + Starter + Sync, W: Writer, F: Write
     faults: &mut F,
 ) -> Ending
     requires { length texts.now ≡ length (sim_sources words.now) }
-    ensures { EndsAs (LiveAnswers (Bor T) T.was_full T.was_empty (T.unstarted rt.now) (T.came_back rt.now)
-        (T.was_closed rt.now) words.now) result (λ read. read ≡ texts_of texts.now) (λ source why. ⊥)
+    ensures { EndsAs (InForm Sub.Live words.now (LiveAnswers (Bor T) T.was_full T.was_empty (T.unstarted rt.now)
+        (T.came_back rt.now) (T.was_closed rt.now) words.now)) result
+        (λ read. read ≡ texts_of texts.now) (λ source why. ⊥)
         (Sends W.contents W.wrote W.settled output.old output.new) (output.new ≡ output.old)
         (Tells F.contents F.wrote F.settled faults.old faults.new) }
 {
     let (topology, script) = two_texts(words, texts);
-    let given = run_commands(rt, alloc, words, topology, script);
-    write_given(given, output, faults)
+    let plain = run_commands(rt, alloc, words, topology, script);
+    write_given(in_form(alloc, Sub::Live, words, plain), output, faults)
 }
 
 /// Reads a topology and a script, opens a net over the topology, carries out the script's commands while each node turns on
 /// a thread of its own, and writes the trace of the packets: of version 1 where no packet may be restamped, else of version
-/// 2. Each command that is refused is a line `refused LINE NAME` of the faults.
+/// 2. It is JSON where the words ask for that. Each command that is refused is a line `refused LINE NAME` of the faults.
 ///
 /// Condition: there is one reader where `words.is_one_input()`, whose text the first line that is exactly `%%` cuts into the
 /// two, and else one of the topology and one of the script. The answer is the exit status: 0 done; 1 an input is refused,
@@ -50,8 +51,8 @@ pub fn run_live_text<
     F: Writer,
 >(rt: &T, alloc: Global, words: &Words, inputs: &mut [R], output: &mut W, faults: &mut F) -> u8
     requires { length inputs.old ≡ length (sim_sources words.now) }
-    ensures { Ends (LiveAnswers (Bor T) T.was_full T.was_empty (T.unstarted rt.now) (T.came_back rt.now)
-        (T.was_closed rt.now) words.now) result
+    ensures { Ends (InForm Sub.Live words.now (LiveAnswers (Bor T) T.was_full T.was_empty (T.unstarted rt.now)
+        (T.came_back rt.now) (T.was_closed rt.now) words.now)) result
         (λ texts. AreRead R.remaining R.gave inputs.old texts inputs.new)
         (IsUnread R.remaining R.gave (sim_sources words.now) inputs.old inputs.new)
         (Sends W.contents W.wrote W.settled output.old output.new) (output.new ≡ output.old)
@@ -75,7 +76,8 @@ pub fn run_live_text<
 /// reads a topology and a script, plays the steps in a world, and writes the trace of the packets: of version 1 where no
 /// packet may be restamped, else of version 2; each step that is refused is a line `refused LINE NAME` of the faults. `live`
 /// carries out the script's commands while each node turns on a thread of its own. `check` reads a trace too, and writes
-/// `ok N` for one of N rows or its first finding: `finding LINE KIND`. The text is the same for any crew.
+/// `ok N` for one of N rows or its first finding: `finding LINE KIND`. What is written is text, or its JSON where the words ask
+/// for that; a drawing is text. It is the same for any crew.
 ///
 /// Conditions: an order is of no plan of kind Tree; the inputs are a reader for each text, or for `words.is_one_input()` one
 /// of all texts, which the first lines that are exactly `%%` cut. The status is 0 where all is done; 1 for an input that is

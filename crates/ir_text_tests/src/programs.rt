@@ -5,23 +5,23 @@ ghost use Rattle.ir_answer.specs.Asked.{sources_of};
 ghost use Rattle.ir_cli.specs.Words.{FitsItsKind};
 
 use ir_answer::{Alone, run_by, run_check, run_plan, run_sim, sources_of};
-use ir_cli::{Sub, Words, WordsError, read_words};
+use ir_cli::{Called, Sub, Words, WordsError, read_words_as};
 use std::alloc::Global;
 
-/// What a line of words behind the program's name asks for, or why it is refused.
-fn asked_by(alloc: Global, line: &str) -> Result<Words, WordsError>
+/// What a line of words behind this name of the program asks for, or why it is refused.
+fn asked_by(alloc: Global, called: Called, line: &str) -> Result<Words, WordsError>
     ensures { IfOk result (λ words. FitsItsKind words) }
 {
     let mut all: Vec<String> = Vec::new(alloc);
     for word in line.split_whitespace() {
         all.push(String::from_str(alloc, word)?)?;
     }
-    read_words(alloc, all.as_slice())
+    read_words_as(alloc, called, all.as_slice())
 }
 
 /// The number of the refusal of a line, and its text.
-fn refusal(alloc: Global, line: &str) -> Option<(u8, String)> {
-    let error = asked_by(alloc, line).err()?;
+fn refusal(alloc: Global, called: Called, line: &str) -> Option<(u8, String)> {
+    let error = asked_by(alloc, called, line).err()?;
     let code = error.code();
     match error {
         WordsError::Usage(text) | WordsError::Help(text) => Some((code, text)),
@@ -31,10 +31,12 @@ fn refusal(alloc: Global, line: &str) -> Option<(u8, String)> {
 
 #[test]
 fn words_that_are_refused(rt: HostRuntime) {
-    let none = refusal(rt.alloc(), "");
+    let none = refusal(rt.alloc(), Called::Route, "");
     assert!(rt; none.is_some_and(|told| told.0 == 1));
-    let version = refusal(rt.alloc(), "--version");
-    assert!(rt; version.is_some_and(|told| told.0 == 2 && told.1.as_str() == "route 1.0.0\n"));
+    let version = refusal(rt.alloc(), Called::Route, "--version");
+    assert!(rt; version.is_some_and(|told| told.0 == 2 && told.1.as_str() == "route 2.0.0\n"));
+    let other = refusal(rt.alloc(), Called::Bentzolu, "--version");
+    assert!(rt; other.is_some_and(|told| told.0 == 2 && told.1.as_str() == "bentzolu 2.0.0\n"));
 }
 
 /// What the words ask for over the texts of their inputs, by the run of their subcommand.
@@ -58,7 +60,7 @@ fn run_alone(
 
 /// Whether a line of words behind the program's name, over a text on standard input, prints this and ends with this status.
 fn prints(alloc: Global, line: &str, text: &str, wanted: (u8, &str, &str)) -> bool {
-    let Ok(words) = asked_by(alloc, line) else {
+    let Ok(words) = asked_by(alloc, Called::Route, line) else {
         return false;
     };
     let mut inputs = [text.as_bytes()];

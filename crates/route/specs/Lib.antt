@@ -1,2 +1,4 @@
 -- what contracts promise
+pub mod Naming
 pub mod Sentences
+pub mod Outputs

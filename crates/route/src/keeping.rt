@@ -1,4 +1,5 @@
 //! Writers that keep what they wrote.
+use crate::progress::Progress;
 use std::alloc::Global;
 use std::cell::Cell;
 use std::io;
@@ -39,37 +40,51 @@ impl Kept {
 }
 
 /// A writer beside what it wrote. That of the output notes where the reader of a pipe went away; that of the faults then
-/// takes what is left and writes nothing, since nobody asked for more of the output.
+/// takes what is left and writes nothing, since nobody asked for more of the output. It writes nothing either where it is
+/// quiet from the first. What is written takes the line of progress away.
 #[derive(Drop)]
 pub struct Keeping<'a, W> {
-    writer: W,
+    pub writer: W,
     pub kept: Kept,
     is_output: bool,
-    pub is_gone: &'a Cell<bool>,
+    /// Whether it was to write anything.
+    pub is_used: bool,
+    pub is_quiet: &'a Cell<bool>,
+    progress: &'a Progress<'a>,
 }
 
 impl<'a, W> Keeping<'a, W> {
     /// A writer of the output or of the faults, which keeps what is wanted.
-    pub fn new(writer: W, kept: Kept, is_output: bool, is_gone: &'a Cell<bool>) -> Keeping<'a, W> {
+    pub fn new(
+        writer: W,
+        kept: Kept,
+        is_output: bool,
+        is_quiet: &'a Cell<bool>,
+        progress: &'a Progress<'a>,
+    ) -> Keeping<'a, W> {
         Keeping {
             writer,
             kept,
             is_output,
-            is_gone,
+            is_used: false,
+            is_quiet,
+            progress,
         }
     }
 
     /// Notes a call of the output that failed because its reader went away.
     fn note(&self, error: &io::Error) {
         if self.is_output && error.kind() == io::ErrorKind::BrokenPipe {
-            self.is_gone.set(true);
+            self.is_quiet.set(true);
         }
     }
 }
 
 impl<W: Write> Write for Keeping<'_, W> {
     fn write(&mut self, bytes: &[u8]) -> io::Result<usize> {
-        if !self.is_output && self.is_gone.get() {
+        self.is_used = true;
+        self.progress.clear();
+        if !self.is_output && self.is_quiet.get() {
             return Ok(bytes.len());
         }
         match self.writer.write(bytes) {

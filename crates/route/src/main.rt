@@ -2,8 +2,9 @@
 //! became of its packets; `route live` does so while each node runs in a thread of its own; `route check` checks such a
 //! print; `route plan` prints the labels and rows of a topology's nodes, `route walk` a walk of that plan, `route stats`
 //! its figures, `route draw` a drawing of it, `route prefixes` its forwarding tables, and `route ranges` its ranges of
-//! labels. With no words it does as `route sim -`, with both texts from standard input. Where standard error is a terminal, sentences for people stand
-//! behind the lines of faults, and a plan that takes longer than a second says there how far it is.
+//! labels. With no words it does as `route sim -`, with both texts from standard input, and where that is a terminal it
+//! prints its help. Where standard error is a terminal, sentences for people stand behind the lines of faults, and a plan
+//! that takes longer than a second says there how far it is. A program that is called `bentzolu` calls itself so.
 #![tactic(auto)]
 
 ghost use Rattle.std.specs.Prelude.{◌≡◌, IfOk, length};
@@ -11,44 +12,54 @@ ghost use Rattle.ir_answer.specs.Asked.{sources_of};
 ghost use Rattle.ir_cli.specs.Words.{FitsItsKind};
 
 mod crew;
+mod found;
 mod input;
 mod keeping;
+mod naming;
+mod output;
 mod progress;
 mod terminal;
 
 use crew::Shown;
+use found::line_of_json;
 use input::{Input, open};
+use ir_cli::{Called, read_words_as};
 use ir_explain::explanation_by;
 use ir_plan::Several;
-use ir_shell::{Source, Sub, Words, WordsError, read_words, run, sources_of};
+use ir_shell::{Source, Sub, Words, WordsError, run, sources_of};
 use keeping::{Keeping, Kept};
+use naming::{called_by, said_by};
+use output::{Output, is_whole};
 use progress::Progress;
-use std::alloc::AllocError;
+use std::alloc::{AllocError, Global};
 use std::cell::Cell;
-use std::io::{IsTerminal, Stderr, Stdout};
+use std::io::{IsTerminal, Stderr, Write};
 use std::process::ExitCode;
 use std::sync::Wait;
 use std::thread::Threads;
 use std::{env, io};
 use terminal::are_sentences_wanted;
 
-/// What a terminal is told where there are no words, so that a program that waits for input says what it waits for.
-static NO_WORDS: &str =
-    "route: topology and script are read from standard input, with the line %% between them; see route --help";
-
-/// The words behind the program's name; `sim -` where there are none, which a terminal is told.
+/// The words behind the program's name.
 fn words(rt: &HostRuntime) -> io::Result<Vec<String>> {
     let mut words: Vec<String> = Vec::new(rt.alloc());
     for word in env::args(rt)?.skip(1) {
         words.push(word)?;
     }
-    if words.is_empty() {
-        if rt.stderr().is_terminal() {
-            let _told = rt.eprintln(NO_WORDS);
-        }
-        words.push(String::from_str(rt.alloc(), "sim")?)?;
-        words.push(String::from_str(rt.alloc(), "-")?)?;
+    Ok(words)
+}
+
+/// The words that stand for none: `sim -`. Where standard error is a terminal, it is told what is waited for.
+fn words_for_none(rt: &HostRuntime, name: &str) -> Result<Vec<String>, AllocError> {
+    if rt.stderr().is_terminal() {
+        let told = format!(in rt.alloc();
+            "{name}: topology and script are read from standard input, with the line %% between them; see {name} --help\n"
+        )?;
+        let _told = rt.eprint(told);
     }
+    let mut words = Vec::new(rt.alloc());
+    words.push(String::from_str(rt.alloc(), "sim")?)?;
+    words.push(String::from_str(rt.alloc(), "-")?)?;
     Ok(words)
 }
 
@@ -76,28 +87,60 @@ fn inputs_of(rt: &HostRuntime, words: &Words) -> Result<Vec<Input>, AllocError>
     Ok(inputs)
 }
 
-/// Prints sentences on a run behind its faults, where the words ask for them and there is memory for all of it.
-fn explain<T: Threads + Sync>(
-    rt: &HostRuntime,
+/// Sentences on a run; none where the words do not ask for them. Refused where there is no memory for all of it.
+fn sentences<T: Threads + Sync>(
+    alloc: Global,
     threads: &T,
     words: &Words,
     inputs: &[Input],
-    output: &Keeping<'_, Stdout>,
+    output: &Keeping<'_, Output>,
     faults: &Keeping<'_, Stderr>,
-) -> Result<(), AllocError> {
-    if !words.explain || output.is_gone.get() {
-        return Ok(());
+) -> Result<String, AllocError> {
+    if !words.explain || output.is_quiet.get() {
+        return Ok(String::new(alloc));
     }
-    let mut given = Vec::new(rt.alloc());
+    let mut given = Vec::new(alloc);
     for input in inputs {
         given.push(input.given().ok_or(AllocError)?)?;
     }
     let told = faults.kept.whole().ok_or(AllocError)?;
     let found = output.kept.whole().ok_or(AllocError)?;
     let crew = Several { rt: threads };
-    let text = explanation_by(&crew, rt.alloc(), words, given.as_slice(), told, found)?;
-    let _told = rt.eprint(text);
-    Ok(())
+    let line = if words.json {
+        line_of_json(alloc, found)?
+    } else {
+        String::new(alloc)
+    };
+    let found = if words.json {
+        line.as_str().as_bytes()
+    } else {
+        found
+    };
+    explanation_by(&crew, alloc, words, given.as_slice(), told, found)
+}
+
+/// Prints sentences behind the faults of a run, by the program's name, where there is memory for them.
+fn explain(rt: &HostRuntime, name: &str, text: &str) {
+    if let Ok(said) = said_by(rt.alloc(), name, text) {
+        let _told = rt.eprint(said);
+    }
+}
+
+/// Ends the output of a run with a status, and answers the exit status: a file takes its place where all of the output is
+/// written, and else stays as it is.
+fn end_output(
+    output: &mut Keeping<'_, Output>,
+    faults: &mut Keeping<'_, Stderr>,
+    status: u8,
+) -> u8 {
+    let is_whole = is_whole(status, faults.is_used);
+    let is_kept = is_whole && output.writer.keep().is_ok();
+    output.writer.discard();
+    if is_whole && !is_kept {
+        let _told = faults.write_all(b"output unwritable\n");
+        return 1;
+    }
+    status
 }
 
 /// Whether a subcommand shows a plan, of whose making a terminal is told.
@@ -114,22 +157,30 @@ fn is_plan_shown(sub: Sub) -> bool {
     }
 }
 
-/// Does what the words ask for over the inputs.
+/// Does what the words ask for over the inputs, and writes to this output.
 fn run_over<T: Threads + Wait + Sync>(
     rt: &HostRuntime,
     threads: &T,
+    name: &'static str,
     words: &Words,
     inputs: &mut [Input],
+    output: Output,
 ) -> u8
     requires kind { FitsItsKind words.now }
     requires inputs { length inputs.old ≡ length (sources_of words.now) }
 {
-    let is_gone = Cell::new(false);
+    let is_quiet = Cell::new(words.quiet);
     let found = Kept::new(rt.alloc(), words.explain && words.sub == Sub::Check);
-    let mut output = Keeping::new(rt.stdout(), found, true, &is_gone);
+    let is_counted = matches!(words.sub, Sub::Stats | Sub::Compare);
+    let progress = Progress::new(
+        rt,
+        name,
+        !words.quiet && is_plan_shown(words.sub),
+        is_counted,
+    );
+    let mut output = Keeping::new(output, found, true, &is_quiet, &progress);
     let told = Kept::new(rt.alloc(), words.explain);
-    let mut faults = Keeping::new(rt.stderr(), told, false, &is_gone);
-    let progress = Progress::new(rt, is_plan_shown(words.sub));
+    let mut faults = Keeping::new(rt.stderr(), told, false, &is_quiet, &progress);
     let crew = Shown {
         rt: threads,
         progress: &progress,
@@ -144,15 +195,18 @@ fn run_over<T: Threads + Wait + Sync>(
         &mut faults,
     );
     progress.clear();
-    let _explained = explain(rt, threads, words, inputs, &output, &faults);
+    let status = end_output(&mut output, &mut faults, status);
+    if let Ok(text) = sentences(rt.alloc(), threads, words, inputs, &output, &faults) {
+        explain(rt, name, text.as_str());
+    }
     status
 }
 
 /// What the words behind the program's name ask for, with sentences where standard error is a terminal too.
-fn asked(rt: &HostRuntime, given: &[String]) -> Result<Words, WordsError>
+fn asked(rt: &HostRuntime, called: Called, given: &[String]) -> Result<Words, WordsError>
     ensures { IfOk result (λ words. FitsItsKind words) }
 {
-    let mut words = read_words(rt.alloc(), given)?;
+    let mut words = read_words_as(rt.alloc(), called, given)?;
     let is_terminal = rt.stderr().is_terminal();
     words.explain = are_sentences_wanted(words.explain, is_terminal, given);
     Ok(words)
@@ -164,11 +218,31 @@ fn out_of_memory(rt: &HostRuntime) -> u8 {
     3
 }
 
+/// Opens what the words name, and does what they ask for.
+fn run_words<T: Threads + Wait + Sync>(
+    rt: &HostRuntime,
+    threads: &T,
+    name: &'static str,
+    words: &Words,
+) -> Result<u8, AllocError>
+    requires { FitsItsKind words.now }
+{
+    let output = Output::new(rt, words.output.as_ref())?;
+    let mut inputs = inputs_of(rt, words)?;
+    Ok(run_over(rt, threads, name, words, inputs.as_mut_slice(), output))
+}
+
 /// Does what the words ask for.
-fn follow<T: Threads + Wait + Sync>(rt: &HostRuntime, threads: &T, words: &[String]) -> u8 {
-    match asked(rt, words) {
-        Ok(words) => match inputs_of(rt, &words) {
-            Ok(mut inputs) => run_over(rt, threads, &words, inputs.as_mut_slice()),
+fn follow<T: Threads + Wait + Sync>(
+    rt: &HostRuntime,
+    threads: &T,
+    called: Called,
+    words: &[String],
+) -> u8 {
+    match asked(rt, called, words) {
+        Ok(words) => match run_words(rt, threads, called.name(), &words) {
+            Ok(status) => status,
+            Err(_) if words.quiet => 3,
             Err(_) => out_of_memory(rt),
         },
         Err(WordsError::Usage(text)) => {
@@ -188,12 +262,35 @@ fn follow<T: Threads + Wait + Sync>(rt: &HostRuntime, threads: &T, words: &[Stri
     }
 }
 
+/// Does what is asked for by no words: prints the help where standard input is a terminal, else follows `sim -`.
+fn follow_none<T: Threads + Wait + Sync>(
+    rt: &HostRuntime,
+    threads: &T,
+    called: Called,
+) -> Result<u8, AllocError> {
+    if !rt.stdin().is_terminal() {
+        let words = words_for_none(rt, called.name())?;
+        return Ok(follow(rt, threads, called, words.as_slice()));
+    }
+    let mut help = Vec::new(rt.alloc());
+    help.push(String::from_str(rt.alloc(), "--help")?)?;
+    if let Err(WordsError::Help(text)) = read_words_as(rt.alloc(), called, help.as_slice()) {
+        let _told = rt.eprint(text);
+    }
+    Ok(2)
+}
+
 fn main(rt: HostRuntime) -> ExitCode {
+    let called = called_by(&rt);
     let status = match words(&rt) {
-        Ok(words) => follow(&rt, &rt, words.as_slice()),
+        Ok(words) if words.is_empty() => match follow_none(&rt, &rt, called) {
+            Ok(status) => status,
+            Err(_) => out_of_memory(&rt),
+        },
+        Ok(words) => follow(&rt, &rt, called, words.as_slice()),
         Err(error) if error.kind() == io::ErrorKind::OutOfMemory => out_of_memory(&rt),
         Err(_) => {
-            let _told = rt.eprintln("route: the words are no text");
+            let _told = eprintln!(rt; "{}: the words are no text", called.name());
             2
         }
     };

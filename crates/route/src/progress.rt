@@ -1,5 +1,6 @@
 //! How far a plan is, on a terminal.
 use ir_plan::Watch;
+use std::alloc::AllocError;
 use std::io::IsTerminal;
 use std::sync::atomic::{AtomicBool, AtomicU64, Ordering};
 use std::time::Instant;
@@ -10,23 +11,37 @@ const PATIENCE: u64 = 1_000;
 /// How many milliseconds a line stands at least.
 const PAUSE: u64 = 100;
 
+/// The fewest rows behind which a line says that walks are counted.
+const MANY: usize = 2_048;
+
 /// A line on standard error that says how many rows of a plan are made, where that is a terminal and the command has run
-/// for a second. It goes away with the plan's last row. Threads that make rows write it by turns.
+/// for a second. It goes away with the plan's last row; where figures are wanted and rows are many, a line that says so
+/// stands from then on to the output. Threads that make rows write it by turns.
 #[derive(Drop)]
 pub struct Progress<'a> {
     rt: &'a HostRuntime,
+    /// The program's name.
+    name: &'static str,
     /// Since when; None where nothing is to be said.
     begun: Option<Instant>,
+    /// Whether walks are counted once all rows are made.
+    is_counted: bool,
     rows: AtomicU64,
     /// The millisecond of the last line; 0 where there was none.
     told: AtomicU64,
     is_telling: AtomicBool,
     is_over: AtomicBool,
+    is_shown: AtomicBool,
 }
 
 impl Progress<'_> {
     /// Begins now, if anything is to be said.
-    pub fn new(rt: &HostRuntime, is_wanted: bool) -> Progress<'_> {
+    pub fn new<'a>(
+        rt: &'a HostRuntime,
+        name: &'static str,
+        is_wanted: bool,
+        is_counted: bool,
+    ) -> Progress<'a> {
         let begun = if is_wanted && rt.stderr().is_terminal() {
             Instant::now(rt).ok()
         } else {
@@ -34,17 +49,20 @@ impl Progress<'_> {
         };
         Progress {
             rt,
+            name,
             begun,
+            is_counted,
             rows: AtomicU64::new(0),
             told: AtomicU64::new(0),
             is_telling: AtomicBool::new(false),
             is_over: AtomicBool::new(false),
+            is_shown: AtomicBool::new(false),
         }
     }
 
-    /// Takes the line away, if there was one.
+    /// Takes the line away, if there is one.
     pub fn clear(&self) {
-        if self.told.load(Ordering::SeqCst) > 0 {
+        if self.is_shown.swap(false, Ordering::SeqCst) {
             let _told = self.rt.eprint("\r\x1b[K");
         }
     }
@@ -64,25 +82,45 @@ impl Progress<'_> {
                 .is_ok()
     }
 
-    /// Takes the line away with the last row, or leaves that to the thread that writes it just now.
-    fn end(&self) {
-        self.is_over.store(true, Ordering::SeqCst);
-        if !self.is_telling.load(Ordering::SeqCst) {
-            self.clear();
+    /// Writes a line.
+    fn show(&self, line: Result<String, AllocError>) {
+        if let Ok(line) = line {
+            let _told = self.rt.eprint(line);
+            self.is_shown.store(true, Ordering::SeqCst);
         }
     }
 
-    /// Writes the line, unless another thread does.
+    /// Takes the line of rows away, if any was written, and says that walks are counted where that takes long.
+    fn close(&self, all: usize) {
+        self.is_shown
+            .store(self.told.load(Ordering::SeqCst) > 0, Ordering::SeqCst);
+        self.clear();
+        if self.is_counted && all >= MANY {
+            let name = self.name;
+            self.show(format!(in self.rt.alloc();
+                "\r{name}: {all} rows are made; their walks are counted"
+            ));
+        }
+    }
+
+    /// Ends the line with the last row, or leaves that to the thread that writes it just now.
+    fn end(&self, all: usize) {
+        self.is_over.store(true, Ordering::SeqCst);
+        if !self.is_telling.load(Ordering::SeqCst) {
+            self.close(all);
+        }
+    }
+
+    /// Writes the line of rows, unless another thread does.
     fn tell(&self, made: u64, all: usize) {
         if self.is_telling.swap(true, Ordering::SeqCst) {
             return;
         }
-        if let Ok(line) = format!(in self.rt.alloc(); "\rroute: {made} of {all} rows") {
-            let _told = self.rt.eprint(line);
-        }
+        let name = self.name;
+        self.show(format!(in self.rt.alloc(); "\r{name}: {made} of {all} rows"));
         self.is_telling.store(false, Ordering::SeqCst);
         if self.is_over.load(Ordering::SeqCst) {
-            self.clear();
+            self.close(all);
         }
     }
 }
@@ -98,9 +136,10 @@ impl Watch for Progress<'_> {
         let made = self.rows.fetch_add(1, Ordering::SeqCst) % all as u64 + 1;
         if made == 1 {
             self.is_over.store(false, Ordering::SeqCst);
+            self.clear();
         }
         if made == all as u64 {
-            self.end();
+            self.end(all);
         } else if self.is_due(begun) {
             self.tell(made, all);
         }

@@ -1,11 +1,10 @@
-use Rattle.std.proofs.Common.{◌≡◌, ◌∙◌, Result, Ok, IfOk, false, ap, rules}
+use Rattle.std.proofs.Common.{◌≡◌, ◌∙◌, Result, Ok, IfOk, false, ap}
 use Rattle.std.proofs.lemmas.Result.{IfOk-weaker, IfOk-at_ok}
-use Rattle.clap.specs.Words.{App, Shape, app_of, shape_of, with_subcommand}
+use Rattle.clap.specs.Words.{App, Shape, shape_of, with_subcommand}
 use Rattle.clap.specs.declared.builder.command.Command.{Command}
 use Rattle.clap.specs.declared.builder.command.Command.TheViews.{out-Command}
-use Rattle.ir_cli.specs.declared.command.Choices.{Choices}
-use Rattle.ir_cli.specs.CommandLine.{AreTheirWords, plan, walk, stats, compare, draw, prefixes, ranges, sim, live, check}
-use Rattle.ir_cli.specs.Taking.{IsSubcommand}
+use Rattle.ir_cli.specs.CommandLine.{plan, walk, stats, compare, draw, prefixes, ranges, sim, live, check}
+use Rattle.ir_cli.specs.Taking.{IsSubcommand, program_app}
 use Rattle.ir_cli.proofs.command.route_command.Goals as goal
 
 -- one more subcommand
@@ -19,7 +18,7 @@ one_more made shape old before new added is was =
 pub returns : goal.returns
 returns c =
     let choices = c.choices_told-choices.result in
-    let with_plan = one_more c.plan.result (plan choices) _ _ _ c.in_ok-command.ensures c.plan.ensures c.program.ensures.app in
+    let with_plan = one_more c.plan.result (plan choices) _ _ _ c.in_ok-command.ensures c.plan.ensures (c.program-command.ensures.app ∙ ap program_app c.texts_of-texts.ensures) in
     let with_walk = one_more c.walk.result (walk choices) _ _ _ c.in_ok-command-2.ensures c.walk.ensures with_plan in
     let with_stats = one_more c.stats.result (stats choices) _ _ _ c.in_ok-command-3.ensures c.stats.ensures with_walk in
     let with_compare = one_more c.compare.result (compare choices) _ _ _ c.in_ok-command-4.ensures c.compare.ensures with_stats in

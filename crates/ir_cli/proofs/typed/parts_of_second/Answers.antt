@@ -1,9 +1,8 @@
-use Rattle.std.proofs.Common.{◌≡◌, ◌==◌, ℕ, List, ◌∷◌, [], Bool, true, false, not, length, refl, ap, arith, suc, ◌+◌, ◌<◌, lit<, rules, cond}
-use Rattle.std.specs.Prelude.{Option, Some, None, if◌then◌else◌}
-use Rattle.std.specs.List.{list_any, position_or_len, after_first}
+use Rattle.std.proofs.Common.{◌≡◌, ℕ, List, ◌∷◌, [], Bool, true, false, length, refl, arith, suc, ◌+◌, lit<}
+use Rattle.std.specs.Prelude.{None}
+use Rattle.std.specs.List.{list_any, position_or_len}
 use Rattle.std.proofs.lemmas.Str.Pattern.{split_once_first}
-use Rattle.std.proofs.lemmas.Grind.{common_steps}
-use Rattle.ir_cli.specs.Meaning.{is_comma, second_root}
+use Rattle.ir_cli.specs.Meaning.{is_comma}
 use Rattle.ir_cli.proofs.typed.parts_of_second.Goals as goal
 
 no_comma : (word : List ℕ) → position_or_len is_comma word ≡ length word → list_any is_comma word ≡ false

@@ -1,0 +1,20 @@
+use Rattle.ir_cli.proofs.words.words_of.Goals as goal
+
+pub returns-in_default-clause-refused : goal.returns-in_default-clause-refused
+returns-in_default-clause-refused c = λ words means. c.in_default.ensures (record {
+  sub = words.sub;
+  format = words.format;
+  kind = words.kind;
+  capacity = words.capacity;
+  packets = words.packets;
+  restamps = words.restamps;
+  threads = words.threads;
+}) (record {
+  sub = means.sub;
+  format = means.format;
+  kind = means.kind;
+  capacity = means.capacity;
+  packets = means.packets;
+  restamps = means.restamps;
+  threads = means.threads;
+})

@@ -1,0 +1,157 @@
+//! The rules of words that are taken, and what stands where one is broken.
+
+ghost use Rattle.std.specs.Prelude.{◌≡◌, true, false, is_some, MatchBool, MatchOption, string_bytes};
+ghost use Rattle.std.specs.List.{list_all};
+ghost use Rattle.clap.specs.Words.{found_of, rows_of};
+ghost use Rattle.ir_cli.specs.Words.{AreTaken, FitsItsKind, has_its_files, is_no_dash, takes_drawing, takes_numbering, texts_wanted};
+ghost use Rattle.ir_cli.specs.Meaning.{HasItsSecond};
+
+use crate::help::{Called, texts_of, usage_of};
+use crate::typed::typed;
+use crate::words::{Numbering, Sub, Words};
+use clap::ArgMatches;
+use ir_model::Kind;
+use std::alloc::{AllocError, Global};
+
+/// How many texts a subcommand reads.
+fn texts_wanted(sub: Sub) -> usize
+    ensures { result ≡ texts_wanted sub }
+{
+    match sub {
+        Sub::Plan
+        | Sub::Walk
+        | Sub::Stats
+        | Sub::Compare
+        | Sub::Draw
+        | Sub::Prefixes
+        | Sub::Ranges => 1,
+        Sub::Sim | Sub::Live => 2,
+        Sub::Check => 3,
+    }
+}
+
+/// Whether the name of a file is none for standard input.
+fn is_no_dash(file: &str) -> bool
+    ensures { result ≡ is_no_dash file.now }
+{
+    file != "-"
+}
+
+/// Whether none of the files is standard input.
+fn are_named(files: &[String]) -> bool
+    ensures { result ≡ list_all (λ file. is_no_dash (string_bytes file)) files.now }
+{
+    files.iter().all(|file| is_no_dash(file.as_str()))
+}
+
+/// Whether the files are `-` alone, or one for each text with no `-` among them.
+fn has_its_files(words: &Words) -> bool
+    ensures { result ≡ has_its_files words.now }
+{
+    words.is_one_input()
+        || (words.files.len() == texts_wanted(words.sub) && are_named(&words.files))
+}
+
+/// Whether the numbering may be that of a plan of this kind.
+fn fits_its_kind(words: &Words) -> bool
+    ensures { MatchBool result (FitsItsKind words.now) (FitsItsKind words.now → ⊥) }
+{
+    !words.has_order() || words.kind != Kind::Tree
+}
+
+/// That a tree takes another numbering than depth first.
+static TREE_NUMBERING: &str = "'--kind tree' takes '--numbering depth-first' alone";
+
+/// What is wrong with the numbering of the words, if anything is.
+fn numbering_fault(words: &Words) -> Option<&'static str>
+    ensures { MatchOption result (takes_numbering words.now.numbering words.now.kind (is_some words.now.root) ≡ true)
+        (λ _. takes_numbering words.now.numbering words.now.kind (is_some words.now.root) ≡ false) }
+{
+    match &words.numbering {
+        Numbering::Tour if words.kind == Kind::Tree => Some(TREE_NUMBERING),
+        Numbering::File(name) if name.as_str() == "-" => {
+            Some("'--numbering' takes 'depth-first', 'tour' or a file, not '-'")
+        }
+        Numbering::File(_) if words.root.is_some() => {
+            Some(
+                "'--root' does not go with a file's '--numbering', of which the first node is the root",
+            )
+        }
+        Numbering::DepthFirst | Numbering::Tour | Numbering::File(_) => None,
+    }
+}
+
+/// What is wrong with what is drawn, if anything is.
+fn drawing_fault(words: &Words) -> Option<&'static str>
+    ensures { MatchOption result (takes_drawing words.now ≡ true) (λ _. takes_drawing words.now ≡ false) }
+{
+    if words.node.is_some() && (words.from.is_some() || words.to.is_some()) {
+        Some("'--node' does not go with '--from' and '--to'")
+    } else if words.from.is_some() && words.to.is_none() {
+        Some("'--from' takes '--to' beside it")
+    } else if words.to.is_some() && words.from.is_none() {
+        Some("'--to' takes '--from' beside it")
+    } else if words.svg && words.node.is_none() {
+        Some("'--svg' takes '--node' beside it")
+    } else {
+        None
+    }
+}
+
+/// Which files a subcommand of several texts takes.
+fn files_wanted(called: Called, sub: Sub) -> &'static str {
+    let texts = texts_of(called);
+    match sub {
+        Sub::Live => texts.live_files,
+        Sub::Check => texts.check_files,
+        _ => texts.sim_files,
+    }
+}
+
+/// What is wrong with words, if anything is.
+pub fn fault_of(called: Called, words: &Words) -> Option<&'static str>
+    ensures { MatchOption result (AreTaken words.now × FitsItsKind words.now) (λ _. AreTaken words.now → FitsItsKind words.now → ⊥) }
+{
+    if !has_its_files(words) {
+        return Some(files_wanted(called, words.sub));
+    }
+    if let Some(fault) = numbering_fault(words) {
+        return Some(fault);
+    }
+    if let Some(fault) = drawing_fault(words) {
+        return Some(fault);
+    }
+    if fits_its_kind(words) {
+        None
+    } else {
+        Some(TREE_NUMBERING)
+    }
+}
+
+/// The text for standard error that says what is wrong with words of a subcommand of this name.
+pub fn fault_text(
+    alloc: Global,
+    called: Called,
+    words: &Words,
+    name: &str,
+    fault: &str,
+) -> Result<String, AllocError> {
+    let mut text = format!(in alloc; "error: {fault}\n\n")?;
+    if !has_its_files(words) {
+        write!(text, "Usage: {}\n\n", usage_of(called, name))?;
+    }
+    text.push_str("For more information, try '--help'.\n")?;
+    Ok(text)
+}
+
+/// What is wrong with the word for a second plan, if anything is.
+pub fn second_fault(found: &ArgMatches<'_>, words: &Words) -> Option<&'static str>
+    ensures { MatchOption result (HasItsSecond (rows_of (found_of found.now)) words.now)
+        (λ _. HasItsSecond (rows_of (found_of found.now)) words.now → ⊥) }
+{
+    if typed(found, "with").is_some() && words.second.is_none() {
+        Some("'--with' takes 'tree', 'shortest' or 'compact', and behind a comma a root")
+    } else {
+        None
+    }
+}
