@@ -1,0 +1,240 @@
+"""Reads the pages of definitions: crates/*/specs/*.antt, and which of them the contract of a call reaches."""
+import functools
+import glob
+import os
+import re
+
+HEAD = re.compile(r"^( *)(?:(?:abbrev|unfoldable)(?: pub)?|pub record|pub data) ([\w'-]+)")
+NAME = re.compile(r"[\w'◌-]+(?:\.[\w'-]+)*")
+
+
+def text_of(path):
+    with open(path, encoding="utf-8") as file:
+        return file.read()
+
+
+class Definition:
+    """A definition of a page: its name, its comment, its lines without that, and the names that it makes."""
+
+    def __init__(self, name, comment, lines, inner):
+        self.name, self.comment, self.lines, self.inner = name, comment, lines, inner
+        self.makes = [name]
+        if re.match(r" *pub data ", lines[0]):
+            self.makes += [made for line in lines[1:] for made in re.findall(r"^ +([\w'-]+)(?: |$)", line)]
+
+
+class Page:
+    """A page of definitions: its crate, its name, what its head says, its definitions and what it imports."""
+
+    def __init__(self, path):
+        _, self.crate, _, file = path.split("/")
+        self.path, self.name, self.key = path, file.removesuffix(".antt"), (path.split("/")[1], file.removesuffix(".antt"))
+        lines = text_of(path).rstrip("\n").split("\n")
+        self.length = len(lines)
+        self.head, self.definitions, self.modules = "", [], {}
+        self.scope, self.aliases = {}, {}
+        for tree in re.findall(r"^use (.*)$", "\n".join(lines), flags=re.M):
+            imports(tree, self.scope, self.aliases)
+        self.read(lines)
+        for definition in self.definitions:
+            for made in definition.makes:
+                self.scope[made] = ("definition", *self.key, definition.name)
+
+    def read(self, lines):
+        """The definitions, each with the comment that stands right above it."""
+        at, comment, alone, module = 0, [], [], None
+        while at < len(lines):
+            line = lines[at]
+            head = HEAD.match(line)
+            if head:
+                indent, end = len(head[1]), at + 1
+                while end < len(lines) and not self.ends(lines[end], indent):
+                    end += 1
+                body = lines[at:end]
+                while not body[-1].strip():
+                    body.pop()
+                self.definitions.append(Definition(head[2], said(comment), body, module if indent else None))
+                comment, at = [], end
+                continue
+            if re.match(r" *--", line):
+                comment.append(line)
+            else:
+                if comment and not line.strip():
+                    alone.append(said(comment))
+                if line.startswith("use ") and comment:
+                    alone.append(said(comment))
+                if line.startswith("module "):
+                    module = line
+                comment = []
+            at += 1
+        self.head = alone[0] if alone else ""
+
+    @staticmethod
+    def ends(line, indent):
+        """Whether a definition of this indent ends before this line."""
+        if not line.strip() or len(line) - len(line.lstrip(" ")) > indent:
+            return False
+        return bool(HEAD.match(line) or re.match(r" *--| *module |use ", line))
+
+    def definition(self, name):
+        return next(it for it in self.definitions if it.name == name)
+
+
+def said(comment):
+    """The words of lines of a comment."""
+    return " ".join(re.sub(r"^ *-- ?", "", line) for line in comment)
+
+
+def parts_of(text):
+    """The parts of a list between braces, at its outermost commas."""
+    parts, depth, part = [], 0, ""
+    for char in text:
+        depth += (char == "{") - (char == "}")
+        if char == "," and depth == 0:
+            parts, part = [*parts, part.strip()], ""
+        else:
+            part += char
+    return [*parts, part.strip()] if part.strip() else parts
+
+
+def imports(tree, scope, aliases, path=()):
+    """Adds to the scope what a tree of imports names."""
+    tree = tree.strip().rstrip(";").strip()
+    if tree.endswith("}") and "{" in tree:
+        front, _, inside = tree.partition("{")
+        steps = [*path, *[step for step in front.strip(". ").split(".") if step]]
+        for part in parts_of(inside[:-1]):
+            imports(part, scope, aliases, steps)
+        return
+    name, _, alias = tree.partition(" as ")
+    steps = [*path, *name.strip().split(".")]
+    if len(steps) < 4 or steps[0] != "Rattle" or steps[2] != "specs" or not steps[1].startswith(("ir_", "page", "route")):
+        return
+    crate, rest = steps[1], steps[3:]
+    called = alias.strip() or steps[-1]
+    if rest[0] == "declared":
+        if rest[-1] == "TheVariants":
+            aliases[called] = ("type", crate, rest[-2])
+        elif rest[1] == "TheConstants" and len(rest) > 2:
+            scope[called] = ("constant", crate, rest[2])
+        elif "TheVariants" in rest:
+            scope[called] = ("type", crate, rest[rest.index("TheVariants") - 1])
+        else:
+            scope[called] = ("type", crate, rest[-1])
+    elif len(rest) == 1:
+        aliases[called] = ("page", crate, rest[0])
+    else:
+        scope[called] = ("definition", crate, rest[0], rest[1])
+
+
+def names_in(text, scope, aliases):
+    """What a text names, of what a scope has."""
+    found = []
+    for name in NAME.findall(re.sub(r"--.*", "", text)):
+        first, _, rest = name.partition(".")
+        if first in aliases and rest:
+            kind, *about = aliases[first]
+            found.append(("definition", *about, rest.split(".")[0]) if kind == "page" else (kind, *about))
+        elif first in scope:
+            found.append(scope[first])
+    return list(dict.fromkeys(found))
+
+
+@functools.cache
+def pages():
+    """Every page but the lists of pages, in the order of the crates and of each crate's list."""
+    found = [Page(path) for path in sorted(glob.glob("crates/*/specs/*.antt")) if not path.endswith("/Lib.antt")]
+    order = {crate: at for at, crate in enumerate(crates())}
+    listed = {crate: re.findall(r"^pub mod (\w+)", text_of(f"crates/{crate}/specs/Lib.antt"), flags=re.M) for crate in {it.crate for it in found}}
+    found.sort(key=lambda it: (order.get(it.crate, 99), listed[it.crate].index(it.name) if it.name in listed[it.crate] else 99))
+    return {it.key: it for it in found}
+
+
+@functools.cache
+def crates():
+    """The crates of crates.txt, in its order, with what each uses."""
+    lines = [line.split("#")[0].partition(":") for line in text_of("crates.txt").split("\n")]
+    return {head.split()[0]: used.split() for head, _, used in lines if head.strip()}
+
+
+def contract_of(path, call):
+    """The contract of a call of a source, with the scope of the imports of that file."""
+    text = text_of(path)
+    scope, aliases = scope_of(text)
+    found = re.search(rf"^( *)(?:pub )?fn {call}\b.*?^\1(?=\{{)", text, flags=re.M | re.S)
+    clauses = re.findall(r"^\s*(?:ensures|requires)(.*?)(?=^\s*(?:ensures|requires)|\Z)", found[0] if found else "", flags=re.M | re.S)
+    return "\n".join(clauses), scope, aliases
+
+
+@functools.cache
+def models():
+    """The types whose values contracts see as a definition's: the source, the type, the definition, what the view names."""
+    found = []
+    for path in sorted(glob.glob("crates/*/src/**/*.rt", recursive=True)):
+        text = text_of(path)
+        for kind, body in re.findall(r"^impl(?:<[^{]*?>)? Model for (\w+).*?\{(.*?)^\}", text, flags=re.M | re.S):
+            scope, aliases = scope_of(text)
+            value, view = (re.search(rf"ghost {what} = \{{(.*?)\}};", body, flags=re.S) for what in ("Value", "view"))
+            for what in names_in(value[1], scope, aliases) if value and view else ():
+                if what[0] == "definition":
+                    found.append((path, kind, what, tuple(names_in(view[1], scope, aliases))))
+    return found
+
+
+def scope_of(text):
+    """What a source imports of pages of definitions."""
+    scope, aliases = {}, {}
+    for tree in re.findall(r"^\s*ghost use ([^;]*);", text, flags=re.M):
+        imports(" ".join(tree.split()), scope, aliases)
+    return scope, aliases
+
+
+def reached(starts):
+    """What the contracts of these calls reach: definitions by page, types and constants. A definition that is what
+    contracts see of a type brings the view by which they see it."""
+    todo, seen = [], set()
+    for path, call in starts:
+        todo += names_in(*contract_of(path, call))
+    while todo:
+        what = todo.pop()
+        if what[0] == "definition":
+            page = pages().get(what[1:3])
+            known = page and page.scope.get(what[3])
+            if not known or known[:3] != what[:3]:
+                continue
+            what = known
+        if what in seen:
+            continue
+        seen.add(what)
+        if what[0] == "definition":
+            definition = page.definition(what[3])
+            todo += names_in("\n".join(definition.lines) + ("\n" + definition.inner if definition.inner else ""), page.scope, page.aliases)
+            todo += [it for _, _, value, view in models() if value == what for it in view]
+    return seen
+
+
+def in_order(seen):
+    """The pages of what is reached, lowest first, each with its reached definitions in its own order."""
+    wanted = {}
+    for what in seen:
+        if what[0] == "definition":
+            wanted.setdefault(what[1:3], set()).add(what[3])
+    uses = {key: {it[1:3] for d in pages()[key].definitions if d.name in wanted[key] for it in names_in("\n".join(d.lines), pages()[key].scope, pages()[key].aliases) if it[0] == "definition"} - {key} for key in wanted}
+    order, left = [], [key for key in pages() if key in wanted]
+    while left:
+        key = next((key for key in left if not uses[key] & set(left)), left[0])
+        left.remove(key)
+        order.append((pages()[key], [it for it in pages()[key].definitions if it.name in wanted[key]]))
+    return order
+
+
+def lines_of(definitions):
+    return sum(len(it.lines) for it in definitions)
+
+
+def declared_in(crate, name):
+    """The file of a crate that declares a type or a constant."""
+    for path in sorted(glob.glob(f"crates/{crate}/src/**/*.rt", recursive=True)):
+        if re.search(rf"^(?:pub )?(?:struct|enum|trait|const|static) {name}\b", text_of(path), flags=re.M):
+            return path
+    return None
