@@ -1,8 +1,8 @@
 // Plans of large networks in plain Rust, to compare times with. `scale rows THREADS KIND FILE` makes each row by one
-// pass of Dijkstra at its own node that hands the least port on, in O(n + m) memory for a thread. `scale table 1
-// shortest FILE` fills a table of n * n ports first, from one pass of Dijkstra for each destination. Both print the
-// text that `route plan --kind KIND --format edgelist FILE` prints. KIND is shortest, or tree, whose rows come from the
-// subtrees alone. `scale distances 1 shortest FILE` prints the sum of the distances of all pairs. Built by `rustc -O`; it takes a weighted edge list, and is no part of the gate.
+// pass of Dijkstra at its own node that hands the least port on, in O(n + m) memory for a thread, and prints the text
+// that `route plan --kind KIND --format edgelist FILE` prints. KIND is shortest, or tree, whose rows come from the
+// subtrees alone. `scale distances 1 shortest FILE` prints the sum of the distances of all pairs. Built by `rustc -O`; it
+// takes a weighted edge list, and is no part of the gate.
 use std::cmp::Reverse;
 use std::collections::{BinaryHeap, HashMap};
 use std::io::Write;
@@ -212,22 +212,6 @@ fn rows(labelled: &Labelled, threads: usize, tree: bool) -> Vec<Row> {
     rows
 }
 
-/// The rows by label, from a table of the ports of all labels to all labels.
-fn rows_by_table(labelled: &Labelled) -> Vec<Row> {
-    let n = labelled.nodes.len();
-    let mut room = Room::new(n);
-    let mut table = vec![NONE; n * n];
-    for to in 0..n {
-        room.reach(labelled, to);
-        for x in (0..n).filter(|&x| x != to) {
-            let weight = room.weights[x];
-            let leads = |&(y, more): &(u16, u32)| room.weights[y as usize] + more == weight;
-            table[x * n + to] = labelled.hops(x).iter().position(leads).unwrap() as u16;
-        }
-    }
-    (0..n).map(|own| starts(&table[own * n..(own + 1) * n], own)).collect()
-}
-
 /// The sum of the distances of all pairs, each of them both ways.
 fn sum_of_distances(labelled: &Labelled) -> u64 {
     let n = labelled.nodes.len();
@@ -268,16 +252,13 @@ fn print(network: &Network, labelled: &Labelled, kind: &str, rows: &[Row]) -> st
 
 fn main() {
     let words: Vec<String> = std::env::args().skip(1).collect();
-    let [way, threads, kind, file] = words.as_slice() else { panic!("scale rows|table|distances THREADS shortest|tree FILE") };
+    let [way, threads, kind, file] = words.as_slice() else { panic!("scale rows|distances THREADS shortest|tree FILE") };
     let network = read(&std::fs::read_to_string(file).expect("a text"));
     let labelled = Labelled::of(&network);
     if way == "distances" {
         println!("{}", sum_of_distances(&labelled));
         return;
     }
-    let rows = match way.as_str() {
-        "rows" => rows(&labelled, threads.parse().expect("a number of threads"), kind == "tree"),
-        _ => rows_by_table(&labelled),
-    };
+    let rows = rows(&labelled, threads.parse().expect("a number of threads"), kind == "tree");
     print(&network, &labelled, kind, &rows).expect("a reader");
 }

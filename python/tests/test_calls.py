@@ -249,15 +249,23 @@ class TablesTest(unittest.TestCase):
         self.look_at_table(plan, "and 60 more", ".. and")
         self.assertIn(f"{count // 100 - MOST_SHOWN} more", repr(plan.nodes["n0"]))
 
-    def test_a_great_plan_is_read_in_half_a_second(self):
+    def test_a_great_plan_is_read_at_the_pace_of_its_numbers(self):
+        """Reading a plan takes no more than 1.5 times what it takes to read its numbers alone, on a busy machine too."""
         count, degree = 2000, 4
         row = " ".join(f"{2 * i} n{i % degree}" for i in range(600))
         text = f"plan shortest {count} {600 * count}\n" + "".join(f"n{i} {i} {row}\n" for i in range(count))
-        begun = time.process_time()
-        plan = bentzolu.read_plan(text, bentzolu.Names([f"n{i}" for i in range(count)]))
-        took = time.process_time() - begun
-        self.assertEqual(plan.intervals, 600 * count)
-        self.assertLess(took, 0.5)
+        names = bentzolu.Names([f"n{i}" for i in range(count)])
+        paces = []
+        for _ in range(3):
+            begun = time.process_time()
+            plan = bentzolu.read_plan(text, names)
+            took = time.process_time() - begun
+            self.assertEqual(plan.intervals, 600 * count)
+            begun = time.process_time()
+            numbers = [int(word) for line in text.splitlines()[1:] for word in line.split()[2::2]]
+            paces.append(took / (time.process_time() - begun))
+            self.assertEqual(len(numbers), 600 * count)
+        self.assertLess(min(paces), 1.5)
 
     def test_faulty_rows(self):
         for row in ("1 b 2", "x b", "1 b  d", "-1 b", "1.0 b", "² b"):

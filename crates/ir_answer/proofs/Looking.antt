@@ -10,8 +10,8 @@ use Rattle.ir_plan.specs.declared.error.PlanError.{PlanError}
 use Rattle.ir_plan.specs.declared.error.PlanError.TheVariants as plans
 use Rattle.ir_plan.specs.declared.tour.LabelOrder.TheVariants as orders
 use Rattle.ir_model.specs.Text.{lines}
-use Rattle.ir_order.specs.Order.{order_fault, IsOrder}
-use Rattle.ir_order.specs.declared.fault.OrderFaultKind.{OrderFaultKind}
+use Rattle.ir_script.specs.Order.{order_fault, IsOrder}
+use Rattle.ir_script.specs.declared.order_fault.OrderFaultKind.{OrderFaultKind}
 use Rattle.ir_cli.specs.declared.words.Words.{Words}
 use Rattle.ir_cli.specs.declared.words.Second.{Second}
 use Rattle.ir_cli.specs.Answer.{Answer, Ran, Found, Refused, NoThread}
@@ -23,7 +23,7 @@ use Rattle.ir_answer.specs.declared.look.Show.{Show}
 use Rattle.ir_answer.specs.declared.look.Show.TheVariants.{Between, Beside, Drawing, Circle}
 use Rattle.ir_answer.specs.Looks.{from_name, to_name, drawn_name, Says, AnswerShows, AnswersEnds, AnswersBothEnds, AnswersDrawn, AnswersFigures, AnswersShow, AnswersAsked, AnswersLook, AnswersLabels, AreTexts, LookAnswers, IsNode, IsLabelling, AreShown, IsNetwork, IsOneDrawn, IsShow, RefusesLabels, RefusesEnds, RefusesFigures, RefusesShow}
 use Rattle.ir_plan.specs.Building.{Labelling, FromRoot, ByList, IsPlanBy, RefusesPlan}
-use Rattle.ir_walk.specs.Alone.{IsWalkOfPlan}
+use Rattle.ir_show.specs.Alone.{IsWalkOfPlan}
 use Rattle.ir_answer.specs.Plans.{AnswersText, IsTextOfPlan}
 use Rattle.ir_answer.proofs.Answering.{option_more, of_graph, of_root}
 

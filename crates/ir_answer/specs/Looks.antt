@@ -9,11 +9,11 @@ use Rattle.ir_show.specs.PlanText.{plan_text}
 use Rattle.ir_show.specs.WalkText.{IsWalkOf}
 use Rattle.ir_figures.specs.FiguresText.{AreFiguresOf, AreFiguresBeside}
 use Rattle.ir_show.specs.Drawing.{IsDrawingOf}
-use Rattle.ir_circle.specs.Circle.{circle_svg}
-use Rattle.ir_circle.specs.Ring.{circle_dot}
-use Rattle.ir_lines.specs.OrderText.{order_text}
-use Rattle.ir_lines.specs.PrefixesText.{IsPrefixesOf}
-use Rattle.ir_lines.specs.RangesText.{ranges_text}
+use Rattle.ir_exports.specs.Circle.{circle_svg}
+use Rattle.ir_exports.specs.Ring.{circle_dot}
+use Rattle.ir_exports.specs.OrderText.{order_text}
+use Rattle.ir_exports.specs.PrefixesText.{IsPrefixesOf}
+use Rattle.ir_exports.specs.RangesText.{ranges_text}
 use Rattle.ir_cli.specs.declared.words.Words.{Words}
 use Rattle.ir_cli.specs.declared.words.Second.{Second}
 use Rattle.ir_model.specs.declared.Kind.{Kind}
@@ -22,7 +22,7 @@ use Rattle.ir_answer.specs.declared.look.Show.{Show}
 use Rattle.ir_answer.specs.declared.look.Show.TheVariants.{Rows, Between, Figures, Beside, Drawing, Circle, Tables, Ranges, Order}
 use Rattle.ir_answer.specs.declared.look.Look.{Look}
 use Rattle.ir_answer.specs.declared.look.Look.TheVariants.{Plan as Planning, Walk, Stats, Draw, Prefixes, Ranges as Ranging}
-use Rattle.ir_order.specs.Order.{IsOrder}
+use Rattle.ir_script.specs.Order.{IsOrder}
 use Rattle.ir_cli.specs.Answer.{Answer, Ran, Found, Refused, NoThread}
 use Rattle.ir_cli.specs.Openings.{root_name, root_in, label_order, AnswersTopology, AnswersRoot, AnswersOrder}
 use Rattle.ir_model.specs.Plan.{Plan}

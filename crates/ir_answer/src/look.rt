@@ -6,24 +6,22 @@ ghost use Rattle.ir_answer.specs.Looks.{from_name, to_name, circle_text, Answers
 ghost use Rattle.ir_answer.specs.Stops.{StopsAs, Gives};
 ghost use Rattle.ir_model.specs.OfGraph.{topology_of_graph};
 ghost use Rattle.ir_plan.specs.Building.{MayLabel, labelling_of};
-ghost use Rattle.ir_walk.specs.Plans.{NeedsNoTour};
+ghost use Rattle.ir_show.specs.Plans.{NeedsNoTour};
 ghost use Rattle.ir_answer.specs.Plans.{AnswersText};
 ghost use Rattle.ir_cli.specs.{Reading.texts_of, Replies.answer_of, Words.FitsItsKind};
 
 use crate::asking::{Stop, opening_stop, read_graph, read_node};
-use ir_circle::{circle_dot, circle_svg};
 use ir_cli::{Reply, Words, label_order, numbering_line};
 use ir_core::OpenError;
+use ir_exports::{LineCrew, circle_dot, circle_svg, order_text, ranges_text};
 use ir_figures::{figures_text, figures_text_beside};
 use ir_graph::Graph;
-use ir_lines::{LineCrew, order_text, ranges_text};
 use ir_model::Kind;
-use ir_order::{OrderFaultKind, read_order};
 use ir_plan::{LabelOrder, Labels, Plan, PlanError};
+use ir_script::{OrderFaultKind, read_order};
 use ir_show::plan_text::PlanText;
-use ir_show::{draw_text, walk_text};
+use ir_show::{draw_text, needs_no_tour, walk_text, walk_text_alone};
 use ir_tables::Topology;
-use ir_walk::{needs_no_tour, walk_text_alone};
 use std::alloc::{AllocError, Global};
 
 /// What of a plan is asked for.

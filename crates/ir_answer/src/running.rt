@@ -14,7 +14,7 @@ use crate::play::simulate;
 use ir_cli::{
     Ending, Reply, Source, Sub, Words, read_inputs, status_of, tell, tell_unread, write_reply,
 };
-use ir_lines::LineCrew;
+use ir_exports::LineCrew;
 use ir_plan::Alone;
 use ir_streams::{Reader, Writer};
 use std::alloc::Global;

@@ -13,8 +13,8 @@ use Rattle.ir_trace.specs.Rows.{spaced}
 use Rattle.ir_whole.specs.Codes.{whole_code}
 use Rattle.ir_whole.specs.declared.finding.WholeFinding.{WholeFinding}
 use Rattle.ir_whole.specs.declared.finding.WholeKind.{WholeKind}
-use Rattle.ir_order.specs.Order.{order_fault_code}
-use Rattle.ir_order.specs.declared.fault.OrderFaultKind.{OrderFaultKind}
+use Rattle.ir_script.specs.Order.{order_fault_code}
+use Rattle.ir_script.specs.declared.order_fault.OrderFaultKind.{OrderFaultKind}
 use Rattle.ir_script.specs.Script as scripts
 use Rattle.ir_script.specs.declared.fault.ScriptFault.{ScriptFault}
 use Rattle.ir_cli.specs.declared.read.Source.{Source}

@@ -18,7 +18,7 @@ use Rattle.ir_cli.specs.declared.words.Numbering.{Numbering}
 use Rattle.ir_cli.specs.declared.words.Numbering.TheVariants.{DepthFirst, Tour, File}
 use Rattle.ir_cli.specs.declared.words.Words.{Words}
 use Rattle.ir_cli.specs.Answer.{Answer, Refused}
-use Rattle.ir_order.specs.Order.{order_fault, IsOrder}
+use Rattle.ir_script.specs.Order.{order_fault, IsOrder}
 use Rattle.ir_cli.specs.Lines.{topology_line, numbering_line, opening_line}
 
 -- the first fault of the lines of a topology text, and their graph

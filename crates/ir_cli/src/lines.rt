@@ -5,8 +5,7 @@ ghost use Rattle.ir_cli.specs.Lines.{finding_line, whole_line, ok_line, topology
 use crate::read::Source;
 use ir_core::{OpenError, Refused, Reply};
 use ir_model::Fault;
-use ir_order::OrderFaultKind;
-use ir_script::ScriptFault;
+use ir_script::{OrderFaultKind, ScriptFault};
 use ir_trace::Finding;
 use ir_trace::text::{push_next_number, push_word};
 use ir_whole::WholeFinding;

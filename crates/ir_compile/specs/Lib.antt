@@ -2,5 +2,6 @@
 pub mod Code
 pub mod Allowed
 pub mod PortBits
+pub mod Rounds
 -- what bodies use
 pub mod Runs

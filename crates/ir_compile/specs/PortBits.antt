@@ -3,34 +3,34 @@ use Rattle.std.specs.Prelude.{◌≡◌, ◌≢◌, ◌↔◌, ◌⊎◌, ℕ, �
 use Rattle.std.specs.Int.{bit_at}
 
 -- the bit p of a word is set
-abbrev pub HasPort : ℕ → ℕ → Type 0
-HasPort word p = bit_at word p ≡ 1
+abbrev pub HasPortBit : ℕ → ℕ → Type 0
+HasPortBit word p = bit_at word p ≡ 1
 
 -- the label d is one of n, and its word has the port p, one of 32
 abbrev pub MayTakeBit : ℕ → List ℕ → ℕ → ℕ → Type 0
-MayTakeBit n words d p = (d < n) × (p < 32) × HasPort (slice_index words d) p
+MayTakeBit n words d p = (d < n) × (p < 32) × HasPortBit (slice_index words d) p
 
 -- each word from the place i to the one before j has the port p
 abbrev pub IsInAll : List ℕ → ℕ → ℕ → ℕ → Type 0
-IsInAll words i j p = (k : ℕ) → i ≤ k → k < j → HasPort (slice_index words k) p
+IsInAll words i j p = (k : ℕ) → i ≤ k → k < j → HasPortBit (slice_index words k) p
 
 -- the ports of a word are those that each word from the place i to the one before j has
 abbrev pub AreCommon : List ℕ → ℕ → ℕ → ℕ → Type 0
-AreCommon words i j common = (p : ℕ) → p < 32 → HasPort common p ↔ IsInAll words i j p
+AreCommon words i j common = (p : ℕ) → p < 32 → HasPortBit common p ↔ IsInAll words i j p
 
 -- some port is in each word from the place i to the one before j
 abbrev pub HaveCommon : List ℕ → ℕ → ℕ → Type 0
 HaveCommon words i j = (p : ℕ) × (p < 32) × IsInAll words i j p
 
 -- the place i of two rounds of n labels is that of the label d
-abbrev pub IsPlaceOf : ℕ → ℕ → ℕ → Type 0
-IsPlaceOf n i d = (d < n) × ((i ≡ d) ⊎ (i ≡ n + d))
+abbrev pub IsRoundPlace : ℕ → ℕ → ℕ → Type 0
+IsRoundPlace n i d = (d < n) × ((i ≡ d) ⊎ (i ≡ n + d))
 
 -- the first m words of two rounds of n labels, in which the own label's has all ports
 pub record AreRounds (n own : ℕ) (words : List ℕ) (m : ℕ) (twice : List ℕ) : Type 0 where
   pub every : length twice ≡ m
-  pub all : (i : ℕ) → i < m → IsPlaceOf n i own → slice_index twice i ≡ 4294967295
-  pub others : (i d : ℕ) → i < m → IsPlaceOf n i d → d ≢ own → slice_index twice i ≡ slice_index words d
+  pub all : (i : ℕ) → i < m → IsRoundPlace n i own → slice_index twice i ≡ 4294967295
+  pub others : (i d : ℕ) → i < m → IsRoundPlace n i d → d ≢ own → slice_index twice i ≡ slice_index words d
 
 -- from each place of a block on, the ports that are common up to its end
 abbrev pub AreBacks : List ℕ → ℕ → ℕ → List ℕ → Type 0

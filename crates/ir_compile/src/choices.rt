@@ -4,10 +4,10 @@ ghost use Rattle.std.specs.Prelude.{◌≡◌, ◌≢◌, ◌<◌, ◌≤◌, �
 ghost use Rattle.ir_model.specs.{Row.intervals_of, Compiled.IsCanonical};
 ghost use Rattle.ir_model.specs.Choices.{FitsChoices, IsFewestOfChoices, AreChosen};
 ghost use Rattle.ir_model.proofs.Steps.{AreLongest, AreSteps, HaveRoundPorts};
-ghost use Rattle.ir_compile.specs.{Allowed.{rows_of, Allows, IsChoiceTable}, Runs.HasLabels};
+ghost use Rattle.ir_compile.specs.{Allowed.{rows_of, Allows, IsChoiceTable}, Rounds.RunOn, Runs.HasLabels};
 
 use crate::error::CompileError;
-use crate::round::{first_near, label_at, round_ports};
+use crate::round::{first_near, first_of_longest, label_at, round_ports};
 use crate::runs::keep_longer;
 use crate::{MAX_PORTS, canonical_row};
 use ir_lookup::Row;
@@ -86,7 +86,7 @@ fn chosen_ports(
         return vec![in alloc; None; 1];
     }
     let (counts, ports) = longest_runs(alloc, n, own, choices)?;
-    ports_of_runs(alloc, n, own, counts.as_slice(), ports.as_slice())
+    ports_of_longest(alloc, n, own, counts.as_slice(), ports.as_slice())
 }
 
 /// The port of each label, none for the own one, by the first round with the fewest runs, where a run of so many labels
@@ -107,6 +107,27 @@ pub fn ports_of_runs(
     ensures { IfOk result (λ held. HaveRoundPorts n own counts.now ports.now held.items) }
 {
     let start = label_at(n, own, first_near(n, own, counts));
+    round_ports(alloc, n, own, start, counts, ports)
+}
+
+/// The ports that `ports_of_runs` gives, where a run that begins within another one ends no sooner, as is so of longest
+/// runs. Conditions: that, and those of `ports_of_runs`. Takes O(n + l k), for l places that the last run of the round
+/// from the label after the own one ends behind its end, at most c as there.
+pub fn ports_of_longest(
+    alloc: Global,
+    n: u16,
+    own: u16,
+    counts: &[u16],
+    ports: &[u16],
+) -> Result<Vec<Option<u16>>, AllocError>
+    requires two { 1 < n }
+    requires own { own < n }
+    requires steps { AreSteps n own counts.now }
+    requires on { RunOn n own counts.now }
+    requires ports { length ports.now ≡ n }
+    ensures { IfOk result (λ held. HaveRoundPorts n own counts.now ports.now held.items) }
+{
+    let start = label_at(n, own, first_of_longest(n, own, counts));
     round_ports(alloc, n, own, start, counts, ports)
 }
 

@@ -13,7 +13,7 @@ mod round;
 mod runs;
 mod words;
 
-pub use choices::{choose, compile_choices, ports_of_runs};
+pub use choices::{choose, compile_choices, ports_of_longest, ports_of_runs};
 pub use error::CompileError;
 use ir_lookup::{Row, WORD_BASE};
 pub use runs::keep_longer;

@@ -3,6 +3,7 @@
 ghost use Rattle.std.specs.Prelude.{◌≡◌, ◌≢◌, ◌<◌, ◌≤◌, ◌+◌, ℕ, None, Some, length, IfOk, slice_index};
 ghost use Rattle.ir_model.specs.{Compiled.port_to, Choices.label_from};
 ghost use Rattle.ir_model.proofs.Steps.{AreSteps, Steps, HaveStepPorts, IsFirstNear, IsPlaceAfter};
+ghost use Rattle.ir_compile.specs.Rounds.{IsFirstTo, Reaches, RunOn};
 
 use std::alloc::{AllocError, Global};
 
@@ -34,20 +35,20 @@ fn place_after(n: u16, start: u16, place: u16, counts: &[u16]) -> u16
     if count < left { place + count } else { n }
 }
 
-// How many runs a round has that begins at a label off the own one.
-fn steps_from(n: u16, own: u16, start: u16, counts: &[u16]) -> u16
+// How many runs a round has that begins at a label off the own one, and how many places behind its end the last one ends.
+fn round_from(n: u16, own: u16, start: u16, counts: &[u16]) -> (u16, u16)
     requires steps { AreSteps n own counts.now }
     requires start { start < n }
     requires off { start ≢ own }
-    ensures { Steps n counts.now start 0 result }
+    ensures { Reaches n counts.now start 0 result.0 (n + result.1) }
 {
     let mut place = 0;
     let mut steps = 0;
-    while place < n {
-        place = place_after(n, start, place, counts);
+    while place < n as u32 {
+        place += counts[label_at(n, start, place as u16) as usize] as u32;
         steps += 1;
     }
-    steps
+    (steps, (place - n as u32) as u16)
 }
 
 /// How many places after the own label the first of the rounds with the fewest runs begins. A round that begins behind
@@ -59,11 +60,44 @@ pub fn first_near(n: u16, own: u16, counts: &[u16]) -> u16
     ensures { IsFirstNear n own counts.now result }
 {
     let first = label_at(n, own, 1);
+    let (steps, _past) = round_from(n, own, first, counts);
+    first_to(n, own, counts, steps, last_near(n, counts[first as usize]))
+}
+
+/// The same, where a run that begins within another one ends no sooner. A round that begins behind the place where the
+/// last run of the first round ends has no fewer runs either.
+pub fn first_of_longest(n: u16, own: u16, counts: &[u16]) -> u16
+    requires two { 1 < n }
+    requires own { own < n }
+    requires steps { AreSteps n own counts.now }
+    requires on { RunOn n own counts.now }
+    ensures { IsFirstNear n own counts.now result }
+{
+    let first = label_at(n, own, 1);
+    let (steps, past) = round_from(n, own, first, counts);
+    first_to(
+        n,
+        own,
+        counts,
+        steps,
+        last_near(n, counts[first as usize].min(past)),
+    )
+}
+
+// How many places after the own label the first of the rounds with the fewest runs begins, of those that begin before a
+// place; how many runs that from the first place has is given.
+fn first_to(n: u16, own: u16, counts: &[u16], first: u16, last: u16) -> u16
+    requires two { 1 < n }
+    requires own { own < n }
+    requires steps { AreSteps n own counts.now }
+    requires first { Steps n counts.now (label_from n own 1) 0 first }
+    requires last { last ≤ n }
+    ensures { IsFirstTo n own counts.now first last result }
+{
     let mut best = 1;
-    let mut fewest = steps_from(n, own, first, counts);
-    let last = last_near(n, counts[first as usize]);
+    let mut fewest = first;
     for t in 2..last {
-        let steps = steps_from(n, own, label_at(n, own, t), counts);
+        let (steps, _past) = round_from(n, own, label_at(n, own, t), counts);
         if steps < fewest {
             fewest = steps;
             best = t;

@@ -3,13 +3,16 @@
 ghost use Rattle.std.specs.Prelude.{◌≡◌, ◌≢◌, ◌<◌, ◌≤◌, ◌+◌, ◌*◌, ℕ, length, min, IfOk, slice_index};
 ghost use Rattle.std.specs.Int.Bits.{bit_and};
 ghost use Rattle.ir_model.proofs.Steps.{AreLongest};
-ghost use Rattle.ir_compile.specs.PortBits.{AreBacks, AreCommon, AreRounds, AreWordRuns, HaveCommon, IsPlaceOf};
+ghost use Rattle.ir_compile.specs.PortBits.{AreBacks, AreCommon, AreRounds, AreWordRuns, HaveCommon};
 ghost use Rattle.ir_compile.specs.PortBits.{MayTakeBit};
 
 use std::alloc::{AllocError, Global};
 
 /// The most ports of a node whose ports are the bits of words.
 pub const WORD_PORTS: usize = 32;
+
+// The fewest labels of a run whose labels have their runs found together: those of a shorter one are found each alone.
+const LEAST_BLOCK: usize = 16;
 
 /// For each label how many labels the longest run of one port from it on has, and the least port that serves them; the own
 /// label is served by each port. Conditions: there is a word for each label, and the own label is one; each word but the
@@ -50,24 +53,14 @@ fn twice_of(alloc: Global, n: usize, own: usize, words: &[u32]) -> Result<Vec<u3
     ensures { IfOk result (λ twice. AreRounds n own words.now (n * 2) twice.items) }
 {
     let mut twice = Vec::with_capacity(alloc, n * 2)?;
-    for i in 0..n * 2 {
-        twice.push(word_at(n, own, words, i))?;
-    }
+    twice.extend_from_slice(&words[..n])?;
+    twice.extend_from_slice(&words[..n])?;
+    twice[own] = u32::MAX;
+    twice[n + own] = u32::MAX;
     Ok(twice)
 }
 
-// The word at a place of two rounds.
-fn word_at(n: usize, own: usize, words: &[u32], i: usize) -> u32
-    requires place { i < n * 2 }
-    requires every { n ≤ length words.now }
-    ensures own { IsPlaceOf n i own → result ≡ 4294967295 }
-    ensures others { (d : ℕ) → IsPlaceOf n i d → d ≢ own → result ≡ slice_index words.now d }
-{
-    let d = if i < n { i } else { i - n };
-    if d == own { u32::MAX } else { words[d] }
-}
-
-// The longest runs from all labels, one block of labels behind the other: those of one run.
+// The longest runs from all labels.
 fn fill(n: usize, twice: &[u32], backs: &mut [u32], counts: &mut [u16], ports: &mut [u16])
     requires few { n ≤ 65535 }
     requires twice { length twice.now ≡ n * 2 }
@@ -81,11 +74,42 @@ fn fill(n: usize, twice: &[u32], backs: &mut [u32], counts: &mut [u16], ports: &
 {
     let mut from = 0;
     while from < n {
-        let (to, _common) = extended(twice, from + n, u32::MAX, from, u32::MAX);
-        put_backs(twice, backs, from, to);
-        fill_block(n, twice, backs, from, to, counts, ports);
-        from = to;
+        from = fill_from(n, twice, backs, from, counts, ports);
     }
+}
+
+// The longest run from a label, or those from all labels of a long run, and where the next one begins.
+fn fill_from(
+    n: usize,
+    twice: &[u32],
+    backs: &mut [u32],
+    from: usize,
+    counts: &mut [u16],
+    ports: &mut [u16],
+) -> usize
+    requires few { n ≤ 65535 }
+    requires twice { length twice.now ≡ n * 2 }
+    requires some { (i : ℕ) → i < n * 2 → 0 < slice_index twice.now i }
+    requires inside { from < n }
+    requires backs { length backs.old ≡ n * 2 }
+    requires counts { length counts.old ≡ n }
+    requires ports { length ports.old ≡ n }
+    requires runs { AreWordRuns n twice.now from counts.old ports.old }
+    ensures further { from < result }
+    ensures backs { length backs.new ≡ n * 2 }
+    ensures counts { length counts.new ≡ n }
+    ensures ports { length ports.new ≡ n }
+    ensures runs { AreWordRuns n twice.now result counts.new ports.new }
+{
+    let (to, common) = extended(twice, from + n, u32::MAX, from, u32::MAX);
+    if to - from < LEAST_BLOCK {
+        counts[from] = (to - from) as u16;
+        ports[from] = common.trailing_zeros() as u16;
+        return from + 1;
+    }
+    put_backs(twice, backs, from, to);
+    fill_block(n, twice, backs, from, to, counts, ports);
+    to
 }
 
 // Puts at each place of a block the ports that are common from it to the end.

@@ -9,42 +9,48 @@ use ir_tables::Topology;
 use ir_worker::{Parcel, Place};
 use std::alloc::{AllocError, Global};
 
+/// What all channels of a net have: the opening of the net, its limit on restamps, and their capacity.
+#[derive(Clone, Copy)]
+pub struct Line<'a> {
+    pub opening: &'a Stamp,
+    pub restamps: u8,
+    pub capacity: usize,
+}
+
 // A channel between two nodes.
 fn channel(
     alloc: Global,
-    opening: &Stamp,
-    restamps: u8,
-    capacity: usize,
+    line: &Line<'_>,
     from: u16,
     to: u16,
 ) -> Result<Channel<Parcel>, AllocError>
-    requires { 0 < capacity }
-    ensures { IfOk result (λ channel. IsNetChannel opening.now restamps capacity from to channel) }
+    requires { 0 < line.now.capacity }
+    ensures { IfOk result
+        (λ channel. IsNetChannel line.now.opening.now line.now.restamps line.now.capacity from to channel) }
 {
     let place = Place {
         from,
         to,
-        restamps,
-        opening: opening.again(),
+        restamps: line.restamps,
+        opening: line.opening.again(),
     };
-    Channel::new(alloc, capacity, place)
+    Channel::new(alloc, line.capacity, place)
 }
 
 /// An inbox for each node.
 pub fn inboxes_of(
     alloc: Global,
     topology: &Topology,
-    opening: &Stamp,
-    restamps: u8,
-    capacity: usize,
+    line: &Line<'_>,
 ) -> Result<Vec<Channel<Parcel>>, AllocError>
-    requires { 0 < capacity }
-    ensures { IfOk result (λ inboxes. AreInboxes topology.now opening.now restamps capacity inboxes.items) }
+    requires { 0 < line.now.capacity }
+    ensures { IfOk result (λ inboxes. AreInboxes topology.now line.now.opening.now line.now.restamps
+        line.now.capacity inboxes.items) }
 {
     let nodes = topology.nodes();
     let mut inboxes = Vec::with_capacity(alloc, nodes)?;
     for u in 0..nodes {
-        inboxes.push(channel(alloc, opening, restamps, capacity, u as u16, u as u16)?)?;
+        inboxes.push(channel(alloc, line, u as u16, u as u16)?)?;
     }
     Ok(inboxes)
 }
@@ -53,21 +59,21 @@ pub fn inboxes_of(
 fn add_ways(
     alloc: Global,
     topology: &Topology,
-    opening: &Stamp,
-    restamps: u8,
-    capacity: usize,
+    line: &Line<'_>,
     u: u16,
     ways: &mut Vec<Channel<Parcel>>,
 ) -> Result<(), AllocError>
-    requires capacity { 0 < capacity }
+    requires capacity { 0 < line.now.capacity }
     requires node { u < node_count topology.now }
     requires before { IsFilledTo topology.now
-        (λ v hop channel. IsNetChannel opening.now restamps capacity v hop.node channel) u 0 ways.old.items }
+        (λ v hop channel. IsNetChannel line.now.opening.now line.now.restamps line.now.capacity v hop.node channel)
+        u 0 ways.old.items }
     ensures { IfOk result (λ _. IsFilledTo topology.now
-        (λ v hop channel. IsNetChannel opening.now restamps capacity v hop.node channel) (u + 1) 0 ways.new.items) }
+        (λ v hop channel. IsNetChannel line.now.opening.now line.now.restamps line.now.capacity v hop.node channel)
+        (u + 1) 0 ways.new.items) }
 {
     for hop in topology.ports(u as usize) {
-        ways.push(channel(alloc, opening, restamps, capacity, u, hop.node)?)?;
+        ways.push(channel(alloc, line, u, hop.node)?)?;
     }
     Ok(())
 }
@@ -76,13 +82,12 @@ fn add_ways(
 pub fn ways_of(
     alloc: Global,
     topology: &Topology,
-    opening: &Stamp,
-    restamps: u8,
-    capacity: usize,
+    line: &Line<'_>,
 ) -> Result<(Vec<Channel<Parcel>>, Vec<usize>), AllocError>
-    requires { 0 < capacity }
+    requires { 0 < line.now.capacity }
     ensures ways { IfOk result (λ made. IsFilled topology.now
-        (λ v hop channel. IsNetChannel opening.now restamps capacity v hop.node channel) made.0.items) }
+        (λ v hop channel. IsNetChannel line.now.opening.now line.now.restamps line.now.capacity v hop.node channel)
+        made.0.items) }
     ensures offsets { IfOk result (λ made. (length made.1.items ≡ node_count topology.now)
         × ((v : ℕ) → v < node_count topology.now → slice_index made.1.items v ≡ offset topology.now v)) }
     ensures fits { IfOk result (λ _. way_count topology.now < 2 ^ 64) }
@@ -92,9 +97,7 @@ pub fn ways_of(
     let mut offsets = Vec::with_capacity(alloc, nodes)?;
     for u in 0..nodes {
         offsets.push(ways.len())?;
-        add_ways(
-            alloc, topology, opening, restamps, capacity, u as u16, &mut ways,
-        )?;
+        add_ways(alloc, topology, line, u as u16, &mut ways)?;
     }
     Ok((ways, offsets))
 }

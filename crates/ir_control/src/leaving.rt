@@ -78,16 +78,6 @@ pub(crate) fn left_over(
         &mut senders,
         &mut settled,
     );
-    gather(
-        &net.opening,
-        net.restamps,
-        net.entries.as_slice(),
-        outs,
-        inboxes,
-        net.peers.as_slice(),
-        senders,
-        takers,
-        channels,
-    );
+    gather(net, outs, inboxes, senders, takers, channels);
     settled
 }

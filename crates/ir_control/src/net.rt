@@ -6,7 +6,7 @@ ghost use Rattle.ir_control.specs.{Places.offset, Opened.IsNetRefusal};
 ghost use Rattle.ir_control.specs.Wired.{AreInboxes, AreWiredWays, AreEntries, AreOffsets, IsOpening};
 ghost use Rattle.ir_epochs.specs.Stamps.{IsOf, knows};
 
-use crate::channels::{inboxes_of, ways_of};
+use crate::channels::{Line, inboxes_of, ways_of};
 use crate::controller::Controller;
 use crate::injector::Injector;
 use crate::parts::{all_ends, ins_of, outs_of};
@@ -26,6 +26,15 @@ use std::thread::Threads;
 /// A net: the registry of its plans, an inbox for each node, and for each port a channel out of it.
 ///
 /// A link that is gone from the topology has no port, so nobody could hold its channels: none are made.
+///
+/// A live run over it, where each node may always go on (`Open`):
+///
+/// ```
+/// let net = Net::new(rt, alloc, topology, Kind::Tree, 0, 16, 64, 0).ok()?;
+/// let commands = [Command::Inject(1, 2), Command::Drain];
+/// let stop = AtomicBool::new(false);
+/// let live = run_live(rt, alloc, &net, &commands, &Open, &stop, rt).ok()?;
+/// ```
 #[derive(Drop)]
 pub struct Net {
     pub(crate) alloc: Global,
@@ -176,9 +185,14 @@ impl Net {
             return Err(AllocError);
         };
         let nodes = topology.nodes();
-        let inboxes = inboxes_of(alloc, &topology, &first, restamps, capacity)?;
+        let line = Line {
+            opening: &first,
+            restamps,
+            capacity,
+        };
+        let inboxes = inboxes_of(alloc, &topology, &line)?;
         let entries = entries_of(alloc, nodes)?;
-        let (ways, offsets) = ways_of(alloc, &topology, &first, restamps, capacity)?;
+        let (ways, offsets) = ways_of(alloc, &topology, &line)?;
         let peers = peers_of(alloc, &topology, offsets.as_slice())?;
         let Ok(settled) = Arc::new(alloc, AtomicU32::new(0)) else {
             return Err(AllocError);

@@ -25,6 +25,15 @@ use std::marker::Model;
 
 /// All that stands after a history: the boards and plans so far, each node's view and hand, the channels, and the
 /// packets' records.
+///
+/// A packet from node 0 to node 2 of a network; a drain carries it to its end:
+///
+/// ```
+/// let mut world = World::new(alloc, topology, Kind::Shortest, 0, 16, 1, 0).ok()?;
+/// world.apply(Event::Inject(0, 2)).ok()?;
+/// world.drain();
+/// let is_so = is_delivered(world);
+/// ```
 #[derive(Drop)]
 pub struct World {
     alloc: Global,

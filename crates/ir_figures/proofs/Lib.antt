@@ -10,3 +10,7 @@ pub mod Rings
 pub mod Rows
 pub mod Turns
 pub mod Widths
+pub mod Marks
+pub mod ClosedRings
+pub mod Start
+pub mod Steps

@@ -5,7 +5,7 @@ use Rattle.std.proofs.lemmas.List.{get_or_push, get_or_append_left}
 use Rattle.std.specs.Global.{Vec}
 use Rattle.ir_model.specs.declared.Hop.{Hop}
 use Rattle.ir_model.specs.Topology.{Topology, node_count, ports_of, port_at}
-use Rattle.ir_cycles.specs.Arcs.{marks_of}
+use Rattle.ir_figures.specs.Arcs.{marks_of}
 use Rattle.ir_figures.specs.Exits.{exits_before, AreAwaited, IsExitAt, AreLinks}
 use Rattle.ir_figures.proofs.Offsets.{before_more, one_node}
 

@@ -7,8 +7,8 @@ use Rattle.ir_model.specs.Topology.{Topology, IsTopology, node_count, ports_of, 
 use Rattle.ir_model.specs.Plan.{Plan, IsPlan}
 use Rattle.ir_model.proofs.Walks.{port_facts}
 use Rattle.std.specs.Global.{Vec}
-use Rattle.ir_cycles.proofs.Marks.{marks_len}
-use Rattle.ir_cycles.specs.Arcs.{marks_of, width_of, IsArc, IsDigraph, IsAcyclic, IsRing}
+use Rattle.ir_figures.proofs.Marks.{marks_len}
+use Rattle.ir_figures.specs.Arcs.{marks_of, width_of, IsArc, IsDigraph, IsAcyclic, IsRing}
 use Rattle.ir_figures.specs.Waits.{Waits, WaitsInEither, IsWithoutRing, IsWaitingRing}
 use Rattle.ir_figures.specs.Exits.{exits_before, AreExits, IsExitAt, AreLinks, AreRowsMarkedAlso, AreLeftBy}
 use Rattle.ir_figures.proofs.Also.{links_of_either}

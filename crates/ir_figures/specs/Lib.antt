@@ -4,6 +4,8 @@ pub mod Compactness
 pub mod FiguresText
 pub mod Waits
 pub mod Compared
+pub mod Arcs
 -- what bodies use
 pub mod Exits
 pub mod Columns
+pub mod Search

@@ -8,21 +8,21 @@ ghost use Rattle.ir_plan.specs.declared.tour.LabelOrder.{LabelOrder};
 /// Where the links can be numbered such that each waits for greater ones alone, no links wait for each other in a ring,
 /// by one plan or by either of two.
 pub fn numbers_rule_out_rings()
-    ensures alone { (s : Plan) (nodes ports : List ℕ) → IsWithoutRing (Waits s)
-        → IsWaitingRing (Waits s) nodes ports → ⊥ }
-    ensures together { (s t : Plan) (nodes ports : List ℕ) → IsWithoutRing (WaitsInEither s t)
-        → IsWaitingRing (WaitsInEither s t) nodes ports → ⊥ }
+    ensures alone { (plan : Plan) (nodes ports : List ℕ) → IsWithoutRing (Waits plan)
+        → IsWaitingRing (Waits plan) nodes ports → ⊥ }
+    ensures together { (plan other : Plan) (nodes ports : List ℕ) → IsWithoutRing (WaitsInEither plan other)
+        → IsWaitingRing (WaitsInEither plan other) nodes ports → ⊥ }
 {}
 
 /// In a tree plan no links wait for each other in a ring: links towards the root come before links away from it.
 pub fn tree_plans_have_no_ring()
-    ensures { (s : Plan) → IsPlan s → s.kind ≡ Tree → IsWithoutRing (Waits s) }
+    ensures { (plan : Plan) → IsPlan plan → plan.kind ≡ Tree → IsWithoutRing (Waits plan) }
 {}
 
 /// A plan has one row of a comparison for each word of an order, and a network one comparison of its plans from a root.
 pub fn comparison_is_determined()
-    ensures row { (order : LabelOrder) (s : Plan) (line other : List ℕ) → IsRowOf order s line
-        → IsRowOf order s other → line ≡ other }
+    ensures row { (order : LabelOrder) (plan : Plan) (line other : List ℕ) → IsRowOf order plan line
+        → IsRowOf order plan other → line ≡ other }
     ensures whole { (network : Topology) (root : ℕ) (text other : List ℕ) → IsComparison network root text
         → IsComparison network root other → text ≡ other }
 {}

@@ -8,6 +8,8 @@ mod compared;
 mod exits;
 mod laws;
 mod most;
+mod ring;
+mod search;
 mod text;
 mod waits;
 

@@ -1,12 +1,12 @@
 //! Rings of directed links that wait for each other.
 ghost use Rattle.std.specs.Prelude.{◌≡◌, ◌↔◌, ◌+◌, ◌<◌, ℕ, List, Some, IsTrue, IfNone, IfOk, IfSome, OnOk, length, slice_index};
 ghost use Rattle.ir_model.specs.{Topology.{node_count, ports_of}, Plan.IsPlan};
-ghost use Rattle.ir_cycles.specs.Arcs.{marks_of, width_of, IsDigraph, IsAcyclic, IsRing};
+ghost use Rattle.ir_figures.specs.Arcs.{marks_of, width_of, IsDigraph, IsAcyclic, IsRing};
 ghost use Rattle.ir_figures.specs.Waits.{Waits, WaitsInEither, IsWithoutRing, IsWaitingRing};
 ghost use Rattle.ir_figures.specs.Exits.{exits_before, AreExits, ArePortsByLabel, AreOnward, IsMarkedFor, AreLinks, AreMarkedAlso, AreRowsMarkedAlso, AreLeftBy};
 
 use crate::exits::{Exits, exits_of};
-use ir_cycles::ring_of;
+use crate::ring::ring_of;
 use ir_plan::Plan;
 use std::alloc::{AllocError, Global};
 

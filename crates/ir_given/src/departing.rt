@@ -6,12 +6,11 @@ ghost use Rattle.ir_trace.specs.Checked.{AreInstalls, AreRowsOver};
 use crate::parts::Run;
 use ir_cli::{opening_of, root_of};
 use ir_core::{Install, OpenError, installs_by};
-use ir_departure::{Departure, departure_by};
 use ir_graph::Graph;
 use ir_plan::Crew;
 use ir_script::{ScriptFault, parse_script};
 use ir_tables::Topology;
-use ir_trace::{FindingKind, Segment, Trace, read_trace};
+use ir_trace::{Departure, FindingKind, Segment, Trace, departure_by, read_trace};
 use std::alloc::{AllocError, Global};
 
 /// The segments of a row, and the graph whose nodes they name.

@@ -26,6 +26,13 @@ use std::marker::Model;
 
 /// An undirected graph. It is seen as its nodes in order, each with its neighbours in order and the weight of the edge
 /// to each.
+///
+/// ```
+/// let mut graph = Graph::new(alloc);
+/// graph.add_edge("a", "b", 1).ok()?;
+/// graph.add_edge("b", "c", 3).ok()?;
+/// let is_so = graph.index_of("c") == Some(2) && graph.weight("c", "b") == Some(3);
+/// ```
 #[derive(Drop)]
 pub struct Graph {
     alloc: Global,

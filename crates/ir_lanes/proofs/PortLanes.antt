@@ -1,10 +1,9 @@
 -- The ports of a node as bits, in lanes.
-use Rattle.std.proofs.Common.{◌≡◌, ◌↔◌, ◌⊎◌, ℕ, ◌+◌, ◌-◌, ◌*◌, ◌^◌, ◌<◌, ◌≤◌, max, List, Bool, true, false, cond, eqb, [], ◌++◌, length, replicate, get_or, slice_index, slice_index_or, refl, sym, ap, subst, ◌∙◌, inl, inr, arith}
+use Rattle.std.proofs.Common.{◌≡◌, ◌↔◌, ◌⊎◌, ℕ, ◌+◌, ◌-◌, ◌*◌, ◌^◌, ◌<◌, ◌≤◌, max, List, Bool, true, false, cond, eqb, [], length, replicate, get_or, slice_index, slice_index_or, refl, sym, ap, subst, ◌∙◌, inl, inr, arith}
 use Rattle.std.specs.Int.{bit_at}
 use Rattle.std.specs.Int.Bits.{bit_and, bit_or}
 use Rattle.std.specs.Simd.Lanes.{zip2, sel_l}
 use Rattle.std.proofs.lemmas.Bool.{cases_eq, cases_lt, eqb-true, eqb-false}
-use Rattle.std.proofs.lemmas.List.{get_or_append_left, get_or-append-add, length-append}
 use Rattle.std.proofs.lemmas.Nat.Bits.{bit_at-zero, bit_at-lt, bit_at_and, bit_at_or, bit_at-pow_same, bit_at-pow_other, and_pow}
 use Rattle.std.proofs.lemmas.Simd.{length-zip2, get_or-zip2, get_or-replicate, length-sel_l, get_or-sel_l}
 use Rattle.std.proofs.lemmas.Option.{slice_get_within}
@@ -12,7 +11,7 @@ use Rattle.ir_model.specs.Topology.{Topology, node_count, ports_of}
 use Rattle.ir_model.specs.Table.{LeadsNearer}
 use Rattle.ir_lanes.specs.Lanes.{HasLanes}
 use Rattle.ir_lanes.specs.Inward.{IsSet, ports_before}
-use Rattle.ir_lanes.specs.Marks.{HasPort, HavePorts, ArePushedTied, AreTiedTo, PortMarks, ArePortMarks}
+use Rattle.ir_lanes.specs.Marks.{WithPort, ArePortLanes, ArePushedTied, AreTiedTo, PortMarks, ArePortMarks}
 use Rattle.ir_lanes.proofs.Words.{ports_within}
 use Rattle.ir_lanes.proofs.Batches.{marked_here}
 
@@ -89,8 +88,8 @@ module _ (before : List ℕ) (word port bit : ℕ) (bits : List ℕ) (long : len
       ∙ ap (λ (x : ℕ). cond (eqb (bit_and word (2 ^ k)) (2 ^ k)) x (get_or (replicate 16 0) k 0)) (get_or-replicate 16 k bit 0 l ∙ is)
       ∙ ap (λ (x : ℕ). cond (eqb (bit_and word (2 ^ k)) (2 ^ k)) (2 ^ port) x) (get_or-replicate 16 k 0 0 l)
 
-  pub HasPort-or : HasPort before word port (zip2 bit_or before chosen)
-  HasPort-or = record {
+  pub with_port_or : WithPort before word port (zip2 bit_or before chosen)
+  with_port_or = record {
     long = length-zip2 bit_or before chosen (long ∙ sym chosen_long) ∙ long;
     bit = λ k p l.
         let at : get_or (zip2 bit_or before chosen) k 0 ≡ bit_or (get_or before k 0) (cond (eqb (bit_and word (2 ^ k)) (2 ^ k)) (2 ^ port) 0) =
@@ -100,7 +99,7 @@ module _ (before : List ℕ) (word port bit : ℕ) (bits : List ℕ) (long : len
 
 -- ---- the ports of a node
 
-pub ports_none : (words : List ℕ) (begin : ℕ) → HavePorts words begin 0 (replicate 16 0)
+pub ports_none : (words : List ℕ) (begin : ℕ) → ArePortLanes words begin 0 (replicate 16 0)
 ports_none words begin = record {
   long = refl;
   bit = λ k p l.
@@ -111,7 +110,7 @@ ports_none words begin = record {
       );
 }
 
-pub ports_more : (words : List ℕ) (begin i word : ℕ) (before lanes : List ℕ) → word ≡ slice_index words (begin + i) → HavePorts words begin i before → HasPort before word i lanes → HavePorts words begin (i + 1) lanes
+pub ports_more : (words : List ℕ) (begin i word : ℕ) (before lanes : List ℕ) → word ≡ slice_index words (begin + i) → ArePortLanes words begin i before → WithPort before word i lanes → ArePortLanes words begin (i + 1) lanes
 ports_more words begin i word before lanes is have one = record {
   long = one.long;
   bit = λ k p l. (
@@ -130,15 +129,6 @@ ports_more words begin i word before lanes is have one = record {
   );
 }
 
-pub pushed_tied : (words : List ℕ) (begin i : ℕ) (lanes old : List ℕ) → HavePorts words begin i lanes → ArePushedTied words begin i old (old ++ lanes)
-pushed_tied words begin i lanes old have = record {
-  longer = omega (arith, length-append old lanes, have.long);
-  kept = λ j l. get_or_append_left old lanes 0 j l;
-  bit = λ k p l.
-      let at : slice_index (old ++ lanes) (length old + k) ≡ slice_index lanes k = get_or-append-add old lanes k 0 in
-      (subst (λ (x : ℕ). IsSet x p ↔ ((p < i) × IsSet (slice_index words (begin + p)) k)) (sym at) (have.bit k p l));
-}
-
 -- the words of a batch are those of all ports
 pub ports_place : (net : Topology) (nodes : List ℕ) (marks : PortMarks) → ArePortMarks net nodes marks → (u b : ℕ) → u < node_count net → b * 16 < length nodes
     → ports_before net u + length (ports_of net u) ≤ length (slice_index_or marks.batches b [])
@@ -146,10 +136,6 @@ ports_place net nodes marks are u b u_in b_in =
     let batch = are.batch b (omega (arith, b_in, are.enough)) in
     let every = batch.told.every in
     omega (arith, every, ports_within net u u_in)
-
--- the words of no place
-pub tied_none : (net : Topology) (nodes : List ℕ) (u : ℕ) (tied : List ℕ) → length tied ≡ 0 → AreTiedTo net nodes u 0 tied
-tied_none net nodes u tied none = record { every = none; bit = λ d p l d_in. absurd (omega (arith, l)) }
 
 -- with the words of a batch, those of sixteen places more
 pub tied_more : (net : Topology) (nodes : List ℕ) (marks : PortMarks) → ArePortMarks net nodes marks → (u b : ℕ) → u < node_count net → b * 16 < length nodes → (old tied : List ℕ)

@@ -75,12 +75,12 @@ pub record AreTiedTo (net : Topology) (nodes : List ℕ) (u m : ℕ) (tied : Lis
   pub bit : (d p : ℕ) → d < m → d < length nodes → IsSet (slice_index tied d) p ↔ LeadsNearer net u (slice_index nodes d) p
 
 -- in each lane the bits that it had before, and that of the port where the bit of the lane is set in the word
-pub record HasPort (before : List ℕ) (word port : ℕ) (lanes : List ℕ) : Type 0 where
+pub record WithPort (before : List ℕ) (word port : ℕ) (lanes : List ℕ) : Type 0 where
   pub long : length lanes ≡ 16
   pub bit : (k p : ℕ) → k < 16 → IsSet (slice_index lanes k) p ↔ (IsSet (slice_index before k) p ⊎ ((p ≡ port) × IsSet word k))
 
 -- the bits in lane k are the ports, of the first i, in whose words the bit k is set; their words stand from `begin` on
-pub record HavePorts (words : List ℕ) (begin i : ℕ) (lanes : List ℕ) : Type 0 where
+pub record ArePortLanes (words : List ℕ) (begin i : ℕ) (lanes : List ℕ) : Type 0 where
   pub long : length lanes ≡ 16
   pub bit : (k p : ℕ) → k < 16 → IsSet (slice_index lanes k) p ↔ ((p < i) × IsSet (slice_index words (begin + p)) k)
 

@@ -39,7 +39,8 @@ impl InwardLanes {
     {
         let _nodes = topology.nodes();
         let starts = end_starts(alloc, topology, ends)?;
-        let Some(weights) = settled(alloc, topology, 1, starts.as_slice())? else {
+        let middle = ends[LANES / 2] as usize;
+        let Some(weights) = settled(alloc, topology, 1, starts.as_slice(), middle)? else {
             return Ok(None);
         };
         Ok(Some(InwardLanes {

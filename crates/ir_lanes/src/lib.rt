@@ -9,6 +9,7 @@
 mod equation;
 mod inward;
 mod marks;
+mod order;
 mod outward;
 mod sweeps;
 mod vectors;

@@ -117,9 +117,9 @@ impl PortMarks {
         let _nodes = topology.nodes();
         let begin = self.begins[node as usize];
         let ports = topology.ports(node as usize).len();
-        let count = order.len().div_ceil(LANES);
-        let mut tied = Vec::with_capacity(alloc, count * LANES)?;
-        for batch in 0..count {
+        let batches = order.len().div_ceil(LANES);
+        let mut tied = Vec::with_capacity(alloc, batches * LANES)?;
+        for batch in 0..batches {
             push_tied(self.batches[batch].as_slice(), begin, ports, &mut tied)?;
         }
         Ok(tied)

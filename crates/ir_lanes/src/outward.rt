@@ -45,7 +45,8 @@ impl OutwardLanes {
         let bits = bits_for(greatest_degree(topology));
         let unit = unit_of(bits);
         let starts = source_starts(alloc, topology, unit, sources)?;
-        let Some(keys) = settled(alloc, topology, unit, starts.as_slice())? else {
+        let middle = sources[LANES / 2] as usize;
+        let Some(keys) = settled(alloc, topology, unit, starts.as_slice(), middle)? else {
             return Ok(None);
         };
         Ok(Some(OutwardLanes {

@@ -3,14 +3,21 @@ ghost use Rattle.std.specs.Prelude.{◌≡◌, ℕ, ◌+◌, ◌*◌, ◌<◌, �
 ghost use Rattle.ir_model.specs.{declared.Hop.Hop, Topology.node_count};
 ghost use Rattle.ir_lanes.specs.Lanes.{AreLeastOffers, AreNear, HaveLanes, far, most_added};
 
+use crate::order::{by_distance, by_number, is_mesh};
 use crate::vectors::{LANES, are_same, farther, lesser, load, store};
 use ir_model::Hop;
 use ir_tables::Topology;
 use std::alloc::{AllocError, Global};
 use std::simd::prelude::*;
 
-/// The most sweeps before another way is taken.
+/// The most sweeps of a list of nodes at a time.
 const MOST_SWEEPS: usize = 64;
+
+/// After the work of so many passes over all links another way is taken.
+const MOST_PASSES: usize = 20;
+
+/// How many windows an order by distance has.
+const WINDOWS: usize = 8;
 
 /// In each lane the least weight that a port offers; a port's weight counts `unit` times.
 #[inline(always)]
@@ -45,15 +52,16 @@ fn pull(topology: &Topology, unit: u32, lanes: &mut [u32], u: usize) -> bool
     true
 }
 
-// Pulls at each node that waits, forward or backward; where that changes its lanes its neighbours wait. It tells whether
-// anything changed.
+// Pulls at each node of a list that waits, forward or backward; where that changes its lanes its neighbours wait. How many
+// ports it pulled by.
 fn sweep(
     topology: &Topology,
     unit: u32,
     lanes: &mut [u32],
     waits: &mut [bool],
+    list: &[u16],
     forward: bool,
-) -> bool
+) -> usize
     requires unit { unit ≤ 16384 }
     requires lanes { AreNear topology.now lanes.old }
     requires waits { length waits.old ≡ node_count topology.now }
@@ -61,18 +69,19 @@ fn sweep(
     ensures waits { length waits.new ≡ node_count topology.now }
 {
     let nodes = topology.nodes();
-    let mut changed = false;
-    for i in 0..nodes {
-        let u = if forward { i } else { nodes - 1 - i };
-        if waits[u] {
+    let mut work = 0usize;
+    for i in 0..list.len() {
+        let place = if forward { i } else { list.len() - 1 - i };
+        let u = list[place] as usize;
+        if u < nodes && waits[u] {
             waits[u] = false;
+            work = work.saturating_add(topology.ports(u).len());
             if pull(topology, unit, lanes, u) {
-                changed = true;
                 wake(topology, waits, u);
             }
         }
     }
-    changed
+    work
 }
 
 // The neighbours of a node wait.
@@ -87,32 +96,111 @@ fn wake(topology: &Topology, waits: &mut [bool], u: usize)
     }
 }
 
-/// Sweeps forward and backward by turns, until one changes nothing, or for `MOST_SWEEPS`.
-pub fn settle(
-    alloc: Global,
+// Sweeps over the nodes of a list forward and backward by turns, until none of them waits, or for `MOST_SWEEPS` or the work
+// of `MOST_PASSES`. How many ports it pulled by.
+fn turns(
     topology: &Topology,
     unit: u32,
     lanes: &mut [u32],
-) -> Result<(), AllocError>
+    waits: &mut [bool],
+    list: &[u16],
+) -> usize
     requires unit { unit ≤ 16384 }
     requires lanes { AreNear topology.now lanes.old }
-    ensures { AreNear topology.now lanes.new }
+    requires waits { length waits.old ≡ node_count topology.now }
+    ensures lanes { AreNear topology.now lanes.new }
+    ensures waits { length waits.new ≡ node_count topology.now }
 {
-    let mut waits = vec![in alloc; true; topology.nodes()]?;
-    turns(topology, unit, lanes, waits.as_mut_slice());
-    Ok(())
+    let most = most_work(topology);
+    let mut work = 0usize;
+    for turn in 0..MOST_SWEEPS {
+        let more = sweep(topology, unit, lanes, waits, list, turn % 2 == 0);
+        work = work.saturating_add(more);
+        if more == 0 || work > most {
+            break;
+        }
+    }
+    work
 }
 
-// Sweeps by turns, where some nodes wait.
-fn turns(topology: &Topology, unit: u32, lanes: &mut [u32], waits: &mut [bool])
+// By how many ports is pulled at most.
+fn most_work(topology: &Topology) -> usize {
+    topology.links().saturating_mul(2 * MOST_PASSES)
+}
+
+// Turns over each window of an order, one behind the other, forward or backward. How many ports it pulled by.
+fn round(
+    topology: &Topology,
+    unit: u32,
+    lanes: &mut [u32],
+    waits: &mut [bool],
+    order: &[u16],
+    forward: bool,
+) -> usize
+    requires unit { unit ≤ 16384 }
+    requires lanes { AreNear topology.now lanes.old }
+    requires waits { length waits.old ≡ node_count topology.now }
+    ensures lanes { AreNear topology.now lanes.new }
+    ensures waits { length waits.new ≡ node_count topology.now }
+{
+    let mut work = 0usize;
+    for k in 0..WINDOWS {
+        let window = window_of(order, if forward { k } else { WINDOWS - 1 - k });
+        work = work.saturating_add(turns(topology, unit, lanes, waits, window));
+    }
+    work
+}
+
+// A window of an order.
+fn window_of(order: &[u16], k: usize) -> &[u16] {
+    let size = order.len() / WINDOWS + 1;
+    let begin = size.saturating_mul(k).min(order.len());
+    let end = begin.saturating_add(size).min(order.len());
+    &order[begin..end]
+}
+
+// Rounds over the windows of an order, forward and backward by turns, until no node waits, or for the work of
+// `MOST_PASSES`.
+fn rounds(topology: &Topology, unit: u32, lanes: &mut [u32], waits: &mut [bool], order: &[u16])
     requires unit { unit ≤ 16384 }
     requires lanes { AreNear topology.now lanes.old }
     requires waits { length waits.old ≡ node_count topology.now }
     ensures { AreNear topology.now lanes.new }
 {
+    let most = most_work(topology);
+    let mut work = 0usize;
     for turn in 0..MOST_SWEEPS {
-        if !sweep(topology, unit, lanes, waits, turn % 2 == 0) {
+        let more = round(topology, unit, lanes, waits, order, turn % 2 == 0);
+        work = work.saturating_add(more);
+        if more == 0 || work > most {
             break;
         }
     }
+}
+
+/// Sweeps until no node waits, or for the work of about `MOST_PASSES`: in a mesh by the distances from a node, else by
+/// number.
+pub fn settle(
+    alloc: Global,
+    topology: &Topology,
+    unit: u32,
+    lanes: &mut [u32],
+    node: usize,
+) -> Result<(), AllocError>
+    requires unit { unit ≤ 16384 }
+    requires node { node < node_count topology.now }
+    requires lanes { AreNear topology.now lanes.old }
+    ensures { AreNear topology.now lanes.new }
+{
+    let nodes = topology.nodes();
+    let mut waits = vec![in alloc; true; nodes]?;
+    let waits = waits.as_mut_slice();
+    if is_mesh(topology) {
+        let order = by_distance(alloc, topology, node)?;
+        rounds(topology, unit, lanes, waits, order.as_slice());
+    } else {
+        let order = by_number(alloc, nodes)?;
+        turns(topology, unit, lanes, waits, order.as_slice());
+    }
+    Ok(())
 }

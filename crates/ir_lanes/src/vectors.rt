@@ -1,7 +1,7 @@
 //! Sixteen lanes at a time, and what each operation leaves in each of them.
 ghost use Rattle.std.specs.Prelude.{◌≡◌, ◌↔◌, ℕ, ◌+◌, ◌*◌, ◌^◌, ◌<◌, ◌≤◌, min, length, slice_index, IsTrue};
 ghost use Rattle.ir_lanes.specs.Lanes.{HasLanes, far, most_added};
-ghost use Rattle.ir_lanes.specs.{Inward.IsSet, Marks.HasPort};
+ghost use Rattle.ir_lanes.specs.{Inward.IsSet, Marks.WithPort};
 
 use std::simd::prelude::*;
 
@@ -76,7 +76,7 @@ fn places() -> u32x16
 pub fn with_port(lanes: u32x16, word: u16, port: u32) -> u32x16
     requires long { length lanes ≡ 16 }
     requires port { port < 32 }
-    ensures { HasPort lanes word port result }
+    ensures { WithPort lanes word port result }
 {
     let bits = places();
     let set = (u32x16::splat(word as u32) & bits).simd_eq(bits);

@@ -29,6 +29,15 @@ impl<S, V> Rests for Seat<S, V> {
 /// Carries items to one place, oldest first, and holds at most its capacity of them.
 ///
 /// Contracts see its `Channel`: which queue it is, its place, and its capacity in items.
+///
+/// ```
+/// let channel = Channel::new(alloc, 2, Way { to: 7 }).ok()?;
+/// let Ok(Some((mut sender, mut taker))) = channel.ends() else {
+///     return None;
+/// };
+/// let is_sent = sender.send(rt, letter).is_ok();
+/// let came = taker.take(rt);
+/// ```
 #[derive(Drop)]
 pub struct Channel<T: Bound> {
     shared: Arc<Shared<T>, Global>,

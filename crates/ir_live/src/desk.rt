@@ -30,8 +30,9 @@ fn answered(refusal: Option<Refused>) -> Result<Option<Stamp>, Refused>
     }
 }
 
-// Looks until so many packets are settled or a node has ended, and sleeps between two looks.
+// Looks until so many packets are settled or a node has ended, and sleeps meanwhile.
 fn drain<R: Wait>(rt: &R, net: &Net, count: u32, ended: &AtomicBool, bells: &Bells) {
+    bells.want(count);
     for _ in rt.forever() {
         bells.settled.lie_down();
         if net.settled() == count || ended.load(Ordering::SeqCst) {

@@ -1,5 +1,6 @@
-//! The errors of live runs, in words.
+//! The errors of registries, boards and live runs, in words.
 
+use ir_epochs::{BoardError, RegisterError};
 use ir_live::LiveError;
 use std::alloc::Global;
 use std::fmt::Display;
@@ -28,6 +29,42 @@ static LIVE: [(LiveError, u8, &'static str); 4] = [
 #[test]
 fn runs_without_a_report_in_words(rt: HostRuntime) -> Result<(), Fail> {
     for (error, number, words) in &LIVE {
+        if error.code() != *number || !tells(rt.alloc(), error, words) {
+            return Err("another number, or other words".into());
+        }
+    }
+    Ok(())
+}
+
+/// Why a board was not opened, with its number and its words.
+static BOARDS: [(BoardError, u8, &'static str); 2] = [
+    (
+        BoardError::TooManyReaders,
+        1,
+        "no place is left for a reader",
+    ),
+    (BoardError::NoMemory, 2, "out of memory"),
+];
+
+#[test]
+fn boards_not_opened_in_words(rt: HostRuntime) -> Result<(), Fail> {
+    for (error, number, words) in &BOARDS {
+        if error.code() != *number || !tells(rt.alloc(), error, words) {
+            return Err("another number, or other words".into());
+        }
+    }
+    Ok(())
+}
+
+/// Why a plan was not registered, with its number and its words.
+static PLANS: [(RegisterError, u8, &'static str); 2] = [
+    (RegisterError::Used, 1, "the epoch's cell is used"),
+    (RegisterError::NoMemory, 2, "out of memory"),
+];
+
+#[test]
+fn plans_not_registered_in_words(rt: HostRuntime) -> Result<(), Fail> {
+    for (error, number, words) in &PLANS {
         if error.code() != *number || !tells(rt.alloc(), error, words) {
             return Err("another number, or other words".into());
         }

@@ -18,3 +18,7 @@ pub mod Chosen
 pub mod Steps
 pub mod Best
 pub mod Ways
+pub mod Line
+pub mod Ordered
+pub mod Ranked
+pub mod Compact

@@ -17,3 +17,4 @@ pub mod Compiled
 pub mod Choices
 pub mod Compact
 pub mod Plan
+pub mod Worked

@@ -1,7 +1,17 @@
 //! The definitions that every crate of the network shares: texts and graphs, networks and walks, full tables,
-//! depth-first numberings, cyclic intervals and rows. They stand in `specs/`; here are the limits, and the
-//! plain records that contracts and getters speak of.
+//! depth-first numberings, cyclic intervals and rows. They stand in `specs/`; here are the limits, the plain records that
+//! contracts and getters speak of, and laws of the definitions.
 #![tactic(auto)]
+
+mod laws;
+
+pub use laws::{
+    canonical_rows_are_equal, chosen_ports_are_determined, compact_table_is_determined,
+    distance_is_symmetric, distance_is_unique, distance_to_itself, distances_obey_the_triangle,
+    intervals_of_six_labels, line_of_three_nodes, numbering_is_determined,
+    prescribed_walk_is_determined, prescribed_walk_of_a_shortest_table,
+    prescribed_walk_of_a_table_of_shortest_ways, text_of_a_line, weighted_example, whole_circle,
+};
 
 /// The most nodes of a graph.
 pub const MAX_NODES: usize = 16_384;

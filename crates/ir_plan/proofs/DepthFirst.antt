@@ -13,9 +13,9 @@ use Rattle.ir_model.specs.Compiled.{IsCanonical}
 use Rattle.ir_model.specs.Compact.{IsCompactTable}
 use Rattle.ir_model.specs.Table.{IsShortestTable}
 use Rattle.ir_model.specs.Plan.{Plan, IsPlan, HasDepthFirst, AreLabels, IsTableOf, table_port, label_in, row_in, by_label}
-use Rattle.ir_laws.proofs.Compact.{compact_same}
-use Rattle.ir_laws.proofs.Ordered.{canonical_same}
-use Rattle.ir_laws.proofs.Ranked.{order_same}
+use Rattle.ir_model.proofs.Compact.{compact_same}
+use Rattle.ir_model.proofs.Ordered.{canonical_same}
+use Rattle.ir_model.proofs.Ranked.{order_same}
 use Rattle.ir_plan.specs.Starts.{IsPlanAs}
 
 -- a network has one shortest table

@@ -10,7 +10,7 @@ ghost use Rattle.ir_plan.specs.{NodeRows.{IsNodeRow, ArePortsOf}, CompactRows.{A
 
 use crate::rows::row_of;
 use crate::ties::Ties;
-use ir_compile::{WORD_PORTS, keep_longer, ports_of_runs, runs_by_words};
+use ir_compile::{WORD_PORTS, keep_longer, ports_of_longest, runs_by_words};
 use ir_lookup::Row;
 use ir_numbering::Numbering;
 use ir_tables::{Outward, Topology};
@@ -56,7 +56,7 @@ fn chosen_ports(
     if nodes == 1 {
         return vec![in alloc; None; 1];
     }
-    ports_of_runs(
+    ports_of_longest(
         alloc,
         nodes,
         numbering.label_of(u),

@@ -16,6 +16,14 @@ use std::marker::Model;
 
 /// A plan of routes over its own topology, for one epoch: the nodes' labels, and for each node a row of interval starts
 /// (Santoro and Khatib 1985; van Leeuwen and Tan 1987). The full table that the rows stand for is never made.
+///
+/// Of the path a, b, c node 0 reaches the label of node 2 by its port 0:
+///
+/// ```
+/// let topology = Topology::of(alloc, graph).ok()?;
+/// let plan = Plan::build(alloc, topology, Kind::Shortest, 0).ok()?;
+/// let is_so = plan.nodes() == 3 && plan.port(0, plan.label_of(2)) == Some(0);
+/// ```
 #[derive(Drop)]
 pub struct Plan {
     topology: Topology,

@@ -17,3 +17,6 @@ pub mod PartLemmas
 pub mod TableLemmas
 pub mod DisjointLemmas
 pub mod PortLemmas
+pub mod RangeLemmas
+pub mod Fewest
+pub mod Joins

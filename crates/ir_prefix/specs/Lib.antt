@@ -2,6 +2,7 @@
 pub mod Code
 pub mod Longest
 pub mod Forwarding
+pub mod Ranges
 -- what bodies use
 pub mod Joined
 pub mod Described
@@ -11,3 +12,4 @@ pub mod Runs
 pub mod Nodes
 pub mod Parts
 pub mod Marks
+pub mod RangeRuns

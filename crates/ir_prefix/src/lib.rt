@@ -1,4 +1,5 @@
-//! Ports by label compiled to the fewest prefixes whose longest match names them (Draves, King, Venkatachary and Zill 1999).
+//! The fewest entries that tell ports by label: prefixes whose longest match names them (Draves, King, Venkatachary and
+//! Zill 1999), or ranges of labels.
 #![tactic(auto)]
 
 ghost use Rattle.std.specs.Prelude.{◌≡◌, ◌↔◌, ◌≤◌, ◌^◌, ℕ, length, IfOk, OnOk};
@@ -13,6 +14,7 @@ mod marks;
 mod names;
 mod order;
 mod parts;
+mod ranges;
 mod runs;
 mod tables;
 mod trie;
@@ -25,6 +27,7 @@ pub use cover::Prefix;
 pub use error::PrefixError;
 use ir_compile::is_destinations;
 pub use line::Line;
+pub use ranges::{LabelRange, label_ranges};
 use std::alloc::{AllocError, Global};
 pub use tables::{disjoint, forwarding};
 

@@ -1,2 +1,4 @@
 pub mod Scripts
 pub mod StepsWithin
+pub mod Lines
+pub mod Orders

@@ -8,7 +8,7 @@ pub use ir_answer::{
     Format, Numbering, Source, Sub, Words, WordsError, read_words, run_by, run_check, run_plan,
     run_sim, sources_of,
 };
-pub use ir_lines::LineCrew;
+pub use ir_exports::LineCrew;
 pub use ir_plan::{Alone, Crew, Several};
 pub use ir_script::{Command, Script, ScriptError, ScriptFault, parse_live, parse_script};
 pub use running::{run, run_live_text};

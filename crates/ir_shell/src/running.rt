@@ -8,7 +8,7 @@ ghost use Rattle.ir_cli.specs.Words.{FitsItsKind};
 use crate::live::run_commands;
 use ir_answer::{in_form, run_by, sources_by, two_texts, write_given};
 use ir_cli::{Ending, Sub, Words, read_inputs, status_of, tell_unread};
-use ir_lines::LineCrew;
+use ir_exports::LineCrew;
 use ir_links::Moments;
 use ir_live::Starter;
 use ir_streams::{Reader, Writer};

@@ -7,3 +7,11 @@ pub mod Destinations
 pub mod Determined
 pub mod Drawn
 pub mod Escapes
+pub mod Searching
+pub mod SearchedWays
+pub mod CanonicalRows
+pub mod Plans
+pub mod LongestRuns
+pub mod ChosenPorts
+pub mod PlanRows
+pub mod Walks

@@ -6,6 +6,9 @@ pub mod StatsText
 pub mod Figures
 pub mod Quoted
 pub mod Drawing
+pub mod Alone
+pub mod Plans
 -- what bodies use
 pub mod Before
 pub mod Held
+pub mod Stops

@@ -6,20 +6,20 @@ ghost use Rattle.ir_show.specs.Drawing.{IsDrawingOf};
 
 /// A plan has one text of the walk from a node to a node.
 pub fn walk_text_is_determined()
-    ensures { (nodes : List Name) (s : Plan) (a b : ℕ) (text other : List ℕ) → IsWalkOf nodes s a b text
-        → IsWalkOf nodes s a b other → text ≡ other }
+    ensures { (nodes : List Name) (plan : Plan) (a b : ℕ) (text other : List ℕ) → IsWalkOf nodes plan a b text
+        → IsWalkOf nodes plan a b other → text ≡ other }
 {}
 
 /// A plan has one text of its figures.
 pub fn stats_text_is_determined()
-    ensures { (nodes : List Name) (s : Plan) (text other : List ℕ) → IsStatsOf nodes s text
-        → IsStatsOf nodes s other → text ≡ other }
+    ensures { (nodes : List Name) (plan : Plan) (text other : List ℕ) → IsStatsOf nodes plan text
+        → IsStatsOf nodes plan other → text ≡ other }
 {}
 
 /// A plan has one drawing for each choice of ends.
 pub fn drawing_is_determined()
-    ensures { (nodes : List Name) (s : Plan) (ends : Option (ℕ × ℕ)) (text other : List ℕ)
-        → IsDrawingOf nodes s ends text → IsDrawingOf nodes s ends other → text ≡ other }
+    ensures { (nodes : List Name) (plan : Plan) (ends : Option (ℕ × ℕ)) (text other : List ℕ)
+        → IsDrawingOf nodes plan ends text → IsDrawingOf nodes plan ends other → text ≡ other }
 {}
 
 /// What is escaped has no quote of its own that ends it, and is read again as it was.

@@ -1,6 +1,7 @@
-//! The texts that show a plan: its rows, a walk of it, its figures, and a drawing.
+//! The texts that show a plan: its rows, a walk of it, its figures, and a drawing; and a walk of a plan that is not built.
 #![tactic(auto)]
 
+mod alone;
 mod distances;
 mod draw;
 mod figures;
@@ -11,6 +12,7 @@ mod walk;
 mod weights;
 mod worst;
 
+pub use alone::{needs_no_tour, plans_are_there, walk_text_alone};
 pub use draw::draw_text;
 pub use figures::{Figures, figures_of};
 pub use laws::{

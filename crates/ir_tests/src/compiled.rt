@@ -1,6 +1,8 @@
 //! Destination lists, rows and intervals.
 
-use ir_compile::{CompileError, canonical_row, compile, is_destinations};
+ghost use Rattle.std.specs.Prelude.{◌≢◌, ◌<◌, ℕ, IsTrue, length, slice_index};
+
+use ir_compile::{CompileError, canonical_row, compile, is_destinations, runs_by_words};
 use ir_lookup::{Row, in_interval};
 use std::alloc::Global;
 use std::test::Fail;
@@ -138,4 +140,29 @@ fn an_interval_wraps(rt: HostRuntime) {
 fn refuses_a_port_to_the_own_label(rt: HostRuntime) {
     let answer = compile(rt.alloc(), 3, 1, &[Some(0), Some(0), Some(0)]);
     assert!(rt; matches!(answer, Err(CompileError::BadRow)));
+}
+
+/// Whether each label but the own one has a port.
+fn have_ports(own: u16, words: &[u32]) -> bool
+    ensures { IsTrue result → (d : ℕ) → d < length words.now → d ≢ own → 0 < slice_index words.now d }
+{
+    for (d, word) in words.iter().enumerate() {
+        if d != own as usize && *word == 0 {
+            return false;
+        }
+    }
+    true
+}
+
+#[test]
+fn longest_runs_by_hand(rt: HostRuntime) -> Result<(), Fail> {
+    let words: [u32; 4] = [0, 0b01, 0b11, 0b10];
+    if !have_ports(0, &words) {
+        return Err("a label without a port".into());
+    }
+    let (counts, ports) = runs_by_words(rt.alloc(), 4, 0, &words)?;
+    if counts.as_slice() != [3, 2, 3, 2].as_slice() || ports.as_slice() != [0, 0, 1, 1].as_slice() {
+        return Err("other runs".into());
+    }
+    Ok(())
 }

@@ -63,12 +63,14 @@ fn marks_by_hand(rt: HostRuntime) -> Result<(), Fail> {
     let Some(marks) = PortMarks::of(rt.alloc(), &topology, &order)? else {
         return Err("no marks".into());
     };
+    let tied = marks.tied(rt.alloc(), &topology, &order, 0)?;
     let (to_b, marked) = marks.row(rt.alloc(), &topology, &order, 0, 0)?;
     let (to_d, _marked) = marks.row(rt.alloc(), &topology, &order, 0, 1)?;
     if to_b.as_slice() != [false, true, false, true].as_slice()
         || to_d.as_slice() != [false, false, true, true].as_slice()
         || marked.as_slice() != [1, 3].as_slice()
         || words.as_slice()[0] != 0b1111_1111_1111_1010
+        || tied.as_slice() != [0, 1, 2, 3, 3, 3, 3, 3, 3, 3, 3, 3, 3, 3, 3, 3].as_slice()
     {
         return Err("other marks".into());
     }

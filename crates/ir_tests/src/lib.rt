@@ -1,10 +1,16 @@
-//! Tests: worked examples of graphs, tables, plans and runs through the public calls of the crates below.
+//! Tests without a handle, through the public calls of the crates below: worked examples of graphs, tables, plans, prefixes
+//! and runs; errors as texts and numbers; traces that are read, written and checked; words that are refused; what a world
+//! hands out; and runs of the program. No test here starts a thread or waits for one.
 #![tactic(auto)]
 
+#[cfg(test)]
+mod checks;
 #[cfg(test)]
 mod compiled;
 #[cfg(test)]
 mod errors;
+#[cfg(test)]
+mod examples;
 #[cfg(test)]
 mod graphs;
 #[cfg(test)]
@@ -20,8 +26,16 @@ mod plans;
 #[cfg(test)]
 mod prefixed;
 #[cfg(test)]
+mod programs;
+#[cfg(test)]
 mod runs;
+#[cfg(test)]
+mod streams;
 #[cfg(test)]
 mod tables;
 #[cfg(test)]
 mod texts;
+#[cfg(test)]
+mod traces;
+#[cfg(test)]
+mod worlds;

@@ -23,3 +23,6 @@ pub mod Replayed
 pub mod OneTree
 pub mod Routing
 pub mod OneAnswer
+pub mod Strays
+pub mod Parts
+pub mod Determined

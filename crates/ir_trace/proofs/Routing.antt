@@ -6,7 +6,7 @@ use Rattle.ir_model.specs.Topology.{Topology, node_count, restrict}
 use Rattle.ir_model.specs.Numbering.{neighbors_of, IsDepthFirst}
 use Rattle.ir_model.specs.Tree.{IsTreeTable}
 use Rattle.ir_model.specs.Plan.{Plan, IsPlan, IsTableOf, table_port}
-use Rattle.ir_laws.proofs.Ranked.{parents_same}
+use Rattle.ir_model.proofs.Ranked.{parents_same}
 use Rattle.ir_plan.specs.declared.tour.LabelOrder.{LabelOrder}
 use Rattle.ir_plan.specs.Building.{FromRoot, IsPlanBy}
 use Rattle.ir_plan.specs.Starts.{IsPlanAs}

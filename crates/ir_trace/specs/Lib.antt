@@ -11,6 +11,7 @@ pub mod Inspect
 pub mod SoundRows
 pub mod Sound
 pub mod Judged
+pub mod Leaving
 -- what bodies use
 pub mod Spelled
 pub mod Line

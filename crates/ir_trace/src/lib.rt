@@ -1,4 +1,5 @@
-//! Traces: a line for each packet of a run, written, read and checked against what each epoch was installed with.
+//! Traces: a line for each packet of a run, written, read and checked against what each epoch was installed with; and where
+//! a row leaves the walks of its epochs.
 //!
 //! The first line is `trace 1` or `trace 2`. In `trace 1` each further line is one packet, as
 //! `ID EPOCH SOURCE DEST WEIGHT FATE HOPS`; in `trace 2` it is `ID SOURCE DEST WEIGHT FATE`, and then `#EPOCH HOPS` for
@@ -7,6 +8,7 @@
 #![tactic(auto)]
 
 mod checking;
+mod departing;
 mod finding;
 pub mod judging;
 mod laws;
@@ -21,6 +23,7 @@ mod words;
 mod writing;
 
 pub use checking::{check_trace, check_trace_by};
+pub use departing::{Departure, departure_by, departure_is_determined};
 pub use finding::{Finding, FindingKind};
 pub use laws::{check_is_determined, plans_of_installs_route_alike};
 pub use outlet::{Outlet, TraceError};

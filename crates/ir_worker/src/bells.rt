@@ -6,7 +6,7 @@
 use crate::node::Turn;
 use std::alloc::{AllocError, Global};
 use std::sync::Wait;
-use std::sync::atomic::{AtomicBool, Ordering};
+use std::sync::atomic::{AtomicBool, AtomicU32, Ordering};
 use std::thread;
 use std::thread::Parker;
 
@@ -72,8 +72,10 @@ impl Idle {
 #[derive(Drop)]
 pub struct Bells {
     nodes: Vec<Bell>,
-    /// It is rung for each packet that is settled.
+    /// It is rung for the packet that makes those that are settled as many as are wanted, and for each behind it.
     pub settled: Bell,
+    wanted: AtomicU32,
+    count: AtomicU32,
 }
 
 impl Bells {
@@ -83,17 +85,33 @@ impl Bells {
         for _node in 0..nodes {
             bells.push(Bell::new())?;
         }
-        Ok(Bells {
-            nodes: bells,
-            settled: Bell::new(),
-        })
+        Ok(Bells::over(bells))
     }
 
     /// Bells of no nodes: a node that has none does not sleep.
     pub fn none(alloc: Global) -> Bells {
+        Bells::over(Vec::new(alloc))
+    }
+
+    fn over(nodes: Vec<Bell>) -> Bells {
         Bells {
-            nodes: Vec::new(alloc),
+            nodes,
             settled: Bell::new(),
+            wanted: AtomicU32::new(0),
+            count: AtomicU32::new(0),
+        }
+    }
+
+    /// From now on who waits beside `settled` is woken once so many packets are settled in all, and no longer for each.
+    pub fn want(&self, packets: u32) {
+        self.wanted.store(packets, Ordering::SeqCst);
+    }
+
+    // One packet more is settled.
+    fn settle(&self) {
+        let before = self.count.fetch_add(1, Ordering::SeqCst);
+        if before >= self.wanted.load(Ordering::SeqCst).saturating_sub(1) {
+            self.settled.ring();
         }
     }
 
@@ -128,7 +146,7 @@ impl Bells {
                 return Idle::new();
             }
             Turn::Settled(_) => {
-                self.settled.ring();
+                self.settle();
                 return Idle::new();
             }
         }

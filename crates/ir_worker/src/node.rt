@@ -8,7 +8,7 @@ ghost use Rattle.ir_core.specs.Record.{Record};
 
 use crate::entrances::Entrances;
 use crate::parcel::{Outcome, Parcel};
-use crate::passing::{pass_on, ready};
+use crate::passing::{Turning, pass_on, ready};
 use crate::serving::NoMemory;
 use ir_core::{Hop, Way};
 use ir_epochs::{BoardReader, BoardWriter, Receipt, Registry, Stamp};
@@ -173,27 +173,16 @@ impl Node {
         let id = parcel.id();
         let board = self.reader.read();
         let ports = self.ports.as_slice();
-        let judged = ready(
-            &self.registry,
-            &self.opening,
-            self.restamps,
-            &board,
-            self.reader.stamp(),
-            self.index,
+        let turning = Turning {
+            registry: &self.registry,
+            opening: &self.opening,
+            restamps: self.restamps,
+            at: self.index,
             ports,
-            way,
-            parcel,
-        );
-        match pass_on(
-            rt,
-            &self.opening,
-            self.restamps,
-            &board,
-            self.index,
-            ports,
-            &mut self.outs,
-            judged,
-        ) {
+            board: &board,
+        };
+        let judged = ready(&turning, self.reader.stamp(), way, parcel);
+        match pass_on(rt, &turning, &mut self.outs, judged) {
             Ok(to) => Ok(Turn::Sent(id, to)),
             Err(outcome) => {
                 self.outcomes.push_reserved(outcome);

@@ -14,6 +14,18 @@ use ir_core::{Board, Hop, Verdict, Way};
 use ir_epochs::{Registry, Stamp};
 use ir_links::{Moments, Sender};
 
+/// What a node goes by in a turn: its net's plans, opening and limit on restamps, its number, its ports, and the board that it
+/// has read.
+#[derive(Clone, Copy)]
+pub struct Turning<'a> {
+    pub registry: &'a Registry,
+    pub opening: &'a Stamp,
+    pub restamps: u8,
+    pub at: u16,
+    pub ports: &'a [Hop],
+    pub board: &'a Board,
+}
+
 /// A parcel in a node's hand, the way by which the node took it, and what is to come of it.
 #[derive(Drop)]
 pub struct Judged {
@@ -37,54 +49,48 @@ fn port_of_hop(ports: &[Hop], hop: Hop) -> usize
 
 // A parcel that a node took, with its verdict by a board. Where its own epoch is retired and more restamps are allowed, it has
 // a new segment of the current stamp, and is judged as one from the inbox.
-pub fn ready(
-    registry: &Registry,
-    opening: &Stamp,
-    restamps: u8,
-    board: &Board,
-    current: Stamp,
-    at: u16,
-    ports: &[Hop],
-    way: Way,
-    parcel: Parcel,
-) -> Judged
-    requires registry { IsOf registry.now opening.now }
-    requires node_in { at < node_count (knows opening.now).topology }
-    requires ports { ports.now ≡ ports_of (knows opening.now).topology at }
-    requires allowed { restamps ≤ MAX_RESTAMPS }
-    requires current { IsOfNet opening.now current }
-    requires epoch { current.epoch ≡ board.now.current }
-    requires live { board.now.floor ≤ board.now.current }
-    requires of_net { All (λ s. IsOfNet opening.now s) (stamps_of parcel.first parcel.later) }
-    requires few { length parcel.packet.restamps ≤ restamps }
-    requires room { HasRoomOf opening.now restamps parcel }
-    requires is_new { IsNew parcel.packet (InHand at way) }
-    requires came { CameBy ports.now at way (last_of parcel.packet.hops) parcel.next }
-    ensures parcel { result.parcel
-        ≡ with_restamp (restamp_on restamps parcel board.now way at) current way at parcel }
-    ensures way { result.way ≡ way_then (restamp_on restamps parcel board.now way at) way }
+pub fn ready(turning: &Turning<'_>, current: Stamp, way: Way, parcel: Parcel) -> Judged
+    requires registry { IsOf turning.now.registry.now turning.now.opening.now }
+    requires node_in { turning.now.at < node_count (knows turning.now.opening.now).topology }
+    requires ports { turning.now.ports.now ≡ ports_of (knows turning.now.opening.now).topology turning.now.at }
+    requires allowed { turning.now.restamps ≤ MAX_RESTAMPS }
+    requires current { IsOfNet turning.now.opening.now current }
+    requires epoch { current.epoch ≡ turning.now.board.now.current }
+    requires live { turning.now.board.now.floor ≤ turning.now.board.now.current }
+    requires of_net { All (λ s. IsOfNet turning.now.opening.now s) (stamps_of parcel.first parcel.later) }
+    requires few { length parcel.packet.restamps ≤ turning.now.restamps }
+    requires room { HasRoomOf turning.now.opening.now turning.now.restamps parcel }
+    requires is_new { IsNew parcel.packet (InHand turning.now.at way) }
+    requires came { CameBy turning.now.ports.now turning.now.at way (last_of parcel.packet.hops) parcel.next }
+    ensures parcel { result.parcel ≡ with_restamp
+        (restamp_on turning.now.restamps parcel turning.now.board.now way turning.now.at) current way
+        turning.now.at parcel }
+    ensures way { result.way
+        ≡ way_then (restamp_on turning.now.restamps parcel turning.now.board.now way turning.now.at) way }
     ensures plan { IsPlan (knows (stamp_now result.parcel)) }
-    ensures verdict { result.verdict ≡ parcel_verdict result.parcel board.now false result.way at }
-    ensures of_net { All (λ s. IsOfNet opening.now s) (stamps_of result.parcel.first result.parcel.later) }
-    ensures few { length result.parcel.packet.restamps ≤ restamps }
-    ensures room { HasRoomOf opening.now restamps result.parcel }
-    ensures came { CameBy ports.now at result.way (last_of result.parcel.packet.hops) result.parcel.next }
+    ensures verdict { result.verdict
+        ≡ parcel_verdict result.parcel turning.now.board.now false result.way turning.now.at }
+    ensures of_net { All (λ s. IsOfNet turning.now.opening.now s) (stamps_of result.parcel.first result.parcel.later) }
+    ensures few { length result.parcel.packet.restamps ≤ turning.now.restamps }
+    ensures room { HasRoomOf turning.now.opening.now turning.now.restamps result.parcel }
+    ensures came { CameBy turning.now.ports.now turning.now.at result.way (last_of result.parcel.packet.hops)
+        result.parcel.next }
 {
-    let plan = registry.plan(parcel.stamp());
+    let plan = turning.registry.plan(parcel.stamp());
     let _nodes = plan.nodes();
-    let verdict = parcel.judge(plan, board, way, at);
-    let left = usize::from(restamps) - parcel.restamped();
-    match verdict.restamp(left, board.current()) {
+    let verdict = parcel.judge(plan, turning.board, way, turning.at);
+    let left = usize::from(turning.restamps) - parcel.restamped();
+    match verdict.restamp(left, turning.board.current()) {
         None => Judged {
             parcel,
             way,
             verdict,
         },
         Some(_) => {
-            let newest = registry.plan(&current);
+            let newest = turning.registry.plan(&current);
             let _nodes = newest.nodes();
-            let parcel = parcel.restamp(current, newest, way, at);
-            let again = parcel.judge(newest, board, Way::Inbox, at);
+            let parcel = parcel.restamp(current, newest, way, turning.at);
+            let again = parcel.judge(newest, turning.board, Way::Inbox, turning.at);
             Judged {
                 parcel,
                 way: Way::Inbox,
@@ -97,29 +103,30 @@ pub fn ready(
 // Sends a parcel on over the port that its verdict names, or settles it.
 pub fn pass_on<R: Moments<Parcel>>(
     rt: &R,
-    opening: &Stamp,
-    restamps: u8,
-    board: &Board,
-    at: u16,
-    ports: &[Hop],
+    turning: &Turning<'_>,
     outs: &mut Vec<Sender<Parcel>>,
     judged: Judged,
 ) -> Result<u16, Outcome>
-    requires node_in { at < node_count (knows opening.now).topology }
-    requires ports { ports.now ≡ ports_of (knows opening.now).topology at }
+    requires node_in { turning.now.at < node_count (knows turning.now.opening.now).topology }
+    requires ports { turning.now.ports.now ≡ ports_of (knows turning.now.opening.now).topology turning.now.at }
     requires outs { map (λ (s : Out). s.channel.place) outs.old.items
-        ≡ map (λ (h : Hop). net_place opening.now restamps at h.node) ports.now }
+        ≡ map (λ (h : Hop). net_place turning.now.opening.now turning.now.restamps turning.now.at h.node)
+        turning.now.ports.now }
     requires plan { IsPlan (knows (stamp_now judged.parcel)) }
-    requires verdict { judged.verdict ≡ parcel_verdict judged.parcel board.now false judged.way at }
-    requires of_net { All (λ s. IsOfNet opening.now s) (stamps_of judged.parcel.first judged.parcel.later) }
-    requires few { length judged.parcel.packet.restamps ≤ restamps }
-    requires room { HasRoomOf opening.now restamps judged.parcel }
-    requires came { CameBy ports.now at judged.way (last_of judged.parcel.packet.hops) judged.parcel.next }
+    requires verdict { judged.verdict
+        ≡ parcel_verdict judged.parcel turning.now.board.now false judged.way turning.now.at }
+    requires of_net { All (λ s. IsOfNet turning.now.opening.now s) (stamps_of judged.parcel.first judged.parcel.later) }
+    requires few { length judged.parcel.packet.restamps ≤ turning.now.restamps }
+    requires room { HasRoomOf turning.now.opening.now turning.now.restamps judged.parcel }
+    requires came { CameBy turning.now.ports.now turning.now.at judged.way (last_of judged.parcel.packet.hops)
+        judged.parcel.next }
     ensures acts { MatchResult result
-        (λ to. (h : Hop) × (q : Parcel) × GoesOnAs board.now judged.way at judged.parcel h q × (h.node ≡ to)
-        × SentOver ports.now outs.old.items outs.new.items h q)
-        (λ o. (refused : Bool) × (v : Verdict) × SettlesAs board.now refused judged.way at judged.parcel v o
-        × (outs.new.items ≡ outs.old.items) × WasFullFor R.was_full ports.now outs.old.items v) }
+        (λ to. (h : Hop) × (q : Parcel)
+        × GoesOnAs turning.now.board.now judged.way turning.now.at judged.parcel h q × (h.node ≡ to)
+        × SentOver turning.now.ports.now outs.old.items outs.new.items h q)
+        (λ o. (refused : Bool) × (v : Verdict)
+        × SettlesAs turning.now.board.now refused judged.way turning.now.at judged.parcel v o
+        × (outs.new.items ≡ outs.old.items) × WasFullFor R.was_full turning.now.ports.now outs.old.items v) }
     ensures lines { lines_out outs.new.items ≡ lines_out outs.old.items }
 {
     let Judged {
@@ -128,14 +135,14 @@ pub fn pass_on<R: Moments<Parcel>>(
         verdict,
     } = judged;
     let _stamp = parcel.stamp();
-    let (parcel, hop) = match parcel.act(board, way, at, verdict) {
+    let (parcel, hop) = match parcel.act(turning.board, way, turning.at, verdict) {
         Ok(onward) => onward,
         Err(outcome) => return Err(outcome),
     };
-    let port = port_of_hop(ports, hop);
+    let port = port_of_hop(turning.ports, hop);
     let out = &mut outs[port];
     match out.send(rt, parcel) {
         Ok(()) => Ok(hop.node),
-        Err(full) => Err(full.item.refused(hop, board.version())),
+        Err(full) => Err(full.item.refused(hop, turning.board.version())),
     }
 }

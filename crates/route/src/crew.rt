@@ -1,7 +1,7 @@
 //! Who makes the plans of a run of the program.
 use crate::progress::Progress;
+use ir_exports::{LineCrew, prefixes_text_in_threads};
 use ir_graph::Graph;
-use ir_lines::{LineCrew, prefixes_text_in_threads};
 use ir_lookup::Row;
 use ir_model::Kind;
 use ir_numbering::Numbering;

@@ -9,7 +9,7 @@ use Rattle.ir_core.specs.declared.event.OpenError.TheVariants as errors
 use Rattle.ir_core.specs.Codes.{open_error_of}
 use Rattle.ir_cli.specs.Answer.{Refused}
 use Rattle.ir_cli.specs.Lines.{opening_line}
-use Rattle.ir_walk.specs.Alone.{IsWalkOfPlan}
+use Rattle.ir_show.specs.Alone.{IsWalkOfPlan}
 use Rattle.ir_answer.specs.declared.look.Show.TheVariants.{Between}
 use Rattle.ir_answer.specs.Looks.{Says}
 use Rattle.ir_answer.specs.Plans.{AnswersText}

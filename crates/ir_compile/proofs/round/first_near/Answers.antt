@@ -1,66 +1,28 @@
-use Rattle.std.proofs.Common.{◌<◌, ◌≤◌, ◌+◌, ℕ, subst, sym, ◌∙◌, inl, inr, ap, arith}
-use Rattle.std.proofs.lemmas.Bool.{cases_eq}
-use Rattle.std.specs.Prelude.{slice_index}
-use Rattle.ir_model.specs.Choices.{label_from}
+use Rattle.std.proofs.Common.{◌≤◌, ◌+◌, ℕ, ap, sym, subst, ◌∙◌, arith, slice_index}
 use Rattle.ir_model.proofs.Going.{from_differs}
 use Rattle.ir_model.proofs.Steps.{Steps}
+use Rattle.ir_compile.proofs.Rounds.{steps_of}
 use Rattle.ir_compile.proofs.round.first_near.Goals as goal
-use Rattle.ir_compile.proofs.round.first_near.Goals.{then-steps-fewest, else-steps-fewest}
 
-pub steps_from-steps-requires-clause-off : goal.steps_from-steps-requires-clause-off
-steps_from-steps-requires-clause-off c = λ e.
-    from_differs c.args.n c.args.own 0 c.loop-t.t c.requires.own (let l = c.loop-t.auto.t in omega arith) (let i = c.last_near-last.ensures.inside in omega (arith, c.loop-t-test.true)) (sym e ∙ c.label_at.ensures.from)
+pub round_from-steps-requires-clause-off : goal.round_from-steps-requires-clause-off
+round_from-steps-requires-clause-off c = λ e. from_differs c.args.n c.args.own 0 1 c.requires.own (omega arith) c.requires.two (sym e ∙ c.label_at-first.ensures.from)
 
-pub loop-t-preserved : goal.loop-t-preserved
-loop-t-preserved c =
-    let v = c.loop-t.invariant in
-    let n = c.args.n in
-    let counts = c.args.counts.now in
-    let inside : c.loop-t.t < n = let i = c.last_near-last.ensures.inside in omega (arith, c.loop-t-test.true) in
-    let here : Steps n counts (label_from n c.args.own c.loop-t.t) 0 c.steps_from-steps.result =
-    subst (λ (x : ℕ). Steps n counts x 0 c.steps_from-steps.result) c.label_at.ensures.from c.steps_from-steps.ensures in
-    elim c.if-steps-fewest.branch [
-      | then-steps-fewest w ↦
-          let less = w.if-steps-fewest.true in
-          rw (w.best-is, w.fewest-is) (record {
-            off_own = (let l = c.loop-t.auto.t in omega arith);
-            earlier = omega arith;
-            in_round = inside;
-            from = here;
-            before = λ i some l. let o = v.near i some l in (o.0, o.1, omega (arith, o.2));
-            near = λ i some l. elim (cases_eq i c.loop-t.t) [
-              | inl e ↦ (c.steps_from-steps.result, subst (λ (x : ℕ). Steps n counts (label_from n c.args.own x) 0 c.steps_from-steps.result) (sym e) here, omega arith)
-              | inr ne ↦ let o = v.near i some (omega arith) in (o.0, o.1, omega (arith, o.2))
-            ];
-          })
-      | else-steps-fewest w ↦
-          let more = w.if-steps-fewest.false in
-          let earlier = v.earlier in
-          rw (w.best-is, w.fewest-is) (record {
-            off_own = v.off_own;
-            earlier = omega arith;
-            in_round = v.in_round;
-            from = v.from;
-            before = v.before;
-            near = λ i some l. elim (cases_eq i c.loop-t.t) [
-              | inl e ↦ (c.steps_from-steps.result, subst (λ (x : ℕ). Steps n counts (label_from n c.args.own x) 0 c.steps_from-steps.result) (sym e) here, more)
-              | inr ne ↦ v.near i some (omega arith)
-            ];
-          })
-    ]
+pub first_to-requires-clause-first : goal.first_to-requires-clause-first
+first_to-requires-clause-first c =
+    subst (λ (x : ℕ). Steps c.args.n c.args.counts.now x 0 c.round_from-steps.result.0) c.label_at-first.ensures.from
+    (steps_of c.args.n c.args.counts.now c.label_at-first.result c.round_from-steps.result.0 0 (c.args.n + c.round_from-steps.result.1) (omega arith) c.round_from-steps.ensures)
 
 pub returns : goal.returns
 returns c =
-    let v = c.loop-t.invariant in
+    let v = c.first_to.ensures in
     let at = c.label_at-first.ensures.from in
     record {
       off_own = v.off_own;
       in_round = v.in_round;
-      steps = c.loop-t.fewest;
+      steps = v.steps;
       from = v.from;
       before = v.before;
       near = λ i some l up.
           let up' = subst (λ (x : ℕ). i ≤ 1 + x) (ap (λ (x : ℕ). slice_index c.args.counts.now x) (sym at)) up in
-          let b = c.last_near-last.ensures.near i l up' in
-          v.near i some (omega (arith, c.loop-t-test.false));
+          v.near i some (c.last_near.ensures.near i l up');
     }

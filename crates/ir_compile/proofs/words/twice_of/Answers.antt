@@ -1,11 +1,12 @@
-use Rattle.std.proofs.Common.{length, ap}
-use Rattle.ir_compile.proofs.PortBits.{rounds_none, rounds_more}
+use Rattle.std.proofs.Common.{◌++◌, ℕ, List, take, ap, ◌∙◌}
+use Rattle.std.proofs.lemmas.List.{get_or-take, length-take-le}
+use Rattle.ir_compile.proofs.PortBits.{rounds_of}
 use Rattle.ir_compile.proofs.words.twice_of.Goals as goal
 
-pub loop-i-init : goal.loop-i-init
-loop-i-init c = rounds_none c.args.n c.args.own c.args.words.now c.in_ok-twice.twice.items (ap length c.in_ok-twice.ensures.items)
-
-pub loop-i-preserved : goal.loop-i-preserved
-loop-i-preserved c =
-    rw (c.in_ok-push.ensures.items)
-    (rounds_more c.args.n c.args.own c.args.words.now c.loop-i.i c.loop-i.twice.items c.word_at.result c.loop-i.invariant c.word_at.ensures.own c.word_at.ensures.others)
+pub returns : goal.returns
+returns c =
+    let n : ℕ = c.args.n in
+    let words : List ℕ = c.args.words.now in
+    let part : List ℕ = take n words in
+    rounds_of n c.args.own words part c.extend_from_slice-2.new.self.items c.requires.own (length-take-le n words c.requires.every) (λ i l. get_or-take n words i 0 l)
+    (c.in_ok-extend_from_slice-2.ensures.items ∙ ap (λ (xs : List ℕ). xs ++ part) (c.in_ok-extend_from_slice.ensures.items ∙ ap (λ (xs : List ℕ). xs ++ part) c.in_ok-twice.ensures.items))

@@ -27,14 +27,12 @@ take_apart-requires-clause-slots c =
 pub gather-requires-clause-entries : goal.gather-requires-clause-entries
 gather-requires-clause-entries c =
     let outs_are : c.append_slots.new.into.items ≡ map (λ (s : Out). Some s) c.args.injected.items = c.append_slots.ensures.items ∙ ap (λ (xs : List (Option Out)). xs ++ map (λ (s : Out). Some s) c.args.injected.items) c.requires.rows.outs.0 in
-    subst (λ (es : List ℕ). ArePaired es c.append_slots.new.into.items c.take_apart.new.inboxes.items) (sym c.as_slice.ensures.value)
-    (subst (λ (slots : List (Option Out)). ArePaired c.args.net.now.entries.items slots c.take_apart.new.inboxes.items) (sym outs_are)
-    (inboxes_paired c.args.net.now c.args.injected.items c.take_apart.new.inboxes.items c.take_apart.new.takers.items c.take_apart.new.senders.items c.requires.injected c.take_apart.ensures.rows))
+    subst (λ (slots : List (Option Out)). ArePaired c.args.net.now.entries.items slots c.take_apart.new.inboxes.items) (sym outs_are)
+    (inboxes_paired c.args.net.now c.args.injected.items c.take_apart.new.inboxes.items c.take_apart.new.takers.items c.take_apart.new.senders.items c.requires.injected c.take_apart.ensures.rows)
 
 pub gather-requires-clause-ways : goal.gather-requires-clause-ways
 gather-requires-clause-ways c =
-    subst (λ (ps : List ℕ). ArePaired ps c.take_apart.new.senders.items c.take_apart.new.takers.items) (sym c.as_slice-2.ensures.value)
-    (ways_paired c.args.net.now c.take_apart.new.inboxes.items c.take_apart.new.takers.items c.take_apart.new.senders.items c.take_apart.ensures.rows)
+    ways_paired c.args.net.now c.take_apart.new.inboxes.items c.take_apart.new.takers.items c.take_apart.new.senders.items c.take_apart.ensures.rows
 
 pub gather-requires-clause-places_in : goal.gather-requires-clause-places_in
 gather-requires-clause-places_in c =

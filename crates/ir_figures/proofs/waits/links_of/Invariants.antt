@@ -1,4 +1,4 @@
-use Rattle.ir_cycles.specs.Arcs.{marks_of}
+use Rattle.ir_figures.specs.Arcs.{marks_of}
 use Rattle.ir_figures.specs.Exits.{exits_before, AreLinks}
 use Rattle.ir_figures.specs.Waits.{Waits}
 use Rattle.ir_figures.proofs.waits.links_of.Given as goal

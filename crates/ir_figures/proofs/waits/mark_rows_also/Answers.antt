@@ -1,8 +1,8 @@
 use Rattle.std.proofs.Common.{◌≡◌, ◌<◌, ◌+◌, Bool, List, [], length, slice_index_or, sym, subst, ◌∙◌, arith}
 use Rattle.std.specs.Global.{Vec}
 use Rattle.std.proofs.lemmas.List.{get_or_read, map-set}
-use Rattle.ir_cycles.specs.Arcs.{marks_of}
-use Rattle.ir_cycles.proofs.Marks.{marks_len, marks_at}
+use Rattle.ir_figures.specs.Arcs.{marks_of}
+use Rattle.ir_figures.proofs.Marks.{marks_len, marks_at}
 use Rattle.ir_figures.specs.Exits.{AreMarkedAlso, AreRowsMarkedAlso}
 use Rattle.ir_figures.proofs.Also.{rows_more}
 use Rattle.ir_figures.proofs.waits.mark_rows_also.Goals as goal

@@ -1,4 +1,4 @@
-use Rattle.ir_cycles.specs.Arcs.{marks_of}
+use Rattle.ir_figures.specs.Arcs.{marks_of}
 use Rattle.ir_figures.specs.Exits.{AreRowsMarkedAlso}
 use Rattle.ir_figures.proofs.waits.mark_rows_also.Given as goal
 

@@ -1,7 +1,7 @@
 use Rattle.std.proofs.Common.{◌≡◌, ◌+◌, ◌<◌, ◌++◌, ◌∷◌, [], ℕ, Bool, List, length, slice_index, ap, sym, subst, ◌∙◌, arith}
 use Rattle.ir_model.specs.Topology.{Topology, IsTopology, node_count, ports_of}
 use Rattle.ir_model.proofs.Walks.{port_facts}
-use Rattle.ir_cycles.specs.Arcs.{marks_of}
+use Rattle.ir_figures.specs.Arcs.{marks_of}
 use Rattle.ir_figures.specs.Exits.{exits_before, AreLinks}
 use Rattle.ir_figures.specs.Waits.{Waits}
 use Rattle.ir_figures.proofs.Offsets.{degree_le, before_more}

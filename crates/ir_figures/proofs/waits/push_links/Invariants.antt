@@ -1,5 +1,5 @@
 use Rattle.std.proofs.Common.{◌+◌}
-use Rattle.ir_cycles.specs.Arcs.{marks_of}
+use Rattle.ir_figures.specs.Arcs.{marks_of}
 use Rattle.ir_figures.specs.Exits.{exits_before, AreLinks}
 use Rattle.ir_figures.specs.Waits.{Waits}
 use Rattle.ir_figures.proofs.waits.push_links.Given as goal

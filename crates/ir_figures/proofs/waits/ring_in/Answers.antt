@@ -1,5 +1,5 @@
 use Rattle.std.proofs.Common.{arith}
-use Rattle.ir_cycles.proofs.Marks.{marks_len}
+use Rattle.ir_figures.proofs.Marks.{marks_len}
 use Rattle.ir_figures.proofs.waits.ring_in.Goals as goal
 
 pub ring_of-requires : goal.ring_of-requires

@@ -1,7 +1,7 @@
 use Rattle.std.proofs.Common.{subst, arith}
 use Rattle.ir_model.specs.Topology.{Topology, node_count}
-use Rattle.ir_cycles.specs.Arcs.{marks_of}
-use Rattle.ir_cycles.proofs.Marks.{marks_len}
+use Rattle.ir_figures.specs.Arcs.{marks_of}
+use Rattle.ir_figures.proofs.Marks.{marks_len}
 use Rattle.ir_figures.specs.Exits.{AreExits}
 use Rattle.ir_figures.specs.Waits.{Waits}
 use Rattle.ir_figures.proofs.Results.{ok_none_then, ok_some_then}

@@ -1,8 +1,8 @@
 use Rattle.std.proofs.Common.{◌≡◌, ◌<◌, ℕ, Bool, List, length, sym, subst, arith}
 use Rattle.std.specs.Global.{Vec}
 use Rattle.ir_model.specs.Topology.{Topology, node_count}
-use Rattle.ir_cycles.specs.Arcs.{marks_of, width_of}
-use Rattle.ir_cycles.proofs.Marks.{marks_len}
+use Rattle.ir_figures.specs.Arcs.{marks_of, width_of}
+use Rattle.ir_figures.proofs.Marks.{marks_len}
 use Rattle.ir_figures.specs.Exits.{exits_before, AreExits, AreLinks}
 use Rattle.ir_figures.specs.Waits.{Waits, WaitsInEither}
 use Rattle.ir_figures.proofs.Results.{ok_none_then, ok_some_then}

@@ -3,15 +3,16 @@ use Rattle.std.proofs.lemmas.Result.{IfOk-weaker}
 use Rattle.std.specs.Prelude.{slice_index}
 use Rattle.ir_model.specs.Topology.{node_count}
 use Rattle.ir_model.proofs.Steps.{longest_are_steps, steps_are_chosen}
+use Rattle.ir_compile.proofs.Rounds.{longest_run_on}
 use Rattle.ir_plan.specs.CompactRows.{MayTake}
 use Rattle.ir_plan.proofs.CompactRows.{may_choices, chosen_of_may}
 use Rattle.ir_plan.proofs.compact.chosen_ports.Goals as goal
 
-pub ports_of_runs-requires-clause-two : goal.ports_of_runs-requires-clause-two
-ports_of_runs-requires-clause-two c = omega (arith, c.requires.node, c.nodes-nodes.ensures.count, c.if-nodes-eq1.false)
+pub ports_of_longest-requires-clause-two : goal.ports_of_longest-requires-clause-two
+ports_of_longest-requires-clause-two c = omega (arith, c.requires.node, c.nodes-nodes.ensures.count, c.if-nodes-eq1.false)
 
-pub ports_of_runs-requires-clause-steps : goal.ports_of_runs-requires-clause-steps
-ports_of_runs-requires-clause-steps c =
+pub ports_of_longest-requires-clause-steps : goal.ports_of_longest-requires-clause-steps
+ports_of_longest-requires-clause-steps c =
     let net = c.args.topology.now in
     let numbers = c.args.numbering.now in
     let u = c.args.u in
@@ -24,6 +25,14 @@ ports_of_runs-requires-clause-steps c =
     let valid = may_choices net ok numbers.order numbers.labels named u c.requires.node tied in
     rw (c.nodes-nodes.ensures.count, c.label_of.ensures, c.as_slice.ensures.value)
     (longest_are_steps n own (MayTake net numbers.order own) two valid c.in_ok-counts.counts.items c.in_ok-counts.ports.items c.in_ok-counts.ensures.longest c.in_ok-counts.ensures.counts)
+
+pub ports_of_longest-requires-clause-on : goal.ports_of_longest-requires-clause-on
+ports_of_longest-requires-clause-on c =
+    let net = c.args.topology.now in
+    let numbers = c.args.numbering.now in
+    let own = slice_index numbers.labels c.args.u in
+    rw (c.nodes-nodes.ensures.count, c.label_of.ensures, c.as_slice.ensures.value)
+    (longest_run_on (node_count net) own (MayTake net numbers.order own) c.in_ok-counts.counts.items c.in_ok-counts.ports.items c.in_ok-counts.ensures.longest)
 
 pub returns : goal.returns
 returns c =
@@ -39,8 +48,8 @@ returns c =
     let valid = may_choices net ok numbers.order numbers.labels named u c.requires.node tied in
     let counts = c.in_ok-counts.counts.items in
     let ports = c.in_ok-counts.ports.items in
-    let made = rw (c.nodes-nodes.ensures.count, c.label_of.ensures, c.as_slice.ensures.value, c.as_slice-2.ensures.value) at c.ports_of_runs.ensures in
-    IfOk-weaker c.ports_of_runs.result _ _
+    let made = rw (c.nodes-nodes.ensures.count, c.label_of.ensures, c.as_slice.ensures.value, c.as_slice-2.ensures.value) at c.ports_of_longest.ensures in
+    IfOk-weaker c.ports_of_longest.result _ _
     (λ held round. (
       tied,
       chosen_of_may net ok numbers.order numbers.labels named u c.requires.node held.items

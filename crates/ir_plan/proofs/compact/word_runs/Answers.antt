@@ -1,7 +1,5 @@
-use Rattle.std.proofs.Common.{◌≡◌, ◌∙◌, ◌≤◌, ◌<◌, ◌≢◌, ℕ, List, length, ap, subst, arith}
+use Rattle.std.proofs.Common.{ℕ, List, length, ap, subst, arith}
 use Rattle.std.proofs.lemmas.Result.{IfOk-weaker}
-use Rattle.std.specs.Prelude.{slice_index}
-use Rattle.ir_model.specs.Topology.{node_count}
 use Rattle.ir_lanes.specs.Marks.{AreTied}
 use Rattle.ir_plan.proofs.CompactRows.{words_some, words_longest}
 use Rattle.ir_plan.proofs.compact.word_runs.Goals as goal

@@ -14,28 +14,28 @@ use Rattle.ir_worker.proofs.passing.pass_on.Goals as goal
 pub act-requires-clause-due : goal.act-requires-clause-due
 act-requires-clause-due g c =
     let p = c.args.judged.parcel in
-    due_at c.args.opening.now (present_stamp p.first p.later) (knows (present_stamp p.first p.later)) refl c.requires.plan (now_of_net c.args.opening.now p.first p.later c.requires.of_net).1
-    p.packet p.next c.args.at c.args.judged.way c.args.ports.now c.requires.ports c.stamp-stamp.ensures.under_way c.stamp-stamp.ensures.last c.requires.came
+    due_at c.args.turning.now.opening.now (present_stamp p.first p.later) (knows (present_stamp p.first p.later)) refl c.requires.plan (now_of_net c.args.turning.now.opening.now p.first p.later c.requires.of_net).1
+    p.packet p.next c.args.turning.now.at c.args.judged.way c.args.turning.now.ports.now c.requires.ports c.stamp-stamp.ensures.under_way c.stamp-stamp.ensures.last c.requires.came
 
 pub port_of_hop-port-requires : goal.port_of_hop-port-requires
 port_of_hop-port-requires g c =
     let p = c.args.judged.parcel in
-    let there = port_there (knows c.args.opening.now).topology (knows (present_stamp p.first p.later)) (now_of_net c.args.opening.now p.first p.later c.requires.of_net).1 c.args.at p.packet.dest c.in-Ok.onward.1 c.in-Ok.ensures.table in
+    let there = port_there (knows c.args.turning.now.opening.now).topology (knows (present_stamp p.first p.later)) (now_of_net c.args.turning.now.opening.now p.first p.later c.requires.of_net).1 c.args.turning.now.at p.packet.dest c.in-Ok.onward.1 c.in-Ok.ensures.table in
     subst (λ (xs : List Hop). ∥ ((j : ℕ) × (slice_get xs j ≡ Some c.in-Ok.onward.1)) ∥₁) (sym c.requires.ports) there
 
 pub index_mut-out-requires : goal.index_mut-out-requires
 index_mut-out-requires g c =
-    let lt = slice_get_within c.args.ports.now c.port_of_hop-port.result c.in-Ok.onward.1 c.port_of_hop-port.ensures in
-    let many = as_many (λ (s : Out). s.channel.place) c.args.outs.now.items (λ (h : Hop). net_place c.args.opening.now c.args.restamps c.args.at h.node) c.args.ports.now c.requires.outs in
+    let lt = slice_get_within c.args.turning.now.ports.now c.port_of_hop-port.result c.in-Ok.onward.1 c.port_of_hop-port.ensures in
+    let many = as_many (λ (s : Out). s.channel.place) c.args.outs.now.items (λ (h : Hop). net_place c.args.turning.now.opening.now c.args.turning.now.restamps c.args.turning.now.at h.node) c.args.turning.now.ports.now c.requires.outs in
     omega (arith, c.args.outs.now.ok.0)
 
 pub send-requires-after_bounds : goal.send-requires-after_bounds
 send-requires-after_bounds g c κs within =
-    let lt = slice_get_within c.args.ports.now c.port_of_hop-port.result c.in-Ok.onward.1 c.port_of_hop-port.ensures in
-    let many = as_many (λ (s : Out). s.channel.place) c.args.outs.now.items (λ (h : Hop). net_place c.args.opening.now c.args.restamps c.args.at h.node) c.args.ports.now c.requires.outs in
+    let lt = slice_get_within c.args.turning.now.ports.now c.port_of_hop-port.result c.in-Ok.onward.1 c.port_of_hop-port.ensures in
+    let many = as_many (λ (s : Out). s.channel.place) c.args.outs.now.items (λ (h : Hop). net_place c.args.turning.now.opening.now c.args.turning.now.restamps c.args.turning.now.at h.node) c.args.turning.now.ports.now c.requires.outs in
     let on = c.in-Ok.ensures.acts in
-    goes_out c.args.opening.now c.args.restamps c.args.at c.args.ports.now c.args.outs.now.items c.requires.outs c.args.judged.parcel c.in-Ok.onward.0 c.requires.of_net c.requires.few c.requires.room c.in-Ok.onward.1 c.port_of_hop-port.result c.index_mut-out.result.now
-    (elsewhere c.args.opening.now c.args.at c.port_of_hop-port.result c.args.ports.now c.in-Ok.onward.1 c.requires.ports c.port_of_hop-port.ensures)
+    goes_out c.args.turning.now.opening.now c.args.turning.now.restamps c.args.turning.now.at c.args.turning.now.ports.now c.args.outs.now.items c.requires.outs c.args.judged.parcel c.in-Ok.onward.0 c.requires.of_net c.requires.few c.requires.room c.in-Ok.onward.1 c.port_of_hop-port.result c.index_mut-out.result.now
+    (elsewhere c.args.turning.now.opening.now c.args.turning.now.at c.port_of_hop-port.result c.args.turning.now.ports.now c.in-Ok.onward.1 c.requires.ports c.port_of_hop-port.ensures)
     on.first on.later (ap (λ (r : Record). r.restamps) on.packet) (ap (λ (r : Record). r.room) on.packet) c.in-Ok.ensures.here on.next c.port_of_hop-port.ensures (omega arith) c.index_mut-out.ensures.value
 
 pub refused-requires : goal.refused-requires
@@ -45,13 +45,13 @@ refused-requires g c =
 
 pub returns-in-Ok-send-clause-acts : goal.returns-in-Ok-send-clause-acts
 returns-in-Ok-send-clause-acts g c =
-    let lt = slice_get_within c.args.ports.now c.port_of_hop-port.result c.in-Ok.onward.1 c.port_of_hop-port.ensures in
-    let many = as_many (λ (s : Out). s.channel.place) c.args.outs.now.items (λ (h : Hop). net_place c.args.opening.now c.args.restamps c.args.at h.node) c.args.ports.now c.requires.outs in (
+    let lt = slice_get_within c.args.turning.now.ports.now c.port_of_hop-port.result c.in-Ok.onward.1 c.port_of_hop-port.ensures in
+    let many = as_many (λ (s : Out). s.channel.place) c.args.outs.now.items (λ (h : Hop). net_place c.args.turning.now.opening.now c.args.turning.now.restamps c.args.turning.now.at h.node) c.args.turning.now.ports.now c.requires.outs in (
       c.in-Ok.onward.1,
       c.in-Ok.onward.0,
       c.in-Ok.ensures.acts,
       refl,
-      sent_over c.args.ports.now c.args.outs.now.items c.port_of_hop-port.result c.in-Ok.onward.1 c.index_mut-out.result.now c.send.new.self c.in-Ok.onward.0 c.port_of_hop-port.ensures (omega arith) c.index_mut-out.ensures.value c.in-Ok-send.ensures.sent,
+      sent_over c.args.turning.now.ports.now c.args.outs.now.items c.port_of_hop-port.result c.in-Ok.onward.1 c.index_mut-out.result.now c.send.new.self c.in-Ok.onward.0 c.port_of_hop-port.ensures (omega arith) c.index_mut-out.ensures.value c.in-Ok-send.ensures.sent,
     )
 
 pub returns-in-Ok-send-clause-lines : goal.returns-in-Ok-send-clause-lines
@@ -60,12 +60,12 @@ returns-in-Ok-send-clause-lines g c =
 
 pub returns-in-Err-send-clause-acts : goal.returns-in-Err-send-clause-acts
 returns-in-Err-send-clause-acts g c =
-    let lt = slice_get_within c.args.ports.now c.port_of_hop-port.result c.in-Ok.onward.1 c.port_of_hop-port.ensures in
-    let many = as_many (λ (s : Out). s.channel.place) c.args.outs.now.items (λ (h : Hop). net_place c.args.opening.now c.args.restamps c.args.at h.node) c.args.ports.now c.requires.outs in
+    let lt = slice_get_within c.args.turning.now.ports.now c.port_of_hop-port.result c.in-Ok.onward.1 c.port_of_hop-port.ensures in
+    let many = as_many (λ (s : Out). s.channel.place) c.args.outs.now.items (λ (h : Hop). net_place c.args.turning.now.opening.now c.args.turning.now.restamps c.args.turning.now.at h.node) c.args.turning.now.ports.now c.requires.outs in
     let kept = c.in-Err-send.ensures.sent in (
       true,
       NoRoom c.in-Ok.onward.1,
-      settles_full c.args.board.now c.args.judged.way c.args.at c.args.judged.parcel c.in-Ok.onward.1 c.in-Ok.onward.0 c.in-Err-send.full.item c.in-Ok.ensures.acts kept.0 c.refused.result c.refused.ensures.packet c.refused.ensures.stamp c.refused.ensures.later (c.refused.ensures.version ∙ c.version.ensures),
+      settles_full c.args.turning.now.board.now c.args.judged.way c.args.turning.now.at c.args.judged.parcel c.in-Ok.onward.1 c.in-Ok.onward.0 c.in-Err-send.full.item c.in-Ok.ensures.acts kept.0 c.refused.result c.refused.ensures.packet c.refused.ensures.stamp c.refused.ensures.later (c.refused.ensures.version ∙ c.version.ensures),
       set_kept c.args.outs.now.items c.port_of_hop-port.result c.send.new.self c.index_mut-out.result.now c.index_mut-out.ensures.value kept.1,
       (
         c.port_of_hop-port.result,

@@ -16,7 +16,7 @@ push_tied-requires-clause-words c =
     let b : ℕ = c.loop-batch.batch in
     let inside = ap (λ (m : PortMarks). m.begins) c.self.view_is in
     let lists = ap (λ (m : PortMarks). m.batches) c.self.view_is in
-    let b_in : b * 16 < length c.args.order.now = omega (arith, c.loop-batch-test.true, c.div_ceil-count.ensures) in
+    let b_in : b * 16 < length c.args.order.now = omega (arith, c.loop-batch-test.true, c.div_ceil-batches.ensures) in
     let begin = begin_read net c.args.order.now marks c.requires.marks u c.requires.node c.self.inside.begins.items inside c.index-begin.result.now c.index-begin.ensures in
     let words : c.as_slice.result.now ≡ slice_index_or marks.batches b [] =
     c.as_slice.ensures.value ∙ words_read c.self.inside.batches.items marks.batches lists b (omega (arith, b_in, c.requires.marks.enough)) c.index.result.now c.index.ensures in
@@ -34,7 +34,7 @@ loop-batch-preserved c =
     let new : List ℕ = c.push_tied.new.tied.items in
     let inside = ap (λ (m : PortMarks). m.begins) c.self.view_is in
     let lists = ap (λ (m : PortMarks). m.batches) c.self.view_is in
-    let b_in : b * 16 < length c.args.order.now = omega (arith, c.loop-batch-test.true, c.div_ceil-count.ensures) in
+    let b_in : b * 16 < length c.args.order.now = omega (arith, c.loop-batch-test.true, c.div_ceil-batches.ensures) in
     let begin = begin_read net c.args.order.now marks c.requires.marks u c.requires.node c.self.inside.begins.items inside c.index-begin.result.now c.index-begin.ensures in
     let words : c.as_slice.result.now ≡ slice_index_or marks.batches b [] =
     c.as_slice.ensures.value ∙ words_read c.self.inside.batches.items marks.batches lists b (omega (arith, b_in, c.requires.marks.enough)) c.index.result.now c.index.ensures in

@@ -1,8 +1,0 @@
-use Rattle.std.proofs.Common.{◌≡◌, ◌++◌, flat_map, string_bytes}
-use Rattle.std.specs.List.{range_with_len}
-use Rattle.ir_model.specs.Graph.{names}
-use Rattle.ir_circle.specs.Ring.{edge_of_ring}
-use Rattle.ir_circle.proofs.ring.push_ring_edges.Given as goal
-
-abbrev pub invariant-loop-d : goal.invariant-loop-d
-invariant-loop-d l = string_bytes l.text ≡ string_bytes l.fn.text ++ flat_map (edge_of_ring (names l.graph) l.plan) (range_with_len 0 l.d)

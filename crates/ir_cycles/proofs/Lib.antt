@@ -1,4 +1,0 @@
-pub mod Marks
-pub mod Rings
-pub mod Start
-pub mod Steps

@@ -1,4 +1,0 @@
--- what contracts promise
-pub mod Arcs
--- what bodies use
-pub mod Search

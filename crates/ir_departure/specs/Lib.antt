@@ -1,2 +1,0 @@
--- what contracts promise
-pub mod Leaving

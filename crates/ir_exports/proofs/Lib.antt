@@ -1,0 +1,10 @@
+pub mod Goings
+pub mod Senders
+pub mod RowStarts
+pub mod NodeTables
+pub mod Entries
+pub mod NodePorts
+pub mod RangeTexts
+pub mod SameLines
+pub mod NodeTexts
+pub mod Written

@@ -1,0 +1,24 @@
+//! What other programs read of a plan: the forwarding tables of its nodes and where what is sent by them goes, their ranges
+//! of labels, the order of the labels, and the circle of labels with the intervals of a node.
+#![tactic(auto)]
+
+mod circle;
+mod crew;
+mod laws;
+mod order;
+mod prefixes;
+mod ranges;
+mod table;
+mod threads;
+
+pub use circle::{circle_dot, circle_svg};
+pub use crew::LineCrew;
+pub use laws::{
+    beginnings_of_lines_keep_to_walks, disjoint_lines_keep_to_walks, lines_go_all_the_way,
+    text_is_determined_by_lines,
+};
+pub use order::order_text;
+pub use prefixes::prefixes_text;
+pub use ranges::{ranges_of, ranges_text};
+pub use table::table_of;
+pub use threads::prefixes_text_in_threads;

@@ -1,0 +1,180 @@
+//! The text of a plan's forwarding tables.
+ghost use Rattle.std.specs.Prelude.{◌≡◌, ◌<◌, ◌≤◌, ◌++◌, Bool, IfOk, IfSome, List, OnOk, All, [], length, flat_map, string_bytes};
+ghost use Rattle.ir_model.specs.{Graph.{Name, names}, Topology.{node_count, ports_of}, Plan.IsPlan};
+ghost use Rattle.ir_trace.specs.Rows.{spaced};
+ghost use Rattle.ir_show.specs.Words.{line_text};
+ghost use Rattle.ir_exports.specs.Before.{AreWritten};
+ghost use Rattle.ir_exports.specs.PrefixesText.{entry_words, goal_text, prefixes_head, prefix_node_words, prefix_text, IsPrefixesOf};
+
+use crate::table::table_of;
+use ir_graph::Graph;
+use ir_plan::Plan;
+use ir_prefix::{Line, width};
+use ir_show::plan_text::kind_text;
+use ir_trace::text::{name_of, push_name, push_next_number, push_word};
+use std::alloc::{AllocError, Global};
+
+/// Writes a space and a prefix.
+fn push_prefix(text: &mut String, value: u16, length: u8) -> Result<(), AllocError>
+    ensures { OnOk result (string_bytes text.new ≡ string_bytes text.old ++ spaced (prefix_text value length)) }
+{
+    write!(text, " {value}/{length}")
+}
+
+/// Writes a space and the neighbour at a port of a node, or `-` where there is no port.
+fn push_goal(
+    text: &mut String,
+    graph: &Graph,
+    plan: &Plan,
+    u: u16,
+    port: Option<u16>,
+) -> Result<(), AllocError>
+    requires nodes { node_count plan.now.topology ≡ length graph.now }
+    requires plan { IsPlan plan.now }
+    requires node { u < length graph.now }
+    requires port { IfSome port (λ p. p < length (ports_of plan.now.topology u)) }
+    ensures { OnOk result (string_bytes text.new ≡ string_bytes text.old
+        ++ spaced (goal_text (names graph.now) plan.now.topology u port)) }
+{
+    match port {
+        Some(port) => push_name(text, graph, plan.hop(u, port).node),
+        None => push_word(text, "-"),
+    }
+}
+
+/// Writes a line of a node.
+fn push_entry(
+    text: &mut String,
+    graph: &Graph,
+    plan: &Plan,
+    u: u16,
+    line: &Line,
+) -> Result<(), AllocError>
+    requires nodes { node_count plan.now.topology ≡ length graph.now }
+    requires plan { IsPlan plan.now }
+    requires node { u < length graph.now }
+    requires port { IfSome line.now.port (λ p. p < length (ports_of plan.now.topology u)) }
+    ensures { OnOk result (string_bytes text.new ≡ string_bytes text.old
+        ++ flat_map spaced (entry_words (names graph.now) plan.now.topology u line.now)) }
+{
+    push_prefix(text, line.value, line.length)?;
+    push_goal(text, graph, plan, u, line.port)?;
+    Ok(())
+}
+
+/// Writes the lines of a node.
+fn push_entries(
+    text: &mut String,
+    graph: &Graph,
+    plan: &Plan,
+    u: u16,
+    table: &[Line],
+) -> Result<(), AllocError>
+    requires nodes { node_count plan.now.topology ≡ length graph.now }
+    requires plan { IsPlan plan.now }
+    requires node { u < length graph.now }
+    requires ports { All (λ m. IfSome m.port (λ p. p < length (ports_of plan.now.topology u))) table.now }
+    ensures { OnOk result (string_bytes text.new ≡ string_bytes text.old
+        ++ flat_map spaced (flat_map (entry_words (names graph.now) plan.now.topology u) table.now)) }
+{
+    for line in table {
+        push_entry(text, graph, plan, u, line)?;
+    }
+    Ok(())
+}
+
+/// Writes the line of text of a node.
+#[tactic(auto, using(ir_show::proofs::PlanLines::words_of_a_line))]
+pub fn push_node(
+    text: &mut String,
+    graph: &Graph,
+    plan: &Plan,
+    u: u16,
+    table: &[Line],
+) -> Result<(), AllocError>
+    requires nodes { node_count plan.now.topology ≡ length graph.now }
+    requires plan { IsPlan plan.now }
+    requires node { u < length graph.now }
+    requires ports { All (λ m. IfSome m.port (λ p. p < length (ports_of plan.now.topology u))) table.now }
+    ensures { OnOk result (string_bytes text.new ≡ string_bytes text.old
+        ++ line_text (prefix_node_words (names graph.now) plan.now u table.now)) }
+{
+    text.push_str(name_of(graph, u))?;
+    push_next_number(text, plan.label_of(u) as usize)?;
+    push_entries(text, graph, plan, u, table)?;
+    text.push_str("\n")?;
+    Ok(())
+}
+
+/// Writes the lines of each node, the table of one node after the other, and answers how many lines there are.
+fn push_nodes(
+    alloc: Global,
+    text: &mut String,
+    graph: &Graph,
+    plan: &Plan,
+    is_disjoint: bool,
+) -> Result<usize, AllocError>
+    requires { node_count plan.now.topology ≡ length graph.now }
+    ensures { IfOk result (λ lines. AreWritten is_disjoint (names graph.now) plan.now
+        (node_count plan.now.topology) lines (string_bytes text.old) (string_bytes text.new)) }
+{
+    let mut lines = 0;
+    for u in 0..plan.nodes() {
+        let table = table_of(alloc, plan, u as u16, is_disjoint)?;
+        push_node(text, graph, plan, u as u16, table.as_slice())?;
+        let _bytes = text.len();
+        lines += table.len();
+    }
+    Ok(lines)
+}
+
+/// Writes the first line.
+fn push_head(text: &mut String, plan: &Plan, bits: u8, lines: usize) -> Result<(), AllocError>
+    ensures { OnOk result (string_bytes text.new ≡ string_bytes text.old
+        ++ line_text (prefixes_head plan.now bits lines)) }
+{
+    text.push_str("prefixes")?;
+    push_word(text, kind_text(plan.kind()))?;
+    push_next_number(text, plan.nodes())?;
+    push_next_number(text, bits as usize)?;
+    push_next_number(text, lines)?;
+    text.push_str("\n")?;
+    Ok(())
+}
+
+/// The text of the forwarding tables of a plan's nodes: `prefixes KIND N BITS LINES`, and for each node its name, its
+/// label and its lines, each as `VALUE/LENGTH` and the neighbour, or `-` where the numbers are unreachable. They are
+/// those of `table_of`, so the text is determined up to which of several lists of the fewest lines stand there.
+/// Condition: the plan is over the graph's network. It is refused for memory alone. Takes O(n * n log n), for n nodes.
+/// For users of the library.
+pub fn prefixes_text(
+    alloc: Global,
+    graph: &Graph,
+    plan: &Plan,
+    is_disjoint: bool,
+) -> Result<String, AllocError>
+    requires { node_count plan.now.topology ≡ length graph.now }
+    ensures { IfOk result (λ text. IsPrefixesOf is_disjoint (names graph.now) plan.now (string_bytes text)) }
+{
+    let mut tables = String::new(alloc);
+    let lines = push_nodes(alloc, &mut tables, graph, plan, is_disjoint)?;
+    text_of_lines(alloc, plan, lines, tables.as_str())
+}
+
+/// The whole text, of the lines of all nodes, and how many these are.
+pub fn text_of_lines(
+    alloc: Global,
+    plan: &Plan,
+    lines: usize,
+    tables: &str,
+) -> Result<String, AllocError>
+    ensures { IfOk result (λ text. (is_disjoint : Bool) (nodes : List Name)
+        → AreWritten is_disjoint nodes plan.now (node_count plan.now.topology) lines [] tables.now
+        → IsPrefixesOf is_disjoint nodes plan.now (string_bytes text)) }
+{
+    let bits = width(plan.nodes() as u16);
+    let mut text = String::new(alloc);
+    push_head(&mut text, plan, bits, lines)?;
+    text.push_str(tables)?;
+    Ok(text)
+}

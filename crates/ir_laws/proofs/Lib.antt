@@ -1,4 +1,0 @@
-pub mod Line
-pub mod Ordered
-pub mod Ranked
-pub mod Compact

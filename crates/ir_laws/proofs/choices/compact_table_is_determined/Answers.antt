@@ -1,5 +1,0 @@
-use Rattle.ir_laws.proofs.Compact.{compact_same}
-use Rattle.ir_laws.proofs.choices.compact_table_is_determined.Goals as goal
-
-pub returns : goal.returns
-returns c net order labels table other named a b u d hu hd = compact_same net order labels named table other a b u d hu hd

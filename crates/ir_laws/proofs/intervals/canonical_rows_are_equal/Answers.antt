@@ -1,5 +1,0 @@
-use Rattle.ir_laws.proofs.Ordered.{canonical_same}
-use Rattle.ir_laws.proofs.intervals.canonical_rows_are_equal.Goals as goal
-
-pub returns : goal.returns
-returns c n own ports row other a b = canonical_same n own ports row other a b

@@ -1,5 +1,0 @@
-use Rattle.ir_model.proofs.Tables.{distance_own}
-use Rattle.ir_laws.proofs.walks.distance_to_itself.Goals as goal
-
-pub returns : goal.returns
-returns c net d in_net = distance_own net d in_net

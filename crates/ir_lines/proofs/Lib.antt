@@ -1,9 +1,0 @@
-pub mod Goings
-pub mod Senders
-pub mod RowStarts
-pub mod NodeTables
-pub mod Entries
-pub mod NodePorts
-pub mod RangeTexts
-pub mod SameLines
-pub mod NodeTexts

@@ -1,5 +1,0 @@
-use Rattle.ir_lines.proofs.Senders.{beginnings_keep}
-use Rattle.ir_lines.proofs.laws.beginnings_of_lines_keep_to_walks.Goals as goal
-
-pub returns : goal.returns
-returns c s bits tables counts x is are x_in = beginnings_keep s is bits tables are counts x x_in

@@ -1,5 +1,0 @@
-use Rattle.ir_lines.proofs.Senders.{disjoint_keep}
-use Rattle.ir_lines.proofs.laws.disjoint_lines_keep_to_walks.Goals as goal
-
-pub returns : goal.returns
-returns c s bits tables lines x is are part x_in = disjoint_keep s is bits tables are x x_in lines part

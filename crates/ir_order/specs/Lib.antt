@@ -1,4 +1,0 @@
--- what contracts promise
-pub mod Order
--- what bodies use
-pub mod Steps

@@ -1,6 +1,0 @@
-use Rattle.std.proofs.Common.{◌≡◌, ◌<◌, ◌≤◌, ℕ, Some}
-use Rattle.ir_model.specs.Compiled.{port_to}
-use Rattle.ir_ranges.proofs.run_end.Given as goal
-
-abbrev pub invariant-loop-end : goal.invariant-loop-end
-invariant-loop-end l = (d : ℕ) → l.label ≤ d → d < l.end → port_to l.ports d ≡ Some l.port

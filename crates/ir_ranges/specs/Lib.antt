@@ -1,4 +1,0 @@
--- what contracts promise
-pub mod Ranges
--- what bodies use
-pub mod Runs

@@ -1,0 +1,98 @@
+//! The row of one node, made alone.
+ghost use Rattle.std.specs.Prelude.{◌≡◌, ◌≢◌, ◌<◌, IfOk, length, map, slice_index};
+ghost use Rattle.ir_model.specs.{declared.Kind.TheVariants.Shortest, Topology.node_count, Walk.IsConnected};
+ghost use Rattle.ir_model.specs.{Plan.AreLabels, Compiled.{IsDestinations, IsCanonical}};
+ghost use Rattle.ir_tables.specs.FromNode.{AreLeastPorts, held_at};
+ghost use Rattle.ir_plan.specs.NodeRows.{IsNodeRow};
+
+use crate::alone::compact::compact_row;
+use ir_compile::canonical_row;
+use ir_lookup::Row;
+use ir_model::Kind;
+use ir_numbering::Numbering;
+use ir_tables::{Outward, Topology};
+use std::alloc::{AllocError, Global};
+
+/// The row of a node in a plan of a kind other than Tree, made alone.
+pub fn row_at(
+    alloc: Global,
+    topology: &Topology,
+    numbering: &Numbering,
+    kind: Kind,
+    u: u16,
+) -> Result<Row, AllocError>
+    requires kind { kind ≢ Kind.Tree }
+    requires labels { AreLabels (node_count topology.now) numbering.now.order numbering.now.labels }
+    requires connected { IsConnected topology.now }
+    requires node { u < node_count topology.now }
+    ensures { IfOk result (λ row. IsNodeRow kind topology.now numbering.now.order numbering.now.parents
+        (slice_index numbering.now.labels u) row) }
+{
+    match kind {
+        Kind::Tree => unreachable!(),
+        Kind::Shortest => searched_row(alloc, topology, numbering, u),
+        Kind::Compact => compact_row(alloc, topology, numbering, u),
+    }
+}
+
+/// The row of a node in the shortest table, by a search from it. Takes O((n + m) log n), for n nodes and m links.
+fn searched_row(
+    alloc: Global,
+    topology: &Topology,
+    numbering: &Numbering,
+    u: u16,
+) -> Result<Row, AllocError>
+    requires labels { AreLabels (node_count topology.now) numbering.now.order numbering.now.labels }
+    requires connected { IsConnected topology.now }
+    requires node { u < node_count topology.now }
+    ensures { IfOk result (λ row. IsNodeRow Shortest topology.now numbering.now.order numbering.now.parents
+        (slice_index numbering.now.labels u) row) }
+{
+    let ways = Outward::from(alloc, topology, u)?;
+    shortest_row(alloc, topology, numbering, u, ways.least_ports())
+}
+
+/// The row of a node, by its least ports that lead nearer, by node.
+fn shortest_row(
+    alloc: Global,
+    topology: &Topology,
+    numbering: &Numbering,
+    u: u16,
+    by_node: &[Option<u16>],
+) -> Result<Row, AllocError>
+    requires labels { AreLabels (node_count topology.now) numbering.now.order numbering.now.labels }
+    requires node { u < node_count topology.now }
+    requires ports { AreLeastPorts topology.now u by_node.now }
+    ensures { IfOk result (λ row. IsNodeRow Shortest topology.now numbering.now.order numbering.now.parents
+        (slice_index numbering.now.labels u) row) }
+{
+    let nodes = topology.nodes() as u16;
+    let ports = ports_by_label(alloc, nodes, numbering, by_node)?;
+    row_of(alloc, nodes, numbering.label_of(u), ports.as_slice())
+}
+
+/// The ports by label, of ports by node.
+fn ports_by_label(
+    alloc: Global,
+    nodes: u16,
+    numbering: &Numbering,
+    by_node: &[Option<u16>],
+) -> Result<Vec<Option<u16>>, AllocError>
+    requires labels { AreLabels nodes numbering.now.order numbering.now.labels }
+    requires nodes { length by_node.now ≡ nodes }
+    ensures { IfOk result (λ ports. ports.items ≡ map (held_at by_node.now) numbering.now.order) }
+{
+    let mut ports = Vec::with_capacity(alloc, nodes as usize)?;
+    for label in 0..nodes {
+        ports.push(by_node[numbering.node_of(label) as usize])?;
+    }
+    Ok(ports)
+}
+
+/// The canonical row of ports that are known to be a list of destinations.
+pub fn row_of(alloc: Global, nodes: u16, own: u16, ports: &[Option<u16>]) -> Result<Row, AllocError>
+    requires { IsDestinations nodes own ports.now }
+    ensures { IfOk result (λ row. IsCanonical nodes own ports.now row) }
+{
+    canonical_row(alloc, nodes, own, ports)
+}
