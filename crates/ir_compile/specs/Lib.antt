@@ -3,5 +3,6 @@ pub mod Code
 pub mod Allowed
 pub mod PortBits
 pub mod Rounds
+pub mod Plain
 -- what bodies use
 pub mod Runs

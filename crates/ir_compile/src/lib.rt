@@ -1,9 +1,11 @@
 //! Destinations compiled to a row of interval starts (van Leeuwen and Tan 1987).
 #![tactic(auto)]
 
-ghost use Rattle.std.specs.Prelude.{◌≡◌, ◌≢◌, ◌<◌, length, vec_len, IsTrue, IfOk, OnOk, ◌↔◌, [], ◌∷◌, ◌++◌};
+ghost use Rattle.std.specs.Prelude.{◌≡◌, ◌≢◌, ◌+◌, ◌*◌, ◌<◌, ◌≤◌, length, map, take, vec_len, IsTrue, IfOk, OnOk, ◌↔◌, [], ◌∷◌, ◌++◌, List, Option, ℕ};
+ghost use Rattle.std.specs.Option.{unwrap_or};
 ghost use Rattle.ir_model.specs.Row.{Start, intervals_of};
-ghost use Rattle.ir_model.specs.Compiled.{IsDestinations, IsChange, IsCanonical, Fits, IsFewest, label_after, predecessor};
+ghost use Rattle.ir_model.specs.Compiled.{IsDestinations, IsCanonical, Fits, IsFewest, label_after, predecessor};
+ghost use Rattle.ir_compile.specs.Plain.{StandFor};
 ghost use Rattle.ir_model.proofs.Partial.{IsPartial};
 ghost use Rattle.ir_lookup.specs.Words.{starts_of};
 
@@ -55,53 +57,108 @@ pub fn canonical_row(
     ensures fits { IfOk result (λ row. Fits n own ports.now (intervals_of row)) }
     ensures fewest { IfOk result (λ row. IsFewest n own ports.now (length row)) }
 {
-    let mut words = changes(alloc, n, own, ports)?;
+    let plain = plain_ports(alloc, ports)?;
+    row_of_ports(alloc, n, own, plain.as_slice())
+}
+
+// The ports by label; 0 where there is none.
+fn plain_ports(alloc: Global, ports: &[Option<u16>]) -> Result<Vec<u16>, AllocError>
+    ensures { IfOk result (λ plain. plain.items ≡ map (λ port. unwrap_or port 0) ports.now) }
+{
+    let mut plain = Vec::with_capacity(alloc, ports.len())?;
+    for port in ports {
+        plain.push(port.unwrap_or(0))?;
+    }
+    Ok(plain)
+}
+
+/// The row that `canonical_row` makes, of ports by label that are plain numbers; whatever stands at the own label is passed
+/// over. Conditions: there is a port for each of `n` labels, and `own` is one of them. It is refused for memory alone.
+/// Takes O(n).
+pub fn row_of_ports(alloc: Global, n: u16, own: u16, plain: &[u16]) -> Result<Row, AllocError>
+    requires own { own < n }
+    requires every { length plain.now ≡ n }
+    ensures { (ports : List (Option ℕ)) → StandFor n own plain.now ports
+        → IfOk result (λ row. IsCanonical n own ports row) }
+{
+    let mut words = changes(alloc, n, own, plain)?;
     if words.is_empty() {
-        push_only(&mut words, n, own, ports)?;
+        push_only(&mut words, n, own, plain)?;
     }
     Ok(Row::of(words))
 }
 
 // The one start after the own label, where the port never changes.
-fn push_only(
-    words: &mut Vec<u32>,
-    n: u16,
-    own: u16,
-    ports: &[Option<u16>],
-) -> Result<(), AllocError>
-    requires destinations { IsDestinations n own ports.now }
-    requires changes { IsPartial n own ports.now n (starts_of words.old.items) }
+fn push_only(words: &mut Vec<u32>, n: u16, own: u16, plain: &[u16]) -> Result<(), AllocError>
+    requires own { own < n }
+    requires every { length plain.now ≡ n }
     requires none { vec_len words.old ≡ 0 }
-    ensures { OnOk result (IsCanonical n own ports.now (starts_of words.new.items)) }
+    ensures { (ports : List (Option ℕ)) → StandFor n own plain.now ports
+        → IsPartial n own ports n (starts_of words.old.items)
+        → OnOk result (IsCanonical n own ports (starts_of words.new.items)) }
 {
     if n > 1 {
         let first = after(n, own);
-        push_start(words, first, ports[first as usize].unwrap())?;
+        push_start(words, first, plain[first as usize])?;
     }
     Ok(())
 }
 
 // The starts at the labels where the port changes.
-fn changes(alloc: Global, n: u16, own: u16, ports: &[Option<u16>]) -> Result<Vec<u32>, AllocError>
-    requires { IsDestinations n own ports.now }
-    ensures { IfOk result (λ words. IsPartial n own ports.now n (starts_of words.items)) }
+fn changes(alloc: Global, n: u16, own: u16, plain: &[u16]) -> Result<Vec<u32>, AllocError>
+    requires own { own < n }
+    requires every { length plain.now ≡ n }
+    ensures { (ports : List (Option ℕ)) → StandFor n own plain.now ports
+        → IfOk result (λ words. IsPartial n own ports n (starts_of words.items)) }
 {
-    let mut words = Vec::new(alloc);
-    for d in 0..n {
-        if is_change(n, own, ports, d) {
-            push_start(&mut words, d, ports[d as usize].unwrap())?;
-        }
-    }
-    Ok(words)
+    let mut words = vec![in alloc; 0; n as usize]?;
+    let count = mark_changes(words.as_mut_slice(), n, own, plain);
+    Vec::from_slice(alloc, &words[..count])
 }
 
-// Whether the port of d differs from that of its predecessor in the round.
-fn is_change(n: u16, own: u16, ports: &[Option<u16>], d: u16) -> bool
-    requires destinations { IsDestinations n own ports.now }
-    requires label { d < n }
-    ensures { IsTrue result ↔ IsChange n own ports.now d }
+// Puts the starts at the labels where the port changes to the front of words, and answers how many there are.
+fn mark_changes(words: &mut [u32], n: u16, own: u16, plain: &[u16]) -> usize
+    requires own { own < n }
+    requires every { length plain.now ≡ n }
+    requires room { length words.old ≡ n }
+    ensures length { length words.new ≡ n }
+    ensures few { result ≤ n }
+    ensures starts { (ports : List (Option ℕ)) → StandFor n own plain.now ports
+        → IsPartial n own ports n (starts_of (take result words.new)) }
 {
-    d != own && ports[d as usize] != ports[before(n, own, d) as usize]
+    let mut count = 0usize;
+    let mut last = plain[before(n, own, 0) as usize];
+    for d in 0..n {
+        let port = plain[d as usize];
+        count = put(
+            words,
+            count,
+            word_of(d, port),
+            is_change(own, d, port, last),
+        );
+        last = if d != own { port } else { last };
+    }
+    count
+}
+
+// Whether the port of a label other than the own one differs from the last.
+#[inline(always)]
+fn is_change(own: u16, d: u16, port: u16, last: u16) -> bool
+    ensures { IsTrue result ↔ (d ≢ own) × (port ≢ last) }
+{
+    (d != own) & (port != last)
+}
+
+// Puts a word behind the first so many, and answers how many are kept then: one more, or as many. There is no branch.
+#[inline(always)]
+fn put(words: &mut [u32], count: usize, word: u32, is_kept: bool) -> usize
+    requires { count < length words.old }
+    ensures length { length words.new ≡ length words.old }
+    ensures kept { IsTrue is_kept → (result ≡ count + 1) × (take result words.new ≡ take count words.old ++ word ∷ []) }
+    ensures left { (IsTrue is_kept → ⊥) → (result ≡ count) × (take result words.new ≡ take count words.old) }
+{
+    words[count] = word;
+    count + is_kept as usize
 }
 
 // Adds the word of a start.
@@ -109,8 +166,16 @@ fn push_start(words: &mut Vec<u32>, label: u16, port: u16) -> Result<(), AllocEr
     ensures { OnOk result (let s : Start = record { label = label; port = port } in starts_of words.new.items
         ≡ starts_of words.old.items ++ s ∷ []) }
 {
-    words.push(label as u32 * WORD_BASE + port as u32)?;
+    words.push(word_of(label, port))?;
     Ok(())
+}
+
+// The word of a start.
+#[inline(always)]
+fn word_of(label: u16, port: u16) -> u32
+    ensures { result ≡ label * 65536 + port }
+{
+    label as u32 * WORD_BASE + port as u32
 }
 
 // The label after the own one, in cyclic order.

@@ -8,12 +8,13 @@ ghost use Rattle.ir_exports.specs.PrefixesText.{IsPrefixesOf};
 use crate::prefixes::prefixes_text;
 use crate::threads::prefixes_text_in_threads;
 use ir_graph::Graph;
-use ir_plan::{Alone, Crew, Plan, Several};
+use ir_plan::{Alone, Plan, Several};
+use ir_show::TextCrew;
 use std::alloc::{AllocError, Global};
 use std::thread::Threads;
 
-/// Who makes plans and their forwarding tables. All crews make the same ones.
-pub trait LineCrew: Crew {
+/// Who makes plans, the lines of their texts and their forwarding tables. All crews make the same ones.
+pub trait LineCrew: TextCrew {
     /// The text that `prefixes_text` makes, its tables made in at most `most` threads, or in as many as suit the processors
     /// where it is None. Refused for memory alone, also in a thread.
     /// Condition: the plan is over the graph's network.

@@ -24,9 +24,9 @@ impl Model for InwardLanes {
 }
 
 impl InwardLanes {
-    /// The distances to sixteen nodes, the first of them in lane 0; or none, where they were not found in 64 sweeps over
-    /// all links, as where some node has no walk to one of them. Condition: they are nodes. It is refused for memory
-    /// alone. Takes O(n + m) for each sweep, for n nodes and m links.
+    /// The distances to sixteen nodes, the first of them in lane 0; or none, where they were not found in 64 sweeps and by
+    /// the work of 20 passes over all links, as where some node has no walk to one of them. Condition: they are nodes. It is
+    /// refused for memory alone. Takes O(n + m) for each sweep, for n nodes and m links.
     pub fn to(
         alloc: Global,
         topology: &Topology,

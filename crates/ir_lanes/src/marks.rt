@@ -27,7 +27,7 @@ impl Model for PortMarks {
 }
 
 impl PortMarks {
-    /// The marks for a list of nodes; or none, where the distances to some of them were not found in 64 sweeps. Condition:
+    /// The marks for a list of nodes; or none, where the distances to some of them were not found in time. Condition:
     /// they are nodes. It is refused for memory alone. Takes O(n + m) for each sweep of each sixteen of the list, for n
     /// nodes and m links.
     pub fn of(
@@ -137,7 +137,7 @@ impl PortMarks {
 }
 
 /// The words of all ports for a batch of sixteen nodes of a list, the first batch being 0; or none, where the distances to
-/// them were not found in 64 sweeps. Condition: they are nodes, and the list has such a batch. It is refused for memory
+/// them were not found in time. Condition: they are nodes, and the list has such a batch. It is refused for memory
 /// alone. Takes O(n + m) for each sweep, for n nodes and m links.
 pub fn words_to(
     alloc: Global,

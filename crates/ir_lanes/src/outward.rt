@@ -1,7 +1,7 @@
 //! The shortest ways from sixteen nodes: the distance to each node, and the least port that leads nearer to it.
-ghost use Rattle.std.specs.Prelude.{◌≡◌, ◌≢◌, ℕ, ◌+◌, ◌*◌, ◌^◌, ◌<◌, ◌≤◌, IfOk, IfSome, length, slice_index};
+ghost use Rattle.std.specs.Prelude.{◌≡◌, ◌≢◌, ℕ, ◌+◌, ◌*◌, ◌^◌, ◌<◌, ◌≤◌, IfOk, IfSome, length, map, slice_index};
 ghost use Rattle.ir_model.specs.Topology.{node_count, ports_of};
-ghost use Rattle.ir_tables.specs.FromNode.{AreFrom, AreLeastPorts};
+ghost use Rattle.ir_tables.specs.FromNode.{AreFrom};
 ghost use Rattle.ir_lanes.specs.{Lanes.{AreNear, far, in_lane}, Equation.IsSourceStart, Views.outward_lanes_of};
 ghost use Rattle.ir_lanes.specs.Outward.{AreOutwardLanes, OutwardLanes, lane_port, lane_weight, source_at};
 
@@ -27,10 +27,10 @@ impl Model for OutwardLanes {
 }
 
 impl OutwardLanes {
-    /// The ways from sixteen nodes, the first of them in lane 0; or none, where they were not found in 64 sweeps over all
-    /// links, as where a distance and the bits of a port take more than 31 bits, where some node has no walk to some node,
-    /// and of one node alone. Condition: they are nodes. It is refused for memory alone. Takes O(n + m) for each sweep,
-    /// for n nodes and m links.
+    /// The ways from sixteen nodes, the first of them in lane 0; or none, where they were not found in 64 sweeps and by the
+    /// work of 20 passes over all links, as where a distance and the bits of a port take more than 31 bits, where some node
+    /// has no walk to some node, and of one node alone. Condition: they are nodes. It is refused for memory alone. Takes
+    /// O(n + m) for each sweep, for n nodes and m links.
     pub fn from(
         alloc: Global,
         topology: &Topology,
@@ -76,30 +76,39 @@ impl OutwardLanes {
         Ok(weights)
     }
 
-    /// The least port of the node of a lane that leads nearer to each node, by node; none for itself. Condition: these are
-    /// the ways of the topology, and there is such a lane. It is refused for memory alone. Takes O(n), for n nodes.
-    pub fn least_ports(
+    /// The least port of the node of a lane that leads nearer to each of some nodes, one behind the other; what stands for
+    /// the lane's own node says nothing. Conditions: these are the ways of the topology, there is such a lane, and they are
+    /// its nodes. It is refused for memory alone. Takes O(n), for n nodes.
+    pub fn ports_along(
         &self,
         alloc: Global,
         topology: &Topology,
         lane: usize,
-    ) -> Result<Vec<Option<u16>>, AllocError>
+        nodes: &[u16],
+    ) -> Result<Vec<u16>, AllocError>
         requires ways { AreOutwardLanes topology.now self.now }
         requires lane { lane < 16 }
-        ensures { IfOk result (λ ports. AreLeastPorts topology.now (source_at self.now lane) ports.items) }
+        requires nodes { (i : ℕ) → i < length nodes.now → slice_index nodes.now i < node_count topology.now }
+        ensures { IfOk result (λ ports. ports.items ≡ map (lane_port self.now lane) nodes.now) }
     {
-        let nodes = topology.nodes();
-        let source = self.sources[lane] as usize;
-        let mut ports = Vec::with_capacity(alloc, nodes)?;
-        for v in 0..nodes {
-            let port = if v == source {
-                None
-            } else {
-                Some(self.port(lane, v))
-            };
-            ports.push(port)?;
-        }
+        let _nodes = topology.nodes();
+        let mut ports = vec![in alloc; 0; nodes.len()]?;
+        self.put_ports(topology, lane, nodes, ports.as_mut_slice());
         Ok(ports)
+    }
+
+    // Puts the ports to some nodes, one behind the other.
+    fn put_ports(&self, topology: &Topology, lane: usize, nodes: &[u16], ports: &mut [u16])
+        requires ways { AreOutwardLanes topology.now self.now }
+        requires lane { lane < 16 }
+        requires nodes { (i : ℕ) → i < length nodes.now → slice_index nodes.now i < node_count topology.now }
+        requires every { length ports.old ≡ length nodes.now }
+        ensures { ports.new ≡ map (lane_port self.now lane) nodes.now }
+    {
+        let _nodes = topology.nodes();
+        for (i, v) in nodes.iter().enumerate() {
+            ports[i] = self.port(lane, *v as usize);
+        }
     }
 
     // The weight of the way to a node.

@@ -137,6 +137,13 @@ impl Numbering {
         self.order[label as usize]
     }
 
+    /// The nodes by label.
+    pub fn order(&self) -> &[u16]
+        ensures { result.now ≡ self.now.order }
+    {
+        self.order.as_slice()
+    }
+
     /// The port of a node that leads to its parent; none at the root.
     pub fn parent(&self, node: u16) -> Option<u16>
         requires { node < length self.now.order }

@@ -6,6 +6,7 @@ pub mod TreeStarts
 pub mod CompactRows
 pub mod CompactPlans
 pub mod NodeRows
+pub mod LaneRows
 pub mod BatchRows
 pub mod DepthFirst
 pub mod Lists

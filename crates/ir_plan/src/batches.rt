@@ -7,8 +7,9 @@ ghost use Rattle.ir_lanes.specs.Outward.{AreOutwardLanes, source_at};
 ghost use Rattle.ir_plan.specs.{Shown.StandForTable, NodeRows.{AreRowsFrom, IsNodeRow}};
 
 use crate::patience::Patience;
-use crate::rows::{rows_by_nodes, searched_row, shortest_row};
+use crate::rows::{rows_by_nodes, searched_row};
 use crate::watch::{Unwatched, Watch};
+use ir_compile::row_of_ports;
 use ir_lanes::OutwardLanes;
 use ir_lookup::Row;
 use ir_model::Kind;
@@ -136,8 +137,9 @@ fn lane_row(
 {
     match found {
         Some(ways) => {
-            let ports = ways.least_ports(alloc, topology, lane)?;
-            shortest_row(alloc, topology, numbering, u, ports.as_slice())
+            let nodes = topology.nodes() as u16;
+            let ports = ways.ports_along(alloc, topology, lane, numbering.order())?;
+            row_of_ports(alloc, nodes, numbering.label_of(u), ports.as_slice())
         }
         None => searched_row(alloc, topology, numbering, u),
     }

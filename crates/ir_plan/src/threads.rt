@@ -10,7 +10,7 @@ ghost use Rattle.ir_plan.specs.{Shown.StandForTable, NodeRows.{AreNodeRows, AreR
 use crate::batches::{BATCH, LEAST_BATCHED, batch_rows, joined};
 use crate::patience::Patience;
 use crate::rows::row_at;
-use crate::ties::{Ties, all_found, are_held, order_of};
+use crate::ties::{Ties, all_found, are_held};
 use crate::watch::Watch;
 use ir_lanes::{PortMarks, words_to};
 use ir_lookup::Row;
@@ -135,7 +135,7 @@ fn ties_in_threads(
     if !are_held(topology) {
         return Ok(None);
     }
-    let order = order_of(alloc, topology, numbering)?;
+    let order = Vec::from_slice(alloc, numbering.order())?;
     let found = words_in_threads(rt, alloc, topology, order.as_slice(), most)?;
     let Some(batches) = all_found(alloc, found)? else {
         return Ok(None);

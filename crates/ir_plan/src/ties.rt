@@ -36,7 +36,7 @@ impl Ties {
         if !are_held(topology) {
             return Ok(None);
         }
-        let order = order_of(alloc, topology, numbering)?;
+        let order = Vec::from_slice(alloc, numbering.order())?;
         let Some(marks) = PortMarks::of(alloc, topology, order.as_slice())? else {
             return Ok(None);
         };
@@ -80,23 +80,6 @@ impl Ties {
 pub fn are_held(topology: &Topology) -> bool {
     let nodes = topology.nodes();
     nodes >= LEAST_BATCHED && topology.links().saturating_mul(nodes) / 4 <= MOST_MARK_BYTES
-}
-
-/// The nodes by label.
-pub fn order_of(
-    alloc: Global,
-    topology: &Topology,
-    numbering: &Numbering,
-) -> Result<Vec<u16>, AllocError>
-    requires { AreLabels (node_count topology.now) numbering.now.order numbering.now.labels }
-    ensures { IfOk result (λ order. order.items ≡ numbering.now.order) }
-{
-    let nodes = topology.nodes() as u16;
-    let mut order = Vec::with_capacity(alloc, nodes as usize)?;
-    for label in 0..nodes {
-        order.push(numbering.node_of(label))?;
-    }
-    Ok(order)
 }
 
 /// What was found for all, where something was found for each.

@@ -1,5 +1,5 @@
 -- The rows of a plan and their text.
-use Rattle.std.proofs.Common.{◌≡◌, ◌≢◌, ℕ, zero, suc, ◌+◌, ◌<◌, List, [], ◌∷◌, ◌++◌, length, take, get_or, Option, Some, None, option_map, decimal, slice_index, ⊎_elim, refl, sym, ap, subst, ◌∙◌, arith, append_assoc, flat_map}
+use Rattle.std.proofs.Common.{◌≡◌, ◌≢◌, ℕ, zero, suc, ◌+◌, ◌-◌, ◌<◌, ◌≤◌, List, [], ◌∷◌, ◌++◌, length, take, get_or, Option, Some, None, option_map, decimal, slice_index, ⊎_elim, refl, sym, ap, subst, ◌∙◌, arith, append_assoc, flat_map}
 use Rattle.std.proofs.lemmas.List.{append-nil, length-map, get_or-map, take_more}
 use Rattle.std.proofs.lemmas.Grind.{flat_map-append}
 use Rattle.std.proofs.lemmas.Option.{slice_get_within}
@@ -123,6 +123,18 @@ range_more a (suc n) =
     let sum : (a + 1) + n ≡ a + suc n = omega arith in
     ap (range_with_len a) one ∙ ap (λ ks. a ∷ ks) (range_more (a + 1) n ∙ ap (λ k. range_with_len (a + 1) n ++ k ∷ []) sum)
 
+-- two ranges, one behind the other
+pub range_joined : (a m n : ℕ) → range_with_len a m ++ range_with_len (a + m) n ≡ range_with_len a (m + n)
+range_joined a zero n =
+    let from : a + zero ≡ a = omega arith in
+    let all : zero + n ≡ n = omega arith in
+    ap (λ (k : ℕ). range_with_len k n) from ∙ ap (range_with_len a) (sym all)
+range_joined a (suc m) n =
+    let from : a + suc m ≡ (a + 1) + m = omega arith in
+    let all : suc m + n ≡ suc (m + n) = omega arith in
+    ap (λ (k : ℕ). a ∷ (range_with_len (a + 1) m ++ range_with_len k n)) from
+    ∙ ap (λ (ks : List ℕ). a ∷ ks) (range_joined (a + 1) m n) ∙ ap (range_with_len a) (sym all)
+
 -- one more node
 pub nodes_more : (line : ℕ → List ℕ) (n : ℕ) (head : List ℕ) → (head ++ flat_map line (range_with_len 0 n)) ++ line n ≡ head ++ flat_map line (range_with_len 0 (n + 1))
 nodes_more line n head =
@@ -131,3 +143,24 @@ nodes_more line n head =
     ∙ ap (λ t. head ++ t)
     (ap (λ t. flat_map line (range_with_len 0 n) ++ t) (sym (append-nil (line n))) ∙ sym (flat_map-append line (range_with_len 0 n) (n ∷ []))
     ∙ ap (flat_map line) (ap (λ (k : ℕ). range_with_len 0 n ++ k ∷ []) (sym last) ∙ sym (range_more 0 n)))
+
+-- the nodes from one on, to another
+pub lines_more : (line : ℕ → List ℕ) (from to : ℕ) (head : List ℕ) → from ≤ to
+    → (head ++ flat_map line (range_with_len 0 from)) ++ flat_map line (range_with_len from (to - from)) ≡ head ++ flat_map line (range_with_len 0 to)
+lines_more line from to head le =
+    let first : 0 + from ≡ from = omega arith in
+    let all : from + (to - from) ≡ to = omega (arith, le) in
+    append_assoc head (flat_map line (range_with_len 0 from)) (flat_map line (range_with_len from (to - from)))
+    ∙ ap (λ t. head ++ t)
+    (sym (flat_map-append line (range_with_len 0 from) (range_with_len from (to - from)))
+    ∙ ap (flat_map line)
+    (ap (λ (k : ℕ). range_with_len 0 from ++ range_with_len k (to - from)) (sym first) ∙ range_joined 0 from (to - from) ∙ ap (range_with_len 0) all))
+
+-- one node more of a block
+pub block_more : (line : ℕ → List ℕ) (a u : ℕ) → a ≤ u → flat_map line (range_with_len a (u - a)) ++ line u ≡ flat_map line (range_with_len a (u + 1 - a))
+block_more line a u le =
+    let last : a + (u - a) ≡ u = omega (arith, le) in
+    let more : (u - a) + 1 ≡ u + 1 - a = omega (arith, le) in
+    ap (λ t. flat_map line (range_with_len a (u - a)) ++ t) (sym (append-nil (line u)))
+    ∙ sym (flat_map-append line (range_with_len a (u - a)) (u ∷ []))
+    ∙ ap (flat_map line) (ap (λ (k : ℕ). range_with_len a (u - a) ++ k ∷ []) (sym last) ∙ sym (range_more a (u - a)) ∙ ap (range_with_len a) more)

@@ -6,6 +6,7 @@ pub mod StatsText
 pub mod Figures
 pub mod Quoted
 pub mod Drawing
+pub mod Blocks
 pub mod Alone
 pub mod Plans
 -- what bodies use

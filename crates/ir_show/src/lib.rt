@@ -2,17 +2,20 @@
 #![tactic(auto)]
 
 mod alone;
+mod crew;
 mod distances;
 mod draw;
 mod figures;
 mod laws;
 pub mod plan_text;
 mod stats;
+mod threads;
 mod walk;
 mod weights;
 mod worst;
 
 pub use alone::{needs_no_tour, plans_are_there, walk_text_alone};
+pub use crew::{Block, TextCrew};
 pub use draw::draw_text;
 pub use figures::{Figures, figures_of};
 pub use laws::{
@@ -20,5 +23,6 @@ pub use laws::{
     walk_text_is_determined,
 };
 pub use stats::{greatest_row, stats_text};
+pub use threads::lines_in_threads;
 pub use walk::walk_text;
 pub use worst::{Pair, Weighed};

@@ -1,19 +1,27 @@
 //! The text of a plan, which is not built: its words are written as they are made.
-ghost use Rattle.std.specs.Prelude.{◌≡◌, ◌<◌, [], ◌∷◌, IfOk, length, flat_map, slice_index_or, decimal, string_bytes, List, ℕ};
+ghost use Rattle.std.specs.Prelude.{◌≡◌, ◌<◌, ◌≤◌, [], ◌∷◌, Some, IfOk, length, flat_map, slice_index_or, decimal, string_bytes, List, ℕ};
 ghost use Rattle.ir_model.specs.{Graph.names, Topology.node_count, Plan.row_in};
 ghost use Rattle.ir_streams.specs.{Pouring.Pours, Writing.{Calls, Writes}};
 ghost use Rattle.ir_trace.specs.{Rows.spaced, Written.name_at};
-ghost use Rattle.ir_show.specs.Held.{ArePieces, AreSpaced, plan_text_held, IsHeld};
+ghost use Rattle.ir_show.specs.{Blocks.{ArePieces, AreSpaced, IsBlock, block_lines}, Held.{plan_text_held, IsHeld}};
 ghost use Rattle.ir_show.specs.{PlanText.{kind_text, start_words, plan_head, node_words, plan_text}, Words.line_text};
 
+use crate::crew::{Block, TextCrew};
 use ir_graph::Graph;
 use ir_model::Kind;
 use ir_plan::Plan;
-use ir_streams::{Parts, Writer};
+use ir_streams::{Parts, Texts, Writer};
 use ir_trace::text::{name_of, push_name, push_next_number};
 use itoa::Buffer;
 use std::alloc::{AllocError, Global};
 use std::marker::Model;
+
+/// How many starts the rows of a block of nodes have at least, where they are not the last: some mebibytes of text. A plan
+/// with fewer is written by the thread that calls alone.
+const BLOCK_STARTS: usize = 1 << 18;
+
+/// A block that is not the last has a multiple of so many nodes, so that threads get as many each.
+const BLOCK_NODES: usize = 16;
 
 /// The word of a kind.
 pub fn kind_text(kind: Kind) -> &'static str
@@ -47,11 +55,11 @@ fn pour_number<W: Writer>(parts: &mut Parts, writer: &mut W, n: usize)
 #[derive(Drop)]
 pub struct Pieces {
     graph: Graph,
-    plan: Plan,
+    pub(crate) plan: Plan,
     /// A space and a number, for each number below that of the nodes.
-    numbers: Vec<String>,
+    numbers: Texts,
     /// A space and a name, for each node.
-    names: Vec<String>,
+    names: Texts,
 }
 
 /// A space and a number.
@@ -74,24 +82,26 @@ fn spaced_name(alloc: Global, graph: &Graph, u: u16) -> Result<String, AllocErro
 }
 
 /// A space and the number, for each number below this one.
-fn spaced_numbers(alloc: Global, count: usize) -> Result<Vec<String>, AllocError>
-    ensures { IfOk result (λ texts. AreSpaced decimal count texts.items) }
+fn spaced_numbers(alloc: Global, count: usize) -> Result<Texts, AllocError>
+    ensures { IfOk result (λ texts. AreSpaced decimal count texts) }
 {
-    let mut texts = Vec::with_capacity(alloc, count)?;
+    let mut texts = Texts::with_capacity(alloc, count)?;
     for n in 0..count {
-        texts.push(spaced_number(alloc, n)?)?;
+        let text = spaced_number(alloc, n)?;
+        texts.push(text.as_bytes())?;
     }
     Ok(texts)
 }
 
 /// A space and the name, for each node.
-fn spaced_names(alloc: Global, graph: &Graph) -> Result<Vec<String>, AllocError>
-    ensures { IfOk result (λ texts. AreSpaced (name_at (names graph.now)) (length graph.now) texts.items) }
+fn spaced_names(alloc: Global, graph: &Graph) -> Result<Texts, AllocError>
+    ensures { IfOk result (λ texts. AreSpaced (name_at (names graph.now)) (length graph.now) texts) }
 {
     let count = graph.number_of_nodes();
-    let mut texts = Vec::with_capacity(alloc, count)?;
+    let mut texts = Texts::with_capacity(alloc, count)?;
     for u in 0..count {
-        texts.push(spaced_name(alloc, graph, u as u16)?)?;
+        let text = spaced_name(alloc, graph, u as u16)?;
+        texts.push(text.as_bytes())?;
     }
     Ok(texts)
 }
@@ -106,9 +116,9 @@ fn pour_start<W: Writer>(parts: &mut Parts, writer: &mut W, pieces: &Pieces, u: 
         (slice_index_or (row_in pieces.now.plan u) i (record { label = 0; port = 0 })))) writer.new parts.new }
 {
     let row = pieces.plan.row(u);
-    parts.push(writer, pieces.numbers[row.start(i) as usize].as_bytes());
+    parts.push_text(writer, &pieces.numbers, row.start(i) as usize);
     let hop = pieces.plan.hop(u, row.port(i));
-    parts.push(writer, pieces.names[hop.node as usize].as_bytes());
+    parts.push_text(writer, &pieces.names, hop.node as usize);
 }
 
 /// Writes the starts of a node's row.
@@ -153,6 +163,70 @@ fn pour_head<W: Writer>(parts: &mut Parts, writer: &mut W, plan: &Plan)
     parts.push(writer, b"\n");
 }
 
+/// Writes the lines of a block of nodes.
+fn pour_block<W: Writer>(parts: &mut Parts, writer: &mut W, pieces: &Pieces, block: Block)
+    requires pieces { ArePieces pieces.now }
+    requires block { IsBlock (length pieces.now.graph) block }
+    ensures { Pours W.contents W.wrote W.settled writer.old parts.old (block_lines pieces.now block)
+        writer.new parts.new }
+{
+    let _nodes = pieces.plan.nodes();
+    for u in block.from..block.to {
+        pour_node(parts, writer, pieces, u as u16);
+    }
+}
+
+/// Writes the line of a node as a text of its own, and answers whether the writer took it.
+pub(crate) fn write_node<W: Writer>(
+    mut parts: Parts,
+    writer: &mut W,
+    pieces: &Pieces,
+    u: u16,
+) -> bool
+    requires parts { parts ≡ Some [] }
+    requires pieces { ArePieces pieces.now }
+    requires node { u < length pieces.now.graph }
+    ensures { Writes result (W.contents writer.old) (W.contents writer.new)
+        (line_text (node_words (names pieces.now.graph) pieces.now.plan u)) }
+{
+    pour_node(&mut parts, writer, pieces, u);
+    parts.finish(writer)
+}
+
+/// Writes texts one after the other.
+fn pour_texts<W: Writer>(parts: &mut Parts, writer: &mut W, texts: &[Vec<u8>])
+    ensures { Pours W.contents W.wrote W.settled writer.old parts.old (flat_map (λ text. text.items) texts.now)
+        writer.new parts.new }
+{
+    for text in texts {
+        parts.push(writer, text.as_slice());
+    }
+}
+
+/// Writes the lines of a block of nodes, which a crew makes. None is made once a write failed.
+fn pour_block_by<C: TextCrew, W: Writer>(
+    crew: &C,
+    alloc: Global,
+    parts: &mut Parts,
+    writer: &mut W,
+    pieces: &Pieces,
+    block: Block,
+    most: Option<usize>,
+)
+    requires pieces { ArePieces pieces.now }
+    requires block { IsBlock (length pieces.now.graph) block }
+    ensures { Pours W.contents W.wrote W.settled writer.old parts.old (block_lines pieces.now block)
+        writer.new parts.new }
+{
+    if parts.has_failed() {
+        return;
+    }
+    match crew.lines(alloc, pieces, block, most) {
+        Some(texts) => pour_texts(parts, writer, texts.as_slice()),
+        None => pour_block(parts, writer, pieces, block),
+    }
+}
+
 /// Writes the text of a plan over a graph's network.
 fn pour_plan<W: Writer>(parts: &mut Parts, writer: &mut W, pieces: &Pieces)
     requires { ArePieces pieces.now }
@@ -160,8 +234,50 @@ fn pour_plan<W: Writer>(parts: &mut Parts, writer: &mut W, pieces: &Pieces)
         (plan_text (names pieces.now.graph) pieces.now.plan) writer.new parts.new }
 {
     pour_head(parts, writer, &pieces.plan);
-    for u in 0..pieces.plan.nodes() {
-        pour_node(parts, writer, pieces, u as u16);
+    let nodes = pieces.plan.nodes();
+    pour_block(parts, writer, pieces, Block { from: 0, to: nodes });
+}
+
+/// Where a block of nodes from one on ends: where their rows have `BLOCK_STARTS` starts, or behind the last.
+fn block_end(plan: &Plan, from: usize) -> usize
+    requires { from < node_count plan.now.topology }
+    ensures some { from < result }
+    ensures within { result ≤ node_count plan.now.topology }
+{
+    let mut starts = 0usize;
+    for u in from..plan.nodes() {
+        starts = starts.saturating_add(plan.row(u as u16).len());
+        if starts >= BLOCK_STARTS && (u - from) % BLOCK_NODES == BLOCK_NODES - 1 {
+            return u + 1;
+        }
+    }
+    plan.nodes()
+}
+
+/// Writes the text of a plan over a graph's network; a crew makes the lines of a large one, one block of nodes after the other.
+fn pour_plan_by<C: TextCrew, W: Writer>(
+    crew: &C,
+    alloc: Global,
+    parts: &mut Parts,
+    writer: &mut W,
+    pieces: &Pieces,
+    most: Option<usize>,
+)
+    requires { ArePieces pieces.now }
+    ensures { Pours W.contents W.wrote W.settled writer.old parts.old
+        (plan_text (names pieces.now.graph) pieces.now.plan) writer.new parts.new }
+{
+    if pieces.plan.labels() < BLOCK_STARTS {
+        pour_plan(parts, writer, pieces);
+        return;
+    }
+    pour_head(parts, writer, &pieces.plan);
+    let nodes = pieces.plan.nodes();
+    let mut from = 0;
+    while from < nodes {
+        let to = block_end(&pieces.plan, from);
+        pour_block_by(crew, alloc, parts, writer, pieces, Block { from, to }, most);
+        from = to;
     }
 }
 
@@ -209,6 +325,23 @@ impl PlanText {
     {
         let PlanText { pieces, mut parts } = self;
         pour_plan(&mut parts, writer, &pieces);
+        parts.finish(writer)
+    }
+
+    /// Does what `write` does. The lines of a large plan are made by a crew in at most `most` threads, or in as many as suit
+    /// the processors where it is None, some mebibytes at a time; where memory for them is refused, by the thread that calls.
+    pub fn write_by<C: TextCrew, W: Writer>(
+        self,
+        crew: &C,
+        alloc: Global,
+        most: Option<usize>,
+        writer: &mut W,
+    ) -> bool
+        ensures calls { Calls W.wrote W.settled result writer.old self writer.new }
+        ensures bytes { Writes result (W.contents writer.old) (W.contents writer.new) self }
+    {
+        let PlanText { pieces, mut parts } = self;
+        pour_plan_by(crew, alloc, &mut parts, writer, &pieces, most);
         parts.finish(writer)
     }
 }

@@ -2,3 +2,4 @@ pub mod Given
 pub mod Tried
 pub mod Sent
 pub mod Poured
+mod TextLemmas

@@ -2,5 +2,6 @@
 pub mod Reading
 pub mod Writing
 pub mod Pouring
+pub mod Texts
 -- what bodies use
 pub mod Room

@@ -9,6 +9,7 @@ mod call;
 mod parts;
 mod reader;
 mod reading;
+mod texts;
 mod writer;
 mod writing;
 
@@ -16,6 +17,7 @@ pub use call::CallError;
 pub use parts::Parts;
 pub use reader::Reader;
 pub use reading::{NoInput, read_text};
+pub use texts::Texts;
 pub use writer::Writer;
 pub use writing::write_text;
 

@@ -1,14 +1,21 @@
 //! A text, to a writer, in parts.
-ghost use Rattle.std.specs.{Prelude.{◌≡◌, ◌+◌, ◌≤◌, ◌++◌, [], Some, IfOk, IfSome, length, is_none}, Vec.vec_capacity};
-ghost use Rattle.ir_streams.specs.{declared.TheConstants.PART_BYTES, Room.IsRoom, Pouring.{Puts, Pours, Finishes}};
+ghost use Rattle.std.specs.{Prelude.{◌≡◌, ◌+◌, ◌<◌, ◌≤◌, ◌++◌, [], Some, IfOk, IfSome, length, is_none, take, slice_index_or}, Vec.vec_capacity};
+ghost use Rattle.ir_streams.specs.{declared.TheConstants.PART_BYTES, Room.{IsRoom, IsPart}, Pouring.{Puts, Pours, Finishes}};
 ghost use Rattle.std.specs.Prelude.{List, Option, ℕ};
 ghost use Rattle.ir_streams.specs.Room.{kept_back};
 
 use crate::PART_BYTES;
+use crate::texts::Texts;
 use crate::writer::Writer;
 use crate::writing::{put_all, write_text};
 use std::alloc::{AllocError, Global};
 use std::marker::Model;
+
+/// How many bytes are copied for a short text, whatever it has of them: so the copy has no branch.
+const SHORT_BYTES: usize = 16;
+
+/// By how many bytes what is kept back grows for short texts.
+const MORE_BYTES: usize = 4096;
 
 /// Keeps bytes back behind others. Condition: together they are a part at most.
 fn keep(kept: &mut Vec<u8>, bytes: &[u8])
@@ -18,6 +25,30 @@ fn keep(kept: &mut Vec<u8>, bytes: &[u8])
     ensures bytes { kept.new.items ≡ kept.old.items ++ bytes.now }
 {
     let _kept = kept.extend_from_slice(bytes);
+}
+
+/// Makes what is kept back longer, by bytes that count for nothing yet, where a part has room for them.
+fn lengthen(kept: &mut Vec<u8>)
+    requires { IsRoom kept.old }
+    ensures room { IsRoom kept.new }
+    ensures front { take (length kept.old.items) kept.new.items ≡ kept.old.items }
+{
+    if MORE_BYTES <= PART_BYTES - kept.len() {
+        let _kept = kept.extend_from_slice(&[0; MORE_BYTES]);
+    }
+}
+
+/// Puts bytes behind the first so many of others, of which so many count. Conditions: there is room, and so many of them.
+#[inline(always)]
+fn put_front(kept: &mut [u8], count: usize, bytes: &[u8], more: usize) -> usize
+    requires room { count + length bytes.now ≤ length kept.old }
+    requires more { more ≤ length bytes.now }
+    ensures length { length kept.new ≡ length kept.old }
+    ensures count { result ≡ count + more }
+    ensures bytes { take result kept.new ≡ take count kept.old ++ take more bytes.now }
+{
+    kept[count..count + bytes.len()].copy_from_slice(bytes);
+    count + more
 }
 
 /// Writes parts of what is kept back and these bytes behind it, and keeps the rest back. The answer is false where a write
@@ -46,7 +77,9 @@ fn pour<W: Writer>(kept: &mut Vec<u8>, writer: &mut W, bytes: &[u8]) -> bool
 /// failed no call is made of the writer.
 #[derive(Drop)]
 pub struct Parts {
+    /// Of these bytes the first `count` are kept back.
     kept: Vec<u8>,
+    count: usize,
     has_failed: bool,
 }
 
@@ -55,7 +88,7 @@ impl Model for Parts {
 
     ghost view = { kept_back };
 
-    ghost invariant = { λ parts. IsRoom parts.kept };
+    ghost invariant = { IsPart };
 }
 
 impl Parts {
@@ -66,6 +99,7 @@ impl Parts {
         let kept = Vec::with_capacity(alloc, PART_BYTES)?;
         Ok(Parts {
             kept,
+            count: 0,
             has_failed: false,
         })
     }
@@ -84,7 +118,39 @@ impl Parts {
         ensures few { IfSome self.new (λ kept. length kept ≤ PART_BYTES) }
     {
         if !self.has_failed {
+            self.kept.truncate(self.count);
             self.has_failed = !pour(&mut self.kept, writer, bytes);
+            self.count = self.kept.len();
+        }
+    }
+
+    // Makes room for a short text, where a part has it. Nothing more is kept back.
+    #[inline(always)]
+    fn make_room(&mut self)
+        ensures { self.new ≡ self.old }
+    {
+        if self.kept.len() - self.count < SHORT_BYTES {
+            lengthen(&mut self.kept);
+        }
+    }
+
+    /// More of the text, which is one of some texts: as `push` of its bytes, and faster where they are few. Condition: there
+    /// is such a one.
+    pub fn push_text<W: Writer>(&mut self, writer: &mut W, texts: &Texts, k: usize)
+        requires { k < length texts.now }
+        ensures writes { Pours W.contents W.wrote W.settled writer.old self.old (slice_index_or texts.now k [])
+            writer.new self.new }
+        ensures few { IfSome self.new (λ kept. length kept ≤ PART_BYTES) }
+    {
+        let (bytes, begin, end) = texts.held(k);
+        self.make_room();
+        let is_short = end - begin <= SHORT_BYTES && SHORT_BYTES <= bytes.len() - begin;
+        let has_room = SHORT_BYTES <= self.kept.len() - self.count;
+        if is_short && has_room && !self.has_failed {
+            let front = &bytes[begin..begin + SHORT_BYTES];
+            self.count = put_front(self.kept.as_mut_slice(), self.count, front, end - begin);
+        } else {
+            self.push(writer, &bytes[begin..end]);
         }
     }
 
@@ -93,6 +159,6 @@ impl Parts {
     pub fn finish<W: Writer>(self, writer: &mut W) -> bool
         ensures { Finishes W.contents W.wrote W.settled result writer.old self writer.new }
     {
-        !self.has_failed && write_text(writer, self.kept.as_slice())
+        !self.has_failed && write_text(writer, &self.kept[..self.count])
     }
 }

@@ -2,7 +2,9 @@
 
 ghost use Rattle.std.specs.Prelude.{◌≢◌, ◌<◌, ℕ, IsTrue, length, slice_index};
 
-use ir_compile::{CompileError, canonical_row, compile, is_destinations, runs_by_words};
+use ir_compile::{
+    CompileError, canonical_row, compile, is_destinations, row_of_ports, runs_by_words,
+};
 use ir_lookup::{Row, in_interval};
 use std::alloc::Global;
 use std::test::Fail;
@@ -104,6 +106,23 @@ fn is_known(alloc: Global, n: u16, case: &Case) -> bool {
         return false;
     }
     match canonical_row(alloc, n, case.own, case.ports) {
+        Ok(row) => has_starts(&row, case.starts) && is_row_of_ports(alloc, n, case),
+        Err(_) => false,
+    }
+}
+
+/// Whether the ports of a case as plain numbers have its starts, whatever stands at the own label.
+fn is_row_of_ports(alloc: Global, n: u16, case: &Case) -> bool {
+    let mut plain = Vec::new(alloc);
+    for port in case.ports {
+        if plain.push(port.unwrap_or(7)).is_err() {
+            return false;
+        }
+    }
+    if plain.len() != n as usize || case.own >= n {
+        return false;
+    }
+    match row_of_ports(alloc, n, case.own, plain.as_slice()) {
         Ok(row) => has_starts(&row, case.starts),
         Err(_) => false,
     }

@@ -38,12 +38,10 @@ fn ways_of_sixteen_by_hand(rt: HostRuntime) -> Result<(), Fail> {
     {
         return Err("other distances".into());
     }
-    let first = ways.least_ports(rt.alloc(), &topology, 0)?;
-    let last = ways.least_ports(rt.alloc(), &topology, 15)?;
-    let to_p = Some(0);
-    let to_q = Some(1);
-    if first.as_slice() != [to_q, to_q, to_q, to_q, None, to_q].as_slice()
-        || last.as_slice() != [None, to_p, to_q, to_q, to_p, to_q].as_slice()
+    let first = ways.ports_along(rt.alloc(), &topology, 0, &[5, 0, 1, 2, 3])?;
+    let last = ways.ports_along(rt.alloc(), &topology, 15, &[5, 4, 3, 2, 1])?;
+    if first.as_slice() != [1, 1, 1, 1, 1].as_slice()
+        || last.as_slice() != [1, 0, 1, 1, 0].as_slice()
     {
         return Err("other ports".into());
     }

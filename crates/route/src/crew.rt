@@ -6,6 +6,8 @@ use ir_lookup::Row;
 use ir_model::Kind;
 use ir_numbering::Numbering;
 use ir_plan::{Crew, Plan, columns_in_threads, distances_in_threads, rows_in_threads};
+use ir_show::plan_text::Pieces;
+use ir_show::{Block, TextCrew, lines_in_threads};
 use ir_tables::Topology;
 use std::alloc::{AllocError, Global};
 use std::thread::Threads;
@@ -60,6 +62,18 @@ impl<'a, R: Threads + Sync> Crew for Shown<'a, R> {
         most: Option<usize>,
     ) -> Result<Vec<Vec<u16>>, AllocError> {
         distances_in_threads(self.rt, alloc, columns, most)
+    }
+}
+
+impl<'a, R: Threads + Sync> TextCrew for Shown<'a, R> {
+    fn lines(
+        &self,
+        alloc: Global,
+        pieces: &Pieces,
+        block: Block,
+        most: Option<usize>,
+    ) -> Option<Vec<Vec<u8>>> {
+        lines_in_threads(self.rt, alloc, pieces, block, most)
     }
 }
 

@@ -1,27 +1,22 @@
-use Rattle.std.proofs.Common.{◌<◌, length, arith, sym, ◌∙◌}
-use Rattle.std.proofs.lemmas.Bool.{eqb-false}
-use Rattle.std.proofs.lemmas.List.{length-map}
+use Rattle.std.proofs.Common.{◌∙◌}
+use Rattle.std.proofs.lemmas.Result.{IfOk-weaker}
 use Rattle.ir_model.proofs.Canonical.{canonical_fits}
 use Rattle.ir_model.proofs.Fewest.{canonical_is_fewest}
-use Rattle.ir_model.proofs.Partial.{partial_full}
-use Rattle.ir_lookup.specs.Words.{start_of, starts_of}
+use Rattle.ir_compile.proofs.MarkedStarts.{plain_stands}
 use Rattle.ir_compile.proofs.canonical_row.Goals as goal
-use Rattle.ir_compile.proofs.canonical_row.Goals.{then-is_empty+in_ok-push_only, else-is_empty}
+
+pub row_of_ports-requires : goal.row_of_ports-requires
+row_of_ports-requires c =
+    let stand = plain_stands c.args.n c.args.own c.as_slice.result.now c.args.ports.now c.requires (c.as_slice.ensures.value ∙ c.in_ok-plain.ensures) in
+    record { own = c.requires.has_own; every = stand.every }
 
 pub returns-clause-canonical : goal.returns-clause-canonical
 returns-clause-canonical c =
-    rw c.of.ensures (elim c.if-is_empty.branch [
-      | then-is_empty+in_ok-push_only w ↦ rw w.words-is w.in_ok-push_only.ensures
-      | else-is_empty w ↦
-          let ne = eqb-false _ _ (sym c.is_empty.ensures ∙ w.if-is_empty.false) in
-          let items = c.in_ok-words.words.items in
-          let same = length-map items start_of in
-          let full : 0 < length (starts_of items) = omega arith in
-          rw w.words-is (partial_full _ _ _ c.requires.has_own _ c.in_ok-words.ensures full)
-    ])
+    c.row_of_ports.ensures c.args.ports.now
+    (plain_stands c.args.n c.args.own c.as_slice.result.now c.args.ports.now c.requires (c.as_slice.ensures.value ∙ c.in_ok-plain.ensures))
 
 pub returns-clause-fits : goal.returns-clause-fits
-returns-clause-fits c = canonical_fits _ _ _ c.requires _ (returns-clause-canonical c)
+returns-clause-fits c = IfOk-weaker c.row_of_ports.result _ _ (λ row is. canonical_fits _ _ _ c.requires _ is) (returns-clause-canonical c)
 
 pub returns-clause-fewest : goal.returns-clause-fewest
-returns-clause-fewest c = canonical_is_fewest _ _ _ c.requires _ (returns-clause-canonical c)
+returns-clause-fewest c = IfOk-weaker c.row_of_ports.result _ _ (λ row is. canonical_is_fewest _ _ _ c.requires _ is) (returns-clause-canonical c)

@@ -1,14 +1,17 @@
-use Rattle.std.proofs.lemmas.Bool.{iff_false}
-use Rattle.ir_model.proofs.Partial.{partial_pushed, partial_skipped}
+use Rattle.std.proofs.Common.{◌∙◌, arith, take, List, ℕ, ap, sym, subst}
+use Rattle.std.proofs.lemmas.List.{take_at}
+use Rattle.std.proofs.lemmas.Result.{IfOk-weaker}
+use Rattle.ir_model.proofs.Partial.{IsPartial}
+use Rattle.ir_lookup.specs.Words.{starts_of}
 use Rattle.ir_compile.proofs.changes.Goals as goal
-use Rattle.ir_compile.proofs.changes.Goals.{then-is_change+in_ok-push_start, else-is_change}
 
-pub loop-d-preserved : goal.loop-d-preserved
-loop-d-preserved c =
-    elim c.if-is_change.branch [
-      | then-is_change+in_ok-push_start w ↦
-          rw w.words-is (rw w.in_ok-push_start.ensures
-          (partial_pushed _ _ _ _ _ c.loop-d.invariant (c.is_change.ensures.0 w.if-is_change.true) _ w.unwrap.ensures))
-      | else-is_change w ↦
-          rw w.words-is (partial_skipped _ _ _ _ _ c.loop-d.invariant (iff_false c.is_change.ensures w.if-is_change.false))
-    ]
+pub returns : goal.returns
+returns c = λ ports stand.
+    let new : List ℕ = c.mark_changes-count.new.words in
+    let all = take_at new _ c.in_ok-words.words.len (omega (arith, c.mark_changes-count.ensures.length, c.in_ok-words.words.ok, c.in_ok-words.ensures.len)) in
+    let marked = c.mark_changes-count.ensures.starts ports stand in
+    IfOk-weaker c.from_slice.result _ _
+    (λ words same.
+    subst (λ (xs : List ℕ). IsPartial c.args.n c.args.own ports c.args.n (starts_of xs))
+    (sym (same ∙ ap (take c.mark_changes-count.result) (c.deref.ensures.value ∙ all))) marked)
+    c.from_slice.ensures.items

@@ -1,4 +1,4 @@
-use Rattle.std.proofs.Common.{◌≡◌, ◌<◌, ◌∙◌, ◌++◌, ℕ, ap, sym, subst, arith, length, get_or, decimal, flat_map, string_bytes, refl}
+use Rattle.std.proofs.Common.{◌≡◌, ◌<◌, ◌∙◌, ◌++◌, ℕ, ap, sym, subst, arith, length, get_or, decimal, flat_map, [], refl}
 use Rattle.ir_model.specs.Graph.{names}
 use Rattle.ir_model.specs.Topology.{ports_of}
 use Rattle.ir_model.specs.Plan.{row_in}
@@ -12,14 +12,14 @@ use Rattle.ir_show.proofs.PlanLines.{leads, start_line}
 use Rattle.ir_show.proofs.Pieces.{start_read, spaced_at, spaced_count}
 use Rattle.ir_show.proofs.plan_text.pour_start.Goals as goal
 
-pub index-requires : goal.index-requires
-index-requires g c =
+pub push_text-requires : goal.push_text-requires
+push_text-requires g c =
     let p = c.args.pieces.now in
     let is = c.requires.pieces in
     let row = row_in p.plan c.args.u in
     let label = start_read (λ t. t.label) row c.row-row.result.now c.args.i c.start.result c.start.ensures c.row-row.ensures.row c.requires.place in
     let within = (leads p.plan is.plan c.args.u c.args.i (rw is.nodes c.requires.node) c.requires.place).label in
-    let count = spaced_count decimal (length p.graph) p.numbers.items is.numbers in
+    let count = spaced_count decimal (length p.graph) p.numbers is.numbers in
     let nodes = is.nodes in
     omega (arith)
 
@@ -31,12 +31,12 @@ hop-hop-requires-clause-port g c =
     let port = start_read (λ t. t.port) row c.row-row.result.now c.args.i c.port.result c.port.ensures c.row-row.ensures.row c.requires.place in
     subst (λ (q : ℕ). q < length (ports_of p.plan.topology c.args.u)) (sym port) (leads p.plan is.plan c.args.u c.args.i (rw is.nodes c.requires.node) c.requires.place).port
 
-pub index-requires-2 : goal.index-requires-2
-index-requires-2 g c =
+pub push_text-requires-2 : goal.push_text-requires-2
+push_text-requires-2 g c =
     let p = c.args.pieces.now in
     let is = c.requires.pieces in
     let to = (port_facts p.plan.topology is.plan.topology c.args.u c.port.result c.hop-hop.result c.hop-hop.ensures).to in
-    let count = spaced_count (name_at (names p.graph)) (length p.graph) p.names.items is.names in
+    let count = spaced_count (name_at (names p.graph)) (length p.graph) p.names is.names in
     let nodes = is.nodes in
     omega (arith)
 
@@ -52,11 +52,11 @@ returns g c =
     let within = (leads s is.plan c.args.u c.args.i (rw is.nodes c.requires.node) c.requires.place).label in
     let to = (port_facts s.topology is.plan.topology c.args.u c.port.result c.hop-hop.result c.hop-hop.ensures).to in
     let nodes = is.nodes in
-    let number : c.as_bytes.result.now ≡ spaced (decimal c.start.result) =
-    c.as_bytes.ensures.value ∙ ap string_bytes c.index.ensures ∙ spaced_at decimal (length p.graph) p.numbers.items is.numbers c.start.result c.index.result.now (omega arith) in
-    let name : c.as_bytes-2.result.now ≡ spaced (name_at (names p.graph) c.hop-hop.result.node) =
-    c.as_bytes-2.ensures.value ∙ ap string_bytes c.index-2.ensures ∙ spaced_at (name_at (names p.graph)) (length p.graph) p.names.items is.names c.hop-hop.result.node c.index-2.result.now (omega arith) in
-    pours_on g.W.Writer.contents g.W.Writer.wrote g.W.Writer.settled c.args.writer.now c.args.parts.now c.as_bytes.result.now c.push.new.writer c.push.new.self c.as_bytes-2.result.now c.push-2.new.writer c.push-2.new.self
-    c.push.ensures.writes c.push-2.ensures.writes (flat_map spaced (start_words (names p.graph) s.topology c.args.u start))
-    (ap (λ t. t ++ c.as_bytes-2.result.now) number ∙ ap (λ t. spaced (decimal c.start.result) ++ t) name
+    let number : get_or p.numbers c.start.result [] ≡ spaced (decimal c.start.result) = spaced_at decimal (length p.graph) p.numbers is.numbers c.start.result (omega arith) in
+    let name : get_or p.names c.hop-hop.result.node [] ≡ spaced (name_at (names p.graph) c.hop-hop.result.node) =
+    spaced_at (name_at (names p.graph)) (length p.graph) p.names is.names c.hop-hop.result.node (omega arith) in
+    pours_on g.W.Writer.contents g.W.Writer.wrote g.W.Writer.settled c.args.writer.now c.args.parts.now (get_or p.numbers c.start.result []) c.push_text.new.writer c.push_text.new.self
+    (get_or p.names c.hop-hop.result.node []) c.push_text-2.new.writer c.push_text-2.new.self
+    c.push_text.ensures.writes c.push_text-2.ensures.writes (flat_map spaced (start_words (names p.graph) s.topology c.args.u start))
+    (ap (λ t. t ++ get_or p.names c.hop-hop.result.node []) number ∙ ap (λ t. spaced (decimal c.start.result) ++ t) name
     ∙ start_line (names p.graph) s.topology c.args.u start c.start.result c.port.result c.hop-hop.result (name_at (names p.graph) c.hop-hop.result.node) label port c.hop-hop.ensures refl)
