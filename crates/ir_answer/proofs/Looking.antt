@@ -1,9 +1,9 @@
 -- The answers that show a plan, by what was read before it is built.
-use Rattle.std.proofs.Common.{◌≡◌, ◌≢◌, ◌<◌, ℕ, Bool, List, Option, Some, None, MatchOption, string_bytes, refl, sym, subst, arith}
+use Rattle.std.proofs.Common.{◌≡◌, ◌<◌, ℕ, Bool, List, Option, Some, None, MatchOption, string_bytes, refl, sym, subst, arith}
 use Rattle.std.specs.Option.{option_map}
 use Rattle.ir_model.specs.declared.Kind.{Kind}
 use Rattle.ir_model.specs.Graph.{Name, Adjacency, names}
-use Rattle.ir_model.specs.Topology.{Topology, node_count}
+use Rattle.ir_model.specs.Topology.{node_count}
 use Rattle.ir_model.specs.OfGraph.{topology_of_graph}
 use Rattle.ir_model.specs.Plan.{Plan, IsPlan}
 use Rattle.ir_plan.specs.declared.error.PlanError.{PlanError}
@@ -17,8 +17,8 @@ use Rattle.ir_cli.specs.declared.words.Second.{Second}
 use Rattle.ir_cli.specs.Answer.{Answer, Ran, Found, Refused, NoThread}
 use Rattle.ir_cli.specs.Lines.{numbering_line}
 use Rattle.ir_cli.specs.Openings.{topology_fault, topology_graph, root_name, root_in, label_order, AnswersRoot, AnswersOrder}
-use Rattle.ir_answer.specs.declared.look.Look.{Look}
-use Rattle.ir_answer.specs.declared.look.Look.TheVariants.{Plan as Planning, Walk, Stats, Draw, Prefixes, Ranges as Ranging}
+use Rattle.ir_cli.specs.declared.words.Sub.{Sub}
+use Rattle.ir_cli.specs.declared.words.Sub.TheVariants.{Plan as Planning, Walk, Stats, Compare, Draw, Prefixes, Ranges as Ranging, Sim, Live, Check}
 use Rattle.ir_answer.specs.declared.look.Show.{Show}
 use Rattle.ir_answer.specs.declared.look.Show.TheVariants.{Between, Beside, Drawing, Circle}
 use Rattle.ir_answer.specs.Looks.{from_name, to_name, drawn_name, Says, AnswerShows, AnswersEnds, AnswersBothEnds, AnswersDrawn, AnswersFigures, AnswersShow, AnswersAsked, AnswersLook, AnswersLabels, AreTexts, LookAnswers, IsNode, IsLabelling, AreShown, IsNetwork, IsOneDrawn, IsShow, RefusesLabels, RefusesEnds, RefusesFigures, RefusesShow}
@@ -86,7 +86,7 @@ of_figures None g answers show answer same holds = subst (λ (s : Show). answers
 of_figures (Some second) g answers show answer (root, is, same) holds =
     of_root g (option_map string_bytes second.root) (λ u. answers (Beside second.kind u)) answer root is (subst (λ (s : Show). answers s answer) same holds)
 
-of_show : (look : Look) (words : Words) (g : Adjacency) (answers : Show → Answer → Type 0) (show : Show) (answer : Answer)
+of_show : (look : Sub) (words : Words) (g : Adjacency) (answers : Show → Answer → Type 0) (show : Show) (answer : Answer)
     → IsShow look words g show → answers show answer → AnswersAsked look words g answers answer
 of_show Planning words g answers show answer same holds = subst (λ (s : Show). answers s answer) same holds
 of_show Walk words g answers show answer (a, b, first, second, same) holds =
@@ -95,6 +95,10 @@ of_show Stats words g answers show answer is holds = of_figures words.second g a
 of_show Draw words g answers show answer is holds = of_drawn (drawn_name words) words.svg (from_name words) (to_name words) g answers show answer is holds
 of_show Prefixes words g answers show answer same holds = subst (λ (s : Show). answers s answer) same holds
 of_show Ranging words g answers show answer same holds = subst (λ (s : Show). answers s answer) same holds
+of_show Compare words g answers show answer none holds = absurd none
+of_show Sim words g answers show answer none holds = absurd none
+of_show Live words g answers show answer none holds = absurd none
+of_show Check words g answers show answer none holds = absurd none
 
 refuses_network : (from to : Option Name) (g : Adjacency) (answers : Show → Answer → Type 0) (line : List ℕ)
     → AnswersBothEnds g from to (λ ends answer. ⊥) (Refused line) → AnswersBothEnds g from to (λ ends. answers (Drawing ends)) (Refused line)
@@ -112,7 +116,7 @@ refuses_figures : (second : Option Second) (g : Adjacency) (answers : Show → A
 refuses_figures None g answers line refuses = absurd refuses
 refuses_figures (Some second) g answers line refuses = option_more (root_in (names g) (option_map string_bytes second.root)) (λ same. same) (λ u none. absurd none) refuses
 
-refuses_show : (look : Look) (words : Words) (g : Adjacency) (answers : Show → Answer → Type 0) (line : List ℕ)
+refuses_show : (look : Sub) (words : Words) (g : Adjacency) (answers : Show → Answer → Type 0) (line : List ℕ)
     → RefusesShow look words g line → AnswersAsked look words g answers (Refused line)
 refuses_show Planning words g answers line refuses = absurd refuses
 refuses_show Walk words g answers line refuses = refuses_ends g (from_name words) (to_name words) (λ x y. answers (Between x y)) line refuses
@@ -120,9 +124,13 @@ refuses_show Stats words g answers line refuses = refuses_figures words.second g
 refuses_show Draw words g answers line refuses = refuses_drawn (drawn_name words) words.svg (from_name words) (to_name words) g answers line refuses
 refuses_show Prefixes words g answers line refuses = absurd refuses
 refuses_show Ranging words g answers line refuses = absurd refuses
+refuses_show Compare words g answers line refuses = absurd refuses
+refuses_show Sim words g answers line refuses = absurd refuses
+refuses_show Live words g answers line refuses = absurd refuses
+refuses_show Check words g answers line refuses = absurd refuses
 
 -- ---- answers to the texts
-module _ (look : Look) (words : Words) (texts : List (List ℕ)) (topology : List ℕ) (order : Option (List ℕ)) (are : AreTexts texts topology order)
+module _ (look : Sub) (words : Words) (texts : List (List ℕ)) (topology : List ℕ) (order : Option (List ℕ)) (are : AreTexts texts topology order)
     (g : Adjacency) (sound : topology_fault words.format (lines topology) ≡ None) (graph : g ≡ topology_graph words.format (lines topology)) where
   by_graph : (answer : Answer) → AnswersLabels words order g (AnswersLook look words g) answer → LookAnswers look words texts answer
   by_graph answer holds = (

@@ -6,7 +6,6 @@ use Rattle.ir_cli.specs.declared.read.Source.{Source}
 use Rattle.ir_cli.specs.declared.read.Source.TheVariants.{Input, Topology, Script, Trace, Numbering}
 use Rattle.ir_cli.specs.declared.words.Sub.{Sub}
 use Rattle.ir_cli.specs.declared.words.Sub.TheVariants.{Plan, Walk, Stats, Compare, Draw, Prefixes, Ranges, Sim, Live, Check}
-use Rattle.ir_answer.specs.declared.look.Look.TheVariants as look
 use Rattle.ir_answer.specs.Looks.{LookAnswers}
 use Rattle.ir_answer.specs.Compares.{compare_sources, CompareAnswers}
 use Rattle.ir_cli.specs.Answer.{Answer, NoThread}
@@ -83,13 +82,13 @@ FitsSub sub words = FitsItsKind words
 -- the answers of a subcommand as text, of which those of `live` are another crate's
 module _ (live : Words → List (List ℕ) → Answer → Type 0) where
   abbrev pub PlainBy : Sub → Words → List (List ℕ) → Answer → Type 0
-  PlainBy Plan words texts answer = LookAnswers look.Plan words texts answer
-  PlainBy Walk words texts answer = LookAnswers look.Walk words texts answer
-  PlainBy Stats words texts answer = LookAnswers look.Stats words texts answer
+  PlainBy Plan words texts answer = LookAnswers Plan words texts answer
+  PlainBy Walk words texts answer = LookAnswers Walk words texts answer
+  PlainBy Stats words texts answer = LookAnswers Stats words texts answer
   PlainBy Compare words texts answer = CompareAnswers words texts answer
-  PlainBy Draw words texts answer = LookAnswers look.Draw words texts answer
-  PlainBy Prefixes words texts answer = LookAnswers look.Prefixes words texts answer
-  PlainBy Ranges words texts answer = LookAnswers look.Ranges words texts answer
+  PlainBy Draw words texts answer = LookAnswers Draw words texts answer
+  PlainBy Prefixes words texts answer = LookAnswers Prefixes words texts answer
+  PlainBy Ranges words texts answer = LookAnswers Ranges words texts answer
   PlainBy Sim words texts answer = SimAnswers words texts answer
   PlainBy Live words texts answer = live words texts answer
   PlainBy Check words texts answer = CheckAnswers words texts answer

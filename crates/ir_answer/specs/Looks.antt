@@ -16,12 +16,12 @@ use Rattle.ir_exports.specs.PrefixesText.{IsPrefixesOf}
 use Rattle.ir_exports.specs.RangesText.{ranges_text}
 use Rattle.ir_cli.specs.declared.words.Words.{Words}
 use Rattle.ir_cli.specs.declared.words.Second.{Second}
+use Rattle.ir_cli.specs.declared.words.Sub.{Sub}
+use Rattle.ir_cli.specs.declared.words.Sub.TheVariants.{Plan as Planning, Walk, Stats, Compare, Draw, Prefixes, Ranges as Ranging, Sim, Live, Check}
 use Rattle.ir_model.specs.declared.Kind.{Kind}
 use Rattle.ir_plan.specs.declared.tour.LabelOrder.TheVariants.{DepthFirst}
 use Rattle.ir_answer.specs.declared.look.Show.{Show}
 use Rattle.ir_answer.specs.declared.look.Show.TheVariants.{Rows, Between, Figures, Beside, Drawing, Circle, Tables, Ranges, Order}
-use Rattle.ir_answer.specs.declared.look.Look.{Look}
-use Rattle.ir_answer.specs.declared.look.Look.TheVariants.{Plan as Planning, Walk, Stats, Draw, Prefixes, Ranges as Ranging}
 use Rattle.ir_script.specs.Order.{IsOrder}
 use Rattle.ir_cli.specs.Answer.{Answer, Ran, Found, Refused, NoThread}
 use Rattle.ir_cli.specs.Openings.{root_name, root_in, label_order, AnswersTopology, AnswersRoot, AnswersOrder}
@@ -110,19 +110,31 @@ AnswersShow words g labels show = AnswersText g words.kind labels (Says show (na
 abbrev pub rows_or_order : Words → Show
 rows_or_order words = if words.order_alone then Order else Rows
 
+-- the subcommands that show a plan
+abbrev pub ShowsPlan : Sub → Type 0
+ShowsPlan Compare = ⊥
+ShowsPlan Sim = ⊥
+ShowsPlan Live = ⊥
+ShowsPlan Check = ⊥
+ShowsPlan sub = Unit {0}
+
 -- The answer to a graph, by what is asked for: the refusal of an end or a second root that is no node, or else an answer to
--- what is to be shown.
-abbrev pub AnswersAsked : Look → Words → Adjacency → (Show → Answer → Type 0) → Answer → Type 0
+-- what is to be shown. Of the subcommands that show no plan there is none.
+abbrev pub AnswersAsked : Sub → Words → Adjacency → (Show → Answer → Type 0) → Answer → Type 0
 AnswersAsked Planning words g answers = answers (rows_or_order words)
 AnswersAsked Walk words g answers = AnswersEnds g (from_name words) (to_name words) (λ a b. answers (Between a b))
 AnswersAsked Stats words g answers = AnswersFigures words.second g answers
 AnswersAsked Draw words g answers = AnswersDrawn (drawn_name words) words.svg (from_name words) (to_name words) g answers
 AnswersAsked Prefixes words g answers = answers (Tables words.disjoint)
 AnswersAsked Ranging words g answers = answers Ranges
+AnswersAsked Compare words g answers = λ answer. ⊥
+AnswersAsked Sim words g answers = λ answer. ⊥
+AnswersAsked Live words g answers = λ answer. ⊥
+AnswersAsked Check words g answers = λ answer. ⊥
 
 -- the answer to a graph and labels, by what is asked for
-abbrev pub AnswersLook : Look → Words → Adjacency → Labelling → Answer → Type 0
-AnswersLook look words g labels = AnswersAsked look words g (AnswersShow words g labels)
+abbrev pub AnswersLook : Sub → Words → Adjacency → Labelling → Answer → Type 0
+AnswersLook sub words g labels = AnswersAsked sub words g (AnswersShow words g labels)
 
 -- The answer to a graph: that to its labels from the root that the words name, or by an order where there is one.
 abbrev pub AnswersLabels : Words → Option (List ℕ) → Adjacency → (Labelling → Answer → Type 0) → Answer → Type 0
@@ -143,10 +155,10 @@ AreTexts (first ∷ second ∷ []) topology (Some order) = (topology ≡ first) 
 AreTexts (first ∷ second ∷ third ∷ texts) topology order = ⊥
 
 -- the answers to the text of a topology, or to that text and an order's
-abbrev pub LookAnswers : Look → Words → List (List ℕ) → Answer → Type 0
-LookAnswers look words texts answer =
+abbrev pub LookAnswers : Sub → Words → List (List ℕ) → Answer → Type 0
+LookAnswers sub words texts answer =
     (topology : List ℕ) × (order : Option (List ℕ)) × AreTexts texts topology order
-    × AnswersTopology words.format (lines topology) (λ g. AnswersLabels words order g (AnswersLook look words g)) answer
+    × AnswersTopology words.format (lines topology) (λ g. AnswersLabels words order g (AnswersLook sub words g)) answer
 
 -- ---- what is read before a plan is built
 
@@ -180,13 +192,17 @@ abbrev pub IsDrawn : Words → Adjacency → Show → Type 0
 IsDrawn words g show = IsOneDrawn (drawn_name words) words.svg (from_name words) (to_name words) g show
 
 -- what the words ask to be shown
-abbrev pub IsShow : Look → Words → Adjacency → Show → Type 0
+abbrev pub IsShow : Sub → Words → Adjacency → Show → Type 0
 IsShow Planning words g show = show ≡ rows_or_order words
 IsShow Walk words g show = (a b : ℕ) × IsNode g (from_name words) a × IsNode g (to_name words) b × (show ≡ Between a b)
 IsShow Stats words g show = AreShown words.second g show
 IsShow Draw words g show = IsDrawn words g show
 IsShow Prefixes words g show = show ≡ Tables words.disjoint
 IsShow Ranging words g show = show ≡ Ranges
+IsShow Compare words g show = ⊥
+IsShow Sim words g show = ⊥
+IsShow Live words g show = ⊥
+IsShow Check words g show = ⊥
 
 -- the line of a refusal that comes before any plan: of the root or the order, of an end, of a second root, of a node
 abbrev pub RefusesLabels : Words → Option (List ℕ) → Adjacency → List ℕ → Type 0
@@ -201,5 +217,5 @@ RefusesFigures second g line = AnswersFigures second g (λ show answer. ⊥) (Re
 abbrev pub RefusesDrawn : Words → Adjacency → List ℕ → Type 0
 RefusesDrawn words g line = AnswersDrawn (drawn_name words) words.svg (from_name words) (to_name words) g (λ show answer. ⊥) (Refused line)
 
-abbrev pub RefusesShow : Look → Words → Adjacency → List ℕ → Type 0
-RefusesShow look words g line = AnswersAsked look words g (λ show answer. ⊥) (Refused line)
+abbrev pub RefusesShow : Sub → Words → Adjacency → List ℕ → Type 0
+RefusesShow sub words g line = AnswersAsked sub words g (λ show answer. ⊥) (Refused line)

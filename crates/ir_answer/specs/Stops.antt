@@ -1,5 +1,5 @@
 -- What the texts of a topology and of a script, and the name of a root, come to before a run is opened over them.
-use Rattle.std.specs.Prelude.{◌≡◌, ℕ, Bool, List, Option, None, Some, Result, Ok, Err, MatchResult, string_bytes}
+use Rattle.std.specs.Prelude.{◌≡◌, ℕ, Bool, List, Option, None, Some, Result, Ok, Err, MatchResult}
 use Rattle.ir_model.specs.Graph.{Name, Adjacency, names}
 use Rattle.ir_model.specs.Topology.{Topology}
 use Rattle.ir_model.specs.OfGraph.{topology_of_graph}
@@ -12,6 +12,7 @@ use Rattle.ir_cli.specs.declared.ending.Ending.TheVariants as endings
 use Rattle.ir_cli.specs.Answer.{Answer, Refused}
 use Rattle.ir_cli.specs.Lines.{script_line, out_of_memory_line}
 use Rattle.ir_cli.specs.Openings.{topology_fault, topology_graph, root_name, root_in, AnswersTopology, AnswersRoot}
+use Rattle.ir_cli.specs.Notices.{notice_line}
 use Rattle.ir_cli.specs.Replied.{RepliesAs}
 use Rattle.ir_cli.specs.Replies.{answer_of}
 use Rattle.ir_answer.specs.declared.asking.Stop.{Stop}
@@ -19,18 +20,18 @@ use Rattle.ir_answer.specs.declared.asking.Stop.TheVariants as stops
 
 -- the line of a refusal, of which this holds; or want of memory
 abbrev pub StopsAs : Stop → (List ℕ → Type 0) → Type 0
-StopsAs (stops.Refused line) refuses = refuses (string_bytes line)
+StopsAs (stops.Refused notice) refuses = refuses (notice_line notice)
 StopsAs stops.NoMemory refuses = Unit {0}
 
 -- an answer of these, a refusal among them, or want of memory
 abbrev pub Gives : (Answer → Type 0) → Result Reply Stop → Type 0
 Gives answers result = MatchResult result (λ reply. answers (answer_of reply)) (λ stop. StopsAs stop (λ line. answers (Refused line)))
 
--- what the writers were given of an answer or a refusal, or of want of memory
-abbrev pub GivenAs : Result Reply Stop → Ending → (out : Bool → List ℕ → Type 0) (unused : Type 0) (told : List ℕ → Type 0) → Type 0
-GivenAs (Ok reply) ending out unused told = RepliesAs ending (answer_of reply) out unused told
-GivenAs (Err (stops.Refused line)) ending out unused told = RepliesAs ending (Refused (string_bytes line)) out unused told
-GivenAs (Err stops.NoMemory) ending out unused told = (ending ≡ endings.NoMemory) × unused × told out_of_memory_line
+-- what the writers were given of an answer in a form or of a refusal, or of want of memory
+abbrev pub GivenAs : (Answer → Answer) → Result Reply Stop → Ending → (out : Bool → List ℕ → Type 0) (unused : Type 0) (told : List ℕ → Type 0) → Type 0
+GivenAs form (Ok reply) ending out unused told = RepliesAs ending (form (answer_of reply)) out unused told
+GivenAs form (Err (stops.Refused notice)) ending out unused told = RepliesAs ending (Refused (notice_line notice)) out unused told
+GivenAs form (Err stops.NoMemory) ending out unused told = (ending ≡ endings.NoMemory) × unused × told out_of_memory_line
 
 module _ {A : Type 0} (says : List Name → Topology → List ℕ → Result (Option A) ScriptFault) where
   -- The answer to a graph and the lines of a script, by what a line says: the script's first fault, or else the refusal of a

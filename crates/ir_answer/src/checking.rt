@@ -8,7 +8,7 @@ ghost use Rattle.ir_answer.specs.Checks.{IsCleanTrace, IsFound, AnswersRows, Ans
 ghost use Rattle.ir_answer.specs.Stops.{Gives};
 
 use crate::asking::{Asked, Stop, opening_stop, read_asked};
-use ir_cli::{Reply, Words, finding_line, ok_line, opening_of, whole_line};
+use ir_cli::{Notice, Reply, Words, opening_of};
 use ir_core::{Install, Step, installs_by};
 use ir_graph::Graph;
 use ir_plan::Crew;
@@ -76,10 +76,10 @@ fn answer_clean(
         read.now) result }
 {
     match beside_script(alloc, words, &asked.topology, asked.script.steps(), read) {
-        Ok(()) => Ok(Reply::Ran(ok_line(alloc, read.rows())?, String::new(alloc))),
+        Ok(()) => Ok(Reply::Sound(read.rows())),
         Err(finding) => match finding.kind {
             WholeKind::NoMemory => Err(Stop::NoMemory),
-            _ => Ok(Reply::Found(whole_line(alloc, finding)?)),
+            _ => Ok(Reply::Found(Notice::Beside(finding))),
         },
     }
 }
@@ -102,7 +102,7 @@ fn answer_trace(
         Ok(read) => answer_clean(alloc, words, asked, &read),
         Err(finding) => match finding.kind {
             FindingKind::NoMemory => Err(Stop::NoMemory),
-            _ => Ok(Reply::Found(finding_line(alloc, finding)?)),
+            _ => Ok(Reply::Found(Notice::Finding(finding))),
         },
     }
 }
@@ -125,6 +125,6 @@ pub fn check(
     let opening = opening_of(alloc, words, &asked.topology, asked.root)?;
     match installs_by(crew, alloc, &opening, asked.script.steps()) {
         Ok(built) => answer_trace(crew, alloc, words, &asked, built.as_slice(), trace),
-        Err(error) => Err(opening_stop(alloc, error)),
+        Err(error) => Err(opening_stop(error)),
     }
 }

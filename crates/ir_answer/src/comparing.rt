@@ -44,10 +44,10 @@ pub fn compare(
 {
     let text = one_text(texts);
     let graph = read_graph(alloc, words.format, text)?;
-    let root = read_node(alloc, &graph, &words.root)?;
+    let root = read_node(&graph, &words.root)?;
     let topology = Topology::of(alloc, &graph)?;
     match compare_text(crew, alloc, topology, root, words.threads) {
-        Ok(text) => Ok(Reply::Ran(text, String::new(alloc))),
-        Err(error) => Err(opening_stop(alloc, OpenError::from(error))),
+        Ok(text) => Ok(Reply::Ran(text, Vec::new(alloc))),
+        Err(error) => Err(opening_stop(OpenError::from(error))),
     }
 }

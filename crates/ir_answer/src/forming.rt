@@ -2,13 +2,14 @@
 ghost use Rattle.std.specs.Prelude.{◌≡◌, IfOk, string_bytes};
 ghost use Rattle.ir_model.specs.Text.{lines};
 ghost use Rattle.ir_json.specs.JsonText.{json_text};
-ghost use Rattle.ir_cli.specs.Replies.{answer_of};
-ghost use Rattle.ir_answer.specs.Formed.{trace_shape, shape_of, asked_shape, in_json, asked_form, IsFormed};
+ghost use Rattle.ir_cli.specs.{Notices.notice_line, Told.Sends};
+ghost use Rattle.ir_answer.specs.Formed.{trace_shape, shape_of, asked_shape, shaped, IsTextPut};
 
-use crate::asking::Stop;
-use ir_cli::{Reply, Sub, Words};
+use ir_cli::{Notice, Sub, Words, notice_line};
 use ir_json::{Shape, json_of};
+use ir_show::TextCrew;
 use ir_show::plan_text::PlanText;
+use ir_streams::{Writer, write_text};
 use std::alloc::{AllocError, Global};
 
 /// The shape of a trace, by its version.
@@ -41,13 +42,23 @@ fn shape_of(sub: Sub, words: &Words) -> Option<Shape>
 }
 
 /// The shape as which it is printed as JSON, where the words ask for that.
-fn asked_shape(sub: Sub, words: &Words) -> Option<Shape>
+pub fn asked_shape(sub: Sub, words: &Words) -> Option<Shape>
     ensures { result ≡ asked_shape sub words.now }
 {
     if words.json {
         shape_of(sub, words)
     } else {
         None
+    }
+}
+
+/// A text as it is, or as its JSON where there is a shape.
+fn shaped(alloc: Global, shape: Option<Shape>, text: String) -> Result<String, AllocError>
+    ensures { IfOk result (λ formed. string_bytes formed ≡ shaped shape (string_bytes text)) }
+{
+    match shape {
+        None => Ok(text),
+        Some(shape) => json_of(alloc, shape, text.as_bytes()),
     }
 }
 
@@ -62,47 +73,49 @@ fn plan_json(alloc: Global, shape: Shape, text: PlanText) -> Result<String, Allo
     json_of(alloc, shape, whole.as_slice())
 }
 
-/// A reply with what is printed as JSON.
-fn in_json(alloc: Global, shape: Shape, reply: Reply) -> Result<Reply, AllocError>
-    ensures { IfOk result (λ formed. answer_of formed ≡ in_json shape (answer_of reply)) }
+/// The line of a notice, as text or as its JSON.
+pub fn shaped_line(
+    alloc: Global,
+    shape: Option<Shape>,
+    notice: Notice,
+) -> Result<String, AllocError>
+    ensures { IfOk result (λ formed. string_bytes formed ≡ shaped shape (notice_line notice)) }
 {
-    match reply {
-        Reply::Ran(text, refusals) => {
-            let json = json_of(alloc, shape, text.as_bytes())?;
-            Ok(Reply::Ran(json, refusals))
-        }
-        Reply::Plan(text) => {
-            let json = plan_json(alloc, shape, text)?;
-            Ok(Reply::Ran(json, String::new(alloc)))
-        }
-        Reply::Found(line) => {
-            let json = json_of(alloc, shape, line.as_bytes())?;
-            Ok(Reply::Found(json))
-        }
-        Reply::Refused(line) => Ok(Reply::Refused(line)),
-        Reply::NoThread => Ok(Reply::NoThread),
-    }
+    let line = notice_line(alloc, notice)?;
+    shaped(alloc, shape, line)
 }
 
-/// An answer in the form that the words ask for: as it is, or with what is printed as JSON. That wants memory, and the
-/// text of a plan is then built.
-pub fn in_form(
+/// Writes a text, or its JSON, and answers whether all of it was taken.
+pub fn put_text<W: Writer>(
     alloc: Global,
-    sub: Sub,
-    words: &Words,
-    given: Result<Reply, Stop>,
-) -> Result<Reply, Stop>
-    ensures { IsFormed (asked_form sub words.now) given result }
+    shape: Option<Shape>,
+    text: String,
+    output: &mut W,
+) -> Result<bool, AllocError>
+    ensures { IsTextPut (shaped shape (string_bytes text)) result
+        (Sends W.contents W.wrote W.settled output.old output.new) (output.new ≡ output.old) }
 {
-    let plain = match given {
-        Ok(plain) => plain,
-        Err(stop) => return Err(stop),
-    };
-    let Some(shape) = asked_shape(sub, words) else {
-        return Ok(plain);
-    };
-    match in_json(alloc, shape, plain) {
-        Ok(reply) => Ok(reply),
-        Err(_) => Err(Stop::NoMemory),
+    let formed = shaped(alloc, shape, text)?;
+    Ok(write_text(output, formed.as_bytes()))
+}
+
+/// Writes the text of a plan as a crew makes it, or its JSON, and answers whether all of it was taken.
+pub fn put_plan<C: TextCrew, W: Writer>(
+    crew: &C,
+    alloc: Global,
+    most: Option<usize>,
+    shape: Option<Shape>,
+    text: PlanText,
+    output: &mut W,
+) -> Result<bool, AllocError>
+    ensures { IsTextPut (shaped shape text) result
+        (Sends W.contents W.wrote W.settled output.old output.new) (output.new ≡ output.old) }
+{
+    match shape {
+        None => Ok(text.write_by(crew, alloc, most, output)),
+        Some(shape) => {
+            let json = plan_json(alloc, shape, text)?;
+            Ok(write_text(output, json.as_bytes()))
+        }
     }
 }

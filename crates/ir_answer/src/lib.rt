@@ -13,11 +13,13 @@ mod laws;
 mod look;
 mod play;
 mod running;
+mod writing;
 
 pub use asking::{Asked, Stop, opening_stop, read_asked, two_texts};
-pub use forming::in_form;
-pub use ir_cli::{Format, Numbering, Source, Sub, Words, WordsError, read_words};
+pub use forming::asked_shape;
+pub use ir_cli::{Format, Notice, Numbering, Outcome, Source, Sub, Words, WordsError, read_words};
 pub use ir_plan::{Alone, Crew, Several};
 pub use laws::{check_has_one_answer, installs_have_the_same_plans, text_is_as_it_was};
 pub use play::run_text;
-pub use running::{run_by, run_check, run_plan, run_sim, sources_by, sources_of, write_given};
+pub use running::{follow_by, run_by, run_check, run_plan, run_sim, sources_by, sources_of};
+pub use writing::write_given;

@@ -2,7 +2,7 @@
 ghost use Rattle.std.specs.Prelude.{◌≡◌, ◌≢◌, ◌<◌, ℕ, IfOk, IfErr, IfSome, IsSome, length, string_bytes};
 ghost use Rattle.ir_model.specs.{Graph.names, Topology.node_count};
 ghost use Rattle.ir_answer.specs.Asked.{look_sources};
-ghost use Rattle.ir_answer.specs.Looks.{from_name, to_name, circle_text, AnswersShow, AreAmong, AreTexts, Says, AnswerShows, order_in, IsNode, IsLabelling, AreShown, IsDrawn, IsShow, RefusesLabels, RefusesEnds, RefusesFigures, RefusesDrawn, RefusesShow, LookAnswers, rows_or_order, IsFiguresBeside};
+ghost use Rattle.ir_answer.specs.Looks.{from_name, to_name, circle_text, AnswersShow, AreAmong, AreTexts, Says, AnswerShows, order_in, IsNode, IsLabelling, AreShown, IsDrawn, IsShow, RefusesLabels, RefusesEnds, RefusesFigures, RefusesDrawn, RefusesShow, ShowsPlan, LookAnswers, rows_or_order, IsFiguresBeside};
 ghost use Rattle.ir_answer.specs.Stops.{StopsAs, Gives};
 ghost use Rattle.ir_model.specs.OfGraph.{topology_of_graph};
 ghost use Rattle.ir_plan.specs.Building.{MayLabel, labelling_of};
@@ -11,7 +11,7 @@ ghost use Rattle.ir_answer.specs.Plans.{AnswersText};
 ghost use Rattle.ir_cli.specs.{Reading.texts_of, Replies.answer_of, Words.FitsItsKind};
 
 use crate::asking::{Stop, opening_stop, read_graph, read_node};
-use ir_cli::{Reply, Words, label_order, numbering_line};
+use ir_cli::{Notice, Reply, Sub, Words, label_order};
 use ir_core::OpenError;
 use ir_exports::{LineCrew, circle_dot, circle_svg, order_text, ranges_text};
 use ir_figures::{figures_text, figures_text_beside};
@@ -24,24 +24,7 @@ use ir_show::{draw_text, needs_no_tour, walk_text, walk_text_alone};
 use ir_tables::Topology;
 use std::alloc::{AllocError, Global};
 
-/// What of a plan is asked for.
-#[derive(Clone, Copy, Debug, PartialEq, Eq)]
-pub enum Look {
-    /// Its rows.
-    Plan,
-    /// A walk of it.
-    Walk,
-    /// Its figures.
-    Stats,
-    /// A drawing of it.
-    Draw,
-    /// Its forwarding tables.
-    Prefixes,
-    /// Its ranges of labels.
-    Ranges,
-}
-
-/// What of a plan is shown.
+/// What of a plan is shown, with the numbers of the nodes that the words name.
 #[derive(Clone, Copy, Debug, PartialEq, Eq)]
 pub enum Show {
     Rows,
@@ -155,7 +138,7 @@ fn reply_of(
         return Ok(Reply::Plan(PlanText::new(alloc, graph, plan)?));
     }
     let text = text_of(crew, alloc, &graph, &plan, show, most)?;
-    Ok(Reply::Ran(text, String::new(alloc)))
+    Ok(Reply::Ran(text, Vec::new(alloc)))
 }
 
 /// The texts of a topology and, where the words have one, of an order.
@@ -187,28 +170,28 @@ fn read_labels(
         (RefusesLabels words.now (order_in order.entry) graph.now)) }
 {
     let Some(text) = order else {
-        let root = read_node(alloc, graph, &words.root)?;
+        let root = read_node(graph, &words.root)?;
         return Ok(Labels::FromRoot(label_order(&words.numbering), root));
     };
     match read_order(alloc, graph, text) {
         Ok(order) => Ok(Labels::Listed(order)),
         Err(fault) => match fault.kind {
             OrderFaultKind::NoMemory => Err(Stop::NoMemory),
-            kind => Err(Stop::Refused(numbering_line(alloc, fault.line, kind)?)),
+            _ => Err(Stop::Refused(Notice::Numbering(fault))),
         },
     }
 }
 
 /// The numbers of the ends that the words name.
-fn read_ends(alloc: Global, words: &Words, graph: &Graph) -> Result<(u16, u16), Stop>
+fn read_ends(words: &Words, graph: &Graph) -> Result<(u16, u16), Stop>
     ensures from { IfOk result (λ ends. IsNode graph.now (from_name words.now) ends.0) }
     ensures to { IfOk result (λ ends. IsNode graph.now (to_name words.now) ends.1) }
     ensures among { IfOk result (λ ends. 0 < length graph.now
         → (ends.0 < length graph.now) × (ends.1 < length graph.now)) }
     ensures stop { IfErr result (λ s. StopsAs s (RefusesEnds graph.now (from_name words.now) (to_name words.now))) }
 {
-    let from = read_node(alloc, graph, &words.from)?;
-    let to = read_node(alloc, graph, &words.to)?;
+    let from = read_node(graph, &words.from)?;
+    let to = read_node(graph, &words.to)?;
     Ok((from, to))
 }
 
@@ -225,7 +208,7 @@ fn rows_or_order(words: &Words) -> Show
 }
 
 /// The figures, beside those of a second plan if the words ask for one.
-fn read_figures(alloc: Global, words: &Words, graph: &Graph) -> Result<Show, Stop>
+fn read_figures(words: &Words, graph: &Graph) -> Result<Show, Stop>
     ensures show { IfOk result (λ show. AreShown words.now.second graph.now show) }
     ensures among { IfOk result (λ show. 0 < length graph.now → AreAmong (length graph.now) show) }
     ensures stop { IfErr result (λ s. StopsAs s (RefusesFigures words.now.second graph.now)) }
@@ -233,43 +216,45 @@ fn read_figures(alloc: Global, words: &Words, graph: &Graph) -> Result<Show, Sto
     let Some(second) = &words.second else {
         return Ok(Show::Figures);
     };
-    let root = read_node(alloc, graph, &second.root)?;
+    let root = read_node(graph, &second.root)?;
     Ok(Show::Beside(second.kind, root))
 }
 
 /// What is to be drawn: the circle of the node that the words name, or else the network, with ends only where both are named.
-fn read_drawing(alloc: Global, words: &Words, graph: &Graph) -> Result<Show, Stop>
+fn read_drawing(words: &Words, graph: &Graph) -> Result<Show, Stop>
     ensures show { IfOk result (λ show. IsDrawn words.now graph.now show) }
     ensures among { IfOk result (λ show. 0 < length graph.now → AreAmong (length graph.now) show) }
     ensures stop { IfErr result (λ s. StopsAs s (RefusesDrawn words.now graph.now)) }
 {
     if words.node.is_some() {
-        let node = read_node(alloc, graph, &words.node)?;
+        let node = read_node(graph, &words.node)?;
         return Ok(Show::Circle(node, words.svg));
     }
     if words.from.is_none() || words.to.is_none() {
         return Ok(Show::Drawing(None));
     }
-    let ends = read_ends(alloc, words, graph)?;
+    let ends = read_ends(words, graph)?;
     Ok(Show::Drawing(Some(ends)))
 }
 
 /// What of a plan is to be shown, with the nodes that the words name.
-fn read_show(alloc: Global, look: Look, words: &Words, graph: &Graph) -> Result<Show, Stop>
-    ensures show { IfOk result (λ show. IsShow look words.now graph.now show) }
+fn read_show(sub: Sub, words: &Words, graph: &Graph) -> Result<Show, Stop>
+    requires { ShowsPlan sub }
+    ensures show { IfOk result (λ show. IsShow sub words.now graph.now show) }
     ensures among { IfOk result (λ show. 0 < length graph.now → AreAmong (length graph.now) show) }
-    ensures stop { IfErr result (λ s. StopsAs s (RefusesShow look words.now graph.now)) }
+    ensures stop { IfErr result (λ s. StopsAs s (RefusesShow sub words.now graph.now)) }
 {
-    match look {
-        Look::Plan => Ok(rows_or_order(words)),
-        Look::Stats => read_figures(alloc, words, graph),
-        Look::Prefixes => Ok(Show::Tables(words.disjoint)),
-        Look::Ranges => Ok(Show::Ranges),
-        Look::Walk => {
-            let (from, to) = read_ends(alloc, words, graph)?;
+    match sub {
+        Sub::Compare | Sub::Sim | Sub::Live | Sub::Check => unreachable!(),
+        Sub::Plan => Ok(rows_or_order(words)),
+        Sub::Stats => read_figures(words, graph),
+        Sub::Prefixes => Ok(Show::Tables(words.disjoint)),
+        Sub::Ranges => Ok(Show::Ranges),
+        Sub::Walk => {
+            let (from, to) = read_ends(words, graph)?;
             Ok(Show::Between(from, to))
         }
-        Look::Draw => read_drawing(alloc, words, graph),
+        Sub::Draw => read_drawing(words, graph),
     }
 }
 
@@ -307,8 +292,8 @@ fn show_walk(
         (Says (Show.Between ends.0 ends.1) (names graph.now))) result }
 {
     match walk_text_alone(alloc, graph, topology, kind, labels, ends) {
-        Ok(text) => Ok(Reply::Ran(text, String::new(alloc))),
-        Err(error) => Err(opening_stop(alloc, OpenError::from(error))),
+        Ok(text) => Ok(Reply::Ran(text, Vec::new(alloc))),
+        Err(error) => Err(opening_stop(OpenError::from(error))),
     }
 }
 
@@ -334,7 +319,7 @@ fn show_plan(
             let _nodes = plan.nodes();
             Ok(reply_of(crew, alloc, graph, plan, show, words.threads)?)
         }
-        Err((error, _topology)) => Err(opening_stop(alloc, OpenError::from(error))),
+        Err((error, _topology)) => Err(opening_stop(OpenError::from(error))),
     }
 }
 
@@ -344,18 +329,19 @@ fn show_plan(
 pub fn look_at(
     crew: &impl LineCrew,
     alloc: Global,
-    look: Look,
+    sub: Sub,
     words: &Words,
     texts: &[Vec<u8>],
 ) -> Result<Reply, Stop>
     requires kind { FitsItsKind words.now }
     requires texts { length texts.now ≡ length (look_sources words.now) }
-    ensures { Gives (LookAnswers look words.now (texts_of texts.now)) result }
+    requires shows { ShowsPlan sub }
+    ensures { Gives (LookAnswers sub words.now (texts_of texts.now)) result }
 {
     let (topology, order) = look_texts(words, texts);
     let graph = read_graph(alloc, words.format, topology)?;
     let labels = read_labels(alloc, words, &graph, order)?;
-    match read_show(alloc, look, words, &graph) {
+    match read_show(sub, words, &graph) {
         Ok(show) => show_plan(crew, alloc, words, graph, labels, show),
         Err(stop) => Err(stop),
     }

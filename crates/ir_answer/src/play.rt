@@ -1,12 +1,12 @@
 //! A run of a script's steps, from the texts of a topology and a script.
-ghost use Rattle.std.specs.{Prelude.{◌≡◌, false, IfOk, string_bytes}, List.list_any};
+ghost use Rattle.std.specs.{Prelude.{◌≡◌, ◌++◌, false, IfOk, OnOk, string_bytes}, List.list_any};
 ghost use Rattle.ir_model.specs.{Graph.names, OfGraph.topology_of_graph, Text.lines};
 ghost use Rattle.ir_trace.specs.Written.{HaveSegments};
-ghost use Rattle.ir_cli.specs.Openings.{AnswersTopology};
+ghost use Rattle.ir_cli.specs.{Lines.{reply_line, steps_text}, Openings.{AnswersTopology}};
 ghost use Rattle.ir_answer.specs.{Plays.{wants_memory, refused_text, run_text, AnswersScript}, Stops.Gives};
 
 use crate::asking::{Stop, opening_stop, read_asked};
-use ir_cli::{Reply, Words, opening_of, push_reply_line};
+use ir_cli::{Reply, Words, opening_of};
 use ir_core::{Played, Record, Refused, Reply as Answered, Step, play_by};
 use ir_graph::Graph;
 use ir_plan::Crew;
@@ -23,19 +23,33 @@ fn wants_memory(replies: &[Result<Answered, Refused>]) -> bool
         .any(|reply| matches!(*reply, Err(Refused::NoMemory)))
 }
 
-/// A line for each step that was refused.
-fn refused_text(
+/// Notes a step that was refused, and nothing for another.
+fn push_refused(
+    steps: &mut Vec<(usize, Refused)>,
+    line: usize,
+    reply: Result<Answered, Refused>,
+) -> Result<(), AllocError>
+    ensures { OnOk result (steps_text steps.new.items ≡ steps_text steps.old.items ++ reply_line (line, reply)) }
+{
+    match reply {
+        Ok(_) => Ok(()),
+        Err(refusal) => Ok(steps.push((line, refusal))?),
+    }
+}
+
+/// The steps that were refused, by the numbers of their lines.
+fn refused_steps(
     alloc: Global,
     lines: &[usize],
     replies: &[Result<Answered, Refused>],
-) -> Result<String, AllocError>
-    ensures { IfOk result (λ text. string_bytes text ≡ refused_text lines.now replies.now) }
+) -> Result<Vec<(usize, Refused)>, AllocError>
+    ensures { IfOk result (λ steps. steps_text steps.items ≡ refused_text lines.now replies.now) }
 {
-    let mut text = String::new(alloc);
+    let mut steps = Vec::new(alloc);
     for i in 0..lines.len().min(replies.len()) {
-        push_reply_line(&mut text, lines[i], replies[i])?;
+        push_refused(&mut steps, lines[i], replies[i])?;
     }
-    Ok(text)
+    Ok(steps)
 }
 
 /// The trace of records: that of their segments where packets may be restamped.
@@ -58,7 +72,7 @@ pub fn run_text(
     }
 }
 
-/// The trace of a run, and a line for each step that was refused.
+/// The trace of a run, and the steps that were refused.
 fn run_texts(
     alloc: Global,
     graph: &Graph,
@@ -66,13 +80,13 @@ fn run_texts(
     restamps: u8,
     lines: &[usize],
     played: Played,
-) -> Result<(String, String), AllocError>
+) -> Result<(String, Vec<(usize, Refused)>), AllocError>
     requires over { topology.now ≡ topology_of_graph graph.now }
     requires opened { played.world.opening.topology ≡ topology.now }
     ensures in_memory { IfOk result (λ _. list_any wants_memory played.replies.items ≡ false) }
     ensures trace { IfOk result (λ texts. string_bytes texts.0
         ≡ run_text restamps (names graph.now) topology.now played.world.records) }
-    ensures told { IfOk result (λ texts. string_bytes texts.1 ≡ refused_text lines.now played.replies.items) }
+    ensures told { IfOk result (λ texts. steps_text texts.1.items ≡ refused_text lines.now played.replies.items) }
 {
     let Played { world, replies } = played;
     if wants_memory(replies.as_slice()) {
@@ -81,7 +95,7 @@ fn run_texts(
     let _nodes = world.nodes();
     let records = world.into_records();
     let trace = run_text(alloc, graph, topology, restamps, records.as_slice())?;
-    let refused = refused_text(alloc, lines, replies.as_slice())?;
+    let refused = refused_steps(alloc, lines, replies.as_slice())?;
     Ok((trace, refused))
 }
 
@@ -111,6 +125,6 @@ pub fn simulate(
             )?;
             Ok(Reply::Ran(trace, refused))
         }
-        Err(error) => Err(opening_stop(alloc, error)),
+        Err(error) => Err(opening_stop(error)),
     }
 }

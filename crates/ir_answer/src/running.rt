@@ -1,19 +1,18 @@
 //! Runs of the program, from bytes to bytes.
 ghost use Rattle.std.specs.Prelude.{◌≡◌, length};
 ghost use Rattle.ir_answer.specs.Asked.{look_sources, sim_sources, check_sources, sources_by, sources_of, SimAnswers, CheckAnswers, FitsSub, PlainBy, AnswersBy, Answers, NoThreads};
-ghost use Rattle.ir_answer.specs.{Formed.InForm, Looks.LookAnswers, Stops.{Gives, GivenAs}};
+ghost use Rattle.ir_answer.specs.{Formed.{InForm, asked_form}, Looks.LookAnswers, Stops.Gives};
 ghost use Rattle.ir_cli.specs.{Ending.{EndsAs, Ends}, Reading.{texts_of, AreRead, IsUnread}, Told.{Sends, Tells}};
-ghost use Rattle.ir_cli.specs.Words.{FitsItsKind};
+ghost use Rattle.ir_cli.specs.{Notices.{told_text, ShowsFound}, Words.{FitsItsKind}};
 
 use crate::asking::{Stop, three_texts, two_texts};
 use crate::checking::check;
 use crate::comparing::{compare, compare_sources};
-use crate::forming::in_form;
-use crate::look::{Look, look_at};
+use crate::forming::asked_shape;
+use crate::look::look_at;
 use crate::play::simulate;
-use ir_cli::{
-    Ending, Reply, Source, Sub, Words, read_inputs, status_of, tell, tell_unread, write_reply,
-};
+use crate::writing::write_given_by;
+use ir_cli::{Outcome, Reply, Source, Sub, Words, read_inputs, status_of, tell_unread};
 use ir_exports::LineCrew;
 use ir_plan::Alone;
 use ir_streams::{Reader, Writer};
@@ -72,13 +71,10 @@ fn answer_by<C: LineCrew>(
     ensures { Gives (PlainBy NoThreads sub words.now (texts_of texts.now)) result }
 {
     match sub {
-        Sub::Plan => look_at(crew, alloc, Look::Plan, words, texts),
-        Sub::Walk => look_at(crew, alloc, Look::Walk, words, texts),
-        Sub::Stats => look_at(crew, alloc, Look::Stats, words, texts),
+        Sub::Plan | Sub::Walk | Sub::Stats | Sub::Draw | Sub::Prefixes | Sub::Ranges => {
+            look_at(crew, alloc, sub, words, texts)
+        }
         Sub::Compare => compare(crew, alloc, words, texts),
-        Sub::Draw => look_at(crew, alloc, Look::Draw, words, texts),
-        Sub::Prefixes => look_at(crew, alloc, Look::Prefixes, words, texts),
-        Sub::Ranges => look_at(crew, alloc, Look::Ranges, words, texts),
         Sub::Sim => {
             let (topology, script) = two_texts(words, texts);
             simulate(crew, alloc, words, topology, script)
@@ -87,28 +83,6 @@ fn answer_by<C: LineCrew>(
         Sub::Check => {
             let (topology, script, trace) = three_texts(words, texts);
             check(crew, alloc, words, topology, script, trace)
-        }
-    }
-}
-
-/// Writes an answer, or the line that tells why there is none.
-pub fn write_given<W: Writer, F: Writer>(
-    given: Result<Reply, Stop>,
-    output: &mut W,
-    faults: &mut F,
-) -> Ending
-    ensures { GivenAs given result (Sends W.contents W.wrote W.settled output.old output.new)
-        (output.new ≡ output.old) (Tells F.contents F.wrote F.settled faults.old faults.new) }
-{
-    match given {
-        Ok(reply) => write_reply(reply, output, faults),
-        Err(Stop::Refused(line)) => {
-            tell(faults, line.as_bytes());
-            Ending::Refused
-        }
-        Err(Stop::NoMemory) => {
-            tell(faults, b"out of memory\n");
-            Ending::NoMemory
         }
     }
 }
@@ -122,19 +96,31 @@ fn write_answer<C: LineCrew, W: Writer, F: Writer>(
     texts: &[Vec<u8>],
     output: &mut W,
     faults: &mut F,
-) -> Ending
+) -> Outcome
     requires kind { FitsSub sub words.now }
     requires texts { length texts.now ≡ length (sources_by sub words.now) }
-    ensures { EndsAs (AnswersBy NoThreads sub words.now) result (λ read. read ≡ texts_of texts.now) (λ source why. ⊥)
+    ensures ends { EndsAs (AnswersBy NoThreads sub words.now) result.ending (λ read. read ≡ texts_of texts.now)
+        (λ source why. ⊥)
         (Sends W.contents W.wrote W.settled output.old output.new) (output.new ≡ output.old)
         (Tells F.contents F.wrote F.settled faults.old faults.new) }
+    ensures told { Tells F.contents F.wrote F.settled faults.old faults.new (told_text result.told) }
+    ensures found { ShowsFound (asked_form sub words.now) result.found result.ending
+        (Sends W.contents W.wrote W.settled output.old output.new) }
 {
     let plain = answer_by(crew, alloc, sub, words, texts);
-    write_given(in_form(alloc, sub, words, plain), output, faults)
+    write_given_by(
+        crew,
+        alloc,
+        words.threads,
+        asked_shape(sub, words),
+        plain,
+        output,
+        faults,
+    )
 }
 
-/// Does what a subcommand does over readers and writers, and answers the exit status.
-fn run_as<C: LineCrew, R: Reader, W: Writer, F: Writer>(
+/// Does what a subcommand does over readers and writers.
+fn follow_as<C: LineCrew, R: Reader, W: Writer, F: Writer>(
     crew: &C,
     alloc: Global,
     sub: Sub,
@@ -142,21 +128,21 @@ fn run_as<C: LineCrew, R: Reader, W: Writer, F: Writer>(
     inputs: &mut [R],
     output: &mut W,
     faults: &mut F,
-) -> u8
+) -> Outcome
     requires kind { FitsSub sub words.now }
     requires inputs { length inputs.old ≡ length (sources_by sub words.now) }
-    ensures { Ends (AnswersBy NoThreads sub words.now) result
+    ensures ends { EndsAs (AnswersBy NoThreads sub words.now) result.ending
         (λ texts. AreRead R.remaining R.gave inputs.old texts inputs.new)
         (IsUnread R.remaining R.gave (sources_by sub words.now) inputs.old inputs.new)
         (Sends W.contents W.wrote W.settled output.old output.new) (output.new ≡ output.old)
         (Tells F.contents F.wrote F.settled faults.old faults.new) }
+    ensures told { Tells F.contents F.wrote F.settled faults.old faults.new (told_text result.told) }
+    ensures found { ShowsFound (asked_form sub words.now) result.found result.ending
+        (Sends W.contents W.wrote W.settled output.old output.new) }
 {
     match read_inputs(alloc, sources_by(sub, words), inputs) {
-        Ok(texts) => {
-            let ending = write_answer(crew, alloc, sub, words, texts.as_slice(), output, faults);
-            status_of(ending)
-        }
-        Err(unread) => status_of(tell_unread(faults, unread.source, unread.why)),
+        Ok(texts) => write_answer(crew, alloc, sub, words, texts.as_slice(), output, faults),
+        Err(unread) => tell_unread(faults, unread.source, unread.why),
     }
 }
 
@@ -175,13 +161,13 @@ pub fn run_plan<R: Reader, W: Writer, F: Writer>(
 ) -> u8
     requires kind { FitsItsKind words.now }
     requires inputs { length inputs.old ≡ length (look_sources words.now) }
-    ensures { Ends (InForm Sub.Plan words.now (LookAnswers Look.Plan words.now)) result
+    ensures { Ends (InForm Sub.Plan words.now (LookAnswers Sub.Plan words.now)) result
         (λ texts. AreRead R.remaining R.gave inputs.old texts inputs.new)
         (IsUnread R.remaining R.gave (look_sources words.now) inputs.old inputs.new)
         (Sends W.contents W.wrote W.settled output.old output.new) (output.new ≡ output.old)
         (Tells F.contents F.wrote F.settled faults.old faults.new) }
 {
-    run_as(&Alone, alloc, Sub::Plan, words, inputs, output, faults)
+    status_of(follow_as(&Alone, alloc, Sub::Plan, words, inputs, output, faults).ending)
 }
 
 /// Reads a topology and a script, plays the script's steps in a world over the topology, and writes the trace of its
@@ -205,7 +191,7 @@ pub fn run_sim<R: Reader, W: Writer, F: Writer>(
         (Sends W.contents W.wrote W.settled output.old output.new) (output.new ≡ output.old)
         (Tells F.contents F.wrote F.settled faults.old faults.new) }
 {
-    run_as(&Alone, alloc, Sub::Sim, words, inputs, output, faults)
+    status_of(follow_as(&Alone, alloc, Sub::Sim, words, inputs, output, faults).ending)
 }
 
 /// Reads a topology, a script and a trace, and writes `ok N` for a trace of N rows, or its first finding: `finding LINE
@@ -229,7 +215,31 @@ pub fn run_check<R: Reader, W: Writer, F: Writer>(
         (Sends W.contents W.wrote W.settled output.old output.new) (output.new ≡ output.old)
         (Tells F.contents F.wrote F.settled faults.old faults.new) }
 {
-    run_as(&Alone, alloc, Sub::Check, words, inputs, output, faults)
+    status_of(follow_as(&Alone, alloc, Sub::Check, words, inputs, output, faults).ending)
+}
+
+/// Does what the words ask for over readers and writers, as `run_by` does, and answers what it came to, as values: how the
+/// run ended, what its lines of faults tell, and what a check found.
+pub fn follow_by<C: LineCrew, R: Reader, W: Writer, F: Writer>(
+    crew: &C,
+    alloc: Global,
+    words: &Words,
+    inputs: &mut [R],
+    output: &mut W,
+    faults: &mut F,
+) -> Outcome
+    requires kind { FitsItsKind words.now }
+    requires inputs { length inputs.old ≡ length (sources_of words.now) }
+    ensures ends { EndsAs (Answers NoThreads words.now) result.ending
+        (λ texts. AreRead R.remaining R.gave inputs.old texts inputs.new)
+        (IsUnread R.remaining R.gave (sources_of words.now) inputs.old inputs.new)
+        (Sends W.contents W.wrote W.settled output.old output.new) (output.new ≡ output.old)
+        (Tells F.contents F.wrote F.settled faults.old faults.new) }
+    ensures told { Tells F.contents F.wrote F.settled faults.old faults.new (told_text result.told) }
+    ensures found { ShowsFound (asked_form words.now.sub words.now) result.found result.ending
+        (Sends W.contents W.wrote W.settled output.old output.new) }
+{
+    follow_as(crew, alloc, words.sub, words, inputs, output, faults)
 }
 
 /// Does what the words ask for over readers and writers, and answers the exit status; what takes part in it is made by a
@@ -261,5 +271,5 @@ pub fn run_by<C: LineCrew, R: Reader, W: Writer, F: Writer>(
         (Sends W.contents W.wrote W.settled output.old output.new) (output.new ≡ output.old)
         (Tells F.contents F.wrote F.settled faults.old faults.new) }
 {
-    run_as(crew, alloc, words.sub, words, inputs, output, faults)
+    status_of(follow_by(crew, alloc, words, inputs, output, faults).ending)
 }

@@ -5,6 +5,7 @@ pub mod Meaning
 pub mod Refusals
 pub mod Cut
 pub mod Lines
+pub mod Notices
 pub mod Answer
 pub mod Replies
 pub mod Openings

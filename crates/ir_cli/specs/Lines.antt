@@ -1,5 +1,5 @@
 -- The lines that tell of a refusal, and of an input that was not read.
-use Rattle.std.specs.Prelude.{ℕ, ◌-◌, List, [], ◌∷◌, ◌++◌, Result, Ok, Err, codes, decimal, slice_index_or}
+use Rattle.std.specs.Prelude.{ℕ, ◌-◌, List, [], ◌∷◌, ◌++◌, Result, Ok, Err, codes, decimal, flat_map, slice_index_or}
 use Rattle.ir_model.specs.declared.Fault.{Fault}
 use Rattle.ir_adjlist.specs.Told as texts
 use Rattle.ir_core.specs.Codes.{open_code, refusal_code}
@@ -129,6 +129,14 @@ refused_line line e = numbered_line (codes "refused") line (refusal_name e)
 abbrev pub reply_line : ℕ × Result Reply Refused → List ℕ
 reply_line (line, Ok reply) = []
 reply_line (line, Err refusal) = refused_line line refusal
+
+-- the same, where the number of the line stands beside the refusal
+abbrev pub step_line : ℕ × Refused → List ℕ
+step_line step = refused_line step.0 step.1
+
+-- a line for each step that was refused, in order
+abbrev pub steps_text : List (ℕ × Refused) → List ℕ
+steps_text steps = flat_map step_line steps
 
 abbrev pub source_name : Source → List ℕ
 source_name Input = codes "input"

@@ -8,8 +8,9 @@ use Rattle.ir_streams.specs.declared.reading.NoInput.{NoInput}
 use Rattle.ir_streams.specs.declared.reading.NoInput.TheVariants.{Unreadable, TooLarge, NoMemory}
 use Rattle.ir_cli.specs.Lines.{unwritable_line, unreadable_line, too_large_line, out_of_memory_line, no_thread_line}
 
--- what the writers were given of an answer
+-- what the writers were given of an answer; where memory for its lines was refused, that is told
 abbrev pub RepliesAs : Ending → Answer → (out : Bool → List ℕ → Type 0) (unused : Type 0) (told : List ℕ → Type 0) → Type 0
+RepliesAs endings.NoMemory answer out unused told = unused × told out_of_memory_line
 RepliesAs endings.Done (Ran trace refusals) out unused told = out true trace × told refusals
 RepliesAs endings.Unwritable (Ran trace refusals) out unused told = out false trace × told unwritable_line
 RepliesAs endings.Found (Found line) out unused told = out true line × told []

@@ -303,7 +303,8 @@ fn with_subcommand<'a>(
     made: Result<Command<'a>, AllocError>,
 ) -> Result<Command<'a>, AllocError>
     ensures { IfOk result (λ both. (sub : Command) × (made.entry ≡ Ok sub)
-        × ((out-Command sub).has_globals ≡ false → app_of both ≡ with_subcommand (app_of command.entry) (shape_of sub))) }
+        × ((out-Command sub).has_globals ≡ false
+        → app_of both ≡ with_subcommand (app_of command.entry) (shape_of sub))) }
 {
     command.subcommand(made?)
 }
@@ -333,7 +334,8 @@ fn choices_told<'a>() -> Choices<'a>
 
 /// The command of the program.
 pub(crate) fn route_command<'a>(alloc: Global, called: Called) -> Result<Command<'a>, AllocError>
-    ensures { IfOk result (λ made. (choices : Choices) × AreTheirWords choices × (app_of made ≡ program choices called)) }
+    ensures { IfOk result (λ made. (choices : Choices) × AreTheirWords choices
+        × (app_of made ≡ program choices called)) }
 {
     let choices = choices_told();
     let texts = texts_of(called);

@@ -110,7 +110,8 @@ fn files_wanted(called: Called, sub: Sub) -> &'static str {
 
 /// What is wrong with words, if anything is.
 pub fn fault_of(called: Called, words: &Words) -> Option<&'static str>
-    ensures { MatchOption result (AreTaken words.now × FitsItsKind words.now) (λ _. AreTaken words.now → FitsItsKind words.now → ⊥) }
+    ensures { MatchOption result (AreTaken words.now × FitsItsKind words.now)
+        (λ _. AreTaken words.now → FitsItsKind words.now → ⊥) }
 {
     if !has_its_files(words) {
         return Some(files_wanted(called, words.sub));

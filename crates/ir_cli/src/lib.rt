@@ -7,8 +7,10 @@ mod ending;
 mod faults;
 mod help;
 mod lines;
+mod notice;
 mod open;
 mod options;
+mod outcome;
 mod parting;
 mod read;
 mod reply;
@@ -18,14 +20,13 @@ mod write;
 
 pub use ending::{Ending, status_of};
 pub use help::Called;
-pub use lines::{
-    finding_line, numbering_line, ok_line, opening_line, push_reply_line, script_line,
-    too_large_line, topology_line, unreadable_line, whole_line,
-};
+pub use lines::steps_text;
+pub use notice::{Notice, notice_line};
 pub use open::{label_order, no_root, opening_of, read_topology, root_of};
+pub use outcome::{Outcome, Told};
 pub use parting::cut;
 pub use read::{Source, Unread, read_inputs};
-pub use reply::{Reply, tell_unread, write_reply};
+pub use reply::{Reply, tell_unread};
 pub use words::{Format, Numbering, Second, Sub, Words, WordsError, read_words, read_words_as};
 pub use write::tell;
 

@@ -1,9 +1,9 @@
 //! The lines that tell of a refusal, and of an input that was not read.
 ghost use Rattle.std.specs.Prelude.{◌≡◌, ◌∷◌, ◌++◌, [], IfOk, OnOk, codes, string_bytes};
-ghost use Rattle.ir_cli.specs.Lines.{finding_line, whole_line, ok_line, topology_line, script_line, numbering_line, opening_line, unreadable_line, too_large_line, numbered_line, reply_line};
+ghost use Rattle.ir_cli.specs.Lines.{finding_line, whole_line, ok_line, topology_line, script_line, numbering_line, opening_line, unreadable_line, too_large_line, numbered_line, refused_line, steps_text};
 
 use crate::read::Source;
-use ir_core::{OpenError, Refused, Reply};
+use ir_core::{OpenError, Refused};
 use ir_model::Fault;
 use ir_script::{OrderFaultKind, ScriptFault};
 use ir_trace::Finding;
@@ -215,16 +215,21 @@ pub fn opening_line(alloc: Global, error: OpenError) -> Result<String, AllocErro
     format!(in alloc; "opening {name}\n")
 }
 
-/// Writes the line of a step that was refused, and nothing for another.
-pub fn push_reply_line(
-    text: &mut String,
-    line: usize,
-    reply: Result<Reply, Refused>,
-) -> Result<(), AllocError>
-    ensures { OnOk result (string_bytes text.new ≡ string_bytes text.old ++ reply_line (line, reply)) }
+/// Writes the line of a step that was refused.
+fn push_step(text: &mut String, line: usize, refusal: Refused) -> Result<(), AllocError>
+    ensures { OnOk result (string_bytes text.new ≡ string_bytes text.old ++ refused_line line refusal) }
 {
-    match reply {
-        Ok(_) => Ok(()),
-        Err(refusal) => push_line(text, "refused", line, REFUSALS[refusal.code() as usize - 1]),
+    push_line(text, "refused", line, REFUSALS[refusal.code() as usize - 1])
+}
+
+/// A line for each step that was refused.
+pub fn steps_text(alloc: Global, steps: &[(usize, Refused)]) -> Result<String, AllocError>
+    ensures { IfOk result (λ text. string_bytes text ≡ steps_text steps.now) }
+{
+    let mut text = String::new(alloc);
+    for i in 0..steps.len() {
+        let (line, refusal) = steps[i];
+        push_step(&mut text, line, refusal)?;
     }
+    Ok(text)
 }

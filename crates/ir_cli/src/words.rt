@@ -224,7 +224,8 @@ static UNREAD: &str = "error: the words are not read\n";
 /// The words of a subcommand of this name. No words that the parser takes have a name or a number that is not taken here.
 fn words_of(alloc: Global, name: &str, found: &ArgMatches<'_>) -> Result<Words, WordsError>
     ensures means { IfOk result (λ words. Means name.now (rows_of (found_of found.now)) words) }
-    ensures refused { IfErr result (FailsOn ((words : Words) → Means name.now (rows_of (found_of found.now)) words → ⊥) ⊥) }
+    ensures refused { IfErr result (FailsOn
+        ((words : Words) → Means name.now (rows_of (found_of found.now)) words → ⊥) ⊥) }
 {
     let Some(all) = choose(name, found) else {
         return Err(WordsError::Usage(String::from_str(alloc, UNREAD)?));

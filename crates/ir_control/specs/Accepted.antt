@@ -1,7 +1,11 @@
 -- The packets that an injector accepted.
 use Rattle.std.specs.Prelude.{◌≡◌, ℕ, [], ◌∷◌, ◌++◌, Option, Some, None, length, nat_lt, cond}
 use Rattle.ir_epochs.specs.declared.registry.Stamp.{Stamp}
-use Rattle.ir_epochs.specs.Stamps.{knows}
+use Rattle.ir_epochs.specs.declared.handles.Receipt.{Receipt}
+use Rattle.ir_epochs.specs.Stamps.{knows, registry_name}
+use Rattle.ir_epochs.specs.Entries.{registry_of, topology_of, installed_by}
+use Rattle.ir_epochs.specs.Handles.{told}
+use Rattle.ir_worker.specs.Account.{lines_out}
 use Rattle.ir_model.specs.Topology.{node_count}
 use Rattle.ir_core.specs.Record.{hop_room}
 use Rattle.ir_core.specs.Entry.{fresh}
@@ -22,6 +26,35 @@ new_parcel opening restamps id s source dest = record {
   later = [];
   next = source;
 }
+
+-- how many packets an injector accepted
+abbrev pub accepted_count : Injector → ℕ
+accepted_count injector = length injector.accepted.items
+
+-- a receipt is of the injector's registry, and of its network
+abbrev pub IsOfRegistryOf : Injector → Receipt → Type 0
+IsOfRegistryOf injector t = registry_of (told t) ≡ registry_name injector.opening
+
+abbrev pub IsOfNetworkOf : Injector → Receipt → Type 0
+IsOfNetworkOf injector t = topology_of (told t) ≡ (knows injector.opening).topology
+
+-- it has the same opening, ends and packets, and the same limit
+abbrev pub HasAllOf : Injector → Injector → Type 0
+HasAllOf before after =
+    (after.opening ≡ before.opening) × (after.outs ≡ before.outs) × (after.accepted ≡ before.accepted) × (after.max_packets ≡ before.max_packets)
+
+-- the newest stamp is the later one of that before and the receipt's
+abbrev pub HasNewestBy : Receipt → Injector → Injector → Type 0
+HasNewestBy t before after = after.newest ≡ stamp_after_learning before.newest (installed_by (told t))
+
+-- it has the same opening, newest stamp and limit
+abbrev pub HasTermsOf : Injector → Injector → Type 0
+HasTermsOf before after =
+    (after.opening ≡ before.opening) × (after.newest ≡ before.newest) × (after.max_packets ≡ before.max_packets)
+
+-- its ends are of the same channels
+abbrev pub HasLinesOf : Injector → Injector → Type 0
+HasLinesOf before after = lines_out after.outs.items ≡ lines_out before.outs.items
 
 -- The packet was accepted: it is the last of the list, stamped with the newest epoch that was learnt, and its parcel
 -- was put into the inbox of its source.

@@ -1,21 +1,24 @@
 -- What a controller refuses, and what it changes.
-use Rattle.std.specs.Prelude.{◌≡◌, ◌⊎◌, ℕ, ◌+◌, ◌∷◌, ◌++◌, [], length, take, Option, Some, None, Result, MatchResult}
+use Rattle.std.specs.Prelude.{◌≡◌, ◌⊎◌, ℕ, ◌+◌, Bool, List, ◌∷◌, ◌++◌, [], length, take, Option, Some, None, Result, MatchResult}
 use Rattle.std.specs.Arc.{arc_value}
 use Rattle.ir_model.specs.declared.Kind.{Kind}
 use Rattle.ir_model.specs.Topology.{Topology, node_count, restrict}
 use Rattle.ir_model.specs.Walk.{IsDisconnected}
 use Rattle.ir_core.specs.declared.event.Refused.{Refused}
 use Rattle.ir_core.specs.declared.event.Refused.TheVariants.{Disconnected, NoMemory, Used}
-use Rattle.ir_core.specs.Refusals.{install_refused}
+use Rattle.ir_core.specs.declared.board.Board.{Board}
+use Rattle.ir_core.specs.Refusals.{install_refused, retire_refused, mark_refused}
 use Rattle.ir_core.specs.Meaning.{IsMade}
 use Rattle.ir_epochs.specs.declared.registry.Stamp.{Stamp}
 use Rattle.ir_epochs.specs.declared.handles.Receipt.{Receipt}
 use Rattle.ir_epochs.specs.declared.entry.Change.{Change}
 use Rattle.ir_epochs.specs.declared.entry.Change.TheVariants.{Install}
+use Rattle.ir_epochs.specs.declared.entry.Entry.{Entry}
 use Rattle.ir_epochs.specs.declared.entry.Entry.TheVariants.{Changed}
 use Rattle.ir_epochs.specs.Stamps.{IsOf, knows}
 use Rattle.ir_epochs.specs.Entries.{board_of}
-use Rattle.ir_epochs.specs.Handles.{published, writer_board, told, receipt_board}
+use Rattle.ir_epochs.specs.Handles.{published, writer_board, reader_board, told, receipt_board}
+use Rattle.ir_worker.specs.declared.node.Node.{Node}
 use Rattle.ir_control.specs.declared.controller.Controller.{Controller}
 
 abbrev pub IsRefusedBy : Refused → Option Refused → Type 0
@@ -23,6 +26,24 @@ IsRefusedBy error (Some e) = error ≡ e
 IsRefusedBy error None = error ≡ NoMemory
 
 module _ {R : Type 0} where
+  -- all that a controller published, and the board that it makes
+  abbrev pub published_by : Controller R → List Entry
+  published_by c = published c.writer
+
+  abbrev pub newest_board : Controller R → Board
+  newest_board c = board_of (published c.writer)
+
+  -- a node reads its board
+  abbrev pub IsReadBy : Controller R → Node → Type 0
+  IsReadBy c n = reader_board n.reader ≡ writer_board c.writer
+
+  -- why it does not retire the epochs below a floor, and why it does not mark a link
+  abbrev pub retiring_refused : Controller R → ℕ → Option Refused
+  retiring_refused c floor = retire_refused (newest_board c) floor
+
+  abbrev pub marking_refused : Controller R → ℕ → Bool → Option Refused
+  marking_refused c link up = mark_refused (length (knows c.opening).topology.links) (newest_board c) link up
+
   -- it is the same controller, which has published this one change more; the receipt tells of it
   pub record Publishes (before after : Controller R) (c : Change) (t : Receipt) : Type 0 where
     pub published_is : published after.writer ≡ published before.writer ++ Changed c ∷ []
@@ -30,6 +51,7 @@ module _ {R : Type 0} where
     pub receipt : receipt_board t ≡ writer_board before.writer
     pub board : writer_board after.writer ≡ writer_board before.writer
     pub opening : after.opening ≡ before.opening
+    pub registry : after.registry ≡ before.registry
     pub labels : after.labels ≡ before.labels
 
   -- nothing was published
@@ -37,6 +59,7 @@ module _ {R : Type 0} where
     pub published_is : published after.writer ≡ published before.writer
     pub board : writer_board after.writer ≡ writer_board before.writer
     pub opening : after.opening ≡ before.opening
+    pub registry : after.registry ≡ before.registry
     pub labels : after.labels ≡ before.labels
 
   -- the change was published and not refused; or the first refusal, or else want of memory, and nothing was published

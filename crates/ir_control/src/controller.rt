@@ -38,10 +38,11 @@ pub struct Controller<R: Wait + Drop> {
 }
 
 impl<R: Wait + Drop> Controller<R> {
-    ghost use Rattle.ir_core.specs.Refusals.{retire_refused, mark_refused};
+    ghost use Rattle.ir_control.specs.Changes.{published_by, newest_board, IsReadBy, retiring_refused, marking_refused};
+    ghost use Rattle.ir_worker.specs.Same.{known_to};
     ghost use Rattle.ir_control.specs.Changes.{install_refusal, topology_up, IsChangeAnswer, IsInstallAnswer};
     ghost use Rattle.ir_epochs.specs.declared.entry.Change.TheVariants.{Retire, Down, Up};
-    ghost use Rattle.std.specs.Prelude.{true, false};
+    ghost use Rattle.std.specs.Prelude.{◌↔◌, IsTrue, true, false};
 
     // The controller of a board that was just opened over the stamp of epoch 1.
     pub(crate) fn new(
@@ -69,17 +70,17 @@ impl<R: Wait + Drop> Controller<R> {
 
     /// The board as it is.
     pub fn board(&self) -> Board
-        ensures { result ≡ board_of (published self.now.writer) }
+        ensures { result ≡ newest_board self.now }
     {
         self.writer.board()
     }
 
-    /// Sees that it published all that a node of its board has read or learnt.
-    pub fn leads(&self, node: &Node)
-        requires { reader_board node.now.reader ≡ writer_board self.now.writer }
-        ensures { IsPrefix (known node.now.reader) (published self.now.writer) }
+    /// Whether it published all that a node of its board has read or learnt.
+    pub fn leads(&self, node: &Node) -> bool
+        requires { IsReadBy self.now node.now }
+        ensures { IsTrue result ↔ IsPrefix (known_to node.now) (published_by self.now) }
     {
-        node.follows(&self.writer);
+        node.follows(&self.writer)
     }
 
     /// Publishes one change, for which there is room.
@@ -87,14 +88,7 @@ impl<R: Wait + Drop> Controller<R> {
         requires version { (board_of (published self.old.writer)).version < MAX_CHANGES }
         requires fits { MayComeNext (published self.old.writer) change }
         requires epochs { (changed (board_of (published self.old.writer)) change).current ≤ self.old.used }
-        ensures answer { MatchResult result
-            (λ t. (published self.new.writer ≡ published self.old.writer ++ Changed change ∷ [])
-            × (told t ≡ published self.new.writer))
-            (λ e. (published self.new.writer ≡ published self.old.writer) × (e ≡ Refused.NoMemory)) }
-        ensures same { (self.new.opening ≡ self.old.opening) × (self.new.used ≡ self.old.used)
-            × (self.new.registry ≡ self.old.registry) × (self.new.labels ≡ self.old.labels) }
-        ensures board { writer_board self.new.writer ≡ writer_board self.old.writer }
-        ensures receipt { IfOk result (λ t. receipt_board t ≡ writer_board self.old.writer) }
+        ensures answer { IsChangeAnswer None change self.old self.new result }
         ensures number { IfErr result (λ e. 0 < change_number e) }
     {
         match self.writer.change(change) {
@@ -107,8 +101,7 @@ impl<R: Wait + Drop> Controller<R> {
     /// that is not above the present floor (`Same`), a change too many, want of memory. `Refused::change_number` has the
     /// numbers of a change's refusals.
     pub fn retire(&mut self, floor: u32) -> Result<Receipt, Refused>
-        ensures answer { IsChangeAnswer (retire_refused (board_of (published self.old.writer)) floor)
-            (Retire floor) self.old self.new result }
+        ensures answer { IsChangeAnswer (retiring_refused self.old floor) (Retire floor) self.old self.new result }
         ensures number { IfErr result (λ e. 0 < change_number e) }
     {
         if let Some(error) = self.writer.board().retire_refusal(floor) {
@@ -120,8 +113,7 @@ impl<R: Wait + Drop> Controller<R> {
     /// Marks a link as down. Refused are, in this order: a number that is no link, a link that is down, a change too
     /// many, want of memory.
     pub fn down(&mut self, link: u16) -> Result<Receipt, Refused>
-        ensures answer { IsChangeAnswer (mark_refused (length (knows self.old.opening).topology.links)
-            (board_of (published self.old.writer)) link false) (Down link) self.old self.new result }
+        ensures answer { IsChangeAnswer (marking_refused self.old link false) (Down link) self.old self.new result }
         ensures number { IfErr result (λ e. 0 < change_number e) }
     {
         if let Some(error) = self.mark_refusal(link, false) {
@@ -133,8 +125,7 @@ impl<R: Wait + Drop> Controller<R> {
     /// Marks a link as up. Refused are, in this order: a number that is no link, a link that is up, a change too many,
     /// want of memory.
     pub fn up(&mut self, link: u16) -> Result<Receipt, Refused>
-        ensures answer { IsChangeAnswer (mark_refused (length (knows self.old.opening).topology.links)
-            (board_of (published self.old.writer)) link true) (Up link) self.old self.new result }
+        ensures answer { IsChangeAnswer (marking_refused self.old link true) (Up link) self.old self.new result }
         ensures number { IfErr result (λ e. 0 < change_number e) }
     {
         if let Some(error) = self.mark_refusal(link, true) {
@@ -145,8 +136,7 @@ impl<R: Wait + Drop> Controller<R> {
 
     // Why a link is not marked.
     fn mark_refusal(&self, link: u16, up: bool) -> Option<Refused>
-        ensures refusal { result ≡ mark_refused (length (knows self.now.opening).topology.links)
-            (board_of (published self.now.writer)) link up }
+        ensures refusal { result ≡ marking_refused self.now link up }
         ensures number { IfSome result (λ e. 0 < change_number e) }
     {
         let topology = self.registry.plan(&self.opening).topology();

@@ -4,7 +4,6 @@ ghost use Rattle.std.specs.Arc.{arc_value};
 ghost use Rattle.ir_model.specs.Topology.{node_count};
 ghost use Rattle.ir_core.specs.declared.TheConstants.{MAX_NODES, MAX_PACKETS};
 ghost use Rattle.ir_epochs.specs.Stamps.{IsOf, knows, registry_name};
-ghost use Rattle.ir_epochs.specs.{Entries.{registry_of, topology_of, installed_by}, Handles.told};
 ghost use Rattle.ir_worker.specs.Seen.{HasRoomOf, IsOfNet};
 ghost use Rattle.ir_worker.specs.Account.{Head, times_sent, weigh_sent, restamps_with, lines_out};
 ghost use Rattle.ir_control.specs.{Whole.IsParcelOf, Heads.{times_injected, AreNumbered}, Outs.{AreEntryEnds, IsSent}};
@@ -78,8 +77,9 @@ fn send_to<R: Moments<Parcel>>(
 }
 
 impl Injector {
-    ghost use Rattle.ir_control.specs.{Accepted.{IsInjected, stamp_after_learning}, Refusals.IsInjectRefusal};
-    ghost use Rattle.ir_core.specs.{Codes.inject_number, Refusals.inject_refused};
+    ghost use Rattle.ir_control.specs.{Accepted.{accepted_count, IsOfRegistryOf, IsOfNetworkOf}, Refusals.IsInjectAnswer};
+    ghost use Rattle.ir_control.specs.Accepted.{HasNewestBy, HasAllOf, HasTermsOf, HasLinesOf};
+    ghost use Rattle.ir_core.specs.Codes.{inject_number};
 
     // An injector that accepted nothing, and learnt epoch 1.
     pub(crate) fn new(
@@ -112,18 +112,17 @@ impl Injector {
 
     /// How many packets were accepted.
     pub fn count(&self) -> u32
-        ensures { result ≡ length self.now.accepted.items }
+        ensures { result ≡ accepted_count self.now }
     {
         self.accepted.len() as u32
     }
 
     /// From now on packets are stamped with the receipt's epoch, if it is an install's and a later one.
     pub fn learn(&mut self, receipt: &Receipt)
-        requires registry { registry_of (told receipt.now) ≡ registry_name self.old.opening }
-        requires topology { topology_of (told receipt.now) ≡ (knows self.old.opening).topology }
-        ensures newest { self.new.newest ≡ stamp_after_learning self.old.newest (installed_by (told receipt.now)) }
-        ensures same { (self.new.opening ≡ self.old.opening) × (self.new.outs ≡ self.old.outs)
-            × (self.new.accepted ≡ self.old.accepted) × (self.new.max_packets ≡ self.old.max_packets) }
+        requires registry { IsOfRegistryOf self.old receipt.now }
+        requires topology { IsOfNetworkOf self.old receipt.now }
+        ensures newest { HasNewestBy receipt.now self.old self.new }
+        ensures same { HasAllOf self.old self.new }
     {
         if let Some(stamp) = receipt.stamp()
             && self.newest.epoch() < stamp.epoch()
@@ -144,15 +143,10 @@ impl Injector {
         source: u16,
         dest: u16,
     ) -> Result<u32, Refused>
-        ensures answer { MatchResult result
-            (λ id. (inject_refused (node_count (knows self.old.opening).topology) self.old.max_packets
-            (length self.old.accepted.items) source dest ≡ None) × IsInjected self.old self.new id source dest)
-            (λ e. IsInjectRefusal R.was_full self.old source dest e × (self.new.outs.items ≡ self.old.outs.items)
-            × (self.new.accepted.items ≡ self.old.accepted.items)) }
+        ensures answer { IsInjectAnswer R.was_full source dest self.old result self.new }
         ensures number { IfErr result (λ e. 0 < inject_number e) }
-        ensures same { (self.new.opening ≡ self.old.opening) × (self.new.newest ≡ self.old.newest)
-            × (self.new.max_packets ≡ self.old.max_packets) }
-        ensures lines { lines_out self.new.outs.items ≡ lines_out self.old.outs.items }
+        ensures same { HasTermsOf self.old self.new }
+        ensures lines { HasLinesOf self.old self.new }
     {
         let nodes = self.outs.len();
         if source as usize >= nodes || dest as usize >= nodes {
@@ -169,8 +163,7 @@ impl Injector {
             &self.registry,
             id,
             self.newest.again(),
-            source,
-            dest,
+            (source, dest),
             self.restamps,
         ) else {
             return Err(Refused::NoMemory);

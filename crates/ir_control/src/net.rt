@@ -14,10 +14,9 @@ use crate::peers::peers_of;
 use ir_core::{MAX_PACKETS, MAX_RESTAMPS, OpenError, Opening, open_refusal, plan_over_by};
 use ir_epochs::{BoardError, BoardReader, BoardWriter, RegisterError, Registry, Stamp, board};
 use ir_links::{Channel, Sender, Taker};
-use ir_model::Kind;
 use ir_plan::{LabelOrder, Several};
 use ir_tables::Topology;
-use ir_worker::{Node, Parcel};
+use ir_worker::{Common, Ends, Node, Parcel};
 use std::alloc::{AllocError, Global};
 use std::sync::atomic::{AtomicBool, AtomicU32, Ordering};
 use std::sync::{Arc, Wait};
@@ -30,10 +29,11 @@ use std::thread::Threads;
 /// A live run over it, where each node may always go on (`Open`):
 ///
 /// ```
-/// let net = Net::new(rt, alloc, topology, Kind::Tree, 0, 16, 64, 0).ok()?;
+/// let opening = Opening::of(topology, Kind::Tree, 0, 16, 64, 0);
+/// let net = Net::open(rt, alloc, opening).ok()?;
 /// let commands = [Command::Inject(1, 2), Command::Drain];
 /// let stop = AtomicBool::new(false);
-/// let live = run_live(rt, alloc, &net, &commands, &Open, &stop, rt).ok()?;
+/// let live = run_live(rt, &net, &commands, &Open, &stop, rt).ok()?;
 /// ```
 #[derive(Drop)]
 pub struct Net {
@@ -106,30 +106,7 @@ fn entries_of(alloc: Global, nodes: usize) -> Result<Vec<usize>, AllocError>
 }
 
 impl Net {
-    ghost use Rattle.ir_core.specs.Opened.{opening_of};
     ghost use Rattle.ir_control.specs.Nets.{IsNetFor};
-
-    /// The net that `open` gives of the opening by these, whose plans are labelled depth first. For users of the library.
-    pub fn new(
-        rt: &(impl Threads + Sync),
-        alloc: Global,
-        topology: Topology,
-        kind: Kind,
-        root: u16,
-        capacity: usize,
-        max_packets: usize,
-        restamps: u8,
-    ) -> Result<Net, OpenError>
-        ensures opened { IfOk result
-            (λ net. IsNetFor (opening_of topology kind root capacity max_packets restamps) net) }
-        ensures accepted { IfOk result
-            (λ _. open_refused (opening_of topology kind root capacity max_packets restamps) ≡ None) }
-        ensures refused { IfErr result
-            (λ e. IsNetRefusal (opening_of topology kind root capacity max_packets restamps) e) }
-    {
-        let opening = Opening::of(topology, kind, root, capacity, max_packets, restamps);
-        Net::open(rt, alloc, opening)
-    }
 
     /// A net for an opening, whose epoch 1 has a plan of the opening's kind and root over all links.
     ///
@@ -219,20 +196,26 @@ impl Net {
 
 impl Net {
     ghost use Rattle.std.specs.Prelude.{IfSome, slice_get, []};
+    ghost use Rattle.ir_control.specs.Nets.{registry_in, first_stamp};
     ghost use Rattle.ir_epochs.specs.{Stamps.registry_name, Entries.{registry_of, topology_of}};
     ghost use Rattle.ir_epochs.specs.Handles.{known, reader_board};
     ghost use Rattle.ir_control.specs.{Fresh.{AreFreshOuts, AreFreshIns}, Parts.{IsNodeOf, IsFreshNode}};
 
+    /// Where its memory comes from.
+    pub fn alloc(&self) -> Global {
+        self.alloc
+    }
+
     /// The registry of its plans.
     pub fn registry(&self) -> &Registry
-        ensures { result.now ≡ arc_value self.now.registry }
+        ensures { result.now ≡ registry_in self.now }
     {
         &self.registry
     }
 
     /// The stamp of epoch 1.
     pub fn opening(&self) -> &Stamp
-        ensures { result.now ≡ self.now.opening }
+        ensures { result.now ≡ first_stamp self.now }
     {
         &self.opening
     }
@@ -246,14 +229,12 @@ impl Net {
     fn node(
         &self,
         u: usize,
-        first: usize,
         inbox: Taker<Parcel>,
         reader: BoardReader,
         senders: &mut Vec<Option<Sender<Parcel>>>,
         takers: &mut Vec<Option<Taker<Parcel>>>,
     ) -> Result<Option<Node>, AllocError>
         requires node { u < node_count self.now.topology }
-        requires first { first ≡ offset self.now.topology u }
         requires inbox { slice_get self.now.inboxes.items u ≡ Some inbox.channel }
         requires inbox_new { inbox.taken ≡ [] }
         requires reader { (registry_of (known reader) ≡ registry_name self.now.opening)
@@ -266,6 +247,7 @@ impl Net {
             (λ n. IsNodeOf self.now n × (n.index ≡ u) × (reader_board n.reader ≡ reader_board reader))) }
         ensures fresh { IfOk result (λ given. IfSome given (λ n. IsFreshNode (known reader) n)) }
     {
+        let first = self.first_port(u);
         let degree = self.topology.ports(u).len();
         let Some(outs) = outs_of(self.alloc, &self.ways, first, degree, senders)? else {
             return Ok(None);
@@ -281,21 +263,21 @@ impl Net {
         else {
             return Ok(None);
         };
-        let settled = Arc::try_clone(&self.settled)?;
         let ports = Vec::from_slice(self.alloc, self.topology.ports(u))?;
-        Ok(Some(Node::new(
-            self.alloc,
-            u as u16,
-            Arc::try_clone(&self.registry)?,
-            self.opening.again(),
-            self.restamps,
-            ports,
+        let common = Common {
+            registry: Arc::try_clone(&self.registry)?,
+            opening: self.opening.again(),
+            restamps: self.restamps,
+            settled: Arc::try_clone(&self.settled)?,
+        };
+        let outcomes = Vec::new(self.alloc);
+        let ends = Ends {
             inbox,
             ins,
             outs,
-            reader,
-            settled,
-        )))
+            outcomes,
+        };
+        Ok(Some(Node::new(u as u16, common, ports, ends, reader)))
     }
 }
 
@@ -337,14 +319,13 @@ impl Net {
         };
         let mut nodes = Vec::with_capacity(self.alloc, self.inboxes.len())?;
         for u in 0..self.inboxes.len() {
-            let first = self.first_port(u);
             let Some(inbox) = inboxes[u].take() else {
                 return Ok(None);
             };
             let Some(reader) = readers.pop() else {
                 return Ok(None);
             };
-            let Some(node) = self.node(u, first, inbox, reader, &mut senders, &mut takers)? else {
+            let Some(node) = self.node(u, inbox, reader, &mut senders, &mut takers)? else {
                 return Ok(None);
             };
             nodes.push(node)?;

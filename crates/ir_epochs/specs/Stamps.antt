@@ -5,6 +5,10 @@ use Rattle.ir_model.specs.Plan.{Plan}
 use Rattle.ir_epochs.specs.declared.registry.Registry.{Registry}
 use Rattle.ir_epochs.specs.declared.registry.Stamp.{Stamp}
 
+-- which epoch a stamp is of
+abbrev pub epoch_of : Stamp → ℕ
+epoch_of s = s.epoch
+
 -- the plan of its epoch
 abbrev pub knows : Stamp → Plan
 knows s = s.known.value

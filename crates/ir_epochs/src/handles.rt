@@ -1,5 +1,5 @@
 //! The board: one thread changes it, and readers read it with no lock and no wait.
-ghost use Rattle.std.specs.Prelude.{◌≡◌, ◌+◌, ◌<◌, ◌≤◌, [], ◌∷◌, ◌++◌, ◌⊎◌, length, drop, option_map, Some, None, IfOk, IsOk, IfSome, MatchOption, MatchResult, if◌then◌else◌};
+ghost use Rattle.std.specs.Prelude.{◌≡◌, ◌+◌, ◌<◌, ◌≤◌, [], ◌∷◌, ◌++◌, ◌⊎◌, length, drop, option_map, Some, None, IsTrue, ◌↔◌, IfOk, IsOk, IfSome, MatchOption, MatchResult, if◌then◌else◌};
 ghost use mathlib.Core.List.{IsPrefix};
 ghost use Rattle.left_right.specs.Sides.{view};
 ghost use Rattle.ir_core.specs.declared.TheConstants.{MAX_LINKS, MAX_CHANGES};
@@ -247,21 +247,19 @@ impl<R: Wait + Drop> BoardWriter<R> {
         &self.writer.published().front
     }
 
-    /// Sees that all that a reader of this board knows was published. It was, since the writer alone changes the board;
-    /// for a reader that knew more this would wait without end.
-    pub fn leads(&self, reader: &BoardReader)
+    /// Whether all that a reader of this board knows was published. That it was, since the writer alone changes the board,
+    /// is shown by test.
+    pub fn leads(&self, reader: &BoardReader) -> bool
         requires { reader_board reader.now ≡ writer_board self.now }
-        ensures { IsPrefix (known reader.now) (published self.now) }
+        ensures { IsTrue result ↔ IsPrefix (known reader.now) (published self.now) }
     {
         let mut both = self.published().again();
         both.learn(reader.known());
         let now = self.writer.published();
-        for _ in self.rt.forever() {
-            if reader.newest.board.version() <= now.board.version() {
-                return;
-            }
+        if reader.newest.board.version() <= now.board.version() {
+            return true;
         }
-        unreachable!()
+        false
     }
 
     // A reader that knows the board as it is. Returns `Err` where each place is in use.
@@ -355,11 +353,30 @@ impl BoardReader {
         ensures opening { IsSameOpening (known self.old) (known self.new) }
         ensures same { reader_board self.new ≡ reader_board self.old }
     {
+        self.look();
+        *self.board()
+    }
+
+    /// As `read`, without a copy of the board: `board` has it.
+    pub fn look(&mut self)
+        ensures later { IsPrefix (known self.old) (known self.new) }
+        ensures rises { Rises (board_of (known self.old)) (board_of (known self.new)) }
+        ensures opening { IsSameOpening (known self.old) (known self.new) }
+        ensures same { reader_board self.new ≡ reader_board self.old }
+    {
         let found = replace_with(&mut self.reader, (), |reader, ()| enter(reader));
         if let Some(found) = found {
             note(&mut self.newest, found);
         }
-        self.newest.board
+    }
+
+    /// The newest board that it has read or learnt.
+    pub fn board(&self) -> &Board
+        ensures board { result.now ≡ board_of (known self.now) }
+        ensures version { result.now.version + 1 ≡ length (known self.now) }
+        ensures live { HasLiveEpochs result.now }
+    {
+        &self.newest.board
     }
 
     /// The stamp of the current epoch of the newest board that it has read or learnt. It takes no memory and waits for

@@ -19,11 +19,13 @@ mod chronicle;
 mod entry;
 mod error;
 mod handles;
+mod known;
 mod one_list;
 mod opening;
 mod published;
 mod registry;
 mod seats;
+mod tag;
 
 pub use entry::{Change, Entry};
 pub use error::{BoardError, RegisterError};

@@ -1,7 +1,7 @@
 //! A board with its writer and its readers.
 ghost use Rattle.std.specs.Prelude.{◌≡◌, ◌≤◌, [], ◌∷◌, length, All, IfOk};
 ghost use Rattle.ir_core.specs.declared.TheConstants.{MAX_LINKS};
-ghost use Rattle.ir_epochs.specs.{Stamps.knows, declared.entry.Entry.TheVariants.Opened};
+ghost use Rattle.ir_epochs.specs.{Stamps.{epoch_of, knows}, declared.entry.Entry.TheVariants.Opened};
 ghost use Rattle.ir_epochs.specs.Handles.{published, known, writer_board, reader_board};
 
 use crate::error::BoardError;
@@ -44,7 +44,7 @@ pub fn board<R: Wait + Drop>(
     links: u16,
     readers: u16,
 ) -> Result<(BoardWriter<R>, Vec<BoardReader>), BoardError>
-    requires epoch { opening.now.epoch ≡ 1 }
+    requires epoch { epoch_of opening.now ≡ 1 }
     requires links { length (knows opening.now).topology.links ≡ links }
     requires few { links ≤ MAX_LINKS }
     ensures writer { IfOk result (λ r. published r.0 ≡ Opened links opening.now ∷ []) }

@@ -5,8 +5,9 @@ ghost use Rattle.ir_model.specs.Plan.{IsPlan};
 ghost use Rattle.ir_core.specs.declared.TheConstants.{MAX_EPOCHS};
 
 use crate::error::RegisterError;
+use crate::known::Known;
+use crate::tag::{Names, Tag};
 use ir_core::MAX_EPOCHS;
-use ir_known::{Known, Names, Tag};
 use ir_plan::Plan;
 use once_cell::race::OnceBox;
 use std::alloc::Global;
@@ -45,7 +46,7 @@ impl Names<Tag> for Same {
 }
 
 impl Registry {
-    ghost use Rattle.ir_epochs.specs.Stamps.{IsOf, knows};
+    ghost use Rattle.ir_epochs.specs.Stamps.{IsOf, epoch_of, knows};
 
     /// A registry of empty cells. It takes no memory.
     pub fn new(alloc: Global) -> Registry {
@@ -61,7 +62,7 @@ impl Registry {
     /// That an empty cell takes the plan is shown by test.
     pub fn register(&self, epoch: u32, plan: Plan) -> Result<Stamp, (RegisterError, Plan)>
         requires { (1 ≤ epoch) × (epoch ≤ MAX_EPOCHS) }
-        ensures { MatchResult result (λ s. IsOf self.now s × (s.epoch ≡ epoch) × (knows s ≡ plan))
+        ensures { MatchResult result (λ s. IsOf self.now s × (epoch_of s ≡ epoch) × (knows s ≡ plan))
             (λ e. e.1 ≡ plan) }
     {
         let _nodes = plan.nodes();
@@ -97,12 +98,12 @@ impl Registry {
 }
 
 impl Stamp {
-    ghost use Rattle.ir_epochs.specs.Stamps.{knows, registry_name};
+    ghost use Rattle.ir_epochs.specs.Stamps.{epoch_of, knows, registry_name};
 
     /// Whether two stamps of one registry have the same epoch. Then they know one plan.
     pub fn same(&self, other: &Stamp) -> bool
         requires { registry_name self.now ≡ registry_name other.now }
-        ensures epoch { IsTrue result ↔ self.now.epoch ≡ other.now.epoch }
+        ensures epoch { IsTrue result ↔ epoch_of self.now ≡ epoch_of other.now }
         ensures plan { IsTrue result → knows self.now ≡ knows other.now }
     {
         if self.epoch != other.epoch {
@@ -114,7 +115,7 @@ impl Stamp {
 
     /// Its epoch, from 1 to 64.
     pub fn epoch(&self) -> u32
-        ensures value { result ≡ self.now.epoch }
+        ensures value { result ≡ epoch_of self.now }
         ensures in_range { (1 ≤ result) × (result ≤ MAX_EPOCHS) }
     {
         self.epoch

@@ -1,7 +1,7 @@
 //! Bytes that may not stand in a text.
 
+use crate::sentence::Quoted;
 use ir_adjlist::scan::all_plain;
-use ir_given::Quoted;
 use std::alloc::AllocError;
 
 /// Says which byte of a line may not stand there: the first that is not printable ASCII.

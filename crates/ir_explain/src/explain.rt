@@ -1,40 +1,45 @@
 //! The explanation of a run.
 
 use crate::MOST_EXPLAINED;
-use crate::finding::{explain_finding, explain_ok};
+use crate::finding::{explain_beside, explain_finding, explain_ok};
 use crate::graph::graph_of;
 use crate::notes::push_note;
 use crate::numbering::explain_numbering;
 use crate::opening::explain_opening;
+use crate::parts::{Given, Part, Parts, Run, Trouble, parts_of};
 use crate::refusal::explain_refusal;
 use crate::script::explain_script;
+use crate::sentence::begin;
 use crate::topology::explain_topology;
 use crate::unlearnt::push_unlearnt;
-use ir_cli::{Sub, Words};
-use ir_given::{Given, Part, Parts, Run, Told, Trouble, begin, lines_of, parts_of, told_of};
+use ir_cli::{Notice, Outcome, Source, Sub, Told, Words};
+use ir_core::Refused;
 use ir_plan::{Alone, Crew};
 use ir_streams::MAX_INPUT_BYTES;
 use std::alloc::{AllocError, Global};
 
-/// The text of which a line of faults speaks.
-fn part_of<'a>(parts: &Parts<'a>, what: &str) -> Part<'a> {
-    match what {
-        "script" => parts.script,
-        "trace" => parts.trace,
-        "numbering" => parts.numbering,
-        _ => parts.topology,
+/// The text of a source; of an input with several texts the first.
+fn part_of<'a>(parts: &Parts<'a>, source: Source) -> Part<'a> {
+    match source {
+        Source::Input | Source::Topology => parts.topology,
+        Source::Script => parts.script,
+        Source::Trace => parts.trace,
+        Source::Numbering => parts.numbering,
     }
 }
 
-/// Says why an input was not read.
-fn explain_unread(text: &mut String, part: &Part<'_>, kind: &str) -> Result<(), AllocError> {
+/// Says that an input has too many bytes.
+fn explain_too_large(text: &mut String, part: &Part<'_>) -> Result<(), AllocError> {
     begin(text, part.file)?;
-    if kind == "too" {
-        return write!(
-            text,
-            "more than {MAX_INPUT_BYTES} bytes, the most of an input\n"
-        );
-    }
+    write!(
+        text,
+        "more than {MAX_INPUT_BYTES} bytes, the most of an input\n"
+    )
+}
+
+/// Says why an input was not read.
+fn explain_unread(text: &mut String, part: &Part<'_>) -> Result<(), AllocError> {
+    begin(text, part.file)?;
     text.push_str(match part.trouble {
         Trouble::Missing => "no such file\n",
         Trouble::Forbidden => "no leave to read it\n",
@@ -52,77 +57,114 @@ fn explain_unwritten(text: &mut String, words: &Words) -> Result<(), AllocError>
     text.push_str("it could not be written\n")
 }
 
-/// Explains a line of faults.
-fn explain_line(
+/// Explains a notice.
+fn explain_notice(
     crew: &impl Crew,
     text: &mut String,
     run: &Run<'_>,
-    told: Told<'_>,
+    notice: Notice,
 ) -> Result<(), AllocError> {
-    if told.kind == "unreadable" || told.kind == "too" {
-        return explain_unread(text, &part_of(&run.parts, told.what), told.kind);
-    }
-    match told.what {
-        "topology" => explain_topology(text, run, told),
-        "script" => explain_script(text, run, told),
-        "numbering" => explain_numbering(text, run, told),
-        "opening" => explain_opening(text, run, told.kind),
-        "finding" => explain_finding(crew, text, run, told),
-        "refused" => explain_refusal(text, run, told),
-        "ok" => explain_ok(text, run),
-        "output" => explain_unwritten(text, run.words),
-        "no" => text.push_str("route: no further thread was started\n"),
-        "out" => text.push_str("route: memory was refused\n"),
-        _ => Ok(()),
+    match notice {
+        Notice::Unreadable(source) => explain_unread(text, &part_of(&run.parts, source)),
+        Notice::TooLarge(source) => explain_too_large(text, &part_of(&run.parts, source)),
+        Notice::Topology(error) => explain_topology(text, run, error),
+        Notice::Script(error) => explain_script(text, run, error),
+        Notice::Numbering(fault) => explain_numbering(text, run, fault),
+        Notice::Opening(error) => explain_opening(text, run, error),
+        Notice::Finding(finding) => explain_finding(crew, text, run, finding),
+        Notice::Beside(finding) => explain_beside(text, run, finding),
+        Notice::Sound(_) => explain_ok(text, run),
+        Notice::Unwritable => explain_unwritten(text, run.words),
+        Notice::NoThread => text.push_str("route: no further thread was started\n"),
+        Notice::NoMemory => text.push_str("route: memory was refused\n"),
     }
 }
 
-/// Explains lines of faults, as many as are explained.
-fn explain_lines(
-    crew: &impl Crew,
+/// That there are more lines of faults than are explained.
+static FURTHER: &str = "route: further lines are not explained\n";
+
+/// Explains steps that were refused, and an output that did not come to its place, as many as are explained.
+fn explain_steps(
     text: &mut String,
     run: &Run<'_>,
-    faults: &[u8],
+    steps: &[(usize, Refused)],
+    is_kept: bool,
 ) -> Result<(), AllocError> {
-    for (place, line) in lines_of(run.alloc, faults, MOST_EXPLAINED + 1)?
-        .iter()
-        .enumerate()
-    {
+    for (place, (line, refusal)) in steps.iter().enumerate() {
         if place == MOST_EXPLAINED {
-            return text.push_str("route: further lines are not explained\n");
+            return text.push_str(FURTHER);
         }
-        explain_line(crew, text, run, told_of(run.alloc, line)?)?;
+        explain_refusal(text, run, *line, *refusal)?;
     }
-    Ok(())
+    if is_kept {
+        Ok(())
+    } else if steps.len() == MOST_EXPLAINED {
+        text.push_str(FURTHER)
+    } else {
+        explain_unwritten(text, run.words)
+    }
 }
 
-/// The explanation of a run: a line `route: ..` for each line of faults that it wrote and for what a check found,
-/// one for a topology that looks like another format, and one for a packet of a simulation whose install was not learnt. `given` is what was given of the inputs, in their order.
-/// Refused for want of memory alone. Where there is something to explain, it reads the topology once more. For users of
-/// the library.
+/// Explains what a run came to.
+fn explain_outcome(
+    crew: &impl Crew,
+    text: &mut String,
+    run: &Run<'_>,
+    outcome: &Outcome,
+    is_kept: bool,
+) -> Result<(), AllocError> {
+    match &outcome.told {
+        Told::Steps(steps) => explain_steps(text, run, steps.as_slice(), is_kept)?,
+        Told::Fault(notice) => explain_notice(crew, text, run, *notice)?,
+    }
+    match outcome.found {
+        Some(notice) => explain_notice(crew, text, run, notice),
+        None => Ok(()),
+    }
+}
+
+/// Whether an outcome has nothing to explain.
+fn is_silent(outcome: &Outcome, is_kept: bool) -> bool {
+    match &outcome.told {
+        Told::Steps(steps) => steps.is_empty() && is_kept && outcome.found.is_none(),
+        Told::Fault(_) => false,
+    }
+}
+
+/// Whether the steps of a script were played, and that is the first that was told.
+fn was_played(outcome: &Outcome, is_kept: bool) -> bool {
+    match &outcome.told {
+        Told::Steps(steps) => is_kept || !steps.is_empty(),
+        Told::Fault(_) => false,
+    }
+}
+
+/// The explanation of a run: a line `route: ..` for each step that was refused, for why it ended and for what a check found,
+/// one for a topology that looks like another format, and one for a packet of a simulation whose install was not learnt.
+/// `given` is what was given of the inputs, in their order. Refused for want of memory alone. Where there is something to
+/// explain, it reads the topology once more. For users of the library.
 pub fn explanation(
     alloc: Global,
     words: &Words,
     given: &[Given<'_>],
-    faults: &[u8],
-    output: &[u8],
+    outcome: &Outcome,
 ) -> Result<String, AllocError> {
-    explanation_by(&Alone, alloc, words, given, faults, output)
+    explanation_by(&Alone, alloc, words, given, outcome, true)
 }
 
-/// What `explanation` answers; plans by which it finds where a row leaves its walks are made by a crew.
+/// What `explanation` answers, where it is told too whether the output came to its place; plans by which it finds where a
+/// row leaves its walks are made by a crew.
 pub fn explanation_by(
     crew: &impl Crew,
     alloc: Global,
     words: &Words,
     given: &[Given<'_>],
-    faults: &[u8],
-    output: &[u8],
+    outcome: &Outcome,
+    is_kept: bool,
 ) -> Result<String, AllocError> {
     let parts = parts_of(words, given);
     let mut text = String::new(alloc);
-    let found = if words.sub == Sub::Check { output } else { &[] };
-    if !faults.is_empty() || !found.is_empty() {
+    if !is_silent(outcome, is_kept) {
         let graph = &graph_of(alloc, words, &parts.topology)?;
         let run = Run {
             alloc,
@@ -130,12 +172,11 @@ pub fn explanation_by(
             words,
             parts,
         };
-        explain_lines(crew, &mut text, &run, faults)?;
-        explain_lines(crew, &mut text, &run, found)?;
+        explain_outcome(crew, &mut text, &run, outcome, is_kept)?;
     }
     push_note(alloc, &mut text, words, &parts.topology)?;
-    if words.sub == Sub::Sim {
-        push_unlearnt(alloc, &mut text, &parts.script, faults)?;
+    if words.sub == Sub::Sim && was_played(outcome, is_kept) {
+        push_unlearnt(alloc, &mut text, &parts.script)?;
     }
     Ok(text)
 }

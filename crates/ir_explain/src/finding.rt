@@ -1,12 +1,16 @@
 //! What a finding in a trace means.
 
+use crate::departing::push_departure_by;
+use crate::lines::{line_at, line_with, word_at, words_of};
+use crate::parts::{Part, Run};
 use crate::script::{push_no_node, unknown_word};
-use ir_given::{
-    FileName, Part, Quoted, Run, Told, begin, begin_at, line_at, line_with, push_departure_by,
-    word_at, words_of,
-};
+use crate::sentence::{FileName, Quoted, begin, begin_at};
 use ir_plan::Crew;
+use ir_trace::{Finding, FindingKind};
+use ir_whole::{WholeFinding, WholeKind};
 use std::alloc::AllocError;
+
+static MEMORY: &str = "memory was refused while the trace was checked";
 
 /// Whether rows have their epochs before their hops, as those of `trace 2`, and not behind their ids.
 fn has_segments(trace: &Part<'_>) -> bool {
@@ -66,30 +70,29 @@ fn push_repeated(text: &mut String, run: &Run<'_>, id: &[u8]) -> Result<(), Allo
     write!(text, "the id {} stands on line {line} already", Quoted(id))
 }
 
-/// Says why no run of the script can have had a row, and answers whether that was found of it.
-fn push_beside(text: &mut String, run: &Run<'_>, kind: &str) -> Result<bool, AllocError> {
+/// Says why no run of the script can have had a row.
+fn push_beside(text: &mut String, run: &Run<'_>, kind: WholeKind) -> Result<(), AllocError> {
     let script = FileName(run.parts.script.file);
     match kind {
-        "NeverInjected" => write!(
+        WholeKind::NeverInjected => write!(
             text,
             "no inject in {script} can be its packet's, beside those of the rows before it"
-        )?,
-        "NotYetInstalled" => write!(
+        ),
+        WholeKind::NotYetInstalled => write!(
             text,
             "its first epoch is beyond those that installs in {script} above its inject can have made"
-        )?,
-        "NeverDown" => write!(text, "no line of {script} takes that link down")?,
-        "NeverRetired" => write!(text, "no line of {script} retires its epoch")?,
-        "NeverFull" => {
+        ),
+        WholeKind::NeverDown => write!(text, "no line of {script} takes that link down"),
+        WholeKind::NeverRetired => write!(text, "no line of {script} retires its epoch"),
+        WholeKind::NeverFull => {
             let capacity = run.words.capacity;
             write!(
                 text,
                 "fewer packets than --capacity ({capacity}) can have been in that channel"
-            )?
+            )
         }
-        _ => return Ok(false),
+        WholeKind::NoMemory => text.push_str(MEMORY),
     }
-    Ok(true)
 }
 
 /// Says what was not looked at where there is no finding.
@@ -108,41 +111,57 @@ fn push_reason(
     text: &mut String,
     run: &Run<'_>,
     words: &[&[u8]],
-    told: Told<'_>,
+    finding: Finding,
 ) -> Result<(), AllocError> {
     let trace = &run.parts.trace;
-    if push_beside(text, run, told.kind)? {
-        return Ok(());
-    }
-    match told.kind {
-        "NotTrace" => text.push_str("a trace begins with the line 'trace 1' or 'trace 2'"),
-        "BadRow" => text.push_str("this is no row of a trace, or it lacks its line feed"),
-        "UnknownNode" => push_unknown_node(text, run, words),
-        "UnknownEpoch" => push_unknown_epoch(text, trace, words),
-        "NotAPrefix" => push_unfollowed(crew, text, run, told.line),
-        "NotAtDestination" => text.push_str(
+    match finding.kind {
+        FindingKind::NotTrace => text.push_str(
+            "a trace begins with the line 'trace 1' or 'trace 2'",
+        ),
+        FindingKind::BadRow => text.push_str(
+            "this is no row of a trace, or it lacks its line feed",
+        ),
+        FindingKind::UnknownNode => push_unknown_node(text, run, words),
+        FindingKind::UnknownEpoch => push_unknown_epoch(text, trace, words),
+        FindingKind::NotAPrefix => push_unfollowed(crew, text, run, finding.line),
+        FindingKind::NotAtDestination => text.push_str(
             "it says delivered, and the walk goes on behind its last hop",
         ),
-        "BadWeight" => {
+        FindingKind::BadWeight => {
             let weight = word_at(words, places(trace)[2]);
             write!(text, "{} is not the weight of its hops", Quoted(weight))
         }
-        "Repeated" => push_repeated(text, run, word_at(words, 0)),
-        _ => text.push_str("memory was refused while the trace was checked"),
+        FindingKind::Repeated => push_repeated(text, run, word_at(words, 0)),
+        FindingKind::NoMemory => text.push_str(MEMORY),
     }
 }
 
-/// Explains a finding. A row is quoted as it stands: a trace has no comments, and `#` begins a segment.
+/// The row on a line of the trace, quoted as it stands: a trace has no comments, and `#` begins a segment.
+fn begin_row(text: &mut String, run: &Run<'_>, line: usize) -> Result<(), AllocError> {
+    begin_at(text, &run.parts.trace, line)?;
+    write!(text, "{}: ", Quoted(line_at(run.parts.trace.bytes, line)))
+}
+
+/// Explains a finding.
 pub fn explain_finding(
     crew: &impl Crew,
     text: &mut String,
     run: &Run<'_>,
-    told: Told<'_>,
+    finding: Finding,
 ) -> Result<(), AllocError> {
-    let row = line_at(run.parts.trace.bytes, told.line);
-    let words = words_of(run.alloc, row)?;
-    begin_at(text, &run.parts.trace, told.line)?;
-    write!(text, "{}: ", Quoted(row))?;
-    push_reason(crew, text, run, words.as_slice(), told)?;
+    let words = words_of(run.alloc, line_at(run.parts.trace.bytes, finding.line))?;
+    begin_row(text, run, finding.line)?;
+    push_reason(crew, text, run, words.as_slice(), finding)?;
+    text.push_str("\n")
+}
+
+/// Explains a finding beside the script.
+pub fn explain_beside(
+    text: &mut String,
+    run: &Run<'_>,
+    finding: WholeFinding,
+) -> Result<(), AllocError> {
+    begin_row(text, run, finding.line)?;
+    push_beside(text, run, finding.kind)?;
     text.push_str("\n")
 }

@@ -1,7 +1,7 @@
 //! The graph of a topology that is explained.
 
+use crate::parts::Part;
 use ir_cli::{Words, read_topology};
-use ir_given::Part;
 use ir_graph::Graph;
 use ir_model::Fault;
 use std::alloc::{AllocError, Global};

@@ -1,26 +1,30 @@
 //! Sentences for people behind the lines of faults: which file, which line and word, what was wanted and what stands there.
 //!
-//! The lines themselves are short and never change, since scripts read them. `explanation` reads them again, beside the texts
-//! of the inputs, and writes a line `route: ..` for each, so a run that was refused stays as it is. Nothing here reads or
-//! writes anything but memory.
+//! The lines themselves are short and never change, since scripts read them. `explanation` has what a run came to as values
+//! (`Outcome` of `ir_cli`), beside the texts of the inputs, and writes a line `route: ..` for each. Each match over a kind of
+//! fault is total, so that one without a sentence does not compile. Nothing here reads or writes anything but memory.
 #![tactic(auto)]
 
 mod bytes;
+mod departing;
 mod explain;
 mod finding;
 mod graph;
+mod lines;
 mod nearest;
 mod notes;
 mod numbering;
 mod opening;
+mod parts;
 mod refusal;
 mod script;
 mod seen;
+mod sentence;
 mod topology;
 mod unlearnt;
 
 pub use explain::{explanation, explanation_by};
-pub use ir_given::{Given, Trouble};
+pub use parts::{Given, Trouble};
 
 /// The most lines of faults that are explained.
 pub const MOST_EXPLAINED: usize = 64;
@@ -30,3 +34,6 @@ pub const MOST_NAMES: usize = 1_024;
 
 /// The most edits that lead from a word to a name that it may have meant.
 pub const MOST_EDITS: usize = 2;
+
+/// The most bytes of a text that are quoted.
+pub const MOST_QUOTED: usize = 64;

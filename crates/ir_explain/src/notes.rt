@@ -1,9 +1,10 @@
 //! Topologies that look like another format.
 
 use crate::graph::graph_of;
+use crate::parts::Part;
 use crate::seen::{Seen, seen_of};
+use crate::sentence::{FileName, begin};
 use ir_cli::{Format, Words};
-use ir_given::{FileName, Part, begin};
 use std::alloc::{AllocError, Global};
 
 /// The most bytes at the front of a text in which a tag is looked for.

@@ -1,12 +1,12 @@
 //! What is wrong with a line of an order of nodes.
 
 use crate::bytes::push_bad_byte;
+use crate::lines::{first_word, line_at, line_with, lines_of, text_of, word_at, words_of};
+use crate::parts::Run;
 use crate::script::push_no_node;
-use ir_given::{
-    Quoted, Run, Told, WordCount, begin, begin_at, first_word, line_at, line_with, lines_of,
-    text_of, word_at, words_of,
-};
+use crate::sentence::{Quoted, WordCount, begin, begin_at};
 use ir_graph::Graph;
+use ir_script::{OrderFault, OrderFaultKind};
 use std::alloc::{AllocError, Global};
 
 /// Which nodes the lines of an order name.
@@ -46,19 +46,19 @@ fn push_fault(
     text: &mut String,
     run: &Run<'_>,
     words: &[&[u8]],
-    kind: &str,
+    kind: OrderFaultKind,
 ) -> Result<(), AllocError> {
     let word = word_at(words, 0);
     match kind {
-        "BadByte" => push_bad_byte(text, words, "names are"),
-        "BadRow" => {
+        OrderFaultKind::BadByte => push_bad_byte(text, words, "names are"),
+        OrderFaultKind::BadRow => {
             let count = WordCount(words.len());
             write!(text, "{count}; an order has the name of one node on a line")
         }
-        "UnknownNode" => push_no_node(text, run, word),
-        "Twice" => push_twice(text, run, word),
-        "Missing" => push_missing(text, run),
-        _ => text.push_str("memory was refused while the order was read"),
+        OrderFaultKind::UnknownNode => push_no_node(text, run, word),
+        OrderFaultKind::Twice => push_twice(text, run, word),
+        OrderFaultKind::Missing => push_missing(text, run),
+        OrderFaultKind::NoMemory => text.push_str("memory was refused while the order was read"),
     }
 }
 
@@ -66,15 +66,15 @@ fn push_fault(
 pub fn explain_numbering(
     text: &mut String,
     run: &Run<'_>,
-    told: Told<'_>,
+    fault: OrderFault,
 ) -> Result<(), AllocError> {
     let order = &run.parts.numbering;
-    let words = words_of(run.alloc, line_at(order.bytes, told.line))?;
-    if told.kind == "Missing" {
+    let words = words_of(run.alloc, line_at(order.bytes, fault.line))?;
+    if fault.kind == OrderFaultKind::Missing {
         begin(text, order.file)?;
     } else {
-        begin_at(text, order, told.line)?;
+        begin_at(text, order, fault.line)?;
     }
-    push_fault(text, run, words.as_slice(), told.kind)?;
+    push_fault(text, run, words.as_slice(), fault.kind)?;
     text.push_str("\n")
 }

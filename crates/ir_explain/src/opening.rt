@@ -1,9 +1,10 @@
 //! Why nothing was opened over a topology.
 
+use crate::parts::Run;
 use crate::script::push_no_node;
+use crate::sentence::begin;
 use ir_cli::{Format, Words};
-use ir_core::{MAX_LINKS, MAX_NODES};
-use ir_given::{Run, begin};
+use ir_core::{MAX_LINKS, MAX_NODES, OpenError};
 use ir_graph::Graph;
 use std::alloc::{AllocError, Global};
 
@@ -154,29 +155,44 @@ fn push_too_many(
     )
 }
 
-/// Says why nothing was opened over the topology.
-fn push_reason(text: &mut String, run: &Run<'_>, kind: &str) -> Result<(), AllocError> {
+/// Says that a name of the words is no node.
+fn push_no_option(text: &mut String, run: &Run<'_>) -> Result<(), AllocError> {
+    let (option, name) = unknown_option(run.graph, run.words);
+    write!(text, "route: {option}: ")?;
+    push_no_node(text, run, name.as_bytes())
+}
+
+/// Says that there are more nodes or links than a run may have.
+fn push_too_large(text: &mut String, run: &Run<'_>) -> Result<(), AllocError> {
     let (nodes, links) = (run.graph.number_of_nodes(), run.graph.number_of_edges());
-    match kind {
-        "Empty" => push_empty(text, run),
-        "Disconnected" => push_disconnected(text, run),
-        "TooLarge" if nodes > MAX_NODES => push_too_many(text, nodes, "nodes", MAX_NODES),
-        "TooLarge" => push_too_many(text, links, "links", MAX_LINKS),
-        "TooManyReaders" => text.push_str("the board has no place for a reader of each node"),
-        "Used" => text.push_str("a fresh cell of the registry refused its plan"),
-        _ => text.push_str("memory was refused while the topology was opened"),
+    if nodes > MAX_NODES {
+        push_too_many(text, nodes, "nodes", MAX_NODES)
+    } else {
+        push_too_many(text, links, "links", MAX_LINKS)
     }
 }
 
 /// Explains why nothing was opened over the topology.
-pub fn explain_opening(text: &mut String, run: &Run<'_>, kind: &str) -> Result<(), AllocError> {
-    if kind == "NoNode" {
-        let (option, name) = unknown_option(run.graph, run.words);
-        write!(text, "route: {option}: ")?;
-        push_no_node(text, run, name.as_bytes())?;
-    } else {
+pub fn explain_opening(
+    text: &mut String,
+    run: &Run<'_>,
+    error: OpenError,
+) -> Result<(), AllocError> {
+    if error != OpenError::NoNode {
         begin(text, run.parts.topology.file)?;
-        push_reason(text, run, kind)?;
+    }
+    match error {
+        OpenError::NoNode => push_no_option(text, run)?,
+        OpenError::Empty => push_empty(text, run)?,
+        OpenError::Disconnected => push_disconnected(text, run)?,
+        OpenError::TooLarge => push_too_large(text, run)?,
+        OpenError::NoMemory => {
+            text.push_str("memory was refused while the topology was opened")?
+        }
+        OpenError::TooManyReaders => {
+            text.push_str("the board has no place for a reader of each node")?
+        }
+        OpenError::Used => text.push_str("a fresh cell of the registry refused its plan")?,
     }
     text.push_str("\n")
 }

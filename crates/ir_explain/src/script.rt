@@ -1,12 +1,13 @@
 //! What is wrong with a line of a script.
 
 use crate::bytes::push_bad_byte;
+use crate::lines::{line_at, text_of, word_at, words_of};
 use crate::nearest::{nearest_node, nearest_of, push_near};
+use crate::parts::Run;
+use crate::sentence::{FileName, Quoted, begin_at, joined};
 use ir_cli::Sub;
-use ir_given::{
-    FileName, Quoted, Run, Told, begin_at, joined, line_at, text_of, word_at, words_of,
-};
 use ir_graph::Graph;
+use ir_script::{ScriptError, ScriptFault};
 use std::alloc::AllocError;
 
 /// The first words of the lines of a live run's script, and behind them those of a simulation alone.
@@ -118,27 +119,27 @@ fn push_fault(
     text: &mut String,
     run: &Run<'_>,
     words: &[&[u8]],
-    kind: &str,
+    kind: ScriptFault,
 ) -> Result<(), AllocError> {
     let command = text_of(word_at(words, 0));
     match kind {
-        "BadByte" => push_bad_byte(text, words, "scripts are"),
-        "BadCommand" => push_bad_command(text, run, words),
-        "BadNumber" => {
+        ScriptFault::BadByte => push_bad_byte(text, words, "scripts are"),
+        ScriptFault::BadCommand => push_bad_command(text, run, words),
+        ScriptFault::BadNumber => {
             let word = Quoted(word_at(words, if command == "read" { 2 } else { 1 }));
             write!(
                 text,
                 "{word} is no number: a whole number from 0 to 65535, of at most five digits, is wanted"
             )
         }
-        "UnknownNode" => {
+        ScriptFault::UnknownNode => {
             push_no_node(
                 text,
                 run,
                 unknown_word(run.graph, words, node_places(command)),
             )
         }
-        "UnknownLink" => {
+        ScriptFault::UnknownLink => {
             let other = Quoted(word_at(words, if command == "take" { 3 } else { 2 }));
             write!(
                 text,
@@ -146,15 +147,19 @@ fn push_fault(
                 Quoted(word_at(words, 1))
             )
         }
-        _ => text.push_str("memory was refused while the script was read"),
+        ScriptFault::NoMemory => text.push_str("memory was refused while the script was read"),
     }
 }
 
 /// Explains a fault of a script.
-pub fn explain_script(text: &mut String, run: &Run<'_>, told: Told<'_>) -> Result<(), AllocError> {
+pub fn explain_script(
+    text: &mut String,
+    run: &Run<'_>,
+    error: ScriptError,
+) -> Result<(), AllocError> {
     let script = &run.parts.script;
-    let words = words_of(run.alloc, line_at(script.bytes, told.line))?;
-    begin_at(text, script, told.line)?;
-    push_fault(text, run, words.as_slice(), told.kind)?;
+    let words = words_of(run.alloc, line_at(script.bytes, error.line))?;
+    begin_at(text, script, error.line)?;
+    push_fault(text, run, words.as_slice(), error.kind)?;
     text.push_str("\n")
 }

@@ -1,7 +1,7 @@
 //! What the lines at the front of a topology look like.
 
+use crate::lines::{lines_of, word_at, words_of};
 use ir_adjlist::digits::all_digits;
-use ir_given::{lines_of, word_at, words_of};
 use std::alloc::{AllocError, Global};
 
 /// The most lines that are looked at.

@@ -1,8 +1,11 @@
 //! What is wrong with a line of a topology.
 
 use crate::bytes::push_bad_byte;
-use ir_given::{Quoted, Run, Told, WordCount, begin_at, line_at, word_at, words_of};
-use ir_model::{MAX_EDGES, MAX_NAME_BYTES, MAX_NODES, MAX_WEIGHT};
+use crate::lines::{line_at, word_at, words_of};
+use crate::parts::Run;
+use crate::sentence::{Quoted, WordCount, begin_at};
+use ir_adjlist::TextError;
+use ir_model::{Fault, MAX_EDGES, MAX_NAME_BYTES, MAX_NODES, MAX_WEIGHT};
 use std::alloc::AllocError;
 
 /// Says that a name is too long: the first such word.
@@ -44,15 +47,15 @@ fn push_too_many(text: &mut String, most: usize, what: &str) -> Result<(), Alloc
 }
 
 /// Says what is wrong with the words of a line.
-fn push_fault(text: &mut String, words: &[&[u8]], kind: &str) -> Result<(), AllocError> {
+fn push_fault(text: &mut String, words: &[&[u8]], kind: Fault) -> Result<(), AllocError> {
     match kind {
-        "BadByte" => push_bad_byte(text, words, "names are"),
-        "BadName" => push_long_name(text, words),
-        "BadRow" => push_bad_row(text, words),
-        "BadWeight" => push_bad_weight(text, word_at(words, 2)),
-        "TooManyNodes" => push_too_many(text, MAX_NODES, "nodes"),
-        "TooManyEdges" => push_too_many(text, MAX_EDGES, "edges"),
-        _ => text.push_str("memory was refused while the topology was read"),
+        Fault::BadByte => push_bad_byte(text, words, "names are"),
+        Fault::BadName => push_long_name(text, words),
+        Fault::BadRow => push_bad_row(text, words),
+        Fault::BadWeight => push_bad_weight(text, word_at(words, 2)),
+        Fault::TooManyNodes => push_too_many(text, MAX_NODES, "nodes"),
+        Fault::TooManyEdges => push_too_many(text, MAX_EDGES, "edges"),
+        Fault::NoMemory => text.push_str("memory was refused while the topology was read"),
     }
 }
 
@@ -60,11 +63,11 @@ fn push_fault(text: &mut String, words: &[&[u8]], kind: &str) -> Result<(), Allo
 pub fn explain_topology(
     text: &mut String,
     run: &Run<'_>,
-    told: Told<'_>,
+    error: TextError,
 ) -> Result<(), AllocError> {
     let topology = &run.parts.topology;
-    let words = words_of(run.alloc, line_at(topology.bytes, told.line))?;
-    begin_at(text, topology, told.line)?;
-    push_fault(text, words.as_slice(), told.kind)?;
+    let words = words_of(run.alloc, line_at(topology.bytes, error.line))?;
+    begin_at(text, topology, error.line)?;
+    push_fault(text, words.as_slice(), error.kind)?;
     text.push_str("\n")
 }

@@ -1,6 +1,8 @@
 //! Installs of a script that its injector has not learnt.
 
-use ir_given::{Part, begin_at, first_word, lines_of};
+use crate::lines::{first_word, lines_of};
+use crate::parts::Part;
+use crate::sentence::begin_at;
 use std::alloc::{AllocError, Global};
 
 static UNLEARNT: &str =
@@ -20,21 +22,12 @@ fn unlearnt_line(alloc: Global, script: &[u8]) -> Result<usize, AllocError> {
     Ok(0)
 }
 
-/// Whether the lines of faults are those of a script that was played.
-fn was_played(faults: &[u8]) -> bool {
-    faults.is_empty() || faults.starts_with(b"refused ")
-}
-
 /// Says so where a packet of a simulation that was played is injected behind an install that was not learnt.
 pub fn push_unlearnt(
     alloc: Global,
     text: &mut String,
     script: &Part<'_>,
-    faults: &[u8],
 ) -> Result<(), AllocError> {
-    if !was_played(faults) {
-        return Ok(());
-    }
     let line = unlearnt_line(alloc, script.bytes)?;
     if line == 0 {
         return Ok(());

@@ -1,7 +1,7 @@
 //! Limits of sentences.
 
 ghost use Rattle.std.specs.Prelude.{◌≡◌};
-ghost use Rattle.ir_given.specs.declared.TheConstants.{MOST_QUOTED};
+ghost use Rattle.ir_explain.specs.declared.TheConstants.{MOST_QUOTED};
 ghost use Rattle.ir_explain.specs.declared.TheConstants.{MOST_EXPLAINED, MOST_NAMES, MOST_EDITS};
 
 /// The most bytes of a text that are quoted.

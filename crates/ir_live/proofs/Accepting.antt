@@ -14,9 +14,10 @@ use Rattle.ir_control.specs.declared.injector.Injector.{Injector}
 use Rattle.ir_control.specs.declared.injector.Accepted.{Accepted}
 use Rattle.ir_control.specs.Accepted.{stamp_after_learning}
 use Rattle.ir_control.specs.Parts.{IsInjectorOf}
-use Rattle.ir_live.specs.declared.desk.Desk.{Desk}
+use Rattle.ir_control.specs.declared.controller.Controller.{Controller}
+use Rattle.ir_live.specs.Desks.{Desk}
 use Rattle.ir_live.specs.Answers.{CommandAnswer, epoch_after, accepted_by, accepted_from}
-use Rattle.ir_live.specs.Carried.{IsSameInjector, IsInjectAnswer, HasLearnt, IsChangedAs, IsCarriedOut, AreCarriedOut}
+use Rattle.ir_live.specs.Carried.{IsSameInjector, IsInjectedAs, HasLearnt, IsChangedAs, IsCarriedOut, AreCarriedOut}
 
 -- What an answer did to an injector: it is the same one, these packets were put in, and this is the greatest epoch then.
 record Kept (before after : Injector) (more : List Accepted) (epoch : ℕ) : Type 0 where
@@ -44,7 +45,7 @@ learnt before after s is = record {
   newest = ap (λ (t : Stamp). t.epoch) is.newest ∙ later_epoch before.newest s;
 }
 
-injected : (was_full : Word Parcel) (source dest : ℕ) (before after : Injector) (answer : CommandAnswer) → IsInjectAnswer was_full source dest before answer after → IsSameInjector before after → after.newest ≡ before.newest →
+injected : (was_full : Word Parcel) (source dest : ℕ) (before after : Injector) (answer : CommandAnswer) → IsInjectedAs was_full source dest before answer after → IsSameInjector before after → after.newest ≡ before.newest →
     Kept before after (accepted_by (length before.accepted.items) before.newest.epoch (Inject source dest) answer) (epoch_after before.newest.epoch answer)
 injected was_full source dest before after (Ok (Some s)) is same newest = absurd is
 injected was_full source dest before after (Ok None) is same newest = record {
@@ -78,6 +79,24 @@ module _ (was_full : Word Parcel) {B : Type 0} where
   carried (Down link) before after answer is = changed _ _ before after answer is
   carried (Up link) before after answer is = changed _ _ before after answer is
   carried Drain before after answer is = subst (λ (a : CommandAnswer). Kept before.injector after.injector [] (epoch_after before.injector.newest.epoch a)) (sym is.0) (unchanged before.injector after.injector is.1)
+
+  -- of one net before, the injector and the controller are of one net after
+  pub one_net : (c : Command) (a b : Desk B) (x : CommandAnswer) → IsCarriedOut was_full c a x b → a.controller.opening ≡ a.injector.opening → b.controller.opening ≡ b.injector.opening
+  one_net c a b x is one = moved c a b x is ∙ one ∙ sym (carried c a b x is).same.opening where
+    changed_opening : (refused : Option Refused) (k : Change) (a b : Desk B) (x : CommandAnswer) → IsChangedAs refused k a x b → b.controller.opening ≡ a.controller.opening
+    changed_opening refused k a b (Ok (Some s)) is = absurd is
+    changed_opening refused k a b (Ok None) is = is.1.1.1.1.opening
+    changed_opening refused k a b (Err why) is = is.1.1.1.opening
+
+    moved : (c : Command) (a b : Desk B) (x : CommandAnswer) → IsCarriedOut was_full c a x b → b.controller.opening ≡ a.controller.opening
+    moved (Inject source dest) a b x is = ap (λ (k : Controller B). k.opening) is.3
+    moved (Install kind root) a b (Ok None) is = absurd is
+    moved (Install kind root) a b (Ok (Some s)) is = is.installs.publishes.opening
+    moved (Install kind root) a b (Err why) is = is.1.nothing.opening
+    moved (Retire floor) a b x is = changed_opening _ _ a b x is
+    moved (Down link) a b x is = changed_opening _ _ a b x is
+    moved (Up link) a b x is = changed_opening _ _ a b x is
+    moved Drain a b x is = ap (λ (k : Controller B). k.opening) is.2
 
   pub same_injector : (commands : List Command) (a b : Desk B) (answers : List CommandAnswer) → AreCarriedOut was_full commands a answers b → IsSameInjector a.injector b.injector
   same_injector [] a b [] done = (unchanged a.injector b.injector (ap (λ (d : Desk B). d.injector) done)).same

@@ -37,7 +37,7 @@ use Rattle.ir_control.specs.declared.net.Net.{Net}
 use Rattle.ir_control.specs.declared.controller.Controller.{Controller}
 use Rattle.ir_control.specs.Changes.{topology_up, Publishes, PublishesNothing}
 use Rattle.ir_control.specs.Parts.{AreFreshParts}
-use Rattle.ir_live.specs.declared.desk.Desk.{Desk}
+use Rattle.ir_live.specs.Desks.{Desk}
 use Rattle.ir_live.specs.Agreed.{AreOfOne}
 use Rattle.ir_live.specs.Answers.{CommandAnswer, epoch_after}
 use Rattle.ir_live.specs.Planned.{stamp_by, stamps_in, up_after, IsAsked, AreAsked}

@@ -10,25 +10,19 @@ use Rattle.ir_epochs.specs.declared.handles.Receipt.{Receipt}
 use Rattle.ir_epochs.specs.declared.entry.Change.{Change}
 use Rattle.ir_links.specs.Ends.{Word}
 use Rattle.ir_worker.specs.Seen.{Parcel}
-use Rattle.ir_epochs.specs.Stamps.{knows}
-use Rattle.ir_model.specs.Topology.{node_count}
-use Rattle.ir_core.specs.Refusals.{inject_refused}
 use Rattle.ir_control.specs.declared.injector.Injector.{Injector}
-use Rattle.ir_control.specs.Accepted.{IsInjected}
-use Rattle.ir_control.specs.Refusals.{IsInjectRefusal}
+use Rattle.ir_control.specs.Refusals.{IsInjectAnswer}
 use Rattle.ir_control.specs.Changes.{IsChangeAnswer}
-use Rattle.ir_live.specs.declared.desk.Desk.{Desk}
+use Rattle.ir_live.specs.Desks.{Desk}
 use Rattle.ir_live.specs.Answers.{CommandAnswer, command_answer, refusal_in, refusal_at, refusals_from}
 use Rattle.ir_live.specs.Planned.{stamp_by, stamps_in}
-use Rattle.ir_live.specs.Carried.{IsInjectAnswer, IsCarriedOut, IsChangedAs, AreCarriedOut}
+use Rattle.ir_live.specs.Carried.{IsInjectedAs, IsCarriedOut, IsChangedAs, AreCarriedOut}
 
 pub injected_as : (was_full : Word Parcel) (source dest : ℕ) (before after : Injector) (result : Result ℕ Refused) (r : Option Refused) → r ≡ result_err result →
-    MatchResult result
-    (λ id. (inject_refused (node_count (knows before.opening).topology) before.max_packets (length before.accepted.items) source dest ≡ None) × IsInjected before after id source dest)
-    (λ e. IsInjectRefusal was_full before source dest e × (after.outs.items ≡ before.outs.items) × (after.accepted.items ≡ before.accepted.items)) → IsInjectAnswer was_full source dest before (command_answer r) after
-injected_as was_full source dest before after (Ok id) r told is = subst (λ (o : Option Refused). IsInjectAnswer was_full source dest before (command_answer o) after) (sym told) (is.0, (id, is.1))
+    IsInjectAnswer was_full source dest before result after → IsInjectedAs was_full source dest before (command_answer r) after
+injected_as was_full source dest before after (Ok id) r told is = subst (λ (o : Option Refused). IsInjectedAs was_full source dest before (command_answer o) after) (sym told) (id, is)
 injected_as was_full source dest before after (Err e) r told is =
-    subst (λ (o : Option Refused). IsInjectAnswer was_full source dest before (command_answer o) after) (sym told) (is.0, record { outs = is.1; accepted = is.2 })
+    subst (λ (o : Option Refused). IsInjectedAs was_full source dest before (command_answer o) after) (sym told) is
 
 module _ {B : Type 0} where
   pub changed_as : (refused : Option Refused) (c : Change) (before after : Desk B) (result : Result Receipt Refused) (r : Option Refused) → r ≡ result_err result →

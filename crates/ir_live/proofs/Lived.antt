@@ -1,5 +1,5 @@
 -- A live run, of a run of the nodes and its report.
-use Rattle.std.specs.Prelude.{◌≡◌, ℕ, ◌≤◌, Bool, true, not, List, [], ◌∷◌, ◌++◌, All, Option, Some, None, IfSome, Result, Ok, Err, IfOk, length, map, replicate, slice_get, slice_index_or}
+use Rattle.std.specs.Prelude.{◌≡◌, ℕ, ◌≤◌, Bool, true, not, List, [], ◌∷◌, ◌++◌, All, Option, Some, None, IfSome, Result, Ok, Err, IfOk, IfErr, length, map, replicate, slice_get, slice_index_or}
 use Rattle.std.proofs.Common.{refl, ap, sym, ◌∙◌, subst, arith}
 use Rattle.std.specs.List.{AllByRecursion}
 use Rattle.std.proofs.lemmas.List.Elements.{All-nil, All-push, All-append}
@@ -33,17 +33,16 @@ use Rattle.ir_control.specs.declared.injector.Accepted.{Accepted}
 use Rattle.ir_control.specs.Parts.{AreFreshParts, AreFirstNodes, IsInjectorOf}
 use Rattle.ir_control.specs.Reports.{IsReport}
 use Rattle.ir_control.proofs.Returned.{first_apart}
-use Rattle.ir_live.specs.declared.desk.Desk.{Desk}
+use Rattle.ir_live.specs.Desks.{Desk, desk_of}
 use Rattle.ir_live.specs.declared.live.Live.{Live}
 use Rattle.ir_live.specs.declared.live.LiveError.{LiveError}
-use Rattle.ir_live.specs.declared.working.NotRun.{NotRun}
-use Rattle.ir_live.specs.declared.working.NotRun.TheVariants as not_run
+use Rattle.ir_live.specs.declared.live.LiveError.TheVariants as live_error
 use Rattle.ir_live.specs.declared.working.Run.{Run}
 use Rattle.ir_live.specs.Answers.{accepted_from}
 use Rattle.ir_live.specs.Lives.{AreSameNodes, IsLive, IsRefusal}
 use Rattle.ir_epochs.specs.declared.error.BoardError.{BoardError}
 use Rattle.ir_epochs.specs.declared.error.BoardError.TheVariants as board
-use Rattle.ir_live.specs.Runs.{IsNetRun, IsStopped, live_error, parts_error}
+use Rattle.ir_live.specs.Runs.{IsNetRun, IsStopped, IsUnreported, parts_error}
 use Rattle.ir_live.proofs.Accepting.{same_injector, injector_kept, accepted_are}
 use Rattle.ir_live.proofs.Causes.{causes_are}
 use Rattle.ir_live.proofs.Handed.{first_back, same_back, turned_back, all_there}
@@ -53,31 +52,31 @@ pub given : {A : Type 0} (P : A → Type 0) (o : Option A) (x : A) → o ≡ Som
 given {A} P o x is h = subst (λ (z : Option A). IfSome z P) is h
 
 -- a thread that was not started is that of a node of the net
-pub refused : {S : Type 0} (unstarted : S → ℕ → Type 0) (net : Net) (s : S) (n : ℕ) (nodes : List Node) (why : NotRun) (error : LiveError) →
-    AreFirstNodes net n nodes → error ≡ live_error why → IsStopped unstarted s nodes why → IsRefusal unstarted net s error
-refused {S} unstarted net s n nodes why error first is stopped = subst (λ (e : LiveError). IsRefusal unstarted net s e) (sym is) (by_case why stopped) where
-  by_case : (why : NotRun) → IsStopped unstarted s nodes why → IsRefusal unstarted net s (live_error why)
-  by_case not_run.NoThread h = (h.1.index, (first.each h.0 h.1 h.2).0.index_in, h.3)
-  by_case not_run.NoMemory h = tt
+module _ (B : Type 0) (was_full : Word Parcel) (unstarted : ℕ → Type 0) (came_back : Node → Type 0) (net : Net) (commands : List Command) where
+  pub refused : (n : ℕ) (nodes : List Node) (error : LiveError) → AreFirstNodes net n nodes → IsStopped unstarted nodes error → IsRefusal B was_full unstarted came_back net commands error
+  refused n nodes live_error.Spent first h = absurd h
+  refused n nodes live_error.NoThread first h = (h.1.index, (first.each h.0 h.1 h.2).0.index_in, h.3)
+  refused n nodes live_error.NoMemory first h = tt
+  refused n nodes live_error.TooManyReaders first h = absurd h
+  refused n nodes live_error.Unpublished first h = absurd h
 
-pub parts_refused : {S : Type 0} (unstarted : S → ℕ → Type 0) (net : Net) (s : S) (why : BoardError) (error : LiveError) →
-    error ≡ parts_error why → IsRefusal unstarted net s error
-parts_refused {S} unstarted net s why error is = subst (λ (e : LiveError). IsRefusal unstarted net s e) (sym is) (by_case why) where
-  by_case : (why : BoardError) → IsRefusal unstarted net s (parts_error why)
-  by_case board.TooManyReaders = tt
-  by_case board.NoMemory = tt
+  pub parts_refused : (why : BoardError) (error : LiveError) → error ≡ parts_error why → IsRefusal B was_full unstarted came_back net commands error
+  parts_refused why error is = subst (λ (e : LiveError). IsRefusal B was_full unstarted came_back net commands e) (sym is) (by_case why) where
+    by_case : (why : BoardError) → IsRefusal B was_full unstarted came_back net commands (parts_error why)
+    by_case board.TooManyReaders = tt
+    by_case board.NoMemory = tt
 
 module _ (was_full was_empty : Word Parcel) (may_end : ℕ → ℕ → Type 0) {B : Type 0} (net : Net) (nodes : List Node) (opened : Desk B) (commands : List Command) (run : Run B)
     (fresh : AreFreshParts net nodes opened.injector opened.controller) (done : IsNetRun was_full was_empty may_end net.opening nodes opened commands run) where
   pub nodes_back : AreFirstNodes net (node_count net.topology) (map (λ (b : Node × Option NoMemory). b.0) run.back.items)
   nodes_back = first_back net (node_count net.topology) was_full was_empty may_end nodes run.back.items fresh.nodes_are done.came_back
 
-  pub injector_back : IsInjectorOf net run.desk.injector
-  injector_back = injector_kept net opened.injector run.desk.injector fresh.injector_of (same_injector was_full commands opened run.desk done.answers done.carried_out)
+  pub injector_back : IsInjectorOf net run.parts.injector
+  injector_back = injector_kept net opened.injector run.parts.injector fresh.injector_of (same_injector was_full commands opened (desk_of run.parts) done.answers done.carried_out)
 
-  accepted : run.desk.injector.accepted.items ≡ accepted_from 0 1 commands done.answers
+  accepted : run.parts.injector.accepted.items ≡ accepted_from 0 1 commands done.answers
   accepted =
-      accepted_are was_full commands opened run.desk done.answers done.carried_out
+      accepted_are was_full commands opened (desk_of run.parts) done.answers done.carried_out
       ∙ ap (λ (xs : List Accepted). xs ++ accepted_from (length xs) opened.injector.newest.epoch commands done.answers) fresh.nothing
       ∙ ap (λ (e : ℕ). accepted_from 0 e commands done.answers) (ap (λ (s : Stamp). s.epoch) fresh.learnt ∙ net.opened.epoch)
 
@@ -90,11 +89,30 @@ module _ (was_full was_empty : Word Parcel) (may_end : ℕ → ℕ → Type 0) {
   stands : Stands net opened.controller (replicate (length net.topology.links) true) 1 opened.controller
   stands = stands_first net nodes opened fresh
 
-  pub boards_back : All (λ n. reader_board n.reader ≡ writer_board run.desk.controller.writer) (map (λ (b : Node × Option NoMemory). b.0) run.back.items)
+  pub boards_back : All (λ n. reader_board n.reader ≡ writer_board run.parts.controller.writer) (map (λ (b : Node × Option NoMemory). b.0) run.back.items)
   boards_back k d lt =
       let count = came.count in
       (came.each k d d (omega (arith, lt, count))).reader ∙ fresh.boards k d (omega (arith, lt, count))
-      ∙ sym (same_board net opened.controller was_full commands (replicate (length net.topology.links) true) 1 opened run.desk done.answers done.carried_out stands)
+      ∙ sym (same_board net opened.controller was_full commands (replicate (length net.topology.links) true) 1 opened (desk_of run.parts) done.answers done.carried_out stands)
+
+  -- a node that is ahead of the controller
+  pub unreported : (unstarted : ℕ → Type 0) (came_back : Node → Type 0) (result : Result Live LiveError) → IfErr result (IsUnreported came_back run.parts.controller) →
+      IfErr result (IsRefusal B was_full unstarted came_back net commands)
+  unreported unstarted came_back (Ok live) h = tt
+  unreported unstarted came_back (Err live_error.Spent) h = absurd h
+  unreported unstarted came_back (Err live_error.NoThread) h = absurd h
+  unreported unstarted came_back (Err live_error.NoMemory) h = tt
+  unreported unstarted came_back (Err live_error.TooManyReaders) h = absurd h
+  unreported unstarted came_back (Err live_error.Unpublished) h = record {
+    first = nodes;
+    opened = opened;
+    handed_out = fresh;
+    answers = done.answers;
+    closed = desk_of run.parts;
+    carried_out = done.carried_out;
+    node = h.0;
+    ahead = h.1;
+  }
 
   abbrev whole : List Stamp
   whole = net.opening ∷ stamps_in done.answers
@@ -103,7 +121,7 @@ module _ (was_full was_empty : Word Parcel) (may_end : ℕ → ℕ → Type 0) {
   stamps_of_net = subst (AreOfOne net.opening) (sym done.stamps)
       (All-append (λ t. registry_name t ≡ registry_name net.opening) (net.opening ∷ []) (stamps_in done.answers)
       (All-push (λ t. registry_name t ≡ registry_name net.opening) [] net.opening (All-nil (λ t. registry_name t ≡ registry_name net.opening)) refl)
-      (stamps_of_one net opened.controller was_full commands (replicate (length net.topology.links) true) 1 opened run.desk done.answers done.carried_out stands))
+      (stamps_of_one net opened.controller was_full commands (replicate (length net.topology.links) true) 1 opened (desk_of run.parts) done.answers done.carried_out stands))
 
   abbrev beside : ℕ → Bool
   beside e = not (among whole e)
@@ -114,22 +132,22 @@ module _ (was_full was_empty : Word Parcel) (may_end : ℕ → ℕ → Type 0) {
   opening_there : among whole 1 ≡ true
   opening_there = ap (among whole) (sym net.opened.epoch) ∙ there.0
 
-  never_published : NeverCurrent beside (published run.desk.controller.writer)
-  never_published = never_all was_full beside commands opened run.desk done.answers done.carried_out (none_beside whole (stamps_in done.answers) there.1) (never_first net nodes opened fresh beside (ap not opening_there))
+  never_published : NeverCurrent beside (published run.parts.controller.writer)
+  never_published = never_all was_full beside commands opened (desk_of run.parts) done.answers done.carried_out (none_beside whole (stamps_in done.answers) there.1) (never_first net nodes opened fresh beside (ap not opening_there))
 
-  module _ (came_back : Node → Type 0) (was_closed : Injector → Type 0) (live : Live) (report : IsReport net (map (λ (b : Node × Option NoMemory). b.0) run.back.items) run.desk.injector live.report)
-      (read : All (λ n. IsPrefix (known n.reader) (published run.desk.controller.writer)) (map (λ (b : Node × Option NoMemory). b.0) run.back.items))
+  module _ (came_back : Node → Type 0) (was_closed : Injector → Type 0) (live : Live) (report : IsReport net (map (λ (b : Node × Option NoMemory). b.0) run.back.items) run.parts.injector live.report)
+      (read : All (λ n. IsPrefix (known n.reader) (published run.parts.controller.writer)) (map (λ (b : Node × Option NoMemory). b.0) run.back.items))
       (first : All (λ s. Agrees run.stamps.items s) live.report.stamps.items) (later : All (λ row. All (λ s. Agrees run.stamps.items s) row.items) live.report.later.items) where
     never_read : (k : ℕ) (n : Node) → slice_get back k ≡ Some n → NeverCurrent beside (known n.reader)
-    never_read k n got = never_earlier beside (known n.reader) (published run.desk.controller.writer) (at_all (λ n. IsPrefix (known n.reader) (published run.desk.controller.writer)) back read k n got) never_published
+    never_read k n got = never_earlier beside (known n.reader) (published run.parts.controller.writer) (at_all (λ n. IsPrefix (known n.reader) (published run.parts.controller.writer)) back read k n got) never_published
 
     restamps_there : (k : ℕ) (o : Outcome) → slice_get report.outcomes k ≡ Some o → All (λ (s : Restamp). among whole s.epoch ≡ true) o.packet.restamps
     restamps_there k o got j d lt =
         not_beside (among whole (slice_index_or o.packet.restamps j d).epoch)
-        (not_told beside net back run.desk.injector live.report report never_read k o got j (slice_index_or o.packet.restamps j d) (slice_get-get_or o.packet.restamps j d lt))
+        (not_told beside net back run.parts.injector live.report report never_read k o got j (slice_index_or o.packet.restamps j d) (slice_get-get_or o.packet.restamps j d lt))
 
     first_there : (k : ℕ) (o : Outcome) → slice_get report.outcomes k ≡ Some o → among whole o.packet.epoch ≡ true
-    first_there = first_among whole report.outcomes run.desk.injector.accepted.items report.heads
+    first_there = first_among whole report.outcomes run.parts.injector.accepted.items report.heads
         (subst (AllByRecursion (λ (a : Accepted). among whole a.epoch ≡ true)) (sym accepted) (entered_among whole commands done.answers 0 1 opening_there there.1))
 
     agree : (k : ℕ) (o : Outcome) → slice_get report.outcomes k ≡ Some o → All (λ s. Agrees whole s) (stamps_of o.stamp o.later.items)
@@ -142,7 +160,7 @@ module _ (was_full was_empty : Word Parcel) (may_end : ℕ → ℕ → Type 0) {
         (λ k o got. sound_by_plans whole net.restamps (stamps_of o.stamp o.later.items) o.packet (at_all IsSoundOutcome report.outcomes report.sound k o got).1
         (at_all (λ (o : Outcome). length o.packet.restamps ≤ net.restamps) report.outcomes report.few k o got) (agree k o got) (first_there k o got) (restamps_there k o got)))
 
-    is_live : was_closed run.desk.injector → live.refusals ≡ run.refusals → All (λ b. b.1 ≡ None) run.back.items → All came_back back → IsLive B was_full was_empty may_end came_back was_closed net commands live
+    is_live : was_closed run.parts.injector → live.refusals ≡ run.refusals → All (λ b. b.1 ≡ None) run.back.items → All came_back back → IsLive B was_full was_empty may_end came_back was_closed net commands live
     is_live closed told served shown =
         let turned = turned_back net (node_count net.topology) was_full was_empty may_end nodes run.back.items fresh.nodes_are done.came_back served in
         record {
@@ -150,7 +168,7 @@ module _ (was_full was_empty : Word Parcel) (may_end : ℕ → ℕ → Type 0) {
           opened = opened;
           handed_out = fresh;
           answers = done.answers;
-          closed = run.desk;
+          closed = desk_of run.parts;
           carried_out = done.carried_out;
           refusals = ap (λ xs. xs.items) told ∙ done.refusals;
           injector_shown = closed;
@@ -164,16 +182,16 @@ module _ (was_full was_empty : Word Parcel) (may_end : ℕ → ℕ → Type 0) {
           all_there = all_there net (node_count net.topology) (map (λ (b : Node × Option NoMemory). b.0) run.back.items) nodes_back;
           injector_of = injector_back;
           report = report;
-          causes = causes_are was_full was_empty may_end net nodes back run.desk.injector live.report _ (published run.desk.controller.writer) came.count fresh.fresh_nodes turned read report;
+          causes = causes_are was_full was_empty may_end net nodes back run.parts.injector live.report _ (published run.parts.controller.writer) came.count fresh.fresh_nodes turned read report;
           plans = planned whole;
           plans_are = ap (λ (e : ℕ). let p : Planned = record { epoch = e; plan = first_plan net } in p ∷ planned (stamps_in done.answers)) net.opened.epoch;
-          asked = all_asked net opened.controller was_full commands (replicate (length net.topology.links) true) 1 opened run.desk done.answers done.carried_out stands;
+          asked = all_asked net opened.controller was_full commands (replicate (length net.topology.links) true) 1 opened (desk_of run.parts) done.answers done.carried_out stands;
           sound = sound;
         }
 
-  pub lived : (came_back : Node → Type 0) (was_closed : Injector → Type 0) → was_closed run.desk.injector → (result : Result Live LiveError) →
-      IfOk result (λ live. IsReport net (map (λ (b : Node × Option NoMemory). b.0) run.back.items) run.desk.injector live.report) →
-      IfOk result (λ _. All (λ n. IsPrefix (known n.reader) (published run.desk.controller.writer)) (map (λ (b : Node × Option NoMemory). b.0) run.back.items)) →
+  pub lived : (came_back : Node → Type 0) (was_closed : Injector → Type 0) → was_closed run.parts.injector → (result : Result Live LiveError) →
+      IfOk result (λ live. IsReport net (map (λ (b : Node × Option NoMemory). b.0) run.back.items) run.parts.injector live.report) →
+      IfOk result (λ _. All (λ n. IsPrefix (known n.reader) (published run.parts.controller.writer)) (map (λ (b : Node × Option NoMemory). b.0) run.back.items)) →
       IfOk result (λ live. All (λ s. Agrees run.stamps.items s) live.report.stamps.items) →
       IfOk result (λ live. All (λ row. All (λ s. Agrees run.stamps.items s) row.items) live.report.later.items) →
       IfOk result (λ live. live.refusals ≡ run.refusals) → IfOk result (λ _. All (λ b. b.1 ≡ None) run.back.items) →

@@ -1,12 +1,11 @@
 -- What commands do with an injector and a controller of one net.
 use Rattle.std.specs.Prelude.{◌≡◌, ℕ, ◌∷◌, [], true, false, List, Option, Some, None, Ok, Err, length}
 use Rattle.ir_model.specs.declared.Kind.{Kind}
-use Rattle.ir_model.specs.Topology.{node_count}
 use Rattle.ir_core.specs.declared.board.Board.{Board}
 use Rattle.ir_core.specs.declared.event.Refused.{Refused}
 use Rattle.ir_core.specs.declared.command.Command.{Command}
 use Rattle.ir_core.specs.declared.command.Command.TheVariants.{Inject, Install, Retire, Down, Up, Drain}
-use Rattle.ir_core.specs.Refusals.{inject_refused, retire_refused, mark_refused}
+use Rattle.ir_core.specs.Refusals.{retire_refused, mark_refused}
 use Rattle.ir_epochs.specs.declared.handles.Receipt.{Receipt}
 use Rattle.ir_epochs.specs.declared.entry.Change.{Change}
 use Rattle.ir_epochs.specs.declared.entry.Change.TheVariants as change
@@ -18,10 +17,10 @@ use Rattle.ir_links.specs.Ends.{Word}
 use Rattle.ir_worker.specs.Account.{lines_out}
 use Rattle.ir_worker.specs.Seen.{Parcel}
 use Rattle.ir_control.specs.declared.injector.Injector.{Injector}
-use Rattle.ir_control.specs.Accepted.{IsInjected, stamp_after_learning}
-use Rattle.ir_control.specs.Refusals.{IsInjectRefusal}
+use Rattle.ir_control.specs.Accepted.{stamp_after_learning}
+use Rattle.ir_control.specs.Refusals.{IsInjectAnswer}
 use Rattle.ir_control.specs.Changes.{Installs, IsNoInstall, IsChangeAnswer}
-use Rattle.ir_live.specs.declared.desk.Desk.{Desk}
+use Rattle.ir_live.specs.Desks.{Desk}
 use Rattle.ir_live.specs.Answers.{CommandAnswer}
 
 -- the same injector, of the same inboxes and with the same limit
@@ -30,19 +29,11 @@ pub record IsSameInjector (before after : Injector) : Type 0 where
   pub lines : lines_out after.outs.items ≡ lines_out before.outs.items
   pub most : after.max_packets ≡ before.max_packets
 
--- nothing was put in
-pub record InjectsNothing (before after : Injector) : Type 0 where
-  pub outs : after.outs.items ≡ before.outs.items
-  pub accepted : after.accepted.items ≡ before.accepted.items
-
--- what an injector answers to an inject, where the word tells of refused pushes
-abbrev pub IsInjectAnswer : Word Parcel → ℕ → ℕ → Injector → CommandAnswer → Injector → Type 0
-IsInjectAnswer was_full source dest before (Ok (Some s)) after = ⊥
-IsInjectAnswer was_full source dest before (Ok None) after =
-    (inject_refused (node_count (knows before.opening).topology) before.max_packets (length before.accepted.items) source dest ≡ None)
-    × ((id : ℕ) × IsInjected before after id source dest)
-IsInjectAnswer was_full source dest before (Err why) after =
-    IsInjectRefusal was_full before source dest why × InjectsNothing before after
+-- what comes of an inject, where the word tells of refused pushes
+abbrev pub IsInjectedAs : Word Parcel → ℕ → ℕ → Injector → CommandAnswer → Injector → Type 0
+IsInjectedAs was_full source dest before (Ok (Some s)) after = ⊥
+IsInjectedAs was_full source dest before (Ok None) after = (id : ℕ) × IsInjectAnswer was_full source dest before (Ok id) after
+IsInjectedAs was_full source dest before (Err why) after = IsInjectAnswer was_full source dest before (Err why) after
 
 -- The injector has learnt of an epoch that was installed: it stamps with that epoch, if it is a later one. Nothing else
 -- changed.
@@ -87,7 +78,7 @@ module _ (was_full : Word Parcel) {B : Type 0} where
   -- what comes of a command: the injector and the controller before it, the answer, and both after it
   abbrev pub IsCarriedOut : Command → Desk B → CommandAnswer → Desk B → Type 0
   IsCarriedOut (Inject source dest) before answer after =
-      IsInjectAnswer was_full source dest before.injector answer after.injector × IsSameInjector before.injector after.injector × (after.injector.newest ≡ before.injector.newest) × (after.controller ≡ before.controller)
+      IsInjectedAs was_full source dest before.injector answer after.injector × IsSameInjector before.injector after.injector × (after.injector.newest ≡ before.injector.newest) × (after.controller ≡ before.controller)
   IsCarriedOut (Install kind root) before answer after = IsInstalledAs kind root before answer after
   IsCarriedOut (Retire floor) before answer after = IsChangedAs (retire_refused (desk_board before) floor) (change.Retire floor) before answer after
   IsCarriedOut (Down link) before answer after = IsChangedAs (mark_refused (desk_links before) (desk_board before) link false) (change.Down link) before answer after

@@ -2,6 +2,7 @@
 pub mod Codes
 pub mod Answers
 pub mod Planned
+pub mod Desks
 pub mod Carried
 pub mod Lives
 -- what bodies use

@@ -7,7 +7,7 @@ use Rattle.ir_core.specs.declared.command.Command.{Command}
 use Rattle.ir_core.specs.declared.packet.Fate.TheVariants.{Left}
 use Rattle.ir_core.specs.Record.{Record}
 use Rattle.ir_epochs.specs.declared.entry.Entry.{Entry}
-use Rattle.ir_epochs.specs.Handles.{known, published}
+use Rattle.ir_epochs.specs.Handles.{known, published, reader_board, writer_board}
 use Rattle.ir_links.specs.Ends.{Word}
 use Rattle.ir_worker.specs.declared.node.Node.{Node}
 use Rattle.ir_worker.specs.Same.{IsSameNode}
@@ -16,14 +16,15 @@ use Rattle.ir_worker.specs.Seen.{Parcel}
 use Rattle.ir_worker.specs.Turns.{AreTurns, HadCause}
 use Rattle.ir_control.specs.declared.injector.Injector.{Injector}
 use Rattle.ir_control.specs.declared.net.Net.{Net}
+use Rattle.ir_control.specs.declared.controller.Controller.{Controller}
 use Rattle.ir_control.specs.Nets.{first_plan}
 use Rattle.ir_control.specs.Parts.{AreNodesOf, IsInjectorOf, AreFreshParts}
 use Rattle.ir_control.specs.Reported.{AreAllThere}
 use Rattle.ir_control.specs.Reports.{IsReport}
-use Rattle.ir_live.specs.declared.desk.Desk.{Desk}
+use Rattle.ir_live.specs.Desks.{Desk}
 use Rattle.ir_live.specs.declared.live.Live.{Live}
 use Rattle.ir_live.specs.declared.live.LiveError.{LiveError}
-use Rattle.ir_live.specs.declared.live.LiveError.TheVariants.{Spent, NoThread, NoMemory, TooManyReaders}
+use Rattle.ir_live.specs.declared.live.LiveError.TheVariants.{Spent, NoThread, NoMemory, TooManyReaders, Unpublished}
 use Rattle.ir_live.specs.Answers.{CommandAnswer, refusals_from, accepted_from}
 use Rattle.ir_live.specs.Planned.{Planned, planned, stamps_in, IsPlanIn, AreAsked}
 use Rattle.ir_live.specs.Carried.{AreCarriedOut}
@@ -79,9 +80,27 @@ pub record IsLive (B : Type 0) (was_full was_empty : Word Parcel) (may_end : ℕ
   pub asked : AreAsked net.labels net.topology (replicate (length net.topology.links) true) 1 commands answers
   pub sound : All (λ r. ∥ IsSoundRecord net.restamps (IsPlanIn plans) r ∥₁) live.report.records.items
 
+-- This node, which was shown as it came back, knows of the controller's board what the controller did not publish.
+pub record IsAhead {B : Type 0} (came_back : Node → Type 0) (controller : Controller B) (n : Node) : Type 0 where
+  pub shown : came_back n
+  pub of_board : reader_board n.reader ≡ writer_board controller.writer
+  pub unpublished : IsPrefix (known n.reader) (published controller.writer) → ⊥
+
+-- A node of a run of a net is ahead of the controller, once each command had its answer.
+pub record HasOneAhead (B : Type 0) (was_full : Word Parcel) (came_back : Node → Type 0) (net : Net) (commands : List Command) : Type 0 where
+  pub first : List Node
+  pub opened : Desk B
+  pub handed_out : AreFreshParts net first opened.injector opened.controller
+  pub answers : List CommandAnswer
+  pub closed : Desk B
+  pub carried_out : AreCarriedOut was_full commands opened answers closed
+  pub node : Node
+  pub ahead : IsAhead came_back closed.controller node
+
 -- a thread was not started only where the starter has a word of it, for a node of the net
-abbrev pub IsRefusal : {S : Type 0} → (S → ℕ → Type 0) → Net → S → LiveError → Type 0
-IsRefusal unstarted net s Spent = Unit {0}
-IsRefusal unstarted net s NoThread = (u : ℕ) × (u < node_count net.topology) × unstarted s u
-IsRefusal unstarted net s NoMemory = Unit {0}
-IsRefusal unstarted net s TooManyReaders = Unit {0}
+abbrev pub IsRefusal : (B : Type 0) → Word Parcel → (ℕ → Type 0) → (Node → Type 0) → Net → List Command → LiveError → Type 0
+IsRefusal B was_full unstarted came_back net commands Spent = Unit {0}
+IsRefusal B was_full unstarted came_back net commands NoThread = (u : ℕ) × (u < node_count net.topology) × unstarted u
+IsRefusal B was_full unstarted came_back net commands NoMemory = Unit {0}
+IsRefusal B was_full unstarted came_back net commands TooManyReaders = Unit {0}
+IsRefusal B was_full unstarted came_back net commands Unpublished = HasOneAhead B was_full came_back net commands

@@ -8,17 +8,17 @@ use Rattle.ir_worker.specs.declared.serving.NoMemory.{NoMemory as Short}
 use Rattle.ir_worker.specs.Same.{IsSameNode}
 use Rattle.ir_worker.specs.Seen.{Parcel}
 use Rattle.ir_worker.specs.Turns.{HasServed}
-use Rattle.ir_live.specs.declared.desk.Desk.{Desk}
+use Rattle.ir_live.specs.Desks.{Desk, desk_of}
 use Rattle.ir_live.specs.declared.live.LiveError.{LiveError}
 use Rattle.ir_live.specs.declared.live.LiveError.TheVariants as live
 use Rattle.ir_epochs.specs.declared.error.BoardError.{BoardError}
 use Rattle.ir_epochs.specs.declared.error.BoardError.TheVariants as boards
-use Rattle.ir_live.specs.declared.working.NotRun.{NotRun}
-use Rattle.ir_live.specs.declared.working.NotRun.TheVariants.{NoThread, NoMemory}
 use Rattle.ir_live.specs.declared.working.Run.{Run}
 use Rattle.ir_live.specs.Answers.{CommandAnswer, refusals_from}
 use Rattle.ir_live.specs.Planned.{stamps_in}
 use Rattle.ir_live.specs.Carried.{AreCarriedOut}
+use Rattle.ir_live.specs.Lives.{IsAhead}
+use Rattle.ir_control.specs.declared.controller.Controller.{Controller}
 
 module _ (was_full was_empty : Word Parcel) (may_end : ℕ → ℕ → Type 0) where
   -- what came back of a node is the same node, after turns
@@ -35,21 +35,27 @@ module _ (was_full was_empty : Word Parcel) (may_end : ℕ → ℕ → Type 0) w
 pub record IsNetRun (was_full was_empty : Word Parcel) (may_end : ℕ → ℕ → Type 0) {B : Type 0} (opening : Stamp) (nodes : List Node) (desk : Desk B) (commands : List Command) (run : Run B) : Type 0 where
   pub came_back : CameBack was_full was_empty may_end nodes run.back.items
   pub answers : List CommandAnswer
-  pub carried_out : AreCarriedOut was_full commands desk answers run.desk
+  pub carried_out : AreCarriedOut was_full commands desk answers (desk_of run.parts)
   pub refusals : run.refusals.items ≡ refusals_from 0 answers
   pub stamps : run.stamps.items ≡ opening ∷ stamps_in answers
 
 -- the thread of one of these nodes was not started, or a growth was refused
-abbrev pub IsStopped : {S : Type 0} → (S → ℕ → Type 0) → S → List Node → NotRun → Type 0
-IsStopped unstarted s nodes NoThread = (k : ℕ) × (n : Node) × (slice_get nodes k ≡ Some n) × unstarted s n.index
-IsStopped unstarted s nodes NoMemory = Unit {0}
+abbrev pub IsStopped : (ℕ → Type 0) → List Node → LiveError → Type 0
+IsStopped unstarted nodes live.Spent = ⊥
+IsStopped unstarted nodes live.NoThread = (k : ℕ) × (n : Node) × (slice_get nodes k ≡ Some n) × unstarted n.index
+IsStopped unstarted nodes live.NoMemory = Unit {0}
+IsStopped unstarted nodes live.TooManyReaders = ⊥
+IsStopped unstarted nodes live.Unpublished = ⊥
 
--- the error of a live run for why nodes did not run
-abbrev pub live_error : NotRun → LiveError
-live_error NoThread = live.NoThread
-live_error NoMemory = live.NoMemory
+-- one of the nodes is ahead of the controller, or a growth was refused
+abbrev pub IsUnreported : {B : Type 0} → (Node → Type 0) → Controller B → LiveError → Type 0
+IsUnreported came_back controller live.Spent = ⊥
+IsUnreported came_back controller live.NoThread = ⊥
+IsUnreported came_back controller live.NoMemory = Unit {0}
+IsUnreported came_back controller live.TooManyReaders = ⊥
+IsUnreported came_back controller live.Unpublished = (n : Node) × IsAhead came_back controller n
 
--- and for why there are no parts of a net
+-- the error of a live run for why there are no parts of a net
 abbrev pub parts_error : BoardError → LiveError
 parts_error boards.TooManyReaders = live.TooManyReaders
 parts_error boards.NoMemory = live.NoMemory

@@ -1,5 +1,6 @@
 //! Seeing, at the end of a run, that all that was read was published, and that stamps of one epoch know one plan.
-ghost use Rattle.std.specs.Prelude.{◌≡◌, All};
+ghost use Rattle.std.specs.Prelude.{◌≡◌, ℕ, All, IsTrue, Some, false, slice_get};
+ghost use Rattle.ir_worker.specs.declared.node.Node.{Node};
 ghost use mathlib.Core.List.{IsPrefix};
 ghost use Rattle.ir_epochs.specs.Handles.{known, published, reader_board, writer_board};
 ghost use Rattle.ir_live.specs.Agreed.{AreOfOne, Agrees};
@@ -9,14 +10,20 @@ use ir_epochs::Stamp;
 use ir_worker::Node;
 use std::sync::Wait;
 
-// Sees that the controller published all that these nodes have read.
-pub(crate) fn lead_all<B: Wait + Drop>(controller: &Controller<B>, nodes: &Vec<Node>)
+// Whether the controller published all that these nodes have read.
+pub(crate) fn lead_all<B: Wait + Drop>(controller: &Controller<B>, nodes: &Vec<Node>) -> bool
     requires { All (λ n. reader_board n.reader ≡ writer_board controller.now.writer) nodes.now.items }
-    ensures { All (λ n. IsPrefix (known n.reader) (published controller.now.writer)) nodes.now.items }
+    ensures lead { IsTrue result
+        → All (λ n. IsPrefix (known n.reader) (published controller.now.writer)) nodes.now.items }
+    ensures ahead { result ≡ false → (k : ℕ) × (n : Node) × (slice_get nodes.now.items k ≡ Some n)
+        × (IsPrefix (known n.reader) (published controller.now.writer) → ⊥) }
 {
     for k in 0..nodes.len() {
-        controller.leads(&nodes[k]);
+        if !controller.leads(&nodes[k]) {
+            return false;
+        }
     }
+    true
 }
 
 // Sees that a stamp knows the plan of each of these that is of its epoch.

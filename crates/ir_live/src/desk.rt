@@ -1,24 +1,15 @@
-//! The desk where commands are carried out.
+//! What a command does with the injector and the controller of a net.
 ghost use Rattle.std.specs.Prelude.{◌≡◌};
-ghost use Rattle.ir_live.specs.Answers.{command_answer};
+ghost use Rattle.ir_live.specs.{Answers.command_answer, Carried.{IsInstalledAs, IsCarriedOut}, Desks.desk_of};
 
-use ir_control::{Controller, Injector, Net};
+use ir_control::Parts;
 use ir_core::{Command, Refused};
 use ir_epochs::Stamp;
 use ir_links::Moments;
 use ir_model::Kind;
 use ir_worker::{Bells, Parcel};
 use std::sync::Wait;
-use std::sync::atomic::{AtomicBool, Ordering};
 use std::thread::Threads;
-
-/// An injector and a controller of one net.
-#[derive(Drop)]
-pub struct Desk<B: Wait + Drop> {
-    pub(crate) injector: Injector,
-    pub(crate) controller: Controller<B>,
-    ghost of_one_net: { controller.opening ≡ injector.opening },
-}
 
 // The answer of a command that installs nothing.
 fn answered(refusal: Option<Refused>) -> Result<Option<Stamp>, Refused>
@@ -30,64 +21,51 @@ fn answered(refusal: Option<Refused>) -> Result<Option<Stamp>, Refused>
     }
 }
 
-// Looks until so many packets are settled or a node has ended, and sleeps meanwhile.
-fn drain<R: Wait>(rt: &R, net: &Net, count: u32, ended: &AtomicBool, bells: &Bells) {
-    bells.want(count);
-    for _ in rt.forever() {
-        bells.settled.lie_down();
-        if net.settled() == count || ended.load(Ordering::SeqCst) {
-            break;
+// Installs an epoch, of which the injector learns at once.
+fn install<R: Threads + Sync, B: Wait + Drop>(
+    rt: &R,
+    parts: &mut Parts<B>,
+    kind: Kind,
+    root: u16,
+) -> Result<Option<Stamp>, Refused>
+    requires { parts.old.controller.opening ≡ parts.old.injector.opening }
+    ensures { IsInstalledAs kind root (desk_of parts.old) result (desk_of parts.new) }
+{
+    match parts.controller.install(rt, kind, root) {
+        Ok(receipt) => {
+            parts.injector.learn(&receipt);
+            match receipt.stamp() {
+                Some(stamp) => Ok(Some(stamp.again())),
+                None => unreachable!(),
+            }
         }
-        bells.settled.sleep(rt);
+        Err(error) => Err(error),
     }
-    bells.settled.get_up();
 }
 
-impl<B: Wait + Drop> Desk<B> {
-    ghost use Rattle.ir_live.specs.Carried.{IsInstalledAs, IsCarriedOut};
-
-    // Installs an epoch, of which the injector learns at once.
-    fn install<R: Threads + Sync>(
-        &mut self,
-        rt: &R,
-        kind: Kind,
-        root: u16,
-    ) -> Result<Option<Stamp>, Refused>
-        ensures { IsInstalledAs kind root self.old result self.new }
-    {
-        match self.controller.install(rt, kind, root) {
-            Ok(receipt) => {
-                self.injector.learn(&receipt);
-                match receipt.stamp() {
-                    Some(stamp) => Ok(Some(stamp.again())),
-                    None => unreachable!(),
-                }
-            }
-            Err(error) => Err(error),
+// Carries out a command, and answers it. The node into whose inbox a packet may have come is woken.
+pub(crate) fn carry_out<R: Threads + Moments<Parcel> + Sync, B: Wait + Drop>(
+    rt: &R,
+    bells: &Bells,
+    parts: &mut Parts<B>,
+    command: Command,
+) -> Result<Option<Stamp>, Refused>
+    requires { parts.old.controller.opening ≡ parts.old.injector.opening }
+    ensures { IsCarriedOut R.was_full command (desk_of parts.old) result (desk_of parts.new) }
+{
+    match command {
+        Command::Inject(source, dest) => {
+            let refusal = parts.injector.inject(rt, source, dest).err();
+            bells.ring(source);
+            answered(refusal)
         }
-    }
-
-    // Carries out a command, and answers it.
-    pub(crate) fn carry_out<R: Threads + Moments<Parcel> + Sync>(
-        &mut self,
-        rt: &R,
-        net: &Net,
-        ended: &AtomicBool,
-        bells: &Bells,
-        command: Command,
-    ) -> Result<Option<Stamp>, Refused>
-        ensures { IsCarriedOut R.was_full command self.old result self.new }
-    {
-        match command {
-            Command::Inject(source, dest) => answered(self.injector.inject(rt, source, dest).err()),
-            Command::Install(kind, root) => self.install(rt, kind, root),
-            Command::Retire(floor) => answered(self.controller.retire(floor).err()),
-            Command::Down(link) => answered(self.controller.down(link).err()),
-            Command::Up(link) => answered(self.controller.up(link).err()),
-            Command::Drain => {
-                drain(rt, net, self.injector.count(), ended, bells);
-                Ok(None)
-            }
+        Command::Install(kind, root) => install(rt, parts, kind, root),
+        Command::Retire(floor) => answered(parts.controller.retire(floor).err()),
+        Command::Down(link) => answered(parts.controller.down(link).err()),
+        Command::Up(link) => answered(parts.controller.up(link).err()),
+        Command::Drain => {
+            bells.wait(rt, parts.injector.count());
+            Ok(None)
         }
     }
 }

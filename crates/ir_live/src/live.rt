@@ -27,10 +27,13 @@ pub enum LiveError {
     /// The board has no place for a reader of each node.
     #[error("no place is left for a reader of the board")]
     TooManyReaders,
+    /// A node knows of the board what its controller did not publish.
+    #[error("a node knows what was not published")]
+    Unpublished,
 }
 
 impl LiveError {
-    /// Its number: 1 Spent, 2 NoThread, 3 NoMemory, 4 TooManyReaders.
+    /// Its number: 1 Spent, 2 NoThread, 3 NoMemory, 4 TooManyReaders, 5 Unpublished.
     pub fn code(self) -> u8
         ensures { result ≡ live_code self }
     {
@@ -39,6 +42,7 @@ impl LiveError {
             LiveError::NoThread => 2,
             LiveError::NoMemory => 3,
             LiveError::TooManyReaders => 4,
+            LiveError::Unpublished => 5,
         }
     }
 }

@@ -5,14 +5,13 @@ ghost use Rattle.ir_control.specs.{Parts.{AreFirstNodes, IsInjectorOf}, Reports.
 ghost use mathlib.Core.List.{IsPrefix};
 ghost use Rattle.ir_epochs.specs.Handles.{known, published, reader_board, writer_board};
 ghost use Rattle.ir_worker.specs.Turns.{MayEnd};
-ghost use Rattle.ir_live.specs.{Agreed.{AreOfOne, Agrees}, Lives.{IsLive, IsRefusal}, Runs.{live_error, parts_error}};
+ghost use Rattle.ir_live.specs.{Agreed.{AreOfOne, Agrees}, Lives.{IsLive, IsRefusal}, Runs.{IsUnreported, parts_error}};
 
 use crate::agreeing::{agree_all, agree_rows, lead_all};
-use crate::desk::Desk;
 use crate::live::{Live, LiveError};
 use crate::starter::Starter;
-use crate::working::{NotRun, Run, run_nodes};
-use ir_control::{FinishError, Net, Parts, finish};
+use crate::working::{By, Run, run_nodes};
+use ir_control::{FinishError, Net, finish};
 use ir_core::Command;
 use ir_epochs::BoardError;
 use ir_links::Moments;
@@ -20,16 +19,6 @@ use ir_worker::{Flag, Gate, NoMemory, Node, Parcel};
 use std::alloc::{AllocError, Global};
 use std::sync::Wait;
 use std::thread::Threads;
-
-// Why a run has no report.
-fn stopped(why: NotRun) -> LiveError
-    ensures { result ≡ live_error why }
-{
-    match why {
-        NotRun::NoThread => LiveError::NoThread,
-        NotRun::NoMemory => LiveError::NoMemory,
-    }
-}
 
 // Why there are no parts of a net.
 fn no_parts(error: BoardError) -> LiveError
@@ -65,23 +54,22 @@ fn all_back<S: Starter>(
 // The report of a run. The nodes have read nothing that was not published, and the stamps of one epoch know one plan.
 fn reported<R: Wait, S: Starter, B: Wait + Drop>(
     rt: &R,
-    alloc: Global,
     net: &Net,
     run: Run<B>,
     starter: &S,
 ) -> Result<Live, LiveError>
     requires nodes { AreFirstNodes net.now (node_count net.now.topology) (map (λ b. b.0) run.back.items) }
-    requires injector { IsInjectorOf net.now run.desk.injector }
-    requires boards { All (λ n. reader_board n.reader ≡ writer_board run.desk.controller.writer)
+    requires injector { IsInjectorOf net.now run.parts.injector }
+    requires boards { All (λ n. reader_board n.reader ≡ writer_board run.parts.controller.writer)
         (map (λ b. b.0) run.back.items) }
     requires registry { AreOfOne net.now.opening run.stamps.items }
     ensures report { IfOk result (λ live. IsReport net.now
-        (map (λ b. b.0) run.back.items) run.desk.injector live.report) }
+        (map (λ b. b.0) run.back.items) run.parts.injector live.report) }
     ensures refusals { IfOk result (λ live. live.refusals ≡ run.refusals) }
     ensures served { IfOk result (λ _. All (λ b. b.1 ≡ None) run.back.items) }
     ensures shown { IfOk result (λ _. All (S.came_back starter.now) (map (λ b. b.0) run.back.items)) }
-    ensures refused { IfErr result (λ error. error ≡ LiveError.NoMemory) }
-    ensures read { IfOk result (λ _. All (λ n. IsPrefix (known n.reader) (published run.desk.controller.writer))
+    ensures refused { IfErr result (IsUnreported (S.came_back starter.now) run.parts.controller) }
+    ensures read { IfOk result (λ _. All (λ n. IsPrefix (known n.reader) (published run.parts.controller.writer))
         (map (λ b. b.0) run.back.items)) }
     ensures first { IfOk result (λ live. All (λ s. Agrees run.stamps.items s) live.report.stamps.items) }
     ensures later { IfOk result (λ live. All
@@ -89,23 +77,17 @@ fn reported<R: Wait, S: Starter, B: Wait + Drop>(
 {
     let Run {
         back,
-        desk,
+        mut parts,
         refusals,
         stamps,
     } = run;
-    let Ok(nodes) = all_back(alloc, back, starter) else {
+    let Ok(nodes) = all_back(net.alloc(), back, starter) else {
         return Err(LiveError::NoMemory);
     };
-    let Desk {
-        injector,
-        controller,
-    } = desk;
-    lead_all(&controller, &nodes);
-    let parts = Parts {
-        nodes,
-        injector,
-        controller,
-    };
+    if !lead_all(&parts.controller, &nodes) {
+        return Err(LiveError::Unpublished);
+    }
+    parts.nodes = nodes;
     match finish(rt, net, parts) {
         Ok(report) => {
             agree_all(&report.stamps, &stamps);
@@ -126,11 +108,10 @@ fn reported<R: Wait, S: Starter, B: Wait + Drop>(
 /// A packet is refused for a full inbox only where the push of its inject was refused.
 ///
 /// Refused are: a net whose parts were handed out before (`Spent`), a board without a place for a reader of each node
-/// (`TooManyReaders`), a thread that was not started (`NoThread`), and want of memory, a node's too. After any answer the
-/// net is spent.
+/// (`TooManyReaders`), a thread that was not started (`NoThread`), want of memory, a node's too, and a node that came back
+/// and knows of the board what was not published, which tests don't find (`Unpublished`). After any answer the net is spent.
 pub fn run_live<R: Threads + Moments<Parcel> + Sync, G: Gate, F: Flag, S: Starter>(
     rt: &R,
-    alloc: Global,
     net: &Net,
     commands: &[Command],
     gate: &G,
@@ -140,7 +121,8 @@ pub fn run_live<R: Threads + Moments<Parcel> + Sync, G: Gate, F: Flag, S: Starte
     ensures live { IfOk result (λ live. IsLive (Bor R) R.was_full R.was_empty
         (MayEnd F.seen G.barred stop.now gate.now) (S.came_back starter.now) (S.was_closed starter.now)
         net.now commands.now live) }
-    ensures refused { IfErr result (λ error. IsRefusal S.unstarted net.now starter.now error) }
+    ensures refused { IfErr result (IsRefusal (Bor R) R.was_full (S.unstarted starter.now) (S.came_back starter.now)
+        net.now commands.now) }
 {
     let given = match net.parts(rt) {
         Ok(given) => given,
@@ -149,17 +131,13 @@ pub fn run_live<R: Threads + Moments<Parcel> + Sync, G: Gate, F: Flag, S: Starte
     let Some(parts) = given else {
         return Err(LiveError::Spent);
     };
-    let Parts {
-        nodes,
-        injector,
-        controller,
-    } = parts;
-    let desk = Desk {
-        injector,
-        controller,
+    let by = By {
+        gate,
+        stop,
+        starter,
     };
-    match run_nodes(rt, alloc, net, nodes, desk, commands, gate, stop, starter) {
-        Ok(run) => reported(rt, alloc, net, run, starter),
-        Err(why) => Err(stopped(why)),
+    match run_nodes(rt, net, parts, commands, &by) {
+        Ok(run) => reported(rt, net, run, starter),
+        Err(why) => Err(why),
     }
 }

@@ -5,7 +5,7 @@ ghost use Rattle.ir_worker.specs.Same.{IsSameNode};
 ghost use Rattle.ir_live_tests.specs.ByHand.{ArePartsOf, IsAway};
 
 use ir_control::{FinishError, Net, Parts, Report, finish};
-use ir_core::{Fate, OpenError, Refused, Restamp};
+use ir_core::{Fate, OpenError, Opening, Refused, Restamp};
 use ir_epochs::Receipt;
 use ir_graph::Graph;
 use ir_model::Kind;
@@ -45,16 +45,8 @@ pub(crate) fn opened(
 ) -> Result<Net, OpenError> {
     let (kind, root) = tree;
     let (capacity, max_packets, restamps) = limits;
-    Net::new(
-        rt,
-        alloc,
-        topology,
-        kind,
-        root,
-        capacity,
-        max_packets,
-        restamps,
-    )
+    let opening = Opening::of(topology, kind, root, capacity, max_packets, restamps);
+    Net::open(rt, alloc, opening)
 }
 
 /// A net over the path a, b, c, whose links are a-b and b-c: nodes 0, 1 and 2, links 0 and 1. Its plan is of the tree with

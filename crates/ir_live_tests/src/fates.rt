@@ -41,12 +41,11 @@ impl Gate for Held<'_> {
 // A live run of commands, where none is refused.
 fn run_all<R: Threads + Wait + Sync, G: Gate>(
     rt: &R,
-    alloc: Global,
     net: &Net,
     commands: &[Command],
     gate: &G,
 ) -> Option<Live> {
-    let live = live::run(rt, alloc, net, commands, gate)?;
+    let live = live::run(rt, net, commands, gate)?;
     if live.refusals.is_empty() {
         Some(live)
     } else {
@@ -63,7 +62,7 @@ fn run_held<R: Threads + Wait + Sync>(
     commands: &[Command],
 ) -> Option<Live> {
     let net = path(rt, alloc, limits.0, limits.1)?;
-    run_all(rt, alloc, &net, commands, &Held { net: &net, node })
+    run_all(rt, &net, commands, &Held { net: &net, node })
 }
 
 /// A packet from b to c that is delivered.
@@ -258,7 +257,7 @@ fn settles_all<R: Threads + Wait + Sync, C: Clock + Sync>(
 ) -> Option<bool> {
     let net = over_star(rt, alloc)?;
     let commands = inwards(alloc)?;
-    let live = run_all(rt, alloc, &net, commands.as_slice(), &Late { clock })?;
+    let live = run_all(rt, &net, commands.as_slice(), &Late { clock })?;
     Some(all_inwards(live.report.records.as_slice()))
 }
 

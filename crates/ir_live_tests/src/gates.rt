@@ -120,7 +120,7 @@ fn is_stopped(live: &Live, turns: u64) -> bool {
 fn stops<R: Threads + Wait + Sync>(rt: &R, alloc: Global, turns: u64) -> Option<bool> {
     let net = over_ring(rt, alloc)?;
     let commands = around(alloc)?;
-    match live::run(rt, alloc, &net, commands.as_slice(), &AtMost(turns)) {
+    match live::run(rt, &net, commands.as_slice(), &AtMost(turns)) {
         Some(live) => Some(is_stopped(&live, turns)),
         None => None,
     }

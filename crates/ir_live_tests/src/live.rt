@@ -1,7 +1,7 @@
 //! Live runs: over the path a, b, c, and of nodes that wait for one another.
 use crate::by_hand::{Became, network, opened, path, tells_all};
 use ir_control::{Injector, Net};
-use ir_core::{Fate, Kind, Refused};
+use ir_core::{Fate, Kind, Opening, Refused};
 use ir_live::{Command, Live, LiveError, Starter, run_live};
 use ir_worker::{Gate, Node};
 use std::alloc::Global;
@@ -84,23 +84,21 @@ impl Gate for Meeting {
 /// What a live run with a thread for each node answers.
 pub(crate) fn run<R: Threads + Wait + Sync, G: Gate>(
     rt: &R,
-    alloc: Global,
     net: &Net,
     commands: &[Command],
     gate: &G,
 ) -> Option<Live> {
     let stop = AtomicBool::new(false);
-    run_live(rt, alloc, net, commands, gate, &stop, rt).ok()
+    run_live(rt, net, commands, gate, &stop, rt).ok()
 }
 
 fn error<R: Threads + Wait + Sync, S: Starter>(
     rt: &R,
-    alloc: Global,
     net: &Net,
     starter: &S,
 ) -> Option<LiveError> {
     let stop = AtomicBool::new(false);
-    run_live(rt, alloc, net, &[Command::Drain], &Open, &stop, starter).err()
+    run_live(rt, net, &[Command::Drain], &Open, &stop, starter).err()
 }
 
 /// A packet that is left at node 0.
@@ -138,8 +136,8 @@ static REFUSED: [(usize, Refused); 4] = [
 ];
 
 // Whether the commands are refused in their places, and the packet is delivered.
-fn are_run<R: Threads + Wait + Sync>(rt: &R, alloc: Global, net: &Net) -> bool {
-    match run(rt, alloc, net, &COMMANDS, &Open) {
+fn are_run<R: Threads + Wait + Sync>(rt: &R, net: &Net) -> bool {
+    match run(rt, net, &COMMANDS, &Open) {
         Some(live) => {
             live.refusals.as_slice() == REFUSED.as_slice() && tells_all(&live.report, &[OVER])
         }
@@ -150,7 +148,7 @@ fn are_run<R: Threads + Wait + Sync>(rt: &R, alloc: Global, net: &Net) -> bool {
 // Whether they are run so, and the net is then spent.
 fn runs_once<R: Threads + Wait + Sync>(rt: &R, alloc: Global) -> Option<bool> {
     let net = path(rt, alloc, 16, 0)?;
-    let is_spent = are_run(rt, alloc, &net) && error(rt, alloc, &net, rt) == Some(LiveError::Spent);
+    let is_spent = are_run(rt, &net) && error(rt, &net, rt) == Some(LiveError::Spent);
     Some(is_spent)
 }
 
@@ -163,7 +161,7 @@ fn refusals_with_their_places_and_then_spent(rt: HostRuntime) {
 fn is_left<R: Threads + Wait + Sync>(rt: &R, alloc: Global) -> Option<bool> {
     let net = path(rt, alloc, 16, 0)?;
     let commands = [Command::Inject(0, 2), Command::Drain];
-    let live = run(rt, alloc, &net, &commands, &Shut)?;
+    let live = run(rt, &net, &commands, &Shut)?;
     Some(tells_all(&live.report, &[LEFT]))
 }
 
@@ -178,8 +176,8 @@ fn not_started<R: Threads + Wait + Sync>(
     alloc: Global,
 ) -> Option<(Option<LiveError>, Option<LiveError>)> {
     let net = path(rt, alloc, 16, 0)?;
-    let first = error(rt, alloc, &net, &AllBut(1));
-    Some((first, error(rt, alloc, &net, rt)))
+    let first = error(rt, &net, &AllBut(1));
+    Some((first, error(rt, &net, rt)))
 }
 
 #[test]
@@ -221,7 +219,7 @@ fn meet<R: Threads + Wait + Sync>(
         come: AtomicU32::new(0),
         met: AtomicU32::new(0),
     };
-    let live = run(rt, alloc, &net, &FIRST, &gate)?;
+    let live = run(rt, &net, &FIRST, &gate)?;
     Some(gate.met.load(Ordering::SeqCst) == nodes && tells_all(&live.report, &FIRST_BECAME))
 }
 
@@ -238,10 +236,11 @@ fn nodes_meet(rt: HostRuntime) -> Result<(), Fail> {
 // Whether the example in the doc comment of a net is so.
 fn net_example<R: Threads + Wait + Sync>(rt: &R, alloc: Global) -> Option<bool> {
     let topology = network(alloc, &[("a", "b"), ("b", "c")])?;
-    let net = Net::new(rt, alloc, topology, Kind::Tree, 0, 16, 64, 0).ok()?;
+    let opening = Opening::of(topology, Kind::Tree, 0, 16, 64, 0);
+    let net = Net::open(rt, alloc, opening).ok()?;
     let commands = [Command::Inject(1, 2), Command::Drain];
     let stop = AtomicBool::new(false);
-    let live = run_live(rt, alloc, &net, &commands, &Open, &stop, rt).ok()?;
+    let live = run_live(rt, &net, &commands, &Open, &stop, rt).ok()?;
     let is_so = tells_all(&live.report, &[OVER]);
     Some(is_so)
 }

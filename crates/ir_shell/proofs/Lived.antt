@@ -27,7 +27,7 @@ use Rattle.ir_control.specs.Heads.{head_at}
 use Rattle.ir_control.specs.Reports.{IsSoundOutcome}
 use Rattle.ir_control.specs.Told.{IsOutcomeIn}
 use Rattle.ir_links.specs.Ends.{Word}
-use Rattle.ir_live.specs.declared.desk.Desk.{Desk}
+use Rattle.ir_live.specs.Desks.{Desk}
 use Rattle.ir_live.specs.declared.live.Live.{Live}
 use Rattle.ir_live.specs.Answers.{CommandAnswer, accepted_by, accepted_from, epoch_after}
 use Rattle.ir_live.specs.Carried.{IsCarriedOut, AreCarriedOut}
@@ -70,7 +70,7 @@ module _ (was_full : Word Parcel) {B : Type 0} (before next : Desk B) (n : ℕ) 
   one_entered : node_count (knows before.injector.opening).topology ≡ n → (c : Command) (answer : CommandAnswer) (id epoch : ℕ) (later : List Accepted) → IsCarriedOut was_full c before answer next → AllByRecursion (IsEntered n) later
       → AllByRecursion (IsEntered n) (accepted_by id epoch c answer ++ later)
   one_entered e (Inject source dest) (Ok None) id epoch later k all =
-      (subst (λ (m : ℕ). (source < m) × (dest < m)) e (in_range (node_count (knows before.injector.opening).topology) before.injector.max_packets (length before.injector.accepted.items) source dest k.0.0), all)
+      (subst (λ (m : ℕ). (source < m) × (dest < m)) e (in_range (node_count (knows before.injector.opening).topology) before.injector.max_packets (length before.injector.accepted.items) source dest k.0.1.0), all)
   one_entered e (Inject source dest) (Ok (Some s)) id epoch later k all = absurd k.0
   one_entered e (Inject source dest) (Err why) id epoch later k all = all
   one_entered e (Install kind root) answer id epoch later k all = all

@@ -5,10 +5,10 @@ mod live;
 mod running;
 
 pub use ir_answer::{
-    Format, Numbering, Source, Sub, Words, WordsError, read_words, run_by, run_check, run_plan,
-    run_sim, sources_of,
+    Format, Notice, Numbering, Outcome, Source, Sub, Words, WordsError, read_words, run_by,
+    run_check, run_plan, run_sim, sources_of,
 };
 pub use ir_exports::LineCrew;
 pub use ir_plan::{Alone, Crew, Several};
 pub use ir_script::{Command, Script, ScriptError, ScriptFault, parse_live, parse_script};
-pub use running::{run, run_live_text};
+pub use running::{follow, run, run_live_text};

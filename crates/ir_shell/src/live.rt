@@ -2,13 +2,13 @@
 ghost use Rattle.std.specs.{Prelude.{◌≡◌, ◌≢◌, false, IfOk, IfErr, slice_index_or, string_bytes}, Borrow.Bor, List.list_any};
 ghost use Rattle.ir_model.specs.{Graph.names, OfGraph.topology_of_graph, Text.lines};
 ghost use Rattle.ir_trace.specs.Written.{HaveSegments};
-ghost use Rattle.ir_cli.specs.Openings.{AnswersTopology};
+ghost use Rattle.ir_cli.specs.{Lines.steps_text, Openings.{AnswersTopology}};
 ghost use Rattle.ir_live.specs.Lives.{IsLive, IsRefusal};
 ghost use Rattle.ir_shell.specs.Lives.{is_for_memory, refusals_text, IsOpenedNet, AnswersLive, AnswersLiveScript, ends_somewhere};
 ghost use Rattle.ir_answer.specs.{Plays.{listing_in, run_text}, Stops.{StopsAs, Gives}};
 
 use ir_answer::{Asked, Stop, opening_stop, read_asked, run_text};
-use ir_cli::{Reply, Words, opening_of, push_reply_line};
+use ir_cli::{Reply, Words, opening_of};
 use ir_control::Net;
 use ir_core::{OpenError, Refused};
 use ir_graph::Graph;
@@ -48,23 +48,23 @@ fn line_at(lines: &[usize], place: usize) -> usize
     if place < lines.len() { lines[place] } else { 0 }
 }
 
-/// A line for each command that was refused.
-fn refusals_text(
+/// The commands that were refused, by the numbers of their lines.
+fn refused_steps(
     alloc: Global,
     lines: &[usize],
     refusals: &[(usize, Refused)],
-) -> Result<String, AllocError>
-    ensures { IfOk result (λ text. string_bytes text ≡ refusals_text lines.now refusals.now) }
+) -> Result<Vec<(usize, Refused)>, AllocError>
+    ensures { IfOk result (λ steps. steps_text steps.items ≡ refusals_text lines.now refusals.now) }
 {
-    let mut text = String::new(alloc);
+    let mut steps = Vec::new(alloc);
     for i in 0..refusals.len() {
         let (place, refusal) = refusals[i];
-        push_reply_line(&mut text, line_at(lines, place), Err(refusal))?;
+        steps.push((line_at(lines, place), refusal))?;
     }
-    Ok(text)
+    Ok(steps)
 }
 
-/// The trace of a live run, and a line for each command that was refused.
+/// The trace of a live run, and the commands that were refused.
 fn live_texts(
     alloc: Global,
     graph: &Graph,
@@ -72,13 +72,13 @@ fn live_texts(
     restamps: u8,
     lines: &[usize],
     live: &Live,
-) -> Result<(String, String), AllocError>
+) -> Result<(String, Vec<(usize, Refused)>), AllocError>
     requires over { topology.now ≡ topology_of_graph graph.now }
     requires records { HaveSegments topology.now live.now.report.records.items }
     ensures in_memory { IfOk result (λ _. list_any is_for_memory live.now.refusals.items ≡ false) }
     ensures trace { IfOk result (λ texts. string_bytes texts.0
         ≡ run_text restamps (names graph.now) topology.now live.now.report.records.items) }
-    ensures told { IfOk result (λ texts. string_bytes texts.1 ≡ refusals_text lines.now live.now.refusals.items) }
+    ensures told { IfOk result (λ texts. steps_text texts.1.items ≡ refusals_text lines.now live.now.refusals.items) }
 {
     let refusals = live.refusals.as_slice();
     if wants_memory(refusals) {
@@ -91,23 +91,23 @@ fn live_texts(
         restamps,
         live.report.records.as_slice(),
     )?;
-    let refused = refusals_text(alloc, lines, refusals)?;
+    let refused = refused_steps(alloc, lines, refusals)?;
     Ok((trace, refused))
 }
 
 /// A live run in which each node has a thread, makes every turn, and ends once the commands are carried out.
 fn run_open<T: Threads + Moments<Parcel> + Starter + Sync>(
     rt: &T,
-    alloc: Global,
     net: &Net,
     commands: &[Command],
 ) -> Result<Live, LiveError>
     ensures live { IfOk result (λ live. IsLive (Bor T) T.was_full T.was_empty ends_somewhere (T.came_back rt.now)
         (T.was_closed rt.now) net.now commands.now live) }
-    ensures refused { IfErr result (λ error. IsRefusal T.unstarted net.now rt.now error) }
+    ensures refused { IfErr result (IsRefusal (Bor T) T.was_full (T.unstarted rt.now) (T.came_back rt.now) net.now
+        commands.now) }
 {
     let stop = AtomicBool::new(false);
-    run_live(rt, alloc, net, commands, &Open, &stop, rt)
+    run_live(rt, net, commands, &Open, &stop, rt)
 }
 
 /// The answer to a script and a net that was opened for it. Its parts were not handed out before; that they are not handed
@@ -125,7 +125,7 @@ fn answer_net<T: Threads + Moments<Parcel> + Starter + Sync>(
         (T.was_closed rt.now) asked.now.graph words.now (listing_in asked.now.script) asked.now.root) result }
 {
     let _nodes = asked.topology.nodes();
-    match run_open(rt, alloc, net, asked.script.steps()) {
+    match run_open(rt, net, asked.script.steps()) {
         Ok(live) => {
             let (trace, refused) = live_texts(
                 alloc,
@@ -138,8 +138,8 @@ fn answer_net<T: Threads + Moments<Parcel> + Starter + Sync>(
             Ok(Reply::Ran(trace, refused))
         }
         Err(LiveError::NoThread) => Ok(Reply::NoThread),
-        Err(LiveError::TooManyReaders) => Err(opening_stop(alloc, OpenError::TooManyReaders)),
-        Err(LiveError::Spent | LiveError::NoMemory) => Err(Stop::NoMemory),
+        Err(LiveError::TooManyReaders) => Err(opening_stop(OpenError::TooManyReaders)),
+        Err(LiveError::Spent | LiveError::NoMemory | LiveError::Unpublished) => Err(Stop::NoMemory),
     }
 }
 
@@ -160,6 +160,6 @@ pub fn run_commands<T: Threads + Moments<Parcel> + Starter + Sync>(
     let opening = opening_of(alloc, words, &asked.topology, asked.root)?;
     match Net::open(rt, alloc, opening) {
         Ok(net) => answer_net(rt, alloc, words, &asked, &net),
-        Err(error) => Err(opening_stop(alloc, error)),
+        Err(error) => Err(opening_stop(error)),
     }
 }

@@ -1,13 +1,13 @@
 //! Runs of the program among which are live ones, from bytes to bytes.
 ghost use Rattle.std.specs.{Prelude.{◌≡◌, length}, Borrow.Bor};
-ghost use Rattle.ir_answer.specs.{Asked.{sim_sources, sources_of, Answers}, Formed.InForm};
+ghost use Rattle.ir_answer.specs.{Asked.{sim_sources, sources_of, Answers}, Formed.{InForm, asked_form}};
 ghost use Rattle.ir_shell.specs.Asked.{LiveAnswers};
 ghost use Rattle.ir_cli.specs.{Ending.{EndsAs, Ends}, Reading.{texts_of, AreRead, IsUnread}, Told.{Sends, Tells}};
-ghost use Rattle.ir_cli.specs.Words.{FitsItsKind};
+ghost use Rattle.ir_cli.specs.{Notices.{told_text, ShowsFound}, Words.{FitsItsKind}};
 
 use crate::live::run_commands;
-use ir_answer::{in_form, run_by, sources_by, two_texts, write_given};
-use ir_cli::{Ending, Sub, Words, read_inputs, status_of, tell_unread};
+use ir_answer::{asked_shape, follow_by, sources_by, two_texts, write_given};
+use ir_cli::{Outcome, Sub, Words, read_inputs, status_of, tell_unread};
 use ir_exports::LineCrew;
 use ir_links::Moments;
 use ir_live::Starter;
@@ -24,17 +24,46 @@ fn write_live<T: Threads + Moments<Parcel> + Starter + Sync, W: Writer, F: Write
     texts: &[Vec<u8>],
     output: &mut W,
     faults: &mut F,
-) -> Ending
+) -> Outcome
     requires { length texts.now ≡ length (sim_sources words.now) }
-    ensures { EndsAs (InForm Sub.Live words.now (LiveAnswers (Bor T) T.was_full T.was_empty (T.unstarted rt.now)
-        (T.came_back rt.now) (T.was_closed rt.now) words.now)) result
+    ensures ends { EndsAs (InForm Sub.Live words.now (LiveAnswers (Bor T) T.was_full T.was_empty (T.unstarted rt.now)
+        (T.came_back rt.now) (T.was_closed rt.now) words.now)) result.ending
         (λ read. read ≡ texts_of texts.now) (λ source why. ⊥)
         (Sends W.contents W.wrote W.settled output.old output.new) (output.new ≡ output.old)
         (Tells F.contents F.wrote F.settled faults.old faults.new) }
+    ensures told { Tells F.contents F.wrote F.settled faults.old faults.new (told_text result.told) }
+    ensures found { ShowsFound (asked_form Sub.Live words.now) result.found result.ending
+        (Sends W.contents W.wrote W.settled output.old output.new) }
 {
     let (topology, script) = two_texts(words, texts);
     let plain = run_commands(rt, alloc, words, topology, script);
-    write_given(in_form(alloc, Sub::Live, words, plain), output, faults)
+    write_given(alloc, asked_shape(Sub::Live, words), plain, output, faults)
+}
+
+/// Does what `run_live_text` does, and answers what it came to, as values.
+fn follow_live<T: Threads + Moments<Parcel> + Starter + Sync, R: Reader, W: Writer, F: Writer>(
+    rt: &T,
+    alloc: Global,
+    words: &Words,
+    inputs: &mut [R],
+    output: &mut W,
+    faults: &mut F,
+) -> Outcome
+    requires { length inputs.old ≡ length (sim_sources words.now) }
+    ensures ends { EndsAs (InForm Sub.Live words.now (LiveAnswers (Bor T) T.was_full T.was_empty (T.unstarted rt.now)
+        (T.came_back rt.now) (T.was_closed rt.now) words.now)) result.ending
+        (λ texts. AreRead R.remaining R.gave inputs.old texts inputs.new)
+        (IsUnread R.remaining R.gave (sim_sources words.now) inputs.old inputs.new)
+        (Sends W.contents W.wrote W.settled output.old output.new) (output.new ≡ output.old)
+        (Tells F.contents F.wrote F.settled faults.old faults.new) }
+    ensures told { Tells F.contents F.wrote F.settled faults.old faults.new (told_text result.told) }
+    ensures found { ShowsFound (asked_form Sub.Live words.now) result.found result.ending
+        (Sends W.contents W.wrote W.settled output.old output.new) }
+{
+    match read_inputs(alloc, sources_by(Sub::Live, words), inputs) {
+        Ok(texts) => write_live(rt, alloc, words, texts.as_slice(), output, faults),
+        Err(unread) => tell_unread(faults, unread.source, unread.why),
+    }
 }
 
 /// Reads a topology and a script, opens a net over the topology, carries out the script's commands while each node turns on
@@ -58,12 +87,42 @@ pub fn run_live_text<
         (Sends W.contents W.wrote W.settled output.old output.new) (output.new ≡ output.old)
         (Tells F.contents F.wrote F.settled faults.old faults.new) }
 {
-    match read_inputs(alloc, sources_by(Sub::Live, words), inputs) {
-        Ok(texts) => {
-            let ending = write_live(rt, alloc, words, texts.as_slice(), output, faults);
-            status_of(ending)
-        }
-        Err(unread) => status_of(tell_unread(faults, unread.source, unread.why)),
+    status_of(follow_live(rt, alloc, words, inputs, output, faults).ending)
+}
+
+/// Does what the words ask for over readers and writers, as `run` does, and answers what it came to, as values: how the run
+/// ended, what its lines of faults tell, and what a check found.
+pub fn follow<
+    T: Threads + Moments<Parcel> + Starter + Sync,
+    C: LineCrew,
+    R: Reader,
+    W: Writer,
+    F: Writer,
+>(
+    rt: &T,
+    crew: &C,
+    alloc: Global,
+    words: &Words,
+    inputs: &mut [R],
+    output: &mut W,
+    faults: &mut F,
+) -> Outcome
+    requires kind { FitsItsKind words.now }
+    requires inputs { length inputs.old ≡ length (sources_of words.now) }
+    ensures ends { EndsAs (Answers (LiveAnswers (Bor T) T.was_full T.was_empty (T.unstarted rt.now) (T.came_back rt.now)
+        (T.was_closed rt.now)) words.now) result.ending
+        (λ texts. AreRead R.remaining R.gave inputs.old texts inputs.new)
+        (IsUnread R.remaining R.gave (sources_of words.now) inputs.old inputs.new)
+        (Sends W.contents W.wrote W.settled output.old output.new) (output.new ≡ output.old)
+        (Tells F.contents F.wrote F.settled faults.old faults.new) }
+    ensures told { Tells F.contents F.wrote F.settled faults.old faults.new (told_text result.told) }
+    ensures found { ShowsFound (asked_form words.now.sub words.now) result.found result.ending
+        (Sends W.contents W.wrote W.settled output.old output.new) }
+{
+    if words.sub == Sub::Live {
+        follow_live(rt, alloc, words, inputs, output, faults)
+    } else {
+        follow_by(crew, alloc, words, inputs, output, faults)
     }
 }
 
@@ -107,9 +166,5 @@ pub fn run<
         (Sends W.contents W.wrote W.settled output.old output.new) (output.new ≡ output.old)
         (Tells F.contents F.wrote F.settled faults.old faults.new) }
 {
-    if words.sub == Sub::Live {
-        run_live_text(rt, alloc, words, inputs, output, faults)
-    } else {
-        run_by(crew, alloc, words, inputs, output, faults)
-    }
+    status_of(follow(rt, crew, alloc, words, inputs, output, faults).ending)
 }

@@ -4,8 +4,9 @@ ghost use Rattle.std.specs.Prelude.{◌≡◌, length, IfOk};
 ghost use Rattle.ir_answer.specs.Asked.{sources_of};
 ghost use Rattle.ir_cli.specs.Words.{FitsItsKind};
 
-use ir_answer::{Alone, run_by, run_check, run_plan, run_sim, sources_of};
-use ir_cli::{Called, Sub, Words, WordsError, read_words_as};
+use ir_answer::{Alone, follow_by, run_by, run_check, run_plan, run_sim, sources_of};
+use ir_cli::{Called, Notice, Sub, Told, Words, WordsError, read_words_as};
+use ir_core::OpenError;
 use std::alloc::Global;
 
 /// What a line of words behind this name of the program asks for, or why it is refused.
@@ -95,6 +96,30 @@ fn a_plan_a_run_and_a_check(rt: HostRuntime) {
     );
     let text = "a b\nb c\n%%\ninject a c\ndrain\n%%\ntrace 1\n0 1 a c 2 delivered a b c\n";
     assert!(rt; prints(rt.alloc(), "check -", text, (0, "ok 1\n", "")));
+}
+
+/// What is told, as a value, of words over a text on standard input; none where the words are refused.
+fn told_of(alloc: Global, line: &str, text: &str) -> Option<Told> {
+    let Ok(words) = asked_by(alloc, Called::Route, line) else {
+        return None;
+    };
+    let mut inputs = [text.as_bytes()];
+    let mut output: Vec<u8> = Vec::new(alloc);
+    let mut faults: Vec<u8> = Vec::new(alloc);
+    if sources_of(&words).len() != 1 {
+        return None;
+    }
+    let outcome = follow_by(&Alone, alloc, &words, &mut inputs, &mut output, &mut faults);
+    Some(outcome.told)
+}
+
+#[test]
+fn an_outcome_is_told_as_a_value(rt: HostRuntime) {
+    let is_empty = match told_of(rt.alloc(), "plan -", "\n") {
+        Some(Told::Fault(notice)) => notice == Notice::Opening(OpenError::Empty),
+        _ => false,
+    };
+    assert!(rt; is_empty);
 }
 
 #[test]

@@ -13,41 +13,41 @@ use std::thread::Parker;
 // How often all ways are polled in vain, and others are given way, before a node is about to sleep.
 const LOOKS: u8 = 2;
 
-/// A bell beside which one thread sleeps, and which others ring.
+// A bell beside which one thread sleeps, and which others ring.
 #[derive(Drop)]
-pub struct Bell {
+struct Bell {
     asleep: AtomicBool,
     parker: Parker,
 }
 
 impl Bell {
-    /// Nobody sleeps.
-    pub fn new() -> Bell {
+    // Nobody sleeps.
+    fn new() -> Bell {
         Bell {
             asleep: AtomicBool::new(false),
             parker: Parker::new(),
         }
     }
 
-    /// The thread of this bell is about to sleep: a ring that comes from now on wakes it. It then looks at all that it would be
-    /// rung for.
-    pub fn lie_down(&self) {
+    // The thread of this bell is about to sleep: a ring that comes from now on wakes it. It then looks at all that it would be
+    // rung for.
+    fn lie_down(&self) {
         self.asleep.store(true, Ordering::SeqCst);
     }
 
-    /// It found something, and does not sleep.
-    pub fn get_up(&self) {
+    // It found something, and does not sleep.
+    fn get_up(&self) {
         self.asleep.store(false, Ordering::SeqCst);
     }
 
-    /// Sleeps until the bell has been rung since it lay down. It may also return for no reason.
-    pub fn sleep<R: Wait>(&self, rt: &R) {
+    // Sleeps until the bell has been rung since it lay down. It may also return for no reason.
+    fn sleep<R: Wait>(&self, rt: &R) {
         self.parker.park(rt);
         self.get_up();
     }
 
-    /// Wakes who sleeps, or is about to.
-    pub fn ring(&self) {
+    // Wakes who sleeps, or is about to.
+    fn ring(&self) {
         if self.asleep.load(Ordering::SeqCst) && self.asleep.swap(false, Ordering::SeqCst) {
             self.parker.unpark();
         }
@@ -68,14 +68,14 @@ impl Idle {
     }
 }
 
-/// A bell for each node of a net, and one for who waits until packets are settled.
+/// A bell for each node of a net, and one for who waits until so many packets are settled, or a node has ended.
 #[derive(Drop)]
 pub struct Bells {
     nodes: Vec<Bell>,
-    /// It is rung for the packet that makes those that are settled as many as are wanted, and for each behind it.
-    pub settled: Bell,
+    waiting: Bell,
     wanted: AtomicU32,
-    count: AtomicU32,
+    settled: AtomicU32,
+    ended: AtomicBool,
 }
 
 impl Bells {
@@ -96,23 +96,38 @@ impl Bells {
     fn over(nodes: Vec<Bell>) -> Bells {
         Bells {
             nodes,
-            settled: Bell::new(),
+            waiting: Bell::new(),
             wanted: AtomicU32::new(0),
-            count: AtomicU32::new(0),
+            settled: AtomicU32::new(0),
+            ended: AtomicBool::new(false),
         }
     }
 
-    /// From now on who waits beside `settled` is woken once so many packets are settled in all, and no longer for each.
-    pub fn want(&self, packets: u32) {
+    /// Waits until so many packets are settled in all, or a node has ended. It sleeps meanwhile, and is woken once.
+    pub fn wait<R: Wait>(&self, rt: &R, packets: u32) {
         self.wanted.store(packets, Ordering::SeqCst);
+        for _ in rt.forever() {
+            self.waiting.lie_down();
+            if self.settled.load(Ordering::SeqCst) >= packets || self.ended.load(Ordering::SeqCst) {
+                break;
+            }
+            self.waiting.sleep(rt);
+        }
+        self.waiting.get_up();
     }
 
-    // One packet more is settled.
+    // A packet is settled.
     fn settle(&self) {
-        let before = self.count.fetch_add(1, Ordering::SeqCst);
+        let before = self.settled.fetch_add(1, Ordering::SeqCst);
         if before >= self.wanted.load(Ordering::SeqCst).saturating_sub(1) {
-            self.settled.ring();
+            self.waiting.ring();
         }
+    }
+
+    // A node has ended.
+    pub(crate) fn end(&self) {
+        self.ended.store(true, Ordering::SeqCst);
+        self.waiting.ring();
     }
 
     /// Wakes a node.
@@ -127,7 +142,7 @@ impl Bells {
         for bell in &self.nodes {
             bell.ring();
         }
-        self.settled.ring();
+        self.waiting.ring();
     }
 
     // What a node of so many ways does behind a turn: it rings for what it did, or rests where it found nothing.

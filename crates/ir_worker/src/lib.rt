@@ -11,7 +11,7 @@ mod parcel;
 mod passing;
 mod serving;
 
-pub use bells::{Bell, Bells};
-pub use node::{Ends, Node, Turn};
+pub use bells::Bells;
+pub use node::{Common, Ends, Node, Turn};
 pub use parcel::{Outcome, Parcel, Place};
 pub use serving::{ComesBack, Flag, Gate, NoMemory, serve};

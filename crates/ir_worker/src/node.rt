@@ -55,7 +55,18 @@ pub struct Node {
     ghost causes: { ∥ All (IsCauseKnown (known reader)) outcomes.items ∥₁ },
 }
 
-/// What a node is made of, once it is taken apart.
+/// What the parts of a net share: the registry of its plans, the stamp of its opening, how many restamps it allows a packet,
+/// and how many packets were settled.
+#[derive(Drop)]
+pub struct Common {
+    pub registry: Arc<Registry, Global>,
+    pub opening: Stamp,
+    pub restamps: u8,
+    pub settled: Arc<AtomicU32, Global>,
+    ghost of_registry: { IsOf (arc_value registry) opening },
+}
+
+/// What a node is made of: the ends of its inbox and ports, and what was settled there.
 #[derive(Drop)]
 pub struct Ends {
     pub inbox: Taker<Parcel>,
@@ -65,39 +76,41 @@ pub struct Ends {
 }
 
 impl Node {
-    ghost use Rattle.std.specs.Prelude.{◌<◌, MatchResult};
+    ghost use Rattle.std.specs.Prelude.{◌<◌, ◌↔◌, IsTrue, MatchResult};
     ghost use mathlib.Core.List.{IsPrefix};
     ghost use Rattle.ir_model.specs.Topology.{node_count, ports_of};
     ghost use Rattle.ir_epochs.specs.Entries.{board_of, Rises};
-    ghost use Rattle.ir_epochs.specs.Handles.{told, published, reader_board, writer_board, receipt_board};
-    ghost use Rattle.ir_worker.specs.{Same.IsSameNode, Turns.{IsTurn, IsUntouched, HoldsAll}, Wires.IsWayAt};
+    ghost use Rattle.ir_epochs.specs.Handles.{told, published};
+    ghost use Rattle.ir_worker.specs.{Turns.{IsTurn, IsUntouched, HoldsAll}, Wires.IsWayAt};
+    ghost use Rattle.ir_worker.specs.Same.{IsSameNode, IsNodeWith, HasNodeEnds, IsAtStart, ComesApartAs};
+    ghost use Rattle.ir_worker.specs.Same.{number_in_net, known_to, next_way, ReadsBoardOf, ReadsBoardOfReceipt};
+    ghost use Rattle.ir_worker.specs.Same.{AreEndsOfNode, AreOutcomesOfNode, AreCausesKnownTo};
 
     /// A node with its ends, which have taken and sent nothing. It counts in `settled`, with the net's other nodes, what it
     /// settles: a hint of which nothing is claimed.
-    pub fn new(
-        alloc: Global,
-        index: u16,
-        registry: Arc<Registry, Global>,
-        opening: Stamp,
-        restamps: u8,
-        ports: Vec<Hop>,
-        inbox: Taker<Parcel>,
-        ins: Vec<Taker<Parcel>>,
-        outs: Vec<Sender<Parcel>>,
-        reader: BoardReader,
-        settled: Arc<AtomicU32, Global>,
-    ) -> Node
-        requires registry { IsOf (arc_value registry) opening }
-        requires board { (registry_of (known reader) ≡ registry_name opening)
-            × (topology_of (known reader) ≡ (knows opening).topology) }
-        requires ends { AreEndsOf opening restamps index ports.items inbox ins.items outs.items }
-        requires fresh { (w : Record → ℕ) → IsEven w inbox ins.items outs.items [] }
-        ensures node { (result.index ≡ index) × (result.registry ≡ registry) × (result.opening ≡ opening)
-            × (result.restamps ≡ restamps) × (result.ports ≡ ports) × (result.reader ≡ reader) }
-        ensures ends { (result.entrances.inbox ≡ inbox) × (result.entrances.ports ≡ ins)
-            × (result.outs ≡ outs) }
-        ensures start { (result.entrances.next ≡ 0) × (result.outcomes.items ≡ []) }
+    pub fn new(index: u16, common: Common, ports: Vec<Hop>, ends: Ends, reader: BoardReader) -> Node
+        requires board { (registry_of (known reader) ≡ registry_name common.opening)
+            × (topology_of (known reader) ≡ (knows common.opening).topology) }
+        requires ends { AreEndsOf common.opening common.restamps index ports.items ends.inbox ends.ins.items
+            ends.outs.items }
+        requires fresh { (w : Record → ℕ) → IsEven w ends.inbox ends.ins.items ends.outs.items [] }
+        requires unsettled { ends.outcomes.items ≡ [] }
+        ensures node { IsNodeWith index common ports reader result }
+        ensures ends { HasNodeEnds ends result }
+        ensures start { IsAtStart result }
     {
+        let Common {
+            registry,
+            opening,
+            restamps,
+            settled,
+        } = common;
+        let Ends {
+            inbox,
+            ins,
+            outs,
+            outcomes,
+        } = ends;
         Node {
             index,
             registry,
@@ -107,14 +120,14 @@ impl Node {
             entrances: Entrances::new(inbox, ins),
             outs,
             reader,
-            outcomes: Vec::new(alloc),
+            outcomes,
             settled,
         }
     }
 
     /// Its number in its net.
     pub fn index(&self) -> u16
-        ensures { result ≡ self.now.index }
+        ensures { result ≡ number_in_net self.now }
     {
         self.index
     }
@@ -126,23 +139,23 @@ impl Node {
 
     /// From now on it knows the receipt's change: each later turn reads a board of at least its version.
     pub fn learn(&mut self, receipt: &Receipt)
-        requires { receipt_board receipt.now ≡ reader_board self.old.reader }
+        requires { ReadsBoardOfReceipt receipt.now self.old }
         ensures same { IsSameNode self.old self.new }
         ensures holds { HoldsAll self.old self.new }
-        ensures way { self.new.entrances.next ≡ self.old.entrances.next }
-        ensures later { IsPrefix (known self.old.reader) (known self.new.reader) }
-        ensures receipt { IsPrefix (told receipt.now) (known self.new.reader) }
-        ensures rises { Rises (board_of (told receipt.now)) (board_of (known self.new.reader)) }
+        ensures way { next_way self.new ≡ next_way self.old }
+        ensures later { IsPrefix (known_to self.old) (known_to self.new) }
+        ensures receipt { IsPrefix (told receipt.now) (known_to self.new) }
+        ensures rises { Rises (board_of (told receipt.now)) (board_of (known_to self.new)) }
     {
         self.reader.learn(receipt);
     }
 
-    /// Sees that the writer of its board published all that it has read or learnt.
-    pub fn follows<R: Wait + Drop>(&self, writer: &BoardWriter<R>)
-        requires { reader_board self.now.reader ≡ writer_board writer.now }
-        ensures { IsPrefix (known self.now.reader) (published writer.now) }
+    /// Whether the writer of its board published all that it has read or learnt.
+    pub fn follows<R: Wait + Drop>(&self, writer: &BoardWriter<R>) -> bool
+        requires { ReadsBoardOf writer.now self.now }
+        ensures { IsTrue result ↔ IsPrefix (known_to self.now) (published writer.now) }
     {
-        writer.leads(&self.reader);
+        writer.leads(&self.reader)
     }
 
     // The way by which the packet core takes from what is polled next.
@@ -171,7 +184,7 @@ impl Node {
             return Ok(Turn::Idle);
         };
         let id = parcel.id();
-        let board = self.reader.read();
+        self.reader.look();
         let ports = self.ports.as_slice();
         let turning = Turning {
             registry: &self.registry,
@@ -179,7 +192,7 @@ impl Node {
             restamps: self.restamps,
             at: self.index,
             ports,
-            board: &board,
+            board: self.reader.board(),
         };
         let judged = ready(&turning, self.reader.stamp(), way, parcel);
         match pass_on(rt, &turning, &mut self.outs, judged) {
@@ -194,13 +207,11 @@ impl Node {
 
     /// The ends of its inbox and ports, and what was settled here.
     pub fn into_ends(self) -> Ends
-        ensures ends { (result.inbox ≡ self.entrances.inbox) × (result.ins ≡ self.entrances.ports)
-            × (result.outs ≡ self.outs) × (result.outcomes ≡ self.outcomes) }
+        ensures ends { ComesApartAs self result }
         ensures account { IsBalanced result.inbox result.ins.items result.outs.items result.outcomes.items }
-        ensures places { AreEndsOf self.opening self.restamps self.index self.ports.items result.inbox result.ins.items
-            result.outs.items }
-        ensures of_net { ∥ All (IsOutcomeOf self.opening self.restamps) result.outcomes.items ∥₁ }
-        ensures causes { ∥ All (IsCauseKnown (known self.reader)) result.outcomes.items ∥₁ }
+        ensures places { AreEndsOfNode self result }
+        ensures of_net { AreOutcomesOfNode self result }
+        ensures causes { AreCausesKnownTo self result }
     {
         let Node {
             index: _,

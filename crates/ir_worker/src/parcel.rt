@@ -92,28 +92,28 @@ pub struct Outcome {
 impl Parcel {
     ghost use Rattle.ir_worker.specs.Acts.{GoesOnAs, SettlesAs, parcel_verdict};
 
-    /// A new packet at its source, of a net that allows so many restamps. It has room for all hops and restamps that it can
+    /// A new packet from a source, where it is, to a destination, of a net that allows so many restamps. It has room for all hops and restamps that it can
     /// have.
     pub fn start(
         alloc: Global,
         registry: &Registry,
         id: u32,
         stamp: Stamp,
-        source: u16,
-        dest: u16,
+        ends: (u16, u16),
         restamps: u8,
     ) -> Result<Parcel, AllocError>
         requires registry { IsOf registry.now stamp }
-        requires source { source < node_count (knows stamp).topology }
-        requires dest { dest < node_count (knows stamp).topology }
+        requires source { ends.0 < node_count (knows stamp).topology }
+        requires dest { ends.1 < node_count (knows stamp).topology }
         requires few { node_count (knows stamp).topology ≤ MAX_NODES }
         ensures { IfOk result (λ p. p ≡ record {
-          packet = fresh id stamp.epoch source dest (hop_room restamps (node_count (knows stamp).topology));
+          packet = fresh id stamp.epoch ends.0 ends.1 (hop_room restamps (node_count (knows stamp).topology));
           first = stamp;
           later = [];
-          next = source;
+          next = ends.0;
         }) }
     {
+        let (source, dest) = ends;
         let plan = registry.plan(&stamp);
         let nodes = plan.nodes();
         let address = plan.label_of(dest);

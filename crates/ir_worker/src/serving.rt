@@ -96,12 +96,14 @@ pub fn serve<R: Moments<Parcel>, G: Gate, F: Flag>(
         }
         let Ok(turn) = node.turn(rt) else {
             stop.set();
+            bells.end();
             bells.ring_all();
             return (node, Some(NoMemory));
         };
         idle = bells.after(rt, node.index(), node.degree(), idle, turn);
         number += 1;
     }
+    bells.end();
     (node, None)
 }
 

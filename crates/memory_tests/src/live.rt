@@ -30,15 +30,7 @@ fn run<R: Threads + Wait + Sync>(rt: &R, alloc: Global) -> Result<Live, LiveErro
         return Err(LiveError::Spent);
     };
     let commands = [Command::Inject(0, 2), Command::Inject(2, 0), Command::Drain];
-    run_live(
-        rt,
-        alloc,
-        &net,
-        &commands,
-        &Open,
-        &AtomicBool::new(false),
-        rt,
-    )
+    run_live(rt, &net, &commands, &Open, &AtomicBool::new(false), rt)
 }
 
 /// Each packet was delivered, or refused for want of memory.

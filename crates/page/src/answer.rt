@@ -5,15 +5,13 @@ ghost use Rattle.ir_cli.specs.Words.{FitsItsKind};
 ghost use Rattle.page.specs.Calls.{typed_words, text_for, IsFollowed, IsCallAnswer};
 
 use crate::words::asked;
-use ir_answer::{Alone, Source, Words, WordsError, run_by, sources_of};
+use ir_answer::{Alone, Outcome, Source, Words, WordsError, follow_by, sources_of};
+use ir_cli::{Ending, status_of};
 use ir_explain::{Given, Trouble, explanation};
 use std::alloc::{AllocError, Global};
 
 /// The most bytes of a line of faults that tells of one input.
 const LINE: usize = 128;
-
-/// The line of faults of an output that was not taken whole.
-static UNWRITABLE: &str = "output unwritable\n";
 
 /// A status, the output and the faults.
 #[derive(Drop)]
@@ -53,13 +51,12 @@ fn texts_of<'a>(
     Ok(texts)
 }
 
-/// Sentences for people on a run that wrote these faults and this output; none where the words ask for none.
+/// Sentences for people on a run that came to this; none where the words ask for none.
 fn sentences(
     alloc: Global,
     words: &Words,
     texts: &[&[u8]],
-    faults: &[u8],
-    output: &[u8],
+    outcome: &Outcome,
 ) -> Result<String, AllocError>
     ensures { IfOk result (λ text. words.now.explain ≡ false → string_bytes text ≡ []) }
 {
@@ -73,12 +70,7 @@ fn sentences(
             trouble: Trouble::Unknown,
         })?;
     }
-    explanation(alloc, words, given.as_slice(), faults, output)
-}
-
-/// Whether the output was not taken whole, which for a text in memory is want of memory.
-fn is_cut(status: u8, faults: &[u8]) -> bool {
-    status == 1 && faults == UNWRITABLE.as_bytes()
+    explanation(alloc, words, given.as_slice(), outcome)
 }
 
 /// Does what the words ask for over the texts.
@@ -97,7 +89,7 @@ fn followed(
     let mut inputs = texts_of(alloc, words, topology, script, trace)?;
     let mut output = Vec::new(alloc);
     let mut faults = Vec::with_capacity(alloc, LINE)?;
-    let status = run_by(
+    let outcome = follow_by(
         &Alone,
         alloc,
         words,
@@ -105,19 +97,13 @@ fn followed(
         &mut output,
         &mut faults,
     );
-    if is_cut(status, faults.as_slice()) {
+    if outcome.ending == Ending::Unwritable {
         return Err(AllocError);
     }
-    let text = sentences(
-        alloc,
-        words,
-        texts.as_slice(),
-        faults.as_slice(),
-        output.as_slice(),
-    )?;
+    let text = sentences(alloc, words, texts.as_slice(), &outcome)?;
     faults.extend_from_slice(text.as_bytes())?;
     Ok(Answered {
-        status: status.into(),
+        status: status_of(outcome.ending).into(),
         output,
         faults,
     })

@@ -12,24 +12,23 @@ ghost use Rattle.ir_answer.specs.Asked.{sources_of};
 ghost use Rattle.ir_cli.specs.Words.{FitsItsKind};
 
 mod crew;
-mod found;
 mod input;
 mod keeping;
 mod naming;
 mod output;
+mod piped;
 mod progress;
 mod terminal;
 
 use crew::Shown;
-use found::line_of_json;
 use input::{Input, open};
-use ir_cli::{Called, read_words_as};
+use ir_cli::{Called, read_words_as, status_of};
 use ir_explain::explanation_by;
 use ir_plan::Several;
-use ir_shell::{Source, Sub, Words, WordsError, run, sources_of};
-use keeping::{Keeping, Kept};
+use ir_shell::{Outcome, Source, Sub, Words, WordsError, follow, sources_of};
 use naming::{called_by, said_by};
 use output::{Output, is_whole};
+use piped::Piped;
 use progress::Progress;
 use std::alloc::{AllocError, Global};
 use std::cell::Cell;
@@ -87,36 +86,22 @@ fn inputs_of(rt: &HostRuntime, words: &Words) -> Result<Vec<Input>, AllocError>
     Ok(inputs)
 }
 
-/// Sentences on a run; none where the words do not ask for them. Refused where there is no memory for all of it.
+/// Sentences on a run that came to this; none where the words do not ask for them. Refused where there is no memory for all
+/// of it.
 fn sentences<T: Threads + Sync>(
     alloc: Global,
     threads: &T,
     words: &Words,
     inputs: &[Input],
-    output: &Keeping<'_, Output>,
-    faults: &Keeping<'_, Stderr>,
+    outcome: &Outcome,
+    is_kept: bool,
 ) -> Result<String, AllocError> {
-    if !words.explain || output.is_quiet.get() {
-        return Ok(String::new(alloc));
-    }
     let mut given = Vec::new(alloc);
     for input in inputs {
         given.push(input.given().ok_or(AllocError)?)?;
     }
-    let told = faults.kept.whole().ok_or(AllocError)?;
-    let found = output.kept.whole().ok_or(AllocError)?;
     let crew = Several { rt: threads };
-    let line = if words.json {
-        line_of_json(alloc, found)?
-    } else {
-        String::new(alloc)
-    };
-    let found = if words.json {
-        line.as_str().as_bytes()
-    } else {
-        found
-    };
-    explanation_by(&crew, alloc, words, given.as_slice(), told, found)
+    explanation_by(&crew, alloc, words, given.as_slice(), outcome, is_kept)
 }
 
 /// Prints sentences behind the faults of a run, by the program's name, where there is memory for them.
@@ -126,35 +111,22 @@ fn explain(rt: &HostRuntime, name: &str, text: &str) {
     }
 }
 
-/// Ends the output of a run with a status, and answers the exit status: a file takes its place where all of the output is
-/// written, and else stays as it is.
-fn end_output(
-    output: &mut Keeping<'_, Output>,
-    faults: &mut Keeping<'_, Stderr>,
-    status: u8,
-) -> u8 {
+/// Ends the output of a run with a status, and answers whether it came to its place: a file takes its place where all of
+/// the output is written, and else stays as it is.
+fn end_output(output: &mut Piped<'_, Output>, faults: &mut Piped<'_, Stderr>, status: u8) -> bool {
     let is_whole = is_whole(status, faults.is_used);
     let is_kept = is_whole && output.writer.keep().is_ok();
     output.writer.discard();
     if is_whole && !is_kept {
         let _told = faults.write_all(b"output unwritable\n");
-        return 1;
+        return false;
     }
-    status
+    true
 }
 
 /// Whether a subcommand shows a plan, of whose making a terminal is told.
 fn is_plan_shown(sub: Sub) -> bool {
-    match sub {
-        Sub::Plan
-        | Sub::Walk
-        | Sub::Stats
-        | Sub::Compare
-        | Sub::Draw
-        | Sub::Prefixes
-        | Sub::Ranges => true,
-        Sub::Sim | Sub::Live | Sub::Check => false,
-    }
+    !matches!(sub, Sub::Sim | Sub::Live | Sub::Check)
 }
 
 /// Does what the words ask for over the inputs, and writes to this output.
@@ -170,7 +142,6 @@ fn run_over<T: Threads + Wait + Sync>(
     requires inputs { length inputs.old ≡ length (sources_of words.now) }
 {
     let is_quiet = Cell::new(words.quiet);
-    let found = Kept::new(rt.alloc(), words.explain && words.sub == Sub::Check);
     let is_counted = matches!(words.sub, Sub::Stats | Sub::Compare);
     let progress = Progress::new(
         rt,
@@ -178,14 +149,13 @@ fn run_over<T: Threads + Wait + Sync>(
         !words.quiet && is_plan_shown(words.sub),
         is_counted,
     );
-    let mut output = Keeping::new(output, found, true, &is_quiet, &progress);
-    let told = Kept::new(rt.alloc(), words.explain);
-    let mut faults = Keeping::new(rt.stderr(), told, false, &is_quiet, &progress);
+    let mut output = Piped::new(output, true, &is_quiet, &progress);
+    let mut faults = Piped::new(rt.stderr(), false, &is_quiet, &progress);
     let crew = Shown {
         rt: threads,
         progress: &progress,
     };
-    let status = run(
+    let outcome = follow(
         threads,
         &crew,
         rt.alloc(),
@@ -195,11 +165,14 @@ fn run_over<T: Threads + Wait + Sync>(
         &mut faults,
     );
     progress.clear();
-    let status = end_output(&mut output, &mut faults, status);
-    if let Ok(text) = sentences(rt.alloc(), threads, words, inputs, &output, &faults) {
-        explain(rt, name, text.as_str());
+    let status = status_of(outcome.ending);
+    let is_kept = end_output(&mut output, &mut faults, status);
+    if words.explain && !is_quiet.get() {
+        if let Ok(text) = sentences(rt.alloc(), threads, words, inputs, &outcome, is_kept) {
+            explain(rt, name, text.as_str());
+        }
     }
-    status
+    if is_kept { status } else { 1 }
 }
 
 /// What the words behind the program's name ask for, with sentences where standard error is a terminal too.
@@ -233,7 +206,7 @@ fn run_words<T: Threads + Wait + Sync>(
 }
 
 /// Does what the words ask for.
-fn follow<T: Threads + Wait + Sync>(
+fn follow_words<T: Threads + Wait + Sync>(
     rt: &HostRuntime,
     threads: &T,
     called: Called,
@@ -270,7 +243,7 @@ fn follow_none<T: Threads + Wait + Sync>(
 ) -> Result<u8, AllocError> {
     if !rt.stdin().is_terminal() {
         let words = words_for_none(rt, called.name())?;
-        return Ok(follow(rt, threads, called, words.as_slice()));
+        return Ok(follow_words(rt, threads, called, words.as_slice()));
     }
     let mut help = Vec::new(rt.alloc());
     help.push(String::from_str(rt.alloc(), "--help")?)?;
@@ -287,7 +260,7 @@ fn main(rt: HostRuntime) -> ExitCode {
             Ok(status) => status,
             Err(_) => out_of_memory(&rt),
         },
-        Ok(words) => follow(&rt, &rt, called, words.as_slice()),
+        Ok(words) => follow_words(&rt, &rt, called, words.as_slice()),
         Err(error) if error.kind() == io::ErrorKind::OutOfMemory => out_of_memory(&rt),
         Err(_) => {
             let _told = eprintln!(rt; "{}: the words are no text", called.name());

@@ -1,8 +1,7 @@
-use Rattle.std.proofs.Common.{◌≡◌, ◌≢◌, ◌∙◌, ℕ, List, refl, ap, subst}
+use Rattle.std.proofs.Common.{◌≡◌, ◌≢◌, ◌∙◌, ℕ, List, ap, subst}
 use Rattle.ir_model.specs.OfGraph.{topology_of_graph}
 use Rattle.ir_model.specs.Topology.{Topology}
 use Rattle.ir_plan.specs.declared.error.PlanError.{PlanError}
-use Rattle.ir_plan.specs.declared.error.PlanError.TheVariants as plans
 use Rattle.ir_plan.specs.Building.{IsPlanBy, RefusesPlan, labelling_of}
 use Rattle.ir_core.specs.declared.event.OpenError.{OpenError}
 use Rattle.ir_core.specs.declared.event.OpenError.TheVariants as errors

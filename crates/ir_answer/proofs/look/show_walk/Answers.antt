@@ -8,7 +8,7 @@ use Rattle.ir_core.specs.declared.event.OpenError.{OpenError}
 use Rattle.ir_core.specs.declared.event.OpenError.TheVariants as errors
 use Rattle.ir_core.specs.Codes.{open_error_of}
 use Rattle.ir_cli.specs.Answer.{Refused}
-use Rattle.ir_cli.specs.Lines.{opening_line}
+use Rattle.ir_cli.specs.Lines.{opening_line, steps_text}
 use Rattle.ir_show.specs.Alone.{IsWalkOfPlan}
 use Rattle.ir_answer.specs.declared.look.Show.TheVariants.{Between}
 use Rattle.ir_answer.specs.Looks.{Says}
@@ -22,7 +22,7 @@ returns-in-Ok c =
     let labels = labelling_of c.args.labels in
     let text = string_bytes c.in-Ok.text in
     let walks = subst (λ (topology : Topology). IsWalkOfPlan (names c.args.graph.now) topology c.args.kind labels c.args.ends.0 c.args.ends.1 text) c.requires.topology c.in-Ok.ensures.walk in
-    (walk_says c.args.graph.now c.args.kind labels c.args.ends.0 c.args.ends.1 text walks, c.new.ensures.bytes)
+    (walk_says c.args.graph.now c.args.kind labels c.args.ends.0 c.args.ends.1 text walks, ap steps_text c.new.ensures.items)
 
 pub returns-in-Err : goal.returns-in-Err
 returns-in-Err c =

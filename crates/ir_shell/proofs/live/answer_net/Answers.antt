@@ -49,5 +49,5 @@ pub returns-in-Err-NoThread : goal.returns-in-Err-NoThread
 returns-in-Err-NoThread g c = (
   c.args.net.now,
   c.requires.opened,
-  subst (λ (e : LiveError). IsRefusal g.T.Starter.unstarted c.args.net.now c.args.rt.now e) c.in-Err-NoThread.field-0-is c.in-Err-NoThread.ensures.refused,
+  subst (λ (e : LiveError). IsRefusal _ g.T.Moments.was_full (g.T.Starter.unstarted c.args.rt.now) (g.T.Starter.came_back c.args.rt.now) c.args.net.now c.steps.result.now e) c.in-Err-NoThread.field-0-is c.in-Err-NoThread.ensures.refused,
 )

@@ -10,8 +10,8 @@ use Rattle.page.specs.Calls.{text_for, IsFollowed}
 use Rattle.page.proofs.Followed.{followed_so}
 use Rattle.page.proofs.answer.followed.Goals as goal
 
-pub run_by-status-requires-clause-inputs : goal.run_by-status-requires-clause-inputs
-run_by-status-requires-clause-inputs c κs =
+pub follow_by-outcome-requires-clause-inputs : goal.follow_by-outcome-requires-clause-inputs
+follow_by-outcome-requires-clause-inputs c κs =
     let texts = c.in_ok-inputs.inputs.items in
     let text : Source → List ℕ = text_for c.args.topology.now c.args.script.now c.args.trace.now in
     let sources = sources_of c.args.words.now in
@@ -23,14 +23,14 @@ returns c =
     let text : Source → List ℕ = text_for c.args.topology.now c.args.script.now c.args.trace.now in
     let now : Bor (List ℕ) → List ℕ = λ text. text.now in
     let faults = c.extend_from_slice.new.self.items in
-    let output = c.run_by-status.new.output in
+    let output = c.follow_by-outcome.new.output in
     let ends = followed_so (λ (r : Bor (List ℕ)). Some r.now)
     (λ (old : Bor (List ℕ)) (given : Result (List ℕ) CallError) (new : Bor (List ℕ)). GivesFrom (Some old.now) (Some new.now) given)
     now (λ r. refl)
     (λ (old : Vec ℕ) (bytes : List ℕ) (taken : Result ℕ CallError) (new : Vec ℕ). WriteAppends (Some old.items) (Some new.items) taken bytes)
     (λ (old : Vec ℕ) (done : Result (Unit {0}) CallError) (new : Vec ℕ). Keeps (Some old.items) (Some new.items))
-    c.args.words.now text c.as_mut_slice.result.now c.run_by-status.new.inputs (ap (map now) c.as_mut_slice.ensures.value ∙ c.in_ok-inputs.ensures)
-    c.new-output.result output c.in_ok-faults.faults c.run_by-status.new.faults c.new-output.ensures.items c.in_ok-faults.ensures.items
-    c.run_by-status.result faults c.as_bytes.result.now c.in_ok-extend_from_slice.ensures.items (λ off. c.as_bytes.ensures.value ∙ c.in_ok-text.ensures off)
-    c.run_by-status.ensures in
+    c.args.words.now text c.as_mut_slice.result.now c.follow_by-outcome.new.inputs (ap (map now) c.as_mut_slice.ensures.value ∙ c.in_ok-inputs.ensures)
+    c.new-output.result output c.in_ok-faults.faults c.follow_by-outcome.new.faults c.new-output.ensures.items c.in_ok-faults.ensures.items
+    c.status_of.result faults c.as_bytes.result.now c.in_ok-extend_from_slice.ensures.items (λ off. c.as_bytes.ensures.value ∙ c.in_ok-text.ensures off)
+    (c.follow_by-outcome.result.ending, c.status_of.ensures, c.follow_by-outcome.ensures.ends) in
     subst (λ (status : ℕ). IsFollowed c.args.words.now text status output.items faults) (sym c.into.ensures) ends

@@ -27,13 +27,14 @@ returns-in-Ok-change-clause-answer g c =
       epoch = c.in-Ok-register.ensures.answer.1;
       registered = subst (λ (r : Registry). IsOf r s) c.deref.ensures c.in-Ok-register.ensures.answer.0;
       plan = subst (λ (t : Plan). IsMade c.args.self.now.labels c.args.kind c.args.root (topology_up c.args.self.now) (Some t)) (sym c.in-Ok-register.ensures.answer.2) c.in-Ok.ensures.answer;
-      publishes = record {
-        published_is = c.in-Ok-change.ensures.answer.0;
-        told_is = c.in-Ok-change.ensures.answer.1;
-        receipt = c.in-Ok-change.ensures.receipt;
-        board = c.in-Ok-change.ensures.board;
-        opening = c.in-Ok-change.ensures.same.0;
-        labels = c.in-Ok-change.ensures.same.3;
-      };
-      used = c.in-Ok-change.ensures.same.1;
+      publishes = (let done = c.in-Ok-change.ensures.answer.1.1 in record {
+        published_is = done.published_is;
+        told_is = done.told_is;
+        receipt = done.receipt;
+        board = done.board;
+        opening = done.opening;
+        registry = done.registry;
+        labels = done.labels;
+      });
+      used = c.in-Ok-change.ensures.answer.0;
     }

@@ -39,7 +39,7 @@ invariant_of-self-clause-causes g c =
 pub ready-judged-requires-clause-current : goal.ready-judged-requires-clause-current
 ready-judged-requires-clause-current g c =
     let n = c.args.self.now in
-    current_of_net n.opening (known c.read-board.new.self) c.stamp.result c.stamp.ensures (c.read-board.ensures.opening.registry ∙ n.of_board.0) (c.read-board.ensures.opening.topology ∙ n.of_board.1)
+    current_of_net n.opening (known c.look.new.self) c.stamp.result c.stamp.ensures (c.look.ensures.opening.registry ∙ n.of_board.0) (c.look.ensures.opening.topology ∙ n.of_board.1)
 
 pub ready-judged-requires-clause-of_net : goal.ready-judged-requires-clause-of_net
 ready-judged-requires-clause-of_net g c =
@@ -71,47 +71,47 @@ pub invariant_of-self-in-Ok-1 : goal.invariant_of-self-in-Ok-1
 invariant_of-self-in-Ok-1 g c =
     let n = c.args.self.now in
     let p = c.in-Some.parcel in
-    let b = c.read-board.result in
+    let b = c.board.result.now in
     let x = restamp_on n.restamps p b c.way-way.result n.index in
     let same = ap (λ (y : Parcel). head_of y.packet) c.ready-judged.ensures.parcel ∙ head_with x c.stamp.result c.way-way.result n.index p in
     let a = c.in-Ok.ensures.acts in
     record {
       of_registry = n.of_registry;
-      of_board = (c.read-board.ensures.opening.registry ∙ n.of_board.0, c.read-board.ensures.opening.topology ∙ n.of_board.1);
+      of_board = (c.look.ensures.opening.registry ∙ n.of_board.0, c.look.ensures.opening.topology ∙ n.of_board.1);
       ends = ends_kept n.opening n.restamps n.index n.ports.items n.entrances.inbox n.entrances.ports.items n.outs.items c.poll.new.self.inbox c.poll.new.self.ports.items c.pass_on.new.outs.items n.ends
           c.poll.ensures.inbox c.poll.ensures.ins c.pass_on.ensures.lines;
       account = balanced_sent n.entrances.inbox n.entrances.ports.items c.poll.new.self.inbox c.poll.new.self.ports.items n.outs.items c.pass_on.new.outs.items n.outcomes.items c.reserve.new.self.items n.account
           p a.1 n.entrances.next c.in-Some.ensures.took c.as_slice-ports.result.now a.0 a.4 (ap head_of a.2.packet ∙ same) c.reserve.ensures.items;
-      restamped = known_sent (known n.reader) (known c.read-board.new.self) c.read-board.ensures.later b c.read-board.ensures.board n.restamps p c.ready-judged.result.parcel c.stamp.result c.way-way.result n.index c.ready-judged.ensures.parcel
+      restamped = known_sent (known n.reader) (known c.look.new.self) c.look.ensures.later b c.board.ensures.board n.restamps p c.ready-judged.result.parcel c.stamp.result c.way-way.result n.index c.ready-judged.ensures.parcel
           n.entrances.inbox n.entrances.ports.items c.poll.new.self.inbox c.poll.new.self.ports.items n.outs.items c.pass_on.new.outs.items n.outcomes.items c.reserve.new.self.items n.restamped
           n.entrances.next c.in-Some.ensures.took c.ready-judged.result.way a.0 a.1 a.2 c.as_slice-ports.result.now a.4 c.reserve.ensures.items;
       of_net = same_of_net n.opening n.restamps n.outcomes.items c.reserve.new.self.items n.of_net c.reserve.ensures.items;
-      causes = causes_later (known n.reader) (known c.read-board.new.self) n.outcomes.items c.reserve.new.self.items n.causes c.read-board.ensures.later c.reserve.ensures.items;
+      causes = causes_later (known n.reader) (known c.look.new.self) n.outcomes.items c.reserve.new.self.items n.causes c.look.ensures.later c.reserve.ensures.items;
     }
 
 pub invariant_of-self-in-Err : goal.invariant_of-self-in-Err
 invariant_of-self-in-Err g c =
     let n = c.args.self.now in
     let p = c.in-Some.parcel in
-    let b = c.read-board.result in
+    let b = c.board.result.now in
     let x = restamp_on n.restamps p b c.way-way.result n.index in
     let same = ap (λ (y : Parcel). head_of y.packet) c.ready-judged.ensures.parcel ∙ head_with x c.stamp.result c.way-way.result n.index p in
     let a = c.in-Err.ensures.acts in
     let behind = settled_behind n.outcomes.items c.reserve.new.self.items c.push_reserved.new.self.items c.in-Err.outcome c.push_reserved.ensures.items c.reserve.ensures.items in
     record {
       of_registry = n.of_registry;
-      of_board = (c.read-board.ensures.opening.registry ∙ n.of_board.0, c.read-board.ensures.opening.topology ∙ n.of_board.1);
+      of_board = (c.look.ensures.opening.registry ∙ n.of_board.0, c.look.ensures.opening.topology ∙ n.of_board.1);
       ends = ends_kept n.opening n.restamps n.index n.ports.items n.entrances.inbox n.entrances.ports.items n.outs.items c.poll.new.self.inbox c.poll.new.self.ports.items c.pass_on.new.outs.items n.ends
           c.poll.ensures.inbox c.poll.ensures.ins c.pass_on.ensures.lines;
       account = balanced_settled n.entrances.inbox n.entrances.ports.items c.poll.new.self.inbox c.poll.new.self.ports.items n.outs.items c.pass_on.new.outs.items n.outcomes.items c.push_reserved.new.self.items n.account
           p n.entrances.next c.in-Some.ensures.took a.3 c.in-Err.outcome behind (ap head_of a.2.packet ∙ same);
-      restamped = known_settled (known n.reader) (known c.read-board.new.self) c.read-board.ensures.later b c.read-board.ensures.board n.restamps p c.ready-judged.result.parcel c.stamp.result c.way-way.result n.index c.ready-judged.ensures.parcel
+      restamped = known_settled (known n.reader) (known c.look.new.self) c.look.ensures.later b c.board.ensures.board n.restamps p c.ready-judged.result.parcel c.stamp.result c.way-way.result n.index c.ready-judged.ensures.parcel
           n.entrances.inbox n.entrances.ports.items c.poll.new.self.inbox c.poll.new.self.ports.items n.outs.items c.pass_on.new.outs.items n.outcomes.items c.push_reserved.new.self.items n.restamped
           n.entrances.next c.in-Some.ensures.took a.3 c.ready-judged.result.way a.0 a.1 c.in-Err.outcome a.2 behind;
       of_net = more_of_net n.opening n.restamps n.outcomes.items c.push_reserved.new.self.items c.in-Err.outcome n.of_net behind c.ready-judged.result.parcel c.ready-judged.ensures.of_net c.ready-judged.ensures.few
           a.2.first a.2.later (ap (λ (r : Record). r.restamps) a.2.packet);
-      causes = causes_more (known n.reader) (known c.read-board.new.self) n.outcomes.items c.push_reserved.new.self.items c.in-Err.outcome n.causes c.read-board.ensures.later behind (ap (λ k. k + 1) a.2.version ∙ c.read-board.ensures.version)
-          (subst (λ (x : Board). CauseHolds x c.in-Err.outcome.packet c.in-Err.outcome.packet.fate) c.read-board.ensures.board (cause_here c.read-board.result a.0 c.ready-judged.result.way n.index c.ready-judged.result.parcel a.1 c.in-Err.outcome a.2));
+      causes = causes_more (known n.reader) (known c.look.new.self) n.outcomes.items c.push_reserved.new.self.items c.in-Err.outcome n.causes c.look.ensures.later behind (ap (λ k. k + 1) a.2.version ∙ c.board.ensures.version)
+          (subst (λ (x : Board). CauseHolds x c.in-Err.outcome.packet c.in-Err.outcome.packet.fate) c.board.ensures.board (cause_here c.board.result.now a.0 c.ready-judged.result.way n.index c.ready-judged.result.parcel a.1 c.in-Err.outcome a.2));
     }
 
 pub returns-in-Ok : goal.returns-in-Ok
@@ -119,14 +119,14 @@ returns-in-Ok g c =
     let n = c.args.self.now in
     let p = c.in-Some.parcel in
     let a = c.in-Ok.ensures.acts in
-    let on = goes_by_board c.read-board.result (board_of (known c.read-board.new.self)) n.restamps p c.stamp.result c.way-way.result c.ready-judged.result.way n.index c.ready-judged.result.parcel a.0 a.1
-    c.read-board.ensures.board c.ready-judged.ensures.parcel c.ready-judged.ensures.way a.2 in
-    let x = restamp_on n.restamps p (board_of (known c.read-board.new.self)) c.way-way.result n.index in
+    let on = goes_by_board c.board.result.now (board_of (known c.look.new.self)) n.restamps p c.stamp.result c.way-way.result c.ready-judged.result.way n.index c.ready-judged.result.parcel a.0 a.1
+    c.board.ensures.board c.ready-judged.ensures.parcel c.ready-judged.ensures.way a.2 in
+    let x = restamp_on n.restamps p (board_of (known c.look.new.self)) c.way-way.result n.index in
     record {
-      same = record { index = refl; registry = refl; opening = refl; restamps = refl; ports = refl; inbox = c.poll.ensures.inbox; ins = c.poll.ensures.ins; outs = c.pass_on.ensures.lines; reader = c.read-board.ensures.same };
+      same = record { index = refl; registry = refl; opening = refl; restamps = refl; ports = refl; inbox = c.poll.ensures.inbox; ins = c.poll.ensures.ins; outs = c.pass_on.ensures.lines; reader = c.look.ensures.same };
       way = c.poll.ensures.way;
-      later = c.read-board.ensures.later;
-      rises = c.read-board.ensures.rises;
+      later = c.look.ensures.later;
+      rises = c.look.ensures.rises;
       does = record {
         parcel = p;
         way = c.way-way.result;
@@ -140,7 +140,7 @@ returns-in-Ok g c =
         node = a.3;
         sent = subst (λ (xs : List Hop). SentOver xs n.outs.items c.pass_on.new.outs.items a.0 a.1) c.as_slice-ports.ensures.value a.4;
         outcomes = c.reserve.ensures.items;
-        live = live_on (board_of (known c.read-board.new.self)) (board_of (known n.reader)) (way_then x c.way-way.result) n.index (with_restamp x c.stamp.result c.way-way.result n.index p) a.0 a.1 on c.read-board.ensures.rises.0;
+        live = live_on (board_of (known c.look.new.self)) (board_of (known n.reader)) (way_then x c.way-way.result) n.index (with_restamp x c.stamp.result c.way-way.result n.index p) a.0 a.1 on c.look.ensures.rises.0;
       };
     }
 
@@ -149,14 +149,14 @@ returns-in-Err g c =
     let n = c.args.self.now in
     let p = c.in-Some.parcel in
     let a = c.in-Err.ensures.acts in
-    let on = settles_by_board c.read-board.result (board_of (known c.read-board.new.self)) n.restamps p c.stamp.result c.way-way.result c.ready-judged.result.way n.index c.ready-judged.result.parcel a.0 a.1 c.in-Err.outcome
-    c.read-board.ensures.board c.ready-judged.ensures.parcel c.ready-judged.ensures.way a.2 in
-    let x = restamp_on n.restamps p (board_of (known c.read-board.new.self)) c.way-way.result n.index in
+    let on = settles_by_board c.board.result.now (board_of (known c.look.new.self)) n.restamps p c.stamp.result c.way-way.result c.ready-judged.result.way n.index c.ready-judged.result.parcel a.0 a.1 c.in-Err.outcome
+    c.board.ensures.board c.ready-judged.ensures.parcel c.ready-judged.ensures.way a.2 in
+    let x = restamp_on n.restamps p (board_of (known c.look.new.self)) c.way-way.result n.index in
     record {
-      same = record { index = refl; registry = refl; opening = refl; restamps = refl; ports = refl; inbox = c.poll.ensures.inbox; ins = c.poll.ensures.ins; outs = c.pass_on.ensures.lines; reader = c.read-board.ensures.same };
+      same = record { index = refl; registry = refl; opening = refl; restamps = refl; ports = refl; inbox = c.poll.ensures.inbox; ins = c.poll.ensures.ins; outs = c.pass_on.ensures.lines; reader = c.look.ensures.same };
       way = c.poll.ensures.way;
-      later = c.read-board.ensures.later;
-      rises = c.read-board.ensures.rises;
+      later = c.look.ensures.later;
+      rises = c.look.ensures.rises;
       does = record {
         parcel = p;
         way = c.way-way.result;
@@ -171,8 +171,8 @@ returns-in-Err g c =
         full = subst (λ (xs : List Hop). WasFullFor g.R.Moments.was_full xs n.outs.items a.1) c.as_slice-ports.ensures.value a.4;
         outs = a.3;
         outcomes = settled_behind n.outcomes.items c.reserve.new.self.items c.push_reserved.new.self.items c.in-Err.outcome c.push_reserved.ensures.items c.reserve.ensures.items;
-        version = ap (λ k. k + 1) a.2.version ∙ c.read-board.ensures.version;
-        cause = cause_here (board_of (known c.read-board.new.self)) a.0 (way_then x c.way-way.result) n.index (with_restamp x c.stamp.result c.way-way.result n.index p) a.1 c.in-Err.outcome on;
-        live = live_here (board_of (known c.read-board.new.self)) (board_of (known n.reader)) a.0 (way_then x c.way-way.result) n.index (with_restamp x c.stamp.result c.way-way.result n.index p) a.1 c.in-Err.outcome on c.read-board.ensures.rises.0;
+        version = ap (λ k. k + 1) a.2.version ∙ c.board.ensures.version;
+        cause = cause_here (board_of (known c.look.new.self)) a.0 (way_then x c.way-way.result) n.index (with_restamp x c.stamp.result c.way-way.result n.index p) a.1 c.in-Err.outcome on;
+        live = live_here (board_of (known c.look.new.self)) (board_of (known n.reader)) a.0 (way_then x c.way-way.result) n.index (with_restamp x c.stamp.result c.way-way.result n.index p) a.1 c.in-Err.outcome on c.look.ensures.rises.0;
       };
     }

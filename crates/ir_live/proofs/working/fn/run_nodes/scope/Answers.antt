@@ -26,19 +26,19 @@ taken nodes k n turn = slice_get_read nodes (length nodes) k n refl turn.0 turn.
 
 pub returns-then-not-starts : goal.returns-then-not-starts
 returns-then-not-starts g c =
-    let turn = YieldsList-turn (YieldsList-from_vec {s = c.into_iter-node-iterator.result} c.captures.nodes.items (search rules) (search rules))
+    let turn = YieldsList-turn (YieldsList-from_vec {s = c.into_iter-node-iterator.result} c.captures.parts.nodes.items (search rules) (search rules))
     c.loop-node.yielded c.loop-node.node-iterator c.loop-node.yielded_by c.next.result c.next.new.self c.in-Some.node c.in-Some.is c.next.ensures.steps in
-    record { run = tt; closed = tt; stopped = (length c.loop-node.yielded, c.in-Some.node, taken c.captures.nodes.items (length c.loop-node.yielded) c.in-Some.node turn, subst (λ (u : ℕ). g.S.Starter.unstarted c.captures.starter.now u) c.index-index.ensures (c.if-not-starts.ensures refl)) }
+    record { run = tt; closed = tt; stopped = (length c.loop-node.yielded, c.in-Some.node, taken c.captures.parts.nodes.items (length c.loop-node.yielded) c.in-Some.node turn, subst (λ (u : ℕ). g.S.Starter.unstarted c.captures.starter.now u) c.index-index.ensures (c.if-not-starts.ensures refl)) }
 
 pub returns-in-Err : goal.returns-in-Err
 returns-in-Err g c =
-    let turn = YieldsList-turn (YieldsList-from_vec {s = c.into_iter-node-iterator.result} c.captures.nodes.items (search rules) (search rules))
+    let turn = YieldsList-turn (YieldsList-from_vec {s = c.into_iter-node-iterator.result} c.captures.parts.nodes.items (search rules) (search rules))
     c.loop-node.yielded c.loop-node.node-iterator c.loop-node.yielded_by c.next.result c.next.new.self c.in-Some.node c.in-Some.is c.next.ensures.steps in
-    record { run = tt; closed = tt; stopped = (length c.loop-node.yielded, c.in-Some.node, taken c.captures.nodes.items (length c.loop-node.yielded) c.in-Some.node turn, subst (λ (u : ℕ). g.S.Starter.unstarted c.captures.starter.now u) c.index-index.ensures c.refused.ensures) }
+    record { run = tt; closed = tt; stopped = (length c.loop-node.yielded, c.in-Some.node, taken c.captures.parts.nodes.items (length c.loop-node.yielded) c.in-Some.node turn, subst (λ (u : ℕ). g.S.Starter.unstarted c.captures.starter.now u) c.index-index.ensures c.refused.ensures) }
 
 pub returns : goal.returns
 returns g c =
-    let end = YieldsList-end (YieldsList-from_vec {s = c.into_iter-node-iterator.result} c.captures.nodes.items (search rules) (search rules))
+    let end = YieldsList-end (YieldsList-from_vec {s = c.into_iter-node-iterator.result} c.captures.parts.nodes.items (search rules) (search rules))
     c.loop-node.yielded c.loop-node.node-iterator c.loop-node.yielded_by c.next.result c.next.new.self c.in-None.is c.next.ensures.steps in
     let running = c.loop-node.running.ok.0 in
     let back = c.in-Ok-join_promised.back.ok.0 in
@@ -46,7 +46,7 @@ returns g c =
     record {
       run = record {
         came_back = kept_back g.R.Moments.was_full g.R.Moments.was_empty (MayEnd g.F.Flag.seen g.G.Gate.barred c.captures.stop.now c.captures.gate.now)
-            (λ h. h.promise.node.value) c.loop-node.running.items c.loop-node.yielded c.captures.nodes.items c.in-Ok-join_promised.back.items
+            (λ h. h.promise.node.value) c.loop-node.running.items c.loop-node.yielded c.captures.parts.nodes.items c.in-Ok-join_promised.back.items
             end.0 c.loop-node.invariant.0 (omega (arith, running, back, many)) c.loop-node.invariant.1
             (λ k b lt. (let kept = (c.in-Ok-join_promised.ensures.each k b (omega (arith, running, lt))).1 in
             let same = c.loop-node.invariant.2 k kept.handle lt in (

@@ -1,0 +1,107 @@
+//! The pieces of a sentence.
+ghost use Rattle.std.specs.Prelude.{◌≡◌, length, min, take};
+ghost use Rattle.ir_explain.specs.declared.TheConstants.{MOST_QUOTED};
+
+use crate::MOST_QUOTED;
+use crate::parts::Part;
+use std::alloc::{AllocError, Global};
+use std::fmt;
+
+/// A text in quotes, with bytes that are not printable ASCII as `\xNN`, and two points behind it where its end is not shown.
+#[derive(Clone, Copy)]
+pub struct Quoted<'a>(pub &'a [u8]);
+
+/// The name of a file, where `-` is standard input; a character that would move the terminal's cursor is `\xNN`.
+#[derive(Clone, Copy)]
+pub struct FileName<'a>(pub &'a str);
+
+/// How many words there are.
+#[derive(Clone, Copy)]
+pub struct WordCount(pub usize);
+
+/// What is shown of a text: its front.
+fn cut(bytes: &[u8]) -> &[u8]
+    ensures { result.now ≡ take (min (length bytes.now) MOST_QUOTED) bytes.now }
+{
+    &bytes[..bytes.len().min(MOST_QUOTED)]
+}
+
+/// Writes a byte, or `\xNN` where it is not printable ASCII.
+fn write_byte<W: fmt::Write>(f: &mut fmt::Formatter<W>, byte: u8) -> fmt::Result {
+    if byte >= b' ' && byte <= b'~' {
+        f.write_char(byte as char)
+    } else {
+        write!(f, "\\x{byte:02X}")
+    }
+}
+
+impl fmt::Display for Quoted<'_> {
+    fn fmt<W: fmt::Write>(&self, f: &mut fmt::Formatter<W>) -> fmt::Result {
+        let shown = cut(self.0);
+        f.write_str("'")?;
+        for byte in shown {
+            write_byte(f, *byte)?;
+        }
+        f.write_str(if shown.len() < self.0.len() {
+            "'.."
+        } else {
+            "'"
+        })
+    }
+}
+
+impl fmt::Display for FileName<'_> {
+    fn fmt<W: fmt::Write>(&self, f: &mut fmt::Formatter<W>) -> fmt::Result {
+        if self.0 == "-" {
+            return f.write_str("standard input");
+        }
+        for ch in self.0.chars() {
+            if ch < ' ' || ch == '\x7f' {
+                write_byte(f, ch as u8)?;
+            } else {
+                f.write_char(ch)?;
+            }
+        }
+        Ok(())
+    }
+}
+
+impl fmt::Display for WordCount {
+    fn fmt<W: fmt::Write>(&self, f: &mut fmt::Formatter<W>) -> fmt::Result {
+        match self.0 {
+            1 => f.write_str("one word"),
+            2 => f.write_str("two words"),
+            count => write!(f, "{count} words"),
+        }
+    }
+}
+
+/// Begins a sentence on a file: `route: FILE: `.
+pub fn begin(text: &mut String, file: &str) -> Result<(), AllocError> {
+    write!(text, "route: {}: ", FileName(file))
+}
+
+/// Begins a sentence on a line of a text, counted from 1 in its file: `route: FILE:LINE: `. Line 0 stands for all of it.
+pub fn begin_at(text: &mut String, part: &Part<'_>, line: usize) -> Result<(), AllocError> {
+    if line == 0 {
+        return begin(text, part.file);
+    }
+    write!(
+        text,
+        "route: {}:{}: ",
+        FileName(part.file),
+        line.saturating_add(part.above)
+    )
+}
+
+/// Words with a space between them.
+pub fn joined(alloc: Global, words: &[&[u8]]) -> Result<Vec<u8>, AllocError> {
+    let mut all = Vec::new(alloc);
+    for word in words {
+        if !all.is_empty() {
+            all.push(b' ')?;
+        }
+        all.extend_from_slice(word)?;
+    }
+    Ok(all)
+}
