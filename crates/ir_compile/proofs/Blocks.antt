@@ -8,7 +8,7 @@ use Rattle.ir_model.specs.Compiled.{label_after, label_before}
 use Rattle.ir_model.specs.Choices.{label_from}
 use Rattle.ir_model.proofs.Best.{Marks, IsRowRun, IsBetter, row_more, row_stop}
 use Rattle.ir_model.proofs.Going.{from_before, from_is_label, from_round, place_from}
-use Rattle.ir_compile.specs.Runs.{HasLabels, HasMarked, IsKeptAt, IsRunKept, IsSameAt, IsServed, Keeps, KeepsBlock}
+use Rattle.ir_compile.specs.Runs.{HasMarked, IsKeptAt, IsRunKept, IsSameAt, IsServed, Keeps, KeepsBlock}
 
 pub after_before : (n d : ℕ) → d < n → label_after n (label_before n d) ≡ d
 after_before n d h = elim (cases_eq d 0) [ inl e ↦ grind (arith, nat_tests) | inr ne ↦ grind (arith, nat_tests) ]
@@ -242,13 +242,3 @@ module _ (n own : ℕ) (row : List Bool) (m : ℕ) where
               | inr last ↦ let k_is : w.0 ≡ i = omega (arith, last, w.1) in inr (sym w.2 ∙ ap (λ (k : ℕ). slice_index_or marked k 0) k_is)
             ]
       ]
-
--- all labels are among them those with marks
-pub all_marked : (n : ℕ) (row : List Bool) (labels : List ℕ) → HasLabels n labels → HasMarked n row labels
-all_marked n row labels are = record {
-  label = λ d has.
-      let k_in : has.0 < n = omega (arith, has.1, are.every) in
-      let d_is : d ≡ has.0 = sym (sym (get_or_default_zero labels has.0 d has.1) ∙ has.2) ∙ are.each has.0 k_in in
-      omega (arith, d_is, k_in);
-  every = λ d l _. let inside : d < length labels = omega (arith, l, are.every) in (d, inside, get_or_default_zero labels d d inside ∙ are.each d l);
-}

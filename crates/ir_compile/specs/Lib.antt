@@ -1,6 +1,5 @@
 -- what contracts promise
 pub mod Code
-pub mod Allowed
 pub mod PortBits
 pub mod Rounds
 pub mod Plain

@@ -13,11 +13,6 @@ pub record HasMarked (n : ℕ) (row : List Bool) (marked : List ℕ) : Type 0 wh
   pub label : (d : ℕ) → Contains marked d → d < n
   pub every : (d : ℕ) → d < n → Marks row d → Contains marked d
 
--- the first n labels, in order
-pub record HasLabels (n : ℕ) (labels : List ℕ) : Type 0 where
-  pub every : length labels ≡ n
-  pub each : (d : ℕ) → d < n → slice_index_or labels d 0 ≡ d
-
 -- of the run of the port m from the label a on, by its marks, and the run of c labels of the port p, the longer one, or that of p where they are as long
 pub record IsRunKept (n own : ℕ) (row : List Bool) (m a c p count port : ℕ) : Type 0 where
   pub run : ℕ

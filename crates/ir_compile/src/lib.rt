@@ -15,15 +15,12 @@ mod round;
 mod runs;
 mod words;
 
-pub use choices::{choose, compile_choices, ports_of_longest, ports_of_runs};
+pub use choices::{ports_of_longest, ports_of_runs};
 pub use error::CompileError;
 use ir_lookup::{Row, WORD_BASE};
 pub use runs::keep_longer;
 use std::alloc::{AllocError, Global};
 pub use words::{WORD_PORTS, runs_by_words};
-
-/// The most ports of a node.
-pub const MAX_PORTS: usize = 65_536;
 
 /// The canonical row of the node with the label `own` among `n` nodes, given its port to each label: going round the
 /// labels after its own, a start stands where the port differs from that of the label before, and where all ports are
