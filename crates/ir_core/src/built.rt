@@ -4,7 +4,7 @@ ghost use Rattle.ir_core.specs.declared.event.Step.TheVariants as step;
 ghost use Rattle.ir_core.specs.{declared.event.Refused.TheVariants.NoMemory, declared.built.Install.Install};
 ghost use Rattle.ir_core.specs.{Meaning.IsMade, History.plans, Shows.Shows};
 ghost use Rattle.ir_core.specs.Opened.{IsOpenedWith, IsOpenRefusal, open_refused};
-ghost use Rattle.ir_core.specs.Installed.{AreInstallsOf, AreBuiltFrom, ControlsOn, IsPlainChange, install_of};
+ghost use Rattle.ir_core.specs.Installed.{AreInstallsOf, AreBuiltFrom, ControlsOn, IsPlainChange};
 
 use crate::event::{Event, OpenError, Refused, Reply, Step};
 use crate::opening::{Opening, open_refusal};
@@ -21,21 +21,6 @@ pub struct Install {
     pub kind: Kind,
     pub root: u16,
     pub up: Vec<bool>,
-}
-
-impl Install {
-    /// What the plan of an epoch that is labelled depth first was built from. For users of the
-    /// library.
-    pub fn of(kind: Kind, root: u16, up: Vec<bool>) -> Install
-        ensures { result ≡ install_of kind root up }
-    {
-        Install {
-            labels: LabelOrder::DepthFirst,
-            kind,
-            root,
-            up,
-        }
-    }
 }
 
 /// What each epoch of a list of steps was built from, the first epoch first. Steps other than
@@ -213,12 +198,7 @@ fn accepted(reply: Result<Reply, Refused>) -> Result<bool, OpenError>
 {
     match reply {
         Ok(_) => Ok(true),
-        Err(refused) => {
-            if refused == Refused::NoMemory {
-                Err(OpenError::NoMemory)
-            } else {
-                Ok(false)
-            }
-        }
+        Err(Refused::NoMemory) => Err(OpenError::NoMemory),
+        Err(_) => Ok(false),
     }
 }

@@ -61,40 +61,27 @@ pub enum Reply {
 
 /// Why an event was refused.
 #[derive(Clone, Copy, Debug, PartialEq, Eq, Error)]
+#[error("{:?}", self)]
 pub enum Refused {
-    #[error("no such node")]
-    NoNode,
-    #[error("no such link")]
-    NoLink,
-    #[error("no such channel")]
-    NoChannel,
-    #[error("no such epoch")]
-    NoEpoch,
-    #[error("the hand holds a packet")]
-    HandFull,
-    #[error("the hand is empty")]
-    HandEmpty,
-    #[error("the channel is empty")]
-    Empty,
-    #[error("no such version, or one before the view")]
-    BadView,
-    #[error("the board says so already")]
-    Same,
-    #[error("no epoch is left")]
-    EpochsFull,
-    #[error("some node has no walk to some node")]
-    Disconnected,
-    #[error("too many packets")]
-    TooManyPackets,
-    #[error("out of memory")]
-    NoMemory,
-    #[error("the inbox is full")]
-    InboxFull,
-    #[error("too many changes of the board")]
-    TooManyChanges,
+    NoNode = 1,
+    NoLink = 2,
+    NoChannel = 3,
+    NoEpoch = 4,
+    HandFull = 5,
+    HandEmpty = 6,
+    Empty = 7,
+    /// No such version, or one before the view.
+    BadView = 8,
+    /// The board says so already.
+    Same = 9,
+    EpochsFull = 10,
+    Disconnected = 11,
+    TooManyPackets = 12,
+    NoMemory = 13,
+    InboxFull = 14,
+    TooManyChanges = 15,
     /// From a live run alone: a fresh cell of the registry refused its plan.
-    #[error("a fresh cell refused its plan")]
-    Used,
+    Used = 16,
 }
 
 impl Refused {
@@ -102,24 +89,7 @@ impl Refused {
     pub fn code(self) -> u8
         ensures { result ≡ refusal_code self }
     {
-        match self {
-            Refused::NoNode => 1,
-            Refused::NoLink => 2,
-            Refused::NoChannel => 3,
-            Refused::NoEpoch => 4,
-            Refused::HandFull => 5,
-            Refused::HandEmpty => 6,
-            Refused::Empty => 7,
-            Refused::BadView => 8,
-            Refused::Same => 9,
-            Refused::EpochsFull => 10,
-            Refused::Disconnected => 11,
-            Refused::TooManyPackets => 12,
-            Refused::NoMemory => 13,
-            Refused::InboxFull => 14,
-            Refused::TooManyChanges => 15,
-            Refused::Used => 16,
-        }
+        self as u8
     }
 
     /// Its number of those that an install may be refused by, from 1 to 6, and 0 where no install
@@ -181,28 +151,22 @@ impl From<PlanError> for Refused {
 
 /// Why no world or net was opened.
 #[derive(Clone, Copy, Debug, PartialEq, Eq, Error)]
+#[error("{:?}", self)]
 pub enum OpenError {
     /// The root is no node.
-    #[error("the root is no node")]
-    NoNode,
+    NoNode = 1,
     /// The topology has no node.
-    #[error("the topology has no node")]
-    Empty,
+    Empty = 2,
     /// Some node has no walk to some node.
-    #[error("some node has no walk to some node")]
-    Disconnected,
+    Disconnected = 3,
     /// Too many nodes, links or restamps, or a capacity or a number of packets that is 0 or too great.
-    #[error("a number is out of its range")]
-    TooLarge,
+    TooLarge = 4,
     /// A growth was refused.
-    #[error("out of memory")]
-    NoMemory,
+    NoMemory = 5,
     /// From a live run alone: the board has no place for so many readers.
-    #[error("too many readers")]
-    TooManyReaders,
+    TooManyReaders = 6,
     /// From a live run alone: a fresh cell of the registry refused its plan.
-    #[error("a fresh cell refused its plan")]
-    Used,
+    Used = 7,
 }
 
 impl OpenError {
@@ -210,15 +174,7 @@ impl OpenError {
     pub fn code(self) -> u8
         ensures { result ≡ open_code self }
     {
-        match self {
-            OpenError::NoNode => 1,
-            OpenError::Empty => 2,
-            OpenError::Disconnected => 3,
-            OpenError::TooLarge => 4,
-            OpenError::NoMemory => 5,
-            OpenError::TooManyReaders => 6,
-            OpenError::Used => 7,
-        }
+        self as u8
     }
 }
 

@@ -48,7 +48,7 @@ fn is_applied(crew: &impl Crew, alloc: Global) -> Option<bool> {
     let mut world = World::open_by(crew, alloc, opening(alloc)?).ok()?;
     let install = world.apply_by(crew, Event::Install(Kind::Compact, 2));
     let down = world.apply_by(crew, Event::Down(1));
-    let board = world.board_version(2)?;
+    let board = world.board_versions().get(2)?.board();
     let answers = (Ok(Reply::Installed(2)), Ok(Reply::Changed));
     Some((install, down) == answers && board.is_up(0) && !board.is_up(1))
 }

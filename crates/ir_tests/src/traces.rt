@@ -120,7 +120,7 @@ fn errors_as_texts_and_numbers(rt: HostRuntime) {
         TraceError::Unwritable.code(),
     );
     assert!(rt; codes == (3, 5, 1));
-    let wanted = "line 3: no such node or link; line 1: no such link; the writer failed";
+    let wanted = "line 3: UnknownNode; line 1: UnknownLink; Unwritable";
     let text = told(rt.alloc(), finding, refused);
     assert!(rt; text.is_some_and(|text| text.as_str() == wanted));
 }
