@@ -1,6 +1,9 @@
 -- What the epochs of a list of steps are built from.
-use Rattle.std.specs.Prelude.{◌≡◌, ◌≢◌, Some, Result, Err, List, [], ◌∷◌, length, All}
+use Rattle.std.specs.Prelude.{◌≡◌, ◌≢◌, ℕ, Bool, Some, Result, Err, List, [], ◌∷◌, length, All}
+use Rattle.std.specs.Global.{Vec}
+use Rattle.ir_model.specs.declared.Kind.{Kind}
 use Rattle.ir_model.specs.Topology.{restrict}
+use Rattle.ir_plan.specs.declared.tour.LabelOrder.TheVariants.{DepthFirst}
 use Rattle.ir_model.specs.Plan.{Plan}
 use Rattle.ir_core.specs.declared.event.Event.{Event}
 use Rattle.ir_core.specs.declared.event.Event.TheVariants as event
@@ -40,6 +43,10 @@ IsControlled setting log step.Drain later = later ≡ log
 abbrev pub IsControlRun : Setting → List Entry → List Step → List Entry → Type 0
 IsControlRun setting log [] later = later ≡ log
 IsControlRun setting log (s ∷ steps) later = (mid : List Entry) × IsControlled setting log s mid × IsControlRun setting mid steps later
+
+-- the install of a plan that is labelled depth first
+abbrev pub install_of : Kind → ℕ → Vec Bool → Install
+install_of kind root up = record { labels = DepthFirst; kind = kind; root = root; up = up }
 
 -- an epoch's plan is of this kind and root, over the links that are marked, labelled in the order of all; there is a mark
 -- for each link

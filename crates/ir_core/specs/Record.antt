@@ -1,5 +1,5 @@
 -- What a packet's record says, and its segments.
-use Rattle.std.specs.Prelude.{ℕ, ◌+◌, ◌-◌, ◌*◌, List, [], ◌∷◌, ◌++◌, reverse, take, drop, slice_index}
+use Rattle.std.specs.Prelude.{ℕ, ◌+◌, ◌-◌, ◌*◌, List, [], ◌∷◌, ◌++◌, length, reverse, take, drop, slice_index}
 use Rattle.ir_core.specs.declared.packet.Fate.{Fate}
 use Rattle.ir_core.specs.declared.packet.Fate.TheVariants.{Retired}
 use Rattle.ir_core.specs.declared.packet.Restamp.{Restamp}
@@ -21,6 +21,19 @@ pub record Record : Type 0 where
   pub restamps : List Restamp
   pub fate : Fate
   pub room : ℕ
+
+-- the record of these, with room for the hops that it has
+abbrev pub record_with : (id epoch source dest : ℕ) → List ℕ → Fate → List Restamp → Record
+record_with id epoch source dest hops fate restamps = record {
+  id = id;
+  epoch = epoch;
+  source = source;
+  dest = dest;
+  hops = hops;
+  restamps = restamps;
+  fate = fate;
+  room = length hops;
+}
 
 -- Of restamps, the latest first: the epoch, place and node of the latest, or these where there was none.
 abbrev pub stamp_in : List Restamp → ℕ → ℕ

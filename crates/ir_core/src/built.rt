@@ -4,7 +4,7 @@ ghost use Rattle.ir_core.specs.declared.event.Step.TheVariants as step;
 ghost use Rattle.ir_core.specs.{declared.event.Refused.TheVariants.NoMemory, declared.built.Install.Install};
 ghost use Rattle.ir_core.specs.{Meaning.IsMade, History.plans, Shows.Shows};
 ghost use Rattle.ir_core.specs.Opened.{IsOpenedWith, IsOpenRefusal, open_refused};
-ghost use Rattle.ir_core.specs.Installed.{AreInstallsOf, AreBuiltFrom, ControlsOn, IsPlainChange};
+ghost use Rattle.ir_core.specs.Installed.{AreInstallsOf, AreBuiltFrom, ControlsOn, IsPlainChange, install_of};
 
 use crate::event::{Event, OpenError, Refused, Reply, Step};
 use crate::opening::{Opening, open_refusal};
@@ -21,6 +21,21 @@ pub struct Install {
     pub kind: Kind,
     pub root: u16,
     pub up: Vec<bool>,
+}
+
+impl Install {
+    /// What the plan of an epoch that is labelled depth first was built from. For users of the
+    /// library.
+    pub fn of(kind: Kind, root: u16, up: Vec<bool>) -> Install
+        ensures { result ≡ install_of kind root up }
+    {
+        Install {
+            labels: LabelOrder::DepthFirst,
+            kind,
+            root,
+            up,
+        }
+    }
 }
 
 /// What each epoch of a list of steps was built from, the first epoch first. Steps other than

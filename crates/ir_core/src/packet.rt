@@ -1,4 +1,4 @@
-ghost use Rattle.ir_core.specs.{Record.{hop_room, Record, stamp_of}, Recorded.{record_of, HasRoom, HasRoomHere}};
+ghost use Rattle.ir_core.specs.{Record.{hop_room, Record, record_with, stamp_of}, Recorded.{record_of, HasRoom, HasRoomHere}};
 ghost use Rattle.ir_core.specs.declared.TheConstants.{MAX_RESTAMPS};
 ghost use Rattle.ir_core.specs.Entry.{restamped, ruled, fresh, fate_of, is_hop, restamp_by};
 ghost use Rattle.std.specs.Prelude.{◌≡◌, ℕ, ◌<◌, [], ◌∷◌, ◌++◌, length, Some, IfOk};
@@ -67,6 +67,33 @@ pub struct Held {
 }
 
 impl Record {
+    /// The record of a packet, with room for the hops that it has. Refused for want of memory,
+    /// where there is no room for all restamps that a packet can have. For users of the library.
+    pub fn of(
+        id: u32,
+        epoch: u32,
+        source: u16,
+        dest: u16,
+        hops: Vec<u16>,
+        fate: Fate,
+        mut restamps: Vec<Restamp>,
+    ) -> Result<Record, AllocError>
+        ensures { IfOk result (λ r. r ≡ record_with id epoch source dest hops.items fate restamps.items) }
+    {
+        restamps.reserve(MAX_RESTAMPS)?;
+        let room = hops.len();
+        Ok(Record {
+            id,
+            epoch,
+            source,
+            dest,
+            hops,
+            restamps,
+            fate,
+            room,
+        })
+    }
+
     /// The record of a new packet, with room for so many hops.
     pub fn start(
         alloc: Global,

@@ -515,6 +515,16 @@ impl World {
         self.boards.as_slice()
     }
 
+    /// The board of a version, if there is one. For users of the library.
+    pub fn board_version(&self, version: usize) -> Option<Board>
+        ensures { result ≡ slice_get self.now.boards version }
+    {
+        match self.boards.get(version) {
+            Some(kept) => Some(kept.board()),
+            None => None,
+        }
+    }
+
     /// The order in which each epoch's plan is labelled.
     pub(crate) fn labels(&self) -> LabelOrder
         ensures { result ≡ self.now.opening.labels }

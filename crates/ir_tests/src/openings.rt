@@ -2,6 +2,7 @@
 
 use crate::networks::{Edge, HEAVY, PATH, topology_of};
 use ir_core::{Event, Install, Kind, OpenError, Opening, Step, World, installs};
+use ir_plan::LabelOrder;
 use std::alloc::Global;
 use std::test::Fail;
 
@@ -117,4 +118,21 @@ fn installs_of_a_list(rt: HostRuntime) -> Result<(), Fail> {
         }
     }
     Ok(())
+}
+
+/// The install of a kind and root over two links that are up, in depth-first numbers.
+fn install(alloc: Global, kind: Kind, root: u16) -> Option<Install> {
+    Some(Install::of(kind, root, vec![in alloc; true; 2].ok()?))
+}
+
+#[test]
+fn an_install_of_its_fields(rt: HostRuntime) {
+    let made = install(rt.alloc(), Kind::Shortest, 2);
+    let both: [bool; 2] = [true, true];
+    assert!(rt;
+        made.is_some_and(|made| {
+            (made.kind, made.root, made.labels) == (Kind::Shortest, 2, LabelOrder::DepthFirst)
+                && made.up.as_slice() == both.as_slice()
+        })
+    );
 }

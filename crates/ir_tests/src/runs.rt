@@ -164,6 +164,32 @@ fn is_played(alloc: Global, opening: Opening, run: &Run) -> bool {
     }
 }
 
+/// The record of a packet that was restamped once and delivered.
+fn record(alloc: Global) -> Option<Record> {
+    let mut hops = Vec::new(alloc);
+    for u in 0..3 {
+        hops.push(u).ok()?;
+    }
+    let mut restamps = Vec::new(alloc);
+    restamps.push(Restamp { epoch: 2, from: 1 }).ok()?;
+    Record::of(7, 1, 0, 2, hops, Fate::Delivered, restamps).ok()
+}
+
+#[test]
+fn a_record_of_its_fields(rt: HostRuntime) {
+    let ended: Ended = (
+        1,
+        &[0, 1, 2],
+        &[Restamp { epoch: 2, from: 1 }],
+        Fate::Delivered,
+    );
+    assert!(rt;
+        record(rt.alloc()).is_some_and(|made| {
+            (made.id, made.source, made.dest) == (7, 0, 2) && is_ended(&made, &ended)
+        })
+    );
+}
+
 #[test]
 fn runs_by_hand(rt: HostRuntime) -> Result<(), Fail> {
     for run in &RUNS {
