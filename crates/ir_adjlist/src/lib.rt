@@ -25,7 +25,7 @@ use thiserror::Error;
 
 /// Why a text is refused: its first faulty line, counted from 1, and that line's first fault. Want of memory has line 0.
 #[derive(Clone, Copy, Debug, PartialEq, Eq, Error)]
-#[error("line {line}: {}", self.told())]
+#[error("line {line}: {kind:?}")]
 pub struct TextError {
     pub line: usize,
     pub kind: Fault,
@@ -37,19 +37,6 @@ impl TextError {
         ensures { result ≡ text_code self.kind }
     {
         self.kind as u8
-    }
-
-    // The kind in words.
-    fn told(&self) -> &'static str {
-        match self.kind {
-            Fault::BadByte => "a byte that may not stand in a text",
-            Fault::BadName => "a name of more than 64 bytes",
-            Fault::BadRow => "not two names and a weight",
-            Fault::BadWeight => "no whole number from 1 to 65535",
-            Fault::TooManyNodes => "too many nodes",
-            Fault::TooManyEdges => "too many edges",
-            Fault::NoMemory => "out of memory",
-        }
     }
 }
 

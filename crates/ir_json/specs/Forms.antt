@@ -1,11 +1,55 @@
--- The forms of lines, and the template of each.
-use Rattle.std.specs.Prelude.{ℕ, ◌==◌, Bool, ◌||◌, if◌then◌else◌, List, [], slice_index_or, bytes_eq, codes}
+-- The forms of lines: the template of a line's front, and what its further words are.
+use Rattle.std.specs.Prelude.{◌≡◌, ℕ, ◌==◌, Bool, true, ◌||◌, ◌&&◌, if◌then◌else◌, List, [], slice_index_or, bytes_eq, codes, nat_lt}
+use Rattle.std.specs.List.{list_all}
 use Rattle.ir_model.specs.Graph.{Name}
 use Rattle.ir_model.specs.Text.{is_empty}
 use Rattle.ir_json.specs.declared.shape.Shape.{Shape}
 use Rattle.ir_json.specs.declared.shape.Shape.TheVariants as shapes
 use Rattle.ir_json.specs.declared.form.Form.{Form}
-use Rattle.ir_json.specs.declared.form.Form.TheVariants.{PlanHead, PlanRow, Listed, WalkHead, Hop, LastHop, StatsHead, Figure, GreatestRow, Worst, Compactness, Bits, NoRing, Ring, CompareHead, Columns, Compared, Tables, PrefixesHead, PrefixesRow, RangesHead, RangesRow, TraceHead, Packet, PacketAtLink, Restamped, RestampedAtLink, Passed, Found}
+use Rattle.ir_json.specs.declared.form.Items.{Items}
+use Rattle.ir_json.specs.declared.form.Items.TheVariants as items
+
+-- what the words behind a line's front are: none, names, pairs in a template, or segments
+pub data Further : Type 0 where
+  NoMore : Further
+  Names : Further
+  Pairs : List ℕ → Further
+  Segments : Further
+
+-- the template of a line's front, and what the words are that it has no sign for
+pub record LineForm : Type 0 where
+  pub front : List ℕ
+  pub further : Further
+
+-- the form of a line that ends with a list
+abbrev pub listed : List ℕ → Further → LineForm
+listed front further = record { front = front; further = further }
+
+-- the form of a line that is its front
+abbrev pub plain : List ℕ → LineForm
+plain front = listed front NoMore
+
+-- what a value of the program says of the words behind a front
+abbrev pub further_held : Items → Further
+further_held items.NoItems = NoMore
+further_held items.Names = Names
+further_held (items.Pairs template) = Pairs template.now
+further_held items.Segments = Segments
+
+-- the form that a value of the program is
+abbrev pub form_held : Form → LineForm
+form_held form = listed form.front.now (further_held form.items)
+
+-- the bytes of a template are of ASCII
+abbrev pub is_ascii : List ℕ → Bool
+is_ascii template = list_all (λ b. nat_lt b 128) template
+
+-- those of the template of a list's pairs are, if there is one
+abbrev pub is_ascii_further : Further → Bool
+is_ascii_further NoMore = true
+is_ascii_further Names = true
+is_ascii_further (Pairs template) = is_ascii template
+is_ascii_further Segments = true
 
 -- the word at a place of a line, none being empty
 abbrev pub word_at : List Name → ℕ → Name
@@ -19,87 +63,43 @@ abbrev pub has_link : List Name → ℕ → Bool
 has_link words place = is_word_at words place (codes "down") || is_word_at words place (codes "full")
 
 -- the form of a figure, by its first word
-abbrev pub figure_form : List Name → Form
+abbrev pub figure_form : List Name → LineForm
 figure_form words =
-    if is_word_at words 0 (codes "stats") then StatsHead
-    else if is_word_at words 0 (codes "greatest-row") then GreatestRow
-    else if is_word_at words 0 (codes "worst") then Worst
-    else if is_word_at words 0 (codes "compactness") then Compactness
-    else if is_word_at words 0 (codes "bits") then Bits
-    else if is_word_at words 1 (codes "acyclic") then NoRing
-    else if is_word_at words 1 (codes "cycle") then Ring
-    else Figure
+    if is_word_at words 0 (codes "stats") then plain (codes "$:$,\"nodes\":#")
+    else if is_word_at words 0 (codes "greatest-row") then plain (codes "$:{\"node\":$,\"intervals\":#}")
+    else if is_word_at words 0 (codes "worst") then plain (codes "$:{\"from\":$,\"to\":$,\"walk\":#,\"distance\":#}")
+    else if is_word_at words 0 (codes "compactness") then plain (codes "$:{\"node\":$,\"neighbour\":$,\"intervals\":#}")
+    else if is_word_at words 0 (codes "bits") then plain (codes "$:{\"rows\":#,\"tables\":#}")
+    else if is_word_at words 1 (codes "acyclic") then plain (codes "$:$")
+    else if is_word_at words 1 (codes "cycle") then listed (codes "$:{$:[") Names
+    else plain (codes "$:#")
 
 -- the form of the first line of a text
-abbrev pub head_form : Shape → List Name → Form
-head_form shapes.Plan words = PlanHead
-head_form shapes.Order words = Listed
-head_form shapes.Walk words = WalkHead
+abbrev pub head_form : Shape → List Name → LineForm
+head_form shapes.Plan words = plain (codes "{$:$,\"nodes\":#,\"intervals\":#,\"rows\":[")
+head_form shapes.Order words = plain (codes "$")
+head_form shapes.Walk words = plain (codes "{$:$,\"from\":$,\"to\":$,\"address\":#,\"weight\":#,\"hops\":[")
 head_form shapes.Stats words = figure_form words
-head_form shapes.Compare words = CompareHead
-head_form shapes.Prefixes words = PrefixesHead
-head_form shapes.Ranges words = RangesHead
-head_form shapes.Trace words = TraceHead
-head_form shapes.Restamps words = TraceHead
-head_form shapes.Check words = if is_word_at words 0 (codes "ok") then Passed else Found
+head_form shapes.Compare words = plain (codes "{$:{\"nodes\":#,\"links\":#},\"plans\":[")
+head_form shapes.Prefixes words = plain (codes "{$:$,\"nodes\":#,\"bits\":#,\"entries\":#,\"rows\":[")
+head_form shapes.Ranges words = plain (codes "{$:$,\"nodes\":#,\"count\":#,\"rows\":[")
+head_form shapes.Trace words = plain (codes "{$:#,\"packets\":[")
+head_form shapes.Restamps words = plain (codes "{$:#,\"packets\":[")
+head_form shapes.Check words = if is_word_at words 0 (codes "ok") then plain (codes "{$:#}") else plain (codes "{~\"line\":#,\"finding\":$}")
 
 -- the form of a further line, by its place, counted from 0
-abbrev pub row_form : Shape → ℕ → List Name → Form
-row_form shapes.Plan place words = PlanRow
-row_form shapes.Order place words = Listed
-row_form shapes.Walk place words = if is_empty (word_at words 2) then LastHop else Hop
+abbrev pub row_form : Shape → ℕ → List Name → LineForm
+row_form shapes.Plan place words = listed (codes "{\"node\":$,\"label\":#,\"intervals\":[") (Pairs (codes "{\"start\":#,\"next\":$}"))
+row_form shapes.Order place words = plain (codes "$")
+row_form shapes.Walk place words = if is_empty (word_at words 2) then plain (codes "{\"node\":$,\"label\":#}") else plain (codes "{\"node\":$,\"label\":#,\"start\":#,\"end\":#,\"next\":$,\"weight\":#}")
 row_form shapes.Stats place words = figure_form words
-row_form shapes.Compare place words = if place == 1 then Columns else if is_word_at words 0 (codes "tables") then Tables else Compared
-row_form shapes.Prefixes place words = PrefixesRow
-row_form shapes.Ranges place words = RangesRow
-row_form shapes.Trace place words = if has_link words 5 then PacketAtLink else Packet
-row_form shapes.Restamps place words = if has_link words 4 then RestampedAtLink else Restamped
-row_form shapes.Check place words = Found
+row_form shapes.Compare place words = if place == 1 then plain [] else if is_word_at words 0 (codes "tables") then plain (codes "$:{~~~\"bits\":#}") else plain (codes "{\"kind\":$,\"numbering\":$,\"intervals\":#,\"greatest-row\":#,\"bits\":#,\"mean-stretch\":{\"walks\":<,\"distances\":>},\"worst-stretch\":{\"walk\":<,\"distance\":>},\"dependencies\":$}")
+row_form shapes.Prefixes place words = listed (codes "{\"node\":$,\"label\":#,\"entries\":[") (Pairs (codes "{\"value\":<,\"length\":>,\"next\":?}"))
+row_form shapes.Ranges place words = listed (codes "{\"node\":$,\"label\":#,\"ranges\":[") (Pairs (codes "{\"from\":<,\"to\":>,\"next\":$}"))
+row_form shapes.Trace place words = if has_link words 5 then listed (codes "{\"id\":#,\"epoch\":#,\"from\":$,\"to\":$,\"weight\":#,\"fate\":$,\"link\":[$,$],\"hops\":[") Names else listed (codes "{\"id\":#,\"epoch\":#,\"from\":$,\"to\":$,\"weight\":#,\"fate\":$,\"hops\":[") Names
+row_form shapes.Restamps place words = if has_link words 4 then listed (codes "{\"id\":#,\"from\":$,\"to\":$,\"weight\":#,\"fate\":$,\"link\":[$,$],\"segments\":[") Segments else listed (codes "{\"id\":#,\"from\":$,\"to\":$,\"weight\":#,\"fate\":$,\"segments\":[") Segments
+row_form shapes.Check place words = plain (codes "{~\"line\":#,\"finding\":$}")
 
-abbrev pub form_of : Shape → ℕ → List Name → Form
+-- the form of a line, by the shape of its text, by its place, counted from 0, and by its words
+abbrev pub form_of : Shape → ℕ → List Name → LineForm
 form_of shape place words = if place == 0 then head_form shape words else row_form shape place words
-
--- the template of a line's front; those words that it has no sign for make a list
-abbrev pub front : Form → List ℕ
-front PlanHead = codes "{$:$,\"nodes\":#,\"intervals\":#,\"rows\":["
-front PlanRow = codes "{\"node\":$,\"label\":#,\"intervals\":["
-front Listed = codes "$"
-front WalkHead = codes "{$:$,\"from\":$,\"to\":$,\"address\":#,\"weight\":#,\"hops\":["
-front Hop = codes "{\"node\":$,\"label\":#,\"start\":#,\"end\":#,\"next\":$,\"weight\":#}"
-front LastHop = codes "{\"node\":$,\"label\":#}"
-front StatsHead = codes "$:$,\"nodes\":#"
-front Figure = codes "$:#"
-front GreatestRow = codes "$:{\"node\":$,\"intervals\":#}"
-front Worst = codes "$:{\"from\":$,\"to\":$,\"walk\":#,\"distance\":#}"
-front Compactness = codes "$:{\"node\":$,\"neighbour\":$,\"intervals\":#}"
-front Bits = codes "$:{\"rows\":#,\"tables\":#}"
-front NoRing = codes "$:$"
-front Ring = codes "$:{$:["
-front CompareHead = codes "{$:{\"nodes\":#,\"links\":#},\"plans\":["
-front Columns = []
-front Compared =
-    codes "{\"kind\":$,\"numbering\":$,\"intervals\":#,\"greatest-row\":#,\"bits\":#,\"mean-stretch\":{\"walks\":<,\"distances\":>},\"worst-stretch\":{\"walk\":<,\"distance\":>},\"dependencies\":$}"
-front Tables = codes "$:{~~~\"bits\":#}"
-front PrefixesHead = codes "{$:$,\"nodes\":#,\"bits\":#,\"entries\":#,\"rows\":["
-front PrefixesRow = codes "{\"node\":$,\"label\":#,\"entries\":["
-front RangesHead = codes "{$:$,\"nodes\":#,\"count\":#,\"rows\":["
-front RangesRow = codes "{\"node\":$,\"label\":#,\"ranges\":["
-front TraceHead = codes "{$:#,\"packets\":["
-front Packet = codes "{\"id\":#,\"epoch\":#,\"from\":$,\"to\":$,\"weight\":#,\"fate\":$,\"hops\":["
-front PacketAtLink = codes "{\"id\":#,\"epoch\":#,\"from\":$,\"to\":$,\"weight\":#,\"fate\":$,\"link\":[$,$],\"hops\":["
-front Restamped = codes "{\"id\":#,\"from\":$,\"to\":$,\"weight\":#,\"fate\":$,\"segments\":["
-front RestampedAtLink = codes "{\"id\":#,\"from\":$,\"to\":$,\"weight\":#,\"fate\":$,\"link\":[$,$],\"segments\":["
-front Passed = codes "{$:#}"
-front Found = codes "{~\"line\":#,\"finding\":$}"
-
--- what ends a line behind its list
-abbrev pub back : Form → List ℕ
-back PlanRow = codes "]}"
-back Ring = codes "]}"
-back PrefixesRow = codes "]}"
-back RangesRow = codes "]}"
-back Packet = codes "]}"
-back PacketAtLink = codes "]}"
-back Restamped = codes "]}"
-back RestampedAtLink = codes "]}"
-back form = []

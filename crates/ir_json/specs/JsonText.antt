@@ -1,18 +1,16 @@
 -- The JSON of a text: each line of the text is a line of it.
-use Rattle.std.specs.Prelude.{ℕ, ◌+◌, ◌==◌, Bool, true, false, if◌then◌else◌, List, [], ◌∷◌, ◌++◌, nat_lt, codes}
+use Rattle.std.specs.Prelude.{ℕ, ◌+◌, ◌==◌, ◌&&◌, Bool, true, false, if◌then◌else◌, List, [], ◌∷◌, ◌++◌, nat_lt, codes}
 use Rattle.ir_model.specs.Graph.{Name}
 use Rattle.ir_model.specs.Text.{words_of}
 use Rattle.ir_json.specs.declared.shape.Shape.{Shape}
 use Rattle.ir_json.specs.declared.shape.Shape.TheVariants.{Order, Stats, Compare, Check}
-use Rattle.ir_json.specs.declared.form.Form.{Form}
-use Rattle.ir_json.specs.declared.form.Form.TheVariants.{Tables}
 use Rattle.ir_json.specs.Signs.{filled, left}
-use Rattle.ir_json.specs.Forms.{form_of, front, back}
-use Rattle.ir_json.specs.Lists.{items_of, pair, items_text}
+use Rattle.ir_json.specs.Forms.{LineForm, is_word_at, form_of}
+use Rattle.ir_json.specs.Lists.{items_text}
 
 -- a line in its form
-abbrev pub form_text : Form → List Name → List ℕ
-form_text form words = (filled (front form) words ++ items_text (items_of form) (pair form) (left (front form) words)) ++ back form
+abbrev pub form_text : LineForm → List Name → List ℕ
+form_text form words = filled form.front words ++ items_text form.further (left form.front words)
 
 -- the place of the first line that is a row, or a member of one object
 abbrev pub first_row : Shape → ℕ
@@ -21,13 +19,21 @@ first_row Stats = 0
 first_row Compare = 2
 first_row shape = 1
 
--- what stands before the line at a place: rows have commas between them, and full tables stand behind the list of plans
-abbrev pub lead : Shape → ℕ → Form → List ℕ
-lead shape place Tables = codes "\n],\n"
-lead shape place form = if nat_lt (first_row shape) place then codes ",\n" else if first_row shape == place then codes "\n" else []
+-- the line has the sizes of full tables, which stand behind the list of plans
+abbrev pub is_tables : Shape → ℕ → List Name → Bool
+is_tables Compare place words = nat_lt 1 place && is_word_at words 0 (codes "tables")
+is_tables shape place words = false
+
+-- what stands before the line at a place: rows have commas between them
+abbrev pub lead : Shape → ℕ → List Name → List ℕ
+lead shape place words =
+    if is_tables shape place words then codes "\n],\n"
+    else if nat_lt (first_row shape) place then codes ",\n"
+    else if first_row shape == place then codes "\n"
+    else []
 
 abbrev pub json_line : Shape → ℕ → List Name → List ℕ
-json_line shape place words = lead shape place (form_of shape place words) ++ form_text (form_of shape place words) words
+json_line shape place words = lead shape place words ++ form_text (form_of shape place words) words
 
 abbrev pub has_no_word : List Name → Bool
 has_no_word [] = true

@@ -2,12 +2,9 @@
 use Rattle.std.specs.Prelude.{ℕ, ◌==◌, Bool, true, false, if◌then◌else◌, List, [], ◌∷◌, ◌++◌, drop, slice_index_or, codes}
 use Rattle.ir_model.specs.Graph.{Name}
 use Rattle.ir_model.specs.Text.{is_empty}
-use Rattle.ir_json.specs.declared.form.Form.{Form}
-use Rattle.ir_json.specs.declared.form.Form.TheVariants.{PlanRow, Ring, PrefixesRow, RangesRow, Packet, PacketAtLink, Restamped, RestampedAtLink}
-use Rattle.ir_json.specs.declared.form.Items.{Items}
-use Rattle.ir_json.specs.declared.form.Items.TheVariants.{NoItems, Names, Pairs, Segments}
 use Rattle.ir_json.specs.Words.{json_string, json_number}
 use Rattle.ir_json.specs.Signs.{filled}
+use Rattle.ir_json.specs.Forms.{Further, NoMore, Names, Pairs, Segments}
 
 -- what stands before an item of a list
 abbrev pub comma : (is_first : Bool) → List ℕ
@@ -43,27 +40,9 @@ abbrev pub segments_from : Name → List Name → List ℕ
 segments_from before [] = if is_empty before then [] else codes "]}"
 segments_from before (word ∷ words) = (between before word ++ segment_word word) ++ segments_from word words
 
--- what the words behind a line's front are
-abbrev pub items_of : Form → Items
-items_of PlanRow = Pairs
-items_of PrefixesRow = Pairs
-items_of RangesRow = Pairs
-items_of Ring = Names
-items_of Packet = Names
-items_of PacketAtLink = Names
-items_of Restamped = Segments
-items_of RestampedAtLink = Segments
-items_of form = NoItems
-
--- the template of a pair
-abbrev pub pair : Form → List ℕ
-pair PlanRow = codes "{\"start\":#,\"next\":$}"
-pair PrefixesRow = codes "{\"value\":<,\"length\":>,\"next\":?}"
-pair RangesRow = codes "{\"from\":<,\"to\":>,\"next\":$}"
-pair form = []
-
-abbrev pub items_text : Items → List ℕ → List Name → List ℕ
-items_text NoItems template words = []
-items_text Names template words = names_from true words
-items_text Pairs template words = pairs_from template true words
-items_text Segments template words = segments_from [] words
+-- the words behind a line's front, and what ends the line behind a list
+abbrev pub items_text : Further → List Name → List ℕ
+items_text NoMore words = []
+items_text Names words = names_from true words ++ codes "]}"
+items_text (Pairs template) words = pairs_from template true words ++ codes "]}"
+items_text Segments words = segments_from [] words ++ codes "]}"

@@ -1,53 +1,49 @@
 //! The forms of lines.
-ghost use Rattle.std.specs.Prelude.{◌≡◌};
+ghost use Rattle.std.specs.Prelude.{◌≡◌, true};
 ghost use Rattle.ir_model.specs.Text.{words_of};
-ghost use Rattle.ir_json.specs.{Forms.{word_at, has_link, figure_form, head_form, row_form, form_of}, JsonText.lead};
+ghost use Rattle.ir_json.specs.Forms.{word_at, has_link, figure_form, head_form, row_form, form_of, listed, plain, further_held, form_held, is_ascii, is_ascii_further};
+ghost use Rattle.ir_json.specs.JsonText.{is_tables, lead};
 
 use crate::fill::first_word;
 use crate::shape::Shape;
 use crate::words::is;
-
-/// What a line is.
-#[derive(Clone, Copy)]
-pub enum Form {
-    PlanHead,
-    PlanRow,
-    Listed,
-    WalkHead,
-    Hop,
-    LastHop,
-    StatsHead,
-    Figure,
-    GreatestRow,
-    Worst,
-    Compactness,
-    Bits,
-    NoRing,
-    Ring,
-    CompareHead,
-    Columns,
-    Compared,
-    Tables,
-    PrefixesHead,
-    PrefixesRow,
-    RangesHead,
-    RangesRow,
-    TraceHead,
-    Packet,
-    PacketAtLink,
-    Restamped,
-    RestampedAtLink,
-    Passed,
-    Found,
-}
 
 /// What the words behind a line's front are.
 #[derive(Clone, Copy)]
 pub enum Items {
     NoItems,
     Names,
-    Pairs,
+    /// Each two words in this template.
+    Pairs(&'static str),
     Segments,
+}
+
+/// The template of a line's front, and what those words are that it has no sign for.
+#[derive(Clone, Copy)]
+pub struct Form {
+    pub front: &'static str,
+    pub items: Items,
+}
+
+/// The form of a line that ends with a list.
+fn listed(front: &'static str, items: Items) -> Form
+    requires front { is_ascii front.now ≡ true }
+    requires items { is_ascii_further (further_held items) ≡ true }
+    ensures form { form_held result ≡ listed front.now (further_held items) }
+    ensures front { is_ascii (form_held result).front ≡ true }
+    ensures items { is_ascii_further (form_held result).further ≡ true }
+{
+    Form { front, items }
+}
+
+/// The form of a line that is its front.
+fn plain(front: &'static str) -> Form
+    requires { is_ascii front.now ≡ true }
+    ensures form { form_held result ≡ plain front.now }
+    ensures front { is_ascii (form_held result).front ≡ true }
+    ensures items { is_ascii_further (form_held result).further ≡ true }
+{
+    listed(front, Items::NoItems)
 }
 
 /// The word at a place of a line, none being empty.
@@ -71,73 +67,106 @@ fn has_link(line: &[u8], place: usize) -> bool
 
 /// The form of a figure, by its first word.
 fn figure_form(line: &[u8]) -> Form
-    ensures { result ≡ figure_form (words_of line.now) }
+    ensures form { form_held result ≡ figure_form (words_of line.now) }
+    ensures front { is_ascii (form_held result).front ≡ true }
+    ensures items { is_ascii_further (form_held result).further ≡ true }
 {
     let first = word_at(line, 0);
     let second = word_at(line, 1);
     if is(first, "stats") {
-        Form::StatsHead
+        plain("$:$,\"nodes\":#")
     } else if is(first, "greatest-row") {
-        Form::GreatestRow
+        plain("$:{\"node\":$,\"intervals\":#}")
     } else if is(first, "worst") {
-        Form::Worst
+        plain("$:{\"from\":$,\"to\":$,\"walk\":#,\"distance\":#}")
     } else if is(first, "compactness") {
-        Form::Compactness
+        plain("$:{\"node\":$,\"neighbour\":$,\"intervals\":#}")
     } else if is(first, "bits") {
-        Form::Bits
+        plain("$:{\"rows\":#,\"tables\":#}")
     } else if is(second, "acyclic") {
-        Form::NoRing
+        plain("$:$")
     } else if is(second, "cycle") {
-        Form::Ring
+        listed("$:{$:[", Items::Names)
     } else {
-        Form::Figure
+        plain("$:#")
     }
 }
 
 /// The form of the first line of a text.
 fn head_form(shape: Shape, line: &[u8]) -> Form
-    ensures { result ≡ head_form shape (words_of line.now) }
+    ensures form { form_held result ≡ head_form shape (words_of line.now) }
+    ensures front { is_ascii (form_held result).front ≡ true }
+    ensures items { is_ascii_further (form_held result).further ≡ true }
 {
     match shape {
-        Shape::Plan => Form::PlanHead,
-        Shape::Order => Form::Listed,
-        Shape::Walk => Form::WalkHead,
+        Shape::Plan => plain("{$:$,\"nodes\":#,\"intervals\":#,\"rows\":["),
+        Shape::Order => plain("$"),
+        Shape::Walk => plain("{$:$,\"from\":$,\"to\":$,\"address\":#,\"weight\":#,\"hops\":["),
         Shape::Stats => figure_form(line),
-        Shape::Compare => Form::CompareHead,
-        Shape::Prefixes => Form::PrefixesHead,
-        Shape::Ranges => Form::RangesHead,
-        Shape::Trace | Shape::Restamps => Form::TraceHead,
-        Shape::Check if is(word_at(line, 0), "ok") => Form::Passed,
-        Shape::Check => Form::Found,
+        Shape::Compare => plain("{$:{\"nodes\":#,\"links\":#},\"plans\":["),
+        Shape::Prefixes => plain("{$:$,\"nodes\":#,\"bits\":#,\"entries\":#,\"rows\":["),
+        Shape::Ranges => plain("{$:$,\"nodes\":#,\"count\":#,\"rows\":["),
+        Shape::Trace | Shape::Restamps => plain("{$:#,\"packets\":["),
+        Shape::Check if is(word_at(line, 0), "ok") => plain("{$:#}"),
+        Shape::Check => plain("{~\"line\":#,\"finding\":$}"),
     }
 }
 
 /// The form of a further line, by its place.
 fn row_form(shape: Shape, place: usize, line: &[u8]) -> Form
-    ensures { result ≡ row_form shape place (words_of line.now) }
+    ensures form { form_held result ≡ row_form shape place (words_of line.now) }
+    ensures front { is_ascii (form_held result).front ≡ true }
+    ensures items { is_ascii_further (form_held result).further ≡ true }
 {
     match shape {
-        Shape::Plan => Form::PlanRow,
-        Shape::Order => Form::Listed,
-        Shape::Walk if word_at(line, 2).is_empty() => Form::LastHop,
-        Shape::Walk => Form::Hop,
+        Shape::Plan => listed(
+            "{\"node\":$,\"label\":#,\"intervals\":[",
+            Items::Pairs("{\"start\":#,\"next\":$}"),
+        ),
+        Shape::Order => plain("$"),
+        Shape::Walk if word_at(line, 2).is_empty() => plain("{\"node\":$,\"label\":#}"),
+        Shape::Walk => plain(
+            "{\"node\":$,\"label\":#,\"start\":#,\"end\":#,\"next\":$,\"weight\":#}",
+        ),
         Shape::Stats => figure_form(line),
-        Shape::Compare if place == 1 => Form::Columns,
-        Shape::Compare if is(word_at(line, 0), "tables") => Form::Tables,
-        Shape::Compare => Form::Compared,
-        Shape::Prefixes => Form::PrefixesRow,
-        Shape::Ranges => Form::RangesRow,
-        Shape::Trace if has_link(line, 5) => Form::PacketAtLink,
-        Shape::Trace => Form::Packet,
-        Shape::Restamps if has_link(line, 4) => Form::RestampedAtLink,
-        Shape::Restamps => Form::Restamped,
-        Shape::Check => Form::Found,
+        Shape::Compare if place == 1 => plain(""),
+        Shape::Compare if is(word_at(line, 0), "tables") => plain("$:{~~~\"bits\":#}"),
+        Shape::Compare => plain(
+            "{\"kind\":$,\"numbering\":$,\"intervals\":#,\"greatest-row\":#,\"bits\":#,\"mean-stretch\":{\"walks\":<,\"distances\":>},\"worst-stretch\":{\"walk\":<,\"distance\":>},\"dependencies\":$}",
+        ),
+        Shape::Prefixes => listed(
+            "{\"node\":$,\"label\":#,\"entries\":[",
+            Items::Pairs("{\"value\":<,\"length\":>,\"next\":?}"),
+        ),
+        Shape::Ranges => listed(
+            "{\"node\":$,\"label\":#,\"ranges\":[",
+            Items::Pairs("{\"from\":<,\"to\":>,\"next\":$}"),
+        ),
+        Shape::Trace if has_link(line, 5) => listed(
+            "{\"id\":#,\"epoch\":#,\"from\":$,\"to\":$,\"weight\":#,\"fate\":$,\"link\":[$,$],\"hops\":[",
+            Items::Names,
+        ),
+        Shape::Trace => listed(
+            "{\"id\":#,\"epoch\":#,\"from\":$,\"to\":$,\"weight\":#,\"fate\":$,\"hops\":[",
+            Items::Names,
+        ),
+        Shape::Restamps if has_link(line, 4) => listed(
+            "{\"id\":#,\"from\":$,\"to\":$,\"weight\":#,\"fate\":$,\"link\":[$,$],\"segments\":[",
+            Items::Segments,
+        ),
+        Shape::Restamps => listed(
+            "{\"id\":#,\"from\":$,\"to\":$,\"weight\":#,\"fate\":$,\"segments\":[",
+            Items::Segments,
+        ),
+        Shape::Check => plain("{~\"line\":#,\"finding\":$}"),
     }
 }
 
 /// The form of a line, by the shape of its text, by its place, counted from 0, and by its words.
 pub fn form_of(shape: Shape, place: usize, line: &[u8]) -> Form
-    ensures { result ≡ form_of shape place (words_of line.now) }
+    ensures form { form_held result ≡ form_of shape place (words_of line.now) }
+    ensures front { is_ascii (form_held result).front ≡ true }
+    ensures items { is_ascii_further (form_held result).further ≡ true }
 {
     if place == 0 {
         head_form(shape, line)
@@ -146,14 +175,24 @@ pub fn form_of(shape: Shape, place: usize, line: &[u8]) -> Form
     }
 }
 
-/// What stands before the line at a place.
-pub fn lead(shape: Shape, place: usize, form: Form) -> &'static str
-    ensures { result.now ≡ lead shape place form }
+/// Whether a line has the sizes of full tables, which stand behind the list of plans.
+fn is_tables(shape: Shape, place: usize, line: &[u8]) -> bool
+    ensures { result ≡ is_tables shape place (words_of line.now) }
 {
-    match form {
-        Form::Tables => "\n],\n",
-        _ if place > shape.first_row() => ",\n",
-        _ if place == shape.first_row() => "\n",
-        _ => "",
+    matches!(shape, Shape::Compare) && place > 1 && is(word_at(line, 0), "tables")
+}
+
+/// What stands before the line at a place.
+pub fn lead(shape: Shape, place: usize, line: &[u8]) -> &'static str
+    ensures { result.now ≡ lead shape place (words_of line.now) }
+{
+    if is_tables(shape, place, line) {
+        "\n],\n"
+    } else if place > shape.first_row() {
+        ",\n"
+    } else if place == shape.first_row() {
+        "\n"
+    } else {
+        ""
     }
 }

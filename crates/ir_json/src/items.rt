@@ -2,6 +2,7 @@
 ghost use Rattle.std.specs.Prelude.{◌≡◌, ◌≤◌, ◌++◌, [], true, OnOk, nat_lt, length, drop, codes, string_bytes};
 ghost use Rattle.std.specs.List.{list_all};
 ghost use Rattle.ir_model.specs.Text.{words_of};
+ghost use Rattle.ir_json.specs.Forms.{further_held, is_ascii_further};
 ghost use Rattle.ir_json.specs.Lists.{comma, names_from, pairs_from, opens_segment, between, segment_word, segments_from, items_text};
 
 use crate::fill::push_filled;
@@ -112,21 +113,17 @@ fn push_segments(text: &mut String, line: &[u8]) -> Result<(), AllocError>
     Ok(())
 }
 
-/// Writes what the words behind a line's front are.
-pub fn push_items(
-    text: &mut String,
-    items: Items,
-    template: &str,
-    line: &[u8],
-) -> Result<(), AllocError>
-    requires { list_all (λ b. nat_lt b 128) template.now ≡ true }
+/// Writes the words behind a line's front, and what ends the line behind a list.
+pub fn push_items(text: &mut String, items: Items, line: &[u8]) -> Result<(), AllocError>
+    requires { is_ascii_further (further_held items) ≡ true }
     ensures { OnOk result (string_bytes text.new ≡ string_bytes text.old
-        ++ items_text items template.now (words_of line.now)) }
+        ++ items_text (further_held items) (words_of line.now)) }
 {
     match items {
-        Items::NoItems => Ok(()),
-        Items::Names => push_names(text, line),
-        Items::Pairs => push_pairs(text, template, line),
-        Items::Segments => push_segments(text, line),
+        Items::NoItems => return Ok(()),
+        Items::Names => push_names(text, line)?,
+        Items::Pairs(template) => push_pairs(text, template, line)?,
+        Items::Segments => push_segments(text, line)?,
     }
+    text.push_str("]}")
 }

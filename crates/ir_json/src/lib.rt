@@ -11,7 +11,6 @@ mod items;
 mod laws;
 mod shape;
 mod sign;
-mod template;
 mod text;
 mod words;
 

@@ -1,6 +1,7 @@
 //! The JSON of a text.
-ghost use Rattle.std.specs.Prelude.{◌≡◌, ◌++◌, OnOk, IfOk, codes, string_bytes};
+ghost use Rattle.std.specs.Prelude.{◌≡◌, ◌++◌, true, OnOk, IfOk, string_bytes};
 ghost use Rattle.ir_model.specs.Text.{lines, words_of};
+ghost use Rattle.ir_json.specs.Forms.{form_held, is_ascii, is_ascii_further};
 ghost use Rattle.ir_json.specs.JsonText.{form_text, json_line, lines_text, json_text};
 
 use crate::fill::push_filled;
@@ -12,22 +13,21 @@ use std::alloc::{AllocError, Global};
 
 /// Writes a line in its form.
 fn push_form(text: &mut String, form: Form, line: &[u8]) -> Result<(), AllocError>
-    ensures { OnOk result (string_bytes text.new ≡ string_bytes text.old ++ form_text form (words_of line.now)) }
+    requires front { is_ascii (form_held form).front ≡ true }
+    requires items { is_ascii_further (form_held form).further ≡ true }
+    ensures { OnOk result (string_bytes text.new ≡ string_bytes text.old
+        ++ form_text (form_held form) (words_of line.now)) }
 {
-    let rest = push_filled(text, form.front(), line)?;
-    push_items(text, form.items(), form.pair(), rest)?;
-    text.push_str(form.back())?;
-    Ok(())
+    let rest = push_filled(text, form.front, line)?;
+    push_items(text, form.items, rest)
 }
 
 /// Writes the line at a place.
 fn push_line(text: &mut String, shape: Shape, place: usize, line: &[u8]) -> Result<(), AllocError>
     ensures { OnOk result (string_bytes text.new ≡ string_bytes text.old ++ json_line shape place (words_of line.now)) }
 {
-    let form = form_of(shape, place, line);
-    text.push_str(lead(shape, place, form))?;
-    push_form(text, form, line)?;
-    Ok(())
+    text.push_str(lead(shape, place, line))?;
+    push_form(text, form_of(shape, place, line), line)
 }
 
 /// Writes the lines of a text; one without a word is passed over.

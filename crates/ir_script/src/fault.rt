@@ -2,35 +2,29 @@
 ghost use Rattle.std.specs.Prelude.{◌≡◌};
 ghost use Rattle.ir_script.specs.{Script.fault_code, declared.fault.ScriptFault.TheVariants.NoMemory};
 
-use std::alloc::{AllocError, AllocFailed};
+use std::alloc::AllocError;
 use thiserror::Error;
 
 /// What is wrong with a line of a script.
-#[derive(Clone, Copy, Debug, PartialEq, Eq, Error)]
+#[derive(Clone, Copy, Debug, PartialEq, Eq)]
 pub enum ScriptFault {
     /// A byte that is no blank and not in `!` to `~` stands outside a comment.
-    #[error("bad byte")]
     BadByte = 1,
     /// The first word names no command, the number of words is wrong, or a fixed word is another.
-    #[error("bad command")]
     BadCommand = 2,
     /// A word is not one to five decimal digits of a value up to 65,535.
-    #[error("bad number")]
     BadNumber = 3,
     /// A word names no node.
-    #[error("no such node")]
     UnknownNode = 4,
     /// Two nodes are not linked. A node is not linked to itself.
-    #[error("no such link")]
     UnknownLink = 5,
     /// A growth was refused.
-    #[error("out of memory")]
     NoMemory = 6,
 }
 
 /// The first faulty line of a script, counted from 1, and its fault. Want of memory has line 0.
 #[derive(Clone, Copy, Debug, PartialEq, Eq, Error)]
-#[error("line {line}: {kind}")]
+#[error("line {line}: {kind:?}")]
 pub struct ScriptError {
     pub line: usize,
     pub kind: ScriptFault,
@@ -49,17 +43,6 @@ impl From<AllocError> for ScriptError {
     ghost from_gives = { λ _ e. e ≡ record { line = 0; kind = NoMemory } };
 
     fn from(_error: AllocError) -> ScriptError {
-        ScriptError {
-            line: 0,
-            kind: ScriptFault::NoMemory,
-        }
-    }
-}
-
-impl<T: Drop> From<AllocFailed<T>> for ScriptError {
-    ghost from_gives = { λ _ e. e ≡ record { line = 0; kind = NoMemory } };
-
-    fn from(_error: AllocFailed<T>) -> ScriptError {
         ScriptError {
             line: 0,
             kind: ScriptFault::NoMemory,

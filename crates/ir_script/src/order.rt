@@ -73,8 +73,10 @@ fn place(
         return Err(OrderFaultKind::Twice);
     }
     placed[u as usize] = true;
-    order.push(u)?;
-    Ok(())
+    match order.push(u) {
+        Ok(()) => Ok(()),
+        Err(_) => Err(OrderFaultKind::NoMemory),
+    }
 }
 
 /// The nodes of a graph in the order in which a text names them, a name on each line. Lines, blanks and comments are as in

@@ -2,47 +2,33 @@
 ghost use Rattle.std.specs.Prelude.{◌≡◌};
 ghost use Rattle.ir_script.specs.declared.order_fault.OrderFaultKind.TheVariants.{NoMemory};
 
-use std::alloc::{AllocError, AllocFailed};
+use std::alloc::AllocError;
 use thiserror::Error;
 
 /// What is wrong with a line of an order, or with its end.
-#[derive(Clone, Copy, Debug, PartialEq, Eq, Error)]
+#[derive(Clone, Copy, Debug, PartialEq, Eq)]
 pub enum OrderFaultKind {
     /// A byte that is no blank and not in `!` to `~` stands outside a comment.
-    #[error("bad byte")]
     BadByte = 1,
     /// A line has more than one word.
-    #[error("more than one word")]
     BadRow = 2,
     /// A word names no node.
-    #[error("no such node")]
     UnknownNode = 3,
     /// A word names the node of an earlier line.
-    #[error("a node stands twice")]
     Twice = 4,
     /// No line is wrong, but a node is not named.
-    #[error("a node is missing")]
     Missing = 5,
     /// A growth was refused.
-    #[error("out of memory")]
     NoMemory = 6,
 }
 
 /// The first faulty line of an order, counted from 1, and its fault. A missing node has the last line, want of memory has
 /// line 0.
 #[derive(Clone, Copy, Debug, PartialEq, Eq, Error)]
-#[error("line {line}: {kind}")]
+#[error("line {line}: {kind:?}")]
 pub struct OrderFault {
     pub line: usize,
     pub kind: OrderFaultKind,
-}
-
-impl<T: Drop> From<AllocFailed<T>> for OrderFaultKind {
-    ghost from_gives = { λ _ e. e ≡ NoMemory };
-
-    fn from(_error: AllocFailed<T>) -> OrderFaultKind {
-        OrderFaultKind::NoMemory
-    }
 }
 
 impl From<AllocError> for OrderFault {

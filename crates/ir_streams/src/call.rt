@@ -6,10 +6,9 @@ use thiserror::Error;
 
 /// Why a call of a reader or a writer moved no bytes.
 #[derive(Clone, Copy, Debug, PartialEq, Eq, Error)]
+#[error("{:?}", self)]
 pub enum CallError {
-    #[error("the call was interrupted")]
     Interrupted,
-    #[error("the call failed")]
     Failed,
 }
 

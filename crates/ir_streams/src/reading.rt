@@ -10,14 +10,12 @@ use thiserror::Error;
 
 /// Why an input was not read.
 #[derive(Clone, Copy, Debug, PartialEq, Eq, Error)]
+#[error("{:?}", self)]
 pub enum NoInput {
     /// A call of the reader failed.
-    #[error("unreadable")]
     Unreadable,
     /// There are more bytes than an input may have, or the reader was called too often.
-    #[error("too large")]
     TooLarge,
-    #[error("out of memory")]
     NoMemory,
 }
 
