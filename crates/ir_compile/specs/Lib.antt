@@ -6,3 +6,4 @@ pub mod Rounds
 pub mod Plain
 -- what bodies use
 pub mod Runs
+pub mod ShortRuns

@@ -7,9 +7,9 @@ ghost use Rattle.ir_model.proofs.Steps.{AreLongest, AreSteps, HaveRoundPorts};
 ghost use Rattle.ir_compile.specs.{Allowed.{rows_of, Allows, IsChoiceTable}, Rounds.RunOn, Runs.HasLabels};
 
 use crate::error::CompileError;
-use crate::round::{first_near, first_of_longest, label_at, round_ports};
+use crate::round::{first_near, first_of_longest, label_at, plain_round, round_ports};
 use crate::runs::keep_longer;
-use crate::{MAX_PORTS, canonical_row};
+use crate::{MAX_PORTS, canonical_row, row_of_ports};
 use ir_lookup::Row;
 use std::alloc::{AllocError, Global};
 
@@ -110,10 +110,31 @@ pub fn ports_of_runs(
     round_ports(alloc, n, own, start, counts, ports)
 }
 
-/// The ports that `ports_of_runs` gives, where a run that begins within another one ends no sooner, as is so of longest
-/// runs. Conditions: that, and those of `ports_of_runs`. Takes O(n + l k), for l places that the last run of the round
-/// from the label after the own one ends behind its end, at most c as there.
-pub fn ports_of_longest(
+/// The canonical row of the ports that `ports_of_runs` gives, where a run that begins within another one ends no sooner, as
+/// is so of longest runs. Conditions: that, and those of `ports_of_runs`. Takes O(n + l k), for l places that the last run
+/// of the round from the label after the own one ends behind its end, at most c as there.
+pub fn row_of_longest(
+    alloc: Global,
+    n: u16,
+    own: u16,
+    counts: &[u16],
+    ports: &[u16],
+) -> Result<Row, AllocError>
+    requires two { 1 < n }
+    requires own { own < n }
+    requires steps { AreSteps n own counts.now }
+    requires on { RunOn n own counts.now }
+    requires ports { length ports.now ≡ n }
+    ensures { IfOk result (λ row. (held : List (Option ℕ)) × HaveRoundPorts n own counts.now ports.now held
+        × IsCanonical n own held row) }
+{
+    let start = label_at(n, own, first_of_longest(n, own, counts));
+    let plain = plain_round(alloc, n, own, start, counts, ports)?;
+    row_of_ports(alloc, n, own, plain.as_slice())
+}
+
+// The ports that `ports_of_runs` gives, of longest runs.
+fn ports_of_longest(
     alloc: Global,
     n: u16,
     own: u16,

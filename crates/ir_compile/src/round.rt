@@ -1,10 +1,11 @@
 //! The round by the longest runs: how many there are from a label on, where they are fewest, and the ports that they give.
 
-ghost use Rattle.std.specs.Prelude.{◌≡◌, ◌≢◌, ◌<◌, ◌≤◌, ◌+◌, ℕ, None, Some, length, IfOk, slice_index};
+ghost use Rattle.std.specs.Prelude.{◌≡◌, ◌≢◌, ◌<◌, ◌≤◌, ◌+◌, ℕ, List, None, Option, Some, length, IfOk, slice_index};
 ghost use Rattle.ir_model.specs.{Compiled.port_to, Choices.label_from};
 ghost use Rattle.ir_model.proofs.Steps.{AreSteps, Steps, HaveStepPorts, IsFirstNear, IsPlaceAfter};
-ghost use Rattle.ir_compile.specs.Rounds.{IsFirstTo, Reaches, RunOn};
+ghost use Rattle.ir_compile.specs.{Plain.StandFor, Rounds.{IsFirstTo, Reaches, RunOn}};
 
+use crate::sixteen::{LANES, put_run};
 use std::alloc::{AllocError, Global};
 
 /// The label so many places after a label, going round.
@@ -182,4 +183,63 @@ fn set_port(held: &mut Vec<Option<u16>>, own: u16, d: u16, port: u16)
     if d != own {
         held[d as usize] = Some(port);
     }
+}
+
+/// The ports by label that the runs give in the round from a label on, as plain numbers; what stands at the own label
+/// says nothing.
+pub fn plain_round(
+    alloc: Global,
+    n: u16,
+    own: u16,
+    start: u16,
+    counts: &[u16],
+    ports: &[u16],
+) -> Result<Vec<u16>, AllocError>
+    requires steps { AreSteps n own counts.now }
+    requires ports { length ports.now ≡ n }
+    requires start { start < n }
+    requires off { start ≢ own }
+    ensures every { IfOk result (λ plain. length plain.items ≡ n) }
+    ensures ports { IfOk result (λ plain. (held : List (Option ℕ)) → StandFor n own plain.items held
+        → (k : ℕ) × Steps n counts.now start 0 k × HaveStepPorts n own counts.now ports.now start 0 k held) }
+{
+    let mut places = vec![in alloc; 0u16; n as usize + LANES]?;
+    put_round(places.as_mut_slice(), n, own, start, counts, ports);
+    turned(alloc, n, start, places.as_slice())
+}
+
+// Puts the ports that the runs give in the round from a label on to its places.
+fn put_round(places: &mut [u16], n: u16, own: u16, start: u16, counts: &[u16], ports: &[u16])
+    requires room { n + 16 ≤ length places.old }
+    requires steps { AreSteps n own counts.now }
+    requires ports { length ports.now ≡ n }
+    requires start { start < n }
+    requires off { start ≢ own }
+    ensures length { length places.new ≡ length places.old }
+    ensures ports { (held : List (Option ℕ))
+        → ((j : ℕ) → j < n → label_from n start j ≢ own → port_to held (label_from n start j) ≡ Some (slice_index places.new j))
+        → (k : ℕ) × Steps n counts.now start 0 k × HaveStepPorts n own counts.now ports.now start 0 k held }
+{
+    let mut place = 0;
+    while place < n {
+        let after = place_after(n, start, place, counts);
+        let port = ports[label_at(n, start, place) as usize];
+        put_run(places, place as usize, after as usize, port);
+        place = after;
+    }
+}
+
+// What stands at the places of the round from a label on, by label.
+fn turned(alloc: Global, n: u16, start: u16, places: &[u16]) -> Result<Vec<u16>, AllocError>
+    requires start { start < n }
+    requires room { n ≤ length places.now }
+    ensures every { IfOk result (λ plain. length plain.items ≡ n) }
+    ensures each { IfOk result (λ plain. (j : ℕ) → j < n
+        → slice_index plain.items (label_from n start j) ≡ slice_index places.now j) }
+{
+    let last = (n - start) as usize;
+    let mut plain = Vec::with_capacity(alloc, n as usize)?;
+    plain.extend_from_slice(&places[last..n as usize])?;
+    plain.extend_from_slice(&places[..last])?;
+    Ok(plain)
 }
