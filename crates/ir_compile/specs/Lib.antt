@@ -5,3 +5,4 @@ pub mod Rounds
 pub mod Plain
 -- what bodies use
 pub mod Runs
+pub mod ShortRuns

@@ -13,9 +13,10 @@ mod choices;
 mod error;
 mod round;
 mod runs;
+mod sixteen;
 mod words;
 
-pub use choices::{ports_of_longest, ports_of_runs};
+pub use choices::row_of_longest;
 pub use error::CompileError;
 use ir_lookup::{Row, WORD_BASE};
 pub use runs::keep_longer;

@@ -1,10 +1,11 @@
 //! The round by the longest runs: how many there are from a label on, where they are fewest, and the ports that they give.
 
-ghost use Rattle.std.specs.Prelude.{◌≡◌, ◌≢◌, ◌<◌, ◌≤◌, ◌+◌, ℕ, None, Some, length, IfOk, slice_index};
+ghost use Rattle.std.specs.Prelude.{◌≡◌, ◌≢◌, ◌<◌, ◌≤◌, ◌+◌, ℕ, List, Option, Some, length, IfOk, slice_index};
 ghost use Rattle.ir_model.specs.{Compiled.port_to, Choices.label_from};
 ghost use Rattle.ir_model.proofs.Steps.{AreSteps, Steps, HaveStepPorts, IsFirstNear, IsPlaceAfter};
-ghost use Rattle.ir_compile.specs.Rounds.{IsFirstTo, Reaches, RunOn};
+ghost use Rattle.ir_compile.specs.{Plain.StandFor, Rounds.{IsFirstTo, Reaches, RunOn}};
 
+use crate::sixteen::{LANES, put_run};
 use std::alloc::{AllocError, Global};
 
 /// The label so many places after a label, going round.
@@ -49,19 +50,6 @@ fn round_from(n: u16, own: u16, start: u16, counts: &[u16]) -> (u16, u16)
         steps += 1;
     }
     (steps, (place - n as u32) as u16)
-}
-
-/// How many places after the own label the first of the rounds with the fewest runs begins. A round that begins behind
-/// the first run has no fewer, so that only the labels up to its end are tried.
-pub fn first_near(n: u16, own: u16, counts: &[u16]) -> u16
-    requires two { 1 < n }
-    requires own { own < n }
-    requires steps { AreSteps n own counts.now }
-    ensures { IsFirstNear n own counts.now result }
-{
-    let first = label_at(n, own, 1);
-    let (steps, _past) = round_from(n, own, first, counts);
-    first_to(n, own, counts, steps, last_near(n, counts[first as usize]))
 }
 
 /// The same, where a run that begins within another one ends no sooner. A round that begins behind the place where the
@@ -115,71 +103,61 @@ fn last_near(n: u16, count: u16) -> u16
     if count < n - 2 { count + 2 } else { n }
 }
 
-/// The ports by label that the runs give in the round from a label on: none to the own label.
-pub fn round_ports(
+/// The ports by label that the runs give in the round from a label on, as plain numbers; what stands at the own label
+/// says nothing.
+pub fn plain_round(
     alloc: Global,
     n: u16,
     own: u16,
     start: u16,
     counts: &[u16],
     ports: &[u16],
-) -> Result<Vec<Option<u16>>, AllocError>
+) -> Result<Vec<u16>, AllocError>
     requires steps { AreSteps n own counts.now }
     requires ports { length ports.now ≡ n }
-    requires own { own < n }
     requires start { start < n }
     requires off { start ≢ own }
-    ensures every { IfOk result (λ held. length held.items ≡ n) }
-    ensures none { IfOk result (λ held. port_to held.items own ≡ None) }
-    ensures ports { IfOk result (λ held. (k : ℕ) × Steps n counts.now start 0 k
-        × HaveStepPorts n own counts.now ports.now start 0 k held.items) }
+    ensures every { IfOk result (λ plain. length plain.items ≡ n) }
+    ensures ports { IfOk result (λ plain. (held : List (Option ℕ)) → StandFor n own plain.items held
+        → (k : ℕ) × Steps n counts.now start 0 k × HaveStepPorts n own counts.now ports.now start 0 k held) }
 {
-    let mut held = vec![in alloc; None; n as usize]?;
+    let mut places = vec![in alloc; 0u16; n as usize + LANES]?;
+    put_round(places.as_mut_slice(), n, own, start, counts, ports);
+    turned(alloc, n, start, places.as_slice())
+}
+
+// Puts the ports that the runs give in the round from a label on to its places.
+fn put_round(places: &mut [u16], n: u16, own: u16, start: u16, counts: &[u16], ports: &[u16])
+    requires room { n + 16 ≤ length places.old }
+    requires steps { AreSteps n own counts.now }
+    requires ports { length ports.now ≡ n }
+    requires start { start < n }
+    requires off { start ≢ own }
+    ensures length { length places.new ≡ length places.old }
+    ensures ports { (held : List (Option ℕ))
+        → ((j : ℕ) → j < n → label_from n start j ≢ own → port_to held (label_from n start j) ≡ Some (slice_index places.new j))
+        → (k : ℕ) × Steps n counts.now start 0 k × HaveStepPorts n own counts.now ports.now start 0 k held }
+{
     let mut place = 0;
     while place < n {
         let after = place_after(n, start, place, counts);
         let port = ports[label_at(n, start, place) as usize];
-        set_ports(&mut held, n, own, start, place, after, port);
+        put_run(places, place as usize, after as usize, port);
         place = after;
     }
-    Ok(held)
 }
 
-// Gives a port to the labels of some places but the own one.
-fn set_ports(
-    held: &mut Vec<Option<u16>>,
-    n: u16,
-    own: u16,
-    start: u16,
-    from: u16,
-    to: u16,
-    port: u16,
-)
-    requires every { length held.old.items ≡ n }
-    requires own { own < n }
+// What stands at the places of the round from a label on, by label.
+fn turned(alloc: Global, n: u16, start: u16, places: &[u16]) -> Result<Vec<u16>, AllocError>
     requires start { start < n }
-    requires to { to ≤ n }
-    ensures every { length held.new.items ≡ n }
-    ensures own { port_to held.new.items own ≡ port_to held.old.items own }
-    ensures set { (k : ℕ) → from ≤ k → k < to → label_from n start k ≢ own
-        → port_to held.new.items (label_from n start k) ≡ Some port }
-    ensures kept { (k : ℕ) → k < from
-        → port_to held.new.items (label_from n start k) ≡ port_to held.old.items (label_from n start k) }
+    requires room { n ≤ length places.now }
+    ensures every { IfOk result (λ plain. length plain.items ≡ n) }
+    ensures each { IfOk result (λ plain. (j : ℕ) → j < n
+        → slice_index plain.items (label_from n start j) ≡ slice_index places.now j) }
 {
-    for place in from..to {
-        set_port(held, own, label_at(n, start, place), port);
-    }
-}
-
-// Gives a port to a label, but none to the own one.
-fn set_port(held: &mut Vec<Option<u16>>, own: u16, d: u16, port: u16)
-    requires { d < length held.old.items }
-    ensures every { length held.new.items ≡ length held.old.items }
-    ensures own { port_to held.new.items own ≡ port_to held.old.items own }
-    ensures set { d ≢ own → port_to held.new.items d ≡ Some port }
-    ensures kept { (e : ℕ) → e ≢ d → port_to held.new.items e ≡ port_to held.old.items e }
-{
-    if d != own {
-        held[d as usize] = Some(port);
-    }
+    let last = (n - start) as usize;
+    let mut plain = Vec::with_capacity(alloc, n as usize)?;
+    plain.extend_from_slice(&places[last..n as usize])?;
+    plain.extend_from_slice(&places[..last])?;
+    Ok(plain)
 }

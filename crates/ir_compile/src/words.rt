@@ -6,6 +6,7 @@ ghost use Rattle.ir_model.proofs.Steps.{AreLongest};
 ghost use Rattle.ir_compile.specs.PortBits.{AreBacks, AreCommon, AreRounds, AreWordRuns, HaveCommon};
 ghost use Rattle.ir_compile.specs.PortBits.{MayTakeBit};
 
+use crate::sixteen::{LANES, fill_sixteen};
 use std::alloc::{AllocError, Global};
 
 /// The most ports of a node whose ports are the bits of words.
@@ -74,8 +75,68 @@ fn fill(n: usize, twice: &[u32], backs: &mut [u32], counts: &mut [u16], ports: &
 {
     let mut from = 0;
     while from < n {
-        from = fill_from(n, twice, backs, from, counts, ports);
+        from = fill_some(n, twice, backs, from, counts, ports);
     }
+}
+
+// The longest runs from sixteen labels, or from some of the next ones, and where the next one begins.
+fn fill_some(
+    n: usize,
+    twice: &[u32],
+    backs: &mut [u32],
+    from: usize,
+    counts: &mut [u16],
+    ports: &mut [u16],
+) -> usize
+    requires few { n ≤ 65535 }
+    requires twice { length twice.now ≡ n * 2 }
+    requires some { (i : ℕ) → i < n * 2 → 0 < slice_index twice.now i }
+    requires inside { from < n }
+    requires backs { length backs.old ≡ n * 2 }
+    requires counts { length counts.old ≡ n }
+    requires ports { length ports.old ≡ n }
+    requires runs { AreWordRuns n twice.now from counts.old ports.old }
+    ensures further { from < result }
+    ensures backs { length backs.new ≡ n * 2 }
+    ensures counts { length counts.new ≡ n }
+    ensures ports { length ports.new ≡ n }
+    ensures runs { AreWordRuns n twice.now result counts.new ports.new }
+{
+    if LANES <= n - from && fill_sixteen(n, twice, from, counts, ports) {
+        return from + LANES;
+    }
+    fill_to(n, twice, backs, from, counts, ports)
+}
+
+// The longest runs from sixteen labels at least, or from all that are left, and where the next one begins.
+fn fill_to(
+    n: usize,
+    twice: &[u32],
+    backs: &mut [u32],
+    from: usize,
+    counts: &mut [u16],
+    ports: &mut [u16],
+) -> usize
+    requires few { n ≤ 65535 }
+    requires twice { length twice.now ≡ n * 2 }
+    requires some { (i : ℕ) → i < n * 2 → 0 < slice_index twice.now i }
+    requires inside { from < n }
+    requires backs { length backs.old ≡ n * 2 }
+    requires counts { length counts.old ≡ n }
+    requires ports { length ports.old ≡ n }
+    requires runs { AreWordRuns n twice.now from counts.old ports.old }
+    ensures further { from < result }
+    ensures backs { length backs.new ≡ n * 2 }
+    ensures counts { length counts.new ≡ n }
+    ensures ports { length ports.new ≡ n }
+    ensures runs { AreWordRuns n twice.now result counts.new ports.new }
+{
+    let to = n.min(from + LANES);
+    let mut at = from;
+    while at < to {
+        at = fill_from(n, twice, backs, at, counts, ports);
+    }
+    at
 }
 
 // The longest run from a label, or those from all labels of a long run, and where the next one begins.

@@ -39,22 +39,24 @@ fn are_met(topology: &Topology, unit: u32, starts: &[u32], lanes: &[u32]) -> boo
     true
 }
 
-/// Lanes in which the equation holds, from those that the search starts with; none where the sweeps do not find them in
-/// time. They are found the sooner the nearer a node is to those that are searched from. It is refused for memory alone.
+/// Lanes in which the equation holds by these starts, from others that the sweeps begin with; none where the sweeps do not
+/// find them in time. They are found the sooner the nearer a node is to those that are searched from. It is refused for
+/// memory alone.
 pub fn settled(
     alloc: Global,
     topology: &Topology,
     unit: u32,
     starts: &[u32],
+    mut lanes: Vec<u32>,
     node: usize,
 ) -> Result<Option<Vec<u32>>, AllocError>
     requires node { node < node_count topology.now }
     requires unit { unit ≤ 16384 }
     requires starts { AreNear topology.now starts.now }
+    requires lanes { AreNear topology.now lanes.items }
     ensures met { IfOk result (λ found. IfSome found (λ lanes. AreMet topology.now unit starts.now lanes.items)) }
     ensures near { IfOk result (λ found. IfSome found (λ lanes. AreNear topology.now lanes.items)) }
 {
-    let mut lanes = Vec::from_slice(alloc, starts)?;
     settle(alloc, topology, unit, lanes.as_mut_slice(), node)?;
     if !are_met(topology, unit, starts, lanes.as_slice()) {
         return Ok(None);

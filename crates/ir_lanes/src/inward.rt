@@ -40,7 +40,9 @@ impl InwardLanes {
         let _nodes = topology.nodes();
         let starts = end_starts(alloc, topology, ends)?;
         let middle = ends[LANES / 2] as usize;
-        let Some(weights) = settled(alloc, topology, 1, starts.as_slice(), middle)? else {
+        let mut lanes = Vec::from_slice(alloc, starts.as_slice())?;
+        near_ends(topology, lanes.as_mut_slice(), ends);
+        let Some(weights) = settled(alloc, topology, 1, starts.as_slice(), lanes, middle)? else {
             return Ok(None);
         };
         Ok(Some(InwardLanes {
@@ -120,5 +122,31 @@ fn put_ends(topology: &Topology, starts: &mut [u32], ends: &[u16])
     let _nodes = topology.nodes();
     for lane in 0..LANES {
         starts[ends[lane] as usize * LANES + lane] = 0;
+    }
+}
+
+// Each neighbour of the node of a lane gets the weight of the port to it, which spares the sweeps one step.
+fn near_ends(topology: &Topology, lanes: &mut [u32], ends: &[u16])
+    requires sixteen { length ends.now ≡ 16 }
+    requires nodes { (k : ℕ) → k < 16 → slice_index ends.now k < node_count topology.now }
+    requires near { AreNear topology.now lanes.old }
+    ensures { AreNear topology.now lanes.new }
+{
+    let _nodes = topology.nodes();
+    for lane in 0..LANES {
+        near_end(topology, lanes, lane, ends[lane]);
+    }
+}
+
+// In a lane each neighbour of a node gets the weight of the port to it.
+fn near_end(topology: &Topology, lanes: &mut [u32], lane: usize, end: u16)
+    requires node { end < node_count topology.now }
+    requires lane { lane < 16 }
+    requires near { AreNear topology.now lanes.old }
+    ensures { AreNear topology.now lanes.new }
+{
+    let _nodes = topology.nodes();
+    for hop in topology.ports(end as usize) {
+        lanes[hop.node as usize * LANES + lane] = hop.weight;
     }
 }

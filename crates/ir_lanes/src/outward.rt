@@ -46,7 +46,8 @@ impl OutwardLanes {
         let unit = unit_of(bits);
         let starts = source_starts(alloc, topology, unit, sources)?;
         let middle = sources[LANES / 2] as usize;
-        let Some(keys) = settled(alloc, topology, unit, starts.as_slice(), middle)? else {
+        let lanes = Vec::from_slice(alloc, starts.as_slice())?;
+        let Some(keys) = settled(alloc, topology, unit, starts.as_slice(), lanes, middle)? else {
             return Ok(None);
         };
         Ok(Some(OutwardLanes {

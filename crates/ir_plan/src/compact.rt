@@ -10,7 +10,7 @@ ghost use Rattle.ir_plan.specs.{NodeRows.{IsNodeRow, ArePortsOf}, CompactRows.{A
 
 use crate::rows::row_of;
 use crate::ties::Ties;
-use ir_compile::{WORD_PORTS, keep_longer, ports_of_longest, runs_by_words};
+use ir_compile::{WORD_PORTS, keep_longer, row_of_longest, runs_by_words};
 use ir_lookup::Row;
 use ir_numbering::Numbering;
 use ir_tables::{Outward, Topology};
@@ -32,37 +32,12 @@ pub fn compact_row(
         (slice_index numbering.now.labels u) row) }
 {
     let nodes = topology.nodes() as u16;
-    let ports = chosen_ports(alloc, topology, numbering, ties, u)?;
-    row_of(alloc, nodes, numbering.label_of(u), ports.as_slice())
-}
-
-// The port of a node to each label, of those that lead nearer, such that the fewest intervals tell the ports.
-fn chosen_ports(
-    alloc: Global,
-    topology: &Topology,
-    numbering: &Numbering,
-    ties: &Option<Ties>,
-    u: u16,
-) -> Result<Vec<Option<u16>>, AllocError>
-    requires labels { AreLabels (node_count topology.now) numbering.now.order numbering.now.labels }
-    requires ties { IfSome ties.now (AreTies topology.now numbering.now.order) }
-    requires connected { IsConnected topology.now }
-    requires node { u < node_count topology.now }
-    ensures { IfOk result (λ ports. ArePortsOf Compact topology.now numbering.now.order numbering.now.parents
-        (slice_index numbering.now.labels u) ports.items) }
-{
-    let nodes = topology.nodes() as u16;
     let (counts, ports) = runs_by(alloc, topology, numbering, ties, u)?;
+    let own = numbering.label_of(u);
     if nodes == 1 {
-        return vec![in alloc; None; 1];
+        return row_of(alloc, nodes, own, &[None]);
     }
-    ports_of_longest(
-        alloc,
-        nodes,
-        numbering.label_of(u),
-        counts.as_slice(),
-        ports.as_slice(),
-    )
+    row_of_longest(alloc, nodes, own, counts.as_slice(), ports.as_slice())
 }
 
 // For each label how many labels the longest run of one port from it on has, and the least such port. Each label but that

@@ -11,10 +11,10 @@ loop-from-init c = record {
 
 pub loop-from-preserved : goal.loop-from-preserved
 loop-from-preserved c = record {
-  backs_len = c.fill_from-from.ensures.backs;
-  counts_len = c.fill_from-from.ensures.counts;
-  ports_len = c.fill_from-from.ensures.ports;
-  runs = c.fill_from-from.ensures.runs;
+  backs_len = c.fill_some-from.ensures.backs;
+  counts_len = c.fill_some-from.ensures.counts;
+  ports_len = c.fill_some-from.ensures.ports;
+  runs = c.fill_some-from.ensures.runs;
 }
 
 pub returns-clause-runs : goal.returns-clause-runs

@@ -30,5 +30,5 @@ returns-clause-ways c =
     let met = rw c.in-Some.is at c.in_ok-weights.ensures.met in
     let near = rw c.in-Some.is at c.in_ok-weights.ensures.near in
     solved_here c.args.topology.now c.nodes-nodes.ensures.topology c.args.ends.now c.in_ok-from_slice.field-0.items c.in-Some.weights.items
-    c.in_ok-starts.starts.items c.as_slice.result.now c.in_ok-from_slice.ensures.items c.as_slice.ensures.value
+    c.in_ok-starts.starts.items c.as_slice-2.result.now c.in_ok-from_slice.ensures.items c.as_slice-2.ensures.value
     c.requires.sixteen c.requires.nodes near c.in_ok-starts.ensures.starts met
