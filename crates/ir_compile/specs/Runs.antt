@@ -1,5 +1,5 @@
 -- The runs of labels that a port serves, and which of two is kept.
-use Rattle.std.specs.Prelude.{◌≡◌, ◌≢◌, ◌⊎◌, ℕ, ◌<◌, ◌≤◌, Bool, List, Contains, length, slice_index, slice_index_or}
+use Rattle.std.specs.Prelude.{◌≡◌, ◌≢◌, ◌⊎◌, ℕ, ◌<◌, ◌≤◌, Bool, List, Contains, slice_index}
 use Rattle.ir_model.specs.Compiled.{label_after}
 use Rattle.ir_model.specs.Choices.{label_from}
 use Rattle.ir_model.proofs.Best.{Marks, IsRowRun, IsBetter}

@@ -34,7 +34,7 @@ impl Plan {
     /// its nodes, else as Disconnected where some node has no walk to some node; NoMemory may come
     /// before Disconnected is known. A refusal hands the topology back. Takes O(n (n + m) log n),
     /// for n nodes and m links; of kind Tree O(n + m); of kind Compact also O(m (n + m)), and for
-    /// each node what `ir_compile::ports_of_runs` takes. For users of the library.
+    /// each node what `ir_compile::row_of_longest` takes. For users of the library.
     pub fn build(
         alloc: Global,
         topology: Topology,
