@@ -226,7 +226,7 @@ module _ (net : Topology) (plans : List Plan) (row : TraceRow) (over : AreOver (
   pub last_is : slice_get row.parts (length row.parts - 1) ≡ Some (last_part row.parts)
   last_is = slice_get-get_or row.parts (length row.parts - 1) no_part (let some = is.some in omega arith)
 
-  follows : are_known (length plans) row.parts ≡ true → Tells (are_joined plans row.dest row.source 0 row.parts && goes_on plans row.dest row.fate row.parts) (FollowsWalks plans row)
+  pub follows : are_known (length plans) row.parts ≡ true → Tells (are_joined plans row.dest row.source 0 row.parts && goes_on plans row.dest row.fate row.parts) (FollowsWalks plans row)
   follows known =
       let each = over_plans (node_count net) plans row.dest row.parts over known is.parts is.dest in
       let joined = joined_tells (node_count net) plans over row.dest row.source 0 row.parts each in
@@ -263,13 +263,13 @@ module _ (net : Topology) (plans : List Plan) (row : TraceRow) (over : AreOver (
 
   -- ---- what is said of the row is what is computed
 
-  known_is : Tells (are_known (length plans) row.parts) (KnowsEpochs plans row.parts)
+  pub known_is : Tells (are_known (length plans) row.parts) (KnowsEpochs plans row.parts)
   known_is = record { yes = λ e. known_tells (length plans) row.parts e; back = λ p. known_back (length plans) row.parts p }
 
   weighs_is : Tells (segments_weight net row.parts == row.weight) (Weighs net row)
   weighs_is = record { yes = λ e. sym (eqb-true (segments_weight net row.parts) row.weight e); back = λ w. eq-eqb (segments_weight net row.parts) row.weight (sym w) }
 
-  computed : (a b c e : Bool) → are_known (length plans) row.parts ≡ a → (are_joined plans row.dest row.source 0 row.parts && goes_on plans row.dest row.fate row.parts) ≡ b → has_arrived row.dest row.fate row.parts ≡ c → (segments_weight net row.parts == row.weight) ≡ e
+  pub computed : (a b c e : Bool) → are_known (length plans) row.parts ≡ a → (are_joined plans row.dest row.source 0 row.parts && goes_on plans row.dest row.fate row.parts) ≡ b → has_arrived row.dest row.fate row.parts ≡ c → (segments_weight net row.parts == row.weight) ≡ e
       → found_of net plans row ≡ first_of_four a b c e
   computed a b c e ha hb hc he =
       let follow = are_joined plans row.dest row.source 0 row.parts && goes_on plans row.dest row.fate row.parts in

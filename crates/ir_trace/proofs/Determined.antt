@@ -1,5 +1,6 @@
 -- A row leaves the walks of its epochs first at one place at most.
-use Rattle.std.proofs.Common.{◌≡◌, ◌≢◌, ◌<◌, ◌≤◌, ◌⊎◌, ℕ, zero, suc, Bool, true, false, ◌&&◌, List, [], ◌∷◌, length, take, slice_get, Option, Some, None, refl, sym, ap, subst, ◌∙◌, arith, inl, inr}
+use Rattle.std.proofs.Common.{◌≡◌, ◌≢◌, ◌<◌, ◌≤◌, ◌⊎◌, ◌==◌, ℕ, zero, suc, Bool, true, false, ◌&&◌, List, [], ◌∷◌, length, take, slice_get, nat_le, Option, Some, None, refl, sym, ap, subst, ◌∙◌, arith, inl, inr}
+use Rattle.std.specs.List.{list_all}
 use Rattle.std.proofs.lemmas.Bool.{and_parts, cases_eq}
 use Rattle.std.proofs.lemmas.List.{take_all}
 use Rattle.ir_model.specs.Topology.{Topology, node_count}
@@ -8,7 +9,9 @@ use Rattle.ir_core.specs.declared.built.Install.{Install}
 use Rattle.ir_core.specs.Sound.{last_of}
 use Rattle.ir_trace.specs.Row.{Segment, TraceRow}
 use Rattle.ir_trace.specs.Checked.{plan_at, IsRowOver, ArePlansOf, KnowsEpochs, IsFrontOfWalk, AreJoined, FollowsWalks}
-use Rattle.ir_trace.specs.Inspect.{is_node, next_of, leads_through, AreOver}
+use Rattle.ir_trace.specs.declared.finding.FindingKind.TheVariants.{NotAPrefix}
+use Rattle.ir_trace.specs.Inspect.{is_node, next_of, leads_through, are_known, are_joined, goes_on, has_arrived, segments_weight, first_of_four, found_of, AreOver}
+use Rattle.ir_trace.proofs.CheckedRows.{over_plans, short_parts, follows, known_is, computed, is_found_as}
 use Rattle.ir_trace.proofs.Fronts.{node_is, front_back}
 use Rattle.ir_trace.proofs.CheckedTrace.{over_from}
 use Rattle.ir_trace.specs.declared.departing.departures.Departure.{Departure}
@@ -190,3 +193,25 @@ one_departure net installs plans row (Some a) (Some b) are is h g =
     let over = over_from net installs plans are in
     ap (λ (x : Departure). Some x)
     (same_way (node_count net) plans over row is.dest h.0 a b (way_of (node_count net) plans over row is.dest h.0 a h.1) (way_of (node_count net) plans over row is.dest h.0 b g.1))
+
+-- ---- what a check finds of a row that leaves its walks, and of one that follows them
+
+module _ (net : Topology) (plans : List Plan) (row : TraceRow) (over : AreOver (node_count net) plans) (is : IsRowOver (node_count net) row) where
+  pub left_finds : (left : Departure) → IsDeparture plans row (Some left) → found_of net plans row ≡ Some NotAPrefix
+  left_finds left h = elim (is_found_as net plans row over is [] NotAPrefix (h.0, not_followed (node_count net) plans over row is.dest h.0 left (way_of (node_count net) plans over row is.dest h.0 left h.1))) [
+    | inl e ↦ e
+    | inr other ↦ absurd (cc other.0)
+  ]
+
+  module _ (known : are_known (length plans) row.parts ≡ true) (none : IsDeparture plans row None) where
+    followed : (are_joined plans row.dest row.source 0 row.parts && goes_on plans row.dest row.fate row.parts) ≡ true
+    followed = (follows net plans row over is known).back (none ((known_is net plans row over is).yes known))
+
+    pub rest_finds : (arrived weighs : Bool) → has_arrived row.dest row.fate row.parts ≡ arrived → (segments_weight net row.parts == row.weight) ≡ weighs
+        → found_of net plans row ≡ first_of_four true true arrived weighs
+    rest_finds arrived weighs ends weight = computed net plans row over is true true arrived weighs known followed ends weight
+
+    pub rest_short : list_all (λ part. nat_le (length part.hops) 16384) row.parts ≡ true
+    rest_short =
+        short_parts (node_count net) plans over row.dest row.source 0 row.parts (over_plans (node_count net) plans row.dest row.parts over known is.parts is.dest)
+        (and_parts (are_joined plans row.dest row.source 0 row.parts) (goes_on plans row.dest row.fate row.parts) followed).0

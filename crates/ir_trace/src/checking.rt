@@ -1,18 +1,17 @@
 //! Traces checked against what each epoch was installed with.
-ghost use Rattle.std.specs.Prelude.{◌≡◌, ◌≢◌, ◌<◌, ◌≤◌, List, true, IfOk, IfErr, length, nat_lt, nat_le, ◌&&◌, ◌||◌, ◌==◌, not, Some};
+ghost use Rattle.std.specs.Prelude.{◌≡◌, ◌≢◌, ◌<◌, ◌≤◌, true, IfOk, IfErr, length, nat_le, ◌||◌, ◌==◌, not};
 ghost use Rattle.std.specs.List.{list_all};
 ghost use Rattle.ir_model.specs.Topology.{node_count};
 ghost use Rattle.ir_core.specs.Sound.{last_of};
-ghost use Rattle.ir_trace.specs.Checked.{plan_at, is_part_over, IsRowOver, AreRowsOver, AreInstalls, AreFine, Finds};
+ghost use Rattle.ir_trace.specs.Checked.{is_part_over, IsRowOver, AreRowsOver, AreInstalls, AreFine, Finds};
 ghost use Rattle.ir_trace.specs.declared.finding.FindingKind.TheVariants.{NoMemory};
 ghost use Rattle.ir_trace.specs.{Sound.{IsSoundTrace}, Judged.{FindsNothing, IsOnlyFinding}};
-ghost use Rattle.ir_trace.specs.Inspect.{is_node, next_of, leads_through, follows_from, are_known, are_joined, fits_fate, goes_on, is_delivered, has_arrived, segments_weight, found_of, AreOver, IsOverPlan, AreOverPlans, FindsBy};
+ghost use Rattle.ir_trace.specs.Inspect.{is_delivered, segments_weight, found_of, AreOver, FindsBy};
 
 use crate::MAX_SEGMENTS;
+use crate::departing::first_departure;
 use crate::finding::{Finding, FindingKind};
-use crate::judging::{
-    are_known, fits_fate, is_node, last_hop, last_of, last_segment, next_of, plan_at, plans_by,
-};
+use crate::judging::{are_known, last_hop, last_segment, plans_by};
 use crate::reading::Trace;
 use crate::row::{RowFate, Segment, TraceRow};
 use crate::weight::walk_weight;
@@ -22,85 +21,6 @@ use ir_plan::{Alone, Crew, Plan};
 use ir_tables::Topology;
 use std::alloc::Global;
 use std::collections::BTreeSet;
-
-/// Whether a plan leads from a node through these nodes.
-fn leads_through(plan: &Plan, first: u16, rest: &[u16], dest: u16) -> bool
-    requires first { first < node_count plan.now.topology }
-    requires rest { list_all (λ u. nat_lt u (node_count plan.now.topology)) rest.now ≡ true }
-    requires dest { dest < node_count plan.now.topology }
-    ensures { result ≡ leads_through plan.now dest first rest.now }
-{
-    let mut at = first;
-    for node in rest {
-        let Some(next) = next_of(plan, at, dest) else {
-            return false;
-        };
-        if next != *node {
-            return false;
-        }
-        at = next;
-    }
-    true
-}
-
-/// Whether hops begin with a node, and a plan leads through the others.
-fn follows_from(plan: &Plan, from: u16, hops: &[u16], dest: u16) -> bool
-    requires hops { list_all (λ u. nat_lt u (node_count plan.now.topology)) hops.now ≡ true }
-    requires dest { dest < node_count plan.now.topology }
-    ensures { result ≡ follows_from plan.now dest from hops.now }
-{
-    let [first, rest @ ..] = hops else {
-        return false;
-    };
-    if *first != from {
-        return false;
-    }
-    leads_through(plan, *first, rest, dest)
-}
-
-/// Whether a segment begins at a node, is of an epoch above another, and follows the walk of its own.
-fn joins(plans: &[Plan], segment: &Segment, at: u16, above: u32, dest: u16) -> bool
-    requires { IsOverPlan plans.now dest segment.now }
-    ensures { result ≡ (nat_lt above segment.now.epoch && follows_from
-        (plan_at plans.now segment.now.epoch) dest at segment.now.hops) }
-{
-    if segment.epoch <= above {
-        return false;
-    }
-    follows_from(
-        plan_at(plans, segment.epoch),
-        at,
-        segment.hops.as_slice(),
-        dest,
-    )
-}
-
-/// Whether segments are joined end to end from a node on, over rising epochs, and each follows the walk of its own.
-fn are_joined(plans: &[Plan], segments: &[Segment], source: u16, dest: u16) -> bool
-    requires { AreOverPlans plans.now dest segments.now }
-    ensures { result ≡ are_joined plans.now dest source 0 segments.now }
-{
-    let mut at = source;
-    let mut above = 0;
-    for segment in segments {
-        if !joins(plans, segment, at, above, dest) {
-            return false;
-        }
-        at = last_hop(segment);
-        above = segment.epoch;
-    }
-    true
-}
-
-/// Whether the walk of a segment goes on as a fate says.
-fn goes_on(plans: &[Plan], last: &Segment, fate: RowFate, dest: u16) -> bool
-    requires { IsOverPlan plans.now dest last.now }
-    ensures { result ≡ fits_fate fate (last_of last.now.hops)
-        (next_of (plan_at plans.now last.now.epoch) (last_of last.now.hops) dest) }
-{
-    let at = last_hop(last);
-    fits_fate(fate, at, next_of(plan_at(plans, last.epoch), at, dest))
-}
 
 /// Whether a packet that is delivered is at its destination.
 fn has_arrived(last: &Segment, fate: RowFate, dest: u16) -> bool
@@ -135,12 +55,10 @@ fn found_of(topology: &Topology, plans: &[Plan], row: &TraceRow) -> Option<Findi
     if !are_known(segments, plans.len()) {
         return Some(FindingKind::UnknownEpoch);
     }
-    let last = last_segment(segments);
-    if !are_joined(plans, segments, row.source, row.dest)
-        || !goes_on(plans, last, row.fate, row.dest)
-    {
+    if let Some(_) = first_departure(plans, row) {
         return Some(FindingKind::NotAPrefix);
     }
+    let last = last_segment(segments);
     if !has_arrived(last, row.fate, row.dest) {
         return Some(FindingKind::NotAtDestination);
     }

@@ -22,7 +22,7 @@ pub use laws::departure_is_determined;
 use std::alloc::{AllocError, Global};
 
 /// Where a row leaves the walks of its epochs first, by the plans of the epochs.
-fn first_departure(plans: &[Plan], row: &TraceRow) -> Option<Departure>
+pub(crate) fn first_departure(plans: &[Plan], row: &TraceRow) -> Option<Departure>
     requires { AreOverRow plans.now row.now }
     ensures { IsDeparture plans.now row.now result }
 {

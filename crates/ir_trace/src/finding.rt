@@ -6,40 +6,31 @@ use std::alloc::{AllocError, AllocFailed};
 use thiserror::Error;
 
 /// What is wrong with a line of a trace.
-#[derive(Clone, Copy, Debug, PartialEq, Eq, Error)]
+#[derive(Clone, Copy, Debug, PartialEq, Eq)]
 pub enum FindingKind {
     /// The text begins neither with the line `trace 1` nor with the line `trace 2`.
-    #[error("this is no trace")]
     NotTrace = 1,
     /// The line is not that of a row, or lacks its line feed.
-    #[error("bad row")]
     BadRow = 2,
     /// A name is not that of a node, or two names are not those of a link in their order.
-    #[error("no such node or link")]
     UnknownNode = 3,
     /// No epoch has this number.
-    #[error("no such epoch")]
     UnknownEpoch = 4,
     /// The segments are not joined from the source on over rising epochs, or one is not a beginning of its prescribed walk,
     /// or the last walk does not go on as the fate says.
-    #[error("the hops are no beginning of the prescribed walk")]
     NotAPrefix = 5,
     /// The packet is delivered, and its last segment is not the whole walk.
-    #[error("the packet is not at its destination")]
     NotAtDestination = 6,
     /// The weight is not that of the hops.
-    #[error("the weight is not that of the hops")]
     BadWeight = 7,
     /// An earlier line has the same id.
-    #[error("an earlier line has the same id")]
     Repeated = 8,
-    #[error("out of memory")]
     NoMemory = 9,
 }
 
 /// The first finding in a trace, and its line, counted from 1. Want of memory has line 0.
 #[derive(Clone, Copy, Debug, PartialEq, Eq, Error)]
-#[error("line {line}: {kind}")]
+#[error("line {line}: {kind:?}")]
 pub struct Finding {
     pub line: usize,
     pub kind: FindingKind,

@@ -95,7 +95,7 @@ pub fn are_known(segments: &[Segment], epochs: usize) -> bool
     segments.iter().all(|segment| is_known(segment, epochs))
 }
 
-/// The last of some hops.
+/// The node that a packet of these hops has come to.
 pub fn last_of(hops: &[u16]) -> u16
     requires { 0 < length hops.now }
     ensures { result ≡ last_of hops.now }
@@ -111,7 +111,7 @@ pub fn last_hop(segment: &Segment) -> u16
     last_of(segment.hops.as_slice())
 }
 
-/// The last of some segments.
+/// The segment that a packet is on, or ended in.
 pub fn last_segment(segments: &[Segment]) -> &Segment
     requires { 0 < length segments.now }
     ensures { result.now ≡ last_part segments.now }
@@ -119,7 +119,7 @@ pub fn last_segment(segments: &[Segment]) -> &Segment
     &segments[segments.len() - 1]
 }
 
-/// Whether it is this node.
+/// Whether there is a next node, and it is this one.
 pub fn is_node(next: Option<u16>, node: u16) -> bool
     ensures { result ≡ is_node next node }
 {

@@ -10,12 +10,11 @@ use thiserror::Error;
 
 /// Why a trace was not written.
 #[derive(Clone, Copy, Debug, PartialEq, Eq, Error)]
+#[error("{:?}", self)]
 pub enum TraceError {
     /// The writer gave an error, also as it was flushed, or took none of the bytes left.
-    #[error("the writer failed")]
     Unwritable = 1,
     /// A growth was refused.
-    #[error("out of memory")]
     NoMemory = 2,
 }
 
