@@ -173,6 +173,7 @@ impl World {
         self.views.as_slice()[node as usize]
     }
 
+    /// A node's view becomes a version of the board, which is never one before its view.
     pub(crate) fn read(&mut self, node: u16, version: usize) -> Result<Reply, Refused>
         ensures { IsAnswer self.old self.new (reads self.old.opening (sight_in self.old) node version) result }
     {
@@ -186,6 +187,7 @@ impl World {
         Ok(Reply::Viewed)
     }
 
+    /// From here on the injector stamps packets with an epoch at least as great as this one.
     fn learn(&mut self, epoch: u32) -> Result<Reply, Refused>
         ensures { IsAnswer self.old self.new (learns (sight_in self.old) epoch) result }
     {
@@ -203,6 +205,7 @@ impl World {
         self.boards[self.boards.len() - 1].board()
     }
 
+    /// The first packet of a channel goes into a node's hand, which has to be empty.
     pub(crate) fn take(&mut self, node: u16, way: Way) -> Result<Reply, Refused>
         ensures { IsAnswer self.old self.new (takes self.old.opening (sight_in self.old) node way) result }
     {
@@ -223,6 +226,8 @@ impl World {
         Ok(Reply::Taken(id))
     }
 
+    /// A plan over the links that are up becomes the current epoch. It is made, and all memory is
+    /// taken, before anything changes.
     fn install(&mut self, crew: &impl Crew, kind: Kind, root: u16) -> Result<Reply, Refused>
         ensures { IsInstallAnswer self.old self.new kind root result }
     {
@@ -257,6 +262,7 @@ impl World {
         Ok(Reply::Installed(epoch))
     }
 
+    /// The next version of the board has this floor.
     fn retire(&mut self, floor: u32) -> Result<Reply, Refused>
         ensures { IsAnswerOr (retires (sight_in self.old) floor) self.old self.new result }
     {
@@ -270,6 +276,7 @@ impl World {
         Ok(Reply::Changed)
     }
 
+    /// The next version of the board has a link up or down.
     fn mark(&mut self, link: u16, up: bool) -> Result<Reply, Refused>
         ensures { IsAnswerOr (marks self.old.opening (sight_in self.old) link up) self.old self.new result }
     {
@@ -283,6 +290,7 @@ impl World {
         Ok(Reply::Changed)
     }
 
+    /// A packet waits in its source's inbox. Its record takes all memory here that it will need.
     fn inject(&mut self, source: u16, dest: u16) -> Result<Reply, Refused>
         ensures { IsAnswerOr (injects self.old.opening (sight_in self.old) source dest) self.old self.new result }
     {
@@ -414,6 +422,7 @@ impl World {
         }
     }
 
+    /// The packet in a node's hand is delivered, dropped or sent on, by the node's own view.
     pub(crate) fn act(&mut self, node: u16) -> Result<Reply, Refused>
         ensures { IsAnswer self.old self.new (acts self.old.opening (sight_in self.old) node) result }
     {

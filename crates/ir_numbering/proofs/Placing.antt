@@ -7,7 +7,11 @@ use Rattle.std.proofs.lemmas.Map.Steps.{length-le_from_distinct_below}
 use Rattle.std.proofs.lemmas.Map.Keys.{IsDistinct-from_apart}
 use Rattle.std.proofs.lemmas.List.{length-replicate, get_or-replicate, get_or_past}
 use Rattle.ir_numbering.specs.Numbering.{IsListing}
-use Rattle.ir_numbering.specs.Orders.{StartsWell, HoldsNoNode, HoldsOneTwice}
+
+-- the first i places hold nodes, each once
+pub record StartsWell (n i : ℕ) (order : List ℕ) : Type 0 where
+  pub nodes : (a : ℕ) → a < i → slice_index order a < n
+  pub once : (a b : ℕ) → a < b → b < i → slice_index order a ≢ slice_index order b
 
 -- the first i places are well, and their nodes are marked
 pub record IsPlacing (n i : ℕ) (order : List ℕ) (placed : List Bool) : Type 0 where
@@ -56,15 +60,12 @@ placing_more n i u order placed is u_in free so_far =
           (cases_eq (slice_index order a) u);
     }
 
--- what is wrong at a place
-pub placing_none : (n i u : ℕ) (order : List ℕ) (placed : List Bool) → i < length order → u ≡ slice_index order i → n ≤ u → IsPlacing n i order placed → HoldsNoNode n order
-placing_none n i u order placed i_in is large so_far = (i, i_in, so_far.well, omega (arith, is, large))
-
-pub placing_twice : (n i u : ℕ) (order : List ℕ) (placed : List Bool) → i < length order → u ≡ slice_index order i → u < n → slice_index_or placed u false ≡ true
-    → IsPlacing n i order placed → HoldsOneTwice n order
-placing_twice n i u order placed i_in is u_in taken so_far =
-    let m = so_far.marked u taken in
-    (i, m.0, i_in, so_far.well, omega (arith, is, u_in), m.1, m.2 ∙ is)
+-- no list has each node once whose next place holds no node, or one that has its place
+pub placing_wrong : (n i u : ℕ) (order : List ℕ) (placed : List Bool) → i < length order → u ≡ slice_index order i → (n ≤ u) ⊎ (slice_index_or placed u false ≡ true)
+    → IsPlacing n i order placed → IsListing n order → ⊥
+placing_wrong n i u order placed i_in is wrong so_far listing = ⊎_elim
+    (λ (large : n ≤ u). let lt : slice_index order i < n = listing.nodes i 0 i_in in omega (arith, is, large, lt))
+    (λ (taken : slice_index_or placed u false ≡ true). let m = so_far.marked u taken in listing.once m.0 i 0 m.1 i_in (m.2 ∙ is)) wrong
 
 in_range : (n q : ℕ) (order : List ℕ) → ((a : ℕ) → a < length order → slice_index order a < n) → list_any (eqb q) order ≡ true → q < n
 in_range n q [] each any = absurd (cc any)

@@ -4,7 +4,6 @@ pub mod Numbering
 pub mod Views
 pub mod Cells
 pub mod Laws
-pub mod Orders
 -- what bodies use
 pub mod Search
 pub mod Sizes

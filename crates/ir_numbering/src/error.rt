@@ -6,16 +6,14 @@ use thiserror::Error;
 
 /// Why a topology has no numbers.
 #[derive(Clone, Copy, Debug, PartialEq, Eq, Error)]
+#[error("{:?}", self)]
 pub enum NumberError {
     /// The root is no node of the topology.
-    #[error("the root is no node")]
-    NoNode,
+    NoNode = 1,
     /// Some node has no walk to some node.
-    #[error("some node has no walk to some node")]
-    Disconnected,
+    Disconnected = 2,
     /// A growth was refused.
-    #[error("out of memory")]
-    NoMemory,
+    NoMemory = 3,
 }
 
 impl NumberError {
@@ -23,11 +21,7 @@ impl NumberError {
     pub fn code(self) -> u8
         ensures { result ≡ number_code self }
     {
-        match self {
-            NumberError::NoNode => 1,
-            NumberError::Disconnected => 2,
-            NumberError::NoMemory => 3,
-        }
+        self as u8
     }
 }
 

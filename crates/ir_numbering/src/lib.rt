@@ -12,4 +12,4 @@ mod tree;
 pub use error::NumberError;
 pub use laws::{subtrees_are_intervals, tree_rows_start_at_sons};
 pub use numbering::{Numbering, tree_table};
-pub use order::{OrderError, check_order};
+pub use order::is_order;

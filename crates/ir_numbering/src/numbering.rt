@@ -4,13 +4,11 @@ ghost use Rattle.ir_model.specs.{Numbering.{neighbors_of, IsDepthFirst}, Subtree
 ghost use Rattle.ir_model.specs.{Tree.{IsParent, IsTreeTable}, Plan.AreLabels, declared.TheConstants.MAX_NODES};
 ghost use Rattle.ir_numbering.specs.Numbering.{IsListing, IsNumberingOf, Numbering, AreSoundNumbers};
 ghost use Rattle.ir_numbering.specs.{Sizes.AreSizesFrom, Views.numbers_of};
-ghost use Rattle.ir_numbering.specs.{Orders.{HoldsNoNode, HoldsOneTwice, LacksOne}, Cells.AreTreeCells};
 
 use crate::error::NumberError;
-use crate::order::{OrderError, check_order};
 use crate::parents::{labels_of, parent_ports, subtree_sizes};
 use crate::search::{Order, search};
-use crate::tree::{ports_by_label, tree_ports};
+use crate::tree::tree_ports;
 use ir_tables::{Table, Topology};
 use std::alloc::{AllocError, Global};
 use std::marker::Model;
@@ -102,25 +100,6 @@ impl Numbering {
         })
     }
 
-    /// Numbering so many nodes by a list of them in the order of their labels.
-    ///
-    /// The first place of the list that is wrong is told: NoNode where it holds no node, Twice where it holds the node
-    /// of an earlier place. Where no place is wrong, Missing where a node has none. NoMemory may come before these.
-    /// Takes O(n), for n nodes. For users of the library.
-    pub fn of_order(alloc: Global, nodes: usize, order: Vec<u16>) -> Result<Numbering, OrderError>
-        requires few { nodes ≤ MAX_NODES }
-        ensures listing { OnOk result (IsListing nodes order.items) }
-        ensures order { IfOk result (λ numbers. numbers.order ≡ order.items) }
-        ensures labels { IfOk result (λ numbers. AreLabels nodes numbers.order numbers.labels) }
-        ensures no_node { result ≡ Err OrderError.NoNode → HoldsNoNode nodes order.items }
-        ensures twice { result ≡ Err OrderError.Twice → HoldsOneTwice nodes order.items }
-        ensures missing { result ≡ Err OrderError.Missing → LacksOne nodes order.items }
-    {
-        check_order(alloc, nodes, order.as_slice())?;
-        let numbering = Numbering::listed(alloc, order)?;
-        Ok(numbering)
-    }
-
     /// The label of a node: its place in the order.
     pub fn label_of(&self, node: u16) -> u16
         requires { node < length self.now.order }
@@ -169,31 +148,6 @@ impl Numbering {
     {
         let place = self.label_of(node) as usize;
         place > 0 && self.parents[place] == self.label_of(parent) as usize
-    }
-
-    /// The ports of a node to all nodes, by label, along the tree of the numbering; none to itself.
-    ///
-    /// Condition: the numbering is of the topology. It is refused for want of memory alone. Takes O(n + d * d), for n
-    /// nodes and d ports of the node. For users of the library.
-    pub fn tree_ports(
-        &self,
-        alloc: Global,
-        topology: &Topology,
-        node: u16,
-    ) -> Result<Vec<Option<u16>>, AllocError>
-        requires numbering { IsNumberingOf topology.now self.now }
-        requires node { node < node_count topology.now }
-        ensures { IfOk result (λ ports. AreTreeCells topology.now self.now.order self.now.parents
-            (slice_index self.now.labels node) (node_count topology.now) ports.items) }
-    {
-        ports_by_label(
-            alloc,
-            topology,
-            self.order.as_slice(),
-            self.parents.as_slice(),
-            self.parent(node),
-            self.label_of(node) as usize,
-        )
     }
 }
 

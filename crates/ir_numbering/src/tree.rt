@@ -31,8 +31,8 @@ pub fn tree_ports(
     Ok(ports)
 }
 
-/// The ports of the node at a place to all nodes, by label.
-pub fn ports_by_label(
+// The ports of the node at a place to all nodes, by label.
+fn ports_by_label(
     alloc: Global,
     topology: &Topology,
     order: &[u16],

@@ -28,11 +28,6 @@ pub record IsListed (net : Topology) (ports : List (Option ℕ)) (table : Table)
 
 -- ---- ways to a destination
 
--- no port is held at d, and the table prescribes a walk to d from each node
-pub record IsLedTo (net : Topology) (table : ℕ → ℕ → Option ℕ) (d : ℕ) : Type 0 where
-  pub own : table d d ≡ None
-  pub walks : (u : ℕ) → u < node_count net → HasWalk net table u d
-
 -- where the port that the table holds at (x, d) leads
 abbrev pub hop_in : Topology → (ℕ → ℕ → Option ℕ) → ℕ → ℕ → Option Hop
 hop_in net table x d = option_and_then (λ p. port_at net x p) (table x d)

@@ -17,7 +17,6 @@ mod topology;
 
 pub use frontier::weights_to;
 pub use ir_model::{Hop, Link};
-pub use listed::is_port_list;
 pub use outward::Outward;
 pub use relaxation::UNREACHED;
 pub use table::{Table, TableError};

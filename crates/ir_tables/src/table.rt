@@ -14,16 +14,14 @@ use thiserror::Error;
 
 /// Why there is no table.
 #[derive(Clone, Copy, Debug, PartialEq, Eq, Error)]
+#[error("{:?}", self)]
 pub enum TableError {
     /// The topology has no node.
-    #[error("the topology has no node")]
-    Empty,
+    Empty = 1,
     /// Some node has no walk to some node.
-    #[error("some node has no walk to some node")]
-    Disconnected,
+    Disconnected = 2,
     /// A growth was refused.
-    #[error("out of memory")]
-    NoMemory,
+    NoMemory = 3,
 }
 
 impl TableError {
@@ -31,11 +29,7 @@ impl TableError {
     pub fn code(self) -> u8
         ensures { result ≡ table_code self }
     {
-        match self {
-            TableError::Empty => 1,
-            TableError::Disconnected => 2,
-            TableError::NoMemory => 3,
-        }
+        self as u8
     }
 }
 

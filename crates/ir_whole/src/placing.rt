@@ -1,6 +1,6 @@
 //! The injects of which rows can be the packets.
 ghost use Rattle.std.specs.Prelude.{◌≡◌, ◌≤◌, length, take};
-ghost use Rattle.ir_whole.specs.Judged.{fits, fits_any, are_placed, first_of_three};
+ghost use Rattle.ir_whole.specs.Judged.{fits_any, are_placed, first_of_three};
 
 use crate::finding::WholeKind;
 use crate::injecting::Inject;
@@ -13,22 +13,18 @@ pub struct Wanted {
     pub epoch: u32,
 }
 
-/// Whether an inject has the ends, and the epoch is one of those above it.
-fn fits(wanted: Wanted, inject: Inject) -> bool
-    ensures { result ≡ fits wanted inject }
-{
-    wanted.source == inject.source
-        && wanted.dest == inject.dest
-        && wanted.epoch as usize <= inject.epochs
-}
-
-/// Whether an inject is as is wanted; any is where nothing is.
+/// Whether an inject has the ends that are wanted, and the epoch is one of those above it; any is as is wanted where
+/// nothing is.
 fn fits_any(wanted: Option<Wanted>, inject: Inject) -> bool
     ensures { result ≡ fits_any wanted inject }
 {
     match wanted {
         None => true,
-        Some(wanted) => fits(wanted, inject),
+        Some(wanted) => {
+            wanted.source == inject.source
+                && wanted.dest == inject.dest
+                && wanted.epoch as usize <= inject.epochs
+        }
     }
 }
 
@@ -48,23 +44,6 @@ fn are_placed(table: &[Option<Wanted>], injects: &[Inject]) -> bool
     next == table.len()
 }
 
-/// The first of what is found of a row.
-fn first_of_three(
-    is_injected: bool,
-    is_installed: bool,
-    cause: Option<WholeKind>,
-) -> Option<WholeKind>
-    ensures { result ≡ first_of_three is_injected is_installed cause }
-{
-    if !is_injected {
-        return Some(WholeKind::NeverInjected);
-    }
-    if !is_installed {
-        return Some(WholeKind::NotYetInstalled);
-    }
-    cause
-}
-
 /// The first of what is found of a row, where so many numbers of packets are used.
 pub fn found_of(
     ends: &[Option<Wanted>],
@@ -78,7 +57,11 @@ pub fn found_of(
     ensures { result ≡ first_of_three (are_placed (take used ends.now) injects.now)
         (are_placed (take used stamps.now) injects.now) cause }
 {
-    let is_injected = are_placed(&ends[..used], injects);
-    let is_installed = are_placed(&stamps[..used], injects);
-    first_of_three(is_injected, is_installed, cause)
+    if !are_placed(&ends[..used], injects) {
+        return Some(WholeKind::NeverInjected);
+    }
+    if !are_placed(&stamps[..used], injects) {
+        return Some(WholeKind::NotYetInstalled);
+    }
+    cause
 }
