@@ -6,23 +6,16 @@ use thiserror::Error;
 
 /// Why a call on a graph is refused.
 #[derive(Clone, Copy, Debug, PartialEq, Eq, Error)]
+#[error("{:?}", self)]
 pub enum GraphError {
-    #[error("bad name")]
-    BadName,
-    #[error("bad weight")]
-    BadWeight,
-    #[error("no such node")]
-    NoNode,
-    #[error("no such edge")]
-    NoEdge,
-    #[error("too many nodes")]
-    TooManyNodes,
-    #[error("too many edges")]
-    TooManyEdges,
-    #[error("the graph is empty")]
-    EmptyGraph,
-    #[error("out of memory")]
-    NoMemory,
+    BadName = 1,
+    BadWeight = 2,
+    NoNode = 3,
+    NoEdge = 4,
+    TooManyNodes = 5,
+    TooManyEdges = 6,
+    EmptyGraph = 7,
+    NoMemory = 8,
 }
 
 impl GraphError {
@@ -30,15 +23,6 @@ impl GraphError {
     pub fn code(self) -> u8
         ensures { result ≡ graph_code self }
     {
-        match self {
-            GraphError::BadName => 1,
-            GraphError::BadWeight => 2,
-            GraphError::NoNode => 3,
-            GraphError::NoEdge => 4,
-            GraphError::TooManyNodes => 5,
-            GraphError::TooManyEdges => 6,
-            GraphError::EmptyGraph => 7,
-            GraphError::NoMemory => 8,
-        }
+        self as u8
     }
 }
