@@ -25,7 +25,7 @@ HEADLINE = ("play", "ir_core", "the headline")
 FURTHER = [
     ("Plan::row", "ir_plan", "that a row is fewest"),
     ("check_trace", "ir_trace", "that a trace is judged rightly"),
-    ("run_live", "ir_live", "the same of running threads"),
+    ("run_live", "ir_control", "the same of running threads"),
     ("read_words", "ir_cli", "that words mean what was typed"),
     ("run_by", "ir_answer", "that the output is what was asked for"),
     ("run", "ir_shell", "the same with `live`"),

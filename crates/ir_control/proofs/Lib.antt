@@ -19,3 +19,13 @@ pub mod Picked
 pub mod Determined
 pub mod Numbered
 pub mod Unplanned
+pub mod Commanded
+pub mod Promised
+pub mod Kept
+pub mod Back
+pub mod Accepting
+pub mod Lived
+pub mod Agreement
+pub mod Asked
+pub mod Epochs
+pub mod Causes

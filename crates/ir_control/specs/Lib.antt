@@ -15,6 +15,14 @@ pub mod Rowed
 pub mod Told
 pub mod Reported
 pub mod Reports
+pub mod Codes
+pub mod Answers
+pub mod Planned
+pub mod Desks
+pub mod Carried
+pub mod Lives
 -- what bodies use
 pub mod Fresh
 pub mod Whole
+pub mod Agreed
+pub mod Runs

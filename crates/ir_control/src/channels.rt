@@ -1,11 +1,12 @@
-//! The channels of a net.
-ghost use Rattle.std.specs.Prelude.{◌≡◌, ℕ, ◌+◌, ◌^◌, ◌<◌, IfOk, length, slice_index};
-ghost use Rattle.ir_model.specs.Topology.{node_count};
-ghost use Rattle.ir_control.specs.{Places.{offset, way_count, IsFilled, IsFilledTo}, Wired.{IsNetChannel, AreInboxes}};
+//! The channels of a net and their ends, and which port is the other end of which port's link.
+ghost use Rattle.std.specs.Prelude.{◌≡◌, ℕ, ◌+◌, ◌^◌, ◌<◌, ◌≤◌, Some, IfOk, IfSome, length, slice_index};
+ghost use Rattle.ir_model.specs.Topology.{node_count, port_at, port_back};
+ghost use Rattle.ir_control.specs.{Places.{offset, way_count, IsFilled, IsFilledTo, IsPeer}, Wired.{IsNetChannel, AreInboxes}};
+ghost use Rattle.ir_control.specs.Fresh.{AreFreshOuts, AreFreshIns, AreOutsAt, AreInsAt};
 
 use ir_epochs::Stamp;
-use ir_links::Channel;
-use ir_tables::Topology;
+use ir_links::{Channel, Sender, Taker};
+use ir_tables::{Hop, Topology};
 use ir_worker::{Parcel, Place};
 use std::alloc::{AllocError, Global};
 
@@ -100,4 +101,130 @@ pub fn ways_of(
         add_ways(alloc, topology, line, u as u16, &mut ways)?;
     }
     Ok((ways, offsets))
+}
+
+// The port of the neighbour back over the same link.
+fn port_back(topology: &Topology, u: u16, hop: &Hop) -> usize
+    requires node { u < node_count topology.now }
+    requires port { (p : ℕ) × (port_at topology.now u p ≡ Some hop.now) }
+    ensures { port_at topology.now hop.now.node result ≡ Some (port_back u hop.now) }
+{
+    let _nodes = topology.nodes();
+    for (q, other) in topology.ports(hop.node as usize).iter().enumerate() {
+        if other.node == u {
+            return q;
+        }
+    }
+    unreachable!()
+}
+
+// The peers of a node's ports come behind those of the nodes before it.
+fn add_peers(
+    topology: &Topology,
+    u: u16,
+    offsets: &[usize],
+    peers: &mut Vec<usize>,
+) -> Result<(), AllocError>
+    requires node { u < node_count topology.now }
+    requires offsets { (length offsets.now ≡ node_count topology.now)
+        × ((v : ℕ) → v < node_count topology.now → slice_index offsets.now v ≡ offset topology.now v) }
+    requires fits { way_count topology.now < 2 ^ 64 }
+    requires before { IsFilledTo topology.now (IsPeer topology.now) u 0 peers.old.items }
+    ensures { IfOk result (λ _. IsFilledTo topology.now (IsPeer topology.now) (u + 1) 0 peers.new.items) }
+{
+    for hop in topology.ports(u as usize) {
+        let back = port_back(topology, u, hop);
+        peers.push(offsets[hop.node as usize] + back)?;
+    }
+    Ok(())
+}
+
+/// The place of each port's other end, in the order of the ports' places.
+pub fn peers_of(
+    alloc: Global,
+    topology: &Topology,
+    offsets: &[usize],
+) -> Result<Vec<usize>, AllocError>
+    requires offsets { (length offsets.now ≡ node_count topology.now)
+        × ((v : ℕ) → v < node_count topology.now → slice_index offsets.now v ≡ offset topology.now v) }
+    requires fits { way_count topology.now < 2 ^ 64 }
+    ensures { IfOk result (λ peers. IsFilled topology.now (IsPeer topology.now) peers.items) }
+{
+    let mut peers = Vec::new(alloc);
+    for u in 0..topology.nodes() {
+        add_peers(topology, u as u16, offsets, &mut peers)?;
+    }
+    Ok(peers)
+}
+
+// Both ends of each channel, unless some were handed out before.
+pub(crate) fn all_ends(
+    alloc: Global,
+    channels: &Vec<Channel<Parcel>>,
+) -> Result<Option<(Vec<Option<Sender<Parcel>>>, Vec<Option<Taker<Parcel>>>)>, AllocError>
+    ensures { IfOk result (λ given. IfSome given
+        (λ ends. AreFreshOuts channels.now.items ends.0.items × AreFreshIns channels.now.items ends.1.items)) }
+{
+    let mut senders = Vec::with_capacity(alloc, channels.len())?;
+    let mut takers = Vec::with_capacity(alloc, channels.len())?;
+    for channel in channels {
+        let Some((sender, taker)) = channel.ends()? else {
+            return Ok(None);
+        };
+        senders.push(Some(sender))?;
+        takers.push(Some(taker))?;
+    }
+    Ok(Some((senders, takers)))
+}
+
+// The senders of so many channels, unless one is gone.
+pub(crate) fn outs_of(
+    alloc: Global,
+    channels: &Vec<Channel<Parcel>>,
+    first: usize,
+    count: usize,
+    senders: &mut Vec<Option<Sender<Parcel>>>,
+) -> Result<Option<Vec<Sender<Parcel>>>, AllocError>
+    requires fresh { AreFreshOuts channels.now.items senders.old.items }
+    requires within { first + count ≤ length channels.now.items }
+    ensures fresh { AreFreshOuts channels.now.items senders.new.items }
+    ensures outs { IfOk result (λ given. IfSome given (λ outs. AreOutsAt channels.now.items first count outs.items)) }
+{
+    let _all = channels.len();
+    let mut outs = Vec::with_capacity(alloc, count)?;
+    for p in 0..count {
+        let Some(sender) = senders[first + p].take() else {
+            return Ok(None);
+        };
+        outs.push(sender)?;
+    }
+    Ok(Some(outs))
+}
+
+// The takers of the channels of so many peers, unless one is gone.
+pub(crate) fn ins_of(
+    alloc: Global,
+    channels: &Vec<Channel<Parcel>>,
+    peers: &[usize],
+    first: usize,
+    count: usize,
+    takers: &mut Vec<Option<Taker<Parcel>>>,
+) -> Result<Option<Vec<Taker<Parcel>>>, AllocError>
+    requires fresh { AreFreshIns channels.now.items takers.old.items }
+    requires within { first + count ≤ length peers.now }
+    requires peers { (length peers.now ≡ length channels.now.items)
+        × ((k : ℕ) → k < length peers.now → slice_index peers.now k < length peers.now) }
+    ensures fresh { AreFreshIns channels.now.items takers.new.items }
+    ensures ins { IfOk result (λ given. IfSome given
+        (λ ins. AreInsAt channels.now.items peers.now first count ins.items)) }
+{
+    let _all = channels.len();
+    let mut ins = Vec::with_capacity(alloc, count)?;
+    for p in 0..count {
+        let Some(taker) = takers[peers[first + p]].take() else {
+            return Ok(None);
+        };
+        ins.push(taker)?;
+    }
+    Ok(Some(ins))
 }

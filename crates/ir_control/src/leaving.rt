@@ -1,19 +1,168 @@
 //! What the nodes settled and what is left in the channels.
-ghost use Rattle.std.specs.Prelude.{◌≡◌, ◌≤◌, ◌+◌, [], All, IfOk, sum_by, vec_capacity};
+ghost use Rattle.std.specs.Prelude.{◌≡◌, ◌≤◌, ◌<◌, ◌+◌, ◌++◌, ◌∷◌, [], ℕ, All, Some, IfOk, length, map, sum_by, vec_len, vec_capacity};
 ghost use Rattle.ir_model.specs.Topology.{node_count};
-ghost use Rattle.ir_worker.specs.Account.{lines_out};
-ghost use Rattle.ir_control.specs.{Parts.AreNodesOf, Places.way_count};
-ghost use Rattle.ir_control.specs.{Reported.{AreEmptyRows, AreAllThere, IsGathered}, Slots.left_in, Told.IsOutcomeIn};
-ghost use Rattle.ir_control.specs.Whole.{IsParcelOf, IsFew};
+ghost use Rattle.ir_worker.specs.{Seen.Parcel, Account.lines_out};
+ghost use Rattle.ir_control.specs.{Parts.AreNodesOf, Pairs.ArePaired, Places.way_count, Told.IsOutcomeIn};
+ghost use Rattle.ir_control.specs.{Whole.{IsParcelOf, IsFew}, Slots.{times_in_slots, weight_taken, left_in}};
+ghost use Rattle.ir_control.specs.{Reported.{AreEmptyRows, AreAllThere, IsGathered}, Rowed.{AreEndRows, AreSlotsFrom, AreWeighed}};
 
-use crate::ends::{append_slots, take_apart};
-use crate::gathering::gather;
 use crate::net::Net;
 use crate::outcomes::empty_slots;
 use crate::placing::place_all;
-use ir_links::{Remains, Sender, Taker};
-use ir_worker::{Node, Outcome, Parcel};
+use ir_epochs::Stamp;
+use ir_links::{Remains, Sender, Taker, join};
+use ir_worker::{Ends, Node, Outcome, Parcel};
 use std::alloc::{AllocError, Global};
+
+// Brings the ends of each channel together: a taker's other end stands in the slot of its peer. What is left is of the
+// net of the opening, which allows so many restamps.
+fn join_all(
+    opening: &Stamp,
+    restamps: u8,
+    peers: &[usize],
+    mut senders: Vec<Option<Sender<Parcel>>>,
+    mut takers: Vec<Taker<Parcel>>,
+    channels: &mut Vec<Remains<Parcel>>,
+)
+    requires pairs { ArePaired peers.now senders.items takers.items }
+    requires room { vec_len channels.old + length takers.items ≤ vec_capacity channels.old }
+    requires places { All (λ t. t.channel.place.opening ≡ opening.now) takers.items }
+    requires limits { All (λ t. t.channel.place.restamps ≡ restamps) takers.items }
+    requires of_net { All (λ x. IsParcelOf opening.now x) (left_in channels.old.items) }
+    requires few { All (λ x. IsFew restamps x) (left_in channels.old.items) }
+    ensures account { (w : Parcel → ℕ)
+        → times_in_slots w senders.items + sum_by w (left_in channels.old.items) ≡ weight_taken w takers.items
+        + sum_by w (left_in channels.new.items) }
+    ensures room { (vec_capacity channels.new ≡ vec_capacity channels.old)
+        × (vec_len channels.new ≤ vec_len channels.old + length takers.items) }
+    ensures of_net { All (λ x. IsParcelOf opening.now x) (left_in channels.new.items) }
+    ensures few { All (λ x. IsFew restamps x) (left_in channels.new.items) }
+{
+    let _ = opening;
+    let _ = restamps;
+    while let Some(taker) = takers.pop() {
+        let place = peers[takers.len()];
+        if let Some(sender) = senders[place].take() {
+            channels.push_reserved(join(sender, taker));
+        }
+    }
+}
+
+// Brings the ends of the inboxes together, whose senders are the injector's, and then those of the ways. What was sent is
+// what was taken and what is left, whatever each parcel weighs.
+fn gather(
+    net: &Net,
+    injected: Vec<Option<Sender<Parcel>>>,
+    inboxes: Vec<Taker<Parcel>>,
+    senders: Vec<Option<Sender<Parcel>>>,
+    takers: Vec<Taker<Parcel>>,
+    channels: &mut Vec<Remains<Parcel>>,
+)
+    requires entries { ArePaired net.now.entries.items injected.items inboxes.items }
+    requires ways { ArePaired net.now.peers.items senders.items takers.items }
+    requires places_in { All (λ t. t.channel.place.opening ≡ net.now.opening) inboxes.items }
+    requires places { All (λ t. t.channel.place.opening ≡ net.now.opening) takers.items }
+    requires limits_in { All (λ t. t.channel.place.restamps ≡ net.now.restamps) inboxes.items }
+    requires limits { All (λ t. t.channel.place.restamps ≡ net.now.restamps) takers.items }
+    requires of_net { All (λ x. IsParcelOf net.now.opening x) (left_in channels.old.items) }
+    requires few { All (λ x. IsFew net.now.restamps x) (left_in channels.old.items) }
+    requires room { vec_len channels.old + (length inboxes.items + length takers.items) ≤ vec_capacity channels.old }
+    ensures account { (w : Parcel → ℕ)
+        → (times_in_slots w injected.items + times_in_slots w senders.items) + sum_by w (left_in channels.old.items)
+        ≡ (weight_taken w inboxes.items + weight_taken w takers.items) + sum_by w (left_in channels.new.items) }
+    ensures of_net { All (λ x. IsParcelOf net.now.opening x) (left_in channels.new.items) }
+    ensures few { All (λ x. IsFew net.now.restamps x) (left_in channels.new.items) }
+{
+    let (opening, restamps) = (&net.opening, net.restamps);
+    let (entries, peers) = (net.entries.as_slice(), net.peers.as_slice());
+    join_all(opening, restamps, entries, injected, inboxes, channels);
+    join_all(opening, restamps, peers, senders, takers, channels);
+}
+
+// Moves all of a row to the end of another, which has room.
+fn append<T: Drop>(into: &mut Vec<T>, mut from: Vec<T>)
+    requires { vec_len into.old + vec_len from ≤ vec_capacity into.old }
+    ensures items { into.new.items ≡ into.old.items ++ from.items }
+    ensures room { vec_capacity into.old ≤ vec_capacity into.new }
+{
+    if into.append(&mut from).is_err() {
+        unreachable!();
+    }
+}
+
+// Each in a slot of its own, at the end of a row that has room.
+fn append_slots<T: Drop>(into: &mut Vec<Option<T>>, from: Vec<T>)
+    requires { vec_len into.old + vec_len from ≤ vec_capacity into.old }
+    ensures items { into.new.items ≡ into.old.items ++ map (λ x. Some x) from.items }
+    ensures room { vec_capacity into.old ≤ vec_capacity into.new }
+{
+    for item in from {
+        into.push_reserved(Some(item));
+    }
+}
+
+// A node's ends come to the ends of the rows, which have room.
+fn append_ends(
+    node: Node,
+    inboxes: &mut Vec<Taker<Parcel>>,
+    takers: &mut Vec<Taker<Parcel>>,
+    senders: &mut Vec<Option<Sender<Parcel>>>,
+    settled: &mut Vec<Vec<Outcome>>,
+)
+    requires inboxes { vec_len inboxes.old < vec_capacity inboxes.old }
+    requires takers { vec_len takers.old + length node.entrances.ports.items ≤ vec_capacity takers.old }
+    requires senders { vec_len senders.old + length node.outs.items ≤ vec_capacity senders.old }
+    requires settled { vec_len settled.old < vec_capacity settled.old }
+    ensures inboxes { inboxes.new.items ≡ inboxes.old.items ++ node.entrances.inbox ∷ [] }
+    ensures takers { takers.new.items ≡ takers.old.items ++ node.entrances.ports.items }
+    ensures senders { senders.new.items ≡ senders.old.items ++ map (λ s. Some s) node.outs.items }
+    ensures settled { settled.new.items ≡ settled.old.items ++ node.outcomes ∷ [] }
+    ensures room { (vec_capacity inboxes.old ≤ vec_capacity inboxes.new)
+        × (vec_capacity takers.old ≤ vec_capacity takers.new)
+        × (vec_capacity senders.old ≤ vec_capacity senders.new)
+        × (vec_capacity settled.old ≤ vec_capacity settled.new) }
+{
+    let Ends {
+        inbox,
+        ins,
+        outs,
+        outcomes,
+    } = node.into_ends();
+    inboxes.push_reserved(inbox);
+    append(takers, ins);
+    append_slots(senders, outs);
+    settled.push_reserved(outcomes);
+}
+
+// Takes all nodes of a net apart, by number: their ends come into rows, each at the place of its channel.
+fn take_apart(
+    net: &Net,
+    mut slots: Vec<Option<Node>>,
+    inboxes: &mut Vec<Taker<Parcel>>,
+    takers: &mut Vec<Taker<Parcel>>,
+    senders: &mut Vec<Option<Sender<Parcel>>>,
+    settled: &mut Vec<Vec<Outcome>>,
+)
+    requires slots { AreSlotsFrom net.now 0 slots.items }
+    requires start { (inboxes.old.items ≡ []) × (takers.old.items ≡ []) × (senders.old.items ≡ [])
+        × (settled.old.items ≡ []) }
+    requires room { (node_count net.now.topology ≤ vec_capacity inboxes.old)
+        × (way_count net.now.topology ≤ vec_capacity takers.old)
+        × (way_count net.now.topology ≤ vec_capacity senders.old)
+        × (node_count net.now.topology ≤ vec_capacity settled.old) }
+    ensures rows { AreEndRows net.now (node_count net.now.topology)
+        inboxes.new.items takers.new.items senders.new.items }
+    ensures weighed { AreWeighed slots.items [] inboxes.new.items takers.new.items senders.new.items
+        (λ w. sum_by (λ row. sum_by w row.items) settled.new.items) }
+    ensures of_net { All (λ row. All (λ o. IsOutcomeIn net.now.opening o) row.items) settled.new.items }
+{
+    for u in 0..net.inboxes.len() {
+        let Some(node) = slots[u].take() else {
+            unreachable!();
+        };
+        append_ends(node, inboxes, takers, senders, settled);
+    }
+}
 
 /// A slot for each node, and rows for all ends.
 #[derive(Drop)]

@@ -1,25 +1,30 @@
-//! A running net: its channels and parts, the injector, the controller, and the report at the end.
+//! A running net: its channels and parts, the injector, the controller, and the report at the end; and a live run of it, in
+//! which each node turns on a thread of its own while commands are carried out.
 #![tactic(auto)]
 
+mod carrying;
 mod channels;
 mod controller;
-mod ends;
-mod gathering;
 mod injector;
 mod laws;
 mod leaving;
+mod live;
 mod net;
 mod outcomes;
-mod parts;
-mod peers;
 mod placing;
 mod report;
 mod reporting;
-mod settling;
+mod running;
+mod starter;
+mod working;
 
 pub use controller::Controller;
 pub use injector::{Accepted, Injector};
+pub use ir_core::Command;
 pub use laws::report_is_determined;
+pub use live::{Live, LiveError};
 pub use net::{Net, Parts};
 pub use report::{FinishError, Report};
 pub use reporting::finish;
+pub use running::run_live;
+pub use starter::Starter;

@@ -6,11 +6,9 @@ ghost use Rattle.ir_control.specs.{Places.offset, Opened.IsNetRefusal};
 ghost use Rattle.ir_control.specs.Wired.{AreInboxes, AreWiredWays, AreEntries, AreOffsets, IsOpening};
 ghost use Rattle.ir_epochs.specs.Stamps.{IsOf, knows};
 
-use crate::channels::{Line, inboxes_of, ways_of};
+use crate::channels::{Line, all_ends, inboxes_of, ins_of, outs_of, peers_of, ways_of};
 use crate::controller::Controller;
 use crate::injector::Injector;
-use crate::parts::{all_ends, ins_of, outs_of};
-use crate::peers::peers_of;
 use ir_core::{MAX_PACKETS, MAX_RESTAMPS, OpenError, Opening, open_refusal, plan_over_by};
 use ir_epochs::{BoardError, BoardReader, BoardWriter, RegisterError, Registry, Stamp, board};
 use ir_links::{Channel, Sender, Taker};

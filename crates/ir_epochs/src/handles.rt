@@ -1,10 +1,11 @@
 //! The board: one thread changes it, and readers read it with no lock and no wait.
 ghost use Rattle.std.specs.Prelude.{◌≡◌, ◌+◌, ◌<◌, ◌≤◌, [], ◌∷◌, ◌++◌, ◌⊎◌, length, drop, option_map, Some, None, IsTrue, ◌↔◌, IfOk, IsOk, IfSome, MatchOption, MatchResult, if◌then◌else◌};
+ghost use Rattle.std.specs.Option.{ForSome};
 ghost use mathlib.Core.List.{IsPrefix};
 ghost use Rattle.left_right.specs.Sides.{view};
 ghost use Rattle.ir_core.specs.declared.TheConstants.{MAX_LINKS, MAX_CHANGES};
 ghost use Rattle.ir_epochs.specs.{Stamps.knows, Entries.{board_of, installed_by, IsSameOpening, Rises}};
-ghost use Rattle.ir_epochs.specs.Seats.{Below, IsNoted};
+ghost use Rattle.ir_epochs.specs.Seats.{IsNoted};
 
 use crate::chronicle::{Chronicle, Front};
 use crate::entry::{Change, Entry};
@@ -76,26 +77,12 @@ fn publish_in_room<R: Wait>(rt: &R, mut writer: Desk, next: Published) -> (Desk,
     (show(rt, writer, &next), ())
 }
 
-// Takes the value that was published last, unless the writer is gone.
-fn enter(reader: Sitting) -> (Sitting, Option<Published>)
-    ensures { MatchOption result.1 ((view result.0.place).known ≡ (view reader.place).known)
-        (λ p. ((view result.0.place).known ≡ Some p.front) × Below (view reader.place) p) }
-{
-    match reader.enter_as::<See>() {
-        Ok(reading) => {
-            let found = reading.get().again();
-            (reading.leave(), Some(found))
-        }
-        Err(reader) => (reader, None),
-    }
-}
-
-// Takes in a value of the same board: the later of the two stays.
-fn note(newest: &mut Published, other: Published)
-    requires { other.front.book ≡ newest.old.front.book }
-    ensures either { (newest.new ≡ newest.old) ⊎ (newest.new ≡ other) }
+// Takes in a value of the same board: the later of the two stays. It is copied only where it is the later.
+fn note(newest: &mut Published, other: &Published)
+    requires { other.now.front.book ≡ newest.old.front.book }
+    ensures either { (newest.new ≡ newest.old) ⊎ (newest.new ≡ other.now) }
     ensures old { IsPrefix newest.old.front.log newest.new.front.log }
-    ensures other { IsPrefix other.front.log newest.new.front.log }
+    ensures other { IsPrefix other.now.front.log newest.new.front.log }
     ensures rises { Rises (board_of newest.old.front.log) (board_of newest.new.front.log) }
     ensures opening { IsSameOpening newest.old.front.log newest.new.front.log }
     ensures board { newest.new.front.book ≡ newest.old.front.book }
@@ -103,7 +90,27 @@ fn note(newest: &mut Published, other: Published)
     let mut both = newest.front.again();
     both.learn(&other.front);
     if newest.board.version() < other.board.version() {
-        *newest = other;
+        newest.become_like(other);
+    }
+}
+
+// Takes the value that was published last into the newest that is known, unless the writer is gone.
+fn enter(reader: Sitting, newest: &mut Published) -> Sitting
+    requires same_board { option_map (λ s. s.book) (view reader.place).known ≡ Some newest.old.front.book }
+    requires noted { IsNoted (view reader.place) newest.old }
+    ensures same_board { option_map (λ s. s.book) (view result.place).known ≡ Some newest.new.front.book }
+    ensures noted { IsNoted (view result.place) newest.new }
+    ensures later { IsPrefix newest.old.front.log newest.new.front.log }
+    ensures rises { Rises (board_of newest.old.front.log) (board_of newest.new.front.log) }
+    ensures opening { IsSameOpening newest.old.front.log newest.new.front.log }
+    ensures board { newest.new.front.book ≡ newest.old.front.book }
+{
+    match reader.enter_as::<See>() {
+        Ok(reading) => {
+            note(newest, reading.get());
+            reading.leave()
+        }
+        Err(reader) => reader,
     }
 }
 
@@ -132,10 +139,11 @@ pub struct Receipt {
 /// That list begins with all that its seat has seen: who enters the board can't pass over what was found there.
 #[derive(Drop)]
 pub struct BoardReader {
-    reader: Sitting,
+    reader: Option<Sitting>,
     newest: Published,
-    ghost same_board: { option_map (λ s. s.book) (view reader.place).known ≡ Some newest.front.book },
-    ghost noted: { IsNoted (view reader.place) newest },
+    ghost same_board: { ForSome reader
+        (λ r. option_map (λ s. s.book) (view r.place).known ≡ Some newest.front.book) },
+    ghost noted: { ForSome reader (λ r. IsNoted (view r.place) newest) },
 }
 
 impl<R: Wait + Drop> Drop for BoardWriter<R> {
@@ -272,7 +280,7 @@ impl<R: Wait + Drop> BoardWriter<R> {
         let mut reader = self.writer.factory().reader()?;
         reader.learn::<Learn>(self.writer.tell::<Tell>());
         Ok(BoardReader {
-            reader,
+            reader: Some(reader),
             newest: self.writer.published().again(),
         })
     }
@@ -337,7 +345,7 @@ impl BoardReader {
         ensures opening { IsSameOpening (known self.old) (known self.new) }
         ensures board { reader_board self.new ≡ reader_board self.old }
     {
-        note(&mut self.newest, receipt.published.again());
+        note(&mut self.newest, &receipt.published);
     }
 
     /// The board as it is, or the newest that it knows where the writer is gone. It waits for nobody.
@@ -364,10 +372,10 @@ impl BoardReader {
         ensures opening { IsSameOpening (known self.old) (known self.new) }
         ensures same { reader_board self.new ≡ reader_board self.old }
     {
-        let found = replace_with(&mut self.reader, (), |reader, ()| enter(reader));
-        if let Some(found) = found {
-            note(&mut self.newest, found);
-        }
+        let Some(reader) = self.reader.take() else {
+            return;
+        };
+        self.reader = Some(enter(reader, &mut self.newest));
     }
 
     /// The newest board that it has read or learnt.

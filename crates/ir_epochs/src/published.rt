@@ -28,6 +28,13 @@ impl Published {
             front: self.front.again(),
         }
     }
+
+    // From now on it is a copy of the other.
+    pub fn become_like(&mut self, other: &Published)
+        ensures { self.new ≡ other.now }
+    {
+        *self = other.again();
+    }
 }
 
 /// Each operation is the next value, whole.

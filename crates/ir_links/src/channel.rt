@@ -4,7 +4,7 @@
 ghost use Rattle.std.specs.Prelude.{◌≡◌, ◌<◌, ◌+◌, ◌≤◌, List, [], ◌∷◌, ◌++◌, length, All, IfOk, IfErr, IfNone, IfSome, None, true, MatchOption, MatchResult, vec_len, vec_capacity, drop};
 ghost use Rattle.std.specs.Arc.{arc_value};
 ghost use Rattle.crossbeam_queue.specs.Passes.{view as pass_view, IsSamePass, IsPassOf, ruled_capacity};
-ghost use Rattle.ir_links.specs.{Ends.{WasFull, WasEmpty, WasRefused, FoundNone}, Rule.{terms_of, known, knows_base}};
+ghost use Rattle.ir_links.specs.{Ends.{channel_named, WasFull, WasEmpty, WasRefused, FoundNone}, Rule.{terms_of, known, knows_base}};
 ghost use Rattle.ir_links.specs.{Ends.{Channel, Sender, Taker, Remains}, Rule.{knows_sent, knows_taken, knows_both}};
 
 use crate::moments::{Moments, Shared};
@@ -47,11 +47,8 @@ pub struct Channel<T: Bound> {
 impl<T: Bound> Model for Channel<T> {
     ghost Value = { Channel T.Place };
 
-    ghost view = { λ c. record {
-      name = c.base.table_id;
-      place = (arc_value c.shared).place;
-      capacity = ruled_capacity (arc_value c.shared).queue;
-    } };
+    ghost view = { λ c. channel_named c.base.table_id (arc_value c.shared).place
+        (ruled_capacity (arc_value c.shared).queue) };
 
     ghost invariant = { λ c. (c.base.table_id ≡ (arc_value c.shared).queue.table.shared.table_id)
         × (c.base.view.client ≡ knows_base (arc_value c.shared).place (ruled_capacity (arc_value c.shared).queue)) };
@@ -74,11 +71,7 @@ impl<T: Bound> Model for Sender<T> {
     ghost Value = { Sender T.Place T };
 
     ghost view = { λ s. record {
-      channel = record {
-        name = s.pass.table_id;
-        place = (arc_value s.shared).place;
-        capacity = ruled_capacity (arc_value s.shared).queue;
-      };
+      channel = channel_named s.pass.table_id (arc_value s.shared).place (ruled_capacity (arc_value s.shared).queue);
       sent = (pass_view s.pass).sent;
     } };
 
@@ -98,11 +91,7 @@ impl<T: Bound> Model for Taker<T> {
     ghost Value = { Taker T.Place T };
 
     ghost view = { λ s. record {
-      channel = record {
-        name = s.pass.table_id;
-        place = (arc_value s.shared).place;
-        capacity = ruled_capacity (arc_value s.shared).queue;
-      };
+      channel = channel_named s.pass.table_id (arc_value s.shared).place (ruled_capacity (arc_value s.shared).queue);
       taken = (pass_view s.pass).taken;
     } };
 
@@ -123,11 +112,7 @@ impl<T: Bound> Model for Remains<T> {
     ghost Value = { Remains T.Place T };
 
     ghost view = { λ r. record {
-      channel = record {
-        name = r.pass.table_id;
-        place = (arc_value r.shared).place;
-        capacity = ruled_capacity (arc_value r.shared).queue;
-      };
+      channel = channel_named r.pass.table_id (arc_value r.shared).place (ruled_capacity (arc_value r.shared).queue);
       left = drop (length (pass_view r.pass).taken) (pass_view r.pass).sent;
     } };
 

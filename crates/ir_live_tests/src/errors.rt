@@ -1,7 +1,7 @@
 //! The errors of registries, boards and live runs, in words.
 
+use ir_control::LiveError;
 use ir_epochs::{BoardError, RegisterError};
-use ir_live::LiveError;
 use std::alloc::Global;
 use std::fmt::Display;
 use std::test::Fail;

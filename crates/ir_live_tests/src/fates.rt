@@ -3,9 +3,8 @@
 
 use crate::by_hand::{Became, network, opened, path, tells_all};
 use crate::live;
-use ir_control::Net;
+use ir_control::{Command, Live, Net};
 use ir_core::{Fate, Kind, Record, Restamp};
-use ir_live::{Command, Live};
 use ir_worker::Gate;
 use std::alloc::Global;
 use std::sync::Wait;

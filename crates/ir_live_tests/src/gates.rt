@@ -2,10 +2,9 @@
 
 use crate::by_hand::{ByHand, opened, path};
 use crate::live;
-use ir_control::Net;
+use ir_control::{Command, Live, Net};
 use ir_core::{Fate, Kind, Record};
 use ir_graph::Graph;
-use ir_live::{Command, Live};
 use ir_tables::Topology;
 use ir_worker::{Bells, Gate, Node, serve};
 use std::alloc::Global;
@@ -168,7 +167,10 @@ fn turns_out<R: Wait>(rt: &R, alloc: Global, node: Node) -> bool {
         asked: AtomicBool::new(false),
     };
     let stop = AtomicBool::new(false);
-    let (_node, why) = serve(rt, node, &gate, &stop, &Bells::none(alloc));
+    let Ok(bells) = Bells::new(alloc, 0) else {
+        return false;
+    };
+    let (_node, why) = serve(rt, node, &gate, &stop, &bells);
     why.is_none() && gate.asked.load(Ordering::SeqCst)
 }
 

@@ -1,8 +1,7 @@
 //! Live runs: over the path a, b, c, and of nodes that wait for one another.
 use crate::by_hand::{Became, network, opened, path, tells_all};
-use ir_control::{Injector, Net};
+use ir_control::{Command, Injector, Live, LiveError, Net, Starter, run_live};
 use ir_core::{Fate, Kind, Opening, Refused};
-use ir_live::{Command, Live, LiveError, Starter, run_live};
 use ir_worker::{Gate, Node};
 use std::alloc::Global;
 use std::sync::Wait;

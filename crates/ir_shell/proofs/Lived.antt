@@ -27,11 +27,11 @@ use Rattle.ir_control.specs.Heads.{head_at}
 use Rattle.ir_control.specs.Reports.{IsSoundOutcome}
 use Rattle.ir_control.specs.Told.{IsOutcomeIn}
 use Rattle.ir_links.specs.Ends.{Word}
-use Rattle.ir_live.specs.Desks.{Desk}
-use Rattle.ir_live.specs.declared.live.Live.{Live}
-use Rattle.ir_live.specs.Answers.{CommandAnswer, accepted_by, accepted_from, epoch_after}
-use Rattle.ir_live.specs.Carried.{IsCarriedOut, AreCarriedOut}
-use Rattle.ir_live.specs.Lives.{IsLive}
+use Rattle.ir_control.specs.Desks.{Desk}
+use Rattle.ir_control.specs.declared.live.Live.{Live}
+use Rattle.ir_control.specs.Answers.{CommandAnswer, accepted_by, accepted_from, epoch_after}
+use Rattle.ir_control.specs.Carried.{IsCarriedOut, AreCarriedOut}
+use Rattle.ir_control.specs.Lives.{IsLive}
 use Rattle.ir_worker.specs.declared.node.Node.{Node}
 use Rattle.ir_trace.specs.Written.{HasSegments, HaveSegments}
 use Rattle.ir_shell.proofs.Reports.{has_segments}

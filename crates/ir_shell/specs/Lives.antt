@@ -17,8 +17,8 @@ use Rattle.ir_control.specs.Opened.{IsNetRefusal}
 use Rattle.ir_links.specs.Ends.{Word}
 use Rattle.ir_worker.specs.declared.node.Node.{Node}
 use Rattle.ir_worker.specs.Seen.{Parcel}
-use Rattle.ir_live.specs.declared.live.Live.{Live}
-use Rattle.ir_live.specs.Lives.{IsLive}
+use Rattle.ir_control.specs.declared.live.Live.{Live}
+use Rattle.ir_control.specs.Lives.{IsLive}
 use Rattle.ir_script.specs.Command.{line_command}
 use Rattle.ir_script.specs.Script.{Listing}
 use Rattle.ir_cli.specs.declared.words.Words.{Words}

@@ -3,17 +3,16 @@ ghost use Rattle.std.specs.{Prelude.{◌≡◌, ◌≢◌, false, IfOk, IfErr, s
 ghost use Rattle.ir_model.specs.{Graph.names, OfGraph.topology_of_graph, Text.lines};
 ghost use Rattle.ir_trace.specs.Written.{HaveSegments};
 ghost use Rattle.ir_cli.specs.{Lines.steps_text, Openings.{AnswersTopology}};
-ghost use Rattle.ir_live.specs.Lives.{IsLive, IsRefusal};
+ghost use Rattle.ir_control.specs.Lives.{IsLive, IsRefusal};
 ghost use Rattle.ir_shell.specs.Lives.{is_for_memory, refusals_text, IsOpenedNet, AnswersLive, AnswersLiveScript, ends_somewhere};
 ghost use Rattle.ir_answer.specs.{Plays.{listing_in, run_text}, Stops.{StopsAs, Gives}};
 
 use ir_answer::{Asked, Stop, opening_stop, read_asked, run_text};
 use ir_cli::{Reply, Words, opening_of};
-use ir_control::Net;
+use ir_control::{Live, LiveError, Net, Starter, run_live};
 use ir_core::{OpenError, Refused};
 use ir_graph::Graph;
 use ir_links::Moments;
-use ir_live::{Live, LiveError, Starter, run_live};
 use ir_script::Command;
 use ir_tables::Topology;
 use ir_worker::{Gate, Parcel};

@@ -8,9 +8,9 @@ ghost use Rattle.ir_cli.specs.{Notices.{told_text, ShowsFound}, Words.{FitsItsKi
 use crate::live::run_commands;
 use ir_answer::{asked_shape, follow_by, sources_by, two_texts, write_given};
 use ir_cli::{Outcome, Sub, Words, read_inputs, status_of, tell_unread};
+use ir_control::Starter;
 use ir_exports::LineCrew;
 use ir_links::Moments;
-use ir_live::Starter;
 use ir_streams::{Reader, Writer};
 use ir_worker::Parcel;
 use std::alloc::Global;

@@ -79,28 +79,19 @@ pub struct Bells {
 }
 
 impl Bells {
-    /// Bells of so many nodes.
+    /// Bells of so many nodes. A node that has none does not sleep.
     pub fn new(alloc: Global, nodes: usize) -> Result<Bells, AllocError> {
         let mut bells = Vec::with_capacity(alloc, nodes)?;
         for _node in 0..nodes {
             bells.push(Bell::new())?;
         }
-        Ok(Bells::over(bells))
-    }
-
-    /// Bells of no nodes: a node that has none does not sleep.
-    pub fn none(alloc: Global) -> Bells {
-        Bells::over(Vec::new(alloc))
-    }
-
-    fn over(nodes: Vec<Bell>) -> Bells {
-        Bells {
-            nodes,
+        Ok(Bells {
+            nodes: bells,
             waiting: Bell::new(),
             wanted: AtomicU32::new(0),
             settled: AtomicU32::new(0),
             ended: AtomicBool::new(false),
-        }
+        })
     }
 
     /// Waits until so many packets are settled in all, or a node has ended. It sleeps meanwhile, and is woken once.

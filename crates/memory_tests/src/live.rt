@@ -2,8 +2,8 @@
 
 use crate::nets::opened;
 use crate::networks::opening;
+use ir_control::{Command, Live, LiveError, run_live};
 use ir_core::{Fate, Refused};
-use ir_live::{Command, Live, LiveError, run_live};
 use ir_worker::Gate;
 use std::alloc::Global;
 use std::sync::Wait;

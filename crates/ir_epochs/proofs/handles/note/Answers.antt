@@ -10,21 +10,21 @@ returns-then-version-clause-old c =
     let mine = c.args.newest.now.front.log in
     let both = c.learn.new.self.log in
     let this : IsPrefix mine both = subst (λ (l : List Entry). IsPrefix l both) (ap (λ s. s.log) c.again-both.ensures) c.learn.ensures.2 in
-    let less : length mine ≤ length c.args.other.front.log = omega (arith, c.args.newest.now.made.version, c.args.other.made.version, c.if-version.true) in
-    prefix_shorter mine c.args.other.front.log both this c.learn.ensures.3 less
+    let less : length mine ≤ length c.args.other.now.front.log = omega (arith, c.args.newest.now.made.version, c.args.other.now.made.version, c.if-version.true) in
+    rw c.become_like.ensures (prefix_shorter mine c.args.other.now.front.log both this c.learn.ensures.3 less)
 
 pub returns-then-version-clause-rises : goal.returns-then-version-clause-rises
 returns-then-version-clause-rises c =
     let mine = c.args.newest.now.front.log in
     let both = c.learn.new.self.log in
     let this : IsPrefix mine both = subst (λ (l : List Entry). IsPrefix l both) (ap (λ s. s.log) c.again-both.ensures) c.learn.ensures.2 in
-    let less : length mine ≤ length c.args.other.front.log = omega (arith, c.args.newest.now.made.version, c.args.other.made.version, c.if-version.true) in
-    later_of mine c.args.other.front.log (prefix_shorter mine c.args.other.front.log both this c.learn.ensures.3 less) c.args.other.made.rising
+    let less : length mine ≤ length c.args.other.now.front.log = omega (arith, c.args.newest.now.made.version, c.args.other.now.made.version, c.if-version.true) in
+    rw c.become_like.ensures (later_of mine c.args.other.now.front.log (prefix_shorter mine c.args.other.now.front.log both this c.learn.ensures.3 less) c.args.other.now.made.rising)
 
-pub returns-else-version-clause-other : goal.returns-else-version-clause-other
-returns-else-version-clause-other c =
+pub returns-clause-other : goal.returns-clause-other
+returns-clause-other c =
     let mine = c.args.newest.now.front.log in
     let both = c.learn.new.self.log in
     let this : IsPrefix mine both = subst (λ (l : List Entry). IsPrefix l both) (ap (λ s. s.log) c.again-both.ensures) c.learn.ensures.2 in
-    let less : length c.args.other.front.log ≤ length mine = omega (arith, c.args.newest.now.made.version, c.args.other.made.version, c.if-version.false) in
-    prefix_shorter c.args.other.front.log mine both c.learn.ensures.3 this less
+    let less : length c.args.other.now.front.log ≤ length mine = omega (arith, c.args.newest.now.made.version, c.args.other.now.made.version, c.if-version.false) in
+    prefix_shorter c.args.other.now.front.log mine both c.learn.ensures.3 this less

@@ -6,8 +6,8 @@ use Rattle.ir_model.specs.OfGraph.{topology_of_graph}
 use Rattle.ir_cli.specs.Openings.{opening_by}
 use Rattle.ir_core.specs.declared.TheConstants.{MAX_NODES}
 use Rattle.ir_epochs.specs.Stamps.{knows}
-use Rattle.ir_live.specs.Lives.{IsLive, IsRefusal}
-use Rattle.ir_live.specs.declared.live.LiveError.{LiveError}
+use Rattle.ir_control.specs.Lives.{IsLive, IsRefusal}
+use Rattle.ir_control.specs.declared.live.LiveError.{LiveError}
 use Rattle.ir_core.specs.declared.event.OpenError.TheVariants.{TooManyReaders, NoMemory}
 use Rattle.ir_cli.specs.Answer.{Refused}
 use Rattle.ir_cli.specs.Lines.{opening_line}

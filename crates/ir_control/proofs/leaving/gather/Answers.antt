@@ -1,0 +1,10 @@
+use Rattle.std.specs.Prelude.{ℕ, List}
+use Rattle.std.proofs.Common.{sym, subst}
+use Rattle.ir_control.specs.Pairs.{ArePaired}
+use Rattle.ir_control.proofs.leaving.gather.Goals as goal
+
+pub join_all-requires-clause-pairs : goal.join_all-requires-clause-pairs
+join_all-requires-clause-pairs c = subst (λ (es : List ℕ). ArePaired es c.args.injected.items c.args.inboxes.items) (sym c.as_slice-entries.ensures.value) c.requires.entries
+
+pub join_all-requires-2-clause-pairs : goal.join_all-requires-2-clause-pairs
+join_all-requires-2-clause-pairs c = subst (λ (ps : List ℕ). ArePaired ps c.args.senders.items c.args.takers.items) (sym c.as_slice-peers.ensures.value) c.requires.ways

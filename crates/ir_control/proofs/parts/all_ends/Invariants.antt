@@ -1,6 +1,0 @@
-use Rattle.std.specs.Prelude.{take}
-use Rattle.ir_control.specs.Fresh.{AreFreshOuts, AreFreshIns}
-use Rattle.ir_control.proofs.parts.all_ends.Given as goal
-
-abbrev pub invariant-loop-channel : goal.invariant-loop-channel
-invariant-loop-channel l = AreFreshOuts (take l.channel-index l.channels.items) l.senders.items × AreFreshIns (take l.channel-index l.channels.items) l.takers.items

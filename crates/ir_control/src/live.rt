@@ -1,0 +1,48 @@
+//! What a live run answers.
+ghost use Rattle.std.specs.Prelude.{◌≡◌};
+ghost use Rattle.ir_control.specs.Codes.{live_code};
+
+use crate::report::Report;
+use ir_core::Refused;
+use thiserror::Error;
+
+/// What came of a live run: the report, and each refused command's place, counted from 0, with its refusal.
+#[derive(Drop)]
+pub struct Live {
+    pub report: Report,
+    pub refusals: Vec<(usize, Refused)>,
+}
+
+/// Why a live run has no report. After any answer the net is spent.
+#[derive(Clone, Copy, Debug, PartialEq, Eq, Error)]
+pub enum LiveError {
+    /// The net's parts were handed out before.
+    #[error("the net is spent")]
+    Spent,
+    #[error("a thread was not started")]
+    NoThread,
+    /// A growth was refused, in a worker too. A command's stands among the refusals.
+    #[error("out of memory")]
+    NoMemory,
+    /// The board has no place for a reader of each node.
+    #[error("no place is left for a reader of the board")]
+    TooManyReaders,
+    /// A node knows of the board what its controller did not publish.
+    #[error("a node knows what was not published")]
+    Unpublished,
+}
+
+impl LiveError {
+    /// Its number: 1 Spent, 2 NoThread, 3 NoMemory, 4 TooManyReaders, 5 Unpublished.
+    pub fn code(self) -> u8
+        ensures { result ≡ live_code self }
+    {
+        match self {
+            LiveError::Spent => 1,
+            LiveError::NoThread => 2,
+            LiveError::NoMemory => 3,
+            LiveError::TooManyReaders => 4,
+            LiveError::Unpublished => 5,
+        }
+    }
+}
