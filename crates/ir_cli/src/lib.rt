@@ -20,8 +20,8 @@ mod write;
 
 pub use ending::{Ending, status_of};
 pub use help::Called;
-pub use lines::steps_text;
-pub use notice::{Notice, notice_line};
+pub use lines::{notice_line, steps_text};
+pub use notice::Notice;
 pub use open::{label_order, no_root, opening_of, read_topology, root_of};
 pub use outcome::{Outcome, Told};
 pub use parting::cut;

@@ -35,30 +35,22 @@ pub fn tell_unread<F: Writer>(faults: &mut F, source: Source, why: NoInput) -> O
     ensures found { result.found ≡ None }
     ensures none { result.ending ≢ endings.Found }
 {
-    match why {
+    let (ending, notice, line) = match why {
         NoInput::Unreadable => {
-            tell(faults, unreadable_line(source).as_bytes());
-            Outcome {
-                ending: Ending::Unreadable,
-                told: Told::Fault(Notice::Unreadable(source)),
-                found: None,
-            }
+            let notice = Notice::Unreadable(source);
+            (Ending::Unreadable, notice, unreadable_line(source))
         }
-        NoInput::TooLarge => {
-            tell(faults, too_large_line(source).as_bytes());
-            Outcome {
-                ending: Ending::TooLarge,
-                told: Told::Fault(Notice::TooLarge(source)),
-                found: None,
-            }
-        }
-        NoInput::NoMemory => {
-            tell(faults, b"out of memory\n");
-            Outcome {
-                ending: Ending::NoMemory,
-                told: Told::Fault(Notice::NoMemory),
-                found: None,
-            }
-        }
+        NoInput::TooLarge => (
+            Ending::TooLarge,
+            Notice::TooLarge(source),
+            too_large_line(source),
+        ),
+        NoInput::NoMemory => (Ending::NoMemory, Notice::NoMemory, "out of memory\n"),
+    };
+    tell(faults, line.as_bytes());
+    Outcome {
+        ending,
+        told: Told::Fault(notice),
+        found: None,
     }
 }
