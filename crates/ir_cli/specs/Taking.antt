@@ -1,5 +1,5 @@
 -- What clap reads of the arguments and subcommands that the tables have.
-use Rattle.std.specs.Prelude.{◌≡◌, ℕ, pos, true, false, List, [], ◌∷◌, Option, Some, None, map, fold}
+use Rattle.std.specs.Prelude.{ℕ, pos, true, List, [], ◌∷◌, Option, Some, None, map, fold}
 use Rattle.std.specs.Int.{int_max, int_min}
 use Rattle.std.specs.Borrow.{Bor}
 use Rattle.clap.specs.Words.{App, Rule, Text, new_rule, signed_between, with_rule}

@@ -26,7 +26,7 @@ pub use open::{label_order, no_root, opening_of, read_topology, root_of};
 pub use outcome::{Outcome, Told};
 pub use parting::cut;
 pub use read::{Source, Unread, read_inputs};
-pub use reply::{Reply, tell_unread};
+pub use reply::{Reply, tell_fault, tell_unread};
 pub use words::{Format, Numbering, Second, Sub, Words, WordsError, read_words, read_words_as};
 pub use write::tell;
 
