@@ -7,7 +7,7 @@ ghost use Rattle.ir_answer.specs.{Formed.{in_shape, EndsPut}, Stops.GivenAs};
 
 use crate::asking::Stop;
 use crate::forming::{put_notice, put_plan, put_text};
-use ir_cli::{Ending, Notice, Outcome, Reply, Told, notice_line, steps_text, tell};
+use ir_cli::{Ending, Notice, Outcome, Reply, Told, notice_line, steps_text, tell, tell_fault};
 use ir_core::Refused;
 use ir_json::Shape;
 use ir_plan::Alone;
@@ -22,12 +22,12 @@ fn out_of_memory<F: Writer>(faults: &mut F) -> Outcome
     ensures told { Tells F.contents F.wrote F.settled faults.old faults.new (told_text result.told) }
     ensures found { result.found ≡ None }
 {
-    tell(faults, b"out of memory\n");
-    Outcome {
-        ending: Ending::NoMemory,
-        told: Told::Fault(Notice::NoMemory),
-        found: None,
-    }
+    tell_fault(
+        faults,
+        Ending::NoMemory,
+        Notice::NoMemory,
+        "out of memory\n",
+    )
 }
 
 /// What a run came to whose output is whole.
@@ -58,12 +58,12 @@ fn ended<F: Writer>(
             told
         }
         Ok(false) => {
-            tell(faults, b"output unwritable\n");
-            Outcome {
-                ending: Ending::Unwritable,
-                told: Told::Fault(Notice::Unwritable),
-                found: None,
-            }
+            tell_fault(
+                faults,
+                Ending::Unwritable,
+                Notice::Unwritable,
+                "output unwritable\n",
+            )
         }
         Err(_) => out_of_memory(faults),
     }
@@ -110,14 +110,7 @@ fn write_reply<C: TextCrew, W: Writer, F: Writer>(
             let told = whole(Ending::Found, Vec::new(alloc), Some(notice));
             ended(put, b"", told, faults)
         }
-        Reply::NoThread => {
-            tell(faults, b"no thread\n");
-            Outcome {
-                ending: Ending::NoThread,
-                told: Told::Fault(Notice::NoThread),
-                found: None,
-            }
-        }
+        Reply::NoThread => { tell_fault(faults, Ending::NoThread, Notice::NoThread, "no thread\n") }
     }
 }
 
@@ -141,17 +134,10 @@ pub fn write_given_by<C: TextCrew, W: Writer, F: Writer>(
 {
     match given {
         Ok(reply) => write_reply(crew, alloc, most, shape, reply, output, faults),
-        Err(Stop::Refused(notice)) => {
-            let Ok(line) = notice_line(alloc, notice) else {
-                return out_of_memory(faults);
-            };
-            tell(faults, line.as_bytes());
-            Outcome {
-                ending: Ending::Refused,
-                told: Told::Fault(notice),
-                found: None,
-            }
-        }
+        Err(Stop::Refused(notice)) => match notice_line(alloc, notice) {
+            Ok(line) => tell_fault(faults, Ending::Refused, notice, line.as_str()),
+            Err(_) => out_of_memory(faults),
+        },
         Err(Stop::NoMemory) => out_of_memory(faults),
     }
 }

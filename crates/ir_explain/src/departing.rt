@@ -23,7 +23,10 @@ struct Way<'a> {
 impl Way<'_> {
     /// The name of a node.
     fn name(&self, node: u16) -> &str {
-        self.graph.node(usize::from(node)).unwrap_or("")
+        match self.graph.node(usize::from(node)) {
+            Some(name) => name,
+            None => "",
+        }
     }
 
     /// The epoch of the segment at a place, from 0; 0 where there is none.
