@@ -1,5 +1,5 @@
 -- An answer in the form that the words ask for: what is printed stands as it is, or as its JSON.
-use Rattle.std.specs.Prelude.{◌≡◌, ℕ, ◌==◌, if◌then◌else◌, Bool, List, Option, None, Some, Result, Ok, Err}
+use Rattle.std.specs.Prelude.{◌≡◌, ℕ, ◌==◌, if◌then◌else◌, Bool, true, false, List, Option, None, Some, Result, Ok, Err}
 use Rattle.std.specs.declared.alloc.AllocError.{AllocError}
 use Rattle.ir_model.specs.Text.{lines}
 use Rattle.ir_json.specs.declared.shape.Shape.{Shape}
@@ -9,6 +9,10 @@ use Rattle.ir_cli.specs.declared.words.Words.{Words}
 use Rattle.ir_cli.specs.declared.words.Sub.{Sub}
 use Rattle.ir_cli.specs.declared.words.Sub.TheVariants.{Plan, Walk, Stats, Compare, Draw, Prefixes, Ranges, Sim, Live, Check}
 use Rattle.ir_cli.specs.Answer.{Answer, Ran, Found, Refused, NoThread}
+use Rattle.ir_cli.specs.declared.ending.Ending.TheVariants as endings
+use Rattle.ir_cli.specs.declared.outcome.Outcome.{Outcome}
+use Rattle.ir_cli.specs.Lines.{out_of_memory_line, unwritable_line}
+use Rattle.ir_cli.specs.Notices.{told_text}
 
 -- the shape of a trace, by its version
 abbrev pub trace_shape : Words → Shape
@@ -55,3 +59,11 @@ InForm sub words answers texts answer = (plain : Answer) × answers texts plain 
 abbrev pub IsTextPut : List ℕ → Result Bool AllocError → (out : Bool → List ℕ → Type 0) (unused : Type 0) → Type 0
 IsTextPut text (Ok sent) out unused = out sent text
 IsTextPut text (Err error) out unused = unused
+
+-- What a run comes to behind its output: as told, with these lines of faults, where all of it was taken; else to a fault.
+abbrev pub EndsPut : Result Bool AllocError → Outcome → List ℕ → Outcome → (told : List ℕ → Type 0) → Type 0
+EndsPut (Ok true) whole lines outcome told = (outcome ≡ whole) × told lines
+EndsPut (Ok false) whole lines outcome told =
+    (outcome.ending ≡ endings.Unwritable) × (outcome.found ≡ None) × told unwritable_line × told (told_text outcome.told)
+EndsPut (Err error) whole lines outcome told =
+    (outcome.ending ≡ endings.NoMemory) × (outcome.found ≡ None) × told out_of_memory_line × told (told_text outcome.told)

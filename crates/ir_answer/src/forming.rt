@@ -73,18 +73,6 @@ fn plan_json(alloc: Global, shape: Shape, text: PlanText) -> Result<String, Allo
     json_of(alloc, shape, whole.as_slice())
 }
 
-/// The line of a notice, as text or as its JSON.
-pub fn shaped_line(
-    alloc: Global,
-    shape: Option<Shape>,
-    notice: Notice,
-) -> Result<String, AllocError>
-    ensures { IfOk result (λ formed. string_bytes formed ≡ shaped shape (notice_line notice)) }
-{
-    let line = notice_line(alloc, notice)?;
-    shaped(alloc, shape, line)
-}
-
 /// Writes a text, or its JSON, and answers whether all of it was taken.
 pub fn put_text<W: Writer>(
     alloc: Global,
@@ -97,6 +85,20 @@ pub fn put_text<W: Writer>(
 {
     let formed = shaped(alloc, shape, text)?;
     Ok(write_text(output, formed.as_bytes()))
+}
+
+/// Writes the line of a notice, or its JSON, and answers whether all of it was taken.
+pub fn put_notice<W: Writer>(
+    alloc: Global,
+    shape: Option<Shape>,
+    notice: Notice,
+    output: &mut W,
+) -> Result<bool, AllocError>
+    ensures { IsTextPut (shaped shape (notice_line notice)) result
+        (Sends W.contents W.wrote W.settled output.old output.new) (output.new ≡ output.old) }
+{
+    let line = notice_line(alloc, notice)?;
+    put_text(alloc, shape, line, output)
 }
 
 /// Writes the text of a plan as a crew makes it, or its JSON, and answers whether all of it was taken.

@@ -1,20 +1,19 @@
 //! Writing what the inputs come to: values become texts here.
-ghost use Rattle.std.specs.Prelude.{◌≡◌, [], None, string_bytes};
-ghost use Rattle.ir_cli.specs.Answer.{Ran, Found};
+ghost use Rattle.std.specs.Prelude.{◌≡◌, None};
 ghost use Rattle.ir_cli.specs.declared.ending.Ending.TheVariants as endings;
-ghost use Rattle.ir_cli.specs.{Lines.{ok_line, steps_text, out_of_memory_line, unwritable_line}, Notices.{notice_line, told_text, ShowsFound}, Replied.RepliesAs, Replies.answer_of, Told.{Sends, Tells}};
-ghost use Rattle.ir_answer.specs.{Formed.in_shape, Stops.GivenAs};
+ghost use Rattle.ir_cli.specs.declared.outcome.Told.TheVariants.{Steps};
+ghost use Rattle.ir_cli.specs.{Lines.out_of_memory_line, Notices.{told_text, ShowsFound}, Replied.RepliesAs, Replies.answer_of, Told.{Sends, Tells}};
+ghost use Rattle.ir_answer.specs.{Formed.{in_shape, EndsPut}, Stops.GivenAs};
 
 use crate::asking::Stop;
-use crate::forming::{put_plan, put_text, shaped_line};
-use ir_cli::{Ending, Notice, Outcome, Reply, Told, notice_line, steps_text, tell};
+use crate::forming::{put_notice, put_plan, put_text};
+use ir_cli::{Ending, Notice, Outcome, Reply, Told, notice_line, steps_text, tell, tell_fault};
 use ir_core::Refused;
 use ir_json::Shape;
 use ir_plan::Alone;
 use ir_show::TextCrew;
-use ir_show::plan_text::PlanText;
-use ir_streams::{Writer, write_text};
-use std::alloc::Global;
+use ir_streams::Writer;
+use std::alloc::{AllocError, Global};
 
 /// Tells that memory was refused.
 fn out_of_memory<F: Writer>(faults: &mut F) -> Outcome
@@ -23,150 +22,50 @@ fn out_of_memory<F: Writer>(faults: &mut F) -> Outcome
     ensures told { Tells F.contents F.wrote F.settled faults.old faults.new (told_text result.told) }
     ensures found { result.found ≡ None }
 {
-    tell(faults, b"out of memory\n");
+    tell_fault(
+        faults,
+        Ending::NoMemory,
+        Notice::NoMemory,
+        "out of memory\n",
+    )
+}
+
+/// What a run came to whose output is whole.
+fn whole(ending: Ending, steps: Vec<(usize, Refused)>, found: Option<Notice>) -> Outcome
+    ensures ending { result.ending ≡ ending }
+    ensures told { result.told ≡ Steps steps }
+    ensures found { result.found ≡ found }
+{
     Outcome {
-        ending: Ending::NoMemory,
-        told: Told::Fault(Notice::NoMemory),
-        found: None,
+        ending,
+        told: Told::Steps(steps),
+        found,
     }
 }
 
-/// Tells that the output was not taken whole.
-fn unwritable<F: Writer>(faults: &mut F) -> Outcome
-    ensures ending { result.ending ≡ endings.Unwritable }
-    ensures line { Tells F.contents F.wrote F.settled faults.old faults.new unwritable_line }
-    ensures told { Tells F.contents F.wrote F.settled faults.old faults.new (told_text result.told) }
-    ensures found { result.found ≡ None }
-{
-    tell(faults, b"output unwritable\n");
-    Outcome {
-        ending: Ending::Unwritable,
-        told: Told::Fault(Notice::Unwritable),
-        found: None,
-    }
-}
-
-/// Writes the text of a run, and a line for each step that was refused.
-fn write_ran<W: Writer, F: Writer>(
-    alloc: Global,
-    shape: Option<Shape>,
-    text: String,
-    steps: Vec<(usize, Refused)>,
-    output: &mut W,
+/// Ends a run behind its output: as told, with these lines of faults, where all of it was taken.
+fn ended<F: Writer>(
+    put: Result<bool, AllocError>,
+    lines: &[u8],
+    told: Outcome,
     faults: &mut F,
 ) -> Outcome
-    ensures ends { RepliesAs result.ending (in_shape shape (Ran (string_bytes text) (steps_text steps.items)))
-        (Sends W.contents W.wrote W.settled output.old output.new) (output.new ≡ output.old)
-        (Tells F.contents F.wrote F.settled faults.old faults.new) }
-    ensures told { Tells F.contents F.wrote F.settled faults.old faults.new (told_text result.told) }
-    ensures found { ShowsFound (in_shape shape) result.found result.ending
-        (Sends W.contents W.wrote W.settled output.old output.new) }
+    ensures { EndsPut put told lines.now result (Tells F.contents F.wrote F.settled faults.old faults.new) }
 {
-    let Ok(lines) = steps_text(alloc, steps.as_slice()) else {
-        return out_of_memory(faults);
-    };
-    match put_text(alloc, shape, text, output) {
+    match put {
         Ok(true) => {
-            tell(faults, lines.as_bytes());
-            Outcome {
-                ending: Ending::Done,
-                told: Told::Steps(steps),
-                found: None,
-            }
+            tell(faults, lines);
+            told
         }
-        Ok(false) => unwritable(faults),
+        Ok(false) => {
+            tell_fault(
+                faults,
+                Ending::Unwritable,
+                Notice::Unwritable,
+                "output unwritable\n",
+            )
+        }
         Err(_) => out_of_memory(faults),
-    }
-}
-
-/// Writes the text of a plan, of which a crew makes the lines.
-fn write_plan<C: TextCrew, W: Writer, F: Writer>(
-    crew: &C,
-    alloc: Global,
-    most: Option<usize>,
-    shape: Option<Shape>,
-    text: PlanText,
-    output: &mut W,
-    faults: &mut F,
-) -> Outcome
-    ensures ends { RepliesAs result.ending (in_shape shape (Ran text []))
-        (Sends W.contents W.wrote W.settled output.old output.new) (output.new ≡ output.old)
-        (Tells F.contents F.wrote F.settled faults.old faults.new) }
-    ensures told { Tells F.contents F.wrote F.settled faults.old faults.new (told_text result.told) }
-    ensures found { ShowsFound (in_shape shape) result.found result.ending
-        (Sends W.contents W.wrote W.settled output.old output.new) }
-{
-    match put_plan(crew, alloc, most, shape, text, output) {
-        Ok(true) => {
-            tell(faults, b"");
-            Outcome {
-                ending: Ending::Done,
-                told: Told::Steps(Vec::new(alloc)),
-                found: None,
-            }
-        }
-        Ok(false) => unwritable(faults),
-        Err(_) => out_of_memory(faults),
-    }
-}
-
-/// Writes that a trace of so many rows has no finding.
-fn write_sound<W: Writer, F: Writer>(
-    alloc: Global,
-    shape: Option<Shape>,
-    rows: usize,
-    output: &mut W,
-    faults: &mut F,
-) -> Outcome
-    ensures ends { RepliesAs result.ending (in_shape shape (Ran (ok_line rows) []))
-        (Sends W.contents W.wrote W.settled output.old output.new) (output.new ≡ output.old)
-        (Tells F.contents F.wrote F.settled faults.old faults.new) }
-    ensures told { Tells F.contents F.wrote F.settled faults.old faults.new (told_text result.told) }
-    ensures found { ShowsFound (in_shape shape) result.found result.ending
-        (Sends W.contents W.wrote W.settled output.old output.new) }
-{
-    let Ok(text) = shaped_line(alloc, shape, Notice::Sound(rows)) else {
-        return out_of_memory(faults);
-    };
-    if write_text(output, text.as_bytes()) {
-        tell(faults, b"");
-        Outcome {
-            ending: Ending::Done,
-            told: Told::Steps(Vec::new(alloc)),
-            found: Some(Notice::Sound(rows)),
-        }
-    } else {
-        unwritable(faults)
-    }
-}
-
-/// Writes a finding.
-fn write_found<W: Writer, F: Writer>(
-    alloc: Global,
-    shape: Option<Shape>,
-    notice: Notice,
-    output: &mut W,
-    faults: &mut F,
-) -> Outcome
-    ensures ends { RepliesAs result.ending (in_shape shape (Found (notice_line notice)))
-        (Sends W.contents W.wrote W.settled output.old output.new) (output.new ≡ output.old)
-        (Tells F.contents F.wrote F.settled faults.old faults.new) }
-    ensures told { Tells F.contents F.wrote F.settled faults.old faults.new (told_text result.told) }
-    ensures found { ShowsFound (in_shape shape) result.found result.ending
-        (Sends W.contents W.wrote W.settled output.old output.new) }
-{
-    let Ok(text) = shaped_line(alloc, shape, notice) else {
-        return out_of_memory(faults);
-    };
-    if write_text(output, text.as_bytes()) {
-        tell(faults, b"");
-        Outcome {
-            ending: Ending::Found,
-            told: Told::Steps(Vec::new(alloc)),
-            found: Some(notice),
-        }
-    } else {
-        unwritable(faults)
     }
 }
 
@@ -188,18 +87,30 @@ fn write_reply<C: TextCrew, W: Writer, F: Writer>(
         (Sends W.contents W.wrote W.settled output.old output.new) }
 {
     match reply {
-        Reply::Ran(text, steps) => write_ran(alloc, shape, text, steps, output, faults),
-        Reply::Plan(text) => write_plan(crew, alloc, most, shape, text, output, faults),
-        Reply::Sound(rows) => write_sound(alloc, shape, rows, output, faults),
-        Reply::Found(notice) => write_found(alloc, shape, notice, output, faults),
-        Reply::NoThread => {
-            tell(faults, b"no thread\n");
-            Outcome {
-                ending: Ending::NoThread,
-                told: Told::Fault(Notice::NoThread),
-                found: None,
-            }
+        Reply::Ran(text, steps) => {
+            let Ok(lines) = steps_text(alloc, steps.as_slice()) else {
+                return out_of_memory(faults);
+            };
+            let put = put_text(alloc, shape, text, output);
+            let told = whole(Ending::Done, steps, None);
+            ended(put, lines.as_bytes(), told, faults)
         }
+        Reply::Plan(text) => {
+            let put = put_plan(crew, alloc, most, shape, text, output);
+            let told = whole(Ending::Done, Vec::new(alloc), None);
+            ended(put, b"", told, faults)
+        }
+        Reply::Sound(rows) => {
+            let put = put_notice(alloc, shape, Notice::Sound(rows), output);
+            let told = whole(Ending::Done, Vec::new(alloc), Some(Notice::Sound(rows)));
+            ended(put, b"", told, faults)
+        }
+        Reply::Found(notice) => {
+            let put = put_notice(alloc, shape, notice, output);
+            let told = whole(Ending::Found, Vec::new(alloc), Some(notice));
+            ended(put, b"", told, faults)
+        }
+        Reply::NoThread => { tell_fault(faults, Ending::NoThread, Notice::NoThread, "no thread\n") }
     }
 }
 
@@ -223,17 +134,10 @@ pub fn write_given_by<C: TextCrew, W: Writer, F: Writer>(
 {
     match given {
         Ok(reply) => write_reply(crew, alloc, most, shape, reply, output, faults),
-        Err(Stop::Refused(notice)) => {
-            let Ok(line) = notice_line(alloc, notice) else {
-                return out_of_memory(faults);
-            };
-            tell(faults, line.as_bytes());
-            Outcome {
-                ending: Ending::Refused,
-                told: Told::Fault(notice),
-                found: None,
-            }
-        }
+        Err(Stop::Refused(notice)) => match notice_line(alloc, notice) {
+            Ok(line) => tell_fault(faults, Ending::Refused, notice, line.as_str()),
+            Err(_) => out_of_memory(faults),
+        },
         Err(Stop::NoMemory) => out_of_memory(faults),
     }
 }

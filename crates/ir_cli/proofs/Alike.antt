@@ -15,7 +15,8 @@ use Rattle.ir_cli.specs.declared.words.Numbering.TheVariants.{DepthFirst, Tour, 
 use Rattle.ir_cli.specs.declared.words.Second.{Second}
 use Rattle.ir_cli.specs.declared.words.Words.{Words}
 use Rattle.ir_cli.specs.Words.{AreTaken, FitsItsKind, alike, has_its_files, has_order, is_dash, is_file, is_no_dash, takes_drawing, takes_numbering, texts_wanted}
-use Rattle.ir_cli.specs.Meaning.{HasItsSecond, IsNumbering, IsSecond, Means, kind_word, numbering_word, second_word, sub_word}
+use Rattle.ir_cli.specs.Meaning.{HasItsSecond, IsNumbering, IsSecond, Means, kind_word, numbering_word, second_word}
+use Rattle.ir_cli.specs.CommandLine.{sub_word}
 
 -- ---- what a word tells
 

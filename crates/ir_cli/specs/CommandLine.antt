@@ -1,7 +1,7 @@
 -- The command line: what each subcommand takes, with a line for each option, flag and file. How words are read by it is
 -- told by the parser's own definitions (`Walk` of clap): `--NAME VALUE` or `--NAME=VALUE` gives an option its value, as `-X
 -- VALUE` does with its letter, words that are no options go to the files in order, and behind `--` all words are files.
-use Rattle.std.specs.Prelude.{◌≡◌, ℕ, pos, true, false, List, [], ◌∷◌, ◌++◌, Some, codes, slice_get}
+use Rattle.std.specs.Prelude.{◌≡◌, ℕ, pos, true, false, List, [], ◌∷◌, ◌++◌, Some, codes, map, slice_get}
 use Rattle.std.specs.Borrow.{Bor}
 use Rattle.clap.specs.Words.{App, Rule, Shape, Text, new_rule}
 use Rattle.clap.specs.Walk.{texts}
@@ -11,6 +11,8 @@ use Rattle.clap.specs.declared.builder.value_parser.ValueParser.TheVariants as t
 use Rattle.ir_cli.specs.declared.help.Called.{Called}
 use Rattle.ir_cli.specs.declared.help.Called.TheVariants.{Route, Bentzolu}
 use Rattle.ir_cli.specs.declared.options.Choices.{Choices}
+use Rattle.ir_cli.specs.declared.words.Sub.{Sub}
+use Rattle.ir_cli.specs.declared.words.Sub.TheVariants as subs
 use Rattle.ir_core.specs.declared.TheConstants.{MAX_CAPACITY, MAX_PACKETS, MAX_RESTAMPS}
 use Rattle.ir_cli.specs.declared.TheConstants.{MAX_THREADS, DEFAULT_CAPACITY, DEFAULT_PACKETS, DEFAULT_RESTAMPS}
 
@@ -49,6 +51,19 @@ or_else word rule = record rule { defaults = word ∷ [] }
 -- a subcommand
 abbrev pub taking : Text → List Rule → Shape
 taking name rules = record (new_shape name) { rules = rules }
+
+-- the name of a subcommand
+abbrev pub sub_word : Sub → Text
+sub_word subs.Plan = codes "plan"
+sub_word subs.Walk = codes "walk"
+sub_word subs.Stats = codes "stats"
+sub_word subs.Compare = codes "compare"
+sub_word subs.Draw = codes "draw"
+sub_word subs.Prefixes = codes "prefixes"
+sub_word subs.Ranges = codes "ranges"
+sub_word subs.Sim = codes "sim"
+sub_word subs.Live = codes "live"
+sub_word subs.Check = codes "check"
 
 -- the name that the program is called by, and calls itself
 abbrev pub name_of : Called → Text
@@ -167,40 +182,26 @@ module _ (choices : Choices) where
       ∷ file (codes "trace")
       ∷ []
 
-  -- the subcommands
-  abbrev pub plan : Shape
-  plan = taking (codes "plan") (routed ++ shown ++ ordered ++ telling)
+  -- what a subcommand takes
+  abbrev pub rules_of : Sub → List Rule
+  rules_of subs.Plan = routed ++ shown ++ ordered ++ telling
+  rules_of subs.Walk = routed ++ shown ++ ends ++ telling
+  rules_of subs.Stats = routed ++ shown ++ second ++ telling
+  rules_of subs.Compare = compared ++ as_json ++ telling
+  rules_of subs.Draw = routed ++ shown ++ drawn ++ telling
+  rules_of subs.Prefixes = routed ++ shown ++ prefixed ++ telling
+  rules_of subs.Ranges = routed ++ shown ++ as_json ++ telling
+  rules_of subs.Sim = routed ++ played ++ as_json ++ telling
+  rules_of subs.Live = routed ++ played ++ as_json ++ telling
+  rules_of subs.Check = routed ++ checked ++ whole_flag ++ telling
 
-  abbrev pub walk : Shape
-  walk = taking (codes "walk") (routed ++ shown ++ ends ++ telling)
-
-  abbrev pub stats : Shape
-  stats = taking (codes "stats") (routed ++ shown ++ second ++ telling)
-
-  abbrev pub compare : Shape
-  compare = taking (codes "compare") (compared ++ as_json ++ telling)
-
-  abbrev pub draw : Shape
-  draw = taking (codes "draw") (routed ++ shown ++ drawn ++ telling)
-
-  abbrev pub prefixes : Shape
-  prefixes = taking (codes "prefixes") (routed ++ shown ++ prefixed ++ telling)
-
-  abbrev pub ranges : Shape
-  ranges = taking (codes "ranges") (routed ++ shown ++ as_json ++ telling)
-
-  abbrev pub sim : Shape
-  sim = taking (codes "sim") (routed ++ played ++ as_json ++ telling)
-
-  abbrev pub live : Shape
-  live = taking (codes "live") (routed ++ played ++ as_json ++ telling)
-
-  abbrev pub check : Shape
-  check = taking (codes "check") (routed ++ checked ++ whole_flag ++ telling)
+  abbrev pub subcommand : Sub → Shape
+  subcommand sub = taking (sub_word sub) (rules_of sub)
 
   abbrev pub subcommands : List Shape
   subcommands =
-      plan ∷ walk ∷ stats ∷ compare ∷ draw ∷ prefixes ∷ ranges ∷ sim ∷ live ∷ check ∷ []
+      map subcommand (subs.Plan ∷ subs.Walk ∷ subs.Stats ∷ subs.Compare ∷ subs.Draw ∷ subs.Prefixes ∷ subs.Ranges
+      ∷ subs.Sim ∷ subs.Live ∷ subs.Check ∷ [])
 
   -- the program
   abbrev pub program : Called → App

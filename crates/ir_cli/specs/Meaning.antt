@@ -8,8 +8,6 @@ use Rattle.ir_model.specs.declared.Kind.{Kind}
 use Rattle.ir_model.specs.declared.Kind.TheVariants.{Tree, Shortest, Compact}
 use Rattle.ir_core.specs.declared.TheConstants.{MAX_CAPACITY, MAX_PACKETS, MAX_RESTAMPS}
 use Rattle.ir_cli.specs.declared.TheConstants.{MAX_THREADS, DEFAULT_CAPACITY, DEFAULT_PACKETS, DEFAULT_RESTAMPS}
-use Rattle.ir_cli.specs.declared.words.Sub.{Sub}
-use Rattle.ir_cli.specs.declared.words.Sub.TheVariants as subs
 use Rattle.ir_cli.specs.declared.words.Format.{Format}
 use Rattle.ir_cli.specs.declared.words.Format.TheVariants.{AdjList, EdgeList}
 use Rattle.ir_cli.specs.declared.words.Numbering.{Numbering}
@@ -20,19 +18,7 @@ use Rattle.ir_cli.specs.Words.{format_of_name}
 use Rattle.ir_cli.specs.declared.help.Called.{Called}
 use Rattle.ir_cli.specs.declared.help.Called.TheVariants.{Route}
 use Rattle.ir_cli.specs.declared.options.Choices.{Choices}
-use Rattle.ir_cli.specs.CommandLine.{AreTheirWords, name_of, program}
-
-abbrev pub sub_word : Sub → Text
-sub_word subs.Plan = codes "plan"
-sub_word subs.Walk = codes "walk"
-sub_word subs.Stats = codes "stats"
-sub_word subs.Compare = codes "compare"
-sub_word subs.Draw = codes "draw"
-sub_word subs.Prefixes = codes "prefixes"
-sub_word subs.Ranges = codes "ranges"
-sub_word subs.Sim = codes "sim"
-sub_word subs.Live = codes "live"
-sub_word subs.Check = codes "check"
+use Rattle.ir_cli.specs.CommandLine.{AreTheirWords, name_of, program, sub_word}
 
 abbrev pub kind_word : Kind → Text
 kind_word Tree = codes "tree"

@@ -2,7 +2,7 @@
 use Rattle.std.specs.Prelude.{[], string_bytes}
 use Rattle.ir_cli.specs.declared.reply.Reply.{Reply}
 use Rattle.ir_cli.specs.declared.reply.Reply.TheVariants as replies
-use Rattle.ir_cli.specs.Answer.{Answer, Ran, Found, Refused, NoThread}
+use Rattle.ir_cli.specs.Answer.{Answer, Ran, Found, NoThread}
 use Rattle.ir_cli.specs.Lines.{ok_line, steps_text}
 use Rattle.ir_cli.specs.Notices.{notice_line}
 

@@ -1,12 +1,10 @@
 -- What clap reads of the arguments and subcommands that the tables have.
-use Rattle.std.specs.Prelude.{◌≡◌, ℕ, pos, true, false, List, [], ◌∷◌, Option, Some, None, map, fold}
+use Rattle.std.specs.Prelude.{ℕ, pos, true, List, [], ◌∷◌, Option, Some, None, map, fold}
 use Rattle.std.specs.Int.{int_max, int_min}
 use Rattle.std.specs.Borrow.{Bor}
-use Rattle.clap.specs.Words.{App, Rule, Shape, Text, new_rule, shape_of, signed_between, with_rule}
+use Rattle.clap.specs.Words.{App, Rule, Text, new_rule, signed_between, with_rule}
 use Rattle.clap.specs.Simple.{new_shape}
 use Rattle.clap.specs.declared.builder.action.ArgAction.TheVariants.{SetTrue}
-use Rattle.clap.specs.declared.builder.command.Command.{Command}
-use Rattle.clap.specs.declared.builder.command.Command.TheViews.{out-Command}
 use Rattle.clap.specs.declared.builder.value_parser.ValueParser.TheVariants as vp
 use Rattle.ir_cli.specs.declared.options.Takes.{Takes}
 use Rattle.ir_cli.specs.declared.options.Takes.TheVariants.{Nothing, WordOf, Number, File}
@@ -58,7 +56,3 @@ program_app name = record {
   top = record (new_shape name) { has_version = true; subcommand_required = true };
   subs = [];
 }
-
--- a command is what its parser reads of a subcommand
-abbrev pub IsSubcommand : Shape → Command → Type 0
-IsSubcommand shape made = (shape_of made ≡ shape) × ((out-Command made).has_globals ≡ false)

@@ -5,7 +5,8 @@ use Rattle.clap.specs.Words.{Row, Text}
 use Rattle.ir_core.specs.declared.TheConstants.{MAX_CAPACITY, MAX_PACKETS, MAX_RESTAMPS}
 use Rattle.ir_cli.specs.declared.TheConstants.{MAX_THREADS, DEFAULT_CAPACITY, DEFAULT_PACKETS, DEFAULT_RESTAMPS}
 use Rattle.ir_cli.specs.declared.typed.Chosen.{Chosen}
-use Rattle.ir_cli.specs.Meaning.{IsFormat, IsNumber, IsNumberElse, first_kind, kind_word, sub_word}
+use Rattle.ir_cli.specs.Meaning.{IsFormat, IsNumber, IsNumberElse, first_kind, kind_word}
+use Rattle.ir_cli.specs.CommandLine.{sub_word}
 
 -- the fields of words that are names of a list or numbers
 pub record AreTyped (name : Text) (rows : List Row) (all : Chosen) : Type 0 where

@@ -139,7 +139,7 @@ pub fn fault_text(
 ) -> Result<String, AllocError> {
     let mut text = format!(in alloc; "error: {fault}\n\n")?;
     if !has_its_files(words) {
-        write!(text, "Usage: {}\n\n", usage_of(called, name))?;
+        write!(text, "Usage: {}\n\n", usage_of(called, words.sub))?;
     }
     text.push_str("For more information, try '--help'.\n")?;
     Ok(text)

@@ -1,6 +1,8 @@
 //! What stands in the help of the program and of its subcommands.
 ghost use Rattle.std.specs.Prelude.{◌≡◌};
-ghost use Rattle.ir_cli.specs.CommandLine.{name_of};
+ghost use Rattle.ir_cli.specs.CommandLine.{name_of, sub_word};
+
+use crate::words::Sub;
 
 /// The name that the program is called by, and calls itself.
 #[derive(Clone, Copy, Debug, PartialEq, Eq)]
@@ -158,12 +160,67 @@ pub fn texts_of(called: Called) -> &'static Texts
 }
 
 /// How the words of a subcommand of several texts are to look; nothing for another, where it follows from the arguments.
-pub fn usage_of(called: Called, name: &str) -> &'static str {
+pub fn usage_of(called: Called, sub: Sub) -> &'static str {
     let texts = texts_of(called);
-    match name {
-        "sim" => texts.sim_usage,
-        "live" => texts.live_usage,
-        "check" => texts.check_usage,
+    match sub {
+        Sub::Sim => texts.sim_usage,
+        Sub::Live => texts.live_usage,
+        Sub::Check => texts.check_usage,
         _ => "",
+    }
+}
+
+/// What stands behind the help of a subcommand.
+pub fn lines_of(called: Called, sub: Sub) -> &'static str {
+    let texts = texts_of(called);
+    match sub {
+        Sub::Plan | Sub::Walk | Sub::Stats | Sub::Draw => "",
+        Sub::Compare => texts.compare,
+        Sub::Prefixes => texts.prefixes,
+        Sub::Ranges => texts.ranges,
+        Sub::Sim => SCRIPT_LINES,
+        Sub::Live => LIVE_LINES,
+        Sub::Check => CHECK_LINES,
+    }
+}
+
+/// The name of a subcommand.
+pub fn name_of(sub: Sub) -> &'static str
+    ensures { result.now ≡ sub_word sub }
+{
+    match sub {
+        Sub::Plan => "plan",
+        Sub::Walk => "walk",
+        Sub::Stats => "stats",
+        Sub::Compare => "compare",
+        Sub::Draw => "draw",
+        Sub::Prefixes => "prefixes",
+        Sub::Ranges => "ranges",
+        Sub::Sim => "sim",
+        Sub::Live => "live",
+        Sub::Check => "check",
+    }
+}
+
+/// What a subcommand does, as help tells it.
+pub fn about_of(sub: Sub) -> &'static str {
+    match sub {
+        Sub::Plan => "Prints the labels and rows of a topology's nodes",
+        Sub::Walk =>
+            "Prints the walk from one node to another, and the interval by which each node sends on",
+        Sub::Stats =>
+            "Prints the figures of a topology's plan: its starts, its greatest row, its walks",
+        Sub::Compare =>
+            "Prints the figures of a topology's plans of all kinds and numberings, beside full tables",
+        Sub::Draw => "Prints a drawing of a topology's plan for Graphviz",
+        Sub::Prefixes =>
+            "Prints the fewest prefixes of labels by which each node sends on, for longest prefix match",
+        Sub::Ranges =>
+            "Prints the fewest ranges of labels by which each node sends on, for tables that match ranges",
+        Sub::Sim => "Plays the lines of a script, and prints what became of its packets",
+        Sub::Live =>
+            "Plays the lines of a script while each node runs in a thread of its own, and prints what became of its packets",
+        Sub::Check =>
+            "Checks the rows of a trace against the walks that the script's plans prescribe",
     }
 }

@@ -20,13 +20,13 @@ mod write;
 
 pub use ending::{Ending, status_of};
 pub use help::Called;
-pub use lines::steps_text;
-pub use notice::{Notice, notice_line};
+pub use lines::{notice_line, steps_text};
+pub use notice::Notice;
 pub use open::{label_order, no_root, opening_of, read_topology, root_of};
 pub use outcome::{Outcome, Told};
 pub use parting::cut;
 pub use read::{Source, Unread, read_inputs};
-pub use reply::{Reply, tell_unread};
+pub use reply::{Reply, tell_fault, tell_unread};
 pub use words::{Format, Numbering, Second, Sub, Words, WordsError, read_words, read_words_as};
 pub use write::tell;
 

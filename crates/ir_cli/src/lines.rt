@@ -1,14 +1,11 @@
 //! The lines that tell of a refusal, and of an input that was not read.
-ghost use Rattle.std.specs.Prelude.{◌≡◌, ◌∷◌, ◌++◌, [], IfOk, OnOk, codes, string_bytes};
-ghost use Rattle.ir_cli.specs.Lines.{finding_line, whole_line, ok_line, topology_line, script_line, numbering_line, opening_line, unreadable_line, too_large_line, numbered_line, refused_line, steps_text};
+ghost use Rattle.std.specs.Prelude.{◌≡◌, ◌++◌, IfOk, OnOk, string_bytes};
+ghost use Rattle.ir_cli.specs.Lines.{numbered_line, ok_line, opening_line, refused_line, steps_text, too_large_line, unreadable_line};
+ghost use Rattle.ir_cli.specs.Notices.{notice_line};
 
+use crate::notice::Notice;
 use crate::read::Source;
 use ir_core::{OpenError, Refused};
-use ir_model::Fault;
-use ir_script::{OrderFaultKind, ScriptFault};
-use ir_trace::Finding;
-use ir_trace::text::{push_next_number, push_word};
-use ir_whole::WholeFinding;
 use std::alloc::{AllocError, Global};
 
 /// The words of the faults of a topology, in the order of their numbers, which are counted from 1.
@@ -33,7 +30,7 @@ static SCRIPT_FAULTS: [&str; 6] = [
 ];
 
 /// Those of the faults of an order of nodes.
-static ORDER_FAULTS: [&str; 6] = [
+static ORDERS: [&str; 6] = [
     "BadByte",
     "BadRow",
     "UnknownNode",
@@ -100,11 +97,16 @@ static BESIDE_SCRIPT: [&str; 6] = [
 fn push_line(text: &mut String, what: &str, line: usize, name: &str) -> Result<(), AllocError>
     ensures { OnOk result (string_bytes text.new ≡ string_bytes text.old ++ numbered_line what.now line name.now) }
 {
-    text.push_str(what)?;
-    push_next_number(text, line)?;
-    push_word(text, name)?;
-    text.push_str("\n")?;
-    Ok(())
+    write!(text, "{what} {line} {name}\n")
+}
+
+/// Such a line alone.
+fn line_of(alloc: Global, what: &str, line: usize, name: &str) -> Result<String, AllocError>
+    ensures { IfOk result (λ text. string_bytes text ≡ numbered_line what.now line name.now) }
+{
+    let mut text = String::new(alloc);
+    push_line(&mut text, what, line, name)?;
+    Ok(text)
 }
 
 /// The text for an input that can't be read.
@@ -133,86 +135,39 @@ pub fn too_large_line(source: Source) -> &'static str
     }
 }
 
-/// The line of a finding.
-pub fn finding_line(alloc: Global, finding: Finding) -> Result<String, AllocError>
-    ensures { IfOk result (λ text. string_bytes text ≡ finding_line finding) }
-{
-    let mut text = String::new(alloc);
-    push_line(
-        &mut text,
-        "finding",
-        finding.line,
-        FINDINGS[finding.kind as usize - 1],
-    )?;
-    Ok(text)
-}
-
-/// The line of a finding beside a script.
-pub fn whole_line(alloc: Global, finding: WholeFinding) -> Result<String, AllocError>
-    ensures { IfOk result (λ text. string_bytes text ≡ whole_line finding) }
-{
-    let mut text = String::new(alloc);
-    push_line(
-        &mut text,
-        "finding",
-        finding.line,
-        BESIDE_SCRIPT[finding.kind as usize - 1],
-    )?;
-    Ok(text)
-}
-
 /// The line of a trace with so many rows and no finding.
-pub fn ok_line(alloc: Global, rows: usize) -> Result<String, AllocError>
+fn ok_line(alloc: Global, rows: usize) -> Result<String, AllocError>
     ensures { IfOk result (λ text. string_bytes text ≡ ok_line rows) }
 {
-    let mut text = String::from_str(alloc, "ok")?;
-    push_next_number(&mut text, rows)?;
-    text.push_str("\n")?;
-    Ok(text)
-}
-
-/// The line of a topology's fault.
-pub fn topology_line(alloc: Global, line: usize, kind: Fault) -> Result<String, AllocError>
-    ensures { IfOk result (λ text. string_bytes text ≡ topology_line (line, kind)) }
-{
-    let mut text = String::new(alloc);
-    push_line(&mut text, "topology", line, FAULTS[kind as usize - 1])?;
-    Ok(text)
-}
-
-/// The line of a script's fault.
-pub fn script_line(alloc: Global, line: usize, kind: ScriptFault) -> Result<String, AllocError>
-    ensures { IfOk result (λ text. string_bytes text ≡ script_line (line, kind)) }
-{
-    let mut text = String::new(alloc);
-    push_line(&mut text, "script", line, SCRIPT_FAULTS[kind as usize - 1])?;
-    Ok(text)
-}
-
-/// The line of the fault of an order of nodes.
-pub fn numbering_line(
-    alloc: Global,
-    line: usize,
-    kind: OrderFaultKind,
-) -> Result<String, AllocError>
-    ensures { IfOk result (λ text. string_bytes text ≡ numbering_line (line, kind)) }
-{
-    let mut text = String::new(alloc);
-    push_line(
-        &mut text,
-        "numbering",
-        line,
-        ORDER_FAULTS[kind as usize - 1],
-    )?;
-    Ok(text)
+    format!(in alloc; "ok {rows}\n")
 }
 
 /// The line of a refused opening.
-pub fn opening_line(alloc: Global, error: OpenError) -> Result<String, AllocError>
+fn opening_line(alloc: Global, error: OpenError) -> Result<String, AllocError>
     ensures { IfOk result (λ text. string_bytes text ≡ opening_line error) }
 {
     let name = OPENINGS[error.code() as usize - 1];
     format!(in alloc; "opening {name}\n")
+}
+
+/// The line of a notice.
+pub fn notice_line(alloc: Global, notice: Notice) -> Result<String, AllocError>
+    ensures { IfOk result (λ text. string_bytes text ≡ notice_line notice) }
+{
+    match notice {
+        Notice::Unreadable(source) => String::from_str(alloc, unreadable_line(source)),
+        Notice::TooLarge(source) => String::from_str(alloc, too_large_line(source)),
+        Notice::Topology(e) => line_of(alloc, "topology", e.line, FAULTS[e.kind as usize - 1]),
+        Notice::Script(e) => line_of(alloc, "script", e.line, SCRIPT_FAULTS[e.kind as usize - 1]),
+        Notice::Numbering(e) => { line_of(alloc, "numbering", e.line, ORDERS[e.kind as usize - 1]) }
+        Notice::Opening(error) => opening_line(alloc, error),
+        Notice::Finding(f) => line_of(alloc, "finding", f.line, FINDINGS[f.kind as usize - 1]),
+        Notice::Beside(f) => line_of(alloc, "finding", f.line, BESIDE_SCRIPT[f.kind as usize - 1]),
+        Notice::Sound(rows) => ok_line(alloc, rows),
+        Notice::Unwritable => String::from_str(alloc, "output unwritable\n"),
+        Notice::NoMemory => String::from_str(alloc, "out of memory\n"),
+        Notice::NoThread => String::from_str(alloc, "no thread\n"),
+    }
 }
 
 /// Writes the line of a step that was refused.

@@ -1,6 +1,6 @@
 //! What the inputs come to.
 ghost use Rattle.std.specs.Prelude.{◌≡◌, ◌≢◌, None};
-ghost use Rattle.ir_cli.specs.{Replied.UnreadAs, Notices.told_text, Told.Tells};
+ghost use Rattle.ir_cli.specs.{Replied.UnreadAs, Notices.{notice_line, told_text}, Told.Tells};
 ghost use Rattle.ir_cli.specs.declared.ending.Ending.TheVariants as endings;
 
 use crate::ending::Ending;
@@ -28,6 +28,22 @@ pub enum Reply {
     NoThread,
 }
 
+/// Tells that a run ended with nothing but the line of a notice.
+pub fn tell_fault<F: Writer>(faults: &mut F, ending: Ending, notice: Notice, line: &str) -> Outcome
+    requires { line.now ≡ notice_line notice }
+    ensures ending { result.ending ≡ ending }
+    ensures line { Tells F.contents F.wrote F.settled faults.old faults.new (notice_line notice) }
+    ensures told { Tells F.contents F.wrote F.settled faults.old faults.new (told_text result.told) }
+    ensures found { result.found ≡ None }
+{
+    tell(faults, line.as_bytes());
+    Outcome {
+        ending,
+        told: Told::Fault(notice),
+        found: None,
+    }
+}
+
 /// Tells why an input was not read.
 pub fn tell_unread<F: Writer>(faults: &mut F, source: Source, why: NoInput) -> Outcome
     ensures ends { UnreadAs source result.ending why (Tells F.contents F.wrote F.settled faults.old faults.new) }
@@ -37,28 +53,20 @@ pub fn tell_unread<F: Writer>(faults: &mut F, source: Source, why: NoInput) -> O
 {
     match why {
         NoInput::Unreadable => {
-            tell(faults, unreadable_line(source).as_bytes());
-            Outcome {
-                ending: Ending::Unreadable,
-                told: Told::Fault(Notice::Unreadable(source)),
-                found: None,
-            }
+            let line = unreadable_line(source);
+            tell_fault(faults, Ending::Unreadable, Notice::Unreadable(source), line)
         }
         NoInput::TooLarge => {
-            tell(faults, too_large_line(source).as_bytes());
-            Outcome {
-                ending: Ending::TooLarge,
-                told: Told::Fault(Notice::TooLarge(source)),
-                found: None,
-            }
+            let line = too_large_line(source);
+            tell_fault(faults, Ending::TooLarge, Notice::TooLarge(source), line)
         }
         NoInput::NoMemory => {
-            tell(faults, b"out of memory\n");
-            Outcome {
-                ending: Ending::NoMemory,
-                told: Told::Fault(Notice::NoMemory),
-                found: None,
-            }
+            tell_fault(
+                faults,
+                Ending::NoMemory,
+                Notice::NoMemory,
+                "out of memory\n",
+            )
         }
     }
 }

@@ -3,7 +3,8 @@
 ghost use Rattle.std.specs.Prelude.{◌≡◌, ◌≢◌, ◌<◌, ◌++◌, ℕ, Option, Some, IfOk, IfSome, MatchOption, OnOk, codes, map, option_map, option_to_list, string_bytes, unwrap_or};
 ghost use Rattle.clap.specs.Words.{first_of, found_of, rows_of};
 ghost use Rattle.ir_model.specs.declared.Kind.{Kind};
-ghost use Rattle.ir_cli.specs.Meaning.{IsFormat, IsNumber, IsNumberElse, IsNumbering, IsSecond, files_in, first_kind, is_set, kind_word, numbering_word, second_kind, second_root, second_word, sub_word};
+ghost use Rattle.ir_cli.specs.Meaning.{IsFormat, IsNumber, IsNumberElse, IsNumbering, IsSecond, files_in, first_kind, is_set, kind_word, numbering_word, second_kind, second_root, second_word};
+ghost use Rattle.ir_cli.specs.CommandLine.{sub_word};
 ghost use Rattle.ir_cli.specs.Typed.{AreTyped};
 ghost use Rattle.ir_cli.specs.declared.typed.Chosen.{Chosen};
 ghost use Rattle.ir_cli.specs.declared.words.Format.{Format};

@@ -31,10 +31,7 @@ impl Way<'_> {
 
     /// The epoch of the segment at a place, from 0; 0 where there is none.
     fn epoch(&self, place: usize) -> u32 {
-        match self.segments.get(place) {
-            Some(segment) => segment.epoch,
-            None => 0,
-        }
+        self.segments.get(place).map_or(0, |segment| segment.epoch)
     }
 
     /// The hops of the segment at a place, from 0; none where there is none.
@@ -52,24 +49,6 @@ impl Way<'_> {
             None => "",
         }
     }
-}
-
-/// Says that the epoch of a segment is not above that of the one before.
-fn push_epoch(text: &mut String, way: Way<'_>, place: usize) -> Result<(), AllocError> {
-    let (epoch, before) = (way.epoch(place), way.epoch(place.saturating_sub(1)));
-    write!(
-        text,
-        "epoch {epoch} stands behind epoch {before}: epochs rise"
-    )
-}
-
-/// Says that a segment begins at another node than this one, where the packet stood.
-fn push_start(text: &mut String, way: Way<'_>, place: usize, at: u16) -> Result<(), AllocError> {
-    let (epoch, first, stood) = (way.epoch(place), way.hop(place, 0), way.name(at));
-    write!(
-        text,
-        "the hops under epoch {epoch} begin at '{first}', and the packet stood at '{stood}'"
-    )
 }
 
 /// Says that a hop of a segment is not the node that the plan goes on to.
@@ -120,8 +99,20 @@ fn push_unsaid(text: &mut String, way: Way<'_>, next: Option<u16>) -> Result<(),
 /// Says where segments leave the walks of their epochs.
 fn push_found(text: &mut String, way: Way<'_>, found: Departure) -> Result<(), AllocError> {
     match found {
-        Departure::Epoch { segment } => push_epoch(text, way, segment),
-        Departure::Start { segment, at } => push_start(text, way, segment, at),
+        Departure::Epoch { segment } => {
+            let (epoch, before) = (way.epoch(segment), way.epoch(segment.saturating_sub(1)));
+            write!(
+                text,
+                "epoch {epoch} stands behind epoch {before}: epochs rise"
+            )
+        }
+        Departure::Start { segment, at } => {
+            let (epoch, first, stood) = (way.epoch(segment), way.hop(segment, 0), way.name(at));
+            write!(
+                text,
+                "the hops under epoch {epoch} begin at '{first}', and the packet stood at '{stood}'"
+            )
+        }
         Departure::Hop { segment, hop, next } => push_stray(text, way, segment, hop, next),
         Departure::Fate { next } => push_unsaid(text, way, next),
     }
@@ -186,14 +177,7 @@ pub fn push_departure_by(
     let Some(found) = departure_by(crew, run.alloc, &topology, built.as_slice(), row)? else {
         return Ok(false);
     };
-    let segments = row.segments.as_slice();
-    push_found(
-        text,
-        Way {
-            graph: run.graph,
-            segments,
-        },
-        found,
-    )?;
+    let (graph, segments) = (run.graph, row.segments.as_slice());
+    push_found(text, Way { graph, segments }, found)?;
     Ok(true)
 }

@@ -1,60 +1,48 @@
 //! The explanation of a run.
 
 use crate::MOST_EXPLAINED;
-use crate::finding::{explain_beside, explain_finding, explain_ok};
-use crate::graph::graph_of;
+use crate::finding::{push_beside, push_finding};
 use crate::notes::push_note;
-use crate::numbering::explain_numbering;
-use crate::opening::explain_opening;
-use crate::parts::{Given, Part, Parts, Run, Trouble, parts_of};
+use crate::numbering::push_numbering;
+use crate::opening::push_opening;
+use crate::parts::{Given, Run, Trouble, graph_of, parts_of};
 use crate::refusal::explain_refusal;
-use crate::script::explain_script;
+use crate::script::push_script;
 use crate::sentence::begin;
-use crate::topology::explain_topology;
+use crate::topology::push_topology;
 use crate::unlearnt::push_unlearnt;
-use ir_cli::{Notice, Outcome, Source, Sub, Told, Words};
+use ir_cli::{Notice, Outcome, Sub, Told, Words};
 use ir_core::Refused;
 use ir_plan::{Alone, Crew};
 use ir_streams::MAX_INPUT_BYTES;
 use std::alloc::{AllocError, Global};
 
-/// The text of a source; of an input with several texts the first.
-fn part_of<'a>(parts: &Parts<'a>, source: Source) -> Part<'a> {
-    match source {
-        Source::Input | Source::Topology => parts.topology,
-        Source::Script => parts.script,
-        Source::Trace => parts.trace,
-        Source::Numbering => parts.numbering,
+/// Says why an input was not read.
+fn unread(trouble: Trouble) -> &'static str {
+    match trouble {
+        Trouble::Missing => "no such file",
+        Trouble::Forbidden => "no leave to read it",
+        Trouble::Directory => "it is a directory",
+        Trouble::Unknown | Trouble::Failed => "it could not be read",
     }
 }
 
-/// Says that an input has too many bytes.
-fn explain_too_large(text: &mut String, part: &Part<'_>) -> Result<(), AllocError> {
-    begin(text, part.file)?;
-    write!(
-        text,
-        "more than {MAX_INPUT_BYTES} bytes, the most of an input\n"
-    )
-}
-
-/// Says why an input was not read.
-fn explain_unread(text: &mut String, part: &Part<'_>) -> Result<(), AllocError> {
-    begin(text, part.file)?;
-    text.push_str(match part.trouble {
-        Trouble::Missing => "no such file\n",
-        Trouble::Forbidden => "no leave to read it\n",
-        Trouble::Directory => "it is a directory\n",
-        Trouble::Unknown | Trouble::Failed => "it could not be read\n",
-    })
-}
-
 /// Says which output was not written.
-fn explain_unwritten(text: &mut String, words: &Words) -> Result<(), AllocError> {
+fn push_unwritten(text: &mut String, words: &Words) -> Result<(), AllocError> {
     match &words.output {
         Some(file) if file.as_str() != "-" => begin(text, file.as_str())?,
         _ => text.push_str("route: standard output: ")?,
     }
-    text.push_str("it could not be written\n")
+    text.push_str("it could not be written")
+}
+
+/// Says what was not looked at where there is no finding.
+fn unseen(words: &Words) -> &'static str {
+    if words.whole {
+        "injects, epochs and causes of drops are there, as far as script and rows tell; missing rows were not looked at"
+    } else {
+        "hops and weights are those of the plans; injects, causes of drops and missing rows were not looked at (--whole looks at the first two)"
+    }
 }
 
 /// Explains a notice.
@@ -64,20 +52,34 @@ fn explain_notice(
     run: &Run<'_>,
     notice: Notice,
 ) -> Result<(), AllocError> {
+    let parts = &run.parts;
     match notice {
-        Notice::Unreadable(source) => explain_unread(text, &part_of(&run.parts, source)),
-        Notice::TooLarge(source) => explain_too_large(text, &part_of(&run.parts, source)),
-        Notice::Topology(error) => explain_topology(text, run, error),
-        Notice::Script(error) => explain_script(text, run, error),
-        Notice::Numbering(fault) => explain_numbering(text, run, fault),
-        Notice::Opening(error) => explain_opening(text, run, error),
-        Notice::Finding(finding) => explain_finding(crew, text, run, finding),
-        Notice::Beside(finding) => explain_beside(text, run, finding),
-        Notice::Sound(_) => explain_ok(text, run),
-        Notice::Unwritable => explain_unwritten(text, run.words),
-        Notice::NoThread => text.push_str("route: no further thread was started\n"),
-        Notice::NoMemory => text.push_str("route: memory was refused\n"),
+        Notice::Unreadable(source) => {
+            begin(text, parts.of(source).file)?;
+            text.push_str(unread(parts.of(source).trouble))?;
+        }
+        Notice::TooLarge(source) => {
+            begin(text, parts.of(source).file)?;
+            write!(
+                text,
+                "more than {MAX_INPUT_BYTES} bytes, the most of an input"
+            )?;
+        }
+        Notice::Topology(error) => push_topology(text, run, error)?,
+        Notice::Script(error) => push_script(text, run, error)?,
+        Notice::Numbering(fault) => push_numbering(text, run, fault)?,
+        Notice::Opening(error) => push_opening(text, run, error)?,
+        Notice::Finding(finding) => push_finding(crew, text, run, finding)?,
+        Notice::Beside(finding) => push_beside(text, run, finding)?,
+        Notice::Sound(_) => {
+            begin(text, parts.trace.file)?;
+            text.push_str(unseen(run.words))?;
+        }
+        Notice::Unwritable => push_unwritten(text, run.words)?,
+        Notice::NoThread => text.push_str("route: no further thread was started")?,
+        Notice::NoMemory => text.push_str("route: memory was refused")?,
     }
+    text.push_str("\n")
 }
 
 /// That there are more lines of faults than are explained.
@@ -101,7 +103,8 @@ fn explain_steps(
     } else if steps.len() == MOST_EXPLAINED {
         text.push_str(FURTHER)
     } else {
-        explain_unwritten(text, run.words)
+        push_unwritten(text, run.words)?;
+        text.push_str("\n")
     }
 }
 

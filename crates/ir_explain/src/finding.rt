@@ -4,7 +4,7 @@ use crate::departing::push_departure_by;
 use crate::lines::{line_at, line_with, word_at, words_of};
 use crate::parts::{Part, Run};
 use crate::script::{push_no_node, unknown_word};
-use crate::sentence::{FileName, Quoted, begin, begin_at};
+use crate::sentence::{FileName, Quoted, begin_at};
 use ir_plan::Crew;
 use ir_trace::{Finding, FindingKind};
 use ir_whole::{WholeFinding, WholeKind};
@@ -36,18 +36,6 @@ fn push_unknown_node(text: &mut String, run: &Run<'_>, words: &[&[u8]]) -> Resul
     push_no_node(text, run, end)
 }
 
-/// Says that the run has no such epoch.
-fn push_unknown_epoch(
-    text: &mut String,
-    trace: &Part<'_>,
-    words: &[&[u8]],
-) -> Result<(), AllocError> {
-    if has_segments(trace) {
-        return text.push_str("the run has not all of its epochs");
-    }
-    write!(text, "the run has no epoch {}", Quoted(word_at(words, 1)))
-}
-
 /// Says where the row on a line leaves the walks of its epochs, or else that it does.
 fn push_unfollowed(
     crew: &impl Crew,
@@ -63,17 +51,21 @@ fn push_unfollowed(
     )
 }
 
-/// Says on which line the id of a row stands already.
-fn push_repeated(text: &mut String, run: &Run<'_>, id: &[u8]) -> Result<(), AllocError> {
-    let trace = &run.parts.trace;
-    let line = line_with(run.alloc, trace.bytes, id, 1)?.saturating_add(trace.above);
-    write!(text, "the id {} stands on line {line} already", Quoted(id))
+/// Begins a sentence on a line of the trace by its row, as it stands: a trace has no comments, and `#` begins a segment.
+fn begin_row(text: &mut String, run: &Run<'_>, line: usize) -> Result<(), AllocError> {
+    begin_at(text, &run.parts.trace, line)?;
+    write!(text, "{}: ", Quoted(line_at(run.parts.trace.bytes, line)))
 }
 
 /// Says why no run of the script can have had a row.
-fn push_beside(text: &mut String, run: &Run<'_>, kind: WholeKind) -> Result<(), AllocError> {
-    let script = FileName(run.parts.script.file);
-    match kind {
+pub fn push_beside(
+    text: &mut String,
+    run: &Run<'_>,
+    finding: WholeFinding,
+) -> Result<(), AllocError> {
+    begin_row(text, run, finding.line)?;
+    let (script, capacity) = (FileName(run.parts.script.file), run.words.capacity);
+    match finding.kind {
         WholeKind::NeverInjected => write!(
             text,
             "no inject in {script} can be its packet's, beside those of the rows before it"
@@ -84,36 +76,25 @@ fn push_beside(text: &mut String, run: &Run<'_>, kind: WholeKind) -> Result<(), 
         ),
         WholeKind::NeverDown => write!(text, "no line of {script} takes that link down"),
         WholeKind::NeverRetired => write!(text, "no line of {script} retires its epoch"),
-        WholeKind::NeverFull => {
-            let capacity = run.words.capacity;
-            write!(
-                text,
-                "fewer packets than --capacity ({capacity}) can have been in that channel"
-            )
-        }
+        WholeKind::NeverFull => write!(
+            text,
+            "fewer packets than --capacity ({capacity}) can have been in that channel"
+        ),
         WholeKind::NoMemory => text.push_str(MEMORY),
     }
 }
 
-/// Says what was not looked at where there is no finding.
-pub fn explain_ok(text: &mut String, run: &Run<'_>) -> Result<(), AllocError> {
-    begin(text, run.parts.trace.file)?;
-    text.push_str(if run.words.whole {
-        "injects, epochs and causes of drops are there, as far as script and rows tell; missing rows were not looked at\n"
-    } else {
-        "hops and weights are those of the plans; injects, causes of drops and missing rows were not looked at (--whole looks at the first two)\n"
-    })
-}
-
-/// Says what a finding on a line of these words means.
-fn push_reason(
+/// Says what a finding means.
+pub fn push_finding(
     crew: &impl Crew,
     text: &mut String,
     run: &Run<'_>,
-    words: &[&[u8]],
     finding: Finding,
 ) -> Result<(), AllocError> {
     let trace = &run.parts.trace;
+    let found = words_of(run.alloc, line_at(trace.bytes, finding.line))?;
+    let words = found.as_slice();
+    begin_row(text, run, finding.line)?;
     match finding.kind {
         FindingKind::NotTrace => text.push_str(
             "a trace begins with the line 'trace 1' or 'trace 2'",
@@ -122,46 +103,25 @@ fn push_reason(
             "this is no row of a trace, or it lacks its line feed",
         ),
         FindingKind::UnknownNode => push_unknown_node(text, run, words),
-        FindingKind::UnknownEpoch => push_unknown_epoch(text, trace, words),
-        FindingKind::NotAPrefix => push_unfollowed(crew, text, run, finding.line),
-        FindingKind::NotAtDestination => text.push_str(
-            "it says delivered, and the walk goes on behind its last hop",
-        ),
-        FindingKind::BadWeight => {
-            let weight = word_at(words, places(trace)[2]);
-            write!(text, "{} is not the weight of its hops", Quoted(weight))
+        FindingKind::UnknownEpoch if has_segments(trace) => {
+            text.push_str("the run has not all of its epochs")
         }
-        FindingKind::Repeated => push_repeated(text, run, word_at(words, 0)),
+        FindingKind::UnknownEpoch => {
+            write!(text, "the run has no epoch {}", Quoted(word_at(words, 1)))
+        }
+        FindingKind::NotAPrefix => push_unfollowed(crew, text, run, finding.line),
+        FindingKind::NotAtDestination => {
+            text.push_str("it says delivered, and the walk goes on behind its last hop")
+        }
+        FindingKind::BadWeight => {
+            let weight = Quoted(word_at(words, places(trace)[2]));
+            write!(text, "{weight} is not the weight of its hops")
+        }
+        FindingKind::Repeated => {
+            let id = word_at(words, 0);
+            let line = line_with(run.alloc, trace.bytes, id, 1)?.saturating_add(trace.above);
+            write!(text, "the id {} stands on line {line} already", Quoted(id))
+        }
         FindingKind::NoMemory => text.push_str(MEMORY),
     }
-}
-
-/// The row on a line of the trace, quoted as it stands: a trace has no comments, and `#` begins a segment.
-fn begin_row(text: &mut String, run: &Run<'_>, line: usize) -> Result<(), AllocError> {
-    begin_at(text, &run.parts.trace, line)?;
-    write!(text, "{}: ", Quoted(line_at(run.parts.trace.bytes, line)))
-}
-
-/// Explains a finding.
-pub fn explain_finding(
-    crew: &impl Crew,
-    text: &mut String,
-    run: &Run<'_>,
-    finding: Finding,
-) -> Result<(), AllocError> {
-    let words = words_of(run.alloc, line_at(run.parts.trace.bytes, finding.line))?;
-    begin_row(text, run, finding.line)?;
-    push_reason(crew, text, run, words.as_slice(), finding)?;
-    text.push_str("\n")
-}
-
-/// Explains a finding beside the script.
-pub fn explain_beside(
-    text: &mut String,
-    run: &Run<'_>,
-    finding: WholeFinding,
-) -> Result<(), AllocError> {
-    begin_row(text, run, finding.line)?;
-    push_beside(text, run, finding.kind)?;
-    text.push_str("\n")
 }

@@ -5,11 +5,10 @@
 //! fault is total, so that one without a sentence does not compile. Nothing here reads or writes anything but memory.
 #![tactic(auto)]
 
-mod bytes;
 mod departing;
 mod explain;
 mod finding;
-mod graph;
+mod limits;
 mod lines;
 mod nearest;
 mod notes;
@@ -24,6 +23,7 @@ mod topology;
 mod unlearnt;
 
 pub use explain::{explanation, explanation_by};
+pub use limits::{limits_of_runs, limits_of_texts, limits_of_words};
 pub use parts::{Given, Trouble};
 
 /// The most lines of faults that are explained.

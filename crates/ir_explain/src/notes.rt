@@ -1,7 +1,6 @@
 //! Topologies that look like another format.
 
-use crate::graph::graph_of;
-use crate::parts::Part;
+use crate::parts::{Part, graph_of};
 use crate::seen::{Seen, seen_of};
 use crate::sentence::{FileName, begin};
 use ir_cli::{Format, Words};
@@ -18,6 +17,23 @@ static QUOTES: &str =
 
 static WEIGHTS: &str =
     "each line has three words, the last a number (an edge list? try --format edgelist)";
+
+/// Documents that are converted: what stands at the front, behind blanks, what further in, and the format.
+static DOCUMENTS: [(&str, &str, &str); 13] = [
+    ("%%MatrixMarket", "", "MatrixMarket"),
+    ("?SNDlib", "", "SNDlib"),
+    ("{", "", "JSON"),
+    (">>graph6<<", "", "graph6"),
+    (">>sparse6<<", "", "graph6"),
+    ("*Vertices", "", "Pajek"),
+    ("*vertices", "", "Pajek"),
+    ("graph ", "{", "DOT"),
+    ("digraph ", "{", "DOT"),
+    ("strict ", "{", "DOT"),
+    ("<", "<graphml", "GraphML"),
+    ("<", "<gexf", "GEXF"),
+    ("<", "<networkStructure", "SNDlib"),
+];
 
 /// What follows the blanks at the front of a text, and the blank lines.
 fn from_first_word(text: &[u8]) -> &[u8] {
@@ -40,50 +56,15 @@ fn has_in_front(text: &[u8], word: &[u8]) -> bool {
     false
 }
 
-/// The format of a text that begins with these bytes, if it is a document that is converted.
-fn document(front: &[u8]) -> &'static str {
-    if front.starts_with(b"<") && has_in_front(front, b"<graphml") {
-        return "GraphML";
-    }
-    if front.starts_with(b"<") && has_in_front(front, b"<gexf") {
-        return "GEXF";
-    }
-    if front.starts_with(b"<") && has_in_front(front, b"<networkStructure") {
-        return "SNDlib";
-    }
-    ""
-}
-
-/// The format of a text that begins with these bytes, if it is one that is converted.
+/// The format of a text that is a document of those that are converted; nothing for another.
 fn convertible(text: &[u8]) -> &'static str {
     let front = from_first_word(text);
-    if front.starts_with(b"%%MatrixMarket") {
-        return "MatrixMarket";
+    for (begun, inside, name) in DOCUMENTS.as_slice() {
+        if front.starts_with(begun.as_bytes()) && has_in_front(front, inside.as_bytes()) {
+            return *name;
+        }
     }
-    if front.starts_with(b"?SNDlib") {
-        return "SNDlib";
-    }
-    if front.starts_with(b"{") {
-        return "JSON";
-    }
-    if front.starts_with(b">>graph6<<") || front.starts_with(b">>sparse6<<") {
-        return "graph6";
-    }
-    if front.starts_with(b"*Vertices") || front.starts_with(b"*vertices") {
-        return "Pajek";
-    }
-    if is_dot(front) {
-        return "DOT";
-    }
-    document(front)
-}
-
-/// Whether a text begins as one of Graphviz.
-fn is_dot(front: &[u8]) -> bool {
-    let is_begun = front.starts_with(b"graph ")
-        || front.starts_with(b"digraph ")
-        || front.starts_with(b"strict ");
-    is_begun && has_in_front(front, b"{")
+    ""
 }
 
 /// What lines are that were seen to be this, and the word by which they are converted; two nothings where that wants none.

@@ -1,10 +1,9 @@
 //! What is wrong with a line of an order of nodes.
 
-use crate::bytes::push_bad_byte;
-use crate::lines::{first_word, line_at, line_with, lines_of, text_of, word_at, words_of};
+use crate::lines::{first_word, line_with, lines_of, text_of, word_at};
 use crate::parts::Run;
 use crate::script::push_no_node;
-use crate::sentence::{Quoted, WordCount, begin, begin_at};
+use crate::sentence::{Quoted, WordCount, begin_line, push_bad_byte};
 use ir_graph::Graph;
 use ir_script::{OrderFault, OrderFaultKind};
 use std::alloc::{AllocError, Global};
@@ -35,46 +34,33 @@ fn push_missing(text: &mut String, run: &Run<'_>) -> Result<(), AllocError> {
     )
 }
 
-/// Says that a node stands on a line already.
-fn push_twice(text: &mut String, run: &Run<'_>, word: &[u8]) -> Result<(), AllocError> {
-    let line = line_with(run.alloc, run.parts.numbering.bytes, word, 0)?;
-    write!(text, "{} stands on line {line} already", Quoted(word))
-}
-
-/// Says what is wrong with the words of a line.
-fn push_fault(
+/// Says what is wrong with a line of an order.
+pub fn push_numbering(
     text: &mut String,
     run: &Run<'_>,
-    words: &[&[u8]],
-    kind: OrderFaultKind,
+    fault: OrderFault,
 ) -> Result<(), AllocError> {
+    let order = &run.parts.numbering;
+    let place = if fault.kind == OrderFaultKind::Missing {
+        0
+    } else {
+        fault.line
+    };
+    let line = begin_line(run.alloc, text, order, place)?;
+    let words = line.as_slice();
     let word = word_at(words, 0);
-    match kind {
+    match fault.kind {
         OrderFaultKind::BadByte => push_bad_byte(text, words, "names are"),
         OrderFaultKind::BadRow => {
             let count = WordCount(words.len());
             write!(text, "{count}; an order has the name of one node on a line")
         }
         OrderFaultKind::UnknownNode => push_no_node(text, run, word),
-        OrderFaultKind::Twice => push_twice(text, run, word),
+        OrderFaultKind::Twice => {
+            let first = line_with(run.alloc, order.bytes, word, 0)?;
+            write!(text, "{} stands on line {first} already", Quoted(word))
+        }
         OrderFaultKind::Missing => push_missing(text, run),
         OrderFaultKind::NoMemory => text.push_str("memory was refused while the order was read"),
     }
-}
-
-/// Explains a fault of an order of nodes.
-pub fn explain_numbering(
-    text: &mut String,
-    run: &Run<'_>,
-    fault: OrderFault,
-) -> Result<(), AllocError> {
-    let order = &run.parts.numbering;
-    let words = words_of(run.alloc, line_at(order.bytes, fault.line))?;
-    if fault.kind == OrderFaultKind::Missing {
-        begin(text, order.file)?;
-    } else {
-        begin_at(text, order, fault.line)?;
-    }
-    push_fault(text, run, words.as_slice(), fault.kind)?;
-    text.push_str("\n")
 }

@@ -1,9 +1,10 @@
 //! The texts of a run, and the files that they stand in.
 
 use crate::lines::line_ends;
-use ir_cli::{Sub, Words, cut};
+use ir_cli::{Source, Sub, Words, cut, read_topology};
 use ir_graph::Graph;
-use std::alloc::Global;
+use ir_model::Fault;
+use std::alloc::{AllocError, Global};
 
 /// What kept an input from being read.
 #[derive(Clone, Copy, Debug, PartialEq, Eq)]
@@ -43,6 +44,18 @@ pub struct Parts<'a> {
     pub script: Part<'a>,
     pub trace: Part<'a>,
     pub numbering: Part<'a>,
+}
+
+impl<'a> Parts<'a> {
+    /// The text of a source; of an input with several texts the first.
+    pub fn of(&self, source: Source) -> &Part<'a> {
+        match source {
+            Source::Input | Source::Topology => &self.topology,
+            Source::Script => &self.script,
+            Source::Trace => &self.trace,
+            Source::Numbering => &self.numbering,
+        }
+    }
 }
 
 /// All of the input at a place, as a text of this file.
@@ -108,4 +121,13 @@ pub struct Run<'a> {
     pub graph: &'a Graph,
     pub words: &'a Words,
     pub parts: Parts<'a>,
+}
+
+/// The graph of a topology; one with no node where the text has a fault.
+pub fn graph_of(alloc: Global, words: &Words, topology: &Part<'_>) -> Result<Graph, AllocError> {
+    match read_topology(alloc, words.format, topology.bytes) {
+        Ok(graph) => Ok(graph),
+        Err(error) if error.kind == Fault::NoMemory => Err(AllocError),
+        Err(_) => Ok(Graph::new(alloc)),
+    }
 }

@@ -1,8 +1,7 @@
 //! Why a step of a script was refused.
 
-use crate::lines::{line_at, words_of};
 use crate::parts::Run;
-use crate::sentence::{Quoted, begin_at, joined};
+use crate::sentence::{Quoted, begin_line, joined};
 use ir_core::{MAX_CHANGES, MAX_EPOCHS, Refused};
 use std::alloc::AllocError;
 
@@ -38,10 +37,8 @@ pub fn explain_refusal(
     line: usize,
     refusal: Refused,
 ) -> Result<(), AllocError> {
-    let script = &run.parts.script;
-    let words = words_of(run.alloc, line_at(script.bytes, line))?;
+    let words = begin_line(run.alloc, text, &run.parts.script, line)?;
     let step = joined(run.alloc, words.as_slice())?;
-    begin_at(text, script, line)?;
     write!(text, "{} was refused: ", Quoted(step.as_slice()))?;
     push_reason(text, refusal)?;
     text.push_str("\n")

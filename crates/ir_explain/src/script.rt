@@ -1,10 +1,9 @@
 //! What is wrong with a line of a script.
 
-use crate::bytes::push_bad_byte;
-use crate::lines::{line_at, text_of, word_at, words_of};
+use crate::lines::{text_of, word_at};
 use crate::nearest::{nearest_node, nearest_of, push_near};
 use crate::parts::Run;
-use crate::sentence::{FileName, Quoted, begin_at, joined};
+use crate::sentence::{FileName, Quoted, begin_line, joined, push_bad_byte};
 use ir_cli::Sub;
 use ir_graph::Graph;
 use ir_script::{ScriptError, ScriptFault};
@@ -43,40 +42,31 @@ fn is_of_simulation(command: &str) -> bool {
     matches!(command, "learn" | "take" | "read" | "act")
 }
 
-/// Says that a first word is no command.
-fn push_unknown(text: &mut String, run: &Run<'_>, command: &[u8]) -> Result<(), AllocError> {
-    let names = if run.words.sub == Sub::Live {
-        &COMMANDS[..LIVE_COMMANDS]
-    } else {
-        COMMANDS.as_slice()
-    };
-    write!(text, "unknown command {}", Quoted(command))?;
-    push_near(text, nearest_of(run.alloc, names, command)?)
-}
-
-/// Says that a word is no kind of plan.
-fn push_no_kind(text: &mut String, run: &Run<'_>, kind: &[u8]) -> Result<(), AllocError> {
-    let word = Quoted(kind);
-    write!(
-        text,
-        "{word} is no kind of plan: tree, shortest or compact is wanted"
-    )?;
-    push_near(text, nearest_of(run.alloc, KINDS.as_slice(), kind)?)
-}
-
 /// Says why the words of a line are no command.
 fn push_bad_command(text: &mut String, run: &Run<'_>, words: &[&[u8]]) -> Result<(), AllocError> {
     let command = word_at(words, 0);
-    let name = text_of(command);
+    let (name, is_live) = (text_of(command), run.words.sub == Sub::Live);
     let form = form_of(name);
     if form.is_empty() {
-        return push_unknown(text, run, command);
+        let known = if is_live {
+            LIVE_COMMANDS
+        } else {
+            COMMANDS.len()
+        };
+        write!(text, "unknown command {}", Quoted(command))?;
+        return push_near(text, nearest_of(run.alloc, &COMMANDS[..known], command)?);
     }
-    if run.words.sub == Sub::Live && is_of_simulation(name) {
+    if is_live && is_of_simulation(name) {
         return write!(text, "'{name}' is a command of 'route sim' alone");
     }
     if name == "install" && words.len() == 3 {
-        return push_no_kind(text, run, word_at(words, 1));
+        let kind = word_at(words, 1);
+        write!(
+            text,
+            "{} is no kind of plan: tree, shortest or compact is wanted",
+            Quoted(kind)
+        )?;
+        return push_near(text, nearest_of(run.alloc, KINDS.as_slice(), kind)?);
     }
     let line = joined(run.alloc, words)?;
     write!(
@@ -114,15 +104,12 @@ pub fn push_no_node(text: &mut String, run: &Run<'_>, word: &[u8]) -> Result<(),
     push_near(text, nearest_node(run.alloc, run.graph, word)?)
 }
 
-/// Says what is wrong with the words of a line.
-fn push_fault(
-    text: &mut String,
-    run: &Run<'_>,
-    words: &[&[u8]],
-    kind: ScriptFault,
-) -> Result<(), AllocError> {
+/// Says what is wrong with a line of a script.
+pub fn push_script(text: &mut String, run: &Run<'_>, error: ScriptError) -> Result<(), AllocError> {
+    let line = begin_line(run.alloc, text, &run.parts.script, error.line)?;
+    let words = line.as_slice();
     let command = text_of(word_at(words, 0));
-    match kind {
+    match error.kind {
         ScriptFault::BadByte => push_bad_byte(text, words, "scripts are"),
         ScriptFault::BadCommand => push_bad_command(text, run, words),
         ScriptFault::BadNumber => {
@@ -133,33 +120,14 @@ fn push_fault(
             )
         }
         ScriptFault::UnknownNode => {
-            push_no_node(
-                text,
-                run,
-                unknown_word(run.graph, words, node_places(command)),
-            )
+            let word = unknown_word(run.graph, words, node_places(command));
+            push_no_node(text, run, word)
         }
         ScriptFault::UnknownLink => {
+            let one = Quoted(word_at(words, 1));
             let other = Quoted(word_at(words, if command == "take" { 3 } else { 2 }));
-            write!(
-                text,
-                "no link between {} and {other}",
-                Quoted(word_at(words, 1))
-            )
+            write!(text, "no link between {one} and {other}")
         }
         ScriptFault::NoMemory => text.push_str("memory was refused while the script was read"),
     }
-}
-
-/// Explains a fault of a script.
-pub fn explain_script(
-    text: &mut String,
-    run: &Run<'_>,
-    error: ScriptError,
-) -> Result<(), AllocError> {
-    let script = &run.parts.script;
-    let words = words_of(run.alloc, line_at(script.bytes, error.line))?;
-    begin_at(text, script, error.line)?;
-    push_fault(text, run, words.as_slice(), error.kind)?;
-    text.push_str("\n")
 }

@@ -3,7 +3,9 @@ ghost use Rattle.std.specs.Prelude.{◌≡◌, length, min, take};
 ghost use Rattle.ir_explain.specs.declared.TheConstants.{MOST_QUOTED};
 
 use crate::MOST_QUOTED;
+use crate::lines::{line_at, words_of};
 use crate::parts::Part;
+use ir_adjlist::scan::all_plain;
 use std::alloc::{AllocError, Global};
 use std::fmt;
 
@@ -94,6 +96,17 @@ pub fn begin_at(text: &mut String, part: &Part<'_>, line: usize) -> Result<(), A
     )
 }
 
+/// Begins a sentence on a line of a text, and answers the words that stand there.
+pub fn begin_line<'a>(
+    alloc: Global,
+    text: &mut String,
+    part: &Part<'a>,
+    line: usize,
+) -> Result<Vec<&'a [u8]>, AllocError> {
+    begin_at(text, part, line)?;
+    words_of(alloc, line_at(part.bytes, line))
+}
+
 /// Words with a space between them.
 pub fn joined(alloc: Global, words: &[&[u8]]) -> Result<Vec<u8>, AllocError> {
     let mut all = Vec::new(alloc);
@@ -104,4 +117,23 @@ pub fn joined(alloc: Global, words: &[&[u8]]) -> Result<Vec<u8>, AllocError> {
         all.extend_from_slice(word)?;
     }
     Ok(all)
+}
+
+/// Says which byte of a line may not stand there: the first that is not printable ASCII.
+pub fn push_bad_byte(text: &mut String, words: &[&[u8]], wanted: &str) -> Result<(), AllocError> {
+    let strange = words.iter().find(|word| !all_plain(word));
+    let word = strange.copied().unwrap_or(&[]);
+    if word.starts_with(b"\xEF\xBB\xBF") {
+        return text.push_str("a byte order mark stands before the text: save it without one");
+    }
+    let byte = word.iter().find(|byte| **byte < b'!' || **byte > b'~');
+    let byte = byte.copied().unwrap_or(0);
+    if byte == 0 || word.starts_with(b"\xFF\xFE") || word.starts_with(b"\xFE\xFF") {
+        return text.push_str("this looks like UTF-16: save the text as ASCII");
+    }
+    write!(
+        text,
+        "byte 0x{byte:02X} in {}: {wanted} of printable ASCII",
+        Quoted(word)
+    )
 }

@@ -1,9 +1,8 @@
 //! What is wrong with a line of a topology.
 
-use crate::bytes::push_bad_byte;
-use crate::lines::{line_at, word_at, words_of};
+use crate::lines::word_at;
 use crate::parts::Run;
-use crate::sentence::{Quoted, WordCount, begin_at};
+use crate::sentence::{Quoted, WordCount, begin_line, push_bad_byte};
 use ir_adjlist::TextError;
 use ir_model::{Fault, MAX_EDGES, MAX_NAME_BYTES, MAX_NODES, MAX_WEIGHT};
 use std::alloc::AllocError;
@@ -29,15 +28,6 @@ fn push_bad_row(text: &mut String, words: &[&[u8]]) -> Result<(), AllocError> {
     })
 }
 
-/// Says that a word is no weight.
-fn push_bad_weight(text: &mut String, word: &[u8]) -> Result<(), AllocError> {
-    let word = Quoted(word);
-    write!(
-        text,
-        "{word} is no weight: a whole number from 1 to {MAX_WEIGHT} is wanted"
-    )
-}
-
 /// Says that a topology has more of something than it may have.
 fn push_too_many(text: &mut String, most: usize, what: &str) -> Result<(), AllocError> {
     write!(
@@ -46,28 +36,23 @@ fn push_too_many(text: &mut String, most: usize, what: &str) -> Result<(), Alloc
     )
 }
 
-/// Says what is wrong with the words of a line.
-fn push_fault(text: &mut String, words: &[&[u8]], kind: Fault) -> Result<(), AllocError> {
-    match kind {
+/// Says what is wrong with a line of a topology.
+pub fn push_topology(text: &mut String, run: &Run<'_>, error: TextError) -> Result<(), AllocError> {
+    let line = begin_line(run.alloc, text, &run.parts.topology, error.line)?;
+    let words = line.as_slice();
+    match error.kind {
         Fault::BadByte => push_bad_byte(text, words, "names are"),
         Fault::BadName => push_long_name(text, words),
         Fault::BadRow => push_bad_row(text, words),
-        Fault::BadWeight => push_bad_weight(text, word_at(words, 2)),
+        Fault::BadWeight => {
+            let word = Quoted(word_at(words, 2));
+            write!(
+                text,
+                "{word} is no weight: a whole number from 1 to {MAX_WEIGHT} is wanted"
+            )
+        }
         Fault::TooManyNodes => push_too_many(text, MAX_NODES, "nodes"),
         Fault::TooManyEdges => push_too_many(text, MAX_EDGES, "edges"),
         Fault::NoMemory => text.push_str("memory was refused while the topology was read"),
     }
-}
-
-/// Explains a fault of a topology.
-pub fn explain_topology(
-    text: &mut String,
-    run: &Run<'_>,
-    error: TextError,
-) -> Result<(), AllocError> {
-    let topology = &run.parts.topology;
-    let words = words_of(run.alloc, line_at(topology.bytes, error.line))?;
-    begin_at(text, topology, error.line)?;
-    push_fault(text, words.as_slice(), error.kind)?;
-    text.push_str("\n")
 }

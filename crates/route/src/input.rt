@@ -1,7 +1,6 @@
 //! The inputs of the program.
 ghost use Rattle.std.specs.Io.{ReadsAtMost};
 
-use crate::keeping::Kept;
 use ir_explain::{Given, Trouble};
 use std::fs::File;
 use std::io;
@@ -21,7 +20,8 @@ enum Origin {
 pub struct Input {
     origin: Origin,
     trouble: Trouble,
-    kept: Kept,
+    /// None where nothing is kept, and where memory for it was refused.
+    kept: Option<Vec<u8>>,
 }
 
 /// What kept a file from being opened or read.
@@ -36,7 +36,11 @@ fn trouble_of(kind: io::ErrorKind) -> Trouble {
 
 /// The input of a name: `-` is standard input. What is read of it is kept if that is wanted.
 pub fn open(rt: &HostRuntime, name: &str, is_kept: bool) -> Input {
-    let kept = Kept::new(rt.alloc(), is_kept);
+    let kept = if is_kept {
+        Some(Vec::new(rt.alloc()))
+    } else {
+        None
+    };
     let (origin, trouble) = if name == "-" {
         (Origin::Standard(rt.stdin()), Trouble::Unknown)
     } else {
@@ -53,11 +57,20 @@ pub fn open(rt: &HostRuntime, name: &str, is_kept: bool) -> Input {
 }
 
 impl Input {
-    /// What was given of it; none where memory for what was read was refused.
+    /// What was given of it; none where that is not kept, or memory for it was refused.
     pub fn given(&self) -> Option<Given<'_>> {
-        let bytes = self.kept.whole()?;
+        let bytes = self.kept.as_ref()?.as_slice();
         let trouble = self.trouble;
         Some(Given { bytes, trouble })
+    }
+
+    /// Keeps some more bytes, if they are wanted.
+    fn keep(&mut self, bytes: &[u8]) {
+        if let Some(kept) = &mut self.kept {
+            if kept.extend_from_slice(bytes).is_err() {
+                self.kept = None;
+            }
+        }
     }
 }
 
@@ -76,7 +89,7 @@ impl Read for Input {
     fn read(&mut self, room: &mut [u8]) -> io::Result<usize> {
         match read_origin(&mut self.origin, room) {
             Ok(taken) => {
-                self.kept.keep(&room[..taken.min(room.len())]);
+                self.keep(&room[..taken.min(room.len())]);
                 Ok(taken)
             }
             Err(error) => {

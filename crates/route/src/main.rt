@@ -13,7 +13,6 @@ ghost use Rattle.ir_cli.specs.Words.{FitsItsKind};
 
 mod crew;
 mod input;
-mod keeping;
 mod naming;
 mod output;
 mod piped;

@@ -49,22 +49,12 @@ impl<W: Write> Write for Piped<'_, W> {
         if !self.is_output && self.is_quiet.get() {
             return Ok(bytes.len());
         }
-        match self.writer.write(bytes) {
-            Ok(taken) => Ok(taken),
-            Err(error) => {
-                self.note(&error);
-                Err(error)
-            }
-        }
+        self.writer
+            .write(bytes)
+            .inspect_err(|error| self.note(error))
     }
 
     fn flush(&mut self) -> io::Result<()> {
-        match self.writer.flush() {
-            Ok(()) => Ok(()),
-            Err(error) => {
-                self.note(&error);
-                Err(error)
-            }
-        }
+        self.writer.flush().inspect_err(|error| self.note(error))
     }
 }
