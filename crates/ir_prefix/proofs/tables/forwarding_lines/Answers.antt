@@ -5,7 +5,7 @@ use Rattle.ir_prefix.specs.declared.line.Line.{Line}
 use Rattle.ir_prefix.proofs.Final.{same_width}
 use Rattle.ir_prefix.proofs.TableLemmas.{row_length, lines_forward, lines_are_fewest, lines_in_order, lines_keep_matches, lines_are_well}
 use Rattle.ir_prefix.proofs.PortLemmas.{lines_name_ports}
-use Rattle.ir_prefix.proofs.tables.lines.Goals as goal
+use Rattle.ir_prefix.proofs.tables.forwarding_lines.Goals as goal
 
 pub extended-requires-clause-bits : goal.extended-requires-clause-bits
 extended-requires-clause-bits c = c.width-bits.ensures.least 16 (omega arith)
