@@ -3,7 +3,7 @@ use Rattle.ir_model.specs.Interval.{PortInterval}
 use Rattle.ir_model.specs.Row.{next_label}
 use Rattle.ir_model.proofs.Rows.{get_or-intervals_until, end_inside, end_last}
 use Rattle.ir_show.specs.WalkText.{no_interval}
-use Rattle.ir_show.proofs.alone.interval.end_of.Goals as goal
+use Rattle.ir_show.proofs.interval.end_of.Goals as goal
 
 pub returns-then-i-count : goal.returns-then-i-count
 returns-then-i-count c =

@@ -1,14 +1,36 @@
-//! The text of a walk, by its stops.
+//! The stops of a walk, and its text by these.
 ghost use Rattle.std.specs.Prelude.{◌≡◌, ◌<◌, ◌++◌, All, IfOk, OnOk, length, flat_map, string_bytes};
 ghost use Rattle.ir_model.specs.Graph.{names};
 ghost use Rattle.ir_show.specs.Words.{line_text};
 ghost use Rattle.ir_show.specs.Stops.{AreStopsAmong, end_line, head_line, stop_line, text_of_stops};
 
-use crate::alone::stops::{Stop, Stops};
 use crate::plan_text::kind_text;
 use ir_graph::Graph;
+use ir_model::{Hop, Kind};
 use ir_trace::text::{name_of, push_name, push_next_number, push_word};
 use std::alloc::{AllocError, Global};
+
+/// A node on the way to another one: its label, where the interval of its row begins and ends that has the other's
+/// label, and where it sends on.
+#[derive(Clone, Copy, Debug, PartialEq, Eq)]
+pub struct Stop {
+    pub node: u16,
+    pub label: u16,
+    pub start: u16,
+    pub end: u16,
+    pub hop: Hop,
+}
+
+/// The stops before the end of a walk, with the kind of its plan, its ends, the label of the last, and its weight.
+#[derive(Drop)]
+pub struct Stops {
+    pub kind: Kind,
+    pub from: u16,
+    pub to: u16,
+    pub label: u16,
+    pub weight: u32,
+    pub stops: Vec<Stop>,
+}
 
 /// Writes the first line.
 fn push_head(text: &mut String, graph: &Graph, walk: &Stops) -> Result<(), AllocError>

@@ -2,7 +2,7 @@ use Rattle.std.proofs.Common.{subst}
 use Rattle.ir_model.specs.Topology.{Topology}
 use Rattle.ir_tables.specs.Relaxation.{IsRelaxed}
 use Rattle.ir_show.proofs.Destinations.{relaxed_to}
-use Rattle.ir_show.proofs.distances.distances_to.Goals as goal
+use Rattle.ir_show.proofs.figures.distances_to.Goals as goal
 
 pub returns : goal.returns
 returns c =
