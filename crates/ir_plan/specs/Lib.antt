@@ -3,6 +3,7 @@ pub mod Refusals
 pub mod Building
 pub mod Crew
 pub mod Shown
+pub mod NodeRows
 pub mod Views
 pub mod TreeRows
 pub mod CompactRows
@@ -10,6 +11,5 @@ pub mod Tour
 pub mod Starts
 pub mod Distances
 -- what bodies use
-pub mod NodeRows
 pub mod Ties
 pub mod SonStarts

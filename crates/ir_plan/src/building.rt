@@ -129,8 +129,8 @@ pub fn listed_plan(
     }
 }
 
-// The numbers from the root.
-fn numbering_of(alloc: Global, topology: &Topology, root: u16) -> Result<Numbering, PlanError>
+/// The numbers of a connected topology's nodes, depth first from a root. Refused as `Plan::build` is.
+pub fn numbering_of(alloc: Global, topology: &Topology, root: u16) -> Result<Numbering, PlanError>
     ensures root { OnOk result (root < node_count topology.now) }
     ensures depth_first { IfOk result
         (λ numbers. IsDepthFirst (neighbors_of topology.now)
@@ -152,8 +152,13 @@ fn numbering_of(alloc: Global, topology: &Topology, root: u16) -> Result<Numberi
     Ok(Numbering::depth_first(alloc, topology, root)?)
 }
 
-// The numbers by a list of a connected topology's nodes.
-fn numbering_by(alloc: Global, topology: &Topology, order: Vec<u16>) -> Result<Numbering, PlanError>
+/// The numbers of a connected topology's nodes, by the places of a list. Refused as `Plan::build_by`
+/// is. Condition: there is a node.
+pub fn numbering_by(
+    alloc: Global,
+    topology: &Topology,
+    order: Vec<u16>,
+) -> Result<Numbering, PlanError>
     requires some { 0 < node_count topology.now }
     requires order { IsListing (node_count topology.now) order.items }
     ensures order { IfOk result (λ numbers. numbers.order ≡ order.items) }

@@ -21,13 +21,14 @@ mod tour;
 mod tree;
 mod watch;
 
-pub use building::Labels;
+pub use building::{Labels, numbering_by, numbering_of};
 pub use crew::{Alone, Crew, Several};
 pub use distances::{columns_in_threads, distances_in_threads};
 pub use error::PlanError;
 pub use ir_model::{Hop, Kind};
 pub use laws::{labels_are_determined, tour_has_no_more_starts, tour_is_determined};
 pub use plan::Plan;
+pub use rows::row_of_node;
 pub use threads::{rows_in_threads, rows_of_a_thread};
 pub use tour::LabelOrder;
 pub use watch::{Unwatched, Watch};

@@ -88,6 +88,26 @@ pub fn row_at(
     }
 }
 
+/// The row of one node in a plan of a kind, made without the plan: that of kind Compact by a search
+/// from the node and floods. Refused for memory alone. Takes O((n + m) log n), for n nodes and m
+/// links; of kind Compact also what `ir_compile::ports_of_runs` takes, and O(n + m) for each port.
+pub fn row_of_node(
+    alloc: Global,
+    topology: &Topology,
+    numbering: &Numbering,
+    kind: Kind,
+    u: u16,
+) -> Result<Row, AllocError>
+    requires labels { AreLabels (node_count topology.now) numbering.now.order numbering.now.labels }
+    requires tree { kind ≡ Tree → IsNumberingOf topology.now numbering.now }
+    requires connected { IsConnected topology.now }
+    requires node { u < node_count topology.now }
+    ensures { IfOk result (λ row. IsNodeRow kind topology.now numbering.now.order numbering.now.parents
+        (slice_index numbering.now.labels u) row) }
+{
+    row_at(alloc, topology, numbering, kind, &None, u)
+}
+
 /// The row of a node in the shortest table, by a search from it alone.
 pub fn searched_row(
     alloc: Global,

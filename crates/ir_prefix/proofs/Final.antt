@@ -3,13 +3,13 @@ use Rattle.std.proofs.Common.{◌≡◌, ℕ, ◌^◌, ◌<◌, ◌≤◌, List,
 use Rattle.std.proofs.Math.Nat.{pow-le-pow_right}
 use Rattle.std.proofs.lemmas.List.Sorted.{All-permutation, Contains-permutation, IsPermutation-sym, length_permutation}
 use Rattle.std.specs.List.Sorted.{IsPermutation}
-use Rattle.ir_prefix.specs.Longest.{Holds, IsLongest, Forwards, IsFewestPrefixes, IsWidth, IsLongestFirst, LoadsInOrder, AreLeast}
+use Rattle.ir_prefix.specs.Longest.{Holds, IsLongest, Forwards, IsFewestPrefixes, IsWidth, AreLeast}
 use Rattle.ir_prefix.specs.Described.{Describes, Trie}
 use Rattle.ir_prefix.specs.Cover.{cover_of}
 use Rattle.ir_prefix.specs.declared.cover.Prefix.{Prefix}
 use Rattle.ir_prefix.proofs.Lower.{cover_is_fewest}
 use Rattle.ir_prefix.proofs.Upper.{cover_forwards}
-use Rattle.ir_prefix.proofs.Loading.{loads_in_order, cover_least}
+use Rattle.ir_prefix.proofs.Values.{cover_least}
 
 longest_permutation : (bits x : ℕ) (m : Prefix) (xs ys : List Prefix) → IsPermutation xs ys → IsLongest bits xs x m → IsLongest bits ys x m
 longest_permutation bits x m xs ys perm is = record {
@@ -34,9 +34,6 @@ module _ (bits : ℕ) (ports : List (Option ℕ)) (t : Trie) (set : List Prefix)
 
   pub sorted_is_fewest : IsFewestPrefixes bits ports (length set)
   sorted_is_fewest = subst (λ k. IsFewestPrefixes bits ports k) (sym (length_permutation (cover_of bits t bits 0 None) set perm)) (cover_is_fewest bits ports t d)
-
-  pub sorted_loads : length ports ≤ 2 ^ bits → IsLongestFirst set → LoadsInOrder bits ports set
-  sorted_loads every order = loads_in_order bits ports set (sorted_forwards every) order
 
   pub sorted_is_least : AreLeast bits set
   sorted_is_least =

@@ -11,7 +11,7 @@ pub mod Lower
 pub mod Upper
 pub mod Orders
 pub mod Final
-pub mod Loading
+pub mod Values
 pub mod LineLemmas
 pub mod PartLemmas
 pub mod TableLemmas

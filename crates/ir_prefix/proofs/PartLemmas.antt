@@ -11,7 +11,7 @@ use Rattle.ir_prefix.specs.Cover.{prefix_at}
 use Rattle.ir_prefix.specs.Parts.{Divides, pieces_of, Part, Beyond, Unsent, OnePort, Halves}
 use Rattle.ir_prefix.specs.declared.cover.Prefix.{Prefix}
 use Rattle.ir_prefix.proofs.BlockLemmas.{halves}
-use Rattle.ir_prefix.proofs.Loading.{node_is_least}
+use Rattle.ir_prefix.proofs.Values.{node_is_least}
 use Rattle.ir_prefix.proofs.Orders.{tally-append}
 use Rattle.ir_prefix.proofs.Tallies.{hit, tally, tally_found}
 use Rattle.ir_prefix.proofs.Upper.{IsInside, prefix_is_inside, left_is_inside, right_is_inside, inside_holds}

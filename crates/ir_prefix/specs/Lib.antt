@@ -1,5 +1,4 @@
 -- what contracts promise
-pub mod Code
 pub mod Longest
 pub mod Forwarding
 pub mod Ranges

@@ -1,5 +1,5 @@
 -- Prefixes, their longest match, and which sets of prefixes forward each label by its port.
-use Rattle.std.specs.Prelude.{◌≡◌, ℕ, ◌-◌, ◌/◌, ◌^◌, ◌<◌, ◌≤◌, ◌⊎◌, List, length, take, All, Contains, Option, Some}
+use Rattle.std.specs.Prelude.{◌≡◌, ℕ, ◌-◌, ◌/◌, ◌^◌, ◌<◌, ◌≤◌, ◌⊎◌, List, length, All, Contains, Option, Some}
 use Rattle.std.specs.List.{AllAdjacentBelow}
 use Rattle.ir_model.specs.Compiled.{port_to}
 use Rattle.ir_prefix.specs.declared.cover.Prefix.{Prefix}
@@ -40,10 +40,6 @@ IsBefore m o = (o.length < m.length) ⊎ ((m.length ≡ o.length) × (m.value < 
 -- each prefix stands before the next one
 abbrev pub IsLongestFirst : List Prefix → Type 0
 IsLongestFirst set = AllAdjacentBelow IsBefore set (length set)
-
--- where only the first ones are there yet, a label with a port has no match or one that names its port
-abbrev pub LoadsInOrder : ℕ → List (Option ℕ) → List Prefix → Type 0
-LoadsInOrder bits ports set = (count : ℕ) → NamesThePorts bits ports (take count set)
 
 -- the value of each prefix is the least number that it holds: its further bits are 0
 abbrev pub AreLeast : ℕ → List Prefix → Type 0

@@ -1,19 +1,17 @@
 //! A node's forwarding table of the fewest lines.
 
-ghost use Rattle.std.specs.Prelude.{◌≡◌, ◌↔◌, ◌≤◌, ◌^◌, ◌<◌, ℕ, Any, Some, if◌then◌else◌, nat_lt, length, map, IfOk, IsTrue, OnOk};
+ghost use Rattle.std.specs.Prelude.{◌≡◌, ◌↔◌, ◌≤◌, ◌^◌, ◌<◌, ℕ, Any, Some, if◌then◌else◌, nat_lt, length, map, IfOk, IsTrue};
 ghost use Rattle.std.specs.List.{range_with_len};
 ghost use Rattle.ir_model.specs.Compiled.{IsDestinations, port_to};
 ghost use Rattle.ir_prefix.specs.Longest.{IsWidth};
 ghost use Rattle.ir_prefix.specs.Forwarding.{AreLongestFirst, IsDisjointTable, IsFewestDisjoint, IsFewestLines, IsForwardingTable, IsWellFormed, KeepsMatches, NamesPorts};
 ghost use Rattle.ir_prefix.specs.Extended.{extended_port, IsUnused};
 
-use crate::error::PrefixError;
 use crate::line::{Line, lines_of};
 use crate::order::sort_longest_first;
 use crate::parts::push_pieces;
 use crate::runs::runs_of;
 use crate::{table, width};
-use ir_compile::is_destinations;
 use std::alloc::{AllocError, Global};
 
 /// The forwarding table of the node with the label `own` among `n` nodes, given its port to each label: the longest
@@ -23,64 +21,14 @@ use std::alloc::{AllocError, Global};
 /// first, and those of one length in the order of their values: while a table is filled in this order, or emptied in the
 /// opposite one, a number finds no match or that of the whole table.
 ///
-/// `BadRow` where `ports` does not have one entry for each of the `n` labels, `own` is no label, the own label has a
-/// port, or another label has none; then `NoMemory`. Takes O(n (log n + t)), where t ports are tried, from the
-/// greatest number down, for one that the row does not name.
-pub fn forwarding(
+/// Condition: the ports are a list of destinations, as `ir_compile::is_destinations` asks. Refused for memory alone. Takes
+/// O(n (log n + t)), where t ports are tried, from the greatest number down, for one that the row does not name.
+pub fn forwarding_lines(
     alloc: Global,
     n: u16,
     own: u16,
     ports: &[Option<u16>],
-) -> Result<Vec<Line>, PrefixError>
-    ensures bad_row { (result ≡ Err PrefixError.BadRow) ↔ (IsDestinations n own ports.now → ⊥) }
-    ensures destinations { OnOk result (IsDestinations n own ports.now) }
-    ensures well { IfOk result (λ table. (bits : ℕ) → IsWidth n bits → IsWellFormed bits table.items) }
-    ensures forwards { IfOk result
-        (λ table. (bits : ℕ) → IsWidth n bits → IsForwardingTable n bits ports.now table.items) }
-    ensures fewest { IfOk result (λ table. (bits : ℕ) → IsWidth n bits
-        → IsFewestLines n bits ports.now (length table.items)) }
-    ensures ports { IfOk result (λ table. NamesPorts ports.now table.items) }
-    ensures order { IfOk result (λ table. AreLongestFirst table.items) }
-    ensures loads { IfOk result (λ table. (bits : ℕ) → KeepsMatches bits table.items) }
-{
-    if !is_destinations(n, own, ports) {
-        return Err(PrefixError::BadRow);
-    }
-    Ok(lines(alloc, n, own, ports)?)
-}
-
-/// The forwarding table of the node with the label `own` among `n` nodes, given its port to each label, in which no number
-/// matches two lines: each other label matches one, with its port, and no number beyond the labels matches any. No table
-/// that does so has fewer lines. The own label may match a line or none. The lines stand in the order of `forwarding`, but
-/// none is needed: where a line is missing, what it holds is dropped.
-///
-/// `BadRow` where `ports` does not have one entry for each of the `n` labels, `own` is no label, the own label has a
-/// port, or another label has none; then `NoMemory`. Takes O(n (log n + t)), where t ports are tried, from the
-/// greatest number down, for one that the row does not name.
-pub fn disjoint(
-    alloc: Global,
-    n: u16,
-    own: u16,
-    ports: &[Option<u16>],
-) -> Result<Vec<Line>, PrefixError>
-    ensures bad_row { (result ≡ Err PrefixError.BadRow) ↔ (IsDestinations n own ports.now → ⊥) }
-    ensures destinations { OnOk result (IsDestinations n own ports.now) }
-    ensures well { IfOk result (λ table. (bits : ℕ) → IsWidth n bits → IsWellFormed bits table.items) }
-    ensures disjoint { IfOk result
-        (λ table. (bits : ℕ) → IsWidth n bits → IsDisjointTable n bits ports.now table.items) }
-    ensures fewest { IfOk result (λ table. (bits : ℕ) → IsWidth n bits
-        → IsFewestDisjoint n bits ports.now (length table.items)) }
-    ensures ports { IfOk result (λ table. NamesPorts ports.now table.items) }
-    ensures order { IfOk result (λ table. AreLongestFirst table.items) }
-{
-    if !is_destinations(n, own, ports) {
-        return Err(PrefixError::BadRow);
-    }
-    Ok(disjoint_lines(alloc, n, own, ports)?)
-}
-
-// The lines, where the ports are known to be a list of destinations.
-fn lines(alloc: Global, n: u16, own: u16, ports: &[Option<u16>]) -> Result<Vec<Line>, AllocError>
+) -> Result<Vec<Line>, AllocError>
     requires { IsDestinations n own ports.now }
     ensures well { IfOk result (λ table. (bits : ℕ) → IsWidth n bits → IsWellFormed bits table.items) }
     ensures forwards { IfOk result
@@ -98,8 +46,13 @@ fn lines(alloc: Global, n: u16, own: u16, ports: &[Option<u16>]) -> Result<Vec<L
     Ok(lines_of(alloc, set.as_slice(), unreachable)?)
 }
 
-// The lines of which no number matches two, where the ports are known to be a list of destinations.
-fn disjoint_lines(
+/// The forwarding table of the node with the label `own` among `n` nodes, given its port to each label, in which no number
+/// matches two lines: each other label matches one, with its port, and no number beyond the labels matches any. No table
+/// that does so has fewer lines. The own label may match a line or none. The lines stand in the order of `forwarding_lines`, but
+/// none is needed: where a line is missing, what it holds is dropped.
+///
+/// Condition, refusal and time are those of `forwarding_lines`.
+pub fn disjoint_lines(
     alloc: Global,
     n: u16,
     own: u16,

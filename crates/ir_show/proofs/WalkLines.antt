@@ -1,6 +1,5 @@
 -- Walks of a plan, by steps.
-use Rattle.std.proofs.Common.{◌≡◌, ◌≢◌, ℕ, ◌+◌, ◌*◌, ◌<◌, ◌≤◌, true, false, List, [], ◌∷◌, ◌++◌, length, Option, Some, None, refl, sym, ap, subst, ◌∙◌, arith, append_assoc, nat_lt, get_or, slice_index, drop, find, unwrap_or, flat_map}
-use Rattle.ir_trace.specs.Rows.{spaced}
+use Rattle.std.proofs.Common.{◌≡◌, ◌≢◌, ℕ, ◌+◌, ◌*◌, ◌<◌, ◌≤◌, true, false, List, [], ◌∷◌, ◌++◌, length, Option, Some, None, refl, sym, ap, subst, ◌∙◌, arith, append_assoc, nat_lt, get_or, slice_index, drop, find, unwrap_or}
 use Rattle.std.specs.List.{list_all}
 use Rattle.std.proofs.lemmas.List.{append-nil, drop_more, drop_all, get_or-map}
 use Rattle.std.proofs.lemmas.List.Folds.{list_all-append}
@@ -18,9 +17,7 @@ use Rattle.ir_model.proofs.Rows.{label_at, length-intervals_of, get_or-intervals
 use Rattle.ir_plan.specs.Shown.{has_label}
 use Rattle.ir_plan.proofs.RowPorts.{found, some_found}
 use Rattle.ir_plan.proofs.Standing.{row_fits}
-use Rattle.ir_show.specs.WalkText.{no_interval, interval_with, IsIntervalTo, walk_head, stop_words, walk_text}
-use Rattle.ir_show.specs.Words.{line_text}
-use Rattle.ir_model.specs.Graph.{Name}
+use Rattle.ir_show.specs.WalkText.{no_interval, interval_with, IsIntervalTo}
 use Rattle.ir_tables.specs.Listed.{IsTableHop}
 use Rattle.ir_tables.proofs.Ways.{next_of, next_at, is_next}
 
@@ -117,14 +114,6 @@ port_to_node s is u d address port d_in label at = at ∙ ap (table_port s u) (a
 pub begins_at : (row : List Start) (i start : ℕ) → i < length row → start ≡ label_at row i → start ≡ (get_or (intervals_of row) i no_interval).start
 begins_at row i start i_in from = from ∙ ap (λ (x : PortInterval). x.start) (sym (get_or-intervals_until (next_label row 0) row i no_interval i_in))
 
--- whether an interval of a row has a label, by its start and its end
-pub has_at : (row : List Start) (d i start end : ℕ) → i < length row → start ≡ label_at row i → end ≡ (get_or (intervals_of row) i no_interval).end
-    → has_label d (record { start = start; end = end; port = 0 }) ≡ has_label d (get_or (intervals_of row) i no_interval)
-has_at row d i start end i_in from to =
-    let m = get_or (intervals_of row) i no_interval in
-    let begins : start ≡ m.start = begins_at row i start i_in from in
-    ap (λ (x : ℕ). has_label d (record { start = x; end = end; port = 0 })) begins ∙ ap (λ (x : ℕ). has_label d (record { start = m.start; end = x; port = 0 })) to
-
 abbrev pub IsFoundFrom : List Start → ℕ → ℕ → Type 0
 IsFoundFrom row d i = find (has_label d) (intervals_of row) ≡ find (has_label d) (drop i (intervals_of row))
 
@@ -170,18 +159,3 @@ interval_to s is u b u_in b_in other =
     let at : port_to (by_label s u) d ≡ table_port s u b = get_or-map (table_port s u) s.order d 0 None (omega (arith, d_in, is.labels.every_label)) ∙ ap (table_port s u) (is.labels.there b b_in) in
     let Q : PortInterval → Type 0 = λ m. IsIntervalTo s u b m in
     subst Q (sym here) (record { member = f.1; has = f.0; port = sym at ∙ agrees f.0 })
-
--- ---- text
-
--- four words
-pub onward_pieces : (old t1 t2 t3 t4 a b c d a' b' : List ℕ) → t1 ≡ old ++ spaced a → t2 ≡ t1 ++ spaced b → t3 ≡ t2 ++ spaced c → t4 ≡ t3 ++ spaced d → a ≡ a' → b ≡ b'
-    → t4 ≡ old ++ flat_map spaced (a' ∷ b' ∷ c ∷ d ∷ [])
-onward_pieces old t1 t2 t3 t4 a b c d a' b' e1 e2 e3 e4 ea eb = rw (e4, e3, e2, e1, ea, eb) (simp (append_assoc, append-nil))
-
--- the whole text of a walk
-pub walk_written : (nodes : List Name) (s : Plan) (a b : ℕ) (walk seen : List ℕ) (weight : ℕ) (t0 t1 t2 : List ℕ) → t0 ≡ [] → t1 ≡ t0 ++ line_text (walk_head nodes s a b weight)
-    → t2 ≡ t1 ++ flat_map (λ u. line_text (stop_words nodes s b u)) seen → seen ≡ walk → walk_weight s.topology walk ≡ weight → t2 ≡ walk_text nodes s a b walk
-walk_written nodes s a b walk seen weight t0 t1 t2 e0 e1 e2 same weighs =
-    let stops : List ℕ → List ℕ = flat_map (λ u. line_text (stop_words nodes s b u)) in
-    let head : ℕ → List ℕ = λ w. line_text (walk_head nodes s a b w) in
-    e2 ∙ ap (λ w. t1 ++ stops w) same ∙ ap (λ t. t ++ stops walk) (e1 ∙ ap (λ t. t ++ head weight) e0 ∙ ap head (sym weighs))

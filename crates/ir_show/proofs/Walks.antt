@@ -1,15 +1,15 @@
 -- The stops of a walk, one after the other.
-use Rattle.std.proofs.Common.{◌≡◌, ◌≢◌, ℕ, ◌+◌, ◌*◌, ◌<◌, ◌≤◌, List, [], ◌∷◌, ◌++◌, map, Some, refl, sym, ap, ◌∙◌, subst, arith, flat_map}
+use Rattle.std.proofs.Common.{◌≡◌, ◌≢◌, ℕ, ◌+◌, ◌*◌, ◌<◌, ◌≤◌, List, [], ◌∷◌, ◌++◌, map, length, Some, refl, sym, ap, ◌∙◌, subst, arith, flat_map}
 use Rattle.std.specs.Prelude.{All}
 use Rattle.std.specs.Prelude.{if◌then◌else◌, ◌==◌}
 use Rattle.std.specs.Option.{option_map_or}
 use Rattle.std.proofs.lemmas.Bool.{eq-eqb, ne_eqb}
 use Rattle.std.proofs.lemmas.Grind.{flat_map-append}
-use Rattle.std.proofs.lemmas.List.{append-nil, map_push}
+use Rattle.std.proofs.lemmas.List.{append-nil, length_push, map_push}
 use Rattle.std.proofs.lemmas.List.Elements.{All-head, All-tail, All-push}
 use Rattle.ir_model.specs.declared.Kind.{Kind}
 use Rattle.ir_model.specs.Graph.{Name}
-use Rattle.ir_model.specs.Topology.{Topology, IsTopology, node_count}
+use Rattle.ir_model.specs.Topology.{Topology, node_count}
 use Rattle.ir_model.specs.Walk.{walk_weight}
 use Rattle.ir_model.specs.Table.{IsPrescribedWalk}
 use Rattle.ir_model.specs.Plan.{Plan, IsPlan, table_port, next_hop, label_in}
@@ -21,69 +21,83 @@ use Rattle.ir_show.specs.Words.{line_text}
 use Rattle.ir_show.proofs.WalkLines.{IsWalkSoFar, walk_begins, walk_goes_on, walk_whole, interval_to}
 use Rattle.ir_show.specs.Plans.{IsPlanOver}
 use Rattle.ir_show.specs.Stops.{IsStopOf, stop_nodes, AreStopsTo, AreStopsOf, AreStopsAmong, stop_line, end_line, head_line, text_of_stops}
-use Rattle.ir_show.specs.declared.alone.stops.Stop.{Stop}
-use Rattle.ir_show.specs.declared.alone.stops.Stops.{Stops}
+use Rattle.ir_show.specs.declared.stops.Stop.{Stop}
+use Rattle.ir_show.specs.declared.stops.Stops.{Stops}
 
 -- ---- the walk so far
 
+-- the stops so far on the walk of a plan from a to b
+pub record AreStopsAlong (s : Plan) (a b at weight : ℕ) (stops : List Stop) : Type 0 where
+  pub far : IsWalkSoFar s a b at weight (length stops) (stop_nodes stops at)
+  pub each : All (IsStopOf s b) stops
+
+module _ (s : Plan) (valid : IsPlan s) (a b : ℕ) where
+  pub along_begins : a < node_count s.topology → b < node_count s.topology → AreStopsAlong s a b a 0 []
+  along_begins a_in b_in = record { far = walk_begins s valid a b a_in b_in; each = λ k d lt. absurd (omega (arith, lt)) }
+
+  module _ (at weight : ℕ) (stops : List Stop) (so : AreStopsAlong s a b at weight stops) where
+    pub along_goes_on : (stop : Stop) → stop.node ≡ at → IsStopOf s b stop → AreStopsAlong s a b stop.hop.node (weight + stop.hop.weight) (stops ++ stop ∷ [])
+    along_goes_on stop node here =
+        let Q : ℕ → Type 0 = λ x. (x ≢ b) × (next_hop s x b ≡ Some stop.hop) in
+        let on : Q at = subst Q node (here.before, here.hop) in
+        let nodes : stop_nodes stops at ++ stop.hop.node ∷ [] ≡ stop_nodes (stops ++ stop ∷ []) stop.hop.node =
+        ap (λ (x : ℕ). (map (λ (t : Stop). t.node) stops ++ x ∷ []) ++ stop.hop.node ∷ []) (sym node)
+        ∙ ap (λ (xs : List ℕ). xs ++ stop.hop.node ∷ []) (sym (map_push (λ (t : Stop). t.node) stops stop)) in
+        let len = length_push stops stop in
+        let steps : length stops + 1 ≡ length (stops ++ stop ∷ []) = omega (arith, len) in
+        let P : ℕ → List ℕ → Type 0 = λ k xs. IsWalkSoFar s a b stop.hop.node (weight + stop.hop.weight) k xs in
+        record {
+          far = subst (λ (k : ℕ). P k (stop_nodes (stops ++ stop ∷ []) stop.hop.node)) steps
+              (subst (λ (xs : List ℕ). P (length stops + 1) xs) nodes (walk_goes_on s valid a b at weight (length stops) (stop_nodes stops at) stop.hop so.far on.0 on.1));
+          each = All-push (IsStopOf s b) stops stop so.each here;
+        }
+
+    -- at the end the stops are whole
+    pub along_whole : at ≡ b → AreStopsTo s a b stops weight
+    along_whole end =
+        let whole = walk_whole s a b at weight (length stops) (stop_nodes stops at) so.far end in
+        let P : ℕ → Type 0 = λ x. IsPrescribedWalk s.topology (table_port s) a b (stop_nodes stops x) × (walk_weight s.topology (stop_nodes stops x) ≡ weight) in
+        let all : P b = subst P end whole in
+        record { prescribed = all.0; weighs = all.1; each = so.each }
+
+    -- there are fewer stops than nodes
+    pub along_light : (weight ≤ 65535 * length stops) × (length stops < node_count s.topology)
+    along_light = let left = so.far.left in let light = so.far.light in (light, omega (arith, left))
+
+    -- one step more weighs less than 2^32
+    pub along_weighs : (stop : Stop) → IsStopOf s b stop → weight + stop.hop.weight < 4294967296
+    along_weighs stop here =
+        let next = next_at s.topology (table_port s) stop.node b stop.hop here.hop in
+        let facts = port_facts s.topology valid.topology stop.node next.port stop.hop next.there in
+        let few = valid.topology.few_nodes in
+        omega (arith, along_light.0, along_light.1, facts.bounded, few)
+
 -- a plan of these numbers, and its stops so far on the walk from a to b
-pub record AreStopsSoFar (net : Topology) (kind : Kind) (numbers : Numbering) (a b at weight steps : ℕ) (stops : List Stop) : Type 0 where
+pub record AreStopsSoFar (net : Topology) (kind : Kind) (numbers : Numbering) (a b at weight : ℕ) (stops : List Stop) : Type 0 where
   pub plan : Plan
   pub is : IsPlanOver net kind numbers plan
-  pub far : IsWalkSoFar plan a b at weight steps (stop_nodes stops at)
-  pub each : All (IsStopOf plan b) stops
+  pub along : AreStopsAlong plan a b at weight stops
 
 module _ (net : Topology) (kind : Kind) (numbers : Numbering) (a b : ℕ) where
-  pub stops_begin : (plan : Plan) → IsPlanOver net kind numbers plan → a < node_count net → b < node_count net → AreStopsSoFar net kind numbers a b a 0 0 []
+  pub stops_begin : (plan : Plan) → IsPlanOver net kind numbers plan → a < node_count net → b < node_count net → AreStopsSoFar net kind numbers a b a 0 []
   stops_begin plan is a_in b_in =
       let P : Topology → Type 0 = λ over. (a < node_count over) × (b < node_count over) in
       let within : P plan.topology = subst P (sym is.over) (a_in, b_in) in
-      record { plan = plan; is = is; far = walk_begins plan is.valid a b within.0 within.1; each = λ k d lt. absurd (omega (arith, lt)) }
+      record { plan = plan; is = is; along = along_begins plan is.valid a b within.0 within.1 }
 
-  pub stops_go_on : (at weight steps : ℕ) (stops : List Stop) (stop : Stop) → AreStopsSoFar net kind numbers a b at weight steps stops → stop.node ≡ at
-      → ((plan : Plan) → IsPlanOver net kind numbers plan → IsStopOf plan b stop)
-      → AreStopsSoFar net kind numbers a b stop.hop.node (weight + stop.hop.weight) (steps + 1) (stops ++ stop ∷ [])
-  stops_go_on at weight steps stops stop so node says =
-      let s = so.plan in
-      let here = says s so.is in
-      let Q : ℕ → Type 0 = λ x. (x ≢ b) × (next_hop s x b ≡ Some stop.hop) in
-      let on : Q at = subst Q node (here.before, here.hop) in
-      let nodes : stop_nodes stops at ++ stop.hop.node ∷ [] ≡ stop_nodes (stops ++ stop ∷ []) stop.hop.node =
-      ap (λ (x : ℕ). (map (λ (t : Stop). t.node) stops ++ x ∷ []) ++ stop.hop.node ∷ []) (sym node)
-      ∙ ap (λ (xs : List ℕ). xs ++ stop.hop.node ∷ []) (sym (map_push (λ (t : Stop). t.node) stops stop)) in
-      record {
-        plan = s;
-        is = so.is;
-        far = subst (IsWalkSoFar s a b stop.hop.node (weight + stop.hop.weight) (steps + 1)) nodes (walk_goes_on s so.is.valid a b at weight steps (stop_nodes stops at) stop.hop so.far on.0 on.1);
-        each = All-push (IsStopOf s b) stops stop so.each here;
-      }
-
-  -- at the end the stops are whole
-  pub stops_whole : (at weight steps : ℕ) (stops : List Stop) → AreStopsSoFar net kind numbers a b at weight steps stops → at ≡ b
-      → (plan : Plan) × IsPlanOver net kind numbers plan × AreStopsTo plan a b stops weight
-  stops_whole at weight steps stops so end =
-      let s = so.plan in
-      let whole = walk_whole s a b at weight steps (stop_nodes stops at) so.far end in
-      let P : ℕ → Type 0 = λ x. IsPrescribedWalk s.topology (table_port s) a b (stop_nodes stops x) × (walk_weight s.topology (stop_nodes stops x) ≡ weight) in
-      let all : P b = subst P end whole in
-      (s, so.is, record { prescribed = all.0; weighs = all.1; each = so.each })
-
-  -- where the walk stands is a node, which is the end after as many steps as there are nodes
-  module _ (at weight steps : ℕ) (stops : List Stop) (so : AreStopsSoFar net kind numbers a b at weight steps stops) where
+  module _ (at weight : ℕ) (stops : List Stop) (so : AreStopsSoFar net kind numbers a b at weight stops) where
     pub stops_stand : at < node_count net
-    stops_stand = subst (λ (over : Topology). at < node_count over) so.is.over so.far.in_net
+    stops_stand = subst (λ (over : Topology). at < node_count over) so.is.over so.along.far.in_net
 
-    pub stops_light : (weight ≤ 65535 * steps) × (steps < node_count net)
-    stops_light = let left = so.far.left in let light = so.far.light in let n : node_count so.plan.topology ≡ node_count net = ap node_count so.is.over in (light, omega (arith, left, n))
+    pub stops_few : length stops < node_count net
+    stops_few = subst (λ (over : Topology). length stops < node_count over) so.is.over (along_light so.plan so.is.valid a b at weight stops so.along).1
 
-    -- one step more weighs less than 2^32
-    pub stops_weigh : IsTopology net → (stop : Stop) → ((plan : Plan) → IsPlanOver net kind numbers plan → IsStopOf plan b stop) → weight + stop.hop.weight < 4294967296
-    stops_weigh ok stop says =
-        let s = so.plan in
-        let next = next_at s.topology (table_port s) stop.node b stop.hop (says s so.is).hop in
-        let facts = port_facts s.topology so.is.valid.topology stop.node next.port stop.hop next.there in
-        let few = ok.few_nodes in
-        omega (arith, stops_light.0, stops_light.1, facts.bounded, few)
+    module _ (stop : Stop) (says : (plan : Plan) → IsPlanOver net kind numbers plan → IsStopOf plan b stop) where
+      pub stops_go_on : stop.node ≡ at → AreStopsSoFar net kind numbers a b stop.hop.node (weight + stop.hop.weight) (stops ++ stop ∷ [])
+      stops_go_on node = record { plan = so.plan; is = so.is; along = along_goes_on so.plan so.is.valid a b at weight stops so.along stop node (says so.plan so.is) }
+
+      pub stops_weigh : weight + stop.hop.weight < 4294967296
+      stops_weigh = along_weighs so.plan so.is.valid a b at weight stops so.along stop (says so.plan so.is)
 
 -- ---- the text
 
@@ -127,15 +141,13 @@ module _ (nodes : List Name) (s : Plan) (b : ℕ) where
   }
 
 -- the nodes of the stops are nodes
-pub stops_among : (net : Topology) → IsTopology net → (kind : Kind) (numbers : Numbering) (s : Plan) → IsPlanOver net kind numbers s → (a b : ℕ) → a < node_count net → b < node_count net
-    → (walk : Stops) → AreStopsOf s a b walk → AreStopsAmong (node_count net) walk
-stops_among net ok kind numbers s is a b a_in b_in walk are = record {
+pub stops_among : (s : Plan) → IsPlan s → (a b : ℕ) → a < node_count s.topology → b < node_count s.topology → (walk : Stops) → AreStopsOf s a b walk → AreStopsAmong (node_count s.topology) walk
+stops_among s valid a b a_in b_in walk are = record {
   from = omega (arith, are.from, a_in);
   to = omega (arith, are.to, b_in);
   stops = λ k d lt.
       let stop = are.stops.each k d lt in
       let next = next_at s.topology (table_port s) _ b _ stop.hop in
-      let facts = port_facts s.topology is.valid.topology _ next.port _ next.there in
-      let n : node_count s.topology ≡ node_count net = ap node_count is.over in
-      (omega (arith, facts.from, n), omega (arith, facts.to, n));
+      let facts = port_facts s.topology valid.topology _ next.port _ next.there in
+      (facts.from, facts.to);
 }

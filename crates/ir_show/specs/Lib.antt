@@ -1,6 +1,7 @@
 -- what contracts promise
 pub mod Words
 pub mod PlanText
+pub mod Intervals
 pub mod WalkText
 pub mod StatsText
 pub mod Figures

@@ -8,8 +8,8 @@ use Rattle.ir_trace.specs.Written.{name_at}
 use Rattle.ir_show.specs.PlanText.{kind_text}
 use Rattle.ir_show.specs.WalkText.{interval_with}
 use Rattle.ir_show.specs.Words.{line_text}
-use Rattle.ir_show.specs.declared.alone.stops.Stop.{Stop}
-use Rattle.ir_show.specs.declared.alone.stops.Stops.{Stops}
+use Rattle.ir_show.specs.declared.stops.Stop.{Stop}
+use Rattle.ir_show.specs.declared.stops.Stops.{Stops}
 
 -- what a plan says of a node on the way to b
 pub record IsStopOf (plan : Plan) (b : ℕ) (stop : Stop) : Type 0 where

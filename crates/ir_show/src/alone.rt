@@ -2,50 +2,91 @@
 ghost use Rattle.std.specs.Prelude.{◌≡◌, ◌≢◌, ◌<◌, IfOk, IfErr, length, string_bytes};
 ghost use Rattle.ir_model.specs.{Graph.names, Topology.node_count, Walk.IsConnected, Plan.{AreLabels, Plan}};
 ghost use Rattle.ir_plan.specs.Building.{MayLabel, RefusesPlan, labelling_of};
-ghost use Rattle.ir_show.specs.WalkText.{IsWalkOf};
+ghost use Rattle.ir_show.specs.Stops.{AreStopsOf, IsStopOf};
 ghost use Rattle.ir_show.specs.{Alone.IsWalkOfPlan, Plans.{IsPlanOver, NeedsNoTour}};
 
-mod compact;
-mod interval;
 mod laws;
 mod numbers;
-mod row;
-mod stops;
-mod text;
 
 use crate::alone::numbers::numbers_by;
-use crate::alone::stops::stops_between;
-use crate::alone::text::text_of;
+use crate::interval::interval_with;
+use crate::stops::{Stop, Stops, text_of};
 use ir_graph::Graph;
 use ir_model::Kind;
 use ir_numbering::Numbering;
-use ir_plan::{Labels, PlanError};
+use ir_plan::{Labels, PlanError, row_of_node};
 use ir_tables::Topology;
 pub use laws::plans_are_there;
 pub use numbers::needs_no_tour;
 use std::alloc::{AllocError, Global};
 
-/// The text of the walk from one node to another in a plan of a kind with these numbers.
-fn text_over(
+/// What each plan of a kind with these numbers says of a node on the way to another. The row of the node is made alone.
+fn stop_at(
     alloc: Global,
-    graph: &Graph,
     topology: &Topology,
     numbering: &Numbering,
     kind: Kind,
-    ends: (u16, u16),
-) -> Result<String, AllocError>
+    to: u16,
+    u: u16,
+) -> Result<Stop, AllocError>
     requires kind { kind ≢ Kind.Tree }
-    requires nodes { node_count topology.now ≡ length graph.now }
     requires labels { AreLabels (node_count topology.now) numbering.now.order numbering.now.labels }
     requires connected { IsConnected topology.now }
-    requires from { ends.0 < length graph.now }
-    requires to { ends.1 < length graph.now }
-    ensures { IfOk result (λ text. (plan : Plan) × IsPlanOver topology.now kind numbering.now plan
-        × IsWalkOf (names graph.now) plan ends.0 ends.1 (string_bytes text)) }
+    requires end { to < node_count topology.now }
+    requires node { u < node_count topology.now }
+    requires other { u ≢ to }
+    ensures node { IfOk result (λ stop. stop.node ≡ u) }
+    ensures stop { IfOk result (λ stop. (plan : Plan) → IsPlanOver topology.now kind numbering.now plan
+        → IsStopOf plan to stop) }
 {
     let _nodes = topology.nodes();
-    let walk = stops_between(alloc, topology, numbering, kind, ends.0, ends.1)?;
-    text_of(alloc, graph, &walk)
+    let row = row_of_node(alloc, topology, numbering, kind, u)?;
+    let interval = interval_with(&row, numbering.label_of(to));
+    Ok(Stop {
+        node: u,
+        label: numbering.label_of(u),
+        start: interval.start,
+        end: interval.end,
+        hop: topology.port(u, interval.port),
+    })
+}
+
+/// The walk from a node to another, by its stops, in a plan of a kind with these numbers. Takes O(n + m) memory beside
+/// the stops, for n nodes and m links.
+fn stops_between(
+    alloc: Global,
+    topology: &Topology,
+    numbering: &Numbering,
+    kind: Kind,
+    from: u16,
+    to: u16,
+) -> Result<Stops, AllocError>
+    requires kind { kind ≢ Kind.Tree }
+    requires labels { AreLabels (node_count topology.now) numbering.now.order numbering.now.labels }
+    requires connected { IsConnected topology.now }
+    requires from { from < node_count topology.now }
+    requires to { to < node_count topology.now }
+    ensures { IfOk result (λ walk. (plan : Plan) × IsPlanOver topology.now kind numbering.now plan
+        × AreStopsOf plan from to walk) }
+{
+    let _nodes = topology.nodes();
+    let mut stops = Vec::new(alloc);
+    let mut at = from;
+    let mut weight = 0;
+    while at != to {
+        let stop = stop_at(alloc, topology, numbering, kind, to, at)?;
+        weight += stop.hop.weight;
+        at = stop.hop.node;
+        stops.push(stop)?;
+    }
+    Ok(Stops {
+        kind,
+        from,
+        to,
+        label: numbering.label_of(to),
+        weight,
+        stops,
+    })
 }
 
 /// The text of the walk between two nodes, from the first end to the second, in the plan of a kind over a topology by
@@ -75,5 +116,6 @@ pub fn walk_text_alone(
     ensures refused { IfErr result (RefusesPlan topology.now (labelling_of labels)) }
 {
     let numbering = numbers_by(alloc, topology, kind, labels)?;
-    Ok(text_over(alloc, graph, topology, &numbering, kind, ends)?)
+    let walk = stops_between(alloc, topology, &numbering, kind, ends.0, ends.1)?;
+    Ok(text_of(alloc, graph, &walk)?)
 }

@@ -1,62 +1,18 @@
 //! The drawing of a plan, for Graphviz.
-ghost use Rattle.std.specs.Prelude.{◌≡◌, ◌<◌, ◌++◌, true, [], if◌then◌else◌, nat_lt, IfOk, IfSome, OnOk, length, slice_index_or, string_bytes, flat_map};
-ghost use Rattle.std.specs.List.{range_with_len, list_all};
-ghost use Rattle.ir_model.specs.{Graph.names, Topology.node_count, Row.intervals_of, Plan.{IsPlan, row_in}};
-ghost use Rattle.ir_trace.specs.{Rows.{is_word, spaced}, Written.name_at};
-ghost use Rattle.ir_show.specs.{WalkText.no_interval, Quoted.{escaped_byte, escaped, quoted}, Before.separated};
-ghost use Rattle.ir_show.specs.Drawing.{node_line, span_text, interval_text, goes_by, intervals_text, are_ends, passes, edge_style, edge_ends, edge_labels, edge_line, edge_lines, IsBold, IsDrawingOf};
+ghost use Rattle.std.specs.Prelude.{◌≡◌, ◌<◌, ◌++◌, [], if◌then◌else◌, nat_lt, IfOk, IfSome, OnOk, length, string_bytes, flat_map};
+ghost use Rattle.std.specs.List.{range_with_len};
+ghost use Rattle.ir_model.specs.{Graph.names, Topology.{node_count, ports_of}, Plan.IsPlan};
+ghost use Rattle.ir_show.specs.{Before.separated, Intervals.as_interval};
+ghost use Rattle.ir_show.specs.Drawing.{node_line, interval_text, goes_by, intervals_text, are_ends, passes, edge_style, edge_labels, edge_line, edge_lines, IsBold, IsDrawingOf};
 
-use crate::walk::{end_of, walk_between};
+use crate::interval::{Interval, interval_at};
+use crate::quoted::{push_escaped_name, push_quoted};
+use crate::walk::walk_between;
 use ir_graph::Graph;
 use ir_model::Hop;
 use ir_plan::Plan;
-use ir_trace::text::{name_of, push_next_number};
+use ir_trace::text::push_next_number;
 use std::alloc::{AllocError, Global};
-
-/// Writes a byte of a text between quotes.
-fn push_escaped_byte(text: &mut String, byte: u8) -> Result<(), AllocError>
-    requires { byte < 128 }
-    ensures { OnOk result (string_bytes text.new ≡ string_bytes text.old ++ escaped_byte byte) }
-{
-    if byte == b'"' || byte == b'\\' {
-        text.push('\\')?;
-    }
-    text.push(byte as char)?;
-    Ok(())
-}
-
-/// Writes a word as it stands between quotes.
-fn push_escaped(text: &mut String, word: &str) -> Result<(), AllocError>
-    requires { is_word word.now ≡ true }
-    ensures { OnOk result (string_bytes text.new ≡ string_bytes text.old ++ escaped word.now) }
-{
-    let bytes = word.as_bytes();
-    for byte in bytes {
-        push_escaped_byte(text, *byte)?;
-    }
-    Ok(())
-}
-
-/// Writes the name of a node as it stands between quotes.
-fn push_escaped_name(text: &mut String, graph: &Graph, u: u16) -> Result<(), AllocError>
-    requires { u < length graph.now }
-    ensures { OnOk result (string_bytes text.new ≡ string_bytes text.old ++ escaped (name_at (names graph.now) u)) }
-{
-    let _nodes = graph.number_of_nodes();
-    push_escaped(text, name_of(graph, u))?;
-    Ok(())
-}
-
-/// Writes the name of a node between quotes.
-fn push_quoted(text: &mut String, graph: &Graph, u: u16) -> Result<(), AllocError>
-    requires { u < length graph.now }
-    ensures { OnOk result (string_bytes text.new ≡ string_bytes text.old ++ quoted (name_at (names graph.now) u)) }
-{
-    text.push_str("\"")?;
-    push_escaped_name(text, graph, u)?;
-    text.push_str("\"")?;
-    Ok(())
-}
 
 /// Writes the line of a node.
 fn push_node(text: &mut String, graph: &Graph, plan: &Plan, u: u16) -> Result<(), AllocError>
@@ -74,57 +30,28 @@ fn push_node(text: &mut String, graph: &Graph, plan: &Plan, u: u16) -> Result<()
 }
 
 /// Whether the port of an interval of a node's row is by a link.
-fn goes_by(plan: &Plan, u: u16, link: u16, i: usize) -> bool
-    requires plan { IsPlan plan.now }
+fn goes_by(plan: &Plan, u: u16, link: u16, interval: Interval) -> bool
     requires node { u < node_count plan.now.topology }
-    requires place { i < length (row_in plan.now u) }
-    ensures { result ≡ goes_by plan.now.topology u link
-        (slice_index_or (intervals_of (row_in plan.now u)) i no_interval) }
+    requires port { interval.port < length (ports_of plan.now.topology u) }
+    ensures { result ≡ goes_by plan.now.topology u link (as_interval interval) }
 {
-    let port = plan.row(u).port(i);
-    let hop = plan.hop(u, port);
-    hop.link == link
+    plan.hop(u, interval.port).link == link
 }
 
-/// Writes a cyclic interval.
-fn push_span(text: &mut String, start: u16, end: u16) -> Result<(), AllocError>
-    ensures { OnOk result (string_bytes text.new ≡ string_bytes text.old ++ span_text start end) }
-{
-    write!(text, "[{start},{end})")
-}
-
-/// Writes an interval of a node's row.
-fn push_interval(text: &mut String, plan: &Plan, u: u16, i: usize) -> Result<(), AllocError>
-    requires node { u < node_count plan.now.topology }
-    requires place { i < length (row_in plan.now u) }
+/// Writes an interval, behind a space if it is not the first.
+fn push_interval(text: &mut String, interval: Interval, first: bool) -> Result<(), AllocError>
     ensures { OnOk result (string_bytes text.new ≡ string_bytes text.old
-        ++ interval_text (slice_index_or (intervals_of (row_in plan.now u)) i no_interval)) }
-{
-    let row = plan.row(u);
-    let start = row.start(i);
-    let end = end_of(row, i);
-    push_span(text, start, end)?;
-    Ok(())
-}
-
-/// Writes an interval of a node's row, behind a space if it is not the first.
-fn push_next_interval(
-    text: &mut String,
-    plan: &Plan,
-    u: u16,
-    i: usize,
-    first: bool,
-) -> Result<(), AllocError>
-    requires node { u < node_count plan.now.topology }
-    requires place { i < length (row_in plan.now u) }
-    ensures { OnOk result (string_bytes text.new ≡ string_bytes text.old
-        ++ separated first (interval_text (slice_index_or (intervals_of (row_in plan.now u)) i no_interval))) }
+        ++ separated first (interval_text (as_interval interval))) }
 {
     if !first {
         text.push_str(" ")?;
     }
-    push_interval(text, plan, u, i)?;
-    Ok(())
+    let Interval {
+        start,
+        end,
+        port: _,
+    } = interval;
+    write!(text, "[{start},{end})")
 }
 
 /// Writes the intervals of a node's row whose port is by a link.
@@ -136,8 +63,9 @@ fn push_intervals(text: &mut String, plan: &Plan, u: u16, link: u16) -> Result<(
     let mut first = true;
     let count = plan.row(u).len();
     for i in 0..count {
-        if goes_by(plan, u, link, i) {
-            push_next_interval(text, plan, u, i, first)?;
+        let interval = interval_at(plan, u, i);
+        if goes_by(plan, u, link, interval) {
+            push_interval(text, interval, first)?;
             first = false;
         }
     }
@@ -174,19 +102,6 @@ fn edge_style(u: u16, v: u16, walk: &[u16]) -> &'static str
     }
 }
 
-/// Writes the two ends of a link.
-fn push_ends(text: &mut String, graph: &Graph, u: u16, v: u16) -> Result<(), AllocError>
-    requires u { u < length graph.now }
-    requires v { v < length graph.now }
-    ensures { OnOk result (string_bytes text.new ≡ string_bytes text.old ++ edge_ends (names graph.now) u v) }
-{
-    text.push_str("  ")?;
-    push_quoted(text, graph, u)?;
-    text.push_str(" -- ")?;
-    push_quoted(text, graph, v)?;
-    Ok(())
-}
-
 /// Writes the weight of a link of a node, and the intervals of its port at each end.
 fn push_labels(text: &mut String, plan: &Plan, u: u16, hop: Hop) -> Result<(), AllocError>
     requires plan { IsPlan plan.now }
@@ -203,31 +118,8 @@ fn push_labels(text: &mut String, plan: &Plan, u: u16, hop: Hop) -> Result<(), A
     Ok(())
 }
 
-/// Writes the line of a link of a node.
-fn push_edge(
-    text: &mut String,
-    graph: &Graph,
-    plan: &Plan,
-    walk: &[u16],
-    u: u16,
-    hop: Hop,
-) -> Result<(), AllocError>
-    requires nodes { node_count plan.now.topology ≡ length graph.now }
-    requires plan { IsPlan plan.now }
-    requires node { u < length graph.now }
-    requires other { hop.node < length graph.now }
-    ensures { OnOk result (string_bytes text.new ≡ string_bytes text.old
-        ++ edge_line (names graph.now) plan.now walk.now u hop) }
-{
-    push_ends(text, graph, u, hop.node)?;
-    push_labels(text, plan, u, hop)?;
-    text.push_str(edge_style(u, hop.node, walk))?;
-    text.push_str("];\n")?;
-    Ok(())
-}
-
 /// Writes the line of a link of a node, if it leads to a later node.
-fn push_later_edge(
+fn push_edge(
     text: &mut String,
     graph: &Graph,
     plan: &Plan,
@@ -242,11 +134,17 @@ fn push_later_edge(
     ensures { OnOk result (string_bytes text.new ≡ string_bytes text.old
         ++ (if nat_lt u hop.node then edge_line (names graph.now) plan.now walk.now u hop else [])) }
 {
-    if u < hop.node {
-        push_edge(text, graph, plan, walk, u, hop)
-    } else {
-        Ok(())
+    if u >= hop.node {
+        return Ok(());
     }
+    text.push_str("  ")?;
+    push_quoted(text, graph, u)?;
+    text.push_str(" -- ")?;
+    push_quoted(text, graph, hop.node)?;
+    push_labels(text, plan, u, hop)?;
+    text.push_str(edge_style(u, hop.node, walk))?;
+    text.push_str("];\n")?;
+    Ok(())
 }
 
 /// Writes the lines of a node's links to later nodes.
@@ -265,7 +163,7 @@ fn push_edges(
 {
     let ports = plan.topology().ports(u as usize);
     for hop in ports {
-        push_later_edge(text, graph, plan, walk, u, *hop)?;
+        push_edge(text, graph, plan, walk, u, *hop)?;
     }
     Ok(())
 }
@@ -307,8 +205,13 @@ fn bold_walk(alloc: Global, plan: &Plan, ends: Option<(u16, u16)>) -> Result<Vec
     let Some((from, to)) = ends else {
         return Ok(Vec::new(alloc));
     };
-    let (walk, _weight) = walk_between(alloc, plan, from, to)?;
-    Ok(walk)
+    let walk = walk_between(alloc, plan, from, to)?;
+    let mut nodes = Vec::new(alloc);
+    for stop in &walk.stops {
+        nodes.push(stop.node)?;
+    }
+    nodes.push(to)?;
+    Ok(nodes)
 }
 
 /// The drawing of a plan for Graphviz: a `graph` with a statement for each node, with its name and label, and one for each

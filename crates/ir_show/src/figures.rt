@@ -1,12 +1,12 @@
 //! The figures of a plan's walks, destination by destination.
 ghost use Rattle.std.specs.Prelude.{◌+◌, ◌<◌, IfOk};
 ghost use Rattle.ir_model.specs.Topology.{node_count};
-ghost use Rattle.ir_show.specs.Figures.{AreFiguresBefore, AreFigures};
+ghost use Rattle.ir_show.specs.Figures.{AreDistancesTo, AreFiguresBefore, AreFigures};
 
-use crate::distances::distances_to;
 use crate::weights::{sum_to, walk_weights_to};
 use crate::worst::{Weighed, worst_to};
 use ir_plan::Plan;
+use ir_tables::weights_to;
 use std::alloc::{AllocError, Global};
 
 /// The sum of the weights of the prescribed walks over all ordered pairs of two nodes, that of the distances, and the
@@ -16,6 +16,16 @@ pub struct Figures {
     pub walks: u64,
     pub distances: u64,
     pub worst: Option<Weighed>,
+}
+
+/// The distances of a plan's nodes to one of them, by node. They take memory for one destination's worth.
+fn distances_to(alloc: Global, plan: &Plan, d: u16) -> Result<Vec<u32>, AllocError>
+    requires { d < node_count plan.now.topology }
+    ensures { IfOk result (λ weights. AreDistancesTo plan.now.topology d weights.items) }
+{
+    let _nodes = plan.nodes();
+    let weights = weights_to(alloc, plan.topology(), d as usize)?;
+    Ok(weights)
 }
 
 /// The figures up to those of the destination `d`, by those of the nodes before it.

@@ -3,12 +3,14 @@
 
 mod alone;
 mod crew;
-mod distances;
 mod draw;
 mod figures;
+pub mod interval;
 mod laws;
 pub mod plan_text;
+pub mod quoted;
 mod stats;
+mod stops;
 mod threads;
 mod walk;
 mod weights;

@@ -1,5 +1,5 @@
 //! The text of a plan, which is not built: its words are written as they are made.
-ghost use Rattle.std.specs.Prelude.{◌≡◌, ◌<◌, ◌≤◌, [], ◌∷◌, Some, IfOk, length, flat_map, slice_index_or, decimal, string_bytes, List, ℕ};
+ghost use Rattle.std.specs.Prelude.{◌≡◌, ◌<◌, ◌≤◌, [], ◌∷◌, Some, IfOk, length, flat_map, slice_index_or, decimal, List, ℕ};
 ghost use Rattle.ir_model.specs.{Graph.names, Topology.node_count, Plan.row_in};
 ghost use Rattle.ir_streams.specs.{Pouring.Pours, Writing.{Calls, Writes}};
 ghost use Rattle.ir_trace.specs.{Rows.spaced, Written.name_at};
@@ -62,32 +62,14 @@ pub struct Pieces {
     names: Texts,
 }
 
-/// A space and a number.
-fn spaced_number(alloc: Global, n: usize) -> Result<String, AllocError>
-    ensures { IfOk result (λ text. string_bytes text ≡ spaced (decimal n)) }
-{
-    let mut text = String::new(alloc);
-    push_next_number(&mut text, n)?;
-    Ok(text)
-}
-
-/// A space and the name of a node.
-fn spaced_name(alloc: Global, graph: &Graph, u: u16) -> Result<String, AllocError>
-    requires { u < length graph.now }
-    ensures { IfOk result (λ text. string_bytes text ≡ spaced (name_at (names graph.now) u)) }
-{
-    let mut text = String::new(alloc);
-    push_name(&mut text, graph, u)?;
-    Ok(text)
-}
-
 /// A space and the number, for each number below this one.
 fn spaced_numbers(alloc: Global, count: usize) -> Result<Texts, AllocError>
     ensures { IfOk result (λ texts. AreSpaced decimal count texts) }
 {
     let mut texts = Texts::with_capacity(alloc, count)?;
     for n in 0..count {
-        let text = spaced_number(alloc, n)?;
+        let mut text = String::new(alloc);
+        push_next_number(&mut text, n)?;
         texts.push(text.as_bytes())?;
     }
     Ok(texts)
@@ -100,7 +82,8 @@ fn spaced_names(alloc: Global, graph: &Graph) -> Result<Texts, AllocError>
     let count = graph.number_of_nodes();
     let mut texts = Texts::with_capacity(alloc, count)?;
     for u in 0..count {
-        let text = spaced_name(alloc, graph, u as u16)?;
+        let mut text = String::new(alloc);
+        push_name(&mut text, graph, u as u16)?;
         texts.push(text.as_bytes())?;
     }
     Ok(texts)

@@ -1,7 +1,7 @@
 //! The text of a plan's figures.
 ghost use Rattle.std.specs.Prelude.{◌≡◌, ◌<◌, ◌≤◌, ◌++◌, IfOk, IfSome, OnOk, length, string_bytes};
 ghost use Rattle.ir_model.specs.{Graph.names, Topology.node_count};
-ghost use Rattle.ir_show.specs.StatsText.{IsGreatestRow, stats_head, count_line, node_count_line, greatest_line, rows_text, IsStatsOf};
+ghost use Rattle.ir_show.specs.StatsText.{IsGreatestRow, stats_head, count_line, greatest_line, rows_text, IsStatsOf};
 ghost use Rattle.ir_show.specs.{Figures.{weighed_line, figures_text}, Words.line_text};
 
 use crate::figures::{Figures, figures_of};
@@ -46,25 +46,6 @@ fn push_count(text: &mut String, what: &str, count: usize) -> Result<(), AllocEr
     Ok(())
 }
 
-/// Writes a line of a word, a node and a number.
-fn push_node_count(
-    text: &mut String,
-    graph: &Graph,
-    what: &str,
-    u: u16,
-    count: usize,
-) -> Result<(), AllocError>
-    requires { u < length graph.now }
-    ensures { OnOk result (string_bytes text.new ≡ string_bytes text.old
-        ++ node_count_line (names graph.now) what.now u count) }
-{
-    text.push_str(what)?;
-    push_name(text, graph, u)?;
-    push_next_number(text, count)?;
-    text.push_str("\n")?;
-    Ok(())
-}
-
 /// Writes the line of the greatest row, which is that of a node.
 fn push_greatest(text: &mut String, graph: &Graph, plan: &Plan, u: u16) -> Result<(), AllocError>
     requires nodes { node_count plan.now.topology ≡ length graph.now }
@@ -72,8 +53,10 @@ fn push_greatest(text: &mut String, graph: &Graph, plan: &Plan, u: u16) -> Resul
     ensures { OnOk result (string_bytes text.new ≡ string_bytes text.old
         ++ greatest_line (names graph.now) plan.now u) }
 {
-    let count = plan.row(u).len();
-    push_node_count(text, graph, "greatest-row", u, count)?;
+    text.push_str("greatest-row")?;
+    push_name(text, graph, u)?;
+    push_next_number(text, plan.row(u).len())?;
+    text.push_str("\n")?;
     Ok(())
 }
 

@@ -3,7 +3,7 @@ use Rattle.std.specs.List.Sorted.{IsPermutation}
 use Rattle.ir_prefix.specs.Cover.{AreDistinct}
 use Rattle.ir_prefix.specs.declared.cover.Prefix.{Prefix}
 use Rattle.ir_prefix.proofs.Orders.{cover_distinct}
-use Rattle.ir_prefix.proofs.Final.{sorted_forwards, sorted_is_fewest, sorted_is_least, sorted_loads}
+use Rattle.ir_prefix.proofs.Final.{sorted_forwards, sorted_is_fewest, sorted_is_least}
 use Rattle.ir_prefix.proofs.PortLemmas.{sorted_has_ports}
 use Rattle.ir_prefix.proofs.table.Goals as goal
 
@@ -34,14 +34,6 @@ returns-clause-values c =
     let w = c.in_ok-set.ensures in
     sorted_is_least bits c.args.ports.now w.0 _ w.1
     (subst (λ (xs : List Prefix). IsPermutation xs c.sort_longest_first.new.set.items) w.2 c.sort_longest_first.ensures.permutation)
-
-pub returns-clause-loads : goal.returns-clause-loads
-returns-clause-loads c =
-    let bits = c.args.bits in
-    let w = c.in_ok-set.ensures in
-    sorted_loads bits c.args.ports.now w.0 _ w.1
-    (subst (λ (xs : List Prefix). IsPermutation xs c.sort_longest_first.new.set.items) w.2 c.sort_longest_first.ensures.permutation)
-    c.requires.every c.in_ok-sort_longest_first.ensures.order
 
 pub returns-clause-ports : goal.returns-clause-ports
 returns-clause-ports c =

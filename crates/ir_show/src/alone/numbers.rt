@@ -1,15 +1,12 @@
 //! The labels of the nodes, where they need no plan.
-ghost use Rattle.std.specs.Prelude.{◌≡◌, ◌≢◌, ◌<◌, ◌≤◌, ◌↔◌, IfOk, IfErr, IsTrue, OnOk};
-ghost use Rattle.ir_model.specs.{Numbering.{IsDepthFirst, neighbors_of}, Topology.node_count, Plan.AreLabels};
-ghost use Rattle.ir_model.specs.{declared.Kind.TheVariants.Shortest, Walk.{IsConnected, IsDisconnected}};
-ghost use Rattle.ir_numbering.specs.Numbering.{IsListing};
-ghost use Rattle.ir_plan.specs.Building.{ByList, FromRoot, MayLabel, RefusesPlan, labelling_of};
-ghost use Rattle.ir_plan.specs.declared.tour.LabelOrder.TheVariants.{DepthFirst};
+ghost use Rattle.std.specs.Prelude.{◌≡◌, ◌<◌, ◌↔◌, IfOk, IfErr, IsTrue, OnOk};
+ghost use Rattle.ir_model.specs.{Topology.node_count, Plan.AreLabels, Walk.IsConnected};
+ghost use Rattle.ir_plan.specs.Building.{MayLabel, RefusesPlan, labelling_of};
 ghost use Rattle.ir_show.specs.Plans.{IsOrderBy, NeedsNoTour};
 
 use ir_model::Kind;
 use ir_numbering::Numbering;
-use ir_plan::{LabelOrder, Labels, MOST_TOUR_NODES, PlanError};
+use ir_plan::{LabelOrder, Labels, MOST_TOUR_NODES, PlanError, numbering_by, numbering_of};
 use ir_tables::Topology;
 use std::alloc::Global;
 
@@ -38,42 +35,12 @@ pub fn numbers_by(
     ensures refused { IfErr result (RefusesPlan topology.now (labelling_of labels)) }
 {
     match labels {
-        Labels::FromRoot(_, root) => numbers_from(alloc, topology, root),
-        Labels::Listed(list) => numbers_listed(alloc, topology, list),
+        Labels::FromRoot(_, root) => numbering_of(alloc, topology, root),
+        Labels::Listed(list) => {
+            if topology.nodes() == 0 {
+                return Err(PlanError::Empty);
+            }
+            numbering_by(alloc, topology, list)
+        }
     }
-}
-
-/// The numbers depth first from a root.
-fn numbers_from(alloc: Global, topology: &Topology, root: u16) -> Result<Numbering, PlanError>
-    ensures some { OnOk result (0 < node_count topology.now) }
-    ensures order { IfOk result (λ numbers. IsDepthFirst (neighbors_of topology.now) (node_count topology.now) root
-        numbers.order numbers.parents) }
-    ensures labels { IfOk result (λ numbers. AreLabels (node_count topology.now) numbers.order numbers.labels) }
-    ensures connected { OnOk result (IsConnected topology.now) }
-    ensures refused { IfErr result (RefusesPlan topology.now (FromRoot DepthFirst root)) }
-{
-    if topology.nodes() == 0 {
-        return Err(PlanError::Empty);
-    }
-    Ok(Numbering::depth_first(alloc, topology, root)?)
-}
-
-/// The numbers by the places of a list.
-fn numbers_listed(
-    alloc: Global,
-    topology: &Topology,
-    list: Vec<u16>,
-) -> Result<Numbering, PlanError>
-    requires { IsListing (node_count topology.now) list.items }
-    ensures some { OnOk result (0 < node_count topology.now) }
-    ensures order { IfOk result (λ numbers. numbers.order ≡ list.items) }
-    ensures labels { IfOk result (λ numbers. AreLabels (node_count topology.now) numbers.order numbers.labels) }
-    ensures connected { OnOk result (IsConnected topology.now) }
-    ensures refused { IfErr result (RefusesPlan topology.now (ByList list.items)) }
-{
-    if topology.nodes() == 0 {
-        return Err(PlanError::Empty);
-    }
-    let _depth_first = numbers_from(alloc, topology, list[0])?;
-    Ok(Numbering::listed(alloc, list)?)
 }

@@ -14,4 +14,4 @@ loop-hop-preserved c =
     let within : c.loop-hop.hop-index < length ports = omega (arith, c.loop-hop-test.true) in
     let more = edges_more line (λ (hop : Hop). nat_lt c.args.u hop.node) ports c.loop-hop.hop-index none within (string_bytes c.args.text.now) in
     let hop = get_or ports c.loop-hop.hop-index none in
-    c.in_ok-push_later_edge.ensures ∙ ap (λ (t : List ℕ). t ++ (if nat_lt c.args.u hop.node then line hop else [])) c.loop-hop.invariant ∙ more
+    c.in_ok-push_edge.ensures ∙ ap (λ (t : List ℕ). t ++ (if nat_lt c.args.u hop.node then line hop else [])) c.loop-hop.invariant ∙ more
