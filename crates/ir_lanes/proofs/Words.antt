@@ -1,5 +1,5 @@
 -- Words of ports: which ports lead nearer, told by the distances in lanes.
-use Rattle.std.proofs.Common.{◌≡◌, ◌↔◌, ℕ, zero, suc, ◌+◌, ◌*◌, ◌/◌, ◌%◌, ◌^◌, ◌<◌, ◌≤◌, Bool, true, false, cond, eqb, List, [], ◌∷◌, ◌++◌, Some, length, sum_by, take, slice_index, slice_index_or, refl, sym, ap, subst, ◌∙◌, arith, ⊎_elim}
+use Rattle.std.proofs.Common.{◌≡◌, ◌≢◌, ◌↔◌, ℕ, zero, suc, ◌+◌, ◌*◌, ◌/◌, ◌%◌, ◌^◌, ◌<◌, ◌≤◌, Bool, true, false, cond, eqb, List, [], ◌∷◌, ◌++◌, Some, length, sum_by, take, slice_index, slice_index_or, refl, sym, ap, subst, ◌∙◌, arith, ⊎_elim}
 use Rattle.std.proofs.lemmas.Bool.{cases_lt, eqb-true, eqb-false}
 use Rattle.std.proofs.lemmas.Option.{slice_get_within, slice_get-get_or}
 use Rattle.std.proofs.lemmas.List.{get_or_append_left, get_or_push, length_push}
@@ -12,7 +12,7 @@ use Rattle.ir_model.proofs.Tables.{distance_unique}
 use Rattle.ir_model.proofs.Walks.{PortFacts, port_facts, degree_bound}
 use Rattle.ir_tables.proofs.Rounds.{past}
 use Rattle.ir_lanes.specs.Lanes.{in_lane}
-use Rattle.ir_lanes.specs.Inward.{InwardLanes, AreInwardLanes, end_at, ports_before, IsSet, ArePortWords, IsTightIn, IsPushing, IsPushed, AreTightWords}
+use Rattle.ir_lanes.specs.Inward.{ports_before, IsSet, ArePortWords, IsTightIn, IsPushing, IsPushed, AreTightWords}
 
 take_mono : (rows : List (List Hop)) (a b : ℕ) → a ≤ b → sum_by length (take a rows) ≤ sum_by length (take b rows)
 take_mono [] zero zero h = omega arith
@@ -99,37 +99,39 @@ tight_more net ok weights u old words u_in pushed before = record {
 
 -- ---- what the distances tell
 
--- a step that goes as far as the distances do leads nearer, and none other does
-pub tight_nearer : (net : Topology) → IsTopology net → (ways : InwardLanes) → AreInwardLanes net ways → (u p k : ℕ) (hop : Hop) → u < node_count net → k < 16 → port_at net u p ≡ Some hop
-    → IsTightIn ways.weights k u hop ↔ LeadsNearer net u (end_at ways k) p
-tight_nearer net ok ways are u p k hop u_in k_in port =
-    let facts : PortFacts net u hop = port_facts net ok u p hop port in
-    let d : ℕ = end_at ways k in
-    let there : IsDistance net hop.node d (in_lane ways.weights k hop.node) = are.weight k hop.node k_in facts.to in
-    let here : IsDistance net u d (in_lane ways.weights k u) = are.weight k u k_in u_in in (
-      (λ tight. (hop, in_lane ways.weights k hop.node, port, there, subst (λ (w : ℕ). IsDistance net u d w) tight here)),
-      (λ near.
-          let is : near.0 ≡ hop = cc (near.2, port) in
-          let rest : IsDistance net hop.node d near.1 = subst (λ (h : Hop). IsDistance net h.node d near.1) is near.3 in
-          let same : near.1 ≡ in_lane ways.weights k hop.node = distance_unique net hop.node d near.1 (in_lane ways.weights k hop.node) rest there in
-          let total : in_lane ways.weights k u ≡ near.0.weight + near.1 = distance_unique net u d (in_lane ways.weights k u) (near.0.weight + near.1) here near.4 in
-          let weight : near.0.weight ≡ hop.weight = ap (λ (h : Hop). h.weight) is in
-          omega (arith, total, same, weight)),
-    )
+module _ (net : Topology) (ok : IsTopology net) (ends weights : List ℕ)
+    (weight : (k u : ℕ) → k < 16 → u < node_count net → IsDistance net u (slice_index ends k) (in_lane weights k u)) where
+  -- a step that goes as far as the distances do leads nearer, and none other does
+  tight_nearer : (u p k : ℕ) (hop : Hop) → u < node_count net → k < 16 → port_at net u p ≡ Some hop → IsTightIn weights k u hop ↔ LeadsNearer net u (slice_index ends k) p
+  tight_nearer u p k hop u_in k_in port =
+      let facts : PortFacts net u hop = port_facts net ok u p hop port in
+      let d : ℕ = slice_index ends k in
+      let there : IsDistance net hop.node d (in_lane weights k hop.node) = weight k hop.node k_in facts.to in
+      let here : IsDistance net u d (in_lane weights k u) = weight k u k_in u_in in (
+        (λ tight. (hop, in_lane weights k hop.node, port, there, subst (λ (w : ℕ). IsDistance net u d w) tight here)),
+        (λ near.
+            let is : near.0 ≡ hop = cc (near.2, port) in
+            let rest : IsDistance net hop.node d near.1 = subst (λ (h : Hop). IsDistance net h.node d near.1) is near.3 in
+            let same : near.1 ≡ in_lane weights k hop.node = distance_unique net hop.node d near.1 (in_lane weights k hop.node) rest there in
+            let total : in_lane weights k u ≡ near.0.weight + near.1 = distance_unique net u d (in_lane weights k u) (near.0.weight + near.1) here near.4 in
+            let by : near.0.weight ≡ hop.weight = ap (λ (h : Hop). h.weight) is in
+            omega (arith, total, same, by)),
+      )
 
-pub words_nearer : (net : Topology) → IsTopology net → (ways : InwardLanes) → AreInwardLanes net ways → (words : List ℕ) → AreTightWords net ways.weights (node_count net) words → ArePortWords net ways.ends words
-words_nearer net ok ways are words tight = record {
-  every = tight.every;
-  bit = λ u p k u_in p_in k_in.
-      let hop : Hop = slice_index_or (ports_of net u) p past in
-      let port : port_at net u p ≡ Some hop = slice_get-get_or (ports_of net u) p past p_in in
-      let one = tight.bit u p k hop u_in k_in port in
-      let other = tight_nearer net ok ways are u p k hop u_in k_in port in (
-        (λ set. other.0 (one.0 set)),
-        (λ near. one.1 (other.1 near)),
-      );
-  nearer = λ u k u_in k_in ne. are.nearer k u k_in u_in ne;
-}
+  pub words_nearer : ((k u : ℕ) → k < 16 → u < node_count net → u ≢ slice_index ends k → (p : ℕ) × LeadsNearer net u (slice_index ends k) p) → (words : List ℕ)
+      → AreTightWords net weights (node_count net) words → ArePortWords net ends words
+  words_nearer nearer words tight = record {
+    every = tight.every;
+    bit = λ u p k u_in p_in k_in.
+        let hop : Hop = slice_index_or (ports_of net u) p past in
+        let port : port_at net u p ≡ Some hop = slice_get-get_or (ports_of net u) p past p_in in
+        let one = tight.bit u p k hop u_in k_in port in
+        let other = tight_nearer u p k hop u_in k_in port in (
+          (λ set. other.0 (one.0 set)),
+          (λ near. one.1 (other.1 near)),
+        );
+    nearer = λ u k u_in k_in ne. nearer k u k_in u_in ne;
+  }
 
 -- ---- one bit
 

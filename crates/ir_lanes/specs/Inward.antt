@@ -1,27 +1,9 @@
--- The distances to sixteen nodes, in lanes, and the marks of the ports that lead nearer to them.
+-- The marks of the ports that lead nearer to sixteen nodes, by the distances in lanes.
 use Rattle.std.specs.Prelude.{◌≡◌, ◌≢◌, ◌↔◌, ℕ, ◌+◌, ◌/◌, ◌%◌, ◌^◌, ◌<◌, Some, List, length, sum_by, take, slice_index}
 use Rattle.ir_model.specs.declared.Hop.{Hop}
 use Rattle.ir_model.specs.Topology.{Topology, node_count, ports_of, port_at}
-use Rattle.ir_model.specs.Walk.{IsDistance}
 use Rattle.ir_model.specs.Table.{LeadsNearer}
-use Rattle.ir_lanes.specs.Lanes.{in_lane, AreNear}
-
--- sixteen nodes, and for each node the weights to them, in its lanes
-pub record InwardLanes : Type 0 where
-  pub ends : List ℕ
-  pub weights : List ℕ
-
--- the node of lane k
-abbrev pub end_at : InwardLanes → ℕ → ℕ
-end_at ways k = slice_index ways.ends k
-
--- the weights are the distances to the sixteen nodes, and from each other node some port leads nearer
-pub record AreInwardLanes (net : Topology) (ways : InwardLanes) : Type 0 where
-  pub sixteen : length ways.ends ≡ 16
-  pub near : AreNear net ways.weights
-  pub node : (k : ℕ) → k < 16 → end_at ways k < node_count net
-  pub weight : (k u : ℕ) → k < 16 → u < node_count net → IsDistance net u (end_at ways k) (in_lane ways.weights k u)
-  pub nearer : (k u : ℕ) → k < 16 → u < node_count net → u ≢ end_at ways k → (p : ℕ) × LeadsNearer net u (end_at ways k) p
+use Rattle.ir_lanes.specs.Lanes.{in_lane}
 
 -- how many ports the nodes before u have
 abbrev pub ports_before : Topology → ℕ → ℕ

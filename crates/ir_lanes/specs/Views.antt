@@ -1,18 +1,12 @@
 -- What contracts see of the types of this crate.
 use Rattle.ir_lanes.specs.Outward.{OutwardLanes}
-use Rattle.ir_lanes.specs.Inward.{InwardLanes}
 use Rattle.ir_lanes.specs.Marks.{PortMarks, word_lists}
-use Rattle.ir_lanes.specs.declared.inward.InwardLanes.TheInside.{Inside as InwardInside}
 use Rattle.ir_lanes.specs.declared.marks.PortMarks.TheInside.{Inside as MarksInside}
 use Rattle.ir_lanes.specs.declared.outward.OutwardLanes.TheInside.{Inside as OutwardInside}
 
 -- the lanes of ways from sixteen nodes
 abbrev pub outward_lanes_of : OutwardInside → OutwardLanes
 outward_lanes_of w = record { sources = w.sources.items; bits = w.bits; keys = w.keys.items }
-
--- the lanes of ways to sixteen nodes
-abbrev pub inward_lanes_of : InwardInside → InwardLanes
-inward_lanes_of w = record { ends = w.ends.items; weights = w.weights.items }
 
 -- the marks of ports
 abbrev pub port_marks_of : MarksInside → PortMarks

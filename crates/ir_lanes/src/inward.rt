@@ -1,100 +1,105 @@
-//! The distances from all nodes to sixteen, and which ports lead nearer to these.
-ghost use Rattle.std.specs.Prelude.{◌≡◌, ◌≢◌, ◌↔◌, ℕ, ◌+◌, ◌*◌, ◌<◌, ◌≤◌, IfOk, IfSome, OnOk, length, slice_index};
+//! Which ports lead nearer to sixteen nodes, by the distances from all nodes to these.
+ghost use Rattle.std.specs.Prelude.{◌≡◌, ℕ, ◌+◌, ◌*◌, ◌<◌, ◌≤◌, IfOk, IfSome, OnOk, IsTrue, length, slice_index};
 ghost use Rattle.ir_model.specs.Topology.{node_count};
-ghost use Rattle.ir_lanes.specs.{Lanes.{AreNear, far, in_lane}, Equation.IsEndStart, Views.inward_lanes_of};
-ghost use Rattle.ir_lanes.specs.Inward.{AreInwardLanes, AreTightWords, ArePortWords, InwardLanes, IsPushed};
+ghost use Rattle.ir_lanes.specs.{Lanes.{AreNear, far, in_lane}, Equation.{AreMet, IsEndStart, IsMet}};
+ghost use Rattle.ir_lanes.specs.Inward.{AreTightWords, ArePortWords, IsPushed};
 
-use crate::equation::settled;
-use crate::vectors::{FAR, LANES, farther, load, same_lanes};
+use crate::equation::is_least;
+use crate::sweeps::settle;
+use crate::vectors::{FAR, LANES, farther, lesser, load, same_lanes};
 use ir_tables::Topology;
 use std::alloc::{AllocError, Global};
-use std::marker::Model;
+use std::simd::prelude::*;
 
-/// The distances from each node to sixteen. A node may stand in several lanes.
-#[derive(Drop)]
-pub struct InwardLanes {
-    ends: Vec<u16>,
-    weights: Vec<u32>,
+/// A word for each port of each node, in order, in which the bit k is set where the port leads nearer to the node k of
+/// sixteen; or none, where the distances to these were not found in 64 sweeps and by the work of 20 passes over all links,
+/// as where some node has no walk to one of them. A node may come several times. Condition: they are nodes. It is refused
+/// for memory alone. Takes O(n + m) for each sweep, for n nodes and m links.
+pub fn words_toward(
+    alloc: Global,
+    topology: &Topology,
+    ends: &[u16],
+) -> Result<Option<Vec<u16>>, AllocError>
+    requires sixteen { length ends.now ≡ 16 }
+    requires nodes { (k : ℕ) → k < 16 → slice_index ends.now k < node_count topology.now }
+    ensures { IfOk result (λ found. IfSome found (λ words. ArePortWords topology.now ends.now words.items)) }
+{
+    let _nodes = topology.nodes();
+    let starts = end_starts(alloc, topology, ends)?;
+    let lanes = lanes_from(alloc, topology, starts.as_slice(), ends)?;
+    let Some(words) = met_words(alloc, topology, starts.as_slice(), lanes.as_slice())? else {
+        return Ok(None);
+    };
+    Ok(Some(words))
 }
 
-impl Model for InwardLanes {
-    ghost Value = { InwardLanes };
-
-    ghost view = { inward_lanes_of };
+// Lanes in which the sweeps from these starts have lowered what they could.
+fn lanes_from(
+    alloc: Global,
+    topology: &Topology,
+    starts: &[u32],
+    ends: &[u16],
+) -> Result<Vec<u32>, AllocError>
+    requires sixteen { length ends.now ≡ 16 }
+    requires nodes { (k : ℕ) → k < 16 → slice_index ends.now k < node_count topology.now }
+    requires starts { AreNear topology.now starts.now }
+    ensures { IfOk result (λ lanes. AreNear topology.now lanes.items) }
+{
+    let mut lanes = Vec::from_slice(alloc, starts)?;
+    near_ends(topology, lanes.as_mut_slice(), ends);
+    let middle = ends[LANES / 2] as usize;
+    settle(alloc, topology, 1, lanes.as_mut_slice(), middle)?;
+    Ok(lanes)
 }
 
-impl InwardLanes {
-    /// The distances to sixteen nodes, the first of them in lane 0; or none, where they were not found in 64 sweeps and by
-    /// the work of 20 passes over all links, as where some node has no walk to one of them. Condition: they are nodes. It is
-    /// refused for memory alone. Takes O(n + m) for each sweep, for n nodes and m links.
-    pub fn to(
-        alloc: Global,
-        topology: &Topology,
-        ends: &[u16],
-    ) -> Result<Option<InwardLanes>, AllocError>
-        requires sixteen { length ends.now ≡ 16 }
-        requires nodes { (k : ℕ) → k < 16 → slice_index ends.now k < node_count topology.now }
-        ensures ends { IfOk result (λ found. IfSome found (λ ways. ways.ends ≡ ends.now)) }
-        ensures ways { IfOk result (λ found. IfSome found (λ ways. AreInwardLanes topology.now ways)) }
-    {
-        let _nodes = topology.nodes();
-        let starts = end_starts(alloc, topology, ends)?;
-        let middle = ends[LANES / 2] as usize;
-        let mut lanes = Vec::from_slice(alloc, starts.as_slice())?;
-        near_ends(topology, lanes.as_mut_slice(), ends);
-        let Some(weights) = settled(alloc, topology, 1, starts.as_slice(), lanes, middle)? else {
-            return Ok(None);
-        };
-        Ok(Some(InwardLanes {
-            ends: Vec::from_slice(alloc, ends)?,
-            weights,
-        }))
-    }
-
-    /// A word for each port of each node, in order, in which the bit k is set where the port leads nearer to the node of
-    /// lane k. Condition: these are the ways of the topology. It is refused for memory alone. Takes O(n + m), for n nodes
-    /// and m links.
-    pub fn words(&self, alloc: Global, topology: &Topology) -> Result<Vec<u16>, AllocError>
-        requires { AreInwardLanes topology.now self.now }
-        ensures { IfOk result (λ words. ArePortWords topology.now self.now.ends words.items) }
-    {
-        let _nodes = topology.nodes();
-        words_of(alloc, topology, self.weights.as_slice())
-    }
-}
-
-// The words of all ports, by the weights in the lanes.
-fn words_of(alloc: Global, topology: &Topology, weights: &[u32]) -> Result<Vec<u16>, AllocError>
-    requires { AreNear topology.now weights.now }
-    ensures { IfOk result (λ words. AreTightWords topology.now weights.now (node_count topology.now) words.items) }
+// The words of all ports, by the weights in the lanes, where the equation holds in these.
+fn met_words(
+    alloc: Global,
+    topology: &Topology,
+    starts: &[u32],
+    lanes: &[u32],
+) -> Result<Option<Vec<u16>>, AllocError>
+    requires starts { AreNear topology.now starts.now }
+    requires lanes { AreNear topology.now lanes.now }
+    ensures met { IfOk result (λ found. IfSome found (λ words. AreMet topology.now 1 starts.now lanes.now)) }
+    ensures words { IfOk result (λ found. IfSome found (λ words.
+        AreTightWords topology.now lanes.now (node_count topology.now) words.items)) }
 {
     let nodes = topology.nodes();
     let mut words = Vec::with_capacity(alloc, topology.links() * 2)?;
     for u in 0..nodes {
-        push_words(topology, weights, u, &mut words)?;
+        if !push_words(topology, starts, lanes, u, &mut words)? {
+            return Ok(None);
+        }
     }
-    Ok(words)
+    Ok(Some(words))
 }
 
 // Puts a word behind the others for each port of a node, in which the bit k is set where the weight in lane k is that of
-// a step by the port and what stands there.
+// a step by the port and what stands there. Whether the equation holds at the node is told.
 fn push_words(
     topology: &Topology,
-    weights: &[u32],
+    starts: &[u32],
+    lanes: &[u32],
     u: usize,
     words: &mut Vec<u16>,
-) -> Result<(), AllocError>
+) -> Result<bool, AllocError>
     requires node { u < node_count topology.now }
-    requires near { AreNear topology.now weights.now }
-    ensures { OnOk result (IsPushed topology.now weights.now u words.old.items words.new.items) }
+    requires starts { AreNear topology.now starts.now }
+    requires near { AreNear topology.now lanes.now }
+    ensures pushed { OnOk result (IsPushed topology.now lanes.now u words.old.items words.new.items) }
+    ensures met { IfOk result (λ met. IsTrue met → IsMet topology.now 1 starts.now lanes.now u) }
 {
     let _nodes = topology.nodes();
-    let own = load(weights, u * LANES);
+    let own = load(lanes, u * LANES);
+    let mut least = u32x16::splat(u32::MAX);
     for hop in topology.ports(u) {
-        let there = load(weights, hop.node as usize * LANES);
-        words.push(same_lanes(own, farther(there, hop.weight)))?;
+        let there = load(lanes, hop.node as usize * LANES);
+        let through = farther(there, hop.weight);
+        words.push(same_lanes(own, through))?;
+        least = lesser(least, through);
     }
-    Ok(())
+    Ok(is_least(topology, 1, starts, lanes, u, least))
 }
 
 // The lanes that the search for the distances to sixteen nodes starts with: 0 at each in its lane.

@@ -14,6 +14,5 @@ mod outward;
 mod sweeps;
 mod vectors;
 
-pub use inward::InwardLanes;
 pub use marks::{PortMarks, sixteen_from, words_to};
 pub use outward::OutwardLanes;

@@ -5,7 +5,7 @@ ghost use Rattle.ir_lanes.specs.{Inward.{ports_before}, Views.port_marks_of};
 ghost use Rattle.ir_lanes.specs.Marks.{AreBatchWords, AreBatches, AreMarked, AreMarksTo, ArePortMarks, ArePushedTied};
 ghost use Rattle.ir_lanes.specs.Marks.{AreSixteen, AreTied, PortMarks, PutsWord, node_from, word_lists};
 
-use crate::inward::InwardLanes;
+use crate::inward::words_toward;
 use crate::vectors::{LANES, with_port};
 use ir_tables::Topology;
 use std::alloc::{AllocError, Global};
@@ -150,10 +150,10 @@ pub fn words_to(
     ensures { IfOk result (λ found. IfSome found (λ words. AreBatchWords topology.now order.now batch words.items)) }
 {
     let ends = sixteen_from(alloc, order, batch * LANES)?;
-    let Some(ways) = InwardLanes::to(alloc, topology, ends.as_slice())? else {
+    let Some(words) = words_toward(alloc, topology, ends.as_slice())? else {
         return Ok(None);
     };
-    Ok(Some(ways.words(alloc, topology)?))
+    Ok(Some(words))
 }
 
 /// Sixteen nodes of a list, from a place on; where it ends before, the last one again. Condition: the list has the place.

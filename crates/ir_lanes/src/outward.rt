@@ -46,8 +46,7 @@ impl OutwardLanes {
         let unit = unit_of(bits);
         let starts = source_starts(alloc, topology, unit, sources)?;
         let middle = sources[LANES / 2] as usize;
-        let lanes = Vec::from_slice(alloc, starts.as_slice())?;
-        let Some(keys) = settled(alloc, topology, unit, starts.as_slice(), lanes, middle)? else {
+        let Some(keys) = settled(alloc, topology, unit, starts.as_slice(), middle)? else {
             return Ok(None);
         };
         Ok(Some(OutwardLanes {

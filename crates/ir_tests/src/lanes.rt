@@ -4,7 +4,7 @@ ghost use Rattle.std.specs.Prelude.{◌≡◌, ◌<◌, ℕ, IsTrue, length, sli
 ghost use Rattle.ir_model.specs.{Topology.node_count};
 
 use crate::networks::{HEAVY, RING, topology_of};
-use ir_lanes::{InwardLanes, OutwardLanes, PortMarks, sixteen_from, words_to};
+use ir_lanes::{OutwardLanes, PortMarks, sixteen_from, words_to};
 use ir_tables::Topology;
 use std::alloc::Global;
 use std::test::Fail;
@@ -87,7 +87,7 @@ fn nothing_to_a_node_apart(rt: HostRuntime) -> Result<(), Fail> {
         return Err("an end is no node".into());
     }
     let outward = OutwardLanes::from(rt.alloc(), &topology, ends.as_slice())?;
-    let inward = InwardLanes::to(rt.alloc(), &topology, ends.as_slice())?;
+    let inward = words_to(rt.alloc(), &topology, ends.as_slice(), 0)?;
     if outward.is_some() || inward.is_some() {
         return Err("ways to a node apart".into());
     }

@@ -1,9 +1,9 @@
-use Rattle.std.proofs.Common.{◌≡◌, ◌<◌, ◌+◌, ◌-◌, ◌*◌, min, ℕ, List, length, slice_index, arith, sym, subst, ◌∙◌}
+use Rattle.std.proofs.Common.{◌≡◌, ◌<◌, ◌+◌, ◌-◌, ◌*◌, min, ℕ, List, length, slice_index, arith, sym, subst}
 use Rattle.ir_lanes.specs.Inward.{ArePortWords}
 use Rattle.ir_lanes.proofs.marks.words_to.Goals as goal
 
-pub to-requires-clause-nodes : goal.to-requires-clause-nodes
-to-requires-clause-nodes c k k_in =
+pub words_toward-requires-clause-nodes : goal.words_toward-requires-clause-nodes
+words_toward-requires-clause-nodes c k k_in =
     let order = c.args.order.now in
     let place : ℕ = min (c.args.batch * 16 + k) (length order - 1) in
     let in_order : place < length order = omega (arith, c.requires.batch) in
@@ -14,7 +14,6 @@ to-requires-clause-nodes c k k_in =
 pub returns : goal.returns
 returns c =
     let ends : List ℕ = c.in_ok-ends.ends.items in
-    let words : List ℕ = c.in_ok-words.field-0.items in
-    let named = rw c.in-Some.is at c.in_ok-ways.ensures.ends in
-    let same : c.in-Some.ways.ends ≡ ends = named ∙ c.as_slice.ensures.value in
-    record { ends = ends; sixteen = c.in_ok-ends.ensures; told = subst (λ (xs : List ℕ). ArePortWords c.args.topology.now xs words) same c.in_ok-words.ensures }
+    let words : List ℕ = c.in-Some.words.items in
+    let told = rw c.in-Some.is at c.in_ok-words.ensures in
+    record { ends = ends; sixteen = c.in_ok-ends.ensures; told = subst (λ (xs : List ℕ). ArePortWords c.args.topology.now xs words) c.as_slice.ensures.value told }

@@ -1,0 +1,16 @@
+use Rattle.std.proofs.Common.{◌≡◌, ℕ, ◌<◌, ◌≤◌, arith, subst, sym, ⊎_elim}
+use Rattle.std.proofs.lemmas.Bool.{cases_lt}
+use Rattle.ir_lanes.specs.Equation.{IsMet}
+use Rattle.ir_lanes.proofs.Words.{tight_more}
+use Rattle.ir_lanes.proofs.inward.met_words.Goals as goal
+
+pub loop-u-preserved : goal.loop-u-preserved
+loop-u-preserved c = record {
+  tight = tight_more c.args.topology.now c.nodes-nodes.ensures.topology c.args.lanes.now c.loop-u.u c.loop-u.words.items c.push_words.new.words.items
+      (omega (arith, c.loop-u-test.true, c.nodes-nodes.ensures.count)) c.in_ok-push_words.ensures.pushed c.loop-u.invariant.tight;
+  met = λ v lt.
+      ⊎_elim (λ (less : v < c.loop-u.u). c.loop-u.invariant.met v less)
+      (λ (ge : c.loop-u.u ≤ v). let same : v ≡ c.loop-u.u = omega (arith, lt, ge) in
+      let P : ℕ → Type 0 = λ x. IsMet c.args.topology.now 1 c.args.starts.now c.args.lanes.now x in
+      subst P (sym same) (c.in_ok-push_words.ensures.met c.if-not-branch.false)) (cases_lt v c.loop-u.u);
+}

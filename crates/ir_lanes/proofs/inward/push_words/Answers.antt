@@ -1,0 +1,43 @@
+use Rattle.std.proofs.Common.{◌≡◌, ◌↔◌, ◌<◌, ◌+◌, ◌*◌, ℕ, List, Some, arith, sym, subst, slice_get, slice_index, get_or}
+use Rattle.std.proofs.lemmas.Option.{slice_get-get_or}
+use Rattle.ir_model.specs.declared.Hop.{Hop}
+use Rattle.ir_model.specs.Topology.{Topology, ports_of, port_at}
+use Rattle.ir_tables.proofs.Rounds.{past}
+use Rattle.ir_lanes.specs.Inward.{IsPushing, IsSet, IsTightIn}
+use Rattle.ir_lanes.specs.Lanes.{HasLanes}
+use Rattle.ir_lanes.proofs.LaneLemmas.{least_none, least_next}
+use Rattle.ir_lanes.proofs.Words.{pushing_none, pushing_more}
+use Rattle.ir_lanes.proofs.inward.push_words.Goals as goal
+
+pub loop-hop-init : goal.loop-hop-init
+loop-hop-init c = record {
+  pushing = pushing_none c.args.topology.now c.args.lanes.now c.args.u c.args.words.now.items;
+  least = least_none (ports_of c.args.topology.now c.args.u) 1 c.args.lanes.now;
+}
+
+pub loop-hop-preserved : goal.loop-hop-preserved
+loop-hop-preserved c =
+    let net : Topology = c.args.topology.now in
+    let lanes : List ℕ = c.args.lanes.now in
+    let u : ℕ = c.args.u in
+    let i : ℕ = c.loop-hop.hop-index in
+    let hops : List Hop = c.ports-hop-items.result.now in
+    let hop : Hop = get_or hops i past in
+    let P : List Hop → Type 0 = λ xs. slice_get xs i ≡ Some hop in
+    let port : port_at net u i ≡ Some hop = subst P c.ports-hop-items.ensures (slice_get-get_or hops i past c.loop-hop-test.true) in
+    let own = c.load-own.ensures in
+    let there = c.load-there.ensures in
+    let through = c.farther-through.ensures in
+    let bits : (k : ℕ) → k < 16 → IsSet c.same_lanes.result k ↔ IsTightIn lanes k u hop =
+    λ k l. let same = c.same_lanes.ensures k l in (
+      (λ set. omega (arith, same.0 set, own.each k l, through.each k l, there.each k l)),
+      (λ tight. same.1 (omega (arith, tight, own.each k l, through.each k l, there.each k l))),
+    ) in
+    let added : HasLanes c.farther-through.result (λ k. hop.weight * 1 + slice_index c.load-there.result k) =
+    record { long = through.long; each = λ k l. omega (arith, through.each k l) } in
+    record {
+      pushing = subst (λ (xs : List ℕ). IsPushing net lanes u (i + 1) c.args.words.now.items xs) (sym c.in_ok-push.ensures.items)
+          (pushing_more net lanes u i c.args.words.now.items c.loop-hop.words.items hop c.same_lanes.result port bits c.loop-hop.invariant.pushing);
+      least = least_next (ports_of net u) 1 i lanes c.loop-hop.least c.load-there.result c.farther-through.result c.lesser-least.result hop
+          port there added c.lesser-least.ensures c.loop-hop.invariant.least;
+    }

@@ -1,0 +1,25 @@
+use Rattle.std.proofs.Common.{◌<◌, ℕ, List, subst, slice_index}
+use Rattle.ir_model.specs.Topology.{Topology, node_count, IsTopology}
+use Rattle.ir_lanes.specs.Lanes.{in_lane}
+use Rattle.ir_lanes.specs.Equation.{AreMet, IsEndStart}
+use Rattle.ir_lanes.specs.Inward.{AreTightWords, ArePortWords}
+use Rattle.ir_lanes.proofs.Bellman.{least_distance, some_nearer}
+use Rattle.ir_lanes.proofs.Words.{words_nearer}
+use Rattle.ir_lanes.proofs.inward.words_toward.Goals as goal
+
+-- what the calls give
+told_here : (net : Topology) → IsTopology net → (ends lanes starts words : List ℕ) → ((k : ℕ) → k < 16 → slice_index ends k < node_count net)
+    → ((k : ℕ) → k < 16 → IsEndStart net (slice_index ends k) (in_lane starts k)) → AreMet net 1 starts lanes → AreTightWords net lanes (node_count net) words → ArePortWords net ends words
+told_here net ok ends lanes starts words nodes begun met tight =
+    words_nearer net ok ends lanes
+    (λ k u k_in u_in. least_distance net ok (slice_index ends k) (nodes k k_in) (in_lane starts k) (in_lane lanes k) (begun k k_in) (met k k_in) u u_in)
+    (λ k u k_in u_in ne. some_nearer net ok (slice_index ends k) (nodes k k_in) (in_lane starts k) (in_lane lanes k) (begun k k_in) (met k k_in) u u_in ne)
+    words tight
+
+pub returns : goal.returns
+returns c =
+    let met = rw c.in-Some.is at c.in_ok-words.ensures.met in
+    let tight = rw c.in-Some.is at c.in_ok-words.ensures.words in
+    let P : List ℕ → Type 0 = λ xs. AreMet c.args.topology.now 1 xs c.as_slice-3.result.now in
+    told_here c.args.topology.now c.nodes-nodes.ensures.topology c.args.ends.now c.as_slice-3.result.now c.in_ok-starts.starts.items c.in-Some.words.items
+    c.requires.nodes c.in_ok-starts.ensures.starts (subst P c.as_slice-2.ensures.value met) tight
