@@ -12,6 +12,7 @@ use crate::injector::Injector;
 use ir_core::{MAX_PACKETS, MAX_RESTAMPS, OpenError, Opening, open_refusal, plan_over_by};
 use ir_epochs::{BoardError, BoardReader, BoardWriter, RegisterError, Registry, Stamp, board};
 use ir_links::{Channel, Sender, Taker};
+use ir_model::Kind;
 use ir_plan::{LabelOrder, Several};
 use ir_tables::Topology;
 use ir_worker::{Common, Ends, Node, Parcel};
@@ -27,8 +28,7 @@ use std::thread::Threads;
 /// A live run over it, where each node may always go on (`Open`):
 ///
 /// ```
-/// let opening = Opening::of(topology, Kind::Tree, 0, 16, 64, 0);
-/// let net = Net::open(rt, alloc, opening).ok()?;
+/// let net = Net::new(rt, alloc, topology, Kind::Tree, 0, 16, 64, 0).ok()?;
 /// let commands = [Command::Inject(1, 2), Command::Drain];
 /// let stop = AtomicBool::new(false);
 /// let live = run_live(rt, &net, &commands, &Open, &stop, rt).ok()?;
@@ -104,7 +104,30 @@ fn entries_of(alloc: Global, nodes: usize) -> Result<Vec<usize>, AllocError>
 }
 
 impl Net {
+    ghost use Rattle.ir_core.specs.Opened.{opening_of};
     ghost use Rattle.ir_control.specs.Nets.{IsNetFor};
+
+    /// The net that `open` gives of the opening by these, whose plans are labelled depth first. For users of the library.
+    pub fn new(
+        rt: &(impl Threads + Sync),
+        alloc: Global,
+        topology: Topology,
+        kind: Kind,
+        root: u16,
+        capacity: usize,
+        max_packets: usize,
+        restamps: u8,
+    ) -> Result<Net, OpenError>
+        ensures opened { IfOk result
+            (λ net. IsNetFor (opening_of topology kind root capacity max_packets restamps) net) }
+        ensures accepted { IfOk result
+            (λ _. open_refused (opening_of topology kind root capacity max_packets restamps) ≡ None) }
+        ensures refused { IfErr result
+            (λ e. IsNetRefusal (opening_of topology kind root capacity max_packets restamps) e) }
+    {
+        let opening = Opening::of(topology, kind, root, capacity, max_packets, restamps);
+        Net::open(rt, alloc, opening)
+    }
 
     /// A net for an opening, whose epoch 1 has a plan of the opening's kind and root over all links.
     ///

@@ -148,7 +148,7 @@ fn reported<R: Wait, S: Starter, B: Wait + Drop>(
     }
 }
 
-/// Starts a thread for each node of a net, which runs `serve`, unless the starter says no; carries out the commands in
+/// Starts a thread for each node of a net, which runs `serve_with_bells`, unless the starter says no; carries out the commands in
 /// order, where the injector learns of each install at once, and shows the starter the injector; then lets the nodes end,
 /// waits until each has come back, shows the starter each, and reports what came of each packet. A refused command stands
 /// among the refusals, and the run goes on. It lets the nodes end by the flag, which it sets. Where others set it before,

@@ -10,7 +10,7 @@ use crate::starter::Starter;
 use ir_core::{Command, Refused};
 use ir_epochs::Stamp;
 use ir_links::Moments;
-use ir_worker::{Bells, ComesBack, Flag, Gate, NoMemory, Node, Parcel, serve};
+use ir_worker::{Bells, ComesBack, Flag, Gate, NoMemory, Node, Parcel, serve_with_bells};
 use std::sync::Wait;
 use std::thread::Threads;
 use std::{mem, thread};
@@ -87,7 +87,7 @@ pub(crate) fn run_nodes<
                 let promise = ComesBack::of(rt, &node, gate, stop);
                 let handle = match scope.spawn_with(
                     promise,
-                    move || serve(rt, node, gate, stop, bells),
+                    move || serve_with_bells(rt, node, gate, stop, bells),
                 ) {
                     Ok(handle) => handle,
                     Err(error) => {

@@ -6,7 +6,7 @@ use ir_control::{Command, Live, Net};
 use ir_core::{Fate, Kind, Record};
 use ir_graph::Graph;
 use ir_tables::Topology;
-use ir_worker::{Bells, Gate, Node, serve};
+use ir_worker::{Gate, Node, serve};
 use std::alloc::Global;
 use std::sync::Wait;
 use std::sync::atomic::{AtomicBool, Ordering};
@@ -161,16 +161,13 @@ fn first_node<R: Threads + Wait + Sync>(rt: &R, alloc: Global) -> Option<Node> {
 }
 
 // Whether a node makes as many turns as it may, and asks for one more.
-fn turns_out<R: Wait>(rt: &R, alloc: Global, node: Node) -> bool {
+fn turns_out<R: Wait>(rt: &R, node: Node) -> bool {
     let gate = UpTo {
         turns: 5_100_000,
         asked: AtomicBool::new(false),
     };
     let stop = AtomicBool::new(false);
-    let Ok(bells) = Bells::new(alloc, 0) else {
-        return false;
-    };
-    let (_node, why) = serve(rt, node, &gate, &stop, &bells);
+    let (_node, why) = serve(rt, node, &gate, &stop);
     why.is_none() && gate.asked.load(Ordering::SeqCst)
 }
 
@@ -179,6 +176,6 @@ fn a_node_turns_as_often_as_it_may(rt: HostRuntime) -> Result<(), Fail> {
     let Some(node) = first_node(&rt, rt.alloc()) else {
         return Err("no node".into());
     };
-    assert!(rt; turns_out(&rt, rt.alloc(), node));
+    assert!(rt; turns_out(&rt, node));
     Ok(())
 }

@@ -1,7 +1,7 @@
 //! Live runs: over the path a, b, c, and of nodes that wait for one another.
 use crate::by_hand::{Became, network, opened, path, tells_all};
 use ir_control::{Command, Injector, Live, LiveError, Net, Starter, run_live};
-use ir_core::{Fate, Kind, Opening, Refused};
+use ir_core::{Fate, Kind, Refused};
 use ir_worker::{Gate, Node};
 use std::alloc::Global;
 use std::sync::Wait;
@@ -235,8 +235,7 @@ fn nodes_meet(rt: HostRuntime) -> Result<(), Fail> {
 // Whether the example in the doc comment of a net is so.
 fn net_example<R: Threads + Wait + Sync>(rt: &R, alloc: Global) -> Option<bool> {
     let topology = network(alloc, &[("a", "b"), ("b", "c")])?;
-    let opening = Opening::of(topology, Kind::Tree, 0, 16, 64, 0);
-    let net = Net::open(rt, alloc, opening).ok()?;
+    let net = Net::new(rt, alloc, topology, Kind::Tree, 0, 16, 64, 0).ok()?;
     let commands = [Command::Inject(1, 2), Command::Drain];
     let stop = AtomicBool::new(false);
     let live = run_live(rt, &net, &commands, &Open, &stop, rt).ok()?;

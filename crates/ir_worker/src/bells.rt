@@ -15,7 +15,7 @@ const LOOKS: u8 = 2;
 
 // A bell beside which one thread sleeps, and which others ring.
 #[derive(Drop)]
-struct Bell {
+pub(crate) struct Bell {
     asleep: AtomicBool,
     parker: Parker,
 }
@@ -85,13 +85,18 @@ impl Bells {
         for _node in 0..nodes {
             bells.push(Bell::new())?;
         }
-        Ok(Bells {
-            nodes: bells,
+        Ok(Bells::over(bells))
+    }
+
+    // Bells of these nodes.
+    pub(crate) fn over(nodes: Vec<Bell>) -> Bells {
+        Bells {
+            nodes,
             waiting: Bell::new(),
             wanted: AtomicU32::new(0),
             settled: AtomicU32::new(0),
             ended: AtomicBool::new(false),
-        })
+        }
     }
 
     /// Waits until so many packets are settled in all, or a node has ended. It sleeps meanwhile, and is woken once.

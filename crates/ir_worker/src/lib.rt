@@ -14,4 +14,4 @@ mod serving;
 pub use bells::Bells;
 pub use node::{Common, Ends, Node, Turn};
 pub use parcel::{Outcome, Parcel, Place};
-pub use serving::{ComesBack, Flag, Gate, NoMemory, serve};
+pub use serving::{ComesBack, Flag, Gate, NoMemory, serve, serve_with_bells};

@@ -132,6 +132,11 @@ impl Node {
         self.index
     }
 
+    // What its lists grow by.
+    pub(crate) fn allocator(&self) -> Global {
+        *self.outcomes.allocator()
+    }
+
     // How many ways lead to it from its neighbours.
     pub(crate) fn degree(&self) -> usize {
         self.entrances.ports()

@@ -73,12 +73,26 @@ fn is_over<G: Gate, F: Flag>(node: u16, number: u64, gate: &G, stop: &F) -> bool
 }
 
 /// Turns until the flag is set, the gate does not let the node pass, or the turn's number is u64's greatest. Where there
-/// is no memory for a turn it sets the flag and ends, and tells so. Where it finds nothing it sleeps, once it has looked some
-/// times, until its bell is rung; it rings that of a neighbour to which it sent. Who sets the flag rings all: a node that sleeps
-/// asks neither gate nor flag.
+/// is no memory for a turn it sets the flag and ends, and tells so. A node that finds nothing gives way, and does not sleep.
+/// For users of the library.
 ///
 /// What comes back is the node that was given, after a list of turns.
 pub fn serve<R: Moments<Parcel>, G: Gate, F: Flag>(
+    rt: &R,
+    node: Node,
+    gate: &G,
+    stop: &F,
+) -> (Node, Option<NoMemory>)
+    ensures turns { HasServed R.was_full R.was_empty (MayEnd F.seen G.barred stop.now gate.now) node result.0 result.1 }
+    ensures same { IsSameNode node result.0 }
+{
+    let bells = Bells::over(Vec::new(node.allocator()));
+    serve_with_bells(rt, node, gate, stop, &bells)
+}
+
+/// What `serve` does, but where it finds nothing it sleeps, once it has looked some times, until its bell is rung; it rings
+/// that of a neighbour to which it sent. Who sets the flag rings all: a node that sleeps asks neither gate nor flag.
+pub fn serve_with_bells<R: Moments<Parcel>, G: Gate, F: Flag>(
     rt: &R,
     mut node: Node,
     gate: &G,
@@ -107,7 +121,7 @@ pub fn serve<R: Moments<Parcel>, G: Gate, F: Flag>(
     (node, None)
 }
 
-/// Kept by a thread that runs `serve` with this gate and this flag: what comes back is the node that went in, of the same
+/// Kept by a thread that runs `serve_with_bells` with this gate and this flag: what comes back is the node that went in, of the same
 /// net, after a list of turns.
 #[derive(Drop)]
 pub struct ComesBack<R, G, F> {

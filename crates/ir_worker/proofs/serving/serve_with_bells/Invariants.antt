@@ -2,7 +2,7 @@ use Rattle.std.specs.Prelude.{◌≡◌, List, length}
 use Rattle.ir_worker.specs.declared.node.Turn.{Turn}
 use Rattle.ir_worker.specs.Turns.{AreTurns}
 use Rattle.ir_worker.specs.Same.{IsSameNode}
-use Rattle.ir_worker.proofs.serving.serve.Given as goal
+use Rattle.ir_worker.proofs.serving.serve_with_bells.Given as goal
 
 abbrev pub invariant-loop : goal.invariant-loop
 invariant-loop g l = record {

@@ -1,6 +1,6 @@
 use Rattle.std.proofs.Common.{◌∷◌, arith}
 use Rattle.ir_worker.proofs.Serves.{same_then}
-use Rattle.ir_worker.proofs.serving.serve.Goals as goal
+use Rattle.ir_worker.proofs.serving.serve_with_bells.Goals as goal
 
 pub returns-in_default-clause-turns : goal.returns-in_default-clause-turns
 returns-in_default-clause-turns g c = (c.loop.invariant.turns.0, (c.loop.node, c.loop.invariant.turns.1, c.in_default.ensures))
