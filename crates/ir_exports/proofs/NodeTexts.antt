@@ -1,5 +1,5 @@
 -- Texts of single nodes, made for the numbers of a range, are the lines of all nodes.
-use Rattle.std.proofs.Common.{◌≡◌, ℕ, zero, suc, Ok, ◌+◌, ◌<◌, ◌≤◌, Bool, List, [], ◌∷◌, ◌++◌, length, map, get_or, refl, sym, ap, subst, ◌∙◌, arith, flat_map, sum_by}
+use Rattle.std.proofs.Common.{◌≡◌, ℕ, zero, suc, Ok, ◌+◌, ◌<◌, ◌≤◌, Bool, List, [], ◌∷◌, ◌++◌, length, map, refl, sym, ap, subst, ◌∙◌, arith, flat_map, sum_by}
 use Rattle.std.specs.Prelude.{slice_index_or, string_bytes, All, IfOk}
 use Rattle.std.specs.List.{AllZip, range_with_len}
 use Rattle.std.specs.declared.result.Result.{Result}

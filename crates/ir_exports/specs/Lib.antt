@@ -12,4 +12,3 @@ pub mod Ring
 -- what bodies use
 pub mod Before
 pub mod NodeTexts
-pub mod Intervals

@@ -1,9 +1,6 @@
--- Names as they stand in XML, and between the quotes of Graphviz.
+-- Names as they stand in XML.
 use Rattle.std.specs.Prelude.{ℕ, ◌==◌, if◌then◌else◌, nat_lt, List, [], ◌∷◌, ◌++◌, length, take, flat_map, codes}
 use Rattle.ir_model.specs.Graph.{Name}
-use Rattle.ir_show.specs.Quoted.{escaped_byte}
-use Rattle.ir_exports.specs.declared.circle.names.Place.{Place}
-use Rattle.ir_exports.specs.declared.circle.names.Place.TheVariants.{Xml, Quotes}
 
 -- `&`, `<` and `>` are written by their names
 abbrev pub xml_byte : ℕ → List ℕ
@@ -16,8 +13,3 @@ xml text = flat_map xml_byte text
 -- a name of more than sixteen bytes is cut
 abbrev pub short_name : Name → List ℕ
 short_name name = if nat_lt 16 (length name) then xml (take 14 name) ++ codes ".." else xml name
-
--- a byte, by where it stands
-abbrev pub written_byte : Place → ℕ → List ℕ
-written_byte Xml b = xml_byte b
-written_byte Quotes b = escaped_byte b

@@ -1,7 +1,6 @@
 //! The circle of labels with the intervals of a node, coloured by port: as SVG, and for Graphviz.
 
 mod around;
-mod interval;
 mod key;
 mod names;
 mod ports;

@@ -4,7 +4,7 @@ ghost use Rattle.ir_model.specs.{Graph.{Name, names}, Topology.{node_count, port
 ghost use Rattle.ir_trace.specs.Rows.{spaced};
 ghost use Rattle.ir_show.specs.Words.{line_text};
 ghost use Rattle.ir_exports.specs.Before.{AreWritten};
-ghost use Rattle.ir_exports.specs.PrefixesText.{entry_words, goal_text, prefixes_head, prefix_node_words, prefix_text, IsPrefixesOf};
+ghost use Rattle.ir_exports.specs.PrefixesText.{entry_words, prefixes_head, prefix_node_words, IsPrefixesOf};
 
 use crate::table::table_of;
 use ir_graph::Graph;
@@ -14,35 +14,7 @@ use ir_show::plan_text::kind_text;
 use ir_trace::text::{name_of, push_name, push_next_number, push_word};
 use std::alloc::{AllocError, Global};
 
-/// Writes a space and a prefix.
-fn push_prefix(text: &mut String, value: u16, length: u8) -> Result<(), AllocError>
-    ensures { OnOk result (string_bytes text.new ≡ string_bytes text.old ++ spaced (prefix_text value length)) }
-{
-    write!(text, " {value}/{length}")
-}
-
-/// Writes a space and the neighbour at a port of a node, or `-` where there is no port.
-fn push_goal(
-    text: &mut String,
-    graph: &Graph,
-    plan: &Plan,
-    u: u16,
-    port: Option<u16>,
-) -> Result<(), AllocError>
-    requires nodes { node_count plan.now.topology ≡ length graph.now }
-    requires plan { IsPlan plan.now }
-    requires node { u < length graph.now }
-    requires port { IfSome port (λ p. p < length (ports_of plan.now.topology u)) }
-    ensures { OnOk result (string_bytes text.new ≡ string_bytes text.old
-        ++ spaced (goal_text (names graph.now) plan.now.topology u port)) }
-{
-    match port {
-        Some(port) => push_name(text, graph, plan.hop(u, port).node),
-        None => push_word(text, "-"),
-    }
-}
-
-/// Writes a line of a node.
+/// Writes a line of a node: its prefix, and the neighbour at its port, or `-` where there is no port.
 fn push_entry(
     text: &mut String,
     graph: &Graph,
@@ -57,8 +29,16 @@ fn push_entry(
     ensures { OnOk result (string_bytes text.new ≡ string_bytes text.old
         ++ flat_map spaced (entry_words (names graph.now) plan.now.topology u line.now)) }
 {
-    push_prefix(text, line.value, line.length)?;
-    push_goal(text, graph, plan, u, line.port)?;
+    let Line {
+        value,
+        length,
+        port,
+    } = *line;
+    write!(text, " {value}/{length}")?;
+    match port {
+        Some(port) => push_name(text, graph, plan.hop(u, port).node)?,
+        None => push_word(text, "-")?,
+    }
     Ok(())
 }
 

@@ -5,7 +5,7 @@ ghost use Rattle.ir_model.specs.{Graph.names, Topology.{node_count, ports_of}, P
 ghost use Rattle.ir_prefix.specs.Ranges.{AreRangesApart, IsFewestRanges, TellsPorts};
 ghost use Rattle.ir_trace.specs.Rows.{spaced};
 ghost use Rattle.ir_show.specs.Words.{line_text};
-ghost use Rattle.ir_exports.specs.RangesText.{labels_text, range_count, range_node_words, range_words, ranges_head, ranges_in, ranges_line, ranges_text};
+ghost use Rattle.ir_exports.specs.RangesText.{labels_text, range_count, range_words, ranges_head, ranges_in, ranges_line, ranges_text};
 
 use crate::table::ports_by_label;
 use ir_graph::Graph;
@@ -78,29 +78,6 @@ fn push_ranges(
     Ok(())
 }
 
-/// Writes the line of text of a node with these ranges.
-#[tactic(auto, using(ir_show::proofs::PlanLines::words_of_a_line))]
-fn push_line(
-    text: &mut String,
-    graph: &Graph,
-    plan: &Plan,
-    u: u16,
-    set: &[LabelRange],
-) -> Result<(), AllocError>
-    requires nodes { node_count plan.now.topology ≡ length graph.now }
-    requires plan { IsPlan plan.now }
-    requires node { u < length graph.now }
-    requires ports { All (λ r. r.port < length (ports_of plan.now.topology u)) set.now }
-    ensures { OnOk result (string_bytes text.new ≡ string_bytes text.old
-        ++ line_text (range_node_words (names graph.now) plan.now u set.now)) }
-{
-    text.push_str(name_of(graph, u))?;
-    push_next_number(text, plan.label_of(u) as usize)?;
-    push_ranges(text, graph, plan, u, set)?;
-    text.push_str("\n")?;
-    Ok(())
-}
-
 /// Writes the line of text of a node, and answers how many ranges it has.
 fn push_node(
     alloc: Global,
@@ -118,7 +95,10 @@ fn push_node(
 {
     let _nodes = plan.nodes();
     let set = ranges_of(alloc, plan, u)?;
-    push_line(text, graph, plan, u, set.as_slice())?;
+    text.push_str(name_of(graph, u))?;
+    push_next_number(text, plan.label_of(u) as usize)?;
+    push_ranges(text, graph, plan, u, set.as_slice())?;
+    text.push_str("\n")?;
     Ok(set.len())
 }
 
@@ -153,21 +133,6 @@ fn push_head(text: &mut String, plan: &Plan, count: usize) -> Result<(), AllocEr
     Ok(())
 }
 
-/// The first line, and behind it the lines of all nodes.
-fn text_of_lines(
-    alloc: Global,
-    plan: &Plan,
-    count: usize,
-    lines: &str,
-) -> Result<String, AllocError>
-    ensures { IfOk result (λ text. string_bytes text ≡ line_text (ranges_head plan.now count) ++ lines.now) }
-{
-    let mut text = String::new(alloc);
-    push_head(&mut text, plan, count)?;
-    text.push_str(lines)?;
-    Ok(text)
-}
-
 /// The text of the ranges of a plan's nodes: `ranges KIND N COUNT`, and for each node its name, its label and its ranges,
 /// each as `FROM-TO` and the neighbour. They are those of `ranges_of`. Condition: the plan is over the graph's network.
 /// It is refused for memory alone. Takes O(n * n), for n nodes.
@@ -177,5 +142,8 @@ pub fn ranges_text(alloc: Global, graph: &Graph, plan: &Plan) -> Result<String, 
 {
     let mut lines = String::new(alloc);
     let count = push_nodes(alloc, &mut lines, graph, plan)?;
-    text_of_lines(alloc, plan, count, lines.as_str())
+    let mut text = String::new(alloc);
+    push_head(&mut text, plan, count)?;
+    text.push_str(lines.as_str())?;
+    Ok(text)
 }

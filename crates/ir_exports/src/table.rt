@@ -2,11 +2,11 @@
 ghost use Rattle.std.specs.Prelude.{◌≡◌, ◌≢◌, ◌<◌, ◌+◌, ℕ, None, IfOk, IfSome, IsSome, length};
 ghost use Rattle.ir_model.specs.{Topology.node_count, Row.HasPort, Plan.by_label};
 ghost use Rattle.ir_prefix.specs.{Forwarding.NamesPorts, Longest.IsWidth};
-ghost use Rattle.ir_exports.specs.{Before.AreBelow, Tables.{AreDisjointLines, AreLinesOf, AreNestedLines}};
+ghost use Rattle.ir_exports.specs.{Before.AreBelow, Tables.AreLinesOf};
 
 use ir_lookup::Row;
 use ir_plan::Plan;
-use ir_prefix::{Line, PrefixError, disjoint, forwarding};
+use ir_prefix::{Line, disjoint_lines, forwarding_lines};
 use std::alloc::{AllocError, Global};
 
 /// The ports of a node to each label, by one walk along its row.
@@ -59,40 +59,9 @@ fn port_behind(row: &Row, below: usize, own: u16, label: u16) -> Option<u16>
     Some(row.port(below - 1))
 }
 
-// The fewest lines of a node whose longest match names its port to each other label.
-fn nested_lines(alloc: Global, plan: &Plan, u: u16) -> Result<Vec<Line>, AllocError>
-    requires { u < node_count plan.now.topology }
-    ensures lines { IfOk result (λ table. (bits : ℕ) → IsWidth (node_count plan.now.topology) bits
-        → AreNestedLines plan.now bits u table.items) }
-    ensures ports { IfOk result (λ table. NamesPorts (by_label plan.now u) table.items) }
-{
-    let ports = ports_by_label(alloc, plan, u)?;
-    let nodes = plan.nodes() as u16;
-    match forwarding(alloc, nodes, plan.label_of(u), ports.as_slice()) {
-        Ok(table) => Ok(table),
-        Err(PrefixError::NoMemory) => Err(AllocError),
-        Err(PrefixError::BadRow) => unreachable!(),
-    }
-}
-
-// The fewest lines of a node of which one alone holds each other label.
-fn disjoint_lines(alloc: Global, plan: &Plan, u: u16) -> Result<Vec<Line>, AllocError>
-    requires { u < node_count plan.now.topology }
-    ensures lines { IfOk result (λ table. (bits : ℕ) → IsWidth (node_count plan.now.topology) bits
-        → AreDisjointLines plan.now bits u table.items) }
-    ensures ports { IfOk result (λ table. NamesPorts (by_label plan.now u) table.items) }
-{
-    let ports = ports_by_label(alloc, plan, u)?;
-    let nodes = plan.nodes() as u16;
-    match disjoint(alloc, nodes, plan.label_of(u), ports.as_slice()) {
-        Ok(table) => Ok(table),
-        Err(PrefixError::NoMemory) => Err(AllocError),
-        Err(PrefixError::BadRow) => unreachable!(),
-    }
-}
-
-/// The forwarding table of a node, by the ports of its row: that of `ir_prefix::disjoint` if the lines are to be
-/// disjoint, else that of `ir_prefix::forwarding`. It is refused for memory alone. Takes O(n log n), for n nodes.
+/// The forwarding table of a node, by the ports of its row: that of `ir_prefix::disjoint_lines` if the lines
+/// are to be disjoint, else that of `ir_prefix::forwarding_lines`. It is refused for memory alone. Takes O(n log n), for n
+/// nodes.
 pub fn table_of(
     alloc: Global,
     plan: &Plan,
@@ -104,9 +73,12 @@ pub fn table_of(
         → AreLinesOf is_disjoint plan.now bits u table.items) }
     ensures ports { IfOk result (λ table. NamesPorts (by_label plan.now u) table.items) }
 {
+    let ports = ports_by_label(alloc, plan, u)?;
+    let nodes = plan.nodes() as u16;
+    let own = plan.label_of(u);
     if is_disjoint {
-        disjoint_lines(alloc, plan, u)
+        Ok(disjoint_lines(alloc, nodes, own, ports.as_slice())?)
     } else {
-        nested_lines(alloc, plan, u)
+        Ok(forwarding_lines(alloc, nodes, own, ports.as_slice())?)
     }
 }

@@ -1,84 +1,9 @@
-//! Ports told as the fewest prefixes, and as the fewest lines of a forwarding table, longest first.
+//! Ports told as the fewest lines of a forwarding table, longest first.
 
-use ir_prefix::{Line, Prefix, PrefixError, disjoint, forwarding, prefixes, width};
+use ir_compile::is_destinations;
+use ir_prefix::{Line, disjoint_lines, forwarding_lines, width};
 use std::alloc::Global;
 use std::test::Fail;
-
-/// A row's ports by label, and its prefixes: the value, the length and the port of each.
-struct Case {
-    name: &'static str,
-    own: u16,
-    ports: &'static [Option<u16>],
-    told: &'static [(u16, u8, u16)],
-}
-
-// Expected values from a plain search over all sets of prefixes.
-static ROWS: [Case; 5] = [
-    Case {
-        name: "one label",
-        own: 0,
-        ports: &[None],
-        told: &[],
-    },
-    Case {
-        name: "one port",
-        own: 0,
-        ports: &[None, Some(5)],
-        told: &[(0, 0, 5)],
-    },
-    Case {
-        name: "one label of four by another port",
-        own: 0,
-        ports: &[None, Some(1), Some(1), Some(2)],
-        told: &[(3, 2, 2), (0, 0, 1)],
-    },
-    Case {
-        name: "one label of four by another port, of ports from 63 on",
-        own: 0,
-        ports: &[None, Some(63), Some(63), Some(64)],
-        told: &[(3, 2, 64), (0, 0, 63)],
-    },
-    Case {
-        name: "three numbers beyond the labels",
-        own: 4,
-        ports: &[Some(0), Some(0), Some(1), Some(1), None],
-        told: &[(2, 2, 1), (0, 0, 0)],
-    },
-];
-
-/// Whether these are the prefixes, in this order.
-fn are(set: &[Prefix], told: &[(u16, u8, u16)]) -> bool {
-    if set.len() != told.len() {
-        return false;
-    }
-    for (prefix, wanted) in set.iter().zip(told.iter()) {
-        if (prefix.value, prefix.length, prefix.port) != *wanted {
-            return false;
-        }
-    }
-    true
-}
-
-/// Whether the ports of a case are told by its prefixes.
-fn is_told(alloc: Global, case: &Case) -> bool {
-    let Ok(n) = u16::try_from(case.ports.len()) else {
-        return false;
-    };
-    match prefixes(alloc, n, case.own, case.ports) {
-        Ok(set) => are(set.as_slice(), case.told),
-        Err(_) => false,
-    }
-}
-
-#[test]
-fn rows_are_told_by_the_fewest_prefixes(rt: HostRuntime) -> Result<(), Fail> {
-    for case in ROWS.iter() {
-        if !is_told(rt.alloc(), case) {
-            return Err(case.name.into());
-        }
-    }
-    Ok(())
-}
 
 /// A row's ports by label, and the lines of its forwarding tables, nested and disjoint: the value, the length and the
 /// port of each, or none where it is unreachable.
@@ -91,13 +16,27 @@ struct TableCase {
 }
 
 // Expected values from a plain search over all ports of all blocks.
-static TABLES: [TableCase; 5] = [
+static TABLES: [TableCase; 7] = [
     TableCase {
         name: "one label",
         own: 0,
         ports: &[None],
         nested: &[],
         disjoint: &[],
+    },
+    TableCase {
+        name: "one port",
+        own: 0,
+        ports: &[None, Some(5)],
+        nested: &[(0, 0, Some(5))],
+        disjoint: &[(0, 0, Some(5))],
+    },
+    TableCase {
+        name: "no number beyond the labels, of ports from 63 on",
+        own: 0,
+        ports: &[None, Some(63), Some(63), Some(64)],
+        nested: &[(3, 2, Some(64)), (0, 0, Some(63))],
+        disjoint: &[(2, 2, Some(63)), (3, 2, Some(64)), (0, 1, Some(63))],
     },
     TableCase {
         name: "no number beyond the labels",
@@ -152,10 +91,13 @@ fn has_tables(alloc: Global, case: &TableCase) -> bool {
     let Ok(n) = u16::try_from(case.ports.len()) else {
         return false;
     };
-    let Ok(nested) = forwarding(alloc, n, case.own, case.ports) else {
+    if !is_destinations(n, case.own, case.ports) {
+        return false;
+    }
+    let Ok(nested) = forwarding_lines(alloc, n, case.own, case.ports) else {
         return false;
     };
-    let Ok(apart) = disjoint(alloc, n, case.own, case.ports) else {
+    let Ok(apart) = disjoint_lines(alloc, n, case.own, case.ports) else {
         return false;
     };
     are_lines(nested.as_slice(), case.nested) && are_lines(apart.as_slice(), case.disjoint)
@@ -166,30 +108,6 @@ fn tables_have_the_fewest_lines(rt: HostRuntime) -> Result<(), Fail> {
     for case in TABLES.iter() {
         if !has_tables(rt.alloc(), case) {
             return Err(case.name.into());
-        }
-    }
-    Ok(())
-}
-
-/// A label of two, and ports that are none of its row.
-const NO_ROWS: [(u16, [Option<u16>; 2]); 3] = [
-    (0, [Some(1), Some(1)]),
-    (0, [None, None]),
-    (2, [Some(1), Some(1)]),
-];
-
-/// Whether ports have neither prefixes nor tables, for they are no row.
-fn is_no_row(alloc: Global, own: u16, ports: &[Option<u16>]) -> bool {
-    prefixes(alloc, 2, own, ports).err() == Some(PrefixError::BadRow)
-        && forwarding(alloc, 2, own, ports).err() == Some(PrefixError::BadRow)
-        && disjoint(alloc, 2, own, ports).err() == Some(PrefixError::BadRow)
-}
-
-#[test]
-fn rows_that_are_none_have_no_prefixes(rt: HostRuntime) -> Result<(), Fail> {
-    for (own, ports) in &NO_ROWS {
-        if !is_no_row(rt.alloc(), *own, ports) {
-            return Err("no refusal".into());
         }
     }
     Ok(())

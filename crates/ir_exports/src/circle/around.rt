@@ -7,10 +7,10 @@ ghost use Rattle.ir_show.specs.WalkText.{no_interval};
 ghost use Rattle.ir_exports.specs.Names.{short_name};
 ghost use Rattle.ir_exports.specs.Around.{degrees, angle, spoke, anchor, bold_text, outside_start, outside, label_text, cell, bound, starts, bounds, around};
 
-use crate::circle::interval::interval_at;
 use crate::circle::names::push_short_name;
 use ir_graph::Graph;
 use ir_plan::Plan;
+use ir_show::interval::interval_at;
 use std::alloc::AllocError;
 
 /// Writes an angle in degrees, to a thousandth.

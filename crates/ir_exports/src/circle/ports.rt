@@ -2,12 +2,11 @@
 ghost use Rattle.std.specs.Prelude.{◌≡◌, ◌<◌, ◌≤◌, ◌==◌, ◌++◌, [], if◌then◌else◌, nat_lt, OnOk, length, string_bytes};
 ghost use Rattle.ir_model.specs.{Graph.names, Topology.{node_count, ports_of}, Plan.IsPlan};
 ghost use Rattle.ir_trace.specs.{Rows.spaced, Written.name_at};
-ghost use Rattle.ir_show.specs.PlanText.{node_by};
+ghost use Rattle.ir_show.specs.{Intervals.as_interval, PlanText.node_by};
 ghost use Rattle.ir_exports.specs.Ports.{ink, colour, said, intervals_by, count_text, first_intervals, shown_ports};
-ghost use Rattle.ir_exports.specs.Intervals.{as_interval};
 
-use crate::circle::interval::{Interval, interval_at};
 use ir_plan::Plan;
+use ir_show::interval::{Interval, interval_at};
 use std::alloc::AllocError;
 
 /// The colour of a node's own label.

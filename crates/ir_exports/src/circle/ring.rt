@@ -2,15 +2,13 @@
 ghost use Rattle.std.specs.Prelude.{◌≡◌, ◌<◌, ◌++◌, IfOk, OnOk, IfSome, Option, length, string_bytes, flat_map};
 ghost use Rattle.std.specs.List.{range_with_len};
 ghost use Rattle.ir_model.specs.{Graph.names, Topology.{node_count, ports_of}};
-ghost use Rattle.ir_trace.specs.Written.{name_at};
-ghost use Rattle.ir_show.specs.Quoted.{quoted};
 ghost use Rattle.ir_exports.specs.Ports.{shown_ports};
 ghost use Rattle.ir_exports.specs.Ring.{paint, node_of_ring, label_behind, edge_of_ring, port_box, more_box, ring_head, circle_dot};
 
-use crate::circle::names::push_escaped_name;
 use crate::circle::ports::{INK, colour, node_by, push_first, shown_ports};
 use ir_graph::Graph;
 use ir_plan::Plan;
+use ir_show::quoted::{push_escaped_name, push_quoted};
 use std::alloc::{AllocError, Global};
 
 /// The colour of a label by its port, if it has one.
@@ -21,17 +19,6 @@ fn paint(port: Option<u16>) -> &'static str
         None => INK,
         Some(port) => colour(port),
     }
-}
-
-/// Writes the name of a node between quotes.
-fn push_quoted(text: &mut String, graph: &Graph, u: u16) -> Result<(), AllocError>
-    requires { u < length graph.now }
-    ensures { OnOk result (string_bytes text.new ≡ string_bytes text.old ++ quoted (name_at (names graph.now) u)) }
-{
-    text.push_str("\"")?;
-    push_escaped_name(text, graph, u)?;
-    text.push_str("\"")?;
-    Ok(())
 }
 
 /// Writes the node with a label.

@@ -1,17 +1,30 @@
 //! The circle of labels as SVG.
 ghost use Rattle.std.specs.Prelude.{◌≡◌, ◌<◌, ◌≤◌, ◌++◌, IfOk, OnOk, length, string_bytes, flat_map, slice_index_or};
 ghost use Rattle.ir_model.specs.{Graph.names, Topology.node_count, Row.intervals_of, Plan.{IsPlan, row_in}};
-ghost use Rattle.ir_show.specs.WalkText.{no_interval};
-ghost use Rattle.ir_exports.specs.Circle.{arc_start, arc_end, arc, own_arc, label_marks, ring_start, ring, head, middle, circle_svg};
+ghost use Rattle.ir_show.specs.{Intervals.as_interval, WalkText.no_interval};
+ghost use Rattle.ir_exports.specs.Circle.{label_count, arc_start, arc_end, arc, own_arc, label_marks, ring_start, ring, head, middle, circle_svg};
 
 use crate::circle::around::push_around;
-use crate::circle::interval::{interval_at, label_count};
 use crate::circle::key::push_key;
 use crate::circle::names::{push_short_name, push_xml_name};
 use crate::circle::ports::{INK, colour, node_by, push_said};
 use ir_graph::Graph;
 use ir_plan::Plan;
+use ir_show::interval::{Interval, interval_at};
 use std::alloc::{AllocError, Global};
+
+/// How many of `n` labels an interval has.
+fn label_count(n: u16, interval: Interval) -> u16
+    requires start { interval.start < n }
+    requires end { interval.end < n }
+    ensures { result ≡ label_count n (as_interval interval) }
+{
+    if interval.start < interval.end {
+        interval.end - interval.start
+    } else {
+        n - interval.start + interval.end
+    }
+}
 
 /// Writes an arc of the circle of `n` labels, up to what it says of itself.
 fn push_arc_start(

@@ -1,15 +1,18 @@
-use Rattle.std.proofs.Common.{◌≡◌, ◌<◌, ◌∙◌, ◌++◌, ℕ, List, ap, sym, subst, arith, length, string_bytes}
-use Rattle.std.specs.Prelude.{All}
+use Rattle.std.proofs.Common.{◌≡◌, ◌<◌, ◌∙◌, ◌++◌, ℕ, List, ◌∷◌, [], ap, sym, subst, arith, append_assoc, flat_map, length, string_bytes}
+use Rattle.std.specs.Prelude.{All, decimal}
 use Rattle.ir_model.specs.Graph.{names}
+use Rattle.ir_model.specs.Plan.{label_in}
 use Rattle.ir_model.specs.Topology.{node_count, ports_of}
 use Rattle.ir_prefix.specs.declared.ranges.LabelRange.{LabelRange}
-use Rattle.ir_show.specs.Words.{line_text}
-use Rattle.ir_exports.specs.RangesText.{range_node_words}
+use Rattle.ir_trace.specs.Rows.{spaced}
+use Rattle.ir_trace.specs.Written.{name_at}
+use Rattle.ir_show.proofs.PlanLines.{node_line}
+use Rattle.ir_exports.specs.RangesText.{range_words}
 use Rattle.ir_exports.proofs.RangeTexts.{range_ports_in}
 use Rattle.ir_exports.proofs.ranges.push_node.Goals as goal
 
-pub push_line-requires-clause-ports : goal.push_line-requires-clause-ports
-push_line-requires-clause-ports c =
+pub push_ranges-requires-clause-ports : goal.push_ranges-requires-clause-ports
+push_ranges-requires-clause-ports c =
     let s = c.args.plan.now in
     let u_in : c.args.u < node_count s.topology = omega (arith, c.requires.node, c.requires.nodes) in
     let P : List LabelRange → Type 0 = λ set. All (λ (r : LabelRange). r.port < length (ports_of s.topology c.args.u)) set in
@@ -27,5 +30,16 @@ returns-clause-few c =
 
 pub returns-clause-text : goal.returns-clause-text
 returns-clause-text c =
-    c.in_ok-push_line.ensures ∙ ap (λ (set : List LabelRange). string_bytes c.args.text.now ++ line_text (range_node_words (names c.args.graph.now) c.args.plan.now c.args.u set))
-    (c.as_slice.ensures.value ∙ c.in_ok-set.ensures.ranges)
+    let s = c.args.plan.now in
+    let u = c.args.u in
+    let old = string_bytes c.args.text.now in
+    let name = name_at (names c.args.graph.now) u in
+    let words : List LabelRange → List (List ℕ) = flat_map (range_words (names c.args.graph.now) s.topology u) in
+    let line : List ℕ → ℕ → List LabelRange → List ℕ = λ n l set. old ++ (((n ++ spaced (decimal l)) ++ flat_map spaced (words set)) ++ 10 ∷ []) in
+    let all : string_bytes c.push_str-2.new.self ≡ line c.name_of.result.now c.label_of.result c.as_slice.result.now =
+    rw (c.in_ok-push_str-2.ensures.bytes, c.in_ok-push_ranges.ensures, c.in_ok-push_next_number.ensures, c.in_ok-push_str.ensures.bytes) (simp append_assoc) in
+    all
+    ∙ ap (λ (n : List ℕ). line n c.label_of.result c.as_slice.result.now) c.name_of.ensures
+    ∙ ap (λ (l : ℕ). line name l c.as_slice.result.now) c.label_of.ensures
+    ∙ ap (λ (set : List LabelRange). line name (label_in s u) set) (c.as_slice.ensures.value ∙ c.in_ok-set.ensures.ranges)
+    ∙ ap (λ (t : List ℕ). old ++ t) (node_line name (decimal (label_in s u)) _)

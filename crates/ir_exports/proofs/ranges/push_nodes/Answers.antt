@@ -1,4 +1,4 @@
-use Rattle.std.proofs.Common.{◌≡◌, ◌+◌, ◌++◌, ◌∙◌, ℕ, List, ap, arith, length, string_bytes}
+use Rattle.std.proofs.Common.{◌++◌, ◌∙◌, ℕ, List, ap, arith, length, string_bytes}
 use Rattle.ir_model.specs.Graph.{names}
 use Rattle.ir_show.proofs.PlanLines.{nodes_more}
 use Rattle.ir_exports.specs.RangesText.{ranges_in, ranges_line}

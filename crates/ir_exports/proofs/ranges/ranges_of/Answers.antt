@@ -1,8 +1,6 @@
 use Rattle.std.proofs.Common.{◌≡◌, ◌≤◌, ◌∙◌, ℕ, List, Option, length, subst, sym, arith}
 use Rattle.std.specs.Prelude.{IfOk}
-use Rattle.ir_model.specs.Topology.{node_count}
 use Rattle.ir_prefix.specs.Ranges.{IsFewestRanges, TellsPorts, ranges_of}
-use Rattle.ir_prefix.specs.declared.ranges.LabelRange.{LabelRange}
 use Rattle.ir_exports.proofs.RangeTexts.{ports_many}
 use Rattle.ir_exports.proofs.ranges.ranges_of.Goals as goal
 

@@ -1,4 +1,4 @@
-use Rattle.std.proofs.Common.{ℕ, List, ◌<◌, sym, subst, length}
+use Rattle.std.proofs.Common.{List, ◌<◌, sym, subst, length}
 use Rattle.std.specs.Prelude.{All, IfSome}
 use Rattle.ir_model.specs.Topology.{ports_of}
 use Rattle.ir_prefix.specs.declared.line.Line.{Line}

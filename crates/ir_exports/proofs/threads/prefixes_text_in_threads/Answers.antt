@@ -1,11 +1,10 @@
-use Rattle.std.proofs.Common.{◌≡◌, ◌≤◌, ◌∙◌, ◌++◌, ℕ, Ok, Err, [], sym, ap, subst, List, length, string_bytes, flat_map, sum_by}
-use Rattle.std.specs.Prelude.{All, IfOk}
+use Rattle.std.proofs.Common.{◌≡◌, ◌∙◌, ◌++◌, ℕ, Ok, Err, [], ap, List, string_bytes, flat_map, sum_by}
+use Rattle.std.specs.Prelude.{IfOk}
 use Rattle.std.specs.declared.result.Result.{Result}
 use Rattle.ir_model.specs.Graph.{names}
 use Rattle.ir_model.specs.Topology.{node_count}
 use Rattle.ir_exports.specs.Before.{AreWritten}
 use Rattle.ir_exports.specs.NodeTexts.{bytes_of, lines_of}
-use Rattle.ir_exports.specs.declared.threads.NodeText.{NodeText}
 use Rattle.ir_exports.proofs.NodeTexts.{texts_short, texts_written}
 use Rattle.ir_exports.proofs.threads.prefixes_text_in_threads.Goals as goal
 

@@ -7,7 +7,7 @@ use Rattle.ir_model.specs.Row.{intervals_of}
 use Rattle.ir_model.specs.Plan.{row_in}
 use Rattle.ir_show.specs.WalkText.{no_interval}
 use Rattle.ir_exports.specs.Around.{outside_start, bound}
-use Rattle.ir_exports.specs.Intervals.{as_interval}
+use Rattle.ir_show.specs.Intervals.{as_interval}
 use Rattle.ir_exports.proofs.Written.{followed, two}
 use Rattle.ir_exports.proofs.circle.around.push_bound.Goals as goal
 

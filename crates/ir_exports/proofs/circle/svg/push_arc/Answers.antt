@@ -12,7 +12,7 @@ use Rattle.ir_show.specs.WalkText.{no_interval}
 use Rattle.ir_exports.specs.Ports.{colour, said}
 use Rattle.ir_exports.specs.Names.{xml}
 use Rattle.ir_exports.specs.Circle.{label_count, arc_start, arc_end, arc}
-use Rattle.ir_exports.specs.Intervals.{as_interval}
+use Rattle.ir_show.specs.Intervals.{as_interval}
 use Rattle.ir_exports.proofs.Written.{followed}
 use Rattle.ir_exports.proofs.circle.svg.push_arc.Goals as goal
 
