@@ -1,5 +1,5 @@
 -- The forms of lines: the template of a line's front, and what its further words are.
-use Rattle.std.specs.Prelude.{◌≡◌, ℕ, ◌==◌, Bool, true, ◌||◌, ◌&&◌, if◌then◌else◌, List, [], slice_index_or, bytes_eq, codes, nat_lt}
+use Rattle.std.specs.Prelude.{ℕ, ◌==◌, Bool, true, ◌||◌, if◌then◌else◌, List, [], slice_index_or, bytes_eq, codes, nat_lt}
 use Rattle.std.specs.List.{list_all}
 use Rattle.ir_model.specs.Graph.{Name}
 use Rattle.ir_model.specs.Text.{is_empty}

@@ -1,5 +1,5 @@
 //! The words behind a line's front as a list.
-ghost use Rattle.std.specs.Prelude.{◌≡◌, ◌≤◌, ◌++◌, [], true, OnOk, nat_lt, length, drop, codes, string_bytes};
+ghost use Rattle.std.specs.Prelude.{◌≡◌, ◌≤◌, ◌++◌, [], true, OnOk, nat_lt, length, drop, string_bytes};
 ghost use Rattle.std.specs.List.{list_all};
 ghost use Rattle.ir_model.specs.Text.{words_of};
 ghost use Rattle.ir_json.specs.Forms.{further_held, is_ascii_further};

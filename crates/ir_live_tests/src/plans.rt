@@ -7,7 +7,7 @@ ghost use Rattle.ir_model.specs.{Topology.node_count, declared.Kind.TheVariants.
 use crate::epochs::path;
 use ir_graph::Graph;
 use ir_model::Kind;
-use ir_numbering::{Numbering, check_order};
+use ir_numbering::{Numbering, is_order};
 use ir_plan::{
     Alone, Crew, LabelOrder, Labels, Plan, PlanError, Several, Unwatched, columns_in_threads,
     distances_in_threads, rows_in_threads,
@@ -111,7 +111,7 @@ fn over_an_order(crew: &impl Crew, alloc: Global, kind: Kind, most: Option<usize
 {
     let topology = chain(alloc, 40)?;
     let order = backwards(alloc, topology.nodes())?;
-    let Ok(()) = check_order(alloc, topology.nodes(), order.as_slice()) else {
+    let Ok(true) = is_order(alloc, topology.nodes(), order.as_slice()) else {
         return None;
     };
     let labels = Labels::Listed(order);

@@ -60,13 +60,6 @@ placing_more n i u order placed is u_in free so_far =
           (cases_eq (slice_index order a) u);
     }
 
--- no list has each node once whose next place holds no node, or one that has its place
-pub placing_wrong : (n i u : ℕ) (order : List ℕ) (placed : List Bool) → i < length order → u ≡ slice_index order i → (n ≤ u) ⊎ (slice_index_or placed u false ≡ true)
-    → IsPlacing n i order placed → IsListing n order → ⊥
-placing_wrong n i u order placed i_in is wrong so_far listing = ⊎_elim
-    (λ (large : n ≤ u). let lt : slice_index order i < n = listing.nodes i 0 i_in in omega (arith, is, large, lt))
-    (λ (taken : slice_index_or placed u false ≡ true). let m = so_far.marked u taken in listing.once m.0 i 0 m.1 i_in (m.2 ∙ is)) wrong
-
 in_range : (n q : ℕ) (order : List ℕ) → ((a : ℕ) → a < length order → slice_index order a < n) → list_any (eqb q) order ≡ true → q < n
 in_range n q [] each any = absurd (cc any)
 in_range n q (x ∷ xs) each any =

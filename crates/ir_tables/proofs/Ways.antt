@@ -11,7 +11,7 @@ use Rattle.ir_model.specs.Walk.{link_weight, LeadsTo, weight_from}
 use Rattle.ir_model.specs.Table.{next_node, Continues, IsPrescribedWalk}
 use Rattle.ir_model.proofs.Walks.{link_weight_at, PortFacts, port_facts, way_light}
 use Rattle.ir_tables.specs.Relaxation.{at, unreached}
-use Rattle.ir_tables.specs.Listed.{listed_port, hop_in, HasWalk, IsPortList, IsTableHop, IsWay, IsFilled}
+use Rattle.ir_tables.specs.Listed.{listed_port, hop_in, IsPortList, IsTableHop, IsWay, IsFilled}
 
 -- ---- ways
 

@@ -1,5 +1,5 @@
 //! The walks that a list of ports prescribes, and their weights.
-ghost use Rattle.std.specs.Prelude.{◌≡◌, ◌≢◌, ℕ, ◌<◌, IfOk};
+ghost use Rattle.std.specs.Prelude.{◌≢◌, ℕ, ◌<◌, IfOk};
 ghost use Rattle.ir_model.specs.Topology.{node_count};
 ghost use Rattle.ir_tables.specs.Relaxation.{at, unreached};
 ghost use Rattle.ir_tables.specs.Listed.{listed_port, IsPortList, IsTableHop, IsWay, IsFilled, AreWays};

@@ -3,7 +3,7 @@
 use ir_adjlist::{Fault, TextError};
 use ir_compile::CompileError;
 use ir_core::{OpenError, Refused};
-use ir_numbering::{NumberError, OrderError};
+use ir_numbering::NumberError;
 use ir_plan::PlanError;
 use ir_script::{OrderFault, OrderFaultKind};
 use ir_streams::{CallError, NoInput};
@@ -25,8 +25,8 @@ fn errors_in_words(rt: HostRuntime) {
     let alloc = rt.alloc();
     let each = "the ports are not one for each label but the own";
     assert!(rt;
-        tells(alloc, &TableError::Empty, "the topology has no node")
-            && tells(alloc, &NumberError::NoNode, "the root is no node")
+        tells(alloc, &TableError::Empty, "Empty")
+            && tells(alloc, &NumberError::NoNode, "NoNode")
             && tells(alloc, &CompileError::BadRow, each)
             && tells(alloc, &PlanError::NoMemory, "out of memory")
             && tells(alloc, &OpenError::Disconnected, "Disconnected")
@@ -120,24 +120,6 @@ fn faults_of_an_order_in_words(rt: HostRuntime) -> Result<(), Fail> {
             kind: *kind,
         };
         if *kind as u8 != *number || !tells(rt.alloc(), &error, words) {
-            return Err("another number, or other words".into());
-        }
-    }
-    Ok(())
-}
-
-/// What is wrong with a list of nodes, with its number and its words.
-static ORDER_ERRORS: [(OrderError, u8, &'static str); 4] = [
-    (OrderError::NoNode, 1, "a place holds no node"),
-    (OrderError::Twice, 2, "a node stands twice"),
-    (OrderError::Missing, 3, "a node is missing"),
-    (OrderError::NoMemory, 4, "out of memory"),
-];
-
-#[test]
-fn errors_of_an_order_in_words(rt: HostRuntime) -> Result<(), Fail> {
-    for (error, number, words) in &ORDER_ERRORS {
-        if error.code() != *number || !tells(rt.alloc(), error, words) {
             return Err("another number, or other words".into());
         }
     }

@@ -1,7 +1,7 @@
 //! Depth-first numbers and tree tables.
 
 use crate::networks::{Edge, HEAVY, RING, topology_of};
-use ir_numbering::{NumberError, Numbering, OrderError, tree_table};
+use ir_numbering::{NumberError, Numbering, is_order, tree_table};
 use ir_tables::Topology;
 use std::alloc::Global;
 use std::test::Fail;
@@ -82,55 +82,39 @@ fn numbers_depth_first(rt: HostRuntime) -> Result<(), Fail> {
     Ok(())
 }
 
-/// The way from node 0 to node 2 along the tree of a network of four nodes: its port, by the table and by the ports of
-/// node 0, and how far it is.
-fn way_along_tree(alloc: Global, topology: &Topology) -> Option<(Option<u16>, Option<u16>, u32)> {
+/// The way from node 0 to node 2 along the tree of a network of four nodes: its port, and how far it is.
+fn way_along_tree(alloc: Global, topology: &Topology) -> Option<(Option<u16>, u32)> {
     if topology.nodes() != 4 {
         return None;
     }
     let numbering = Numbering::depth_first(alloc, topology, 0).ok()?;
-    let ports = numbering.tree_ports(alloc, topology, 0).ok()?;
-    let port = ports[numbering.label_of(2) as usize];
     let table = tree_table(alloc, topology, &numbering).ok()?;
-    Some((table.next(0, 2), port, table.distance(0, 2)))
+    Some((table.next(0, 2), table.distance(0, 2)))
 }
 
 #[test]
 fn routes_a_ring_along_its_tree(rt: HostRuntime) -> Result<(), Fail> {
     let topology = topology_of(rt.alloc(), &RING)?;
-    assert!(rt; way_along_tree(rt.alloc(), &topology) == Some((Some(0), Some(0), 3)));
+    assert!(rt; way_along_tree(rt.alloc(), &topology) == Some((Some(0), 3)));
     Ok(())
 }
 
-/// Lists for the order of four nodes, and why they are none.
-static ORDERS: [(&'static [u16], Option<OrderError>); 6] = [
-    (&[2, 0, 1, 3], None),
-    (&[2, 4, 4, 3], Some(OrderError::NoNode)),
-    (&[2, 0, 2, 4], Some(OrderError::Twice)),
-    (&[2, 0, 1], Some(OrderError::Missing)),
-    (&[], Some(OrderError::Missing)),
-    (&[0, 1, 2, 3, 3], Some(OrderError::Twice)),
+/// Lists of some of four nodes, and whether each is an order of them.
+static ORDERS: [(&'static [u16], bool); 6] = [
+    (&[2, 0, 1, 3], true),
+    (&[2, 4, 4, 3], false),
+    (&[2, 0, 2, 4], false),
+    (&[2, 0, 1], false),
+    (&[], false),
+    (&[0, 1, 2, 3, 3], false),
 ];
 
 #[test]
-fn numbers_by_a_list(rt: HostRuntime) -> Result<(), Fail> {
-    for (nodes, why) in &ORDERS {
-        let order = Vec::from_slice(rt.alloc(), nodes)?;
-        if Numbering::of_order(rt.alloc(), 4, order).err() != *why {
-            return Err("another refusal".into());
+fn orders_of_all_nodes(rt: HostRuntime) -> Result<(), Fail> {
+    for (nodes, is_one) in &ORDERS {
+        if is_order(rt.alloc(), 4, *nodes)? != *is_one {
+            return Err("another answer".into());
         }
     }
     Ok(())
-}
-
-/// The label of node 1, and the node of label 1, where node 1 is the first of two.
-fn second_first(alloc: Global) -> Option<(u16, u16)> {
-    let order = Vec::from_slice(alloc, &[1, 0]).ok()?;
-    let numbers = Numbering::of_order(alloc, 2, order).ok()?;
-    Some((numbers.label_of(1), numbers.node_of(1)))
-}
-
-#[test]
-fn labels_are_places_in_the_list(rt: HostRuntime) {
-    assert!(rt; second_first(rt.alloc()) == Some((0, 0)));
 }

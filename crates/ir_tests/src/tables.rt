@@ -3,8 +3,8 @@
 ghost use Rattle.std.specs.Prelude.{◌≡◌, ◌<◌};
 ghost use Rattle.ir_model.specs.{Topology.node_count, Table.table_size};
 
-use crate::networks::{Edge, HEAVY, PATH, topology_of};
-use ir_tables::{Hop, Outward, Table, TableError, Topology, UNREACHED, is_port_list};
+use crate::networks::{Edge, HEAVY, topology_of};
+use ir_tables::{Hop, Outward, Table, TableError, Topology, UNREACHED};
 use std::alloc::Global;
 use std::test::Fail;
 
@@ -235,43 +235,6 @@ fn tables_by_hand(rt: HostRuntime) -> Result<(), Fail> {
             _ => return Err(case.name.into()),
         }
     }
-    Ok(())
-}
-
-/// The ports of the path of three nodes: at each node those to all destinations.
-const PORTS: [Option<u16>; 9] = [
-    None,
-    Some(0),
-    Some(0),
-    Some(0),
-    None,
-    Some(1),
-    Some(0),
-    Some(0),
-    None,
-];
-
-/// Whether these ports are a list for a topology, whose table has these ways.
-fn is_listed(alloc: Global, topology: &Topology, ports: &[Option<u16>], ways: &[Way]) -> bool {
-    let Ok(ports) = Vec::from_slice(alloc, ports) else {
-        return false;
-    };
-    if !is_port_list(topology, ports.as_slice()) {
-        return false;
-    }
-    match Table::from_ports(alloc, topology, ports) {
-        Ok(table) => has_ways(topology, &table, ways),
-        Err(_) => false,
-    }
-}
-
-#[test]
-fn listed_ports(rt: HostRuntime) -> Result<(), Fail> {
-    let topology = topology_of(rt.alloc(), &PATH)?;
-    assert!(rt; is_listed(rt.alloc(), &topology, &PORTS, &[(0, 2, Some(0), 2)]));
-    let mut back = PORTS;
-    back[5] = Some(0);
-    assert!(rt; !is_port_list(&topology, &back));
     Ok(())
 }
 
