@@ -135,7 +135,8 @@ fn put_round(places: &mut [u16], n: u16, own: u16, start: u16, counts: &[u16], p
     requires off { start ≢ own }
     ensures length { length places.new ≡ length places.old }
     ensures ports { (held : List (Option ℕ))
-        → ((j : ℕ) → j < n → label_from n start j ≢ own → port_to held (label_from n start j) ≡ Some (slice_index places.new j))
+        → ((j : ℕ) → j < n → label_from n start j ≢ own
+        → port_to held (label_from n start j) ≡ Some (slice_index places.new j))
         → (k : ℕ) × Steps n counts.now start 0 k × HaveStepPorts n own counts.now ports.now start 0 k held }
 {
     let mut place = 0;

@@ -22,7 +22,8 @@ pub fn is_least(
     requires node { u < node_count topology.now }
     requires starts { AreNear topology.now starts.now }
     requires lanes { AreNear topology.now lanes.now }
-    requires offered { AreLeastOffers (ports_of topology.now u) unit (length (ports_of topology.now u)) lanes.now offered }
+    requires offered { AreLeastOffers (ports_of topology.now u) unit (length (ports_of topology.now u)) lanes.now
+        offered }
     ensures { IsTrue result → IsMet topology.now unit starts.now lanes.now u }
 {
     let _nodes = topology.nodes();
