@@ -69,7 +69,7 @@ pub struct Chronicle {
 
 impl Chronicle {
     /// A list of one entry.
-    pub fn open(first: Entry) -> (Chronicle, Front)
+    pub(crate) fn open(first: Entry) -> (Chronicle, Front)
         ensures book { result.1.book ≡ result.0.head.book }
         ensures first { result.1.log ≡ first ∷ [] }
     {
@@ -96,7 +96,7 @@ impl Chronicle {
 
     /// The list with one more entry behind all that was seen. The board's writer alone adds to it, so the first try
     /// adds the entry; another that did would be waited for without end.
-    pub fn record<R: Wait>(&self, rt: &R, front: &Front, version: u64, entry: Entry) -> Front
+    pub(crate) fn record<R: Wait>(&self, rt: &R, front: &Front, version: u64, entry: Entry) -> Front
         requires book { front.now.book ≡ self.now.head.book }
         requires version { length front.now.log ≡ version + 1 }
         requires room { version < 2 ^ 62 }

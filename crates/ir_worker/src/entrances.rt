@@ -17,7 +17,7 @@ impl Entrances {
     ghost use Rattle.ir_worker.specs.{Account.lines_in, Wires.{way_after, TookAt, WasEmptyAt}};
 
     /// The inbox is polled first.
-    pub fn new(inbox: Taker<Parcel>, ports: Vec<Taker<Parcel>>) -> Entrances
+    pub(crate) fn new(inbox: Taker<Parcel>, ports: Vec<Taker<Parcel>>) -> Entrances
         ensures { (result.inbox ≡ inbox) × (result.ports ≡ ports) × (result.next ≡ 0) }
     {
         Entrances {
@@ -28,12 +28,12 @@ impl Entrances {
     }
 
     /// How many ways there are beside the inbox.
-    pub fn ports(&self) -> usize {
+    pub(crate) fn ports(&self) -> usize {
         self.ports.len()
     }
 
     /// The way that is polled next.
-    pub fn next(&self) -> usize
+    pub(crate) fn next(&self) -> usize
         ensures way { result ≡ self.now.next }
         ensures in_range { result ≤ length self.now.ports.items }
     {
@@ -42,7 +42,7 @@ impl Entrances {
 
     /// Polls the way whose turn it is, and moves the turn on by one. There is no parcel only where the pop of that way was
     /// refused.
-    pub fn poll<R: Moments<Parcel>>(&mut self, rt: &R) -> Option<Parcel>
+    pub(crate) fn poll<R: Moments<Parcel>>(&mut self, rt: &R) -> Option<Parcel>
         ensures way { self.new.next ≡ way_after (length self.old.ports.items) self.old.next }
         ensures took { MatchOption result
             ((self.new.inbox ≡ self.old.inbox) × (self.new.ports.items ≡ self.old.ports.items))
@@ -61,7 +61,7 @@ impl Entrances {
     }
 
     /// The inbox and the ports' ways in.
-    pub fn into_takers(self) -> (Taker<Parcel>, Vec<Taker<Parcel>>)
+    pub(crate) fn into_takers(self) -> (Taker<Parcel>, Vec<Taker<Parcel>>)
         ensures { (result.0 ≡ self.inbox) × (result.1 ≡ self.ports) }
     {
         let Entrances {
