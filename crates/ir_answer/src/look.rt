@@ -61,7 +61,7 @@ fn beside_text(
     requires root { root < length graph.now }
     ensures { IfOk result (λ text. IsFiguresBeside kind root (names graph.now) plan.now (string_bytes text)) }
 {
-    let _nodes = plan.nodes();
+    plan.invariant();
     let topology = plan.topology().try_clone(alloc)?;
     let labels = Labels::FromRoot(LabelOrder::DepthFirst, root);
     match Plan::build_by(crew, alloc, topology, kind, labels, most) {
@@ -316,7 +316,7 @@ fn show_plan(
     }
     match Plan::build_by(crew, alloc, topology, words.kind, labels, words.threads) {
         Ok(plan) => {
-            let _nodes = plan.nodes();
+            plan.invariant();
             Ok(reply_of(crew, alloc, graph, plan, show, words.threads)?)
         }
         Err((error, _topology)) => Err(opening_stop(OpenError::from(error))),

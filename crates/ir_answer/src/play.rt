@@ -92,7 +92,7 @@ fn run_texts(
     if wants_memory(replies.as_slice()) {
         return Err(AllocError);
     }
-    let _nodes = world.nodes();
+    world.invariant();
     let records = world.into_records();
     let trace = run_text(alloc, graph, topology, restamps, records.as_slice())?;
     let refused = refused_steps(alloc, lines, replies.as_slice())?;

@@ -109,7 +109,7 @@ fn port_back(topology: &Topology, u: u16, hop: &Hop) -> usize
     requires port { (p : ℕ) × (port_at topology.now u p ≡ Some hop.now) }
     ensures { port_at topology.now hop.now.node result ≡ Some (port_back u hop.now) }
 {
-    let _nodes = topology.nodes();
+    topology.invariant();
     for (q, other) in topology.ports(hop.node as usize).iter().enumerate() {
         if other.node == u {
             return q;

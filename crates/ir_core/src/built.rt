@@ -101,7 +101,7 @@ fn first_install(
     ensures built { IfOk result (λ v. AreBuiltFrom world.now.opening v.items (plans world.now.opening [])) }
     ensures refused { IfErr result (λ e. e ≡ OpenError.NoMemory) }
 {
-    let _nodes = world.nodes();
+    world.invariant();
     let Ok(up) = world.marks(alloc) else {
         return Err(OpenError::NoMemory);
     };

@@ -18,11 +18,11 @@ impl World {
         ensures none_left { IsNoneLeft self.new }
         ensures same_opening { self.new.opening ≡ self.old.opening }
     {
-        let _nodes = self.nodes();
+        self.invariant();
         'rounds: loop {
             let acted = self.round();
             if !acted {
-                let _left = self.nodes();
+                self.invariant();
                 return;
             }
         }
@@ -67,7 +67,7 @@ impl World {
         let count = self.ports(node).len();
         let mut acted = false;
         for port in 0..count {
-            let _nodes = self.nodes();
+            self.invariant();
             let link = self.ports(node)[port].link;
             let sent = self.try_way(node, Way::Link(link));
             acted = either(acted, sent);
@@ -86,7 +86,7 @@ impl World {
         ensures hand { IsHandEmpty self.new node }
         ensures view { IsUpToDate self.new node }
     {
-        let _nodes = self.nodes();
+        self.invariant();
         let _ = self.take(node, way);
         self.try_act(node)
     }
@@ -100,7 +100,7 @@ impl World {
         ensures hand { IsHandEmpty self.new node }
         ensures view { IsUpToDate self.new node }
     {
-        let _nodes = self.nodes();
+        self.invariant();
         self.act(node).is_ok()
     }
 
@@ -110,7 +110,7 @@ impl World {
         ensures moves { Moves (after_read self.old.opening node) false self.old self.new }
         ensures view { IsUpToDate self.new node }
     {
-        let _nodes = self.nodes();
+        self.invariant();
         let version = self.board_versions().len() - 1;
         let _ = self.read(node, version);
     }

@@ -20,7 +20,7 @@ pub fn judge(plan: &Plan, board: &Board, way: Way, at: u16, stamp: u32, address:
     if stamp < board.floor() {
         return Verdict::BelowFloor;
     }
-    let _nodes = plan.nodes();
+    plan.invariant();
     let Some(port) = plan.port(at, address) else {
         return Verdict::Arrives;
     };

@@ -328,7 +328,7 @@ impl World {
         ensures value { result ≡ open_verdict_on self.now node way stamp dest }
         ensures leads { LeadsIn self.now result }
     {
-        let _nodes = self.nodes();
+        self.invariant();
         let board = self.seen(node).board();
         let plan = self.plan_of(stamp);
         let address = plan.label_of(dest);
@@ -549,6 +549,11 @@ impl World {
     {
         self.newest().marks(alloc, self.topology.links())
     }
+
+    /// Does nothing; a caller's proof learns by it what holds of each world.
+    pub fn invariant(&self)
+        ensures world { IsWorld self.now }
+    {}
 
     /// How many nodes there are, as a node that `view` takes is one of them.
     pub fn nodes(&self) -> u16

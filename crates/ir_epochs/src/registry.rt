@@ -65,7 +65,7 @@ impl Registry {
         ensures { MatchResult result (λ s. IsOf self.now s × (epoch_of s ≡ epoch) × (knows s ≡ plan))
             (λ e. e.1 ≡ plan) }
     {
-        let _nodes = plan.nodes();
+        plan.invariant();
         let boxed = match Box::new(self.alloc, plan) {
             Ok(boxed) => boxed,
             Err(failed) => return Err((RegisterError::NoMemory, failed.value)),

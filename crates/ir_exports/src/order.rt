@@ -15,7 +15,7 @@ fn push_label(text: &mut String, graph: &Graph, plan: &Plan, label: u16) -> Resu
     ensures { OnOk result (string_bytes text.new ≡ string_bytes text.old
         ++ label_line (names graph.now) plan.now label) }
 {
-    let _nodes = plan.nodes();
+    plan.invariant();
     text.push_str(name_of(graph, plan.node_of(label)))?;
     text.push_str("\n")?;
     Ok(())

@@ -26,7 +26,7 @@ pub fn ranges_of(alloc: Global, plan: &Plan, u: u16) -> Result<Vec<LabelRange>, 
     ensures few { IfOk result (λ set. length set.items ≤ node_count plan.now.topology) }
 {
     let ports = ports_by_label(alloc, plan, u)?;
-    let _nodes = plan.nodes();
+    plan.invariant();
     label_ranges(alloc, ports.as_slice())
 }
 
@@ -93,7 +93,7 @@ fn push_node(
     ensures text { OnOk result (string_bytes text.new ≡ string_bytes text.old
         ++ ranges_line (names graph.now) plan.now u) }
 {
-    let _nodes = plan.nodes();
+    plan.invariant();
     let set = ranges_of(alloc, plan, u)?;
     text.push_str(name_of(graph, u))?;
     push_next_number(text, plan.label_of(u) as usize)?;

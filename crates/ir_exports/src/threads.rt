@@ -79,7 +79,7 @@ fn node_text(
     requires node { u < node_count plan.now.topology }
     ensures { IfOk result (λ made. IsNodeText is_disjoint (names graph.now) plan.now u made) }
 {
-    let _nodes = plan.nodes();
+    plan.invariant();
     let table = table_of(alloc, plan, u as u16, is_disjoint)?;
     let mut text = String::new(alloc);
     push_node(&mut text, graph, plan, u as u16, table.as_slice())?;

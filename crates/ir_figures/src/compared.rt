@@ -82,7 +82,7 @@ fn push_row(
         × (string_bytes text.new ≡ string_bytes text.old ++ line)) }
     ensures tables { IfOk result (λ tables. AreTableBits plan.now.topology tables) }
 {
-    let _nodes = plan.nodes();
+    plan.invariant();
     let figures = figures_of(alloc, plan)?;
     let ring = waiting_ring(alloc, plan)?;
     let bits = bits_of(plan);

@@ -30,7 +30,7 @@ fn push_most(
     let Some(most) = most else {
         return Ok(());
     };
-    let _nodes = plan.nodes();
+    plan.invariant();
     let hop = plan.hop(most.node, most.port);
     text.push_str("compactness")?;
     push_name(text, graph, most.node)?;

@@ -183,7 +183,7 @@ pub fn waiting_ring(alloc: Global, plan: &Plan) -> Result<Option<Vec<u16>>, Allo
     ensures ring { IfOk result (λ found.
         IfSome found (λ nodes. (ports : List ℕ) × IsWaitingRing (Waits plan.now) nodes.items ports)) }
 {
-    let _nodes = plan.nodes();
+    plan.invariant();
     let exits = exits_of(alloc, plan.topology())?;
     let links = links_of(alloc, plan, exits.first.as_slice())?;
     ring_in(alloc, &exits, &links)
@@ -204,7 +204,8 @@ pub fn waiting_ring_together(
     ensures ring { IfOk result (λ found. IfSome found (λ nodes. (ports : List ℕ)
         × IsWaitingRing (WaitsInEither plan.now second.now) nodes.items ports)) }
 {
-    let _nodes = (plan.nodes(), second.nodes());
+    plan.invariant();
+    second.invariant();
     let exits = exits_of(alloc, plan.topology())?;
     let mut links = links_of(alloc, plan, exits.first.as_slice())?;
     let more = links_of(alloc, second, exits.first.as_slice())?;

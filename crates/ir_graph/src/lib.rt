@@ -101,6 +101,13 @@ impl Graph {
         self.weight(u, v).is_some()
     }
 
+    /// Does nothing; a caller's proof learns by it what holds of each graph.
+    pub fn invariant(&self)
+        ensures graph { IsGraph self.now }
+    {
+        self.number_of_nodes();
+    }
+
     /// How many nodes there are. A caller also learns what is true of each graph: names and neighbours differ, each
     /// edge is in the rows of both of its ends, and names, weights and sizes are within the limits.
     pub fn number_of_nodes(&self) -> usize

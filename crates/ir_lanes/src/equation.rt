@@ -26,7 +26,7 @@ pub fn is_least(
         offered }
     ensures { IsTrue result → IsMet topology.now unit starts.now lanes.now u }
 {
-    let _nodes = topology.nodes();
+    topology.invariant();
     let wanted = lesser(load(starts, u * LANES), offered);
     let own = load(lanes, u * LANES);
     are_same(own, wanted) && are_found(own)
@@ -40,7 +40,7 @@ fn is_met(topology: &Topology, unit: u32, starts: &[u32], lanes: &[u32], u: usiz
     requires lanes { AreNear topology.now lanes.now }
     ensures { IsTrue result → IsMet topology.now unit starts.now lanes.now u }
 {
-    let _nodes = topology.nodes();
+    topology.invariant();
     let offered = least_over(topology.ports(u), unit, lanes);
     is_least(topology, unit, starts, lanes, u, offered)
 }

@@ -24,7 +24,7 @@ pub fn words_toward(
     requires nodes { (k : ℕ) → k < 16 → slice_index ends.now k < node_count topology.now }
     ensures { IfOk result (λ found. IfSome found (λ words. ArePortWords topology.now ends.now words.items)) }
 {
-    let _nodes = topology.nodes();
+    topology.invariant();
     let starts = end_starts(alloc, topology, ends)?;
     let lanes = lanes_from(alloc, topology, starts.as_slice(), ends)?;
     let Some(words) = met_words(alloc, topology, starts.as_slice(), lanes.as_slice())? else {
@@ -90,7 +90,7 @@ fn push_words(
     ensures pushed { OnOk result (IsPushed topology.now lanes.now u words.old.items words.new.items) }
     ensures met { IfOk result (λ met. IsTrue met → IsMet topology.now 1 starts.now lanes.now u) }
 {
-    let _nodes = topology.nodes();
+    topology.invariant();
     let own = load(lanes, u * LANES);
     let mut least = u32x16::splat(u32::MAX);
     for hop in topology.ports(u) {
@@ -124,7 +124,7 @@ fn put_ends(topology: &Topology, starts: &mut [u32], ends: &[u16])
     ensures near { AreNear topology.now starts.new }
     ensures starts { (k : ℕ) → k < 16 → IsEndStart topology.now (slice_index ends.now k) (in_lane starts.new k) }
 {
-    let _nodes = topology.nodes();
+    topology.invariant();
     for lane in 0..LANES {
         starts[ends[lane] as usize * LANES + lane] = 0;
     }
@@ -137,7 +137,7 @@ fn near_ends(topology: &Topology, lanes: &mut [u32], ends: &[u16])
     requires near { AreNear topology.now lanes.old }
     ensures { AreNear topology.now lanes.new }
 {
-    let _nodes = topology.nodes();
+    topology.invariant();
     for lane in 0..LANES {
         near_end(topology, lanes, lane, ends[lane]);
     }
@@ -150,7 +150,7 @@ fn near_end(topology: &Topology, lanes: &mut [u32], lane: usize, end: u16)
     requires near { AreNear topology.now lanes.old }
     ensures { AreNear topology.now lanes.new }
 {
-    let _nodes = topology.nodes();
+    topology.invariant();
     for hop in topology.ports(end as usize) {
         lanes[hop.node as usize * LANES + lane] = hop.weight;
     }

@@ -83,7 +83,7 @@ impl PortMarks {
         ensures marks { IfOk result (λ made. AreMarksTo topology.now order.now node port made.0.items) }
         ensures marked { IfOk result (λ made. AreMarked made.0.items made.1.items) }
     {
-        let _nodes = topology.nodes();
+        topology.invariant();
         let place = self.begins[node as usize] + port;
         let mut row = vec![in alloc; false; order.len()]?;
         let mut marked = Vec::new(alloc);
@@ -114,7 +114,7 @@ impl PortMarks {
         requires ports { length (ports_of topology.now node) ≤ 32 }
         ensures { IfOk result (λ tied. AreTied topology.now order.now node tied.items) }
     {
-        let _nodes = topology.nodes();
+        topology.invariant();
         let begin = self.begins[node as usize];
         let ports = topology.ports(node as usize).len();
         let batches = order.len().div_ceil(LANES);

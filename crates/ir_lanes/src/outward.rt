@@ -41,7 +41,7 @@ impl OutwardLanes {
         ensures sources { IfOk result (λ found. IfSome found (λ ways. ways.sources ≡ sources.now)) }
         ensures ways { IfOk result (λ found. IfSome found (λ ways. AreOutwardLanes topology.now ways)) }
     {
-        let _nodes = topology.nodes();
+        topology.invariant();
         let bits = bits_for(greatest_degree(topology));
         let unit = unit_of(bits);
         let starts = source_starts(alloc, topology, unit, sources)?;
@@ -91,7 +91,7 @@ impl OutwardLanes {
         requires nodes { (i : ℕ) → i < length nodes.now → slice_index nodes.now i < node_count topology.now }
         ensures { IfOk result (λ ports. ports.items ≡ map (lane_port self.now lane) nodes.now) }
     {
-        let _nodes = topology.nodes();
+        topology.invariant();
         let mut ports = vec![in alloc; 0; nodes.len()]?;
         self.put_ports(topology, lane, nodes, ports.as_mut_slice());
         Ok(ports)
@@ -105,7 +105,7 @@ impl OutwardLanes {
         requires every { length ports.old ≡ length nodes.now }
         ensures { ports.new ≡ map (lane_port self.now lane) nodes.now }
     {
-        let _nodes = topology.nodes();
+        topology.invariant();
         for (i, v) in nodes.iter().enumerate() {
             ports[i] = self.port(lane, *v as usize);
         }
@@ -220,7 +220,7 @@ fn begin(topology: &Topology, unit: u32, starts: &mut [u32], lane: usize, source
     ensures begun { IsSourceStart topology.now unit source (in_lane starts.new lane) }
     ensures others { (k v : ℕ) → k < 16 → k ≢ lane → in_lane starts.new k v ≡ in_lane starts.old k v }
 {
-    let _nodes = topology.nodes();
+    topology.invariant();
     for (p, hop) in topology.ports(source as usize).iter().enumerate() {
         starts[hop.node as usize * LANES + lane] = hop.weight * unit + p as u32;
     }

@@ -42,7 +42,7 @@ fn pull(topology: &Topology, unit: u32, lanes: &mut [u32], u: usize) -> bool
     requires lanes { AreNear topology.now lanes.old }
     ensures { AreNear topology.now lanes.new }
 {
-    let _nodes = topology.nodes();
+    topology.invariant();
     let own = load(lanes, u * LANES);
     let less = lesser(own, least_over(topology.ports(u), unit, lanes));
     if are_same(own, less) {
@@ -90,7 +90,7 @@ fn wake(topology: &Topology, waits: &mut [bool], u: usize)
     requires waits { length waits.old ≡ node_count topology.now }
     ensures { length waits.new ≡ node_count topology.now }
 {
-    let _nodes = topology.nodes();
+    topology.invariant();
     for hop in topology.ports(u) {
         waits[hop.node as usize] = true;
     }

@@ -82,7 +82,7 @@ fn parent_port(
     requires node { u < node_count topology.now }
     ensures { IsParentPort topology.now order.now parents.now u result }
 {
-    let _nodes = topology.nodes();
+    topology.invariant();
     let label = labels[u] as usize;
     if label == 0 {
         return None;
@@ -95,7 +95,7 @@ pub fn port_to_neighbor(topology: &Topology, u: usize, v: u16) -> Option<u16>
     requires { Linked topology.now u v }
     ensures { IsSomeAnd result (λ p. IsPortTo topology.now u p v) }
 {
-    let _nodes = topology.nodes();
+    topology.invariant();
     for (p, hop) in topology.ports(u).iter().enumerate() {
         if hop.node == v {
             return Some(p as u16);

@@ -63,7 +63,7 @@ fn mark_next(
         (λ x. marked.new.items ≡ slice_set marked.old.items x true) }
     ensures passed { ArePassed topology.now marked.new.items passed.new.items }
 {
-    let _nodes = topology.nodes();
+    topology.invariant();
     let u = u as usize;
     let ports = topology.ports(u);
     let Some(port) = first_unmarked(ports, passed[u], marked.as_slice()) else {

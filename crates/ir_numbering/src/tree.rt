@@ -72,7 +72,7 @@ fn next_port(
     requires cells { AreTreeCells topology.now order.now parents.now own (length before.now) before.now }
     ensures { IsTreeCell topology.now order.now parents.now own (length before.now) result }
 {
-    let _nodes = topology.nodes();
+    topology.invariant();
     let place = before.len();
     if place == own {
         return None;

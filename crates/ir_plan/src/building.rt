@@ -167,7 +167,7 @@ pub fn numbering_by(
     ensures disconnected { IfErr result (λ e. e ≡ PlanError.Disconnected → IsDisconnected topology.now) }
     ensures others { IfErr result (λ e. (e ≢ PlanError.Empty) × (e ≢ PlanError.NoNode)) }
 {
-    let _nodes = topology.nodes();
+    topology.invariant();
     let _depth_first = numbering_of(alloc, topology, order[0])?;
     Ok(Numbering::listed(alloc, order)?)
 }

@@ -60,7 +60,7 @@ fn runs_by(
     ensures tied { OnOk result (AreChoices (node_count topology.now) (slice_index numbering.now.labels u)
         (IsTied topology.now numbering.now.order (slice_index numbering.now.labels u))) }
 {
-    let _nodes = topology.nodes();
+    topology.invariant();
     match ties {
         Some(ties) => marked_runs(alloc, topology, numbering, ties, u),
         None => {
@@ -86,7 +86,7 @@ fn marked_runs(
     ensures longest { IfOk result (λ made. AreLongest (node_count topology.now) (slice_index numbering.now.labels u)
         (MayTake topology.now numbering.now.order (slice_index numbering.now.labels u)) made.0.items made.1.items) }
 {
-    let _nodes = topology.nodes();
+    topology.invariant();
     if topology.degree(u) > WORD_PORTS {
         return port_runs(alloc, topology, numbering, ties, u);
     }

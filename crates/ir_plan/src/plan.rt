@@ -66,7 +66,7 @@ impl Plan {
         ensures back { IfErr result (λ e. e.1 ≡ topology) }
         ensures memory { IfErr result (λ e. e.0 ≡ PlanError.NoMemory) }
     {
-        let _nodes = topology.nodes();
+        topology.invariant();
         match rows {
             Ok(rows) => Ok(Plan {
                 topology,
@@ -78,6 +78,11 @@ impl Plan {
             Err(_) => Err((PlanError::NoMemory, topology)),
         }
     }
+
+    /// Does nothing; a caller's proof learns by it what holds of each plan.
+    pub fn invariant(&self)
+        ensures plan { IsPlan self.now }
+    {}
 
     /// How many nodes there are.
     pub fn nodes(&self) -> usize

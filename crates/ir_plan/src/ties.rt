@@ -58,7 +58,7 @@ impl Ties {
         ensures marks { IfOk result (λ made. AreTiedMarks topology.now self.now.order.items u p made.0.items) }
         ensures marked { IfOk result (λ made. HasMarked (node_count topology.now) made.0.items made.1.items) }
     {
-        let _nodes = topology.nodes();
+        topology.invariant();
         self.marks.row(alloc, topology, self.order.as_slice(), u, p)
     }
 
@@ -71,7 +71,7 @@ impl Ties {
         requires ports { length (ports_of topology.now u) ≤ 32 }
         ensures { IfOk result (λ tied. AreTied topology.now self.now.order.items u tied.items) }
     {
-        let _nodes = topology.nodes();
+        topology.invariant();
         self.marks.tied(alloc, topology, self.order.as_slice(), u)
     }
 }

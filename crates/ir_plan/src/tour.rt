@@ -120,7 +120,7 @@ fn tour(
     ensures listing { IfOk result (λ order. IsListing (node_count plan.now.topology) order.items) }
     ensures first { IfOk result (λ order. slice_index order.items 0 ≡ plan.now.root) }
 {
-    let _nodes = plan.nodes();
+    plan.invariant();
     let far = distances(crew, alloc, plan, most)?;
     let mut order = nearest_order(alloc, &far, plan.root())?;
     shorten(&far, order.as_mut_slice());

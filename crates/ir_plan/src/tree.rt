@@ -24,7 +24,7 @@ pub fn tree_row(
     ensures { IfOk result (λ row. IsNodeRow Tree topology.now numbering.now.order numbering.now.parents
         (slice_index numbering.now.labels u) row) }
 {
-    let _nodes = topology.nodes();
+    topology.invariant();
     let mut words = son_words(alloc, topology, numbering, u)?;
     add_father(&mut words, topology, numbering, u)?;
     Ok(Row::of(words))
@@ -43,7 +43,7 @@ fn son_words(
     ensures { IfOk result (λ words. AreSonStarts topology.now numbering.now u (length (ports_of topology.now u))
         (starts_of words.items)) }
 {
-    let _nodes = topology.nodes();
+    topology.invariant();
     let ports = topology.ports(u as usize);
     let mut words = Vec::with_capacity(alloc, ports.len())?;
     for (p, hop) in ports.iter().enumerate() {

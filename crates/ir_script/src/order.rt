@@ -25,7 +25,7 @@ fn node_of(graph: &Graph, word: &[u8]) -> Result<Option<u16>, OrderFaultKind>
     ensures node { result ≡ listed_node (position (bytes_eq word.now) (names graph.now)) }
     ensures within { IfOk result (λ node. IfSome node (λ u. u < length graph.now)) }
 {
-    let _nodes = graph.number_of_nodes();
+    graph.invariant();
     let Ok(name) = str::from_utf8(word) else {
         return Err(OrderFaultKind::UnknownNode);
     };

@@ -178,7 +178,7 @@ pub fn parse_script(
     ensures within { IfOk result (λ s. list_all (is_step_within topology.now) s.steps.items ≡ true) }
     ensures fault { IfErr result (λ e. ScriptTold e (listing_of (names graph.now) topology.now (lines text.now))) }
 {
-    let _nodes = topology.nodes();
+    topology.invariant();
     parse(alloc, text, graph, topology)
 }
 

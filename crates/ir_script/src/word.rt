@@ -30,7 +30,7 @@ pub fn node_of(graph: &Graph, word: &[u8]) -> Result<u16, ScriptFault>
     ensures node { result ≡ node_of (names graph.now) word.now }
     ensures within { IfOk result (λ u. u < length graph.now) }
 {
-    let _nodes = graph.number_of_nodes();
+    graph.invariant();
     let Ok(name) = str::from_utf8(word) else {
         return Err(ScriptFault::UnknownNode);
     };

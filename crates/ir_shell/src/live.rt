@@ -123,7 +123,7 @@ fn answer_net<T: Threads + Moments<Parcel> + Starter + Sync>(
     ensures { Gives (AnswersLive (Bor T) T.was_full T.was_empty (T.unstarted rt.now) (T.came_back rt.now)
         (T.was_closed rt.now) asked.now.graph words.now (listing_in asked.now.script) asked.now.root) result }
 {
-    let _nodes = asked.topology.nodes();
+    asked.topology.invariant();
     match run_open(rt, net, asked.script.steps()) {
         Ok(live) => {
             let (trace, refused) = live_texts(

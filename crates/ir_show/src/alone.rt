@@ -39,7 +39,7 @@ fn stop_at(
     ensures stop { IfOk result (λ stop. (plan : Plan) → IsPlanOver topology.now kind numbering.now plan
         → IsStopOf plan to stop) }
 {
-    let _nodes = topology.nodes();
+    topology.invariant();
     let row = row_of_node(alloc, topology, numbering, kind, u)?;
     let interval = interval_with(&row, numbering.label_of(to));
     Ok(Stop {
@@ -69,7 +69,7 @@ fn stops_between(
     ensures { IfOk result (λ walk. (plan : Plan) × IsPlanOver topology.now kind numbering.now plan
         × AreStopsOf plan from to walk) }
 {
-    let _nodes = topology.nodes();
+    topology.invariant();
     let mut stops = Vec::new(alloc);
     let mut at = from;
     let mut weight = 0;

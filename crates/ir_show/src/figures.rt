@@ -23,7 +23,7 @@ fn distances_to(alloc: Global, plan: &Plan, d: u16) -> Result<Vec<u32>, AllocErr
     requires { d < node_count plan.now.topology }
     ensures { IfOk result (λ weights. AreDistancesTo plan.now.topology d weights.items) }
 {
-    let _nodes = plan.nodes();
+    plan.invariant();
     let weights = weights_to(alloc, plan.topology(), d as usize)?;
     Ok(weights)
 }
@@ -34,7 +34,7 @@ fn figures_with(alloc: Global, plan: &Plan, d: u16, before: Figures) -> Result<F
     requires before { AreFiguresBefore plan.now d before }
     ensures { IfOk result (λ f. AreFiguresBefore plan.now (d + 1) f) }
 {
-    let _nodes = plan.nodes();
+    plan.invariant();
     let walks = walk_weights_to(alloc, plan, d)?;
     let distances = distances_to(alloc, plan, d)?;
     Ok(Figures {

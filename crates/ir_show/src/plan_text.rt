@@ -153,7 +153,7 @@ fn pour_block<W: Writer>(parts: &mut Parts, writer: &mut W, pieces: &Pieces, blo
     ensures { Pours W.contents W.wrote W.settled writer.old parts.old (block_lines pieces.now block)
         writer.new parts.new }
 {
-    let _nodes = pieces.plan.nodes();
+    pieces.plan.invariant();
     for u in block.from..block.to {
         pour_node(parts, writer, pieces, u as u16);
     }

@@ -37,7 +37,7 @@ pub fn push_escaped_name(text: &mut String, graph: &Graph, u: u16) -> Result<(),
     requires { u < length graph.now }
     ensures { OnOk result (string_bytes text.new ≡ string_bytes text.old ++ escaped (name_at (names graph.now) u)) }
 {
-    let _nodes = graph.number_of_nodes();
+    graph.invariant();
     push_escaped(text, name_of(graph, u))?;
     Ok(())
 }

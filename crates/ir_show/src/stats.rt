@@ -111,7 +111,7 @@ pub fn stats_text(alloc: Global, graph: &Graph, plan: &Plan) -> Result<String, A
     requires { node_count plan.now.topology ≡ length graph.now }
     ensures { IfOk result (λ text. IsStatsOf (names graph.now) plan.now (string_bytes text)) }
 {
-    let _nodes = plan.nodes();
+    plan.invariant();
     let figures = figures_of(alloc, plan)?;
     let greatest = greatest_row(plan);
     let mut text = String::new(alloc);

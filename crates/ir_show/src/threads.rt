@@ -73,7 +73,7 @@ fn node_text(alloc: Global, pieces: &Pieces, u: usize) -> Result<Vec<u8>, AllocE
     requires node { u < length pieces.now.graph }
     ensures { IfOk result (λ text. text.items ≡ line_text (node_words (names pieces.now.graph) pieces.now.plan u)) }
 {
-    let _nodes = pieces.plan.nodes();
+    pieces.plan.invariant();
     let parts = Parts::new(alloc)?;
     let mut text = Vec::new(alloc);
     if !write_node(parts, &mut text, pieces, u as u16) {

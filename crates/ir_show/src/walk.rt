@@ -47,7 +47,7 @@ pub fn walk_between(alloc: Global, plan: &Plan, from: u16, to: u16) -> Result<St
     requires to { to < node_count plan.now.topology }
     ensures { IfOk result (λ walk. AreStopsOf plan.now from to walk) }
 {
-    let _nodes = plan.nodes();
+    plan.invariant();
     let mut stops = Vec::new(alloc);
     let mut at = from;
     let mut weight = 0;
@@ -82,7 +82,7 @@ pub fn walk_text(
     requires to { to < length graph.now }
     ensures { IfOk result (λ text. IsWalkOf (names graph.now) plan.now from to (string_bytes text)) }
 {
-    let _nodes = plan.nodes();
+    plan.invariant();
     let walk = walk_between(alloc, plan, from, to)?;
     text_of(alloc, graph, &walk)
 }

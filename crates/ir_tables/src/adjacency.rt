@@ -15,7 +15,7 @@ fn push_links(graph: &Graph, u: usize, links: &mut Vec<Link>) -> Result<(), Allo
     ensures { OnOk result (links.new.items ≡ links.old.items
         ++ links_at u (row_numbers graph.now (neighbors_at graph.now u))) }
 {
-    let _nodes = graph.number_of_nodes();
+    graph.invariant();
     for place in 0..graph.neighbor_count(u) {
         let (v, weight) = graph.neighbor_at(u, place).unwrap();
         if u < v {
@@ -55,7 +55,7 @@ pub fn ports_of(
     ensures { IfOk result (λ ports. ports.items
         ≡ ports_at links.now u (row_numbers graph.now (neighbors_at graph.now u))) }
 {
-    let _nodes = graph.number_of_nodes();
+    graph.invariant();
     let mut ports = Vec::new(alloc);
     for place in 0..graph.neighbor_count(u) {
         let (v, weight) = graph.neighbor_at(u, place).unwrap();

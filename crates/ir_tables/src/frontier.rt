@@ -24,7 +24,7 @@ fn offer(
         + length (heap_items frontier.old)) }
 {
     let own = weights[v as usize];
-    let _nodes = topology.nodes();
+    topology.invariant();
     for hop in topology.ports(v as usize) {
         let through = own.saturating_add(hop.weight);
         if through < weights[hop.node as usize] {

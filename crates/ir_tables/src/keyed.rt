@@ -151,7 +151,7 @@ fn offer(
     ensures falls { OnOk result (3 * sum keys.new + load frontier.new ≤ 3 * sum keys.old + load frontier.old) }
 {
     let own = keys[x as usize];
-    let _nodes = topology.nodes();
+    topology.invariant();
     for (p, hop) in topology.ports(x as usize).iter().enumerate() {
         let through = own + step_key(u, x, p, hop.weight);
         if through < keys[hop.node as usize] {

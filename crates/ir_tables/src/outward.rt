@@ -35,7 +35,7 @@ impl Outward {
         ensures distances { IfOk result (λ ways. AreFrom topology.now node ways.weights) }
         ensures ports { IfOk result (λ ways. AreLeastPorts topology.now node ways.ports) }
     {
-        let _nodes = topology.nodes();
+        topology.invariant();
         let keys = keys_from(alloc, topology, node)?;
         let weights = weights_in(alloc, keys.as_slice())?;
         let ports = ports_in(alloc, node, keys.as_slice())?;
@@ -153,7 +153,7 @@ fn pass_on(
     ensures { OnOk result (IsPassedOn topology.now weights.now x marks.old.items led.old.items marks.new.items
         led.new.items) }
 {
-    let _nodes = topology.nodes();
+    topology.invariant();
     let own = weights[x as usize];
     for hop in topology.ports(x as usize) {
         let y = hop.node as usize;

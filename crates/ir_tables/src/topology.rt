@@ -45,6 +45,11 @@ impl Topology {
         Ok(Topology { links, ports })
     }
 
+    /// Does nothing; a caller's proof learns by it what holds of each topology.
+    pub fn invariant(&self)
+        ensures topology { IsTopology self.now }
+    {}
+
     /// How many nodes there are.
     pub fn nodes(&self) -> usize
         ensures count { result ≡ node_count self.now }
@@ -103,7 +108,7 @@ impl Topology {
         ensures first { result ≡ find (λ hop. hop.node == neighbor) (ports_of self.now node) }
         ensures weight { IfSome result (λ hop. hop.weight ≤ MAX_WEIGHT) }
     {
-        let _nodes = self.nodes();
+        self.invariant();
         first_to(self.ports(node as usize), neighbor)
     }
 

@@ -50,7 +50,7 @@ fn found_of(topology: &Topology, plans: &[Plan], row: &TraceRow) -> Option<Findi
     requires row { IsRowOver (node_count topology.now) row.now }
     ensures { result ≡ found_of topology.now plans.now row.now }
 {
-    let _nodes = topology.nodes();
+    topology.invariant();
     let segments = row.segments.as_slice();
     if !are_known(segments, plans.len()) {
         return Some(FindingKind::UnknownEpoch);

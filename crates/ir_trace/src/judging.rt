@@ -76,7 +76,7 @@ pub fn next_of(plan: &Plan, at: u16, dest: u16) -> Option<u16>
     requires dest { dest < node_count plan.now.topology }
     ensures { result ≡ next_of plan.now at dest }
 {
-    let _nodes = plan.nodes();
+    plan.invariant();
     let port = plan.port(at, plan.label_of(dest))?;
     Some(plan.hop(at, port).node)
 }

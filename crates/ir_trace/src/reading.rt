@@ -145,6 +145,6 @@ pub fn read_trace(alloc: Global, text: &[u8], graph: &Graph) -> Result<Trace, Fi
         → MatchResult result (λ trace. trace ≡ map (segments_again (topology_of_graph graph.now)) records)
         (λ e. e.kind ≡ FindingKind.NoMemory) }
 {
-    let _nodes = graph.number_of_nodes();
+    graph.invariant();
     read_rows(alloc, text, graph)
 }

@@ -24,7 +24,7 @@ fn ends(topology: &Topology, link: u16) -> (u16, u16)
     ensures low_within { result.0 < node_count topology.now }
     ensures high_within { result.1 < node_count topology.now }
 {
-    let _nodes = topology.nodes();
+    topology.invariant();
     topology.ends(link)
 }
 

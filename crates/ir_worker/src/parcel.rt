@@ -199,7 +199,7 @@ impl Parcel {
         requires at_in { at < node_count (knows (stamp_now self.now)).topology }
         ensures { result ≡ parcel_verdict self.now board.now false way at }
     {
-        let _nodes = plan.nodes();
+        plan.invariant();
         let body = &self.body;
         judge(plan, board, way, at, body.packet.stamp(), body.address)
     }
@@ -223,7 +223,7 @@ impl Parcel {
           next = at;
         } }
     {
-        let _nodes = plan.nodes();
+        plan.invariant();
         let body = &mut *self.body;
         body.packet.restamp(at, way, stamp.epoch());
         body.address = plan.label_of(body.packet.destination());

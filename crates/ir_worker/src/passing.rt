@@ -77,7 +77,7 @@ pub fn ready(turning: &Turning<'_>, current: Stamp, way: Way, parcel: Parcel) ->
         result.parcel.next }
 {
     let plan = turning.registry.plan(parcel.stamp());
-    let _nodes = plan.nodes();
+    plan.invariant();
     let verdict = parcel.judge(plan, turning.board, way, turning.at);
     let left = usize::from(turning.restamps) - parcel.restamped();
     match verdict.restamp(left, turning.board.current()) {
@@ -88,7 +88,7 @@ pub fn ready(turning: &Turning<'_>, current: Stamp, way: Way, parcel: Parcel) ->
         },
         Some(_) => {
             let newest = turning.registry.plan(&current);
-            let _nodes = newest.nodes();
+            newest.invariant();
             let parcel = parcel.restamp(current, newest, way, turning.at);
             let again = parcel.judge(newest, turning.board, Way::Inbox, turning.at);
             Judged {

@@ -38,7 +38,7 @@ fn push_port_key(
     ensures { OnOk result (string_bytes text.new ≡ string_bytes text.old
         ++ port_key (names graph.now) plan.now u port) }
 {
-    let _nodes = plan.nodes();
+    plan.invariant();
     push_key_start(text, port + 1, colour(port))?;
     push_xml_name(text, graph, node_by(plan, u, port))?;
     text.push_str(":")?;

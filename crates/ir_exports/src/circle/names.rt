@@ -42,7 +42,7 @@ pub fn push_xml_name(text: &mut String, graph: &Graph, u: u16) -> Result<(), All
     requires { u < length graph.now }
     ensures { OnOk result (string_bytes text.new ≡ string_bytes text.old ++ xml (name_at (names graph.now) u)) }
 {
-    let _nodes = graph.number_of_nodes();
+    graph.invariant();
     let name = name_of(graph, u);
     push_front(text, name, name.len())?;
     Ok(())
@@ -53,7 +53,7 @@ pub fn push_short_name(text: &mut String, graph: &Graph, u: u16) -> Result<(), A
     requires { u < length graph.now }
     ensures { OnOk result (string_bytes text.new ≡ string_bytes text.old ++ short_name (name_at (names graph.now) u)) }
 {
-    let _nodes = graph.number_of_nodes();
+    graph.invariant();
     let name = name_of(graph, u);
     if name.len() > 16 {
         push_front(text, name, 14)?;

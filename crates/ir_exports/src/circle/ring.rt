@@ -35,7 +35,7 @@ fn push_ring_node(
     ensures { OnOk result (string_bytes text.new ≡ string_bytes text.old
         ++ node_of_ring (names graph.now) plan.now u d) }
 {
-    let _nodes = plan.nodes();
+    plan.invariant();
     let v = plan.node_of(d);
     text.push_str("  ")?;
     push_quoted(text, graph, v)?;
@@ -114,7 +114,7 @@ fn push_port_box(
     ensures { OnOk result (string_bytes text.new ≡ string_bytes text.old
         ++ port_box (names graph.now) plan.now u port) }
 {
-    let _nodes = plan.nodes();
+    plan.invariant();
     write!(text, "  \"port {port}\" [fillcolor=\"")?;
     text.push_str(colour(port))?;
     text.push_str("\", label=\"")?;

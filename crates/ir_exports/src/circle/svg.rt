@@ -84,7 +84,7 @@ fn push_arcs(text: &mut String, graph: &Graph, plan: &Plan, u: u16) -> Result<()
     ensures { OnOk result (string_bytes text.new ≡ string_bytes text.old
         ++ flat_map (arc (names graph.now) plan.now u) (intervals_of (row_in plan.now u))) }
 {
-    let _nodes = plan.nodes();
+    plan.invariant();
     let count = plan.row(u).len();
     for i in 0..count {
         push_arc(text, graph, plan, u, i)?;

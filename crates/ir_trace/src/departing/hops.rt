@@ -23,7 +23,7 @@ pub fn first_stray(plan: &Plan, hops: &[u16], dest: u16) -> Option<Stray>
     ensures front { IfNone result (IsFrontOfWalk plan.now dest hops.now) }
     ensures stray { IfSome result (λ s. IsStray plan.now dest hops.now s.hop s.next) }
 {
-    let _nodes = plan.nodes();
+    plan.invariant();
     for i in 1..hops.len() {
         let next = next_of(plan, hops[i - 1], dest);
         if !is_node(next, hops[i]) {
