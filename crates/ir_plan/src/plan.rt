@@ -82,7 +82,9 @@ impl Plan {
     /// Does nothing; a caller's proof learns by it what holds of each plan.
     pub fn invariant(&self)
         ensures plan { IsPlan self.now }
-    {}
+    {
+        self.nodes();
+    }
 
     /// How many nodes there are.
     pub fn nodes(&self) -> usize
@@ -166,10 +168,11 @@ impl Plan {
         self.topology.port(node, port)
     }
 
-    /// The row of a node. It gives each address but the own its port in the full table, by the fewest intervals that do.
-    /// In a tree plan it has exactly one start for each port to a son or the father, and no other (Santoro and Khatib
-    /// 1985). In a compact plan each port leads nearer to its addresses' nodes, and no set of cyclic intervals is smaller that
-    /// gives each address but the own such a port.
+    /// The row of a node. It gives each address but the own its port in the full table, by the
+    /// fewest intervals that do. In a tree plan it has exactly one start for each port to a son or
+    /// the father, and no other (Santoro and Khatib 1985). In a compact plan each port leads nearer
+    /// to its addresses' nodes, and no set of cyclic intervals is smaller that gives each address
+    /// but the own such a port.
     pub fn row(&self, node: u16) -> &Row
         requires { node < node_count self.now.topology }
         ensures row { result.now ≡ row_in self.now node }
