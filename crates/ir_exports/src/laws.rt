@@ -17,8 +17,8 @@ pub fn beginnings_of_lines_keep_to_walks()
 /// Where each node has any of its disjoint lines, what is sent to a label goes through the first nodes of the
 /// prescribed walk to the node with that label.
 pub fn disjoint_lines_keep_to_walks()
-    ensures { (plan : Plan) (bits : ℕ) (tables : List (List TableLine)) (lines : ℕ → List TableLine) (x : ℕ) → IsPlan plan
-        → AreTablesOf true plan bits tables
+    ensures { (plan : Plan) (bits : ℕ) (tables : List (List TableLine)) (lines : ℕ → List TableLine) (x : ℕ)
+        → IsPlan plan → AreTablesOf true plan bits tables
         → ((u : ℕ) → All (λ m. Contains (slice_index_or tables u []) m) (lines u))
         → x < node_count plan.topology → KeepsToWalk plan bits lines x (end_of plan x) }
 {}
@@ -27,8 +27,8 @@ pub fn disjoint_lines_keep_to_walks()
 /// that label; where they are not disjoint, what is sent to a number beyond the labels goes all the way to the node
 /// with the last one.
 pub fn lines_go_all_the_way()
-    ensures labels { (is_disjoint : Bool) (plan : Plan) (bits : ℕ) (tables : List (List TableLine)) (x : ℕ) → IsPlan plan
-        → AreTablesOf is_disjoint plan bits tables → x < node_count plan.topology
+    ensures labels { (is_disjoint : Bool) (plan : Plan) (bits : ℕ) (tables : List (List TableLine)) (x : ℕ)
+        → IsPlan plan → AreTablesOf is_disjoint plan bits tables → x < node_count plan.topology
         → GoesAllTheWay plan bits (λ u. slice_index_or tables u []) x (end_of plan x) }
     ensures beyond { (plan : Plan) (bits : ℕ) (tables : List (List TableLine)) (x : ℕ) → IsPlan plan
         → AreTablesOf false plan bits tables → x < 2 ^ bits
