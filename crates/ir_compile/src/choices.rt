@@ -10,11 +10,13 @@ use crate::row_of_ports;
 use ir_lookup::Row;
 use std::alloc::{AllocError, Global};
 
-/// The canonical row of the ports by the first round with the fewest runs, going round from the label after the own one,
-/// where a run of so many labels of one port begins at each label. Conditions: there are two labels at least, the own one is
-/// a label, each run but the own label's has a label, none that doesn't end the round ends before the own one, and a run
-/// that begins within another one ends no sooner, as is so of longest runs. Takes O(n + l k), for at most k runs of a round,
-/// and l places that the last run of the round from the label after the own one ends behind its end.
+/// The canonical row of the ports by the first round with the fewest runs, going round from the
+/// label after the own one, where a run of so many labels of one port begins at each label.
+/// Conditions: there are two labels at least, the own one is a label, each run but the own label's
+/// has a label, none that doesn't end the round ends before the own one, and a run that begins
+/// within another one ends no sooner, as is so of longest runs. Takes O(n + l k), for at most k
+/// runs of a round, and l places that the last run of the round from the label after the own one
+/// ends behind its end.
 pub fn row_of_longest(
     alloc: Global,
     n: u16,

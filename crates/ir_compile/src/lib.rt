@@ -19,7 +19,7 @@ mod words;
 pub use choices::row_of_longest;
 pub use error::CompileError;
 use ir_lookup::{Row, WORD_BASE};
-pub use runs::keep_longer;
+pub use runs::{MarkedPort, keep_longer};
 use std::alloc::{AllocError, Global};
 pub use words::{WORD_PORTS, runs_by_words};
 
@@ -42,8 +42,8 @@ pub fn compile(alloc: Global, n: u16, own: u16, ports: &[Option<u16>]) -> Result
     Ok(canonical_row(alloc, n, own, ports)?)
 }
 
-/// The row that `compile` makes, of ports that are known to be a list of destinations, which it does not test. Condition:
-/// `is_destinations`. It is refused for memory alone. Takes O(n).
+/// The row that `compile` makes, of ports that are known to be a list of destinations, which it
+/// does not test. Condition: `is_destinations`. It is refused for memory alone. Takes O(n).
 pub fn canonical_row(
     alloc: Global,
     n: u16,
@@ -70,9 +70,9 @@ fn plain_ports(alloc: Global, ports: &[Option<u16>]) -> Result<Vec<u16>, AllocEr
     Ok(plain)
 }
 
-/// The row that `canonical_row` makes, of ports by label that are plain numbers; whatever stands at the own label is passed
-/// over. Conditions: there is a port for each of `n` labels, and `own` is one of them. It is refused for memory alone.
-/// Takes O(n).
+/// The row that `canonical_row` makes, of ports by label that are plain numbers; whatever stands at
+/// the own label is passed over. Conditions: there is a port for each of `n` labels, and `own` is
+/// one of them. It is refused for memory alone. Takes O(n).
 pub fn row_of_ports(alloc: Global, n: u16, own: u16, plain: &[u16]) -> Result<Row, AllocError>
     requires own { own < n }
     requires every { length plain.now ≡ n }
@@ -203,8 +203,8 @@ fn before(n: u16, own: u16, d: u16) -> u16
     }
 }
 
-/// Whether these are a list of destinations: one entry for each of the `n` labels, the own label below `n` and without a
-/// port, and each other label with one. Takes O(n).
+/// Whether these are a list of destinations: one entry for each of the `n` labels, the own label
+/// below `n` and without a port, and each other label with one. Takes O(n).
 pub fn is_destinations(n: u16, own: u16, ports: &[Option<u16>]) -> bool
     ensures { IsTrue result ↔ IsDestinations n own ports.now }
 {

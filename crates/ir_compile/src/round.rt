@@ -1,9 +1,10 @@
-//! The round by the longest runs: how many there are from a label on, where they are fewest, and the ports that they give.
+//! The round by the longest runs: how many there are from a label on, where they are fewest, and
+//! the ports that they give.
 
-ghost use Rattle.std.specs.Prelude.{◌≡◌, ◌≢◌, ◌<◌, ◌≤◌, ◌+◌, ℕ, List, Option, Some, length, IfOk, slice_index};
-ghost use Rattle.ir_model.specs.{Compiled.port_to, Choices.label_from};
-ghost use Rattle.ir_model.proofs.Steps.{AreSteps, Steps, HaveStepPorts, IsFirstNear, IsPlaceAfter};
-ghost use Rattle.ir_compile.specs.{Plain.StandFor, Rounds.{IsFirstTo, Reaches, RunOn}};
+ghost use Rattle.std.specs.Prelude.{◌≡◌, ◌≢◌, ◌<◌, ◌≤◌, ◌+◌, ℕ, List, Option, length, IfOk, slice_index};
+ghost use Rattle.ir_model.specs.{Choices.label_from};
+ghost use Rattle.ir_model.proofs.Steps.{AreSteps, Steps, IsFirstNear, IsPlaceAfter};
+ghost use Rattle.ir_compile.specs.{Plain.StandFor, Rounds.{GivesPorts, IsFirstTo, Reaches, RunOn, StandsAtPlaces}};
 
 use crate::sixteen::{LANES, put_run};
 use std::alloc::{AllocError, Global};
@@ -36,7 +37,8 @@ fn place_after(n: u16, start: u16, place: u16, counts: &[u16]) -> u16
     if count < left { place + count } else { n }
 }
 
-// How many runs a round has that begins at a label off the own one, and how many places behind its end the last one ends.
+// How many runs a round has that begins at a label off the own one, and how many places behind its
+// end the last one ends.
 fn round_from(n: u16, own: u16, start: u16, counts: &[u16]) -> (u16, u16)
     requires steps { AreSteps n own counts.now }
     requires start { start < n }
@@ -119,7 +121,7 @@ pub fn plain_round(
     requires off { start ≢ own }
     ensures every { IfOk result (λ plain. length plain.items ≡ n) }
     ensures ports { IfOk result (λ plain. (held : List (Option ℕ)) → StandFor n own plain.items held
-        → (k : ℕ) × Steps n counts.now start 0 k × HaveStepPorts n own counts.now ports.now start 0 k held) }
+        → GivesPorts n own counts.now ports.now start held) }
 {
     let mut places = vec![in alloc; 0u16; n as usize + LANES]?;
     put_round(places.as_mut_slice(), n, own, start, counts, ports);
@@ -134,10 +136,8 @@ fn put_round(places: &mut [u16], n: u16, own: u16, start: u16, counts: &[u16], p
     requires start { start < n }
     requires off { start ≢ own }
     ensures length { length places.new ≡ length places.old }
-    ensures ports { (held : List (Option ℕ))
-        → ((j : ℕ) → j < n → label_from n start j ≢ own
-        → port_to held (label_from n start j) ≡ Some (slice_index places.new j))
-        → (k : ℕ) × Steps n counts.now start 0 k × HaveStepPorts n own counts.now ports.now start 0 k held }
+    ensures ports { (held : List (Option ℕ)) → StandsAtPlaces n own start places.new held
+        → GivesPorts n own counts.now ports.now start held }
 {
     let mut place = 0;
     while place < n {

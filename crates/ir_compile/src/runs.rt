@@ -7,36 +7,37 @@ ghost use Rattle.ir_compile.specs.Runs.{HasMarked, IsKeptAt, IsServed, Keeps, Ke
 
 use crate::after;
 
-/// Takes the longest runs of a port where they are longer than those of the ports before it. The run from a label on has
-/// as many labels as the port with these marks serves, the own label among them wherever it comes; at most one round.
-/// Condition: `marked` has each label with a mark. Takes O(m), for the m labels of `marked`, where each comes once; O(n)
-/// where all labels have a mark.
+/// A port: whether it may be taken, by label, and the labels with such a mark.
+#[derive(Clone, Copy)]
+pub struct MarkedPort<'a> {
+    pub port: u16,
+    pub marks: &'a [bool],
+    pub labels: &'a [u16],
+}
+
+/// Takes the longest runs of a port where they are longer than those of the ports before it. The run from a label on
+/// has as many labels as the port serves, the own label among them wherever it comes; at most one round. Condition:
+/// its labels are those with a mark. Takes O(m), for these m labels, where each comes once; O(n) where all labels have
+/// a mark.
 #[inline(never)]
-pub fn keep_longer(
-    n: u16,
-    own: u16,
-    row: &[bool],
-    marked: &[u16],
-    port: u16,
-    counts: &mut [u16],
-    ports: &mut [u16],
-)
-    requires every { length row.now ≡ n }
+pub fn keep_longer(n: u16, own: u16, marked: MarkedPort, counts: &mut [u16], ports: &mut [u16])
+    requires every { length marked.marks.now ≡ n }
     requires own { own < n }
-    requires marked { HasMarked n row.now marked.now }
+    requires marked { HasMarked n marked.marks.now marked.labels.now }
     requires counts { length counts.old ≡ n }
     requires ports { length ports.old ≡ n }
     ensures counts { length counts.new ≡ n }
     ensures ports { length ports.new ≡ n }
-    ensures longer { (a : ℕ) → a < n → IsKeptAt n own row.now port counts.old ports.old counts.new ports.new a }
+    ensures longer { (a : ℕ) → a < n
+        → IsKeptAt n own marked.entry.marks.now marked.entry.port counts.old ports.old counts.new ports.new a }
 {
-    if front_run(n, own, row) == n {
-        keep_round(n, port, counts, ports);
+    if front_run(n, own, marked.marks) == n {
+        keep_round(n, marked.port, counts, ports);
         return;
     }
-    keep_back(n, own, row, own, port, counts, ports);
-    for label in marked {
-        keep_back(n, own, row, *label, port, counts, ports);
+    keep_back(n, own, marked, own, counts, ports);
+    for label in marked.labels {
+        keep_back(n, own, marked, *label, counts, ports);
     }
 }
 
@@ -58,36 +59,29 @@ fn keep_round(n: u16, port: u16, counts: &mut [u16], ports: &mut [u16])
 }
 
 // Takes the runs that end with a label, back from it, where the label after it is not served.
-fn keep_back(
-    n: u16,
-    own: u16,
-    row: &[bool],
-    end: u16,
-    port: u16,
-    counts: &mut [u16],
-    ports: &mut [u16],
-)
-    requires every { length row.now ≡ n }
+fn keep_back(n: u16, own: u16, marked: MarkedPort, end: u16, counts: &mut [u16], ports: &mut [u16])
+    requires every { length marked.marks.now ≡ n }
     requires own { own < n }
     requires end { end < n }
     requires counts { length counts.old ≡ n }
     requires ports { length ports.old ≡ n }
     ensures counts { length counts.new ≡ n }
     ensures ports { length ports.new ≡ n }
-    ensures each { Keeps n own row.now port counts.old ports.old counts.new ports.new }
-    ensures block { KeepsBlock n own row.now port counts.old ports.old counts.new ports.new end }
+    ensures each { Keeps n own marked.entry.marks.now marked.entry.port counts.old ports.old counts.new ports.new }
+    ensures block { KeepsBlock n own marked.entry.marks.now marked.entry.port counts.old ports.old counts.new
+        ports.new end }
 {
-    if is_served(own, row, after(n, end)) {
+    if is_served(own, marked.marks, after(n, end)) {
         return;
     }
     let mut a = end;
     for run in 0..n {
-        if !is_served(own, row, a) {
+        if !is_served(own, marked.marks, a) {
             return;
         }
         if counts[a as usize] <= run {
             counts[a as usize] = run + 1;
-            ports[a as usize] = port;
+            ports[a as usize] = marked.port;
         }
         a = one_before(n, a);
     }

@@ -10,8 +10,8 @@ use std::simd::prelude::*;
 /// How many labels have their longest runs found at a time.
 pub const LANES: usize = 16;
 
-/// The longest runs from sixteen labels, and whether they were found: where one of them has more than fifteen labels, all
-/// stays as it is.
+/// The longest runs from sixteen labels, and whether they were found: where one of them has more
+/// than fifteen labels, all stays as it is.
 pub fn fill_sixteen(
     n: usize,
     twice: &[u32],
@@ -34,9 +34,7 @@ pub fn fill_sixteen(
     let Some(runs) = sixteen_runs(twice, from) else {
         return false;
     };
-    let sizes = runs.0;
-    let shared = runs.1;
-    put_runs(n, twice, from, sizes, shared, counts, ports);
+    put_runs(n, twice, from, runs, counts, ports);
     true
 }
 
@@ -61,19 +59,18 @@ fn sixteen_runs(twice: &[u32], from: usize) -> Option<(u32x16, u32x16)>
     None
 }
 
-// Puts sixteen runs behind those that stand, each by its least port.
+// Puts sixteen runs, by their sizes and ports, behind those that stand, each by its least port.
 fn put_runs(
     n: usize,
     twice: &[u32],
     from: usize,
-    sizes: u32x16,
-    shared: u32x16,
+    runs: (u32x16, u32x16),
     counts: &mut [u16],
     ports: &mut [u16],
 )
     requires few { n ≤ 65535 }
     requires inside { from + 16 ≤ n }
-    requires short { AreShortRuns twice.now from sizes shared }
+    requires short { AreShortRuns twice.now from runs.0 runs.1 }
     requires counts { length counts.old ≡ n }
     requires ports { length ports.old ≡ n }
     requires runs { AreWordRuns n twice.now from counts.old ports.old }
@@ -81,8 +78,8 @@ fn put_runs(
     ensures ports { length ports.new ≡ n }
     ensures runs { AreWordRuns n twice.now (from + 16) counts.new ports.new }
 {
-    let sizes = sizes.to_array();
-    let shared = shared.to_array();
+    let sizes = runs.0.to_array();
+    let shared = runs.1.to_array();
     for k in 0..LANES {
         counts[from + k] = sizes[k] as u16;
         ports[from + k] = shared[k].trailing_zeros() as u16;

@@ -1,4 +1,5 @@
-//! The longest runs of labels that one port serves, by words: the bits of a label's word are the ports that it may take.
+//! The longest runs of labels that one port serves, by words: the bits of a label's word are the
+//! ports that it may take.
 
 ghost use Rattle.std.specs.Prelude.{◌≡◌, ◌≢◌, ◌<◌, ◌≤◌, ◌+◌, ◌*◌, ℕ, length, min, IfOk, slice_index};
 ghost use Rattle.std.specs.Int.Bits.{bit_and};
@@ -15,9 +16,10 @@ pub const WORD_PORTS: usize = 32;
 // The fewest labels of a run whose labels have their runs found together: those of a shorter one are found each alone.
 const LEAST_BLOCK: usize = 16;
 
-/// For each label how many labels the longest run of one port from it on has, and the least port that serves them; the own
-/// label is served by each port. Conditions: there is a word for each label, and the own label is one; each word but the
-/// own label's has a port. It is refused for memory alone. Takes O(n).
+/// For each label how many labels the longest run of one port from it on has, and the least port
+/// that serves them; the own label is served by each port. Conditions: there is a word for each
+/// label, and the own label is one; each word but the own label's has a port. It is refused for
+/// memory alone. Takes O(n).
 pub fn runs_by_words(
     alloc: Global,
     n: u16,
@@ -169,7 +171,7 @@ fn fill_from(
         return from + 1;
     }
     put_backs(twice, backs, from, to);
-    fill_block(n, twice, backs, from, to, counts, ports);
+    fill_block(n, twice, backs, (from, to), counts, ports);
     to
 }
 
@@ -190,31 +192,31 @@ fn put_backs(twice: &[u32], backs: &mut [u32], from: usize, to: usize)
     }
 }
 
-// The longest runs from the labels of a block.
+// The longest runs from the labels of a block, from its first label to behind its last.
 fn fill_block(
     n: usize,
     twice: &[u32],
     backs: &[u32],
-    from: usize,
-    to: usize,
+    block: (usize, usize),
     counts: &mut [u16],
     ports: &mut [u16],
 )
     requires few { n ≤ 65535 }
     requires twice { length twice.now ≡ n * 2 }
-    requires block { from < to }
-    requires inside { from < n }
-    requires round { to ≤ from + n }
-    requires common { HaveCommon twice.now from to }
-    requires room { to ≤ length backs.now }
-    requires backs { AreBacks twice.now from to backs.now }
+    requires block { block.0 < block.1 }
+    requires inside { block.0 < n }
+    requires round { block.1 ≤ block.0 + n }
+    requires common { HaveCommon twice.now block.0 block.1 }
+    requires room { block.1 ≤ length backs.now }
+    requires backs { AreBacks twice.now block.0 block.1 backs.now }
     requires counts { length counts.old ≡ n }
     requires ports { length ports.old ≡ n }
-    requires runs { AreWordRuns n twice.now from counts.old ports.old }
+    requires runs { AreWordRuns n twice.now block.0 counts.old ports.old }
     ensures counts { length counts.new ≡ n }
     ensures ports { length ports.new ≡ n }
-    ensures runs { AreWordRuns n twice.now to counts.new ports.new }
+    ensures runs { AreWordRuns n twice.now block.1 counts.new ports.new }
 {
+    let (from, to) = block;
     let mut end = to;
     let mut front = u32::MAX;
     for a in from..to.min(n) {

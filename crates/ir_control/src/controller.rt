@@ -10,7 +10,7 @@ ghost use Rattle.ir_epochs.specs.declared.entry.Entry.TheVariants.{Opened, Chang
 ghost use Rattle.ir_epochs.specs.Handles.{published, known, writer_board, reader_board, told, receipt_board};
 ghost use mathlib.Core.List.{IsPrefix};
 
-use ir_core::{Board, Refused, plan_up_by};
+use ir_core::{Board, Draft, Refused, plan_up_by};
 use ir_epochs::{BoardWriter, Change, Receipt, RegisterError, Registry, Stamp};
 use ir_model::Kind;
 use ir_plan::{LabelOrder, Plan, Several};
@@ -166,7 +166,9 @@ impl<R: Wait + Drop> Controller<R> {
         let topology = self.registry.plan(&self.opening).topology();
         let board = self.writer.board();
         let crew = Several { rt };
-        let plan = plan_up_by(&crew, self.alloc, topology, &board, self.labels, kind, root)?;
+        let labels = self.labels;
+        let draft = Draft { labels, kind, root };
+        let plan = plan_up_by(&crew, self.alloc, topology, &board, draft)?;
         Ok(plan)
     }
 

@@ -9,7 +9,7 @@ ghost use Rattle.ir_epochs.specs.Stamps.{IsOf, knows};
 use crate::channels::{Line, all_ends, inboxes_of, ins_of, outs_of, peers_of, ways_of};
 use crate::controller::Controller;
 use crate::injector::Injector;
-use ir_core::{MAX_PACKETS, MAX_RESTAMPS, OpenError, Opening, open_refusal, plan_over_by};
+use ir_core::{Draft, MAX_PACKETS, MAX_RESTAMPS, OpenError, Opening, open_refusal, plan_over_by};
 use ir_epochs::{BoardError, BoardReader, BoardWriter, RegisterError, Registry, Stamp, board};
 use ir_links::{Channel, Sender, Taker};
 use ir_model::Kind;
@@ -76,14 +76,12 @@ fn registered(
         return Err(OpenError::NoMemory);
     };
     let crew = Several { rt };
-    let plan = plan_over_by(
-        &crew,
-        alloc,
-        over,
-        opening.labels,
-        opening.kind,
-        opening.root,
-    )?;
+    let draft = Draft {
+        labels: opening.labels,
+        kind: opening.kind,
+        root: opening.root,
+    };
+    let plan = plan_over_by(&crew, alloc, over, draft)?;
     let registry = Registry::new(alloc);
     match registry.register(1, plan) {
         Ok(stamp) => Ok((registry, stamp)),

@@ -144,6 +144,10 @@ abbrev pub IsMade : LabelOrder → Kind → ℕ → Topology → Option Plan →
 IsMade labels kind root topology None = IsDisconnected topology
 IsMade labels kind root topology (Some plan) = IsPlanBy topology kind (FromRoot labels root) plan
 
+-- two plans that are made of one network, kind, root and order of labels
+abbrev pub AreBothMade : LabelOrder → Kind → ℕ → Topology → Plan → Plan → Type 0
+AreBothMade labels kind root topology p q = IsMade labels kind root topology (Some p) × IsMade labels kind root topology (Some q)
+
 -- the entry of an install, once the plan is made
 abbrev pub installs_made : Sight → Option Plan → Result Entry Refused
 installs_made s None = Err Disconnected

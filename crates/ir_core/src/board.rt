@@ -103,8 +103,8 @@ impl Board {
         next
     }
 
-    /// Why a floor is refused: it is above the current epoch (`NoEpoch`), it is not above the present floor (`Same`), or
-    /// the change is one too many, in this order.
+    /// Why a floor is refused: it is above the current epoch (`NoEpoch`), it is not above the
+    /// present floor (`Same`), or the change is one too many, in this order.
     pub fn retire_refusal(&self, floor: u32) -> Option<Refused>
         ensures { result ≡ retire_refused self.now floor }
     {
@@ -131,8 +131,9 @@ impl Board {
         self.change_refusal()
     }
 
-    /// Why an install over so many nodes, where so many epochs are used up, is refused before any plan is made: the root
-    /// is no node, no epoch is left, or the change is one too many, in this order.
+    /// Why an install over so many nodes, where so many epochs are used up, is refused before any
+    /// plan is made: the root is no node, no epoch is left, or the change is one too many, in this
+    /// order.
     pub fn install_refusal(&self, nodes: usize, epochs: usize, root: u16) -> Option<Refused>
         ensures { result ≡ install_refused nodes epochs self.now root }
     {

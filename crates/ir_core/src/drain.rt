@@ -87,7 +87,7 @@ impl World {
         ensures view { IsUpToDate self.new node }
     {
         self.invariant();
-        let _ = self.take(node, way);
+        self.take(node, way).ok();
         self.try_act(node)
     }
 
@@ -112,7 +112,7 @@ impl World {
     {
         self.invariant();
         let version = self.board_versions().len() - 1;
-        let _ = self.read(node, version);
+        self.read(node, version).ok();
     }
 }
 

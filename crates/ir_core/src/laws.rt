@@ -1,4 +1,4 @@
-ghost use Rattle.std.specs.Prelude.{◌≡◌, ◌≢◌, ℕ, ◌<◌, List, Result, Some, None};
+ghost use Rattle.std.specs.Prelude.{◌≡◌, ◌≢◌, ℕ, List, Result, None};
 ghost use Rattle.ir_core.specs.{declared.event.Way.Way, Record.Record, Setting.Setting};
 ghost use Rattle.ir_core.specs.{declared.event.Action.TheVariants.Restamp, declared.event.Verdict.Verdict};
 ghost use Rattle.ir_core.specs.{declared.board.Board.Board, Entry.{Entry, ruled, acted, decided}, Meaning.Sight};
@@ -6,14 +6,15 @@ ghost use Rattle.ir_core.specs.{Plain.{IsPlainVerdict, IsPlainAct}, declared.ope
 ghost use Rattle.ir_core.specs.{declared.built.Install.Install, declared.event.Refused.Refused};
 ghost use Rattle.ir_core.specs.{declared.event.Reply.Reply, declared.event.Step.Step, World.World};
 ghost use Rattle.ir_core.specs.Installed.{AreEpochsOf};
-ghost use Rattle.ir_core.specs.Meaning.{IsMade};
-ghost use Rattle.ir_model.specs.{Plan.{Plan, table_port}, Topology.{Topology, node_count}};
+ghost use Rattle.ir_core.specs.Meaning.{AreBothMade};
+ghost use Rattle.ir_model.specs.{Plan.Plan, Topology.{Topology, node_count}};
 ghost use Rattle.ir_model.specs.declared.Kind.{Kind, TheVariants.Tree};
-ghost use Rattle.ir_plan.specs.declared.tour.LabelOrder.{LabelOrder};
+ghost use Rattle.ir_plan.specs.{declared.tour.LabelOrder.LabelOrder, Starts.HaveSameTable};
 
-/// A law of the definitions: a network that allows no restamp reads as one that knows of none. What a node makes of a packet
-/// of one epoch is the verdict by that epoch; so an Act after a history without restamps comes to that verdict, with no
-/// restamp, and leaves in the record what the verdict leaves. With no restamp left, no packet is told to be restamped.
+/// A law of the definitions: a network that allows no restamp reads as one that knows of none. What
+/// a node makes of a packet of one epoch is the verdict by that epoch; so an Act after a history
+/// without restamps comes to that verdict, with no restamp, and leaves in the record what the
+/// verdict leaves. With no restamp left, no packet is told to be restamped.
 pub fn without_restamps()
     ensures verdict { (setting : Setting) (s : Sight) (u : ℕ) (way : Way) (r : Record)
         → IsPlainVerdict setting s u way r }
@@ -23,23 +24,24 @@ pub fn without_restamps()
         → decided plan b way at stamp dest 0 ≢ Restamp }
 {}
 
-/// A law of runs: where no step of a run wanted memory, its epochs were built from just what `installs` gives for the same
-/// opening and the same steps. So boards and plans do not depend on the steps that `installs` passes over.
+/// A law of runs: where no step of a run wanted memory, its epochs were built from just what
+/// `installs` gives for the same opening and the same steps. So boards and plans do not depend on
+/// the steps that `installs` passes over.
 pub fn epochs_of_installs()
     ensures { (opening : Opening) (steps : List Step) (replies : List (Result Reply Refused)) (world : World)
         (installs : List Install) → AreEpochsOf opening steps replies world installs }
 {}
 
-/// A law of plans: two plans of one kind and root over one network, labelled in one order, have the same labels; the same
-/// table and rows too, where the kind is not Tree. So a run and its check go by the same ways.
+/// A law of plans: two plans of one kind and root over one network, labelled in one order, have the
+/// same labels; the same table and rows too, where the kind is not Tree. So a run and its check go
+/// by the same ways.
 pub fn made_plan_is_determined()
     ensures order { (labels : LabelOrder) (kind : Kind) (root : ℕ) (topology : Topology) (p q : Plan)
-        → IsMade labels kind root topology (Some p) → IsMade labels kind root topology (Some q) → p.order ≡ q.order }
+        → AreBothMade labels kind root topology p q → p.order ≡ q.order }
     ensures labels { (labels : LabelOrder) (kind : Kind) (root : ℕ) (topology : Topology) (p q : Plan)
-        → IsMade labels kind root topology (Some p) → IsMade labels kind root topology (Some q) → p.labels ≡ q.labels }
+        → AreBothMade labels kind root topology p q → p.labels ≡ q.labels }
     ensures tables { (labels : LabelOrder) (kind : Kind) (root : ℕ) (topology : Topology) (p q : Plan) → kind ≢ Tree
-        → IsMade labels kind root topology (Some p) → IsMade labels kind root topology (Some q)
-        → (u d : ℕ) → u < node_count topology → d < node_count topology → table_port p u d ≡ table_port q u d }
+        → AreBothMade labels kind root topology p q → HaveSameTable (node_count topology) p q }
     ensures rows { (labels : LabelOrder) (kind : Kind) (root : ℕ) (topology : Topology) (p q : Plan) → kind ≢ Tree
-        → IsMade labels kind root topology (Some p) → IsMade labels kind root topology (Some q) → p.rows ≡ q.rows }
+        → AreBothMade labels kind root topology p q → p.rows ≡ q.rows }
 {}

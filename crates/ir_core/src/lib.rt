@@ -28,7 +28,7 @@ pub use ir_model::{Hop, Kind};
 pub use laws::{epochs_of_installs, made_plan_is_determined, without_restamps};
 pub use opening::{Opening, open_refusal};
 pub use packet::{Fate, Held, Record, Restamp, hop_room};
-pub use planning::{plan_over_by, plan_up_by};
+pub use planning::{Draft, plan_over_by, plan_up_by};
 pub use run::{Played, play, play_by};
 pub use verdict::{decide, judge};
 pub use world::World;

@@ -40,6 +40,13 @@ impl Marks {
         }
     }
 
+    // Does nothing; a caller's proof learns by it how many marks there are.
+    fn invariant(&self)
+        ensures { length self.now ≡ MAX_LINKS }
+    {
+        self.words.iter();
+    }
+
     /// Whether a link is up; true where the number is no link.
     pub fn is_up(&self, link: usize) -> bool
         ensures { result ≡ get_or self.now link true }
@@ -67,8 +74,7 @@ impl Marks {
         ensures marks { IfOk result (λ v. v.items ≡ take links self.now) }
         ensures count { IfOk result (λ v. length v.items ≡ links) }
     {
-        // opens the marks, for how many there are
-        let _ = &self.words;
+        self.invariant();
         let mut marks = Vec::with_capacity(alloc, links)?;
         for link in 0..links {
             marks.push(self.is_up(link))?;

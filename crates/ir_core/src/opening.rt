@@ -9,9 +9,10 @@ use ir_plan::LabelOrder;
 use ir_tables::Topology;
 use std::alloc::{AllocError, Global};
 
-/// What a world or a net is opened with: a topology, the order in which each epoch's plan is labelled, the kind and root of
-/// epoch 1's plan, the capacity of each channel and inbox, from 1 to 1,024 packets, the most packets, from 1 to 4,096, and
-/// the most restamps of a packet, from 0 to 3. The topology has at most 1,024 nodes and 8,192 links.
+/// What a world or a net is opened with: a topology, the order in which each epoch's plan is
+/// labelled, the kind and root of epoch 1's plan, the capacity of each channel and inbox, from 1 to
+/// 1,024 packets, the most packets, from 1 to 4,096, and the most restamps of a packet, from 0 to
+/// 3. The topology has at most 1,024 nodes and 8,192 links.
 #[derive(Drop)]
 pub struct Opening {
     pub topology: Topology,
@@ -62,8 +63,8 @@ impl Opening {
     }
 }
 
-/// Why a network is not opened, before any plan is built: it has no node, the root is no node, or a number is out of its
-/// range, in this order.
+/// Why a network is not opened, before any plan is built: it has no node, the root is no node, or a
+/// number is out of its range, in this order.
 pub fn open_refusal(opening: &Opening) -> Option<OpenError>
     ensures { result ≡ open_refused opening.now }
 {

@@ -29,16 +29,16 @@ pub struct Restamp {
     pub from: usize,
 }
 
-/// The most hops of a packet of a network that allows it so many restamps, with so many nodes: a walk of each epoch, each
-/// but the first from the last hop of the one before.
+/// The most hops of a packet of a network that allows it so many restamps, with so many nodes: a
+/// walk of each epoch, each but the first from the last hop of the one before.
 pub fn hop_room(restamps: u8, nodes: u16) -> usize
     ensures { result ≡ hop_room restamps nodes }
 {
     (restamps as usize + 1) * (nodes as usize).saturating_sub(1) + 1
 }
 
-/// A packet's record. `epoch` is its first stamp; its hops begin with the source. There is `room` for so many hops, and for
-/// all restamps that a packet can have.
+/// A packet's record. `epoch` is its first stamp; its hops begin with the source. There is `room`
+/// for so many hops, and for all restamps that a packet can have.
 #[derive(Drop)]
 pub struct Record {
     pub id: u32,
@@ -144,8 +144,9 @@ impl Record {
         self.dest
     }
 
-    /// What an Act of a node leaves in the packet's record: the node as a hop, unless the packet was taken from the inbox
-    /// or dropped by the first two lines of the verdict; the restamp, if it was restamped; and the verdict's fate.
+    /// What an Act of a node leaves in the packet's record: the node as a hop, unless the packet
+    /// was taken from the inbox or dropped by the first two lines of the verdict; the restamp, if
+    /// it was restamped; and the verdict's fate.
     pub fn act(&mut self, node: u16, way: Way, ruling: Ruling)
         requires hops { HasRoomHere way self.old }
         requires restamps { (e : ℕ) → ruling.restamp ≡ Some e → length self.old.restamps < MAX_RESTAMPS }

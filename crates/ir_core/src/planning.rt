@@ -14,51 +14,54 @@ use std::alloc::Global;
 /// The most nodes of a network whose plans are made on one thread.
 const MOST_NODES_ON_ONE_THREAD: usize = 256;
 
-/// The plan of this kind and root over a topology, labelled in this order. Over more than 256 nodes
-/// the crew makes it in as many threads as suit the processors. Refused, and takes as long, as
-/// `Plan::build_by`.
+/// What a plan is made with: the order in which it is labelled, its kind, and its root.
+#[derive(Clone, Copy)]
+pub struct Draft {
+    pub labels: LabelOrder,
+    pub kind: Kind,
+    pub root: u16,
+}
+
+/// The plan over a topology that is wanted. Over more than 256 nodes the crew makes it in as many
+/// threads as suit the processors. Refused, and takes as long, as `Plan::build_by`.
 pub fn plan_over_by(
     crew: &impl Crew,
     alloc: Global,
     topology: Topology,
-    labels: LabelOrder,
-    kind: Kind,
-    root: u16,
+    draft: Draft,
 ) -> Result<Plan, PlanError>
-    ensures made { IfOk result (IsPlanBy topology kind (FromRoot labels root)) }
-    ensures refused { IfErr result (RefusesPlan topology (FromRoot labels root)) }
+    ensures made { IfOk result (IsPlanBy topology draft.kind (FromRoot draft.labels draft.root)) }
+    ensures refused { IfErr result (RefusesPlan topology (FromRoot draft.labels draft.root)) }
 {
     let most = if topology.nodes() > MOST_NODES_ON_ONE_THREAD {
         None
     } else {
         Some(1)
     };
-    let labels = Labels::FromRoot(labels, root);
-    match Plan::build_by(crew, alloc, topology, kind, labels, most) {
+    let labels = Labels::FromRoot(draft.labels, draft.root);
+    match Plan::build_by(crew, alloc, topology, draft.kind, labels, most) {
         Ok(plan) => Ok(plan),
         Err((error, _)) => Err(error),
     }
 }
 
-/// The plan of this kind and root over the links that are up in a board, labelled in this order.
-/// Takes as long as `plan_over_by`.
+/// The plan that is wanted over the links that are up in a board. Takes as long as `plan_over_by`.
 pub fn plan_up_by(
     crew: &impl Crew,
     alloc: Global,
     topology: &Topology,
     board: &Board,
-    labels: LabelOrder,
-    kind: Kind,
-    root: u16,
+    draft: Draft,
 ) -> Result<Plan, PlanError>
-    requires root { root < node_count topology.now }
+    requires root { draft.root < node_count topology.now }
     requires links { length topology.now.links ≤ MAX_LINKS }
     ensures made { IfOk result (IsPlanBy (restrict (take (length topology.now.links) board.now.up) topology.now)
-        kind (FromRoot labels root)) }
+        draft.kind (FromRoot draft.labels draft.root)) }
     ensures refused { IfErr result (RefusesPlan
-        (restrict (take (length topology.now.links) board.now.up) topology.now) (FromRoot labels root)) }
+        (restrict (take (length topology.now.links) board.now.up) topology.now)
+        (FromRoot draft.labels draft.root)) }
 {
     let up = board.marks(alloc, topology.links())?;
     let over = topology.only(alloc, up.as_slice())?;
-    plan_over_by(crew, alloc, over, labels, kind, root)
+    plan_over_by(crew, alloc, over, draft)
 }

@@ -14,7 +14,7 @@ use crate::board::{Board, KeptBoard};
 use crate::event::{Event, OpenError, Refused, Reply, Ruling, Step, Verdict, Way};
 use crate::opening::{Opening, open_refusal};
 use crate::packet::{Held, Record, hop_room};
-use crate::planning::{plan_over_by, plan_up_by};
+use crate::planning::{Draft, plan_over_by, plan_up_by};
 use crate::queue::Queue;
 use crate::verdict::judge;
 use ir_model::{Hop, Kind};
@@ -110,14 +110,12 @@ impl World {
         let Ok(over) = opening.topology.try_clone(alloc) else {
             return Err(OpenError::NoMemory);
         };
-        let plan = plan_over_by(
-            crew,
-            alloc,
-            over,
-            opening.labels,
-            opening.kind,
-            opening.root,
-        )?;
+        let draft = Draft {
+            labels: opening.labels,
+            kind: opening.kind,
+            root: opening.root,
+        };
+        let plan = plan_over_by(crew, alloc, over, draft)?;
         match World::start(alloc, opening, plan) {
             Ok(world) => Ok(world),
             Err(_) => Err(OpenError::NoMemory),
@@ -236,15 +234,9 @@ impl World {
         if let Some(error) = newest.install_refusal(self.topology.nodes(), epochs, root) {
             return Err(error);
         }
-        let plan = plan_up_by(
-            crew,
-            self.alloc,
-            &self.topology,
-            &newest,
-            self.labels,
-            kind,
-            root,
-        )?;
+        let labels = self.labels;
+        let draft = Draft { labels, kind, root };
+        let plan = plan_up_by(crew, self.alloc, &self.topology, &newest, draft)?;
         let epoch = epochs as u32 + 1;
         let Ok(board) = KeptBoard::new(self.alloc, &newest.installed(epoch)) else {
             return Err(Refused::NoMemory);
@@ -399,8 +391,8 @@ impl World {
         (record.stamp(), record.destination(), left)
     }
 
-    /// What a node makes of the packet in its hand. A packet of a retired epoch that has restamps left is judged once more,
-    /// by the current epoch of the same board, as one from the inbox.
+    /// What a node makes of the packet in its hand. A packet of a retired epoch that has restamps
+    /// left is judged once more, by the current epoch of the same board, as one from the inbox.
     fn ruling(&self, node: u16, held: Held) -> Ruling
         requires node_in { node < nodes_of self.now.opening }
         requires in_hand { slice_index_or self.now.hands node None ≡ Some held }
@@ -466,8 +458,7 @@ impl World {
         ensures refused { IfErr result (λ _. self.new ≡ self.old) }
         ensures same_opening { self.new.opening ≡ self.old.opening }
     {
-        // opens the world, for what it keeps
-        let _ = &self.learnt;
+        self.invariant();
         self.answer(crew, event)
     }
 
@@ -585,7 +576,7 @@ impl World {
     pub fn records_are_sound(&self)
         ensures { (log : List Entry) → Shows log self.now → AllSound self.now.opening log }
     {
-        let _ = &self.learnt;
+        self.invariant();
     }
 }
 
@@ -635,8 +626,7 @@ fn empty_channels(alloc: Global, count: usize, room: usize) -> Result<Vec<Queue>
     ensures room { IfOk result (λ v. All (λ q. room ≤ room_of q) v.items) }
 {
     let mut channels = Vec::with_capacity(alloc, count)?;
-    for i in 0..count {
-        let _ = i;
+    for _i in 0..count {
         channels.push(Queue::new(alloc, room)?)?;
     }
     Ok(channels)

@@ -10,7 +10,7 @@ use Rattle.ir_model.specs.Graph.{Name}
 use Rattle.ir_model.specs.Topology.{Topology, node_count}
 use Rattle.ir_model.specs.Plan.{Plan, label_in}
 use Rattle.ir_prefix.specs.Longest.{IsWidth}
-use Rattle.ir_prefix.specs.declared.line.Line.{Line}
+use Rattle.ir_prefix.specs.declared.line.TableLine.{TableLine}
 use Rattle.ir_trace.specs.Rows.{spaced}
 use Rattle.ir_trace.specs.Written.{name_at}
 use Rattle.ir_trace.proofs.WrittenRows.{join_spaced}
@@ -20,7 +20,7 @@ use Rattle.ir_exports.specs.PrefixesText.{entry_words, goal_text, prefix_text, p
 use Rattle.ir_exports.specs.Before.{AreWritten}
 
 -- one more line of a node
-pub entries_more : (words : Line → List (List ℕ)) (table : List Line) (i : ℕ) (e : Line) → i < length table
+pub entries_more : (words : TableLine → List (List ℕ)) (table : List TableLine) (i : ℕ) (e : TableLine) → i < length table
     → (old : List ℕ) → (old ++ flat_map spaced (flat_map words (take i table))) ++ flat_map spaced (words (get_or table i e)) ≡ old ++ flat_map spaced (flat_map words (take (i + 1) table))
 entries_more words table i e h old =
     append_assoc old (flat_map spaced (flat_map words (take i table))) (flat_map spaced (words (get_or table i e)))
@@ -32,7 +32,7 @@ entries_more words table i e h old =
     ∙ ap (flat_map words) (sym (take_more table i e h))))
 
 -- one more node
-pub nodes_more : (nodes : List Name) (s : Plan) (u : ℕ) (tables : List (List Line)) (table : List Line)
+pub nodes_more : (nodes : List Name) (s : Plan) (u : ℕ) (tables : List (List TableLine)) (table : List TableLine)
     → nodes_text nodes s u (tables ++ table ∷ []) ≡ nodes_text nodes s u tables ++ line_text (prefix_node_words nodes s (u + length tables) table)
 nodes_more nodes s u [] table =
     let here : u ≡ u + 0 = omega arith in
@@ -45,7 +45,7 @@ nodes_more nodes s u (t ∷ tables) table =
     ∙ sym (append_assoc first (nodes_text nodes s (u + 1) tables) (last (u + suc (length tables))))
 
 -- each line has a byte of text
-entries_long : (nodes : List Name) (net : Topology) (u : ℕ) (table : List Line) → length table ≤ length (flat_map spaced (flat_map (entry_words nodes net u) table))
+entries_long : (nodes : List Name) (net : Topology) (u : ℕ) (table : List TableLine) → length table ≤ length (flat_map spaced (flat_map (entry_words nodes net u) table))
 entries_long nodes net u [] = omega arith
 entries_long nodes net u (m ∷ table) =
     let a = spaced (prefix_text m.value m.length) in
@@ -55,7 +55,7 @@ entries_long nodes net u (m ∷ table) =
     let all : length (a ++ (b ++ rest)) ≡ length a + (length b + length rest) = length-append a (b ++ rest) ∙ ap (λ (k : ℕ). length a + k) (length-append b rest) in
     omega (arith, below, all)
 
-pub node_long : (nodes : List Name) (s : Plan) (u : ℕ) (table : List Line) → length table ≤ length (line_text (prefix_node_words nodes s u table))
+pub node_long : (nodes : List Name) (s : Plan) (u : ℕ) (table : List TableLine) → length table ≤ length (line_text (prefix_node_words nodes s u table))
 node_long nodes s u table =
     let name = name_at nodes u in
     let label = decimal (label_in s u) in
@@ -68,12 +68,12 @@ node_long nodes s u table =
     let long = entries_long nodes s.topology u table in
     omega (arith, whole, parts, front, second, long)
 
-nodes_long : (nodes : List Name) (s : Plan) (u : ℕ) (tables : List (List Line)) → sum_by length tables ≤ length (nodes_text nodes s u tables)
+nodes_long : (nodes : List Name) (s : Plan) (u : ℕ) (tables : List (List TableLine)) → sum_by length tables ≤ length (nodes_text nodes s u tables)
 nodes_long nodes s u [] = omega arith
 nodes_long nodes s u (table ∷ tables) =
     let first = line_text (prefix_node_words nodes s u table) in
     let rest = nodes_text nodes s (u + 1) tables in
-    let sum : sum_by length (table ∷ tables) ≡ length table + sum_by length tables = sum_by-cons (λ (t : List Line). length t) table tables in
+    let sum : sum_by length (table ∷ tables) ≡ length table + sum_by length tables = sum_by-cons (λ (t : List TableLine). length t) table tables in
     let here = node_long nodes s u table in
     let below = nodes_long nodes s (u + 1) tables in
     let both : length (first ++ rest) ≡ length first + length rest = length-append first rest in
@@ -98,14 +98,14 @@ written_long is_disjoint nodes s count lines before after w =
     let sum = w.sum in
     omega (arith, long, both, sum)
 
-pub written_more : (is_disjoint : Bool) (nodes : List Name) (s : Plan) (u lines : ℕ) (table : List Line) (before middle after : List ℕ) → AreWritten is_disjoint nodes s u lines before middle
+pub written_more : (is_disjoint : Bool) (nodes : List Name) (s : Plan) (u lines : ℕ) (table : List TableLine) (before middle after : List ℕ) → AreWritten is_disjoint nodes s u lines before middle
     → ((bits : ℕ) → IsWidth (node_count s.topology) bits → AreLinesOf is_disjoint s bits u table) → after ≡ middle ++ line_text (prefix_node_words nodes s u table)
     → AreWritten is_disjoint nodes s (u + 1) (lines + length table) before after
 written_more is_disjoint nodes s u lines table before middle after w are more =
     let every : length w.tables ≡ u = w.every in
     let from_first : 0 + length w.tables ≡ u = omega (arith, every) in
     let all = w.tables ++ table ∷ [] in
-    let L : ℕ → ℕ → List Line → Type 0 = λ bits v t. AreLinesOf is_disjoint s bits v t in
+    let L : ℕ → ℕ → List TableLine → Type 0 = λ bits v t. AreLinesOf is_disjoint s bits v t in
     let text : nodes_text nodes s 0 all ≡ nodes_text nodes s 0 w.tables ++ line_text (prefix_node_words nodes s u table) =
     nodes_more nodes s 0 w.tables table ∙ ap (λ (v : ℕ). nodes_text nodes s 0 w.tables ++ line_text (prefix_node_words nodes s v table)) from_first in
     record {
@@ -119,7 +119,7 @@ written_more is_disjoint nodes s u lines table before middle after w are more =
                 let seam : slice_index_or all u [] ≡ table = ap (λ (k : ℕ). slice_index_or all k []) (sym every) ∙ get_or-append_seam w.tables table [] [] in
                 subst (λ (k : ℕ). L bits k (slice_index_or all k [])) (sym here) (subst (L bits u) (sym seam) (are bits width))
           ];
-      sum = sum_by_push (λ (t : List Line). length t) w.tables table ∙ ap (λ (k : ℕ). k + length table) w.sum;
+      sum = sum_by_push (λ (t : List TableLine). length t) w.tables table ∙ ap (λ (k : ℕ). k + length table) w.sum;
       whole = more ∙ ap (λ (t : List ℕ). t ++ line_text (prefix_node_words nodes s u table)) w.whole
           ∙ append_assoc before (nodes_text nodes s 0 w.tables) (line_text (prefix_node_words nodes s u table)) ∙ ap (λ (t : List ℕ). before ++ t) (sym text);
     }

@@ -7,19 +7,19 @@ use Rattle.ir_model.specs.Plan.{Plan, IsPlan, label_in, node_in, table_port}
 use Rattle.ir_tables.proofs.Ways.{next_of, next_in}
 use Rattle.ir_plan.proofs.Standing.{row_destinations}
 use Rattle.ir_prefix.specs.Forwarding.{IsMatch}
-use Rattle.ir_prefix.specs.declared.line.Line.{Line}
+use Rattle.ir_prefix.specs.declared.line.TableLine.{TableLine}
 use Rattle.ir_exports.specs.Sent.{EndsAfter, GoesAllTheWay, IsSentOn, GoesThrough, KeepsToWalk}
 
 -- ---- ways by lines that name the table's ports
 
-module _ (s : Plan) (is : IsPlan s) (bits x d : ℕ) (d_in : d < node_count s.topology) (lines : ℕ → List Line) where
+module _ (s : Plan) (is : IsPlan s) (bits x d : ℕ) (d_in : d < node_count s.topology) (lines : ℕ → List TableLine) where
   -- each longest match at another node than that of the label names the table's port
   abbrev pub Named : Type 0
-  Named = (u : ℕ) (m : Line) → u < node_count s.topology → label_in s u ≢ x → IsMatch bits (lines u) x m → m.port ≡ table_port s u d
+  Named = (u : ℕ) (m : TableLine) → u < node_count s.topology → label_in s u ≢ x → IsMatch bits (lines u) x m → m.port ≡ table_port s u d
 
   -- and there is one
   abbrev pub Covered : Type 0
-  Covered = (u : ℕ) → u < node_count s.topology → label_in s u ≢ x → (m : Line) × IsMatch bits (lines u) x m
+  Covered = (u : ℕ) → u < node_count s.topology → label_in s u ≢ x → (m : TableLine) × IsMatch bits (lines u) x m
 
   -- the table has no port at the end
   none_at_end : table_port s d d ≡ None

@@ -8,7 +8,7 @@ use Rattle.ir_model.specs.Plan.{Plan, IsPlan, label_in, node_in, table_port, by_
 use Rattle.ir_plan.proofs.Standing.{row_destinations}
 use Rattle.ir_prefix.proofs.Upper.{port_inside}
 use Rattle.ir_prefix.specs.Forwarding.{NamesPorts}
-use Rattle.ir_prefix.specs.declared.line.Line.{Line}
+use Rattle.ir_prefix.specs.declared.line.TableLine.{TableLine}
 use Rattle.ir_show.proofs.WalkLines.{plan_next}
 use Rattle.ir_exports.proofs.Senders.{port_at_label}
 
@@ -25,8 +25,8 @@ row_port_in s is u d p u_in e =
     let same : next.1.port ≡ p = cc (next.1.held, held) in
     subst (λ (q : ℕ). q < length (ports_of s.topology u)) same (slice_get_within (ports_of s.topology u) next.1.port next.0 next.1.there)
 
-pub ports_in : (s : Plan) → IsPlan s → (u : ℕ) (table : List Line) → u < node_count s.topology → NamesPorts (by_label s u) table
-    → All (λ (m : Line). IfSome m.port (λ p. p < length (ports_of s.topology u))) table
+pub ports_in : (s : Plan) → IsPlan s → (u : ℕ) (table : List TableLine) → u < node_count s.topology → NamesPorts (by_label s u) table
+    → All (λ (m : TableLine). IfSome m.port (λ p. p < length (ports_of s.topology u))) table
 ports_in s is u table u_in named = λ k e h. by (get_or table k e).port (named k e h)
   where
     by : (o : Option ℕ) → ((p : ℕ) → o ≡ Some p → (d : ℕ) × (port_to (by_label s u) d ≡ Some p)) → IfSome o (λ p. p < length (ports_of s.topology u))

@@ -7,7 +7,7 @@ use Rattle.ir_model.specs.Plan.{Plan, IsPlan, label_in, table_port, by_label}
 use Rattle.ir_plan.proofs.Standing.{row_destinations}
 use Rattle.ir_prefix.specs.Longest.{IsWidth}
 use Rattle.ir_prefix.specs.Forwarding.{AreLongestFirst, IsDisjointTable, IsFewestDisjoint, IsFewestLines, IsForwardingTable, IsWellFormed, KeepsMatches, NamesPorts}
-use Rattle.ir_prefix.specs.declared.line.Line.{Line}
+use Rattle.ir_prefix.specs.declared.line.TableLine.{TableLine}
 use Rattle.ir_exports.specs.Tables.{AreDisjointLines, AreNestedLines}
 
 -- one more port
@@ -25,7 +25,7 @@ are_destinations s is u n own ports u_in nodes label by =
     (subst (λ (a : ℕ). IsDestinations (node_count s.topology) a ports) (sym label)
     (subst (λ (ps : List (Option ℕ)). IsDestinations (node_count s.topology) (label_in s u) ps) (sym by) (row_destinations s is u u_in)))
 
-pub nested_from : (s : Plan) (u n : ℕ) (ports : List (Option ℕ)) (table : List Line) → n ≡ node_count s.topology → ports ≡ by_label s u
+pub nested_from : (s : Plan) (u n : ℕ) (ports : List (Option ℕ)) (table : List TableLine) → n ≡ node_count s.topology → ports ≡ by_label s u
     → ((b : ℕ) → IsWidth n b → IsWellFormed b table) → ((b : ℕ) → IsWidth n b → IsForwardingTable n b ports table) → ((b : ℕ) → IsWidth n b → IsFewestLines n b ports (length table))
     → NamesPorts ports table → AreLongestFirst table → ((b : ℕ) → KeepsMatches b table)
     → (b : ℕ) → IsWidth (node_count s.topology) b → AreNestedLines s b u table
@@ -41,7 +41,7 @@ nested_from s u n ports table nodes by well forwards fewest named order loads = 
       loads = loads b;
     }
 
-pub disjoint_from : (s : Plan) (u n : ℕ) (ports : List (Option ℕ)) (table : List Line) → n ≡ node_count s.topology → ports ≡ by_label s u
+pub disjoint_from : (s : Plan) (u n : ℕ) (ports : List (Option ℕ)) (table : List TableLine) → n ≡ node_count s.topology → ports ≡ by_label s u
     → ((b : ℕ) → IsWidth n b → IsWellFormed b table) → ((b : ℕ) → IsWidth n b → IsDisjointTable n b ports table) → ((b : ℕ) → IsWidth n b → IsFewestDisjoint n b ports (length table))
     → NamesPorts ports table → AreLongestFirst table
     → (b : ℕ) → IsWidth (node_count s.topology) b → AreDisjointLines s b u table

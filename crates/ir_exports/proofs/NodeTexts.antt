@@ -10,7 +10,7 @@ use Rattle.ir_model.specs.Graph.{Name}
 use Rattle.ir_model.specs.Topology.{node_count}
 use Rattle.ir_model.specs.Plan.{Plan}
 use Rattle.ir_prefix.specs.Longest.{IsWidth}
-use Rattle.ir_prefix.specs.declared.line.Line.{Line}
+use Rattle.ir_prefix.specs.declared.line.TableLine.{TableLine}
 use Rattle.ir_show.specs.Words.{line_text}
 use Rattle.ir_exports.specs.declared.threads.NodeText.{NodeText}
 use Rattle.ir_exports.specs.Before.{AreWritten}
@@ -21,7 +21,7 @@ use Rattle.ir_exports.proofs.Entries.{node_long}
 
 -- tables by which the texts are those of the nodes from u on
 record Told (is_disjoint : Bool) (nodes : List Name) (s : Plan) (u : ℕ) (made : List NodeText) : Type 0 where
-  tables : List (List Line)
+  tables : List (List TableLine)
   every : length tables ≡ length made
   each : (i : ℕ) → i < length made → (bits : ℕ) → IsWidth (node_count s.topology) bits → AreLinesOf is_disjoint s bits (u + i) (slice_index_or tables i [])
   sum : sum_by length tables ≡ sum_by lines_of made
@@ -50,13 +50,13 @@ module _ (is_disjoint : Bool) (nodes : List Name) (s : Plan) where
           tables = first.table ∷ rest.tables;
           every = ap suc rest.every;
           each = at first.table first.are rest.tables rest.each;
-          sum = sum_by-cons (λ (t : List Line). length t) first.table rest.tables ∙ ap (λ (n : ℕ). n + sum_by length rest.tables) first.count
+          sum = sum_by-cons (λ (t : List TableLine). length t) first.table rest.tables ∙ ap (λ (n : ℕ). n + sum_by length rest.tables) first.count
               ∙ ap (λ (n : ℕ). one.lines + n) rest.sum ∙ sym (sum_by-cons lines_of one made);
           whole = ap (λ (t : List ℕ). t ++ flat_map bytes_of made) first.whole ∙ ap (λ (t : List ℕ). line_text (prefix_node_words nodes s u first.table) ++ t) rest.whole;
         },
       )
     where
-      at : (table : List Line) → ((bits : ℕ) → IsWidth (node_count s.topology) bits → AreLinesOf is_disjoint s bits u table) → (tables : List (List Line))
+      at : (table : List TableLine) → ((bits : ℕ) → IsWidth (node_count s.topology) bits → AreLinesOf is_disjoint s bits u table) → (tables : List (List TableLine))
           → ((i : ℕ) → i < length made → (bits : ℕ) → IsWidth (node_count s.topology) bits → AreLinesOf is_disjoint s bits (u + 1 + i) (slice_index_or tables i []))
           → (i : ℕ) → i < suc (length made) → (bits : ℕ) → IsWidth (node_count s.topology) bits → AreLinesOf is_disjoint s bits (u + i) (slice_index_or (table ∷ tables) i [])
       at table are tables later zero lt bits width = let e : u ≡ u + 0 = omega arith in subst (λ (v : ℕ). AreLinesOf is_disjoint s bits v table) e (are bits width)

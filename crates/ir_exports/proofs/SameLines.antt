@@ -5,16 +5,16 @@ use Rattle.ir_model.specs.Graph.{Name}
 use Rattle.ir_model.specs.Topology.{node_count}
 use Rattle.ir_model.specs.Plan.{Plan}
 use Rattle.ir_prefix.proofs.Final.{same_width}
-use Rattle.ir_prefix.specs.declared.line.Line.{Line}
+use Rattle.ir_prefix.specs.declared.line.TableLine.{TableLine}
 use Rattle.ir_exports.specs.PrefixesText.{IsPrefixesOf, prefixes_text}
 use Rattle.ir_exports.specs.Tables.{AreLinesOf, AreTablesOf}
 
-few_enough : (is_disjoint : Bool) (s : Plan) (bits u : ℕ) (a b : List Line) → AreLinesOf is_disjoint s bits u a → AreLinesOf is_disjoint s bits u b → length a ≤ length b
+few_enough : (is_disjoint : Bool) (s : Plan) (bits u : ℕ) (a b : List TableLine) → AreLinesOf is_disjoint s bits u a → AreLinesOf is_disjoint s bits u b → length a ≤ length b
 few_enough false s bits u a b x y = x.fewest b y.forwards
 few_enough true s bits u a b x y = x.fewest b y.disjoint
 
 -- lists whose places have lists of equal lengths
-same_lengths : (a b : List (List Line)) → length a ≡ length b → ((k : ℕ) → k < length a → length (slice_index_or a k []) ≡ length (slice_index_or b k [])) → map length a ≡ map length b
+same_lengths : (a b : List (List TableLine)) → length a ≡ length b → ((k : ℕ) → k < length a → length (slice_index_or a k []) ≡ length (slice_index_or b k [])) → map length a ≡ map length b
 same_lengths [] [] e same = refl
 same_lengths [] (y ∷ ys) e same = absurd (omega (arith, e))
 same_lengths (x ∷ xs) [] e same = absurd (omega (arith, e))

@@ -9,7 +9,7 @@ use Rattle.ir_model.specs.Compiled.{port_to}
 use Rattle.ir_model.specs.Plan.{Plan, IsPlan, label_in, node_in, table_port, by_label}
 use Rattle.ir_plan.proofs.Standing.{row_destinations}
 use Rattle.ir_prefix.specs.Forwarding.{HoldsNumber, IsMatch, SendsBy}
-use Rattle.ir_prefix.specs.declared.line.Line.{Line}
+use Rattle.ir_prefix.specs.declared.line.TableLine.{TableLine}
 use Rattle.ir_prefix.proofs.DisjointLemmas.{same_line, line_port}
 use Rattle.ir_exports.specs.Sent.{end_of, GoesAllTheWay, KeepsToWalk}
 use Rattle.ir_exports.specs.Tables.{AreTablesOf}
@@ -56,7 +56,7 @@ module _ (s : Plan) (is : IsPlan s) where
         | inr le ↦ inr (λ y y_in e. let label = is.labels.label y y_in in absurd (omega (arith, label, e, le)))
       ]
 
-  module _ (bits : ℕ) (tables : List (List Line)) where
+  module _ (bits : ℕ) (tables : List (List TableLine)) where
     -- by its lines each node sends a number on by the table's port
     sends : AreTablesOf false s bits tables → (x u : ℕ) → x < 2 ^ bits → u < node_count s.topology → label_in s u ≢ x → SendsBy bits (slice_index_or tables u []) x (table_port s u (end_of s x))
     sends are x u x_in u_in other =
@@ -84,14 +84,14 @@ module _ (s : Plan) (is : IsPlan s) where
 
     module _ (are : AreTablesOf true s bits tables) (x : ℕ) (x_in : x < node_count s.topology) where
       -- of disjoint lines one that holds a label has the table's port
-      one_port : (u : ℕ) (m : Line) → u < node_count s.topology → label_in s u ≢ x → Contains (slice_index_or tables u []) m → HoldsNumber bits m x → m.port ≡ table_port s u (end_of s x)
+      one_port : (u : ℕ) (m : TableLine) → u < node_count s.topology → label_in s u ≢ x → Contains (slice_index_or tables u []) m → HoldsNumber bits m x → m.port ≡ table_port s u (end_of s x)
       one_port u m u_in other member holds =
           let row = row_destinations s is u u_in in
           let p = port_held u x u_in x_in other in
           line_port bits (node_count s.topology) (by_label s u) row.every (slice_index_or tables u []) (are.each u u_in).disjoint m member x p.0 p.1 holds
           ∙ (sym p.1 ∙ port_at_label u x x_in ∙ ap (table_port s u) (sym (end_at_label x x_in)))
 
-      one_match : (u : ℕ) → u < node_count s.topology → label_in s u ≢ x → (m : Line) × IsMatch bits (slice_index_or tables u []) x m
+      one_match : (u : ℕ) → u < node_count s.topology → label_in s u ≢ x → (m : TableLine) × IsMatch bits (slice_index_or tables u []) x m
       one_match u u_in other =
           let table = slice_index_or tables u [] in
           let row = row_destinations s is u u_in in
@@ -104,15 +104,15 @@ module _ (s : Plan) (is : IsPlan s) where
               holds = w.2;
               longest = λ k e l holds.
                   let same : get_or table k e ≡ w.0 = same_line bits (node_count s.topology) (by_label s u) row.every table d x (get_or table k e) w.0 (Contains-get_or table k e l) w.1 holds w.2 in
-                  let lengths : (get_or table k e).length ≡ w.0.length = ap (λ (o : Line). o.length) same in
+                  let lengths : (get_or table k e).length ≡ w.0.length = ap (λ (o : TableLine). o.length) same in
                   omega (arith, lengths);
             },
           )
 
-      pub disjoint_keep : (lines : ℕ → List Line) → ((u : ℕ) → All (λ (m : Line). Contains (slice_index_or tables u []) m) (lines u)) → KeepsToWalk s bits lines x (end_of s x)
+      pub disjoint_keep : (lines : ℕ → List TableLine) → ((u : ℕ) → All (λ (m : TableLine). Contains (slice_index_or tables u []) m) (lines u)) → KeepsToWalk s bits lines x (end_of s x)
       disjoint_keep lines part =
           keeps_to_walk s is bits x (end_of s x) (end_in x) lines
-          (λ u m u_in other match. one_port u m u_in other (All-contains (λ (o : Line). Contains (slice_index_or tables u []) o) (lines u) m (part u) match.member) match.holds)
+          (λ u m u_in other match. one_port u m u_in other (All-contains (λ (o : TableLine). Contains (slice_index_or tables u []) o) (lines u) m (part u) match.member) match.holds)
 
       pub disjoint_go : GoesAllTheWay s bits (λ u. slice_index_or tables u []) x (end_of s x)
       disjoint_go =

@@ -5,7 +5,7 @@ use Rattle.ir_model.specs.Topology.{node_count}
 use Rattle.ir_model.specs.Row.{Start, labels}
 use Rattle.ir_model.specs.Plan.{Plan}
 use Rattle.ir_prefix.specs.Longest.{IsWidth}
-use Rattle.ir_prefix.specs.declared.line.Line.{Line}
+use Rattle.ir_prefix.specs.declared.line.TableLine.{TableLine}
 use Rattle.ir_exports.specs.Tables.{AreLinesOf}
 use Rattle.ir_exports.specs.PrefixesText.{nodes_text}
 
@@ -17,7 +17,7 @@ pub record AreBelow (row : List Start) (label count : ℕ) : Type 0 where
 
 -- Behind a text stand the lines of the first so many nodes, this many in all.
 pub record AreWritten (is_disjoint : Bool) (nodes : List Name) (plan : Plan) (count lines : ℕ) (before after : List ℕ) : Type 0 where
-  pub tables : List (List Line)
+  pub tables : List (List TableLine)
   pub every : length tables ≡ count
   pub each : (u : ℕ) → u < count → (bits : ℕ) → IsWidth (node_count plan.topology) bits → AreLinesOf is_disjoint plan bits u (slice_index_or tables u [])
   pub sum : sum_by length tables ≡ lines

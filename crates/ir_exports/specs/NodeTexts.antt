@@ -5,7 +5,7 @@ use Rattle.ir_model.specs.Graph.{Name}
 use Rattle.ir_model.specs.Topology.{node_count}
 use Rattle.ir_model.specs.Plan.{Plan}
 use Rattle.ir_prefix.specs.Longest.{IsWidth}
-use Rattle.ir_prefix.specs.declared.line.Line.{Line}
+use Rattle.ir_prefix.specs.declared.line.TableLine.{TableLine}
 use Rattle.ir_show.specs.Words.{line_text}
 use Rattle.ir_exports.specs.declared.threads.NodeText.{NodeText}
 use Rattle.ir_exports.specs.PrefixesText.{prefix_node_words}
@@ -19,7 +19,7 @@ lines_of made = made.lines
 
 -- It is the line of text of the node u, whose table has so many lines.
 pub record IsNodeText (is_disjoint : Bool) (nodes : List Name) (plan : Plan) (u : ℕ) (made : NodeText) : Type 0 where
-  pub table : List Line
+  pub table : List TableLine
   pub are : (bits : ℕ) → IsWidth (node_count plan.topology) bits → AreLinesOf is_disjoint plan bits u table
   pub count : length table ≡ made.lines
   pub whole : string_bytes made.text ≡ line_text (prefix_node_words nodes plan u table)

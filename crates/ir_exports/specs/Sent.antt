@@ -5,7 +5,7 @@ use Rattle.ir_model.specs.Topology.{node_count, port_at}
 use Rattle.ir_model.specs.Table.{IsPrescribedWalk}
 use Rattle.ir_model.specs.Plan.{Plan, label_in, node_in, table_port}
 use Rattle.ir_prefix.specs.Forwarding.{IsMatch}
-use Rattle.ir_prefix.specs.declared.line.Line.{Line}
+use Rattle.ir_prefix.specs.declared.line.TableLine.{TableLine}
 
 -- the node to which a number is sent: that with the label, and for numbers beyond the labels that with the last one
 abbrev pub end_of : Plan → ℕ → ℕ
@@ -13,33 +13,33 @@ end_of plan x = node_in plan (if nat_lt x (node_count plan.topology) then x else
 
 -- What is sent to x goes on from u to v: u has another label, and a longest match of x in u's lines names the port to
 -- v.
-pub record IsSentOn (plan : Plan) (bits : ℕ) (lines : ℕ → List Line) (x u v : ℕ) : Type 0 where
+pub record IsSentOn (plan : Plan) (bits : ℕ) (lines : ℕ → List TableLine) (x u v : ℕ) : Type 0 where
   pub other : label_in plan u ≢ x
-  pub line : Line
+  pub line : TableLine
   pub match : IsMatch bits (lines u) x line
   pub port : ℕ
   pub by : line.port ≡ Some port
   pub to : option_map (λ (hop : Hop). hop.node) (port_at plan.topology u port) ≡ Some v
 
 -- from u on it goes through these nodes
-abbrev pub GoesThrough : Plan → ℕ → (ℕ → List Line) → ℕ → ℕ → List ℕ → Type 0
+abbrev pub GoesThrough : Plan → ℕ → (ℕ → List TableLine) → ℕ → ℕ → List ℕ → Type 0
 GoesThrough plan bits lines x u [] = Unit {0}
 GoesThrough plan bits lines x u (v ∷ rest) = IsSentOn plan bits lines x u v × GoesThrough plan bits lines x v rest
 
 -- behind these nodes it goes on to no node
-abbrev pub EndsAfter : Plan → ℕ → (ℕ → List Line) → ℕ → ℕ → List ℕ → Type 0
+abbrev pub EndsAfter : Plan → ℕ → (ℕ → List TableLine) → ℕ → ℕ → List ℕ → Type 0
 EndsAfter plan bits lines x u [] = (v : ℕ) → IsSentOn plan bits lines x u v → ⊥
 EndsAfter plan bits lines x u (v ∷ rest) = EndsAfter plan bits lines x v rest
 
 -- wherever it is sent from, the nodes that it goes through are the first ones of the walk that is prescribed to this
 -- end
-abbrev pub KeepsToWalk : Plan → ℕ → (ℕ → List Line) → ℕ → ℕ → Type 0
+abbrev pub KeepsToWalk : Plan → ℕ → (ℕ → List TableLine) → ℕ → ℕ → Type 0
 KeepsToWalk plan bits lines x d =
     (u : ℕ) (rest : List ℕ) → u < node_count plan.topology → GoesThrough plan bits lines x u rest
     → (more : List ℕ) × IsPrescribedWalk plan.topology (table_port plan) u d (u ∷ rest ++ more)
 
 -- wherever it is sent from, it can go the prescribed walk, and where it ends it has gone all of it
-pub record GoesAllTheWay (plan : Plan) (bits : ℕ) (lines : ℕ → List Line) (x d : ℕ) : Type 0 where
+pub record GoesAllTheWay (plan : Plan) (bits : ℕ) (lines : ℕ → List TableLine) (x d : ℕ) : Type 0 where
   pub goes : (u : ℕ) (rest : List ℕ) → u < node_count plan.topology → IsPrescribedWalk plan.topology (table_port plan) u d (u ∷ rest) → GoesThrough plan bits lines x u rest
   pub ends : (u : ℕ) (rest : List ℕ) → u < node_count plan.topology → GoesThrough plan bits lines x u rest → EndsAfter plan bits lines x u rest
       → IsPrescribedWalk plan.topology (table_port plan) u d (u ∷ rest)

@@ -1,7 +1,7 @@
 //! Laws of the tables, each the contract of a function with an empty body.
 ghost use Rattle.std.specs.Prelude.{◌≡◌, ◌<◌, ◌^◌, ℕ, All, Bool, Contains, List, [], false, length, map, slice_index_or, take, true};
 ghost use Rattle.ir_model.specs.{Graph.Name, Topology.node_count, Plan.{IsPlan, Plan}};
-ghost use Rattle.ir_prefix.specs.declared.line.Line.{Line};
+ghost use Rattle.ir_prefix.specs.declared.line.TableLine.{TableLine};
 ghost use Rattle.ir_exports.specs.{PrefixesText.IsPrefixesOf, Sent.{end_of, GoesAllTheWay, KeepsToWalk}};
 ghost use Rattle.ir_exports.specs.Tables.{AreTablesOf};
 
@@ -9,7 +9,7 @@ ghost use Rattle.ir_exports.specs.Tables.{AreTablesOf};
 /// the nodes that it goes through are the first ones of the prescribed walk to the node with that label; for a number
 /// beyond the labels to the node with the last one.
 pub fn beginnings_of_lines_keep_to_walks()
-    ensures { (plan : Plan) (bits : ℕ) (tables : List (List Line)) (counts : ℕ → ℕ) (x : ℕ) → IsPlan plan
+    ensures { (plan : Plan) (bits : ℕ) (tables : List (List TableLine)) (counts : ℕ → ℕ) (x : ℕ) → IsPlan plan
         → AreTablesOf false plan bits tables → x < 2 ^ bits
         → KeepsToWalk plan bits (λ u. take (counts u) (slice_index_or tables u [])) x (end_of plan x) }
 {}
@@ -17,8 +17,8 @@ pub fn beginnings_of_lines_keep_to_walks()
 /// Where each node has any of its disjoint lines, what is sent to a label goes through the first nodes of the
 /// prescribed walk to the node with that label.
 pub fn disjoint_lines_keep_to_walks()
-    ensures { (plan : Plan) (bits : ℕ) (tables : List (List Line)) (lines : ℕ → List Line) (x : ℕ) → IsPlan plan
-        → AreTablesOf true plan bits tables
+    ensures { (plan : Plan) (bits : ℕ) (tables : List (List TableLine)) (lines : ℕ → List TableLine) (x : ℕ)
+        → IsPlan plan → AreTablesOf true plan bits tables
         → ((u : ℕ) → All (λ m. Contains (slice_index_or tables u []) m) (lines u))
         → x < node_count plan.topology → KeepsToWalk plan bits lines x (end_of plan x) }
 {}
@@ -27,10 +27,10 @@ pub fn disjoint_lines_keep_to_walks()
 /// that label; where they are not disjoint, what is sent to a number beyond the labels goes all the way to the node
 /// with the last one.
 pub fn lines_go_all_the_way()
-    ensures labels { (is_disjoint : Bool) (plan : Plan) (bits : ℕ) (tables : List (List Line)) (x : ℕ) → IsPlan plan
-        → AreTablesOf is_disjoint plan bits tables → x < node_count plan.topology
+    ensures labels { (is_disjoint : Bool) (plan : Plan) (bits : ℕ) (tables : List (List TableLine)) (x : ℕ)
+        → IsPlan plan → AreTablesOf is_disjoint plan bits tables → x < node_count plan.topology
         → GoesAllTheWay plan bits (λ u. slice_index_or tables u []) x (end_of plan x) }
-    ensures beyond { (plan : Plan) (bits : ℕ) (tables : List (List Line)) (x : ℕ) → IsPlan plan
+    ensures beyond { (plan : Plan) (bits : ℕ) (tables : List (List TableLine)) (x : ℕ) → IsPlan plan
         → AreTablesOf false plan bits tables → x < 2 ^ bits
         → GoesAllTheWay plan bits (λ u. slice_index_or tables u []) x (end_of plan x) }
 {}

@@ -9,7 +9,7 @@ ghost use Rattle.ir_exports.specs.PrefixesText.{entry_words, prefixes_head, pref
 use crate::table::table_of;
 use ir_graph::Graph;
 use ir_plan::Plan;
-use ir_prefix::{Line, width};
+use ir_prefix::{TableLine, width};
 use ir_show::plan_text::kind_text;
 use ir_trace::text::{name_of, push_name, push_next_number, push_word};
 use std::alloc::{AllocError, Global};
@@ -20,7 +20,7 @@ fn push_entry(
     graph: &Graph,
     plan: &Plan,
     u: u16,
-    line: &Line,
+    line: &TableLine,
 ) -> Result<(), AllocError>
     requires nodes { node_count plan.now.topology ≡ length graph.now }
     requires plan { IsPlan plan.now }
@@ -29,7 +29,7 @@ fn push_entry(
     ensures { OnOk result (string_bytes text.new ≡ string_bytes text.old
         ++ flat_map spaced (entry_words (names graph.now) plan.now.topology u line.now)) }
 {
-    let Line {
+    let TableLine {
         value,
         length,
         port,
@@ -48,7 +48,7 @@ fn push_entries(
     graph: &Graph,
     plan: &Plan,
     u: u16,
-    table: &[Line],
+    table: &[TableLine],
 ) -> Result<(), AllocError>
     requires nodes { node_count plan.now.topology ≡ length graph.now }
     requires plan { IsPlan plan.now }
@@ -70,7 +70,7 @@ pub fn push_node(
     graph: &Graph,
     plan: &Plan,
     u: u16,
-    table: &[Line],
+    table: &[TableLine],
 ) -> Result<(), AllocError>
     requires nodes { node_count plan.now.topology ≡ length graph.now }
     requires plan { IsPlan plan.now }

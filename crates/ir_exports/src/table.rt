@@ -6,7 +6,7 @@ ghost use Rattle.ir_exports.specs.{Before.AreBelow, Tables.AreLinesOf};
 
 use ir_lookup::Row;
 use ir_plan::Plan;
-use ir_prefix::{Line, disjoint_lines, forwarding_lines};
+use ir_prefix::{TableLine, disjoint_lines, forwarding_lines};
 use std::alloc::{AllocError, Global};
 
 /// The ports of a node to each label, by one walk along its row.
@@ -67,7 +67,7 @@ pub fn table_of(
     plan: &Plan,
     u: u16,
     is_disjoint: bool,
-) -> Result<Vec<Line>, AllocError>
+) -> Result<Vec<TableLine>, AllocError>
     requires { u < node_count plan.now.topology }
     ensures lines { IfOk result (λ table. (bits : ℕ) → IsWidth (node_count plan.now.topology) bits
         → AreLinesOf is_disjoint plan.now bits u table.items) }

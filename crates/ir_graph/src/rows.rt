@@ -80,21 +80,22 @@ pub fn cut_neighbor(rows: &mut Rows, at: usize, name: &str)
 }
 
 /// Puts each of two nodes, at their places, into the row of the other.
-pub fn join_rows(
+fn join_rows(
     alloc: Global,
     rows: &mut Rows,
-    i: usize,
-    j: usize,
+    places: (usize, usize),
     u: &str,
     v: &str,
     weight: u32,
 ) -> Result<(), AllocError>
-    requires first { i < length (rows_view rows.old) }
-    requires second { j < length (rows_view rows.old) }
-    requires apart { IfSome (slice_get (rows_view rows.old) i) (λ r. lookup (bytes_eq v.now) r.1 ≡ None) }
-    ensures ok { OnOk result (rows_view rows.new ≡ linked_rows (rows_view rows.old) i j u.now v.now weight) }
+    requires first { places.0 < length (rows_view rows.old) }
+    requires second { places.1 < length (rows_view rows.old) }
+    requires apart { IfSome (slice_get (rows_view rows.old) places.0) (λ r. lookup (bytes_eq v.now) r.1 ≡ None) }
+    ensures ok { OnOk result (rows_view rows.new
+        ≡ linked_rows (rows_view rows.old) places.0 places.1 u.now v.now weight) }
     ensures err { OnErr result (rows_view rows.new ≡ rows_view rows.old) }
 {
+    let (i, j) = places;
     put_neighbor(alloc, rows, i, v, weight)?;
     if i != j
         && let Err(error) = put_neighbor(alloc, rows, j, u, weight)
@@ -136,7 +137,7 @@ fn extend_link(
 {
     let i = place(alloc, rows, u)?;
     let j = place(alloc, rows, v)?;
-    join_rows(alloc, rows, i, j, u, v, weight)?;
+    join_rows(alloc, rows, (i, j), u, v, weight)?;
     Ok(())
 }
 
@@ -265,7 +266,7 @@ pub fn drop_row(rows: &mut Rows, name: &str)
     ensures dropped { rows_view rows.new ≡ without_node (rows_view rows.old) name.now }
     ensures differ { IsDistinct bytes_eq (names (rows_view rows.old)) }
 {
-    let _place = row_index(rows, name);
+    row_index(rows, name);
     rows.shift_remove(name);
     for i in 0..rows.len() {
         cut_neighbor(rows, i, name);

@@ -9,8 +9,8 @@ use ir_graph::Graph;
 use ir_model::Kind;
 use ir_numbering::{Numbering, is_order};
 use ir_plan::{
-    Alone, Crew, LabelOrder, Labels, Plan, PlanError, Several, Unwatched, columns_in_threads,
-    distances_in_threads, rows_in_threads,
+    Alone, Crew, LabelOrder, Labels, Makers, Plan, PlanError, Several, Unwatched,
+    columns_in_threads, distances_in_threads, rows_in_threads,
 };
 use ir_tables::Topology;
 use std::alloc::Global;
@@ -252,8 +252,12 @@ fn distances_of_each_two_nodes(rt: HostRuntime) {
 fn starts_of_rows(rt: &(impl Threads + Sync), alloc: Global, nodes: u16) -> Option<usize> {
     let topology = chain(alloc, nodes)?;
     let numbers = Numbering::depth_first(alloc, &topology, 5).ok()?;
-    let (kind, most) = (Kind::Shortest, Some(2));
-    let rows = rows_in_threads(rt, alloc, &topology, &numbers, kind, most, &Unwatched).ok()?;
+    let makers = Makers {
+        rt,
+        most: Some(2),
+        watch: &Unwatched,
+    };
+    let rows = rows_in_threads(makers, alloc, &topology, &numbers, Kind::Shortest).ok()?;
     let mut starts = 0usize;
     for row in &rows {
         starts = starts.saturating_add(row.len());

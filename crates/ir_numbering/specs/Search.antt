@@ -34,3 +34,7 @@ pub record ArePassed (net : Topology) (marks : List Bool) (passed : List ℕ) : 
 -- no walk leads from u to v
 abbrev pub IsCutOff : Topology → ℕ → ℕ → Type 0
 IsCutOff net u v = (walk : List ℕ) → IsWalk net u v walk → ⊥
+
+-- some node is cut off from the root
+abbrev pub IsOneCutOff : Topology → ℕ → Type 0
+IsOneCutOff topology root = (v : ℕ) × (v < node_count topology) × IsCutOff topology root v

@@ -1,6 +1,7 @@
 ghost use Rattle.std.specs.Prelude.{◌≡◌, ◌<◌, ◌≤◌, ℕ, length, All, IfOk, IfSome, MatchOption, map, slice_set, true};
 ghost use Rattle.ir_model.specs.{declared.Hop.Hop, Topology.node_count, Numbering.{neighbors_of, IsDepthFirst}};
-ghost use Rattle.ir_numbering.specs.Search.{IsFirstUnmarked, IsUnmarkedAt, AllMarked, FirstMarked, ArePassed, IsCutOff};
+ghost use Rattle.ir_numbering.specs.Search.{IsFirstUnmarked, IsUnmarkedAt, AllMarked, FirstMarked, ArePassed};
+ghost use Rattle.ir_numbering.specs.Search.{IsOneCutOff};
 
 use ir_tables::{Hop, Topology};
 use std::alloc::{AllocError, Global};
@@ -18,8 +19,8 @@ pub fn search(alloc: Global, topology: &Topology, root: u16) -> Result<Order, Al
     ensures all { IfOk result (λ order. node_count topology.now ≤ length order.nodes.items
         → IsDepthFirst (neighbors_of topology.now)
         (node_count topology.now) root order.nodes.items order.parents.items) }
-    ensures some { IfOk result (λ order. length order.nodes.items < node_count topology.now → (v : ℕ)
-        × (v < node_count topology.now) × IsCutOff topology.now root v) }
+    ensures some { IfOk result (λ order. length order.nodes.items < node_count topology.now
+        → IsOneCutOff topology.now root) }
 {
     let n = topology.nodes();
     let mut marked = vec![in alloc; false; n]?;

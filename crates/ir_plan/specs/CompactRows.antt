@@ -6,6 +6,7 @@ use Rattle.ir_model.specs.Choices.{FitsChoices, IsFewestOfChoices}
 use Rattle.ir_model.specs.Plan.{Plan, label_in}
 use Rattle.ir_model.specs.Compact.{IsTied}
 use Rattle.ir_model.specs.Table.{LeadsNearer}
+use Rattle.ir_model.proofs.Steps.{AreLongest}
 
 -- the intervals give each label but that of u a port that leads nearer to its node
 abbrev pub FitsTied : Plan → ℕ → List PortInterval → Type 0
@@ -28,3 +29,7 @@ pub record AreMarksOf (n : ℕ) (order nodes : List ℕ) (row : List Bool) : Typ
 -- the label d is that of a node, and the port p of the node with the label a leads nearer to it
 abbrev pub MayTake : Topology → List ℕ → ℕ → ℕ → ℕ → Type 0
 MayTake topology order a d p = (d < node_count topology) × IsTied topology order a d p
+
+-- for each label the longest run of one port from it on, at the node with the label a, and the least such port
+abbrev pub AreLongestRuns : Topology → List ℕ → ℕ → List ℕ → List ℕ → Type 0
+AreLongestRuns topology order a counts ports = AreLongest (node_count topology) a (MayTake topology order a) counts ports

@@ -8,6 +8,7 @@ use Rattle.ir_model.specs.Row.{Start}
 use Rattle.ir_model.specs.Compiled.{port_to, IsDestinations, IsCanonical}
 use Rattle.ir_model.specs.Choices.{AreChoices, AreChosen}
 use Rattle.ir_model.specs.Compact.{IsTied}
+use Rattle.ir_numbering.specs.Numbering.{Numbering}
 use Rattle.ir_numbering.specs.Cells.{AreTreeCells}
 
 -- the least ports that lead nearer, by label, of the node with the label a
@@ -38,3 +39,8 @@ pub record AreNodeRows (kind : Kind) (topology : Topology) (order parents labels
 pub record AreRowsFrom (kind : Kind) (topology : Topology) (order parents labels : List ℕ) (first most : ℕ) (rows : List (List Start)) : Type 0 where
   pub every : length rows ≡ min most (node_count topology - first)
   pub each : (k : ℕ) → k < length rows → IsNodeRow kind topology order parents (slice_index labels (first + k)) (slice_index_or rows k [])
+
+-- the rows of all nodes in the shortest table
+abbrev pub AreShortestRows : Topology → Numbering → List (List Start) → Type 0
+AreShortestRows topology numbers rows =
+    AreNodeRows Shortest topology numbers.order numbers.parents numbers.labels (node_count topology) rows

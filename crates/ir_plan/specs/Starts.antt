@@ -2,7 +2,7 @@
 use Rattle.std.specs.Prelude.{◌≡◌, ◌≢◌, ℕ, ◌<◌, ◌≤◌, length, sum_by}
 use Rattle.ir_model.specs.declared.Kind.TheVariants.{Tree}
 use Rattle.ir_model.specs.Topology.{node_count}
-use Rattle.ir_model.specs.Plan.{Plan, IsPlan, HasDepthFirst}
+use Rattle.ir_model.specs.Plan.{Plan, IsPlan, HasDepthFirst, table_port}
 use Rattle.ir_plan.specs.Tour.{IsTour}
 use Rattle.ir_plan.specs.declared.tour.LabelOrder.{LabelOrder}
 use Rattle.ir_plan.specs.declared.tour.LabelOrder.TheVariants.{DepthFirst, Tour}
@@ -38,3 +38,7 @@ IsToured plan = (plan.kind ≢ Tree) × (node_count plan.topology ≤ 4096)
 abbrev pub IsLabelledBy : LabelOrder → Plan → Type 0
 IsLabelledBy DepthFirst plan = HasDepthFirst plan
 IsLabelledBy Tour plan = (IsToured plan → HasFewerOfTwo plan) × ((IsToured plan → ⊥) → HasDepthFirst plan)
+
+-- two plans over n nodes have the same table
+abbrev pub HaveSameTable : ℕ → Plan → Plan → Type 0
+HaveSameTable n p q = (u d : ℕ) → u < n → d < n → table_port p u d ≡ table_port q u d

@@ -10,7 +10,7 @@ ghost use Rattle.ir_plan.specs.Building.{ByList, FromRoot, IsPlanBy, MayLabel, R
 use crate::crew::{Alone, Crew};
 use crate::error::PlanError;
 use crate::plan::Plan;
-use crate::tour::{LabelOrder, rooted_plan};
+use crate::tour::{LabelOrder, plan_with_fewer};
 use ir_model::Kind;
 use ir_numbering::Numbering;
 use ir_tables::Topology;
@@ -72,7 +72,15 @@ impl Plan {
     {
         match labels {
             Labels::FromRoot(order, root) => {
-                rooted_plan(crew, alloc, topology, kind, order, root, most)
+                let plan = match depth_first_plan(crew, alloc, topology, kind, root, most) {
+                    Ok(plan) => plan,
+                    Err(refusal) => return Err(refusal),
+                };
+                match plan_with_fewer(crew, alloc, &plan, order, most) {
+                    Ok(Some(tour)) => Ok(tour),
+                    Ok(None) => Ok(plan),
+                    Err(_) => Err((PlanError::NoMemory, plan.into_topology())),
+                }
             }
             Labels::Listed(list) => listed_plan(crew, alloc, topology, kind, list, most),
         }
@@ -168,6 +176,6 @@ pub fn numbering_by(
     ensures others { IfErr result (λ e. (e ≢ PlanError.Empty) × (e ≢ PlanError.NoNode)) }
 {
     topology.invariant();
-    let _depth_first = numbering_of(alloc, topology, order[0])?;
+    numbering_of(alloc, topology, order[0])?;
     Ok(Numbering::listed(alloc, order)?)
 }

@@ -3,14 +3,14 @@
 ghost use Rattle.std.specs.Prelude.{◌≡◌, ◌<◌, ◌≤◌, ℕ, Contains, IfOk, IfSome, OnOk, length, slice_index};
 ghost use Rattle.ir_model.specs.{declared.Kind.TheVariants.Compact, Topology.{node_count, ports_of}, Walk.IsConnected};
 ghost use Rattle.ir_model.specs.{Choices.AreChoices, Compact.IsTied, Plan.AreLabels};
-ghost use Rattle.ir_model.proofs.Steps.{AreLongest};
 ghost use Rattle.ir_tables.specs.FromNode.{AreFrom};
 ghost use Rattle.ir_compile.specs.Runs.{HasMarked};
-ghost use Rattle.ir_plan.specs.{NodeRows.{IsNodeRow, ArePortsOf}, CompactRows.{AreMarksOf, MayTake}, Ties.AreTies};
+ghost use Rattle.ir_plan.specs.{NodeRows.{IsNodeRow, ArePortsOf}, CompactRows.{AreMarksOf, AreLongestRuns}};
+ghost use Rattle.ir_plan.specs.Ties.{AreTies};
 
 use crate::rows::row_of;
 use crate::ties::Ties;
-use ir_compile::{WORD_PORTS, keep_longer, row_of_longest, runs_by_words};
+use ir_compile::{MarkedPort, WORD_PORTS, keep_longer, row_of_longest, runs_by_words};
 use ir_lookup::Row;
 use ir_numbering::Numbering;
 use ir_tables::{Outward, Topology};
@@ -40,8 +40,8 @@ pub fn compact_row(
     row_of_longest(alloc, nodes, own, counts.as_slice(), ports.as_slice())
 }
 
-// For each label how many labels the longest run of one port from it on has, and the least such port. Each label but that
-// of the node has a port that leads nearer.
+// For each label how many labels the longest run of one port from it on has, and the least such
+// port. Each label but that of the node has a port that leads nearer.
 fn runs_by(
     alloc: Global,
     topology: &Topology,
@@ -55,8 +55,8 @@ fn runs_by(
     requires node { u < node_count topology.now }
     ensures counts { IfOk result (λ made. length made.0.items ≡ node_count topology.now) }
     ensures ports { IfOk result (λ made. length made.1.items ≡ node_count topology.now) }
-    ensures longest { IfOk result (λ made. AreLongest (node_count topology.now) (slice_index numbering.now.labels u)
-        (MayTake topology.now numbering.now.order (slice_index numbering.now.labels u)) made.0.items made.1.items) }
+    ensures longest { IfOk result (λ made. AreLongestRuns topology.now numbering.now.order
+        (slice_index numbering.now.labels u) made.0.items made.1.items) }
     ensures tied { OnOk result (AreChoices (node_count topology.now) (slice_index numbering.now.labels u)
         (IsTied topology.now numbering.now.order (slice_index numbering.now.labels u))) }
 {
@@ -83,8 +83,8 @@ fn marked_runs(
     requires node { u < node_count topology.now }
     ensures counts { IfOk result (λ made. length made.0.items ≡ node_count topology.now) }
     ensures ports { IfOk result (λ made. length made.1.items ≡ node_count topology.now) }
-    ensures longest { IfOk result (λ made. AreLongest (node_count topology.now) (slice_index numbering.now.labels u)
-        (MayTake topology.now numbering.now.order (slice_index numbering.now.labels u)) made.0.items made.1.items) }
+    ensures longest { IfOk result (λ made. AreLongestRuns topology.now numbering.now.order
+        (slice_index numbering.now.labels u) made.0.items made.1.items) }
 {
     topology.invariant();
     if topology.degree(u) > WORD_PORTS {
@@ -107,8 +107,8 @@ fn word_runs(
     requires ports { length (ports_of topology.now u) ≤ 32 }
     ensures counts { IfOk result (λ made. length made.0.items ≡ node_count topology.now) }
     ensures ports { IfOk result (λ made. length made.1.items ≡ node_count topology.now) }
-    ensures longest { IfOk result (λ made. AreLongest (node_count topology.now) (slice_index numbering.now.labels u)
-        (MayTake topology.now numbering.now.order (slice_index numbering.now.labels u)) made.0.items made.1.items) }
+    ensures longest { IfOk result (λ made. AreLongestRuns topology.now numbering.now.order
+        (slice_index numbering.now.labels u) made.0.items made.1.items) }
 {
     let nodes = topology.nodes() as u16;
     let own = numbering.label_of(u);
@@ -129,8 +129,8 @@ fn port_runs(
     requires node { u < node_count topology.now }
     ensures counts { IfOk result (λ made. length made.0.items ≡ node_count topology.now) }
     ensures ports { IfOk result (λ made. length made.1.items ≡ node_count topology.now) }
-    ensures longest { IfOk result (λ made. AreLongest (node_count topology.now) (slice_index numbering.now.labels u)
-        (MayTake topology.now numbering.now.order (slice_index numbering.now.labels u)) made.0.items made.1.items) }
+    ensures longest { IfOk result (λ made. AreLongestRuns topology.now numbering.now.order
+        (slice_index numbering.now.labels u) made.0.items made.1.items) }
 {
     let nodes = topology.nodes() as u16;
     let own = numbering.label_of(u);
@@ -142,9 +142,11 @@ fn port_runs(
             keep_longer(
                 nodes,
                 own,
-                row.as_slice(),
-                marked.as_slice(),
-                p as u16,
+                MarkedPort {
+                    port: p as u16,
+                    marks: row.as_slice(),
+                    labels: marked.as_slice(),
+                },
                 counts.as_mut_slice(),
                 ports.as_mut_slice(),
             );
@@ -167,8 +169,8 @@ fn longest_runs(
     requires distances { AreFrom topology.now u ways.now.weights }
     ensures counts { IfOk result (λ made. length made.0.items ≡ node_count topology.now) }
     ensures ports { IfOk result (λ made. length made.1.items ≡ node_count topology.now) }
-    ensures longest { IfOk result (λ made. AreLongest (node_count topology.now) (slice_index numbering.now.labels u)
-        (MayTake topology.now numbering.now.order (slice_index numbering.now.labels u)) made.0.items made.1.items) }
+    ensures longest { IfOk result (λ made. AreLongestRuns topology.now numbering.now.order
+        (slice_index numbering.now.labels u) made.0.items made.1.items) }
 {
     let nodes = topology.nodes() as u16;
     let own = numbering.label_of(u);
@@ -181,9 +183,11 @@ fn longest_runs(
             keep_longer(
                 nodes,
                 own,
-                marks.as_slice(),
-                led.as_slice(),
-                p as u16,
+                MarkedPort {
+                    port: p as u16,
+                    marks: marks.as_slice(),
+                    labels: led.as_slice(),
+                },
                 counts.as_mut_slice(),
                 ports.as_mut_slice(),
             );

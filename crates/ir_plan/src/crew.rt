@@ -10,7 +10,7 @@ ghost use Rattle.ir_plan.specs.Distances.{AreColumns, AreDistances, lists_of};
 use crate::distances::{columns_in_threads, columns_of, distances_in_threads, distances_of};
 use crate::plan::Plan;
 use crate::rows::rows_of;
-use crate::threads::rows_in_threads;
+use crate::threads::{Makers, rows_in_threads};
 use crate::watch::Unwatched;
 use ir_lookup::Row;
 use ir_model::Kind;
@@ -88,7 +88,12 @@ impl<'a, R: Threads + Sync> Crew for Several<'a, R> {
         kind: Kind,
         most: Option<usize>,
     ) -> Result<Vec<Row>, AllocError> {
-        rows_in_threads(self.rt, alloc, topology, numbering, kind, most, &Unwatched)
+        let makers = Makers {
+            rt: self.rt,
+            most,
+            watch: &Unwatched,
+        };
+        rows_in_threads(makers, alloc, topology, numbering, kind)
     }
 
     fn columns(

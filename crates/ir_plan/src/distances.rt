@@ -16,8 +16,9 @@ use std::thread::Threads;
 /// What stands for the port of a node to itself. No node has so many ports.
 const NO_PORT: u16 = u16::MAX;
 
-/// The distance of each two nodes: how many nodes send them by different ports in a plan's table (the tours of van Leeuwen
-/// and Tan's labels, 1987, are as long as the rows that these labels give).
+/// The distance of each two nodes: how many nodes send them by different ports in a plan's table
+/// (the tours of van Leeuwen and Tan's labels, 1987, are as long as the rows that these labels
+/// give).
 #[derive(Drop)]
 pub struct Distances {
     nodes: usize,

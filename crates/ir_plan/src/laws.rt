@@ -2,8 +2,8 @@
 
 ghost use Rattle.std.specs.Prelude.{◌≡◌, ◌≢◌, ℕ, ◌<◌, ◌≤◌, List};
 ghost use Rattle.ir_model.specs.{declared.Kind.TheVariants.Tree, Topology.{Topology, node_count}};
-ghost use Rattle.ir_model.specs.Plan.{Plan, IsPlan, HasDepthFirst, table_port};
-ghost use Rattle.ir_plan.specs.{Starts.{IsLabelledBy, IsPlanAs, start_count}, Tour.IsTour};
+ghost use Rattle.ir_model.specs.Plan.{Plan, IsPlan, HasDepthFirst};
+ghost use Rattle.ir_plan.specs.{Starts.{HaveSameTable, IsLabelledBy, IsPlanAs, start_count}, Tour.IsTour};
 ghost use Rattle.ir_plan.specs.declared.tour.LabelOrder.{LabelOrder, TheVariants.Tour};
 
 /// A network has one tour from a root.
@@ -12,8 +12,8 @@ pub fn tour_is_determined()
         → IsTour topology root tour → IsTour topology root other → tour ≡ other }
 {}
 
-/// Plans of one kind, root and network that are labelled by one order have the same labels; the same table and rows too,
-/// where the kind is not Tree.
+/// Plans of one kind, root and network that are labelled by one order have the same labels; the
+/// same table and rows too, where the kind is not Tree.
 pub fn labels_are_determined()
     ensures order { (labels : LabelOrder) (p q : Plan) → IsPlan p → IsPlanAs p q → IsLabelledBy labels p
         → IsLabelledBy labels q → p.order ≡ q.order }
@@ -21,7 +21,7 @@ pub fn labels_are_determined()
         → IsLabelledBy labels q → p.labels ≡ q.labels }
     ensures tables { (labels : LabelOrder) (p q : Plan) → IsPlan p → IsPlanAs p q → p.kind ≢ Tree
         → IsLabelledBy labels p → IsLabelledBy labels q
-        → (u d : ℕ) → u < node_count p.topology → d < node_count p.topology → table_port p u d ≡ table_port q u d }
+        → HaveSameTable (node_count p.topology) p q }
     ensures rows { (labels : LabelOrder) (p q : Plan) → IsPlan p → IsPlanAs p q → p.kind ≢ Tree
         → IsLabelledBy labels p → IsLabelledBy labels q → p.rows ≡ q.rows }
 {}

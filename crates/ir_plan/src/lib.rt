@@ -1,6 +1,6 @@
-//! One epoch's plan: labels by node, depth first or in the order of a tour or by a list, and each node's row of interval
-//! starts in place of a full table. A tour is an order in which neighbours are sent alike by most nodes, so that rows have
-//! few starts.
+//! One epoch's plan: labels by node, depth first or in the order of a tour or by a list, and each
+//! node's row of interval starts in place of a full table. A tour is an order in which neighbours
+//! are sent alike by most nodes, so that rows have few starts.
 #![tactic(auto)]
 
 mod batches;
@@ -29,7 +29,7 @@ pub use ir_model::{Hop, Kind};
 pub use laws::{labels_are_determined, tour_has_no_more_starts, tour_is_determined};
 pub use plan::Plan;
 pub use rows::row_of_node;
-pub use threads::{rows_in_threads, rows_of_a_thread};
+pub use threads::{Makers, rows_in_threads, rows_of_a_thread};
 pub use tour::LabelOrder;
 pub use watch::{Unwatched, Watch};
 

@@ -8,8 +8,8 @@ ghost use Rattle.ir_plan.specs.Distances.{far_between};
 use crate::distances::Distances;
 use std::alloc::{AllocError, Global};
 
-/// The nodes from a first one on, after each the nearest that is not among those before, of several the one with the least
-/// number.
+/// The nodes from a first one on, after each the nearest that is not among those before, of several
+/// the one with the least number.
 pub fn nearest_order(alloc: Global, far: &Distances, first: u16) -> Result<Vec<u16>, AllocError>
     requires first { first < far.now.nodes }
     requires few { far.now.nodes ≤ MOST_TOUR_NODES }

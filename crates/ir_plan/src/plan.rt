@@ -168,10 +168,11 @@ impl Plan {
         self.topology.port(node, port)
     }
 
-    /// The row of a node. It gives each address but the own its port in the full table, by the fewest intervals that do.
-    /// In a tree plan it has exactly one start for each port to a son or the father, and no other (Santoro and Khatib
-    /// 1985). In a compact plan each port leads nearer to its addresses' nodes, and no set of cyclic intervals is smaller that
-    /// gives each address but the own such a port.
+    /// The row of a node. It gives each address but the own its port in the full table, by the
+    /// fewest intervals that do. In a tree plan it has exactly one start for each port to a son or
+    /// the father, and no other (Santoro and Khatib 1985). In a compact plan each port leads nearer
+    /// to its addresses' nodes, and no set of cyclic intervals is smaller that gives each address
+    /// but the own such a port.
     pub fn row(&self, node: u16) -> &Row
         requires { node < node_count self.now.topology }
         ensures row { result.now ≡ row_in self.now node }

@@ -6,8 +6,8 @@ ghost use Rattle.ir_plan.specs.Distances.{far_between};
 use crate::MOST_SWEEPS;
 use crate::distances::Distances;
 
-/// Shortens the closed tour through nodes in their order by sweeps, until one changes nothing, or for `MOST_SWEEPS`. The
-/// first node stays the first.
+/// Shortens the closed tour through nodes in their order by sweeps, until one changes nothing, or
+/// for `MOST_SWEEPS`. The first node stays the first.
 pub fn shorten(far: &Distances, order: &mut [u16])
     requires { All (λ v. v < far.now.nodes) order.old }
     ensures { order.new ≡ shortened (far_between far.now.rows.items) 16 order.old }

@@ -5,7 +5,8 @@ ghost use Rattle.ir_lanes.specs.Marks.{AreBatchWords};
 ghost use Rattle.ir_model.specs.{Topology.node_count, Walk.IsConnected, Plan.AreLabels};
 ghost use Rattle.ir_model.specs.declared.Kind.TheVariants.{Shortest, Tree};
 ghost use Rattle.ir_numbering.specs.Numbering.{IsNumberingOf};
-ghost use Rattle.ir_plan.specs.{Shown.StandForTable, NodeRows.{AreNodeRows, AreRowsFrom, IsNodeRow}, Ties.AreTies};
+ghost use Rattle.ir_plan.specs.{Shown.StandForTable, NodeRows.{AreRowsFrom, AreShortestRows, IsNodeRow}};
+ghost use Rattle.ir_plan.specs.Ties.{AreTies, MayHaveRow};
 
 use crate::batches::{BATCH, LEAST_BATCHED, batch_rows, joined};
 use crate::patience::Patience;
@@ -32,16 +33,22 @@ pub fn rows_of_a_thread(rows: usize, most: Option<usize>) -> usize {
     }
 }
 
-/// The row of each node, by number, made in at most so many threads, or in as many as suit the processors; the watch is
-/// told of each. It is refused where a growth is refused in any of them.
-pub fn rows_in_threads(
-    rt: &(impl Threads + Sync),
+/// Who makes rows: threads that a runtime starts, at most so many, or as many as suit the
+/// processors where `most` is None; and the watch that is told of each row.
+#[derive(Drop)]
+pub struct Makers<'a, R, W> {
+    pub rt: &'a R,
+    pub most: Option<usize>,
+    pub watch: &'a W,
+}
+
+/// The row of each node, by number. Refused where a growth is refused in any of the threads.
+pub fn rows_in_threads<R: Threads + Sync, W: Watch + Sync>(
+    makers: Makers<R, W>,
     alloc: Global,
     topology: &Topology,
     numbering: &Numbering,
     kind: Kind,
-    most: Option<usize>,
-    watch: &(impl Watch + Sync),
 ) -> Result<Vec<Row>, AllocError>
     requires labels { AreLabels (node_count topology.now) numbering.now.order numbering.now.labels }
     requires tree { kind ≡ Tree → IsNumberingOf topology.now numbering.now }
@@ -50,23 +57,21 @@ pub fn rows_in_threads(
         numbering.now.labels rows.items) }
 {
     match kind {
-        Kind::Tree => nodes_in_threads(rt, alloc, topology, numbering, kind, &None, most, watch),
-        Kind::Shortest => shortest_in_threads(rt, alloc, topology, numbering, most, watch),
+        Kind::Tree => nodes_in_threads(makers, alloc, topology, numbering, kind, &None),
+        Kind::Shortest => shortest_in_threads(makers, alloc, topology, numbering),
         Kind::Compact => {
-            let ties = ties_in_threads(rt, alloc, topology, numbering, most)?;
-            nodes_in_threads(rt, alloc, topology, numbering, kind, &ties, most, watch)
+            let ties = ties_in_threads(makers.rt, alloc, topology, numbering, makers.most)?;
+            nodes_in_threads(makers, alloc, topology, numbering, kind, &ties)
         }
     }
 }
 
 // The row of each node in the shortest table, by number, made in batches.
-fn shortest_in_threads(
-    rt: &(impl Threads + Sync),
+fn shortest_in_threads<R: Threads + Sync, W: Watch + Sync>(
+    makers: Makers<R, W>,
     alloc: Global,
     topology: &Topology,
     numbering: &Numbering,
-    most: Option<usize>,
-    watch: &(impl Watch + Sync),
 ) -> Result<Vec<Row>, AllocError>
     requires labels { AreLabels (node_count topology.now) numbering.now.order numbering.now.labels }
     requires connected { IsConnected topology.now }
@@ -75,40 +80,30 @@ fn shortest_in_threads(
 {
     let nodes = topology.nodes();
     if nodes < LEAST_BATCHED {
-        return nodes_in_threads(
-            rt,
-            alloc,
-            topology,
-            numbering,
-            Kind::Shortest,
-            &None,
-            most,
-            watch,
-        );
+        return nodes_in_threads(makers, alloc, topology, numbering, Kind::Shortest, &None);
     }
-    let batches = batches_in_threads(rt, alloc, topology, numbering, most, watch)?;
+    let batches = batches_in_threads(makers, alloc, topology, numbering)?;
     joined(alloc, nodes, batches)
 }
 
 // The rows of each batch in the shortest table.
-fn batches_in_threads(
-    rt: &(impl Threads + Sync),
+fn batches_in_threads<R: Threads + Sync, W: Watch + Sync>(
+    makers: Makers<R, W>,
     alloc: Global,
     topology: &Topology,
     numbering: &Numbering,
-    most: Option<usize>,
-    watch: &(impl Watch + Sync),
 ) -> Result<Vec<Vec<Row>>, AllocError>
     requires labels { AreLabels (node_count topology.now) numbering.now.order numbering.now.labels }
     requires connected { IsConnected topology.now }
-    ensures { IfOk result (λ batches. AreNodeRows Shortest topology.now numbering.now.order numbering.now.parents
-        numbering.now.labels (node_count topology.now) (flat_map (λ batch. batch.items) batches.items)) }
+    ensures { IfOk result (λ batches. AreShortestRows topology.now numbering.now
+        (flat_map (λ batch. batch.items) batches.items)) }
 {
     let nodes = topology.nodes();
     let patience = &Patience::new();
+    let watch = makers.watch;
     (0..nodes.div_ceil(BATCH))
         .into_par_iter()
-        .with_min_len(rows_of_a_thread(nodes, most).div_ceil(BATCH))
+        .with_min_len(rows_of_a_thread(nodes, makers.most).div_ceil(BATCH))
         .map(
             |batch: usize| -> Result<Vec<Row>, AllocError>
                 requires { (batch * 16 < node_count topology.now)
@@ -118,7 +113,7 @@ fn batches_in_threads(
                     numbering.entry.now.parents numbering.entry.now.labels (batch * 16) 16 rows.items) }
             { batch_rows(alloc, topology, numbering, batch, patience, watch) },
         )
-        .collect::<Result<Vec<Vec<Row>>, AllocError>>(rt, alloc)?
+        .collect::<Result<Vec<Vec<Row>>, AllocError>>(makers.rt, alloc)?
 }
 
 // The ties of a network, where there are any, found in batches.
@@ -194,15 +189,13 @@ fn words_by(
 }
 
 // The row of each node, by number, made node by node.
-fn nodes_in_threads(
-    rt: &(impl Threads + Sync),
+fn nodes_in_threads<R: Threads + Sync, W: Watch + Sync>(
+    makers: Makers<R, W>,
     alloc: Global,
     topology: &Topology,
     numbering: &Numbering,
     kind: Kind,
     ties: &Option<Ties>,
-    most: Option<usize>,
-    watch: &(impl Watch + Sync),
 ) -> Result<Vec<Row>, AllocError>
     requires labels { AreLabels (node_count topology.now) numbering.now.order numbering.now.labels }
     requires tree { kind ≡ Tree → IsNumberingOf topology.now numbering.now }
@@ -212,42 +205,21 @@ fn nodes_in_threads(
         numbering.now.labels rows.items) }
 {
     let nodes = topology.nodes();
+    let watch = makers.watch;
     (0..nodes)
         .into_par_iter()
-        .with_min_len(rows_of_a_thread(nodes, most))
+        .with_min_len(rows_of_a_thread(nodes, makers.most))
         .map(
             |u: usize| -> Result<Row, AllocError>
-                requires { (u < node_count topology.now)
-                    × AreLabels (node_count topology.now) numbering.now.order numbering.now.labels
-                    × (kind ≡ Tree → IsNumberingOf topology.now numbering.now)
-                    × IfSome ties.now (AreTies topology.now numbering.now.order) × IsConnected topology.now }
+                requires { MayHaveRow kind topology.now numbering.now ties.now u }
                 ensures { IfOk result (λ row. IsNodeRow kind topology.entry.now numbering.entry.now.order
                     numbering.entry.now.parents (slice_index numbering.entry.now.labels u) row) }
-            { row_in_thread(alloc, topology, numbering, kind, ties, u, watch) },
+            {
+                let nodes = topology.nodes();
+                let row = row_at(alloc, topology, numbering, kind, ties, u as u16)?;
+                watch.row_made(nodes);
+                Ok(row)
+            },
         )
-        .collect::<Result<Vec<Row>, AllocError>>(rt, alloc)?
-}
-
-// The row of a node, by its number as a place, of which the watch is told.
-fn row_in_thread(
-    alloc: Global,
-    topology: &Topology,
-    numbering: &Numbering,
-    kind: Kind,
-    ties: &Option<Ties>,
-    u: usize,
-    watch: &impl Watch,
-) -> Result<Row, AllocError>
-    requires labels { AreLabels (node_count topology.now) numbering.now.order numbering.now.labels }
-    requires tree { kind ≡ Tree → IsNumberingOf topology.now numbering.now }
-    requires ties { IfSome ties.now (AreTies topology.now numbering.now.order) }
-    requires connected { IsConnected topology.now }
-    requires node { u < node_count topology.now }
-    ensures { IfOk result (λ row. IsNodeRow kind topology.now numbering.now.order numbering.now.parents
-        (slice_index numbering.now.labels u) row) }
-{
-    let nodes = topology.nodes();
-    let row = row_at(alloc, topology, numbering, kind, ties, u as u16)?;
-    watch.row_made(nodes);
-    Ok(row)
+        .collect::<Result<Vec<Row>, AllocError>>(makers.rt, alloc)?
 }

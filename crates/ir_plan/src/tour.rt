@@ -1,8 +1,7 @@
-//! The plan over the order of a tour, where it has fewer starts than the depth-first plan, and the plan of either order.
-ghost use Rattle.std.specs.Prelude.{◌≡◌, ◌≢◌, ◌≤◌, IfOk, IfErr, IfSome, None, slice_index};
+//! The plan over the order of a tour, where it has fewer starts than the depth-first plan.
+ghost use Rattle.std.specs.Prelude.{◌≡◌, ◌≢◌, ◌≤◌, IfOk, IfSome, None, slice_index};
 ghost use Rattle.ir_model.specs.{Topology.node_count, Plan.HasDepthFirst};
 ghost use Rattle.ir_numbering.specs.Numbering.{IsListing};
-ghost use Rattle.ir_plan.specs.Building.{FromRoot, IsPlanBy, RefusesPlan};
 ghost use Rattle.ir_plan.specs.{Starts.{IsLabelledBy, IsPlanAs}, Tour.IsTour};
 ghost use Rattle.ir_plan.specs.Distances.{AreShortestDistances, far_between};
 
@@ -10,7 +9,6 @@ use crate::MOST_TOUR_NODES;
 use crate::building::{depth_first_plan, listed_plan};
 use crate::crew::Crew;
 use crate::distances::Distances;
-use crate::error::PlanError;
 use crate::nearest::nearest_order;
 use crate::plan::Plan;
 use crate::sweeps::shorten;
@@ -18,49 +16,24 @@ use ir_model::Kind;
 use ir_tables::Topology;
 use std::alloc::{AllocError, Global};
 
-/// In which order the nodes of a plan are labelled.
+/// In which order the nodes of a plan are labelled. The labels are determined by the topology, the
+/// kind and the root (`labels_are_determined`), so they are the same for any crew.
 #[derive(Clone, Copy, Debug, PartialEq, Eq)]
 pub enum LabelOrder {
     /// Depth first, from the root.
     DepthFirst,
-    /// In the order of a tour from the root where that has fewer starts, else depth first.
+    /// Of the depth-first plan and the plan over a tour's order, that with fewer starts, of two
+    /// alike the depth-first one. Depth first too where the kind is Tree, and where there are more
+    /// than `MOST_TOUR_NODES` nodes.
+    ///
+    /// The tour begins at the root and goes on to the nearest node that it has not visited;
+    /// `MOST_SWEEPS` sweeps at most then shorten it (Croes 1958). Two nodes are as far apart as
+    /// there are nodes that send them by different ports in the shortest table.
     Tour,
 }
 
-/// The plan of a kind over a topology, labelled in this order from the root. By a tour it is, of
-/// the depth-first plan and the plan over the tour's order, the one with fewer starts, and of two
-/// alike the depth-first one; the depth-first plan too where the kind is Tree, and where there are
-/// more than `MOST_TOUR_NODES` nodes. These labels are determined by the topology, the kind and the
-/// root (`labels_are_determined`), so they are the same for any crew.
-///
-/// The tour begins at the root and goes on to the nearest node that it has not visited;
-/// `MOST_SWEEPS` sweeps at most then shorten it (Croes 1958). Two nodes are as far apart as there
-/// are nodes that send them by different ports in the shortest table.
-pub fn rooted_plan(
-    crew: &impl Crew,
-    alloc: Global,
-    topology: Topology,
-    kind: Kind,
-    labels: LabelOrder,
-    root: u16,
-    most: Option<usize>,
-) -> Result<Plan, (PlanError, Topology)>
-    ensures made { IfOk result (IsPlanBy topology kind (FromRoot labels root)) }
-    ensures refused { IfErr result (λ e. RefusesPlan topology (FromRoot labels root) e.0) }
-    ensures back { IfErr result (λ e. e.1 ≡ topology) }
-{
-    match depth_first_plan(crew, alloc, topology, kind, root, most) {
-        Ok(plan) => match plan_with_fewer(crew, alloc, &plan, labels, most) {
-            Ok(Some(tour)) => Ok(tour),
-            Ok(None) => Ok(plan),
-            Err(_) => Err((PlanError::NoMemory, plan.into_topology())),
-        },
-        Err(refusal) => Err(refusal),
-    }
-}
-
-// The plan over a tour's order, where a tour is sought and its plan has fewer starts than this one.
-fn plan_with_fewer(
+/// The plan over a tour's order, where a tour is sought and its plan has fewer starts than this one.
+pub fn plan_with_fewer(
     crew: &impl Crew,
     alloc: Global,
     plan: &Plan,

@@ -6,12 +6,12 @@ use Rattle.std.proofs.lemmas.List.{drop-append-le, take-append-le, length-append
 use Rattle.std.specs.List.{slice_range}
 use Rattle.ir_prefix.specs.Described.{IsFree, IsAlike, IsNodeOfHalves, Trie, Free, Alike, Fork}
 use Rattle.ir_prefix.specs.Nodes.{HoldsNode, IsMerged, Stands, Grows}
-use Rattle.ir_prefix.specs.declared.trie.Node.{Node}
-use Rattle.ir_prefix.specs.declared.trie.Node.TheVariants.{NoPort, OnePort, Several}
+use Rattle.ir_prefix.specs.declared.trie.TrieNode.{TrieNode}
+use Rattle.ir_prefix.specs.declared.trie.TrieNode.TheVariants.{NoPort, OnePort, Several}
 use Rattle.ir_prefix.specs.declared.trie.Places.{Places}
 use Rattle.ir_prefix.specs.declared.trie.Nodes.{Nodes}
 
-holds_later : (list more : List Node) (place : ℕ) (node : Node) → HoldsNode list place node → HoldsNode (list ++ more) place node
+holds_later : (list more : List TrieNode) (place : ℕ) (node : TrieNode) → HoldsNode list place node → HoldsNode (list ++ more) place node
 holds_later list more place node h =
     let n = length-append list more in
     (omega (arith, n, h.0), get_or-append list more NoPort place h.0 ∙ h.1)
@@ -23,7 +23,7 @@ range_later names more first end l e =
     ap (λ (xs : List ℕ). take (end - first) xs) d ∙ take-append-le (end - first) (drop first names) more (omega (arith, n))
 
 -- what stands in the lists stands in longer ones
-pub stands_later : (list more : List Node) (names further : List ℕ) (place : ℕ) (t : Trie) → Stands list names place t → Stands (list ++ more) (names ++ further) place t
+pub stands_later : (list more : List TrieNode) (names further : List ℕ) (place : ℕ) (t : Trie) → Stands list names place t → Stands (list ++ more) (names ++ further) place t
 stands_later list more names further place Free s = holds_later list more place NoPort s
 stands_later list more names further place (Alike p) s = holds_later list more place (OnePort p) s
 stands_later list more names further place (Fork own l r) s =
@@ -39,29 +39,29 @@ stands_later list more names further place (Fork own l r) s =
 
 pub stands_on : (before after : Nodes) → Grows before after → (place : ℕ) (t : Trie) → Stands before.list.items before.names.items place t → Stands after.list.items after.names.items place t
 stands_on before after grows place t s =
-    subst (λ (xs : List Node). Stands xs after.names.items place t) (sym grows.nodes.1)
+    subst (λ (xs : List TrieNode). Stands xs after.names.items place t) (sym grows.nodes.1)
     (subst (λ (ys : List ℕ). Stands (before.list.items ++ grows.nodes.0) ys place t) (sym grows.names.1)
     (stands_later before.list.items grows.nodes.0 before.names.items grows.names.0 place t s))
 
 -- a place that a trie stands at is one of the list
-pub stands_inside : (list : List Node) (names : List ℕ) (place : ℕ) (t : Trie) → Stands list names place t → place < length list
+pub stands_inside : (list : List TrieNode) (names : List ℕ) (place : ℕ) (t : Trie) → Stands list names place t → place < length list
 stands_inside list names place Free s = s.0
 stands_inside list names place (Alike p) s = s.0
 stands_inside list names place (Fork own l r) s = s.1.0
 
 -- the trie by its node
-pub stands_free : (list : List Node) (names : List ℕ) (place : ℕ) (t : Trie) → get_or list place NoPort ≡ NoPort → Stands list names place t → t ≡ Free
+pub stands_free : (list : List TrieNode) (names : List ℕ) (place : ℕ) (t : Trie) → get_or list place NoPort ≡ NoPort → Stands list names place t → t ≡ Free
 stands_free list names place Free e s = refl
 stands_free list names place (Alike p) e s = let h = s.1 in absurd cc
 stands_free list names place (Fork own l r) e s = let h = s.1.1 in absurd cc
 
-pub stands_alike : (list : List Node) (names : List ℕ) (place p : ℕ) (t : Trie) → get_or list place NoPort ≡ OnePort p → Stands list names place t → t ≡ Alike p
+pub stands_alike : (list : List TrieNode) (names : List ℕ) (place p : ℕ) (t : Trie) → get_or list place NoPort ≡ OnePort p → Stands list names place t → t ≡ Alike p
 stands_alike list names place p Free e s = let h = s.1 in absurd cc
 stands_alike list names place p (Alike q) e s = let h = s.1 in cc
 stands_alike list names place p (Fork own l r) e s = let h = s.1.1 in absurd cc
 
 -- what the node of several ports tells
-pub record IsFork (list : List Node) (names : List ℕ) (places : Places) (t : Trie) : Type 0 where
+pub record IsFork (list : List TrieNode) (names : List ℕ) (places : Places) (t : Trie) : Type 0 where
   pub own : List ℕ
   pub left : Trie
   pub right : Trie
@@ -72,7 +72,7 @@ pub record IsFork (list : List Node) (names : List ℕ) (places : Places) (t : T
   pub stands_left : Stands list names places.left left
   pub stands_right : Stands list names places.right right
 
-pub stands_fork : (list : List Node) (names : List ℕ) (place : ℕ) (places : Places) (t : Trie) → get_or list place NoPort ≡ Several places → Stands list names place t → IsFork list names places t
+pub stands_fork : (list : List TrieNode) (names : List ℕ) (place : ℕ) (places : Places) (t : Trie) → get_or list place NoPort ≡ Several places → Stands list names place t → IsFork list names places t
 stands_fork list names place places Free e s = let h = s.1 in absurd cc
 stands_fork list names place places (Alike q) e s = let h = s.1 in absurd cc
 stands_fork list names place places (Fork own l r) e s =
@@ -82,7 +82,7 @@ stands_fork list names place places (Fork own l r) e s =
     (record { own = own; left = l; right = r; is = refl; order = s.2; inside = s.3; names_are = s.4; stands_left = s.5; stands_right = s.6 })
 
 -- at one place one trie stands
-pub one_stands : (list : List Node) (names : List ℕ) (place : ℕ) (t u : Trie) → Stands list names place t → Stands list names place u → t ≡ u
+pub one_stands : (list : List TrieNode) (names : List ℕ) (place : ℕ) (t u : Trie) → Stands list names place t → Stands list names place u → t ≡ u
 one_stands list names place Free u s v = sym (stands_free list names place u s.1 v)
 one_stands list names place (Alike p) u s v = sym (stands_alike list names place p u s.1 v)
 one_stands list names place (Fork own l r) u s v =
@@ -99,7 +99,7 @@ own_range names own =
     ap (λ (n : ℕ). take n (drop (length names) (names ++ own))) e ∙ ap (λ (xs : List ℕ). take (length own) xs) (drop-append_seam names own) ∙ k
 
 -- the node of two halves stands behind them
-pub fork_stands : (later : List Node) (names own after : List ℕ) (first end left right place : ℕ) (l r : Trie) → first ≡ length names → end ≡ length after → after ≡ names ++ own
+pub fork_stands : (later : List TrieNode) (names own after : List ℕ) (first end left right place : ℕ) (l r : Trie) → first ≡ length names → end ≡ length after → after ≡ names ++ own
     → HoldsNode later place (Several (record { first = first; end = end; left = left; right = right })) → Stands later after left l → Stands later after right r → Stands later after place (Fork own l r)
 fork_stands later names own after first end left right place l r e f whole holds sl sr =
     let n = length-append names own in
@@ -110,7 +110,7 @@ fork_stands later names own after first end left right place l r e f whole holds
     (record { first = first; end = end; left = left; right = right }, holds, omega (arith, e, g), omega (arith, f), sym range, sl, sr)
 
 -- the node of two halves with no port or one
-pub merged_stands : (list later : List Node) (names after : List ℕ) (left right place : ℕ) (a b node : Node) (l r : Trie) → get_or list left NoPort ≡ a → get_or list right NoPort ≡ b → IsMerged a b node
+pub merged_stands : (list later : List TrieNode) (names after : List ℕ) (left right place : ℕ) (a b node : TrieNode) (l r : Trie) → get_or list left NoPort ≡ a → get_or list right NoPort ≡ b → IsMerged a b node
     → Stands list names left l → Stands list names right r → HoldsNode later place node → (t : Trie) × IsNodeOfHalves l r t × Stands later after place t
 merged_stands list later names after left right place a b NoPort l r ea eb is sl sr holds =
     let u = stands_free list names left l (ea ∙ is.0) sl in
@@ -131,7 +131,7 @@ merged_stands list later names after left right place a b (OnePort p) l r ea eb 
 merged_stands list later names after left right place a b (Several f) l r ea eb is sl sr holds = absurd is
 
 -- where no port lies below, the node says so
-pub free_stands : (list : List Node) (names : List ℕ) (place : ℕ) (t : Trie) → IsFree t → Stands list names place t → get_or list place NoPort ≡ NoPort
+pub free_stands : (list : List TrieNode) (names : List ℕ) (place : ℕ) (t : Trie) → IsFree t → Stands list names place t → get_or list place NoPort ≡ NoPort
 free_stands list names place Free f s = s.1
 free_stands list names place (Alike p) f s = absurd f
 free_stands list names place (Fork own l r) f s = absurd f

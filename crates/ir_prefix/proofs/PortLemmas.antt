@@ -15,7 +15,7 @@ use Rattle.ir_prefix.specs.Forwarding.{NamesPorts}
 use Rattle.ir_prefix.specs.Extended.{prefix_port, line_of, extended_port}
 use Rattle.ir_prefix.specs.Parts.{Divides, pieces_of, Part}
 use Rattle.ir_prefix.specs.declared.cover.Prefix.{Prefix}
-use Rattle.ir_prefix.specs.declared.line.Line.{Line}
+use Rattle.ir_prefix.specs.declared.line.TableLine.{TableLine}
 use Rattle.ir_prefix.proofs.AmongLemmas.{head_among}
 use Rattle.ir_prefix.proofs.PartLemmas.{piece_holds}
 use Rattle.ir_prefix.proofs.TableLemmas.{extended_length, extended_at, extended_label, extended_beyond, port_of_same, port_of_some}
@@ -121,7 +121,7 @@ from_last u c (Some q) e ne = ap (λ (k : ℕ). Some k) e
 
 pub lines_name_ports : (n own bits u : ℕ) (ports row : List (Option ℕ)) (set : List Prefix) → IsDestinations n own ports → row ≡ map (extended_port n u ports) (range_with_len 0 (2 ^ bits)) → HavePorts row set → NamesPorts ports (map (line_of u) set)
 lines_name_ports n own bits u ports row set dest is have =
-    All-map (λ (m : Line). (p : ℕ) → m.port ≡ Some p → (d : ℕ) × (port_to ports d ≡ Some p)) (line_of u) set
+    All-map (λ (m : TableLine). (p : ℕ) → m.port ≡ Some p → (d : ℕ) × (port_to ports d ≡ Some p)) (line_of u) set
     (λ k e l p f.
     let o = get_or set k e in
     let w = have k e l in
@@ -139,7 +139,7 @@ lines_name_ports n own bits u ports row set dest is have =
 
 pub pieces_name_ports : (bits u : ℕ) (ports : List (Option ℕ)) (t : Part) (set : List Prefix) → Divides ports bits 0 t → IsPermutation (pieces_of bits t bits 0) set → NamesPorts ports (map (line_of u) set)
 pieces_name_ports bits u ports t set d perm =
-    All-map (λ (m : Line). (p : ℕ) → m.port ≡ Some p → (d : ℕ) × (port_to ports d ≡ Some p)) (line_of u) set
+    All-map (λ (m : TableLine). (p : ℕ) → m.port ≡ Some p → (d : ℕ) × (port_to ports d ≡ Some p)) (line_of u) set
     (λ k e l p f.
     let o = get_or set k e in
     let c = Contains-permutation set (pieces_of bits t bits 0) o (IsPermutation-sym (pieces_of bits t bits 0) set perm) (Contains-get_or set k e l) in

@@ -5,8 +5,8 @@ use Rattle.std.proofs.lemmas.Nat.{pow_pos}
 use Rattle.std.proofs.lemmas.Bool.{cases_eq, cases_lt}
 use Rattle.std.proofs.lemmas.List.{get_or-set_same, get_or-set_other}
 use Rattle.ir_prefix.specs.Runs.{IsRunFrom, LiesIn}
-use Rattle.ir_prefix.specs.declared.runs.Run.{Run}
-use Rattle.ir_prefix.specs.declared.runs.Block.TheVariants.{Beyond, Unsent, OnePort, Mixed}
+use Rattle.ir_prefix.specs.declared.runs.LabelRun.{LabelRun}
+use Rattle.ir_prefix.specs.declared.runs.PrefixBlock.TheVariants.{Beyond, Unsent, OnePort, Mixed}
 
 block_low : (x h i size : ℕ) → size ≡ 2 ^ h → x / 2 ^ h ≡ i → i * size ≤ x
 block_low x h i size s e = subst (λ (m : ℕ). i * m ≤ x) (sym s) (subst (λ (k : ℕ). k * 2 ^ h ≤ x) e (div-mul-le_self x (2 ^ h)))
@@ -22,7 +22,7 @@ in_block x h i size s low high =
     div-eq_of_lt-le (2 ^ h) l (subst (λ (m : ℕ). x < m) (sym e) t)
 
 -- a run ends behind the number that it is from
-pub run_ends_behind : (ports : List (Option ℕ)) (x : ℕ) (run : Run) → IsRunFrom ports x run → x < length ports → x < run.end
+pub run_ends_behind : (ports : List (Option ℕ)) (x : ℕ) (run : LabelRun) → IsRunFrom ports x run → x < length ports → x < run.end
 run_ends_behind ports x run is inside =
     elim (cases_lt x run.end) [
       | inl l ↦ l
@@ -32,7 +32,7 @@ run_ends_behind ports x run is inside =
 pub past_labels : (ports : List (Option ℕ)) (h i size : ℕ) → size ≡ 2 ^ h → length ports ≤ i * size → LiesIn ports h i Beyond
 past_labels ports h i size s past = λ x e. let l = block_low x h i size s e in omega arith
 
-module _ (ports : List (Option ℕ)) (h i size : ℕ) (s : size ≡ 2 ^ h) (run : Run) (is : IsRunFrom ports (i * size) run) where
+module _ (ports : List (Option ℕ)) (h i size : ℕ) (s : size ≡ 2 ^ h) (run : LabelRun) (is : IsRunFrom ports (i * size) run) where
   pub mixed_block : i * size < length ports → i * size < run.end → run.end < i * size + size → LiesIn ports h i Mixed
   mixed_block inside on below = (
     elim (cases_lt 0 h) [
@@ -73,18 +73,18 @@ module _ (ports : List (Option ℕ)) (h i size : ℕ) (s : size ≡ 2 ^ h) (run 
       (omega arith, is.none x (block_low x h i size s e) (omega arith))
 
 -- the runs from a number on, with that of the number before it
-pub runs_before : (ports : List (Option ℕ)) (runs : List Run) (x : ℕ) (run : Run) → length runs ≡ length ports → x < length ports → IsRunFrom ports x run
-    → ((d : ℕ) (none : Run) → x < d → d < length ports → IsRunFrom ports d (get_or runs d none) × (d < (get_or runs d none).end))
-    → (d : ℕ) (none : Run) → x ≤ d → d < length ports → IsRunFrom ports d (get_or (set runs x run) d none) × (d < (get_or (set runs x run) d none).end)
+pub runs_before : (ports : List (Option ℕ)) (runs : List LabelRun) (x : ℕ) (run : LabelRun) → length runs ≡ length ports → x < length ports → IsRunFrom ports x run
+    → ((d : ℕ) (none : LabelRun) → x < d → d < length ports → IsRunFrom ports d (get_or runs d none) × (d < (get_or runs d none).end))
+    → (d : ℕ) (none : LabelRun) → x ≤ d → d < length ports → IsRunFrom ports d (get_or (set runs x run) d none) × (d < (get_or (set runs x run) d none).end)
 runs_before ports runs x run every inside is later = λ d none from d_in.
     elim (cases_eq d x) [
       | inl same ↦
           let at : get_or (set runs x run) d none ≡ run = ap (λ (k : ℕ). get_or (set runs x run) k none) same ∙ get_or-set_same runs x run none (omega (arith, every)) in
-          let P : Run → Type 0 = λ r. IsRunFrom ports d r × (d < r.end) in
+          let P : LabelRun → Type 0 = λ r. IsRunFrom ports d r × (d < r.end) in
           let here : IsRunFrom ports d run = subst (λ (k : ℕ). IsRunFrom ports k run) (sym same) is in
           subst P (sym at) (here, run_ends_behind ports d run here d_in)
       | inr other ↦
           let at : get_or (set runs x run) d none ≡ get_or runs d none = get_or-set_other runs x d run none other in
-          let P : Run → Type 0 = λ r. IsRunFrom ports d r × (d < r.end) in
+          let P : LabelRun → Type 0 = λ r. IsRunFrom ports d r × (d < r.end) in
           subst P (sym at) (later d none (omega (arith, other)) d_in)
     ]

@@ -12,7 +12,7 @@ use Rattle.ir_prefix.specs.Longest.{Forwards, IsFewestPrefixes, IsLongestFirst, 
 use Rattle.ir_prefix.specs.Forwarding.{SendsBy, IsForwardingTable, IsFewestLines, IsWellFormed, StandsBefore, AreLongestFirst, KeepsMatches}
 use Rattle.ir_prefix.specs.Extended.{prefix_port, line_of, prefix_of, IsUnused, extended_port}
 use Rattle.ir_prefix.specs.declared.cover.Prefix.{Prefix}
-use Rattle.ir_prefix.specs.declared.line.Line.{Line}
+use Rattle.ir_prefix.specs.declared.line.TableLine.{TableLine}
 use Rattle.ir_prefix.proofs.Upper.{port_inside}
 use Rattle.ir_prefix.proofs.Tallies.{hit, tally, tally-le-length, tally_three, tally_some}
 use Rattle.ir_prefix.proofs.LineLemmas.{no_prefix, line_match, match_line, prefix_match, match_prefix, each_before, stands_once, keeps_matches, no_bits_past}
@@ -63,17 +63,17 @@ module _ (n own bits u : ℕ) (ports row : List (Option ℕ)) (dest : IsDestinat
       covered = let w = fw.covered x c at in (line_of u w.0, line_match bits u set x w.0 w.1);
       agrees = λ m match.
           let w = match_line bits u set x m match in
-          ap (λ (l : Line). l.port) w.2 ∙ ap (prefix_port u) (fw.agrees x c w.0 at w.1) ∙ e;
+          ap (λ (l : TableLine). l.port) w.2 ∙ ap (prefix_port u) (fw.agrees x c w.0 at w.1) ∙ e;
     }
 
     pub lines_forward : IsForwardingTable n bits ports (map (line_of u) set)
     lines_forward = record {
-      within = All-map (λ (m : Line). (m.length ≤ bits) × (m.value < 2 ^ bits)) (line_of u) set fw.within;
+      within = All-map (λ (m : TableLine). (m.length ≤ bits) × (m.value < 2 ^ bits)) (line_of u) set fw.within;
       meaning = λ d p o. sends d p (Some p) (row_label d p o) (port_of_some u p (λ e. unused d (o ∙ ap (λ (k : ℕ). Some k) e)));
       beyond = λ x le lt. sends x (unwrap_or (port_to ports (n - 1)) u) (port_to ports (n - 1)) (row_beyond x le lt) (read_back u (port_to ports (n - 1)) (unused (n - 1)));
     }
 
-  module _ (other : List Line) (fw : IsForwardingTable n bits ports other) where
+  module _ (other : List TableLine) (fw : IsForwardingTable n bits ports other) where
     wanted : (x c : ℕ) → port_to row x ≡ Some c → (o : Option ℕ) × SendsBy bits other x o × (c ≡ unwrap_or o u)
     wanted x c at =
         let l = port_inside row x c at in
@@ -114,10 +114,10 @@ lines_adjoin u set order = λ k d inside.
     let e = length-map set (line_of u) in
     let a = get_or-map (line_of u) set k no_prefix d (omega arith) in
     let b = get_or-map (line_of u) set (k + 1) no_prefix d (omega arith) in
-    let v = ap (λ (m : Line). m.value) a in
-    let w = ap (λ (m : Line). m.value) b in
-    let s = ap (λ (m : Line). m.length) a in
-    let t = ap (λ (m : Line). m.length) b in
+    let v = ap (λ (m : TableLine). m.value) a in
+    let w = ap (λ (m : TableLine). m.value) b in
+    let s = ap (λ (m : TableLine). m.length) a in
+    let t = ap (λ (m : TableLine). m.length) b in
     elim (order k no_prefix (omega arith)) [ inl l ↦ inl (omega arith) | inr l ↦ inr (s ∙ l.0 ∙ sym t, omega (arith, l.1)) ]
 
 pub lines_in_order : (u : ℕ) (set : List Prefix) → IsLongestFirst set → AreLongestFirst (map (line_of u) set)
@@ -129,7 +129,7 @@ lines_keep_matches u set order bits = keeps_matches (map (line_of u) set) (lines
 pub lines_are_well : (bits u : ℕ) (set : List Prefix) → IsLongestFirst set → AreLeast bits set → IsWellFormed bits (map (line_of u) set)
 lines_are_well bits u set order least = record {
   once = stands_once (map (line_of u) set) (lines_adjoin u set order);
-  bits_past = All-map (λ (m : Line). m.value % 2 ^ (bits - m.length) ≡ 0) (line_of u) set (λ k d l. no_bits_past bits (get_or set k d) (least k d l));
+  bits_past = All-map (λ (m : TableLine). m.value % 2 ^ (bits - m.length) ≡ 0) (line_of u) set (λ k d l. no_bits_past bits (get_or set k d) (least k d l));
 }
 
 -- a list that names each of so many ports has as many members

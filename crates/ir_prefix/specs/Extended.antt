@@ -2,16 +2,16 @@
 use Rattle.std.specs.Prelude.{◌≢◌, ◌==◌, ℕ, ◌-◌, List, Option, Some, None, unwrap_or, if◌then◌else◌, nat_lt}
 use Rattle.ir_model.specs.Compiled.{port_to}
 use Rattle.ir_prefix.specs.declared.cover.Prefix.{Prefix}
-use Rattle.ir_prefix.specs.declared.line.Line.{Line}
+use Rattle.ir_prefix.specs.declared.line.TableLine.{TableLine}
 
 -- the port of a line from that of a prefix
 abbrev pub prefix_port : ℕ → ℕ → Option ℕ
 prefix_port unreachable p = if p == unreachable then None else Some p
 
-abbrev pub line_of : ℕ → Prefix → Line
+abbrev pub line_of : ℕ → Prefix → TableLine
 line_of unreachable m = record { value = m.value; length = m.length; port = prefix_port unreachable m.port }
 
-abbrev pub prefix_of : ℕ → Line → Prefix
+abbrev pub prefix_of : ℕ → TableLine → Prefix
 prefix_of unreachable m = record { value = m.value; length = m.length; port = unwrap_or m.port unreachable }
 
 -- no label has this port

@@ -1,24 +1,24 @@
 -- A trie as a list of nodes, each behind its halves, and a list of the names of all.
 use Rattle.std.specs.Prelude.{◌≡◌, ℕ, ◌<◌, ◌≤◌, ◌⊎◌, List, ◌++◌, length, slice_index_or}
 use Rattle.std.specs.List.{slice_range}
-use Rattle.ir_prefix.specs.Described.{Trie, Free, Alike, Fork}
-use Rattle.ir_prefix.specs.declared.trie.Node.{Node}
-use Rattle.ir_prefix.specs.declared.trie.Node.TheVariants.{NoPort, OnePort, Several}
+use Rattle.ir_prefix.specs.Described.{Trie, Free, Alike, Fork, IsNodeOfHalves}
+use Rattle.ir_prefix.specs.declared.trie.TrieNode.{TrieNode}
+use Rattle.ir_prefix.specs.declared.trie.TrieNode.TheVariants.{NoPort, OnePort, Several}
 use Rattle.ir_prefix.specs.declared.trie.Places.{Places}
 use Rattle.ir_prefix.specs.declared.trie.Nodes.{Nodes}
 
 -- the node at a place
-abbrev pub HoldsNode : List Node → ℕ → Node → Type 0
+abbrev pub HoldsNode : List TrieNode → ℕ → TrieNode → Type 0
 HoldsNode list place node = (place < length list) × (slice_index_or list place NoPort ≡ node)
 
 -- the node of two halves that have no port or one together
-abbrev pub IsMerged : Node → Node → Node → Type 0
+abbrev pub IsMerged : TrieNode → TrieNode → TrieNode → Type 0
 IsMerged l r NoPort = (l ≡ NoPort) × (r ≡ NoPort)
 IsMerged l r (OnePort p) = ((l ≡ OnePort p) × ((r ≡ NoPort) ⊎ (r ≡ OnePort p))) ⊎ ((l ≡ NoPort) × (r ≡ OnePort p))
 IsMerged l r (Several f) = ⊥
 
 -- a trie stands at a place: its node with its names, and its halves where this tells
-abbrev pub Stands : List Node → List ℕ → ℕ → Trie → Type 0
+abbrev pub Stands : List TrieNode → List ℕ → ℕ → Trie → Type 0
 Stands list names place Free = HoldsNode list place NoPort
 Stands list names place (Alike p) = HoldsNode list place (OnePort p)
 Stands list names place (Fork own l r) =
@@ -30,5 +30,9 @@ StandsIn nodes place t = Stands nodes.list.items nodes.names.items place t
 
 -- the later nodes and names begin with the earlier ones
 pub record Grows (before after : Nodes) : Type 0 where
-  pub nodes : (more : List Node) × (after.list.items ≡ before.list.items ++ more)
+  pub nodes : (more : List TrieNode) × (after.list.items ≡ before.list.items ++ more)
   pub names : (more : List ℕ) × (after.names.items ≡ before.names.items ++ more)
+
+-- the node of two halves stands at a place
+abbrev pub StandsOver : Trie → Trie → Nodes → ℕ → Type 0
+StandsOver l r nodes place = (t : Trie) × IsNodeOfHalves l r t × StandsIn nodes place t

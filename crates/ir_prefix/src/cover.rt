@@ -6,8 +6,8 @@ ghost use Rattle.ir_prefix.specs.{Cover.{IsCover, IsTrie, cover_of, prefix_at, t
 ghost use Rattle.ir_prefix.specs.{Nodes.StandsIn, Runs.AreRuns};
 
 use crate::names::has_name;
-use crate::runs::Run;
-use crate::trie::{Node, Nodes, names_at, push_trie};
+use crate::runs::LabelRun;
+use crate::trie::{Nodes, TrieNode, names_at, push_trie};
 use std::alloc::{AllocError, Global};
 
 /// The numbers whose first `length` bits are those of `value`, and their port.
@@ -18,11 +18,18 @@ pub struct Prefix {
     pub port: u16,
 }
 
+// Where a node of a trie stands: so high, the index-th of its height.
+#[derive(Clone, Copy)]
+struct Spot {
+    height: u8,
+    index: u32,
+}
+
 /// The prefixes of the trie of that height, each node before what lies below it.
 pub fn cover_by_names(
     alloc: Global,
     ports: &[Option<u16>],
-    runs: &[Run],
+    runs: &[LabelRun],
     bits: u8,
 ) -> Result<Vec<Prefix>, AllocError>
     requires runs { AreRuns ports.now runs.now }
@@ -36,54 +43,48 @@ pub fn cover_by_names(
     let mut room = Vec::new(alloc);
     let root = push_trie(ports, runs, bits, 0, &mut nodes, &mut room)?;
     let mut set = Vec::new(alloc);
-    cover(&nodes, root, bits, bits, 0, None, &mut set)?;
+    let top = Spot {
+        height: bits,
+        index: 0,
+    };
+    cover(&nodes, root, bits, top, None, &mut set)?;
     Ok(set)
 }
 
-// Adds the prefixes of a node so high, the index-th of its height, where the longest one above it names `above`: as few
-// as there can be.
+// Adds the prefixes of a node that stands there, where the longest one above it names `above`: as few as there can be.
 fn cover(
     nodes: &Nodes,
     place: usize,
     bits: u8,
-    height: u8,
-    index: u32,
+    spot: Spot,
     above: Option<u16>,
     prefixes: &mut Vec<Prefix>,
 ) -> Result<(), AllocError>
-    requires trie { (t : Trie) × IsTrie height t × StandsIn nodes.now place t }
-    requires height { height ≤ bits }
-    requires inside { (index + 1) * 2 ^ height ≤ 2 ^ 16 }
+    requires trie { (t : Trie) × IsTrie spot.height t × StandsIn nodes.now place t }
+    requires height { spot.height ≤ bits }
+    requires inside { (spot.index + 1) * 2 ^ spot.height ≤ 2 ^ 16 }
     ensures { OnOk result ((t : Trie) → StandsIn nodes.now place t
-        → prefixes.new.items ≡ prefixes.old.items ++ cover_of bits t height index above) }
+        → prefixes.new.items ≡ prefixes.old.items ++ cover_of bits t spot.height spot.index above) }
 {
     match nodes.list[place] {
-        Node::NoPort => Ok(()),
-        Node::OnePort(port) => {
-            tell(&[port], bits, height, index, above, prefixes)?;
+        TrieNode::NoPort => Ok(()),
+        TrieNode::OnePort(port) => {
+            tell(&[port], bits, spot.height, spot.index, above, prefixes)?;
             Ok(())
         }
-        Node::Several(places) => {
+        TrieNode::Several(places) => {
             let names = names_at(nodes, place);
-            let below = tell(names, bits, height, index, above, prefixes)?;
-            cover(
-                nodes,
-                places.left,
-                bits,
-                height - 1,
-                2 * index,
-                below,
-                prefixes,
-            )?;
-            cover(
-                nodes,
-                places.right,
-                bits,
-                height - 1,
-                2 * index + 1,
-                below,
-                prefixes,
-            )
+            let below = tell(names, bits, spot.height, spot.index, above, prefixes)?;
+            let left = Spot {
+                height: spot.height - 1,
+                index: 2 * spot.index,
+            };
+            cover(nodes, places.left, bits, left, below, prefixes)?;
+            let right = Spot {
+                height: left.height,
+                index: left.index + 1,
+            };
+            cover(nodes, places.right, bits, right, below, prefixes)
         }
     }
 }

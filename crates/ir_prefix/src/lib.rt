@@ -21,7 +21,7 @@ use crate::cover::{Prefix, cover_by_names};
 use crate::marks::{are_low, cover_by_marks};
 use crate::order::sort_longest_first;
 use crate::runs::runs_of;
-pub use line::Line;
+pub use line::TableLine;
 pub use ranges::{LabelRange, label_ranges};
 use std::alloc::{AllocError, Global};
 pub use tables::{disjoint_lines, forwarding_lines};

@@ -9,7 +9,7 @@ ghost use Rattle.ir_prefix.specs.{Joined.is_named, Marks.{AreLow, EndsIn, IsNode
 ghost use Rattle.ir_prefix.specs.{Runs.AreRuns, declared.marks.Mark.TheVariants.{NoPort, OnePort, Pair, Several}};
 
 use crate::cover::{Prefix, node_prefix};
-use crate::runs::{Block, Run, block_of};
+use crate::runs::{LabelRun, PrefixBlock, block_of};
 use std::alloc::{AllocError, Global};
 
 /// What lies below a node: no port, one port, or several, and then its names, or two numbers with a port each, and then
@@ -36,7 +36,7 @@ pub fn are_low(ports: &[Option<u16>]) -> bool
 pub fn cover_by_marks(
     alloc: Global,
     ports: &[Option<u16>],
-    runs: &[Run],
+    runs: &[LabelRun],
     bits: u8,
 ) -> Result<Vec<Prefix>, AllocError>
     requires runs { AreRuns ports.now runs.now }
@@ -55,7 +55,7 @@ pub fn cover_by_marks(
 // left half, and before these those of its right half; and answers its names.
 fn push_marks(
     ports: &[Option<u16>],
-    runs: &[Run],
+    runs: &[LabelRun],
     height: u8,
     index: u32,
     marks: &mut Vec<Mark>,
@@ -66,10 +66,10 @@ fn push_marks(
     ensures { IfOk result (λ names. IsNodeMarked ports.now height index names marks.old.items marks.new.items) }
 {
     match block_of(ports, runs, height, index) {
-        Block::Beyond => push_free(marks),
-        Block::Unsent => push_free(marks),
-        Block::OnePort(port) => push_one(marks, port),
-        Block::Mixed => {
+        PrefixBlock::Beyond => push_free(marks),
+        PrefixBlock::Unsent => push_free(marks),
+        PrefixBlock::OnePort(port) => push_one(marks, port),
+        PrefixBlock::Mixed => {
             if let Some((left, right)) = pair_at(ports, height, index) {
                 return push_pair(marks, left, right);
             }
@@ -135,8 +135,8 @@ fn joined(left: u64, right: u64) -> u64
     if shared == 0 { left | right } else { shared }
 }
 
-// Adds the mark of the node of two halves, whose marks stand behind the first ones, given the names of the halves. Where
-// no port lies below either, its mark takes the place of theirs.
+// Adds the mark of the node of two halves, whose marks stand behind the first ones, given the names
+// of the halves. Where no port lies below either, its mark takes the place of theirs.
 fn push_parent(
     marks: &mut Vec<Mark>,
     before: usize,

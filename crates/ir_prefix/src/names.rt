@@ -1,4 +1,5 @@
-//! The names of a node of a trie: the ports by which it needs the fewest prefixes below it. An empty list stands for every name.
+//! The names of a node of a trie: the ports by which it needs the fewest prefixes below it. An
+//! empty list stands for every name.
 
 ghost use Rattle.std.specs.{Prelude.{◌≡◌, ◌<◌, ℕ, None, Some, length, OnOk}, List.Sorted.IsNonDecreasing};
 ghost use Rattle.ir_prefix.specs.Joined.{is_among, is_named, ArePortsOfBoth, IsShared};

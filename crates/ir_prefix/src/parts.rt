@@ -4,13 +4,13 @@ ghost use Rattle.std.specs.Prelude.{◌≡◌, ◌≤◌, ◌+◌, ◌*◌, ◌^
 ghost use Rattle.ir_prefix.specs.{Parts.{Divides, Part, pieces_of}, Runs.AreRuns};
 
 use crate::cover::{Prefix, node_prefix};
-use crate::runs::{Block, Run, block_of};
+use crate::runs::{LabelRun, PrefixBlock, block_of};
 use std::alloc::AllocError;
 
 /// Adds a prefix for each part of one port in the block so high, the index-th of its height.
 pub fn push_pieces(
     ports: &[Option<u16>],
-    runs: &[Run],
+    runs: &[LabelRun],
     bits: u8,
     height: u8,
     index: u32,
@@ -23,12 +23,12 @@ pub fn push_pieces(
         × (prefixes.new.items ≡ prefixes.old.items ++ pieces_of bits t height index)) }
 {
     match block_of(ports, runs, height, index) {
-        Block::Beyond | Block::Unsent => Ok(()),
-        Block::OnePort(port) => {
+        PrefixBlock::Beyond | PrefixBlock::Unsent => Ok(()),
+        PrefixBlock::OnePort(port) => {
             prefixes.push(node_prefix(bits, height, index, port))?;
             Ok(())
         }
-        Block::Mixed => {
+        PrefixBlock::Mixed => {
             push_pieces(ports, runs, bits, height - 1, 2 * index, prefixes)?;
             push_pieces(ports, runs, bits, height - 1, 2 * index + 1, prefixes)
         }

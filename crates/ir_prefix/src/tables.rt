@@ -7,28 +7,30 @@ ghost use Rattle.ir_prefix.specs.Longest.{IsWidth};
 ghost use Rattle.ir_prefix.specs.Forwarding.{AreLongestFirst, IsDisjointTable, IsFewestDisjoint, IsFewestLines, IsForwardingTable, IsWellFormed, KeepsMatches, NamesPorts};
 ghost use Rattle.ir_prefix.specs.Extended.{extended_port, IsUnused};
 
-use crate::line::{Line, lines_of};
+use crate::line::{TableLine, lines_of};
 use crate::order::sort_longest_first;
 use crate::parts::push_pieces;
 use crate::runs::runs_of;
 use crate::{table, width};
 use std::alloc::{AllocError, Global};
 
-/// The forwarding table of the node with the label `own` among `n` nodes, given its port to each label: the longest
-/// match of each other label names its port, and no table that does so, and sends the numbers beyond the labels as this
-/// one does, has fewer lines (Draves, King, Venkatachary and Zill 1999). Such a number has the port of the last label, and
-/// is unreachable where that is the own label. The own label may match any line or none. The longest prefixes stand
-/// first, and those of one length in the order of their values: while a table is filled in this order, or emptied in the
-/// opposite one, a number finds no match or that of the whole table.
+/// The forwarding table of the node with the label `own` among `n` nodes, given its port to each
+/// label: the longest match of each other label names its port, and no table that does so, and
+/// sends the numbers beyond the labels as this one does, has fewer lines (Draves, King,
+/// Venkatachary and Zill 1999). Such a number has the port of the last label, and is unreachable
+/// where that is the own label. The own label may match any line or none. The longest prefixes
+/// stand first, and those of one length in the order of their values: while a table is filled in
+/// this order, or emptied in the opposite one, a number finds no match or that of the whole table.
 ///
-/// Condition: the ports are a list of destinations, as `ir_compile::is_destinations` asks. Refused for memory alone. Takes
-/// O(n (log n + t)), where t ports are tried, from the greatest number down, for one that the row does not name.
+/// Condition: the ports are a list of destinations, as `ir_compile::is_destinations` asks. Refused
+/// for memory alone. Takes O(n (log n + t)), where t ports are tried, from the greatest number
+/// down, for one that the row does not name.
 pub fn forwarding_lines(
     alloc: Global,
     n: u16,
     own: u16,
     ports: &[Option<u16>],
-) -> Result<Vec<Line>, AllocError>
+) -> Result<Vec<TableLine>, AllocError>
     requires { IsDestinations n own ports.now }
     ensures well { IfOk result (λ table. (bits : ℕ) → IsWidth n bits → IsWellFormed bits table.items) }
     ensures forwards { IfOk result
@@ -46,10 +48,11 @@ pub fn forwarding_lines(
     Ok(lines_of(alloc, set.as_slice(), unreachable)?)
 }
 
-/// The forwarding table of the node with the label `own` among `n` nodes, given its port to each label, in which no number
-/// matches two lines: each other label matches one, with its port, and no number beyond the labels matches any. No table
-/// that does so has fewer lines. The own label may match a line or none. The lines stand in the order of `forwarding_lines`, but
-/// none is needed: where a line is missing, what it holds is dropped.
+/// The forwarding table of the node with the label `own` among `n` nodes, given its port to each
+/// label, in which no number matches two lines: each other label matches one, with its port, and no
+/// number beyond the labels matches any. No table that does so has fewer lines. The own label may
+/// match a line or none. The lines stand in the order of `forwarding_lines`, but none is needed:
+/// where a line is missing, what it holds is dropped.
 ///
 /// Condition, refusal and time are those of `forwarding_lines`.
 pub fn disjoint_lines(
@@ -57,7 +60,7 @@ pub fn disjoint_lines(
     n: u16,
     own: u16,
     ports: &[Option<u16>],
-) -> Result<Vec<Line>, AllocError>
+) -> Result<Vec<TableLine>, AllocError>
     requires { IsDestinations n own ports.now }
     ensures well { IfOk result (λ table. (bits : ℕ) → IsWidth n bits → IsWellFormed bits table.items) }
     ensures disjoint { IfOk result

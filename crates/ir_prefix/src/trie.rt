@@ -2,16 +2,17 @@
 
 ghost use Rattle.std.specs.Prelude.{◌≡◌, ◌<◌, ◌≤◌, ◌+◌, ◌*◌, ◌^◌, ℕ, None, Some, length, IfOk, IfSome, OnOk};
 ghost use Rattle.std.specs.List.Sorted.{IsNonDecreasing};
-ghost use Rattle.ir_prefix.specs.{Described.{Describes, IsFree, IsNodeOfHalves, Trie, names_of}, Runs.AreRuns};
-ghost use Rattle.ir_prefix.specs.{Nodes.{Grows, HoldsNode, IsMerged, StandsIn}, declared.trie.Node.TheVariants.NoPort};
+ghost use Rattle.ir_prefix.specs.{Described.{Describes, IsFree, Trie, names_of}, Runs.AreRuns};
+ghost use Rattle.ir_prefix.specs.Nodes.{Grows, HoldsNode, IsMerged, StandsIn, StandsOver};
+ghost use Rattle.ir_prefix.specs.declared.trie.TrieNode.TheVariants.{NoPort};
 
 use crate::names::join;
-use crate::runs::{Block, Run, block_of};
+use crate::runs::{LabelRun, PrefixBlock, block_of};
 use std::alloc::AllocError;
 
 /// What lies below a node: no port, one port, or several.
 #[derive(Clone, Copy)]
-pub enum Node {
+pub enum TrieNode {
     NoPort,
     OnePort(u16),
     Several(Places),
@@ -29,7 +30,7 @@ pub struct Places {
 /// The nodes of a trie, each behind its halves, and their names.
 #[derive(Drop)]
 pub struct Nodes {
-    pub list: Vec<Node>,
+    pub list: Vec<TrieNode>,
     pub names: Vec<u16>,
 }
 
@@ -37,7 +38,7 @@ pub struct Nodes {
 /// stands in the room before does not matter.
 pub fn push_trie(
     ports: &[Option<u16>],
-    runs: &[Run],
+    runs: &[LabelRun],
     height: u8,
     index: u32,
     nodes: &mut Nodes,
@@ -50,10 +51,10 @@ pub fn push_trie(
         × StandsIn nodes.new place t) }
 {
     match block_of(ports, runs, height, index) {
-        Block::Beyond => push_node(nodes, Node::NoPort),
-        Block::Unsent => push_node(nodes, Node::NoPort),
-        Block::OnePort(port) => push_node(nodes, Node::OnePort(port)),
-        Block::Mixed => {
+        PrefixBlock::Beyond => push_node(nodes, TrieNode::NoPort),
+        PrefixBlock::Unsent => push_node(nodes, TrieNode::NoPort),
+        PrefixBlock::OnePort(port) => push_node(nodes, TrieNode::OnePort(port)),
+        PrefixBlock::Mixed => {
             let left = push_trie(ports, runs, height - 1, 2 * index, nodes, room)?;
             let right = push_trie(ports, runs, height - 1, 2 * index + 1, nodes, room)?;
             let place = push_parent(nodes, room, left, right)?;
@@ -63,7 +64,7 @@ pub fn push_trie(
 }
 
 // Adds a node, and answers its place.
-fn push_node(nodes: &mut Nodes, node: Node) -> Result<usize, AllocError>
+fn push_node(nodes: &mut Nodes, node: TrieNode) -> Result<usize, AllocError>
     ensures grows { OnOk result (Grows nodes.old nodes.new) }
     ensures holds { IfOk result (λ place. HoldsNode nodes.new.list.items place node) }
     ensures names { OnOk result (nodes.new.names.items ≡ nodes.old.names.items) }
@@ -84,7 +85,7 @@ fn push_parent(
     requires right { (r : Trie) × StandsIn nodes.old right r }
     ensures grows { OnOk result (Grows nodes.old nodes.new) }
     ensures stands { IfOk result (λ place. (l r : Trie) → StandsIn nodes.old left l → StandsIn nodes.old right r
-        → (t : Trie) × IsNodeOfHalves l r t × StandsIn nodes.new place t) }
+        → StandsOver l r nodes.new place) }
 {
     if let Some(node) = merged(nodes.list[left], nodes.list[right]) {
         return push_node(nodes, node);
@@ -93,15 +94,17 @@ fn push_parent(
 }
 
 // The node of two halves with no port or one.
-fn merged(left: Node, right: Node) -> Option<Node>
+fn merged(left: TrieNode, right: TrieNode) -> Option<TrieNode>
     ensures free { result ≡ None → left ≡ NoPort → right ≡ NoPort → ⊥ }
     ensures merged { IfSome result (λ node. IsMerged left right node) }
 {
     match (left, right) {
-        (Node::NoPort, Node::NoPort) => Some(Node::NoPort),
-        (Node::NoPort, Node::OnePort(port)) => Some(Node::OnePort(port)),
-        (Node::OnePort(port), Node::NoPort) => Some(Node::OnePort(port)),
-        (Node::OnePort(port), Node::OnePort(other)) if port == other => Some(Node::OnePort(port)),
+        (TrieNode::NoPort, TrieNode::NoPort) => Some(TrieNode::NoPort),
+        (TrieNode::NoPort, TrieNode::OnePort(port)) => Some(TrieNode::OnePort(port)),
+        (TrieNode::OnePort(port), TrieNode::NoPort) => Some(TrieNode::OnePort(port)),
+        (TrieNode::OnePort(port), TrieNode::OnePort(other)) if port == other => Some(
+            TrieNode::OnePort(port),
+        ),
         _ => None,
     }
 }
@@ -116,9 +119,8 @@ fn push_fork(
     requires left { (l : Trie) × IsNonDecreasing (names_of l) × StandsIn nodes.old left l }
     requires right { (r : Trie) × StandsIn nodes.old right r }
     ensures grows { OnOk result (Grows nodes.old nodes.new) }
-    ensures stands { IfOk result (λ place. (l r : Trie) → StandsIn nodes.old left l
-        → StandsIn nodes.old right r → (IsFree l → IsFree r → ⊥) → (t : Trie) × IsNodeOfHalves l r t
-        × StandsIn nodes.new place t) }
+    ensures stands { IfOk result (λ place. (l r : Trie) → StandsIn nodes.old left l → StandsIn nodes.old right r
+        → (IsFree l → IsFree r → ⊥) → StandsOver l r nodes.new place) }
 {
     join(room, names_at(nodes, left), names_at(nodes, right))?;
     let first = nodes.names.len();
@@ -126,7 +128,7 @@ fn push_fork(
     let end = nodes.names.len();
     let place = push_node(
         nodes,
-        Node::Several(Places {
+        TrieNode::Several(Places {
             first,
             end,
             left,
@@ -142,8 +144,8 @@ pub fn names_at(nodes: &Nodes, place: usize) -> &[u16]
     ensures { (t : Trie) → StandsIn nodes.now place t → result.now ≡ names_of t }
 {
     match &nodes.list[place] {
-        Node::NoPort => &[],
-        Node::OnePort(port) => std::slice::from_ref(port),
-        Node::Several(places) => nodes.names.get(places.first..places.end).unwrap(),
+        TrieNode::NoPort => &[],
+        TrieNode::OnePort(port) => std::slice::from_ref(port),
+        TrieNode::Several(places) => nodes.names.get(places.first..places.end).unwrap(),
     }
 }

@@ -1,7 +1,7 @@
 //! Ports told as the fewest lines of a forwarding table, longest first.
 
 use ir_compile::is_destinations;
-use ir_prefix::{Line, disjoint_lines, forwarding_lines, width};
+use ir_prefix::{TableLine, disjoint_lines, forwarding_lines, width};
 use std::alloc::Global;
 use std::test::Fail;
 
@@ -74,7 +74,7 @@ static TABLES: [TableCase; 7] = [
 ];
 
 /// Whether these are the lines, in this order.
-fn are_lines(table: &[Line], told: &[(u16, u8, Option<u16>)]) -> bool {
+fn are_lines(table: &[TableLine], told: &[(u16, u8, Option<u16>)]) -> bool {
     if table.len() != told.len() {
         return false;
     }

@@ -8,7 +8,7 @@ ghost use Rattle.ir_trace.specs.Checked.{plan_at, last_part, IsInstall, AreInsta
 ghost use Rattle.ir_trace.specs.Inspect.{is_node, next_of, are_known, fits_fate};
 
 use crate::row::{RowFate, Segment};
-use ir_core::{Install, plan_over_by};
+use ir_core::{Draft, Install, plan_over_by};
 use ir_plan::{Crew, Plan, PlanError};
 use ir_tables::Topology;
 use std::alloc::{AllocError, Global};
@@ -43,14 +43,12 @@ fn plan_by(
         (FromRoot install.now.labels install.now.root)) }
 {
     let kept = topology.only(alloc, install.up.as_slice())?;
-    match plan_over_by(
-        crew,
-        alloc,
-        kept,
-        install.labels,
-        install.kind,
-        install.root,
-    ) {
+    let draft = Draft {
+        labels: install.labels,
+        kind: install.kind,
+        root: install.root,
+    };
+    match plan_over_by(crew, alloc, kept, draft) {
         Ok(plan) => Ok(plan),
         Err(error) => {
             if error != PlanError::NoMemory {

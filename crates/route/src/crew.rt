@@ -5,7 +5,7 @@ use ir_graph::Graph;
 use ir_lookup::Row;
 use ir_model::Kind;
 use ir_numbering::Numbering;
-use ir_plan::{Crew, Plan, columns_in_threads, distances_in_threads, rows_in_threads};
+use ir_plan::{Crew, Makers, Plan, columns_in_threads, distances_in_threads, rows_in_threads};
 use ir_show::plan_text::Pieces;
 use ir_show::{Block, TextCrew, lines_in_threads};
 use ir_tables::Topology;
@@ -31,15 +31,12 @@ impl<'a, R: Threads + Sync> Crew for Shown<'a, R> {
         kind: Kind,
         most: Option<usize>,
     ) -> Result<Vec<Row>, AllocError> {
-        let made = rows_in_threads(
-            self.rt,
-            alloc,
-            topology,
-            numbering,
-            kind,
+        let makers = Makers {
+            rt: self.rt,
             most,
-            self.progress,
-        );
+            watch: self.progress,
+        };
+        let made = rows_in_threads(makers, alloc, topology, numbering, kind);
         if made.is_err() {
             self.progress.clear();
         }

@@ -8,20 +8,20 @@ use Rattle.ir_compile.proofs.runs.keep_back.Goals.{then-counts-a, else-counts-a}
 
 pub loop-run-init : goal.loop-run-init
 loop-run-init c =
-    let stop : IsServed c.args.own c.args.row.now (label_after c.args.n c.args.end) → ⊥ =
-    λ s. iff_false c.is_served.ensures c.if-is_served.false (subst (IsServed c.args.own c.args.row.now) (sym c.after.ensures.after) s) in
+    let stop : IsServed c.args.own c.args.marked.marks.now (label_after c.args.n c.args.end) → ⊥ =
+    λ s. iff_false c.is_served.ensures c.if-is_served.false (subst (IsServed c.args.own c.args.marked.marks.now) (sym c.after.ensures.after) s) in
     record {
       counts_len = c.requires.counts;
       ports_len = c.requires.ports;
-      walk = back_start c.args.n c.args.own c.args.row.now c.args.port c.args.end c.args.counts.now c.args.ports.now c.requires.end stop;
+      walk = back_start c.args.n c.args.own c.args.marked.marks.now c.args.marked.port c.args.end c.args.counts.now c.args.ports.now c.requires.end stop;
     }
 
 pub loop-run-preserved : goal.loop-run-preserved
 loop-run-preserved c =
     let n : ℕ = c.args.n in
     let own : ℕ = c.args.own in
-    let row : List Bool = c.args.row.now in
-    let port : ℕ = c.args.port in
+    let row : List Bool = c.args.marked.marks.now in
+    let port : ℕ = c.args.marked.port in
     let a : ℕ = c.loop-run.a in
     let run : ℕ = c.loop-run.run in
     let counts : List ℕ = c.loop-run.counts in
@@ -53,14 +53,14 @@ loop-run-preserved c =
 pub returns-then-is_served-clause-block : goal.returns-then-is_served-clause-block
 returns-then-is_served-clause-block c =
     let served = rw c.after.ensures.after at c.is_served.ensures.0 c.if-is_served.true in
-    not_last c.args.n c.args.own c.args.row.now c.args.port c.args.end c.args.counts.now c.args.ports.now served
+    not_last c.args.n c.args.own c.args.marked.marks.now c.args.marked.port c.args.end c.args.counts.now c.args.ports.now served
 
 pub returns-then-not-is_served-clause-block : goal.returns-then-not-is_served-clause-block
 returns-then-not-is_served-clause-block c =
-    back_done c.args.n c.args.own c.args.row.now c.args.port c.args.end c.loop-run.run c.loop-run.a c.args.counts.now c.args.ports.now c.loop-run.counts c.loop-run.ports
+    back_done c.args.n c.args.own c.args.marked.marks.now c.args.marked.port c.args.end c.loop-run.run c.loop-run.a c.args.counts.now c.args.ports.now c.loop-run.counts c.loop-run.ports
     (iff_false c.is_served-in-loop-run.ensures c.if-not-is_served.true) c.loop-run.invariant.walk
 
 pub returns-clause-block : goal.returns-clause-block
 returns-clause-block c =
-    back_round c.args.n c.args.own c.args.row.now c.args.port c.args.end c.loop-run.run c.loop-run.a c.args.counts.now c.args.ports.now c.loop-run.counts c.loop-run.ports
+    back_round c.args.n c.args.own c.args.marked.marks.now c.args.marked.port c.args.end c.loop-run.run c.loop-run.a c.args.counts.now c.args.ports.now c.loop-run.counts c.loop-run.ports
     (omega (arith, c.loop-run-test.false)) c.loop-run.invariant.walk

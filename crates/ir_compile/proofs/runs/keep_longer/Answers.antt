@@ -10,14 +10,14 @@ use Rattle.ir_compile.proofs.runs.keep_longer.Goals as goal
 pub returns-then-front_run-n-clause-longer : goal.returns-then-front_run-n-clause-longer
 returns-then-front_run-n-clause-longer c =
     let n : ℕ = c.args.n in
-    let all = all_served n c.args.own c.args.row.now c.args.port c.front_run.result (omega (arith, c.if-front_run-n.true)) c.front_run.ensures in
+    let all = all_served n c.args.own c.args.marked.marks.now c.args.marked.port c.front_run.result (omega (arith, c.if-front_run-n.true)) c.front_run.ensures in
     λ a l.
-    round_kept n c.args.own c.args.row.now c.args.port all a (slice_index c.args.counts.now a) (slice_index c.args.ports.now a) (slice_index c.keep_round.new.counts a) (slice_index c.keep_round.new.ports a) l
+    round_kept n c.args.own c.args.marked.marks.now c.args.marked.port all a (slice_index c.args.counts.now a) (slice_index c.args.ports.now a) (slice_index c.keep_round.new.counts a) (slice_index c.keep_round.new.ports a) l
     (c.keep_round.ensures.longer a l)
 
 pub loop-label-init : goal.loop-label-init
 loop-label-init c =
-    let P = KeepsBlock c.args.n c.args.own c.args.row.now c.args.port c.args.counts.now c.args.ports.now c.keep_back.new.counts c.keep_back.new.ports in
+    let P = KeepsBlock c.args.n c.args.own c.args.marked.marks.now c.args.marked.port c.args.counts.now c.args.ports.now c.keep_back.new.counts c.keep_back.new.ports in
     record {
       counts_len = c.keep_back.ensures.counts;
       ports_len = c.keep_back.ensures.ports;
@@ -27,7 +27,7 @@ loop-label-init c =
 
 pub keep_back-requires-in-loop-label-clause-end : goal.keep_back-requires-in-loop-label-clause-end
 keep_back-requires-in-loop-label-clause-end c =
-    let marked : List ℕ = c.args.marked.now in
+    let marked : List ℕ = c.args.marked.labels.now in
     let i : ℕ = c.loop-label.label-index in
     c.requires.marked.label (slice_index_or marked i 0) (Contains-get_or marked i 0 c.loop-label-test.true)
 
@@ -35,9 +35,9 @@ pub loop-label-preserved : goal.loop-label-preserved
 loop-label-preserved c =
     let n : ℕ = c.args.n in
     let own : ℕ = c.args.own in
-    let row : List Bool = c.args.row.now in
-    let port : ℕ = c.args.port in
-    let marked : List ℕ = c.args.marked.now in
+    let row : List Bool = c.args.marked.marks.now in
+    let port : ℕ = c.args.marked.port in
+    let marked : List ℕ = c.args.marked.labels.now in
     let i : ℕ = c.loop-label.label-index in
     let inv = c.loop-label.invariant in
     let next = c.keep_back-in-loop-label.ensures in
@@ -64,5 +64,5 @@ returns-clause-longer c =
     let less : front < n = let within = run.within in omega (arith, within, c.if-front_run-n.false) in
     let stop = run.stops less in
     let zero : 0 < n = omega (arith, c.requires.own) in
-    all_kept n c.args.own c.args.row.now c.args.port c.args.marked.now c.loop-label.label-index c.args.counts.now c.args.ports.now c.loop-label.counts c.loop-label.ports
+    all_kept n c.args.own c.args.marked.marks.now c.args.marked.port c.args.marked.labels.now c.loop-label.label-index c.args.counts.now c.args.ports.now c.loop-label.counts c.loop-label.ports
     c.requires.marked (omega (arith, c.loop-label-test.false)) (label_from n 0 front) (from_is_label n 0 front zero) (λ served. stop.1 (served stop.0)) c.loop-label.invariant.each c.loop-label.invariant.blocks

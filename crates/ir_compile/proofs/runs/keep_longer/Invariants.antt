@@ -7,6 +7,6 @@ abbrev pub invariant-loop-label : goal.invariant-loop-label
 invariant-loop-label l = record {
   counts_len : length l.counts ≡ l.n;
   ports_len : length l.ports ≡ l.n;
-  each : Keeps l.n l.own l.row l.port l.fn.counts l.fn.ports l.counts l.ports;
-  blocks : (e : ℕ) → IsTried l.n l.own l.row l.port l.marked l.label-index e → KeepsBlock l.n l.own l.row l.port l.fn.counts l.fn.ports l.counts l.ports e;
+  each : Keeps l.n l.own l.marked.marks.now l.marked.port l.fn.counts l.fn.ports l.counts l.ports;
+  blocks : (e : ℕ) → IsTried l.n l.own l.marked.marks.now l.marked.port l.marked.labels.now l.label-index e → KeepsBlock l.n l.own l.marked.marks.now l.marked.port l.fn.counts l.fn.ports l.counts l.ports e;
 }

@@ -12,7 +12,7 @@ loop-a-init c = record {
   ports_len = c.requires.ports;
   further = omega arith;
   within = c.requires.round;
-  shared = common_none c.args.twice.now c.args.to;
+  shared = common_none c.args.twice.now c.args.block.1;
   some = c.requires.common;
   runs = c.requires.runs;
 }
@@ -22,7 +22,7 @@ loop-a-preserved c =
     let n : ℕ = c.args.n in
     let twice : List ℕ = c.args.twice.now in
     let a : ℕ = c.loop-a.a in
-    let to : ℕ = c.args.to in
+    let to : ℕ = c.args.block.1 in
     let back : ℕ = slice_index c.args.backs.now a in
     let v = c.loop-a.invariant in
     let made = c.extended-further.ensures in

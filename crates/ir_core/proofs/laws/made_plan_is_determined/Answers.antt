@@ -25,9 +25,9 @@ module _ (labels : LabelOrder) (kind : Kind) (root : ℕ) (net : Topology) (p q 
 
 pub returns : goal.returns
 returns c = record {
-  order = same;
-  labels = λ labels kind root net p q a b. labels_same p q a.valid (alike labels kind root net p q a b) (same labels kind root net p q a b);
-  tables = λ labels kind root net p q other a b u d hu hd.
-      table_same p q (apart labels kind root net p q a b other) a.valid (alike labels kind root net p q a b) (same labels kind root net p q a b) u d (in_p labels kind root net p q a b u hu) (in_p labels kind root net p q a b d hd);
-  rows = λ labels kind root net p q other a b. rows_same p q (apart labels kind root net p q a b other) a.valid (alike labels kind root net p q a b) (same labels kind root net p q a b);
+  order = λ labels kind root net p q m. same labels kind root net p q m.0 m.1;
+  labels = λ labels kind root net p q m. labels_same p q m.0.valid (alike labels kind root net p q m.0 m.1) (same labels kind root net p q m.0 m.1);
+  tables = λ labels kind root net p q other m u d hu hd.
+      table_same p q (apart labels kind root net p q m.0 m.1 other) m.0.valid (alike labels kind root net p q m.0 m.1) (same labels kind root net p q m.0 m.1) u d (in_p labels kind root net p q m.0 m.1 u hu) (in_p labels kind root net p q m.0 m.1 d hd);
+  rows = λ labels kind root net p q other m. rows_same p q (apart labels kind root net p q m.0 m.1 other) m.0.valid (alike labels kind root net p q m.0 m.1) (same labels kind root net p q m.0 m.1);
 }

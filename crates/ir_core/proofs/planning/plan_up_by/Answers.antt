@@ -8,10 +8,10 @@ pub returns-clause-made : goal.returns-clause-made
 returns-clause-made g c =
     let marks = c.as_slice.ensures.value ∙ c.in_ok-up.ensures.marks ∙ ap (λ (n : ℕ). take n c.args.board.now.up) c.links.ensures.count in
     let over = c.in_ok-over.ensures ∙ ap (λ (up : List Bool). restrict up c.args.topology.now) marks in
-    subst (λ (net : Topology). IfOk c.plan_over_by.result (IsPlanBy net c.args.kind (FromRoot c.args.labels c.args.root))) over c.plan_over_by.ensures.made
+    subst (λ (net : Topology). IfOk c.plan_over_by.result (IsPlanBy net c.args.draft.kind (FromRoot c.args.draft.labels c.args.draft.root))) over c.plan_over_by.ensures.made
 
 pub returns-clause-refused : goal.returns-clause-refused
 returns-clause-refused g c =
     let marks = c.as_slice.ensures.value ∙ c.in_ok-up.ensures.marks ∙ ap (λ (n : ℕ). take n c.args.board.now.up) c.links.ensures.count in
     let over = c.in_ok-over.ensures ∙ ap (λ (up : List Bool). restrict up c.args.topology.now) marks in
-    subst (λ (net : Topology). IfErr c.plan_over_by.result (RefusesPlan net (FromRoot c.args.labels c.args.root))) over c.plan_over_by.ensures.refused
+    subst (λ (net : Topology). IfErr c.plan_over_by.result (RefusesPlan net (FromRoot c.args.draft.labels c.args.draft.root))) over c.plan_over_by.ensures.refused

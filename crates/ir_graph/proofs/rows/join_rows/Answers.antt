@@ -13,6 +13,6 @@ cut_neighbor-requires c = rw (c.in-Err.ensures.err, c.in_ok-put_neighbor.ensures
 
 pub returns-clause-err : goal.returns-clause-err
 returns-clause-err c =
-    c.cut_neighbor.ensures ∙ ap (λ g. change_row g c.args.i (λ es. without es c.args.v.now)) (c.in-Err.ensures.err ∙ c.in_ok-put_neighbor.ensures.ok)
-    ∙ change_row-twice (rows_view c.args.rows.now) c.args.i _ _
-    ∙ change_row-same _ _ _ (IfSome_then (slice_get (rows_view c.args.rows.now) c.args.i) c.requires.apart (λ r h. without-put r.1 c.args.v.now c.args.weight h))
+    c.cut_neighbor.ensures ∙ ap (λ g. change_row g c.args.places.0 (λ es. without es c.args.v.now)) (c.in-Err.ensures.err ∙ c.in_ok-put_neighbor.ensures.ok)
+    ∙ change_row-twice (rows_view c.args.rows.now) c.args.places.0 _ _
+    ∙ change_row-same _ _ _ (IfSome_then (slice_get (rows_view c.args.rows.now) c.args.places.0) c.requires.apart (λ r h. without-put r.1 c.args.v.now c.args.weight h))

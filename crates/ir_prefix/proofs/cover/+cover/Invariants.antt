@@ -1,4 +1,4 @@
 use Rattle.ir_prefix.proofs.cover.+cover.Given as goal
 
 abbrev pub decreases-cover : goal.decreases-cover
-decreases-cover l = l.height
+decreases-cover l = l.spot.height

@@ -6,7 +6,7 @@ use Rattle.ir_prefix.specs.Extended.{line_of}
 use Rattle.ir_prefix.specs.Forwarding.{AreLongestFirst, IsDisjointTable, IsFewestDisjoint, IsWellFormed, NamesPorts}
 use Rattle.ir_prefix.specs.Parts.{pieces_of}
 use Rattle.ir_prefix.specs.declared.cover.Prefix.{Prefix}
-use Rattle.ir_prefix.specs.declared.line.Line.{Line}
+use Rattle.ir_prefix.specs.declared.line.TableLine.{TableLine}
 use Rattle.ir_prefix.proofs.DisjointLemmas.{pieces_distinct, pieces_disjoint, set_is_least, pieces_are_fewest}
 use Rattle.ir_prefix.proofs.Final.{same_width, width_fits}
 use Rattle.ir_prefix.proofs.TableLemmas.{lines_in_order, lines_are_well}
@@ -59,7 +59,7 @@ returns-clause-fewest c = λ b v.
     let f = c.in_ok-lines_of.ensures ∙ ap (λ xs. map (line_of u) xs) c.as_slice-2.ensures.value in
     let k = same_width c.args.n bits b c.width-bits.ensures v in
     let h = pieces_are_fewest bits c.args.n u c.args.ports.now t set c.requires.every c.in_ok-push_pieces.ensures.1 perm in
-    subst (λ (table : List Line). IsFewestDisjoint c.args.n b c.args.ports.now (length table)) (sym f) (subst (λ w. IsFewestDisjoint c.args.n w c.args.ports.now (length (map (line_of u) set))) k h)
+    subst (λ (table : List TableLine). IsFewestDisjoint c.args.n b c.args.ports.now (length table)) (sym f) (subst (λ w. IsFewestDisjoint c.args.n w c.args.ports.now (length (map (line_of u) set))) k h)
 
 pub returns-clause-order : goal.returns-clause-order
 returns-clause-order c =

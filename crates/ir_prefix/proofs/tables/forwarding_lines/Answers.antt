@@ -1,7 +1,7 @@
 use Rattle.std.proofs.Common.{map, length, List, ap, sym, ◌∙◌, subst, arith}
 use Rattle.ir_prefix.specs.Extended.{line_of}
 use Rattle.ir_prefix.specs.Forwarding.{AreLongestFirst, IsFewestLines, IsForwardingTable, IsWellFormed, KeepsMatches, NamesPorts}
-use Rattle.ir_prefix.specs.declared.line.Line.{Line}
+use Rattle.ir_prefix.specs.declared.line.TableLine.{TableLine}
 use Rattle.ir_prefix.proofs.Final.{same_width}
 use Rattle.ir_prefix.proofs.TableLemmas.{row_length, lines_forward, lines_are_fewest, lines_in_order, lines_keep_matches, lines_are_well}
 use Rattle.ir_prefix.proofs.PortLemmas.{lines_name_ports}
@@ -45,7 +45,7 @@ returns-clause-fewest c = λ b v.
     let e = c.in_ok-lines_of.ensures ∙ ap (λ xs. map (line_of u) xs) c.as_slice-2.ensures.value in
     let k = same_width c.args.n c.width-bits.result b c.width-bits.ensures v in
     let h = lines_are_fewest c.args.n c.args.own c.width-bits.result u c.args.ports.now c.as_slice.result.now c.requires c.unused_port-unreachable.ensures c.width-bits.ensures.enough row set c.in_ok-set.ensures.fewest in
-    subst (λ (table : List Line). IsFewestLines c.args.n b c.args.ports.now (length table)) (sym e) (subst (λ w. IsFewestLines c.args.n w c.args.ports.now (length (map (line_of u) set))) k h)
+    subst (λ (table : List TableLine). IsFewestLines c.args.n b c.args.ports.now (length table)) (sym e) (subst (λ w. IsFewestLines c.args.n w c.args.ports.now (length (map (line_of u) set))) k h)
 
 pub returns-clause-order : goal.returns-clause-order
 returns-clause-order c =

@@ -1,7 +1,7 @@
 use Rattle.std.proofs.Common.{◌∙◌, sym, arith}
 use Rattle.std.proofs.lemmas.List.{get_or_default}
 use Rattle.std.proofs.lemmas.Result.{IfOk-weaker}
-use Rattle.ir_prefix.specs.declared.trie.Node.TheVariants.{NoPort}
+use Rattle.ir_prefix.specs.declared.trie.TrieNode.TheVariants.{NoPort}
 use Rattle.ir_prefix.proofs.NodeLemmas.{stands_inside, merged_stands}
 use Rattle.ir_prefix.proofs.trie.push_parent.Goals as goal
 
