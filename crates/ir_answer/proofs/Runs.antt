@@ -13,7 +13,7 @@ use Rattle.ir_cli.specs.Ending.{EndsAs}
 use Rattle.ir_cli.specs.Notices.{notice_line}
 use Rattle.ir_cli.specs.Replied.{RepliesAs, UnreadAs}
 use Rattle.ir_cli.specs.Replies.{answer_of}
-use Rattle.ir_cli.specs.declared.reply.Reply.{Reply}
+use Rattle.ir_cli.specs.declared.reply.RunReply.{RunReply}
 use Rattle.ir_cli.specs.Words.{FitsItsKind}
 use Rattle.ir_answer.specs.Asked.{PlainBy, AnswersBy, FitsSub, NoThreads}
 use Rattle.ir_answer.specs.Formed.{asked_form, InForm}
@@ -72,7 +72,7 @@ module _ (P : List (List ℕ) → Answer → Type 0) (texts : List (List ℕ)) (
 
 -- what was given of an answer in the form that the words ask for is how a run ends
 module _ (P : List (List ℕ) → Answer → Type 0) (sub : Sub) (words : Words) (texts : List (List ℕ)) (out : Bool → List ℕ → Type 0) (unused : Type 0) (told : List ℕ → Type 0) where
-  pub ends_given : (given : Result Reply Stop) (ending : Ending) → Gives (P texts) given → GivenAs (asked_form sub words) given ending out unused told
+  pub ends_given : (given : Result RunReply Stop) (ending : Ending) → Gives (P texts) given → GivenAs (asked_form sub words) given ending out unused told
       → EndsSo (InForm sub words P) texts out unused told ending
   ends_given (Ok reply) ending holds given =
       replied (InForm sub words P) texts out unused told ending (asked_form sub words (answer_of reply)) (answer_of reply, holds, refl) given

@@ -10,7 +10,7 @@ use Rattle.ir_cli.specs.declared.words.Sub.{Sub}
 use Rattle.ir_cli.specs.declared.words.Sub.TheVariants.{Plan, Walk, Stats, Compare, Draw, Prefixes, Ranges, Sim, Live, Check}
 use Rattle.ir_cli.specs.Answer.{Answer, Ran, Found, Refused, NoThread}
 use Rattle.ir_cli.specs.declared.ending.Ending.TheVariants as endings
-use Rattle.ir_cli.specs.declared.outcome.Outcome.{Outcome}
+use Rattle.ir_cli.specs.declared.outcome.RunOutcome.{RunOutcome}
 use Rattle.ir_cli.specs.Lines.{out_of_memory_line, unwritable_line}
 use Rattle.ir_cli.specs.Notices.{told_text}
 
@@ -61,7 +61,7 @@ IsTextPut text (Ok sent) out unused = out sent text
 IsTextPut text (Err error) out unused = unused
 
 -- What a run comes to behind its output: as told, with these lines of faults, where all of it was taken; else to a fault.
-abbrev pub EndsPut : Result Bool AllocError → Outcome → List ℕ → Outcome → (told : List ℕ → Type 0) → Type 0
+abbrev pub EndsPut : Result Bool AllocError → RunOutcome → List ℕ → RunOutcome → (told : List ℕ → Type 0) → Type 0
 EndsPut (Ok true) whole lines outcome told = (outcome ≡ whole) × told lines
 EndsPut (Ok false) whole lines outcome told =
     (outcome.ending ≡ endings.Unwritable) × (outcome.found ≡ None) × told unwritable_line × told (told_text outcome.told)

@@ -6,7 +6,7 @@ use Rattle.ir_model.specs.OfGraph.{topology_of_graph}
 use Rattle.ir_script.specs.declared.fault.ScriptFault.{ScriptFault}
 use Rattle.ir_script.specs.Script.{Listing, listing_from}
 use Rattle.ir_cli.specs.declared.words.Words.{Words}
-use Rattle.ir_cli.specs.declared.reply.Reply.{Reply}
+use Rattle.ir_cli.specs.declared.reply.RunReply.{RunReply}
 use Rattle.ir_cli.specs.declared.ending.Ending.{Ending}
 use Rattle.ir_cli.specs.declared.ending.Ending.TheVariants as endings
 use Rattle.ir_cli.specs.Answer.{Answer, Refused}
@@ -24,11 +24,11 @@ StopsAs (stops.Refused notice) refuses = refuses (notice_line notice)
 StopsAs stops.NoMemory refuses = Unit {0}
 
 -- an answer of these, a refusal among them, or want of memory
-abbrev pub Gives : (Answer → Type 0) → Result Reply Stop → Type 0
+abbrev pub Gives : (Answer → Type 0) → Result RunReply Stop → Type 0
 Gives answers result = MatchResult result (λ reply. answers (answer_of reply)) (λ stop. StopsAs stop (λ line. answers (Refused line)))
 
 -- what the writers were given of an answer in a form or of a refusal, or of want of memory
-abbrev pub GivenAs : (Answer → Answer) → Result Reply Stop → Ending → (out : Bool → List ℕ → Type 0) (unused : Type 0) (told : List ℕ → Type 0) → Type 0
+abbrev pub GivenAs : (Answer → Answer) → Result RunReply Stop → Ending → (out : Bool → List ℕ → Type 0) (unused : Type 0) (told : List ℕ → Type 0) → Type 0
 GivenAs form (Ok reply) ending out unused told = RepliesAs ending (form (answer_of reply)) out unused told
 GivenAs form (Err (stops.Refused notice)) ending out unused told = RepliesAs ending (Refused (notice_line notice)) out unused told
 GivenAs form (Err stops.NoMemory) ending out unused told = (ending ≡ endings.NoMemory) × unused × told out_of_memory_line

@@ -8,7 +8,7 @@ ghost use Rattle.ir_answer.specs.Checks.{IsCleanTrace, IsFound, AnswersRows, Ans
 ghost use Rattle.ir_answer.specs.Stops.{Gives};
 
 use crate::asking::{Asked, Stop, opening_stop, read_asked};
-use ir_cli::{Notice, Reply, Words, opening_of};
+use ir_cli::{Notice, RunReply, Words, opening_of};
 use ir_core::{Install, Step, installs_by};
 use ir_graph::Graph;
 use ir_plan::Crew;
@@ -69,17 +69,17 @@ fn answer_clean(
     words: &Words,
     asked: &Asked<Step>,
     read: &Trace,
-) -> Result<Reply, Stop>
+) -> Result<RunReply, Stop>
     requires rows { AreRowsOver (node_count asked.now.topology) read.now }
     requires ids { HaveOwnIds read.now }
     ensures { Gives (AnswersRows words.now.whole (run_with words.now asked.now.topology asked.now.script.steps.items)
         read.now) result }
 {
     match beside_script(alloc, words, &asked.topology, asked.script.steps(), read) {
-        Ok(()) => Ok(Reply::Sound(read.rows())),
+        Ok(()) => Ok(RunReply::Sound(read.rows())),
         Err(finding) => match finding.kind {
             WholeKind::NoMemory => Err(Stop::NoMemory),
-            _ => Ok(Reply::Found(Notice::Beside(finding))),
+            _ => Ok(RunReply::Found(Notice::Beside(finding))),
         },
     }
 }
@@ -92,7 +92,7 @@ fn answer_trace(
     asked: &Asked<Step>,
     built: &[Install],
     trace: &[u8],
-) -> Result<Reply, Stop>
+) -> Result<RunReply, Stop>
     requires over { asked.now.topology ≡ topology_of_graph asked.now.graph }
     requires installs { AreInstalls asked.now.topology built.now }
     ensures { Gives (AnswersTraceAsked words.now.whole asked.now.graph trace.now built.now
@@ -102,7 +102,7 @@ fn answer_trace(
         Ok(read) => answer_clean(alloc, words, asked, &read),
         Err(finding) => match finding.kind {
             FindingKind::NoMemory => Err(Stop::NoMemory),
-            _ => Ok(Reply::Found(Notice::Finding(finding))),
+            _ => Ok(RunReply::Found(Notice::Finding(finding))),
         },
     }
 }
@@ -117,7 +117,7 @@ pub fn check(
     topology: &[u8],
     script: &[u8],
     trace: &[u8],
-) -> Result<Reply, Stop>
+) -> Result<RunReply, Stop>
     ensures { Gives (AnswersTopology words.now.format (lines topology.now)
         (AnswersChecked words.now (lines script.now) trace.now)) result }
 {

@@ -5,7 +5,7 @@ ghost use Rattle.ir_answer.specs.Stops.{Gives};
 ghost use Rattle.ir_cli.specs.Reading.{texts_of};
 
 use crate::asking::{Stop, opening_stop, read_graph, read_node};
-use ir_cli::{Reply, Source, Words};
+use ir_cli::{RunReply, Source, Words};
 use ir_core::OpenError;
 use ir_figures::compare_text;
 use ir_plan::Crew;
@@ -38,7 +38,7 @@ pub fn compare(
     alloc: Global,
     words: &Words,
     texts: &[Vec<u8>],
-) -> Result<Reply, Stop>
+) -> Result<RunReply, Stop>
     requires { length texts.now ≡ length (compare_sources words.now) }
     ensures { Gives (CompareAnswers words.now (texts_of texts.now)) result }
 {
@@ -47,7 +47,7 @@ pub fn compare(
     let root = read_node(&graph, &words.root)?;
     let topology = Topology::of(alloc, &graph)?;
     match compare_text(crew, alloc, topology, root, words.threads) {
-        Ok(text) => Ok(Reply::Ran(text, Vec::new(alloc))),
+        Ok(text) => Ok(RunReply::Ran(text, Vec::new(alloc))),
         Err(error) => Err(opening_stop(OpenError::from(error))),
     }
 }

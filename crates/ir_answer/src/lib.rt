@@ -17,7 +17,9 @@ mod writing;
 
 pub use asking::{Asked, Stop, opening_stop, read_asked, two_texts};
 pub use forming::asked_shape;
-pub use ir_cli::{Format, Notice, Numbering, Outcome, Source, Sub, Words, WordsError, read_words};
+pub use ir_cli::{
+    Format, Notice, NumberingChoice, RunOutcome, Source, Sub, Words, WordsError, read_words,
+};
 pub use ir_plan::{Alone, Crew, Several};
 pub use laws::{check_has_one_answer, installs_have_the_same_plans, text_is_as_it_was};
 pub use play::run_text;

@@ -11,7 +11,7 @@ ghost use Rattle.ir_answer.specs.Plans.{AnswersText};
 ghost use Rattle.ir_cli.specs.{Reading.texts_of, Replies.answer_of, Words.FitsItsKind};
 
 use crate::asking::{Stop, opening_stop, read_graph, read_node};
-use ir_cli::{Notice, Reply, Sub, Words, label_order};
+use ir_cli::{Notice, RunReply, Sub, Words, label_order};
 use ir_core::OpenError;
 use ir_exports::{LineCrew, circle_dot, circle_svg, order_text, ranges_text};
 use ir_figures::{figures_text, figures_text_beside};
@@ -129,16 +129,16 @@ fn reply_of(
     plan: Plan,
     show: Show,
     most: Option<usize>,
-) -> Result<Reply, AllocError>
+) -> Result<RunReply, AllocError>
     requires nodes { node_count plan.topology ≡ length graph }
     requires ends { AreAmong (length graph) show }
     ensures { IfOk result (λ reply. AnswerShows show (names graph) plan (answer_of reply)) }
 {
     if show == Show::Rows {
-        return Ok(Reply::Plan(PlanText::new(alloc, graph, plan)?));
+        return Ok(RunReply::Plan(PlanText::new(alloc, graph, plan)?));
     }
     let text = text_of(crew, alloc, &graph, &plan, show, most)?;
-    Ok(Reply::Ran(text, Vec::new(alloc)))
+    Ok(RunReply::Ran(text, Vec::new(alloc)))
 }
 
 /// The texts of a topology and, where the words have one, of an order.
@@ -282,7 +282,7 @@ fn show_walk(
     kind: Kind,
     labels: Labels,
     ends: (u16, u16),
-) -> Result<Reply, Stop>
+) -> Result<RunReply, Stop>
     requires kind { kind ≢ Kind.Tree }
     requires topology { topology.now ≡ topology_of_graph graph.now }
     requires ends { 0 < length graph.now → (ends.0 < length graph.now) × (ends.1 < length graph.now) }
@@ -292,7 +292,7 @@ fn show_walk(
         (Says (Show.Between ends.0 ends.1) (names graph.now))) result }
 {
     match walk_text_alone(alloc, graph, topology, kind, labels, ends) {
-        Ok(text) => Ok(Reply::Ran(text, Vec::new(alloc))),
+        Ok(text) => Ok(RunReply::Ran(text, Vec::new(alloc))),
         Err(error) => Err(opening_stop(OpenError::from(error))),
     }
 }
@@ -305,7 +305,7 @@ fn show_plan(
     graph: Graph,
     labels: Labels,
     show: Show,
-) -> Result<Reply, Stop>
+) -> Result<RunReply, Stop>
     requires labels { MayLabel (topology_of_graph graph) words.now.kind (labelling_of labels) }
     requires ends { 0 < length graph → AreAmong (length graph) show }
     ensures { Gives (AnswersShow words.now graph (labelling_of labels) show) result }
@@ -332,7 +332,7 @@ pub fn look_at(
     sub: Sub,
     words: &Words,
     texts: &[Vec<u8>],
-) -> Result<Reply, Stop>
+) -> Result<RunReply, Stop>
     requires kind { FitsItsKind words.now }
     requires texts { length texts.now ≡ length (look_sources words.now) }
     requires shows { ShowsPlan sub }

@@ -6,8 +6,8 @@ ghost use Rattle.ir_cli.specs.{Lines.{reply_line, steps_text}, Openings.{Answers
 ghost use Rattle.ir_answer.specs.{Plays.{wants_memory, refused_text, run_text, AnswersScript}, Stops.Gives};
 
 use crate::asking::{Stop, opening_stop, read_asked};
-use ir_cli::{Reply, Words, opening_of};
-use ir_core::{Played, Record, Refused, Reply as Answered, Step, play_by};
+use ir_cli::{RunReply, Words, opening_of};
+use ir_core::{Played, Record, Refused, Reply, Step, play_by};
 use ir_graph::Graph;
 use ir_plan::Crew;
 use ir_tables::Topology;
@@ -15,7 +15,7 @@ use ir_trace::{trace_text, trace_text_2};
 use std::alloc::{AllocError, Global};
 
 /// Whether some step wanted memory.
-fn wants_memory(replies: &[Result<Answered, Refused>]) -> bool
+fn wants_memory(replies: &[Result<Reply, Refused>]) -> bool
     ensures { result ≡ list_any wants_memory replies.now }
 {
     replies
@@ -27,7 +27,7 @@ fn wants_memory(replies: &[Result<Answered, Refused>]) -> bool
 fn push_refused(
     steps: &mut Vec<(usize, Refused)>,
     line: usize,
-    reply: Result<Answered, Refused>,
+    reply: Result<Reply, Refused>,
 ) -> Result<(), AllocError>
     ensures { OnOk result (steps_text steps.new.items ≡ steps_text steps.old.items ++ reply_line (line, reply)) }
 {
@@ -41,7 +41,7 @@ fn push_refused(
 fn refused_steps(
     alloc: Global,
     lines: &[usize],
-    replies: &[Result<Answered, Refused>],
+    replies: &[Result<Reply, Refused>],
 ) -> Result<Vec<(usize, Refused)>, AllocError>
     ensures { IfOk result (λ steps. steps_text steps.items ≡ refused_text lines.now replies.now) }
 {
@@ -107,7 +107,7 @@ pub fn simulate(
     words: &Words,
     topology: &[u8],
     script: &[u8],
-) -> Result<Reply, Stop>
+) -> Result<RunReply, Stop>
     ensures { Gives (AnswersTopology words.now.format (lines topology.now)
         (AnswersScript words.now (lines script.now))) result }
 {
@@ -123,7 +123,7 @@ pub fn simulate(
                 asked.script.lines(),
                 played,
             )?;
-            Ok(Reply::Ran(trace, refused))
+            Ok(RunReply::Ran(trace, refused))
         }
         Err(error) => Err(opening_stop(error)),
     }

@@ -12,7 +12,7 @@ use crate::forming::asked_shape;
 use crate::look::look_at;
 use crate::play::simulate;
 use crate::writing::write_given_by;
-use ir_cli::{Outcome, Reply, Source, Sub, Words, read_inputs, status_of, tell_unread};
+use ir_cli::{RunOutcome, RunReply, Source, Sub, Words, read_inputs, status_of, tell_unread};
 use ir_exports::LineCrew;
 use ir_plan::Alone;
 use ir_streams::{Reader, Writer};
@@ -65,7 +65,7 @@ fn answer_by<C: LineCrew>(
     sub: Sub,
     words: &Words,
     texts: &[Vec<u8>],
-) -> Result<Reply, Stop>
+) -> Result<RunReply, Stop>
     requires kind { FitsSub sub words.now }
     requires texts { length texts.now ≡ length (sources_by sub words.now) }
     ensures { Gives (PlainBy NoThreads sub words.now (texts_of texts.now)) result }
@@ -79,7 +79,7 @@ fn answer_by<C: LineCrew>(
             let (topology, script) = two_texts(words, texts);
             simulate(crew, alloc, words, topology, script)
         }
-        Sub::Live => Ok(Reply::NoThread),
+        Sub::Live => Ok(RunReply::NoThread),
         Sub::Check => {
             let (topology, script, trace) = three_texts(words, texts);
             check(crew, alloc, words, topology, script, trace)
@@ -96,7 +96,7 @@ fn write_answer<C: LineCrew, W: Writer, F: Writer>(
     texts: &[Vec<u8>],
     output: &mut W,
     faults: &mut F,
-) -> Outcome
+) -> RunOutcome
     requires kind { FitsSub sub words.now }
     requires texts { length texts.now ≡ length (sources_by sub words.now) }
     ensures ends { EndsAs (AnswersBy NoThreads sub words.now) result.ending (λ read. read ≡ texts_of texts.now)
@@ -128,7 +128,7 @@ fn follow_as<C: LineCrew, R: Reader, W: Writer, F: Writer>(
     inputs: &mut [R],
     output: &mut W,
     faults: &mut F,
-) -> Outcome
+) -> RunOutcome
     requires kind { FitsSub sub words.now }
     requires inputs { length inputs.old ≡ length (sources_by sub words.now) }
     ensures ends { EndsAs (AnswersBy NoThreads sub words.now) result.ending
@@ -227,7 +227,7 @@ pub fn follow_by<C: LineCrew, R: Reader, W: Writer, F: Writer>(
     inputs: &mut [R],
     output: &mut W,
     faults: &mut F,
-) -> Outcome
+) -> RunOutcome
     requires kind { FitsItsKind words.now }
     requires inputs { length inputs.old ≡ length (sources_of words.now) }
     ensures ends { EndsAs (Answers NoThreads words.now) result.ending

@@ -7,7 +7,9 @@ ghost use Rattle.ir_answer.specs.{Formed.{in_shape, EndsPut}, Stops.GivenAs};
 
 use crate::asking::Stop;
 use crate::forming::{put_notice, put_plan, put_text};
-use ir_cli::{Ending, Notice, Outcome, Reply, Told, notice_line, steps_text, tell, tell_fault};
+use ir_cli::{
+    Ending, Notice, RunOutcome, RunReply, Told, notice_line, steps_text, tell, tell_fault,
+};
 use ir_core::Refused;
 use ir_json::Shape;
 use ir_plan::Alone;
@@ -16,7 +18,7 @@ use ir_streams::Writer;
 use std::alloc::{AllocError, Global};
 
 /// Tells that memory was refused.
-fn out_of_memory<F: Writer>(faults: &mut F) -> Outcome
+fn out_of_memory<F: Writer>(faults: &mut F) -> RunOutcome
     ensures ending { result.ending ≡ endings.NoMemory }
     ensures line { Tells F.contents F.wrote F.settled faults.old faults.new out_of_memory_line }
     ensures told { Tells F.contents F.wrote F.settled faults.old faults.new (told_text result.told) }
@@ -31,12 +33,12 @@ fn out_of_memory<F: Writer>(faults: &mut F) -> Outcome
 }
 
 /// What a run came to whose output is whole.
-fn whole(ending: Ending, steps: Vec<(usize, Refused)>, found: Option<Notice>) -> Outcome
+fn whole(ending: Ending, steps: Vec<(usize, Refused)>, found: Option<Notice>) -> RunOutcome
     ensures ending { result.ending ≡ ending }
     ensures told { result.told ≡ Steps steps }
     ensures found { result.found ≡ found }
 {
-    Outcome {
+    RunOutcome {
         ending,
         told: Told::Steps(steps),
         found,
@@ -47,9 +49,9 @@ fn whole(ending: Ending, steps: Vec<(usize, Refused)>, found: Option<Notice>) ->
 fn ended<F: Writer>(
     put: Result<bool, AllocError>,
     lines: &[u8],
-    told: Outcome,
+    told: RunOutcome,
     faults: &mut F,
-) -> Outcome
+) -> RunOutcome
     ensures { EndsPut put told lines.now result (Tells F.contents F.wrote F.settled faults.old faults.new) }
 {
     match put {
@@ -75,10 +77,10 @@ fn write_reply<C: TextCrew, W: Writer, F: Writer>(
     alloc: Global,
     most: Option<usize>,
     shape: Option<Shape>,
-    reply: Reply,
+    reply: RunReply,
     output: &mut W,
     faults: &mut F,
-) -> Outcome
+) -> RunOutcome
     ensures ends { RepliesAs result.ending (in_shape shape (answer_of reply))
         (Sends W.contents W.wrote W.settled output.old output.new) (output.new ≡ output.old)
         (Tells F.contents F.wrote F.settled faults.old faults.new) }
@@ -87,7 +89,7 @@ fn write_reply<C: TextCrew, W: Writer, F: Writer>(
         (Sends W.contents W.wrote W.settled output.old output.new) }
 {
     match reply {
-        Reply::Ran(text, steps) => {
+        RunReply::Ran(text, steps) => {
             let Ok(lines) = steps_text(alloc, steps.as_slice()) else {
                 return out_of_memory(faults);
             };
@@ -95,22 +97,24 @@ fn write_reply<C: TextCrew, W: Writer, F: Writer>(
             let told = whole(Ending::Done, steps, None);
             ended(put, lines.as_bytes(), told, faults)
         }
-        Reply::Plan(text) => {
+        RunReply::Plan(text) => {
             let put = put_plan(crew, alloc, most, shape, text, output);
             let told = whole(Ending::Done, Vec::new(alloc), None);
             ended(put, b"", told, faults)
         }
-        Reply::Sound(rows) => {
+        RunReply::Sound(rows) => {
             let put = put_notice(alloc, shape, Notice::Sound(rows), output);
             let told = whole(Ending::Done, Vec::new(alloc), Some(Notice::Sound(rows)));
             ended(put, b"", told, faults)
         }
-        Reply::Found(notice) => {
+        RunReply::Found(notice) => {
             let put = put_notice(alloc, shape, notice, output);
             let told = whole(Ending::Found, Vec::new(alloc), Some(notice));
             ended(put, b"", told, faults)
         }
-        Reply::NoThread => { tell_fault(faults, Ending::NoThread, Notice::NoThread, "no thread\n") }
+        RunReply::NoThread => {
+            tell_fault(faults, Ending::NoThread, Notice::NoThread, "no thread\n")
+        }
     }
 }
 
@@ -121,10 +125,10 @@ pub fn write_given_by<C: TextCrew, W: Writer, F: Writer>(
     alloc: Global,
     most: Option<usize>,
     shape: Option<Shape>,
-    given: Result<Reply, Stop>,
+    given: Result<RunReply, Stop>,
     output: &mut W,
     faults: &mut F,
-) -> Outcome
+) -> RunOutcome
     ensures ends { GivenAs (in_shape shape) given result.ending
         (Sends W.contents W.wrote W.settled output.old output.new) (output.new ≡ output.old)
         (Tells F.contents F.wrote F.settled faults.old faults.new) }
@@ -146,10 +150,10 @@ pub fn write_given_by<C: TextCrew, W: Writer, F: Writer>(
 pub fn write_given<W: Writer, F: Writer>(
     alloc: Global,
     shape: Option<Shape>,
-    given: Result<Reply, Stop>,
+    given: Result<RunReply, Stop>,
     output: &mut W,
     faults: &mut F,
-) -> Outcome
+) -> RunOutcome
     ensures ends { GivenAs (in_shape shape) given result.ending
         (Sends W.contents W.wrote W.settled output.old output.new) (output.new ≡ output.old)
         (Tells F.contents F.wrote F.settled faults.old faults.new) }

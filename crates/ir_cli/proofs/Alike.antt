@@ -10,8 +10,8 @@ use Rattle.ir_model.specs.declared.Kind.{Kind}
 use Rattle.ir_model.specs.declared.Kind.TheVariants.{Tree, Shortest, Compact}
 use Rattle.ir_cli.specs.declared.words.Sub.{Sub}
 use Rattle.ir_cli.specs.declared.words.Sub.TheVariants as subs
-use Rattle.ir_cli.specs.declared.words.Numbering.{Numbering}
-use Rattle.ir_cli.specs.declared.words.Numbering.TheVariants.{DepthFirst, Tour, File}
+use Rattle.ir_cli.specs.declared.words.NumberingChoice.{NumberingChoice}
+use Rattle.ir_cli.specs.declared.words.NumberingChoice.TheVariants.{DepthFirst, Tour, File}
 use Rattle.ir_cli.specs.declared.words.Second.{Second}
 use Rattle.ir_cli.specs.declared.words.Words.{Words}
 use Rattle.ir_cli.specs.Words.{AreTaken, FitsItsKind, alike, has_its_files, has_order, is_dash, is_file, is_no_dash, takes_drawing, takes_numbering, texts_wanted}
@@ -66,14 +66,14 @@ numbering_by word kind has_root =
 abbrev file_by : Text → Bool
 file_by word = if bytes_eq word (codes "depth-first") then false else if bytes_eq word (codes "tour") then false else true
 
-numbering_by_word : (numbering : Numbering) (word : Text) (kind : Kind) (has_root : Bool) → IsNumbering numbering word
+numbering_by_word : (numbering : NumberingChoice) (word : Text) (kind : Kind) (has_root : Bool) → IsNumbering numbering word
     → takes_numbering numbering kind has_root ≡ numbering_by word kind has_root
 numbering_by_word DepthFirst word kind has_root is = sym (ap (λ w. numbering_by w kind has_root) is)
 numbering_by_word Tour word kind has_root is = sym (ap (λ w. numbering_by w kind has_root) is)
 numbering_by_word (File name) word kind has_root is =
     rw (other_text word (codes "depth-first") is.1, other_text word (codes "tour") is.2) (ap (λ w. is_no_dash w && not has_root) (sym is.0))
 
-file_by_word : (numbering : Numbering) (word : Text) → IsNumbering numbering word → is_file numbering ≡ file_by word
+file_by_word : (numbering : NumberingChoice) (word : Text) → IsNumbering numbering word → is_file numbering ≡ file_by word
 file_by_word DepthFirst word is = sym (ap file_by is)
 file_by_word Tour word is = sym (ap file_by is)
 file_by_word (File name) word is = rw (other_text word (codes "depth-first") is.1, other_text word (codes "tour") is.2) refl

@@ -10,8 +10,8 @@ use Rattle.ir_core.specs.declared.TheConstants.{MAX_CAPACITY, MAX_PACKETS, MAX_R
 use Rattle.ir_cli.specs.declared.TheConstants.{MAX_THREADS, DEFAULT_CAPACITY, DEFAULT_PACKETS, DEFAULT_RESTAMPS}
 use Rattle.ir_cli.specs.declared.words.Format.{Format}
 use Rattle.ir_cli.specs.declared.words.Format.TheVariants.{AdjList, EdgeList}
-use Rattle.ir_cli.specs.declared.words.Numbering.{Numbering}
-use Rattle.ir_cli.specs.declared.words.Numbering.TheVariants.{DepthFirst, Tour, File}
+use Rattle.ir_cli.specs.declared.words.NumberingChoice.{NumberingChoice}
+use Rattle.ir_cli.specs.declared.words.NumberingChoice.TheVariants.{DepthFirst, Tour, File}
 use Rattle.ir_cli.specs.declared.words.Second.{Second}
 use Rattle.ir_cli.specs.declared.words.Words.{Words}
 use Rattle.ir_cli.specs.Words.{format_of_name}
@@ -34,7 +34,7 @@ abbrev pub first_kind : List Row → Text
 first_kind rows = unwrap_or (first_of (codes "kind") rows) (codes "shortest")
 
 -- a word that names no order of its own is the name of a file
-abbrev pub IsNumbering : Numbering → Text → Type 0
+abbrev pub IsNumbering : NumberingChoice → Text → Type 0
 IsNumbering DepthFirst word = word ≡ codes "depth-first"
 IsNumbering Tour word = word ≡ codes "tour"
 IsNumbering (File name) word = (word ≡ string_bytes name) × (word ≢ codes "depth-first") × (word ≢ codes "tour")

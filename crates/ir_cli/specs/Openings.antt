@@ -14,8 +14,8 @@ use Rattle.ir_core.specs.declared.event.OpenError.{OpenError}
 use Rattle.ir_core.specs.declared.event.OpenError.TheVariants.{Empty, NoNode}
 use Rattle.ir_cli.specs.declared.words.Format.{Format}
 use Rattle.ir_cli.specs.declared.words.Format.TheVariants.{AdjList, EdgeList}
-use Rattle.ir_cli.specs.declared.words.Numbering.{Numbering}
-use Rattle.ir_cli.specs.declared.words.Numbering.TheVariants.{DepthFirst, Tour, File}
+use Rattle.ir_cli.specs.declared.words.NumberingChoice.{NumberingChoice}
+use Rattle.ir_cli.specs.declared.words.NumberingChoice.TheVariants.{DepthFirst, Tour, File}
 use Rattle.ir_cli.specs.declared.words.Words.{Words}
 use Rattle.ir_cli.specs.Answer.{Answer, Refused}
 use Rattle.ir_script.specs.Order.{order_fault, IsOrder}
@@ -40,7 +40,7 @@ root_in nodes None = Some 0
 root_in nodes (Some name) = position (bytes_eq name) nodes
 
 -- the order in which the plans of a run are labelled; that of a file is no run's
-abbrev pub label_order : Numbering → LabelOrder
+abbrev pub label_order : NumberingChoice → LabelOrder
 label_order DepthFirst = orders.DepthFirst
 label_order Tour = orders.Tour
 label_order (File name) = orders.DepthFirst

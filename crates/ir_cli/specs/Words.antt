@@ -7,8 +7,8 @@ use Rattle.ir_model.specs.declared.Kind.{Kind}
 use Rattle.ir_model.specs.declared.Kind.TheVariants.{Tree}
 use Rattle.ir_cli.specs.declared.words.Sub.{Sub}
 use Rattle.ir_cli.specs.declared.words.Sub.TheVariants.{Sim, Live, Check}
-use Rattle.ir_cli.specs.declared.words.Numbering.{Numbering}
-use Rattle.ir_cli.specs.declared.words.Numbering.TheVariants.{DepthFirst, Tour, File}
+use Rattle.ir_cli.specs.declared.words.NumberingChoice.{NumberingChoice}
+use Rattle.ir_cli.specs.declared.words.NumberingChoice.TheVariants.{DepthFirst, Tour, File}
 use Rattle.ir_cli.specs.declared.words.Words.{Words}
 use Rattle.ir_cli.specs.declared.words.Format.{Format}
 use Rattle.ir_cli.specs.declared.words.Format.TheVariants.{AdjList, EdgeList}
@@ -30,7 +30,7 @@ abbrev pub file_at : Words → ℕ → Name
 file_at words place = option_map_or string_bytes (slice_get words.files.items place) (codes "-")
 
 -- the file of an order of nodes; standard input where there is none
-abbrev pub order_name : Numbering → Name
+abbrev pub order_name : NumberingChoice → Name
 order_name (File name) = string_bytes name
 order_name DepthFirst = codes "-"
 order_name Tour = codes "-"
@@ -56,7 +56,7 @@ has_its_files words = is_one_input words
     || ((length words.files.items == texts_wanted words.sub) && list_all (λ file. is_no_dash (string_bytes file)) words.files.items)
 
 -- a tour is of no tree, and a file of an order is no dash and stands beside no root
-abbrev pub takes_numbering : Numbering → Kind → Bool → Bool
+abbrev pub takes_numbering : NumberingChoice → Kind → Bool → Bool
 takes_numbering DepthFirst kind has_root = true
 takes_numbering Tour Tree has_root = false
 takes_numbering Tour kind has_root = true
@@ -81,7 +81,7 @@ abbrev pub format_of_name : Name → Format
 format_of_name name = if ends_in name (codes ".edgelist") || ends_in name (codes ".wel") then EdgeList else AdjList
 
 -- the numbering is that of a file
-abbrev pub is_file : Numbering → Bool
+abbrev pub is_file : NumberingChoice → Bool
 is_file DepthFirst = false
 is_file Tour = false
 is_file (File name) = true

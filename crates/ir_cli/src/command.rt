@@ -6,8 +6,10 @@ ghost use Rattle.ir_cli.specs.CommandLine.{AreTheirWords, program, sub_word, sub
 ghost use Rattle.ir_cli.specs.declared.options.Choices.{Choices};
 ghost use Rattle.ir_cli.specs.Taking.{choice_words, program_app, rule_lettered, rule_named, rule_taken, rule_valued, with_taken};
 
-use crate::help::{Called, SCRIPT_LINES, Texts, about_of, lines_of, name_of, texts_of, usage_of};
-use crate::options::{Choice, Choices, Need, Taken, Takes, taken_by};
+use crate::help::{
+    Called, HelpTexts, SCRIPT_LINES, about_of, lines_of, name_of, texts_of, usage_of,
+};
+use crate::options::{Accepts, Choice, Choices, Need, Taken, taken_by};
 use crate::words::Sub;
 use clap::{Arg, ArgAction, Command};
 use std::alloc::{AllocError, Global};
@@ -27,9 +29,9 @@ fn named<'a>(alloc: Global, taken: &Taken) -> Arg<'a>
 {
     let arg = Arg::new(alloc, taken.name).help(taken.help);
     match taken.takes {
-        Takes::File(value) => arg.value_name(value),
-        Takes::Nothing => arg.long(taken.name).action(ArgAction::SetTrue),
-        Takes::Word(value) | Takes::WordOf(value, _) | Takes::Number(value, _, _) => {
+        Accepts::File(value) => arg.value_name(value),
+        Accepts::Nothing => arg.long(taken.name).action(ArgAction::SetTrue),
+        Accepts::Word(value) | Accepts::WordOf(value, _) | Accepts::Number(value, _, _) => {
             arg.long(taken.name).value_name(value)
         }
     }
@@ -63,11 +65,11 @@ fn valued<'a>(arg: Arg<'a>, choices: Choices<'a>, taken: &Taken) -> Arg<'a>
     ensures local { result.global ≡ arg.entry.global }
 {
     match taken.takes {
-        Takes::WordOf(_, choice) => arg.value_parser(words_of(choices, choice)),
-        Takes::Number(_, least, most) => arg.value_parser(clap::value_parser!(u16).range(
+        Accepts::WordOf(_, choice) => arg.value_parser(words_of(choices, choice)),
+        Accepts::Number(_, least, most) => arg.value_parser(clap::value_parser!(u16).range(
             least as i64..=most as i64,
         )),
-        Takes::Nothing | Takes::Word(_) | Takes::File(_) => arg,
+        Accepts::Nothing | Accepts::Word(_) | Accepts::File(_) => arg,
     }
 }
 
@@ -135,7 +137,7 @@ fn with_subcommand<'a>(
 }
 
 /// The program's command, before its subcommands.
-fn program<'a>(alloc: Global, texts: &Texts) -> Command<'a>
+fn program<'a>(alloc: Global, texts: &HelpTexts) -> Command<'a>
     ensures app { app_of result ≡ program_app texts.now.name.now }
     ensures local { (out-Command result).has_globals ≡ false }
 {

@@ -8,7 +8,7 @@ ghost use Rattle.ir_cli.specs.Meaning.{HasItsSecond};
 
 use crate::help::{Called, texts_of, usage_of};
 use crate::typed::typed;
-use crate::words::{Numbering, Sub, Words};
+use crate::words::{NumberingChoice, Sub, Words};
 use clap::ArgMatches;
 use ir_model::Kind;
 use std::alloc::{AllocError, Global};
@@ -68,16 +68,16 @@ fn numbering_fault(words: &Words) -> Option<&'static str>
         (λ _. takes_numbering words.now.numbering words.now.kind (is_some words.now.root) ≡ false) }
 {
     match &words.numbering {
-        Numbering::Tour if words.kind == Kind::Tree => Some(TREE_NUMBERING),
-        Numbering::File(name) if name.as_str() == "-" => {
+        NumberingChoice::Tour if words.kind == Kind::Tree => Some(TREE_NUMBERING),
+        NumberingChoice::File(name) if name.as_str() == "-" => {
             Some("'--numbering' takes 'depth-first', 'tour' or a file, not '-'")
         }
-        Numbering::File(_) if words.root.is_some() => {
+        NumberingChoice::File(_) if words.root.is_some() => {
             Some(
                 "'--root' does not go with a file's '--numbering', of which the first node is the root",
             )
         }
-        Numbering::DepthFirst | Numbering::Tour | Numbering::File(_) => None,
+        NumberingChoice::DepthFirst | NumberingChoice::Tour | NumberingChoice::File(_) => None,
     }
 }
 

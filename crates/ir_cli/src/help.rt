@@ -65,7 +65,7 @@ Lines of a script:
   # TEXT              A comment, behind a line's words too";
 
 /// The texts in which the program calls itself by a name.
-pub struct Texts {
+pub struct HelpTexts {
     pub name: &'static str,
     pub about: &'static str,
     /// What stands behind the help of `prefixes`, `ranges` and `compare`.
@@ -84,7 +84,7 @@ pub struct Texts {
 
 macro_rules! texts_by {
     ($name:literal) => {
-        Texts {
+        HelpTexts {
             name: $name,
             about: concat!("Interval routing with live relabelling; with no words as '", $name, " sim -'"),
             prefixes: concat!("\
@@ -145,12 +145,12 @@ Example, for a ring of four nodes:
     };
 }
 
-static ROUTE: Texts = texts_by!("route");
+static ROUTE: HelpTexts = texts_by!("route");
 
-static BENTZOLU: Texts = texts_by!("bentzolu");
+static BENTZOLU: HelpTexts = texts_by!("bentzolu");
 
 /// The texts of the program by the name that it is called by.
-pub fn texts_of(called: Called) -> &'static Texts
+pub fn texts_of(called: Called) -> &'static HelpTexts
     ensures { result.now.name.now ≡ name_of called }
 {
     match called {

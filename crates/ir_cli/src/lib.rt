@@ -23,11 +23,13 @@ pub use help::Called;
 pub use lines::{notice_line, steps_text};
 pub use notice::Notice;
 pub use open::{label_order, no_root, opening_of, read_topology, root_of};
-pub use outcome::{Outcome, Told};
+pub use outcome::{RunOutcome, Told};
 pub use parting::cut;
 pub use read::{Source, Unread, read_inputs};
-pub use reply::{Reply, tell_fault, tell_unread};
-pub use words::{Format, Numbering, Second, Sub, Words, WordsError, read_words, read_words_as};
+pub use reply::{RunReply, tell_fault, tell_unread};
+pub use words::{
+    Format, NumberingChoice, Second, Sub, Words, WordsError, read_words, read_words_as,
+};
 pub use write::tell;
 
 /// The most threads that make the rows of a plan.

@@ -5,7 +5,7 @@ ghost use Rattle.ir_model.specs.{Graph.names, Text.lines};
 ghost use Rattle.ir_adjlist.specs.Told.{Tells};
 ghost use Rattle.ir_cli.specs.Openings.{topology_fault, topology_graph, root_in, no_root, label_order, opening_by};
 
-use crate::words::{Format, Numbering, Words};
+use crate::words::{Format, NumberingChoice, Words};
 use ir_adjlist::{TextError, parse_adjlist, parse_weighted_edgelist};
 use ir_core::{OpenError, Opening};
 use ir_graph::Graph;
@@ -48,12 +48,12 @@ pub fn no_root(graph: &Graph) -> OpenError
 }
 
 /// The order in which the plans of a run are labelled. That of a file is no run's, and told as depth first.
-pub fn label_order(numbering: &Numbering) -> LabelOrder
+pub fn label_order(numbering: &NumberingChoice) -> LabelOrder
     ensures { result ≡ label_order numbering.now }
 {
     match numbering {
-        Numbering::Tour => LabelOrder::Tour,
-        Numbering::DepthFirst | Numbering::File(_) => LabelOrder::DepthFirst,
+        NumberingChoice::Tour => LabelOrder::Tour,
+        NumberingChoice::DepthFirst | NumberingChoice::File(_) => LabelOrder::DepthFirst,
     }
 }
 

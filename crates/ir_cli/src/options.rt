@@ -19,7 +19,7 @@ pub enum Choice {
 
 /// What an argument takes.
 #[derive(Clone, Copy)]
-pub enum Takes {
+pub enum Accepts {
     /// Nothing: it is a flag.
     Nothing,
     /// Any word, which help calls so.
@@ -50,7 +50,7 @@ pub struct Taken {
     /// Its letter behind one hyphen.
     pub letter: Option<char>,
     pub help: &'static str,
-    pub takes: Takes,
+    pub takes: Accepts,
     pub need: Need,
 }
 
@@ -76,103 +76,103 @@ macro_rules! taken {
 }
 
 // How every subcommand tells what it tells.
-const OUTPUT: Taken = taken!("output", Some('o'), Takes::Word("FILE"), Need::Free
+const OUTPUT: Taken = taken!("output", Some('o'), Accepts::Word("FILE"), Need::Free
     => "The file that the output goes to, whole or not at all; standard output by default");
 
-const QUIET: Taken = taken!("quiet", None, Takes::Nothing, Need::Free
+const QUIET: Taken = taken!("quiet", None, Accepts::Nothing, Need::Free
     => "Nothing on standard error: the status alone tells");
 
-const EXPLAIN: Taken = taken!("explain", None, Takes::Nothing, Need::Free
+const EXPLAIN: Taken = taken!("explain", None, Accepts::Nothing, Need::Free
     => "Sentences behind the lines of faults, on standard error: where, what and why");
 
-const SILENT: Taken = taken!("no-explain", None, Takes::Nothing, Need::Free
+const SILENT: Taken = taken!("no-explain", None, Accepts::Nothing, Need::Free
     => "No such sentences, on a terminal either");
 
-const JSON: Taken = taken!("json", None, Takes::Nothing, Need::Free => "The output as JSON");
+const JSON: Taken = taken!("json", None, Accepts::Nothing, Need::Free => "The output as JSON");
 
 // The topology, and the plan of it.
 const FORMAT: Taken =
-    taken!("format", Some('f'), Takes::WordOf("FORMAT", Choice::Format), Need::Free
+    taken!("format", Some('f'), Accepts::WordOf("FORMAT", Choice::Format), Need::Free
     => "The format of the topology; edgelist by default for a file that ends in .edgelist or .wel, else adjlist");
 
 const KIND: Taken =
-    taken!("kind", Some('k'), Takes::WordOf("KIND", Choice::Kind), Need::Else("shortest")
+    taken!("kind", Some('k'), Accepts::WordOf("KIND", Choice::Kind), Need::Else("shortest")
     => "How the first plan routes");
 
-const ROOT: Taken = taken!("root", Some('r'), Takes::Word("NAME"), Need::Free
+const ROOT: Taken = taken!("root", Some('r'), Accepts::Word("NAME"), Need::Free
     => "The root of the first plan; the first node by default");
 
-const ROOTS: Taken = taken!("root", Some('r'), Takes::Word("NAME"), Need::Free
+const ROOTS: Taken = taken!("root", Some('r'), Accepts::Word("NAME"), Need::Free
     => "The root of the plans; the first node by default");
 
 const NUMBERING: Taken =
-    taken!("numbering", Some('n'), Takes::Word("NUMBERING"), Need::Else("depth-first")
+    taken!("numbering", Some('n'), Accepts::Word("NUMBERING"), Need::Else("depth-first")
     => "How nodes are numbered: depth-first, tour (for fewer intervals), or a file with a node a line, in order");
 
-const THREADS: Taken = taken!("threads", None, Takes::Number("T", 1, MAX_THREADS), Need::Free
+const THREADS: Taken = taken!("threads", None, Accepts::Number("T", 1, MAX_THREADS), Need::Free
     => "The most threads that make rows; as many as suit the processors by default");
 
-const TOPOLOGY: Taken = taken!("topology", None, Takes::File("TOPOLOGY"), Need::Must
+const TOPOLOGY: Taken = taken!("topology", None, Accepts::File("TOPOLOGY"), Need::Must
     => "The file of the topology, or - for standard input");
 
 // What is shown of a plan.
-const ORDER: Taken = taken!("order", None, Takes::Nothing, Need::Free
+const ORDER: Taken = taken!("order", None, Accepts::Nothing, Need::Free
     => "The nodes in the order of their labels in place of the rows, as a file for --numbering has them");
 
 const FROM: Taken =
-    taken!("from", None, Takes::Word("A"), Need::Must => "The node that the walk goes from");
+    taken!("from", None, Accepts::Word("A"), Need::Must => "The node that the walk goes from");
 
 const TO: Taken =
-    taken!("to", None, Takes::Word("B"), Need::Must => "The node that the walk goes to");
+    taken!("to", None, Accepts::Word("B"), Need::Must => "The node that the walk goes to");
 
-const WITH: Taken = taken!("with", None, Takes::Word("KIND[,ROOT]"), Need::Free
+const WITH: Taken = taken!("with", None, Accepts::Word("KIND[,ROOT]"), Need::Free
     => "A second plan over the topology, and the links that wait for each other in both together; its root is by default that of --root, else the first node");
 
-const DRAWN_FROM: Taken = taken!("from", None, Takes::Word("A"), Need::Free
+const DRAWN_FROM: Taken = taken!("from", None, Accepts::Word("A"), Need::Free
     => "The node from which a walk is drawn in bold");
 
 const DRAWN_TO: Taken =
-    taken!("to", None, Takes::Word("B"), Need::Free => "The node to which it goes");
+    taken!("to", None, Accepts::Word("B"), Need::Free => "The node to which it goes");
 
-const NODE: Taken = taken!("node", None, Takes::Word("A"), Need::Free
+const NODE: Taken = taken!("node", None, Accepts::Word("A"), Need::Free
     => "A node whose intervals are drawn on the circle of all labels, coloured by port, in place of the topology");
 
-const SVG: Taken = taken!("svg", None, Takes::Nothing, Need::Free
+const SVG: Taken = taken!("svg", None, Accepts::Nothing, Need::Free
     => "The circle of --node as SVG in place of Graphviz's text");
 
-const DISJOINT: Taken = taken!("disjoint", None, Takes::Nothing, Need::Free
+const DISJOINT: Taken = taken!("disjoint", None, Accepts::Nothing, Need::Free
     => "Prefixes of which no two of a node hold one label");
 
 // A run, and its check.
 const RUN_ORDER: Taken =
-    taken!("numbering", Some('n'), Takes::WordOf("NUMBERING", Choice::Numbering), Need::Else("depth-first")
+    taken!("numbering", Some('n'), Accepts::WordOf("NUMBERING", Choice::Numbering), Need::Else("depth-first")
     => "How each plan's nodes are numbered, from its root; a tour is for fewer intervals");
 
 const CAPACITY: Taken =
-    taken!("capacity", None, Takes::Number("C", 1, MAX_CAPACITY as u16), Need::Else(DEFAULT_CAPACITY)
+    taken!("capacity", None, Accepts::Number("C", 1, MAX_CAPACITY as u16), Need::Else(DEFAULT_CAPACITY)
     => "The capacity of each channel and inbox");
 
 const PACKETS: Taken =
-    taken!("packets", None, Takes::Number("M", 1, MAX_PACKETS as u16), Need::Else(DEFAULT_PACKETS)
+    taken!("packets", None, Accepts::Number("M", 1, MAX_PACKETS as u16), Need::Else(DEFAULT_PACKETS)
     => "The most packets");
 
 const RESTAMPS: Taken =
-    taken!("restamps", None, Takes::Number("R", 0, MAX_RESTAMPS as u16), Need::Else(DEFAULT_RESTAMPS)
+    taken!("restamps", None, Accepts::Number("R", 0, MAX_RESTAMPS as u16), Need::Else(DEFAULT_RESTAMPS)
     => "The most restamps of a packet; above 0 the trace has its segments");
 
-const TWO_TEXTS: Taken = taken!("topology", None, Takes::File("TOPOLOGY"), Need::Must
+const TWO_TEXTS: Taken = taken!("topology", None, Accepts::File("TOPOLOGY"), Need::Must
     => "The file of the topology, or - for standard input with both texts, cut at the line %%");
 
-const ALL_TEXTS: Taken = taken!("topology", None, Takes::File("TOPOLOGY"), Need::Must
+const ALL_TEXTS: Taken = taken!("topology", None, Accepts::File("TOPOLOGY"), Need::Must
     => "The file of the topology, or - for standard input with all three texts, cut at the first two lines %%");
 
 const SCRIPT: Taken =
-    taken!("script", None, Takes::File("SCRIPT"), Need::Free => "The file of the script");
+    taken!("script", None, Accepts::File("SCRIPT"), Need::Free => "The file of the script");
 
 const TRACE: Taken =
-    taken!("trace", None, Takes::File("TRACE"), Need::Free => "The file of the trace");
+    taken!("trace", None, Accepts::File("TRACE"), Need::Free => "The file of the trace");
 
-const WHOLE: Taken = taken!("whole", None, Takes::Nothing, Need::Free
+const WHOLE: Taken = taken!("whole", None, Accepts::Nothing, Need::Free
     => "Whether rows can be those of a run of the script, too: injects, epochs above them and causes of drops");
 
 static PLAN: [Taken; 12] = [

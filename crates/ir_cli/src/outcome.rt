@@ -13,7 +13,7 @@ pub enum Told {
 
 /// What a run came to: how it ended, what its lines of faults tell, and what a check found, if that was written.
 #[derive(Drop)]
-pub struct Outcome {
+pub struct RunOutcome {
     pub ending: Ending,
     pub told: Told,
     pub found: Option<Notice>,

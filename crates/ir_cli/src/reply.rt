@@ -6,7 +6,7 @@ ghost use Rattle.ir_cli.specs.declared.ending.Ending.TheVariants as endings;
 use crate::ending::Ending;
 use crate::lines::{too_large_line, unreadable_line};
 use crate::notice::Notice;
-use crate::outcome::{Outcome, Told};
+use crate::outcome::{RunOutcome, Told};
 use crate::read::Source;
 use crate::write::tell;
 use ir_core::Refused;
@@ -15,7 +15,7 @@ use ir_streams::{NoInput, Writer};
 
 /// What the inputs come to, as values: texts are made of them where they are written.
 #[derive(Drop)]
-pub enum Reply {
+pub enum RunReply {
     /// The text for the output, and the steps that were refused, by the numbers of their lines.
     Ran(String, Vec<(usize, Refused)>),
     /// The text of a plan for the output, which is written as it is made.
@@ -29,7 +29,12 @@ pub enum Reply {
 }
 
 /// Tells that a run ended with nothing but the line of a notice.
-pub fn tell_fault<F: Writer>(faults: &mut F, ending: Ending, notice: Notice, line: &str) -> Outcome
+pub fn tell_fault<F: Writer>(
+    faults: &mut F,
+    ending: Ending,
+    notice: Notice,
+    line: &str,
+) -> RunOutcome
     requires { line.now ≡ notice_line notice }
     ensures ending { result.ending ≡ ending }
     ensures line { Tells F.contents F.wrote F.settled faults.old faults.new (notice_line notice) }
@@ -37,7 +42,7 @@ pub fn tell_fault<F: Writer>(faults: &mut F, ending: Ending, notice: Notice, lin
     ensures found { result.found ≡ None }
 {
     tell(faults, line.as_bytes());
-    Outcome {
+    RunOutcome {
         ending,
         told: Told::Fault(notice),
         found: None,
@@ -45,7 +50,7 @@ pub fn tell_fault<F: Writer>(faults: &mut F, ending: Ending, notice: Notice, lin
 }
 
 /// Tells why an input was not read.
-pub fn tell_unread<F: Writer>(faults: &mut F, source: Source, why: NoInput) -> Outcome
+pub fn tell_unread<F: Writer>(faults: &mut F, source: Source, why: NoInput) -> RunOutcome
     ensures ends { UnreadAs source result.ending why (Tells F.contents F.wrote F.settled faults.old faults.new) }
     ensures told { Tells F.contents F.wrote F.settled faults.old faults.new (told_text result.told) }
     ensures found { result.found ≡ None }

@@ -11,7 +11,7 @@ ghost use Rattle.ir_cli.specs.declared.words.Format.{Format};
 ghost use Rattle.ir_cli.specs.declared.words.Sub.{Sub};
 
 use crate::MAX_THREADS;
-use crate::words::{Format, Numbering, Second, Sub, format_of_file};
+use crate::words::{Format, NumberingChoice, Second, Sub, format_of_file};
 use clap::ArgMatches;
 use ir_core::{MAX_CAPACITY, MAX_PACKETS, MAX_RESTAMPS};
 use ir_model::Kind;
@@ -174,13 +174,13 @@ fn format_of(found: &ArgMatches<'_>) -> Option<Format>
 }
 
 /// The numbering that is asked for.
-pub fn numbering_of(alloc: Global, found: &ArgMatches<'_>) -> Result<Numbering, AllocError>
+pub fn numbering_of(alloc: Global, found: &ArgMatches<'_>) -> Result<NumberingChoice, AllocError>
     ensures { IfOk result (λ numbering. IsNumbering numbering (numbering_word (rows_of (found_of found.now)))) }
 {
     match typed(found, "numbering").unwrap_or("depth-first") {
-        "depth-first" => Ok(Numbering::DepthFirst),
-        "tour" => Ok(Numbering::Tour),
-        file => Ok(Numbering::File(String::from_str(alloc, file)?)),
+        "depth-first" => Ok(NumberingChoice::DepthFirst),
+        "tour" => Ok(NumberingChoice::Tour),
+        file => Ok(NumberingChoice::File(String::from_str(alloc, file)?)),
     }
 }
 

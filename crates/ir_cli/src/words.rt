@@ -45,7 +45,7 @@ pub enum Format {
 
 /// How the nodes of a plan are numbered.
 #[derive(Debug, Drop)]
-pub enum Numbering {
+pub enum NumberingChoice {
     /// Depth first, from the root.
     DepthFirst,
     /// In the order of a tour from the root, or depth first, by which has fewer starts.
@@ -75,7 +75,7 @@ pub struct Words {
     pub root: Option<String>,
     /// Other than depth first where the kind is not Tree alone; a file's for `plan`, `walk`, `stats`, `draw`, `prefixes` and
     /// `ranges` alone, where no root is named.
-    pub numbering: Numbering,
+    pub numbering: NumberingChoice,
     /// The capacity of each channel and inbox, from 1 to 1,024.
     pub capacity: usize,
     /// The most packets, from 1 to 4,096.
@@ -134,8 +134,8 @@ impl Words {
         ensures { result.now ≡ order_name self.now.numbering }
     {
         match &self.numbering {
-            Numbering::File(name) => name.as_str(),
-            Numbering::DepthFirst | Numbering::Tour => "-",
+            NumberingChoice::File(name) => name.as_str(),
+            NumberingChoice::DepthFirst | NumberingChoice::Tour => "-",
         }
     }
 
@@ -144,8 +144,8 @@ impl Words {
         ensures { result ≡ has_order self.now }
     {
         match self.numbering {
-            Numbering::DepthFirst | Numbering::Tour => false,
-            Numbering::File(_) => true,
+            NumberingChoice::DepthFirst | NumberingChoice::Tour => false,
+            NumberingChoice::File(_) => true,
         }
     }
 }

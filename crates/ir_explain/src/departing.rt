@@ -3,7 +3,7 @@ ghost use Rattle.std.specs.Prelude.{◌≡◌, IfOk, IfSome};
 ghost use Rattle.ir_model.specs.{Topology.node_count, OfGraph.topology_of_graph};
 ghost use Rattle.ir_trace.specs.Checked.{AreInstalls, AreRowsOver};
 
-use crate::parts::Run;
+use crate::texts::RunTexts;
 use ir_cli::{opening_of, root_of};
 use ir_core::{Install, OpenError, installs_by};
 use ir_graph::Graph;
@@ -15,12 +15,12 @@ use std::alloc::{AllocError, Global};
 
 /// The segments of a row, and the graph whose nodes they name.
 #[derive(Clone, Copy)]
-struct Way<'a> {
+struct TracedWalk<'a> {
     graph: &'a Graph,
     segments: &'a [Segment],
 }
 
-impl Way<'_> {
+impl TracedWalk<'_> {
     /// The name of a node.
     fn name(&self, node: u16) -> &str {
         match self.graph.node(usize::from(node)) {
@@ -54,20 +54,24 @@ impl Way<'_> {
 /// Says that a hop of a segment is not the node that the plan goes on to.
 fn push_stray(
     text: &mut String,
-    way: Way<'_>,
+    walk: TracedWalk<'_>,
     place: usize,
     hop: usize,
     next: Option<u16>,
 ) -> Result<(), AllocError> {
-    let (epoch, number, is) = (way.epoch(place), hop.saturating_add(1), way.hop(place, hop));
-    let before = way.hop(place, hop.saturating_sub(1));
+    let (epoch, number, is) = (
+        walk.epoch(place),
+        hop.saturating_add(1),
+        walk.hop(place, hop),
+    );
+    let before = walk.hop(place, hop.saturating_sub(1));
     write!(
         text,
         "node {number} of the hops under epoch {epoch} is '{is}'"
     )?;
     match next {
         Some(node) => {
-            let to = way.name(node);
+            let to = walk.name(node);
             write!(
                 text,
                 ", and the plan of epoch {epoch} goes from '{before}' to '{to}'"
@@ -78,12 +82,16 @@ fn push_stray(
 }
 
 /// Says that the plan of the last segment does not go on as the fate says.
-fn push_unsaid(text: &mut String, way: Way<'_>, next: Option<u16>) -> Result<(), AllocError> {
-    let place = way.segments.len().saturating_sub(1);
-    let end = way.hop(place, way.hops(place).len().saturating_sub(1));
+fn push_unsaid(
+    text: &mut String,
+    walk: TracedWalk<'_>,
+    next: Option<u16>,
+) -> Result<(), AllocError> {
+    let place = walk.segments.len().saturating_sub(1);
+    let end = walk.hop(place, walk.hops(place).len().saturating_sub(1));
     match next {
         Some(node) => {
-            let (epoch, to) = (way.epoch(place), way.name(node));
+            let (epoch, to) = (walk.epoch(place), walk.name(node));
             write!(
                 text,
                 "the plan of epoch {epoch} goes on from '{end}' to '{to}', which the fate does not say"
@@ -97,24 +105,24 @@ fn push_unsaid(text: &mut String, way: Way<'_>, next: Option<u16>) -> Result<(),
 }
 
 /// Says where segments leave the walks of their epochs.
-fn push_found(text: &mut String, way: Way<'_>, found: Departure) -> Result<(), AllocError> {
+fn push_found(text: &mut String, walk: TracedWalk<'_>, found: Departure) -> Result<(), AllocError> {
     match found {
         Departure::Epoch { segment } => {
-            let (epoch, before) = (way.epoch(segment), way.epoch(segment.saturating_sub(1)));
+            let (epoch, before) = (walk.epoch(segment), walk.epoch(segment.saturating_sub(1)));
             write!(
                 text,
                 "epoch {epoch} stands behind epoch {before}: epochs rise"
             )
         }
         Departure::Start { segment, at } => {
-            let (epoch, first, stood) = (way.epoch(segment), way.hop(segment, 0), way.name(at));
+            let (epoch, first, stood) = (walk.epoch(segment), walk.hop(segment, 0), walk.name(at));
             write!(
                 text,
                 "the hops under epoch {epoch} begin at '{first}', and the packet stood at '{stood}'"
             )
         }
-        Departure::Hop { segment, hop, next } => push_stray(text, way, segment, hop, next),
-        Departure::Fate { next } => push_unsaid(text, way, next),
+        Departure::Hop { segment, hop, next } => push_stray(text, walk, segment, hop, next),
+        Departure::Fate { next } => push_unsaid(text, walk, next),
     }
 }
 
@@ -122,13 +130,13 @@ fn push_found(text: &mut String, way: Way<'_>, found: Departure) -> Result<(), A
 /// is refused.
 fn installs_of(
     crew: &impl Crew,
-    run: &Run<'_>,
+    run: &RunTexts<'_>,
     topology: &Topology,
 ) -> Result<Option<Vec<Install>>, AllocError>
     requires { topology.now ≡ topology_of_graph run.now.graph.now }
     ensures { IfOk result (λ found. IfSome found (λ built. AreInstalls topology.now built.items)) }
 {
-    let script = match parse_script(run.alloc, run.parts.script.bytes, run.graph, topology) {
+    let script = match parse_script(run.alloc, run.texts.script.bytes, run.graph, topology) {
         Ok(script) => script,
         Err(error) if error.kind == ScriptFault::NoMemory => return Err(AllocError),
         Err(_) => return Ok(None),
@@ -160,14 +168,14 @@ fn trace_of(alloc: Global, graph: &Graph, text: &[u8]) -> Result<Option<Trace>, 
 pub fn push_departure_by(
     crew: &impl Crew,
     text: &mut String,
-    run: &Run<'_>,
+    run: &RunTexts<'_>,
     line: usize,
 ) -> Result<bool, AllocError> {
     let topology = Topology::of(run.alloc, run.graph)?;
     let Some(built) = installs_of(crew, run, &topology)? else {
         return Ok(false);
     };
-    let Some(trace) = trace_of(run.alloc, run.graph, run.parts.trace.bytes)? else {
+    let Some(trace) = trace_of(run.alloc, run.graph, run.texts.trace.bytes)? else {
         return Ok(false);
     };
     if line < 2 || trace.rows() <= line - 2 {
@@ -178,6 +186,6 @@ pub fn push_departure_by(
         return Ok(false);
     };
     let (graph, segments) = (run.graph, row.segments.as_slice());
-    push_found(text, Way { graph, segments }, found)?;
+    push_found(text, TracedWalk { graph, segments }, found)?;
     Ok(true)
 }

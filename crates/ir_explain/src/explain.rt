@@ -5,13 +5,13 @@ use crate::finding::{push_beside, push_finding};
 use crate::notes::push_note;
 use crate::numbering::push_numbering;
 use crate::opening::push_opening;
-use crate::parts::{Given, Run, Trouble, graph_of, parts_of};
 use crate::refusal::explain_refusal;
 use crate::script::push_script;
 use crate::sentence::begin;
+use crate::texts::{Given, RunTexts, Trouble, graph_of, texts_of};
 use crate::topology::push_topology;
 use crate::unlearnt::push_unlearnt;
-use ir_cli::{Notice, Outcome, Sub, Told, Words};
+use ir_cli::{Notice, RunOutcome, Sub, Told, Words};
 use ir_core::Refused;
 use ir_plan::{Alone, Crew};
 use ir_streams::MAX_INPUT_BYTES;
@@ -49,17 +49,17 @@ fn unseen(words: &Words) -> &'static str {
 fn explain_notice(
     crew: &impl Crew,
     text: &mut String,
-    run: &Run<'_>,
+    run: &RunTexts<'_>,
     notice: Notice,
 ) -> Result<(), AllocError> {
-    let parts = &run.parts;
+    let texts = &run.texts;
     match notice {
         Notice::Unreadable(source) => {
-            begin(text, parts.of(source).file)?;
-            text.push_str(unread(parts.of(source).trouble))?;
+            begin(text, texts.of(source).file)?;
+            text.push_str(unread(texts.of(source).trouble))?;
         }
         Notice::TooLarge(source) => {
-            begin(text, parts.of(source).file)?;
+            begin(text, texts.of(source).file)?;
             write!(
                 text,
                 "more than {MAX_INPUT_BYTES} bytes, the most of an input"
@@ -72,7 +72,7 @@ fn explain_notice(
         Notice::Finding(finding) => push_finding(crew, text, run, finding)?,
         Notice::Beside(finding) => push_beside(text, run, finding)?,
         Notice::Sound(_) => {
-            begin(text, parts.trace.file)?;
+            begin(text, texts.trace.file)?;
             text.push_str(unseen(run.words))?;
         }
         Notice::Unwritable => push_unwritten(text, run.words)?,
@@ -88,7 +88,7 @@ static FURTHER: &str = "route: further lines are not explained\n";
 /// Explains steps that were refused, and an output that did not come to its place, as many as are explained.
 fn explain_steps(
     text: &mut String,
-    run: &Run<'_>,
+    run: &RunTexts<'_>,
     steps: &[(usize, Refused)],
     is_kept: bool,
 ) -> Result<(), AllocError> {
@@ -112,8 +112,8 @@ fn explain_steps(
 fn explain_outcome(
     crew: &impl Crew,
     text: &mut String,
-    run: &Run<'_>,
-    outcome: &Outcome,
+    run: &RunTexts<'_>,
+    outcome: &RunOutcome,
     is_kept: bool,
 ) -> Result<(), AllocError> {
     match &outcome.told {
@@ -127,7 +127,7 @@ fn explain_outcome(
 }
 
 /// Whether an outcome has nothing to explain.
-fn is_silent(outcome: &Outcome, is_kept: bool) -> bool {
+fn is_silent(outcome: &RunOutcome, is_kept: bool) -> bool {
     match &outcome.told {
         Told::Steps(steps) => steps.is_empty() && is_kept && outcome.found.is_none(),
         Told::Fault(_) => false,
@@ -135,7 +135,7 @@ fn is_silent(outcome: &Outcome, is_kept: bool) -> bool {
 }
 
 /// Whether the steps of a script were played, and that is the first that was told.
-fn was_played(outcome: &Outcome, is_kept: bool) -> bool {
+fn was_played(outcome: &RunOutcome, is_kept: bool) -> bool {
     match &outcome.told {
         Told::Steps(steps) => is_kept || !steps.is_empty(),
         Told::Fault(_) => false,
@@ -150,7 +150,7 @@ pub fn explanation(
     alloc: Global,
     words: &Words,
     given: &[Given<'_>],
-    outcome: &Outcome,
+    outcome: &RunOutcome,
 ) -> Result<String, AllocError> {
     explanation_by(&Alone, alloc, words, given, outcome, true)
 }
@@ -162,24 +162,24 @@ pub fn explanation_by(
     alloc: Global,
     words: &Words,
     given: &[Given<'_>],
-    outcome: &Outcome,
+    outcome: &RunOutcome,
     is_kept: bool,
 ) -> Result<String, AllocError> {
-    let parts = parts_of(words, given);
+    let texts = texts_of(words, given);
     let mut text = String::new(alloc);
     if !is_silent(outcome, is_kept) {
-        let graph = &graph_of(alloc, words, &parts.topology)?;
-        let run = Run {
+        let graph = &graph_of(alloc, words, &texts.topology)?;
+        let run = RunTexts {
             alloc,
             graph,
             words,
-            parts,
+            texts,
         };
         explain_outcome(crew, &mut text, &run, outcome, is_kept)?;
     }
-    push_note(alloc, &mut text, words, &parts.topology)?;
+    push_note(alloc, &mut text, words, &texts.topology)?;
     if words.sub == Sub::Sim && was_played(outcome, is_kept) {
-        push_unlearnt(alloc, &mut text, &parts.script)?;
+        push_unlearnt(alloc, &mut text, &texts.script)?;
     }
     Ok(text)
 }

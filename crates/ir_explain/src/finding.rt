@@ -2,9 +2,9 @@
 
 use crate::departing::push_departure_by;
 use crate::lines::{line_at, line_with, word_at, words_of};
-use crate::parts::{Part, Run};
 use crate::script::{push_no_node, unknown_word};
 use crate::sentence::{FileName, Quoted, begin_at};
+use crate::texts::{GivenText, RunTexts};
 use ir_plan::Crew;
 use ir_trace::{Finding, FindingKind};
 use ir_whole::{WholeFinding, WholeKind};
@@ -13,12 +13,12 @@ use std::alloc::AllocError;
 static MEMORY: &str = "memory was refused while the trace was checked";
 
 /// Whether rows have their epochs before their hops, as those of `trace 2`, and not behind their ids.
-fn has_segments(trace: &Part<'_>) -> bool {
+fn has_segments(trace: &GivenText<'_>) -> bool {
     trace.bytes.starts_with(b"trace 2\n".as_slice())
 }
 
 /// The places of the source, the destination and the weight among the words of a row.
-fn places(trace: &Part<'_>) -> [usize; 3] {
+fn places(trace: &GivenText<'_>) -> [usize; 3] {
     if has_segments(trace) {
         [1, 2, 3]
     } else {
@@ -27,8 +27,12 @@ fn places(trace: &Part<'_>) -> [usize; 3] {
 }
 
 /// Says which end of a row names no node, or that two of its hops are not linked.
-fn push_unknown_node(text: &mut String, run: &Run<'_>, words: &[&[u8]]) -> Result<(), AllocError> {
-    let places = places(&run.parts.trace);
+fn push_unknown_node(
+    text: &mut String,
+    run: &RunTexts<'_>,
+    words: &[&[u8]],
+) -> Result<(), AllocError> {
+    let places = places(&run.texts.trace);
     let end = unknown_word(run.graph, words, &places[..2]);
     if end.is_empty() {
         return text.push_str("a hop of it is no node, or no link leads there from the hop before");
@@ -40,7 +44,7 @@ fn push_unknown_node(text: &mut String, run: &Run<'_>, words: &[&[u8]]) -> Resul
 fn push_unfollowed(
     crew: &impl Crew,
     text: &mut String,
-    run: &Run<'_>,
+    run: &RunTexts<'_>,
     line: usize,
 ) -> Result<(), AllocError> {
     if push_departure_by(crew, text, run, line)? {
@@ -52,19 +56,19 @@ fn push_unfollowed(
 }
 
 /// Begins a sentence on a line of the trace by its row, as it stands: a trace has no comments, and `#` begins a segment.
-fn begin_row(text: &mut String, run: &Run<'_>, line: usize) -> Result<(), AllocError> {
-    begin_at(text, &run.parts.trace, line)?;
-    write!(text, "{}: ", Quoted(line_at(run.parts.trace.bytes, line)))
+fn begin_row(text: &mut String, run: &RunTexts<'_>, line: usize) -> Result<(), AllocError> {
+    begin_at(text, &run.texts.trace, line)?;
+    write!(text, "{}: ", Quoted(line_at(run.texts.trace.bytes, line)))
 }
 
 /// Says why no run of the script can have had a row.
 pub fn push_beside(
     text: &mut String,
-    run: &Run<'_>,
+    run: &RunTexts<'_>,
     finding: WholeFinding,
 ) -> Result<(), AllocError> {
     begin_row(text, run, finding.line)?;
-    let (script, capacity) = (FileName(run.parts.script.file), run.words.capacity);
+    let (script, capacity) = (FileName(run.texts.script.file), run.words.capacity);
     match finding.kind {
         WholeKind::NeverInjected => write!(
             text,
@@ -88,10 +92,10 @@ pub fn push_beside(
 pub fn push_finding(
     crew: &impl Crew,
     text: &mut String,
-    run: &Run<'_>,
+    run: &RunTexts<'_>,
     finding: Finding,
 ) -> Result<(), AllocError> {
-    let trace = &run.parts.trace;
+    let trace = &run.texts.trace;
     let found = words_of(run.alloc, line_at(trace.bytes, finding.line))?;
     let words = found.as_slice();
     begin_row(text, run, finding.line)?;

@@ -1,7 +1,7 @@
 //! Sentences for people behind the lines of faults: which file, which line and word, what was wanted and what stands there.
 //!
 //! The lines themselves are short and never change, since scripts read them. `explanation` has what a run came to as values
-//! (`Outcome` of `ir_cli`), beside the texts of the inputs, and writes a line `route: ..` for each. Each match over a kind of
+//! (`RunOutcome` of `ir_cli`), beside the texts of the inputs, and writes a line `route: ..` for each. Each match over a kind of
 //! fault is total, so that one without a sentence does not compile. Nothing here reads or writes anything but memory.
 #![tactic(auto)]
 
@@ -14,17 +14,17 @@ mod nearest;
 mod notes;
 mod numbering;
 mod opening;
-mod parts;
 mod refusal;
 mod script;
 mod seen;
 mod sentence;
+mod texts;
 mod topology;
 mod unlearnt;
 
 pub use explain::{explanation, explanation_by};
 pub use limits::{limits_of_runs, limits_of_texts, limits_of_words};
-pub use parts::{Given, Trouble};
+pub use texts::{Given, Trouble};
 
 /// The most lines of faults that are explained.
 pub const MOST_EXPLAINED: usize = 64;

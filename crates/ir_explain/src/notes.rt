@@ -1,8 +1,8 @@
 //! Topologies that look like another format.
 
-use crate::parts::{Part, graph_of};
 use crate::seen::{Seen, seen_of};
 use crate::sentence::{FileName, begin};
+use crate::texts::{GivenText, graph_of};
 use ir_cli::{Format, Words};
 use std::alloc::{AllocError, Global};
 
@@ -116,7 +116,7 @@ fn push_likeness(
     alloc: Global,
     text: &mut String,
     format: Format,
-    topology: &Part<'_>,
+    topology: &GivenText<'_>,
 ) -> Result<bool, AllocError> {
     let name = convertible(topology.bytes);
     if !name.is_empty() {
@@ -143,7 +143,7 @@ pub fn push_note(
     alloc: Global,
     text: &mut String,
     words: &Words,
-    topology: &Part<'_>,
+    topology: &GivenText<'_>,
 ) -> Result<(), AllocError> {
     if !push_likeness(alloc, text, words.format, topology)? {
         return Ok(());

@@ -1,9 +1,9 @@
 //! What is wrong with a line of an order of nodes.
 
 use crate::lines::{first_word, line_with, lines_of, text_of, word_at};
-use crate::parts::Run;
 use crate::script::push_no_node;
 use crate::sentence::{Quoted, WordCount, begin_line, push_bad_byte};
+use crate::texts::RunTexts;
 use ir_graph::Graph;
 use ir_script::{OrderFault, OrderFaultKind};
 use std::alloc::{AllocError, Global};
@@ -20,8 +20,8 @@ fn named_in(alloc: Global, graph: &Graph, order: &[u8]) -> Result<Vec<bool>, All
 }
 
 /// Says which node an order does not name.
-fn push_missing(text: &mut String, run: &Run<'_>) -> Result<(), AllocError> {
-    let named = named_in(run.alloc, run.graph, run.parts.numbering.bytes)?;
+fn push_missing(text: &mut String, run: &RunTexts<'_>) -> Result<(), AllocError> {
+    let named = named_in(run.alloc, run.graph, run.texts.numbering.bytes)?;
     let missing = named
         .iter()
         .position(|is_named| !*is_named)
@@ -37,10 +37,10 @@ fn push_missing(text: &mut String, run: &Run<'_>) -> Result<(), AllocError> {
 /// Says what is wrong with a line of an order.
 pub fn push_numbering(
     text: &mut String,
-    run: &Run<'_>,
+    run: &RunTexts<'_>,
     fault: OrderFault,
 ) -> Result<(), AllocError> {
-    let order = &run.parts.numbering;
+    let order = &run.texts.numbering;
     let place = if fault.kind == OrderFaultKind::Missing {
         0
     } else {

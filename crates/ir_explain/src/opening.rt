@@ -1,8 +1,8 @@
 //! Why nothing was opened over a topology.
 
-use crate::parts::Run;
 use crate::script::push_no_node;
 use crate::sentence::begin;
+use crate::texts::RunTexts;
 use ir_cli::{Format, Words, root_of};
 use ir_core::{MAX_LINKS, MAX_NODES, OpenError};
 use ir_graph::Graph;
@@ -32,9 +32,9 @@ fn unknown_option<'a>(graph: &Graph, words: &'a Words) -> (&'static str, &'a str
 }
 
 /// Why the topology has no node.
-fn empty(run: &Run<'_>) -> &'static str {
+fn empty(run: &RunTexts<'_>) -> &'static str {
     match run.words.format {
-        _ if run.parts.topology.bytes.is_empty() => "no nodes: it is empty",
+        _ if run.texts.topology.bytes.is_empty() => "no nodes: it is empty",
         Format::AdjList => "no nodes: each line is blank or a comment",
         Format::EdgeList => "no nodes: no line names two",
     }
@@ -114,7 +114,7 @@ fn parts_from(alloc: Global, graph: &Graph, node: usize) -> Result<Divided, Allo
 }
 
 /// Says between which nodes there is no path, and into how many parts the graph falls.
-fn push_disconnected(text: &mut String, run: &Run<'_>) -> Result<(), AllocError> {
+fn push_disconnected(text: &mut String, run: &RunTexts<'_>) -> Result<(), AllocError> {
     let root = usize::from(root_of(run.graph, &run.words.root).unwrap_or(0));
     let found = parts_from(run.alloc, run.graph, root)?;
     let name = run.graph.node(root).unwrap_or("");
@@ -128,7 +128,7 @@ fn push_disconnected(text: &mut String, run: &Run<'_>) -> Result<(), AllocError>
 }
 
 /// Says that a name of the words is no node.
-fn push_no_option(text: &mut String, run: &Run<'_>) -> Result<(), AllocError> {
+fn push_no_option(text: &mut String, run: &RunTexts<'_>) -> Result<(), AllocError> {
     let (option, name) = unknown_option(run.graph, run.words);
     write!(text, "route: {option}: ")?;
     push_no_node(text, run, name.as_bytes())
@@ -149,9 +149,13 @@ fn push_too_large(text: &mut String, graph: &Graph) -> Result<(), AllocError> {
 }
 
 /// Says why nothing was opened over the topology.
-pub fn push_opening(text: &mut String, run: &Run<'_>, error: OpenError) -> Result<(), AllocError> {
+pub fn push_opening(
+    text: &mut String,
+    run: &RunTexts<'_>,
+    error: OpenError,
+) -> Result<(), AllocError> {
     if error != OpenError::NoNode {
-        begin(text, run.parts.topology.file)?;
+        begin(text, run.texts.topology.file)?;
     }
     match error {
         OpenError::NoNode => push_no_option(text, run),

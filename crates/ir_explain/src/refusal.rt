@@ -1,7 +1,7 @@
 //! Why a step of a script was refused.
 
-use crate::parts::Run;
 use crate::sentence::{Quoted, begin_line, joined};
+use crate::texts::RunTexts;
 use ir_core::{MAX_CHANGES, MAX_EPOCHS, Refused};
 use std::alloc::AllocError;
 
@@ -33,11 +33,11 @@ fn push_reason(text: &mut String, refusal: Refused) -> Result<(), AllocError> {
 /// Explains the refusal of a step.
 pub fn explain_refusal(
     text: &mut String,
-    run: &Run<'_>,
+    run: &RunTexts<'_>,
     line: usize,
     refusal: Refused,
 ) -> Result<(), AllocError> {
-    let words = begin_line(run.alloc, text, &run.parts.script, line)?;
+    let words = begin_line(run.alloc, text, &run.texts.script, line)?;
     let step = joined(run.alloc, words.as_slice())?;
     write!(text, "{} was refused: ", Quoted(step.as_slice()))?;
     push_reason(text, refusal)?;

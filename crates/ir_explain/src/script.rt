@@ -2,8 +2,8 @@
 
 use crate::lines::{text_of, word_at};
 use crate::nearest::{nearest_node, nearest_of, push_near};
-use crate::parts::Run;
 use crate::sentence::{FileName, Quoted, begin_line, joined, push_bad_byte};
+use crate::texts::RunTexts;
 use ir_cli::Sub;
 use ir_graph::Graph;
 use ir_script::{ScriptError, ScriptFault};
@@ -43,7 +43,11 @@ fn is_of_simulation(command: &str) -> bool {
 }
 
 /// Says why the words of a line are no command.
-fn push_bad_command(text: &mut String, run: &Run<'_>, words: &[&[u8]]) -> Result<(), AllocError> {
+fn push_bad_command(
+    text: &mut String,
+    run: &RunTexts<'_>,
+    words: &[&[u8]],
+) -> Result<(), AllocError> {
     let command = word_at(words, 0);
     let (name, is_live) = (text_of(command), run.words.sub == Sub::Live);
     let form = form_of(name);
@@ -98,15 +102,19 @@ pub fn unknown_word<'a>(graph: &Graph, words: &[&'a [u8]], places: &[usize]) -> 
 }
 
 /// Says that a word names no node of the topology.
-pub fn push_no_node(text: &mut String, run: &Run<'_>, word: &[u8]) -> Result<(), AllocError> {
-    let file = FileName(run.parts.topology.file);
+pub fn push_no_node(text: &mut String, run: &RunTexts<'_>, word: &[u8]) -> Result<(), AllocError> {
+    let file = FileName(run.texts.topology.file);
     write!(text, "no node {} in {file}", Quoted(word))?;
     push_near(text, nearest_node(run.alloc, run.graph, word)?)
 }
 
 /// Says what is wrong with a line of a script.
-pub fn push_script(text: &mut String, run: &Run<'_>, error: ScriptError) -> Result<(), AllocError> {
-    let line = begin_line(run.alloc, text, &run.parts.script, error.line)?;
+pub fn push_script(
+    text: &mut String,
+    run: &RunTexts<'_>,
+    error: ScriptError,
+) -> Result<(), AllocError> {
+    let line = begin_line(run.alloc, text, &run.texts.script, error.line)?;
     let words = line.as_slice();
     let command = text_of(word_at(words, 0));
     match error.kind {

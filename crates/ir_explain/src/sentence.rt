@@ -4,7 +4,7 @@ ghost use Rattle.ir_explain.specs.declared.TheConstants.{MOST_QUOTED};
 
 use crate::MOST_QUOTED;
 use crate::lines::{line_at, words_of};
-use crate::parts::Part;
+use crate::texts::GivenText;
 use ir_adjlist::scan::all_plain;
 use std::alloc::{AllocError, Global};
 use std::fmt;
@@ -84,7 +84,7 @@ pub fn begin(text: &mut String, file: &str) -> Result<(), AllocError> {
 }
 
 /// Begins a sentence on a line of a text, counted from 1 in its file: `route: FILE:LINE: `. Line 0 stands for all of it.
-pub fn begin_at(text: &mut String, part: &Part<'_>, line: usize) -> Result<(), AllocError> {
+pub fn begin_at(text: &mut String, part: &GivenText<'_>, line: usize) -> Result<(), AllocError> {
     if line == 0 {
         return begin(text, part.file);
     }
@@ -100,7 +100,7 @@ pub fn begin_at(text: &mut String, part: &Part<'_>, line: usize) -> Result<(), A
 pub fn begin_line<'a>(
     alloc: Global,
     text: &mut String,
-    part: &Part<'a>,
+    part: &GivenText<'a>,
     line: usize,
 ) -> Result<Vec<&'a [u8]>, AllocError> {
     begin_at(text, part, line)?;

@@ -1,8 +1,8 @@
 //! What is wrong with a line of a topology.
 
 use crate::lines::word_at;
-use crate::parts::Run;
 use crate::sentence::{Quoted, WordCount, begin_line, push_bad_byte};
+use crate::texts::RunTexts;
 use ir_adjlist::TextError;
 use ir_model::{Fault, MAX_EDGES, MAX_NAME_BYTES, MAX_NODES, MAX_WEIGHT};
 use std::alloc::AllocError;
@@ -37,8 +37,12 @@ fn push_too_many(text: &mut String, most: usize, what: &str) -> Result<(), Alloc
 }
 
 /// Says what is wrong with a line of a topology.
-pub fn push_topology(text: &mut String, run: &Run<'_>, error: TextError) -> Result<(), AllocError> {
-    let line = begin_line(run.alloc, text, &run.parts.topology, error.line)?;
+pub fn push_topology(
+    text: &mut String,
+    run: &RunTexts<'_>,
+    error: TextError,
+) -> Result<(), AllocError> {
+    let line = begin_line(run.alloc, text, &run.texts.topology, error.line)?;
     let words = line.as_slice();
     match error.kind {
         Fault::BadByte => push_bad_byte(text, words, "names are"),

@@ -1,8 +1,8 @@
 //! Installs of a script that its injector has not learnt.
 
 use crate::lines::{first_word, lines_of};
-use crate::parts::Part;
 use crate::sentence::begin_at;
+use crate::texts::GivenText;
 use std::alloc::{AllocError, Global};
 
 static UNLEARNT: &str =
@@ -26,7 +26,7 @@ fn unlearnt_line(alloc: Global, script: &[u8]) -> Result<usize, AllocError> {
 pub fn push_unlearnt(
     alloc: Global,
     text: &mut String,
-    script: &Part<'_>,
+    script: &GivenText<'_>,
 ) -> Result<(), AllocError> {
     let line = unlearnt_line(alloc, script.bytes)?;
     if line == 0 {

@@ -5,8 +5,8 @@ mod live;
 mod running;
 
 pub use ir_answer::{
-    Format, Notice, Numbering, Outcome, Source, Sub, Words, WordsError, read_words, run_by,
-    run_check, run_plan, run_sim, sources_of,
+    Format, Notice, NumberingChoice, RunOutcome, Source, Sub, Words, WordsError, read_words,
+    run_by, run_check, run_plan, run_sim, sources_of,
 };
 pub use ir_exports::LineCrew;
 pub use ir_plan::{Alone, Crew, Several};

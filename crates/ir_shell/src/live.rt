@@ -8,7 +8,7 @@ ghost use Rattle.ir_shell.specs.Lives.{is_for_memory, refusals_text, IsOpenedNet
 ghost use Rattle.ir_answer.specs.{Plays.{listing_in, run_text}, Stops.{StopsAs, Gives}};
 
 use ir_answer::{Asked, Stop, opening_stop, read_asked, run_text};
-use ir_cli::{Reply, Words, opening_of};
+use ir_cli::{RunReply, Words, opening_of};
 use ir_control::{Live, LiveError, Net, Starter, run_live};
 use ir_core::{OpenError, Refused};
 use ir_graph::Graph;
@@ -117,7 +117,7 @@ fn answer_net<T: Threads + Moments<Parcel> + Starter + Sync>(
     words: &Words,
     asked: &Asked<Command>,
     net: &Net,
-) -> Result<Reply, Stop>
+) -> Result<RunReply, Stop>
     requires over { asked.now.topology ≡ topology_of_graph asked.now.graph }
     requires opened { IsOpenedNet asked.now.graph words.now asked.now.root net.now }
     ensures { Gives (AnswersLive (Bor T) T.was_full T.was_empty (T.unstarted rt.now) (T.came_back rt.now)
@@ -134,9 +134,9 @@ fn answer_net<T: Threads + Moments<Parcel> + Starter + Sync>(
                 asked.script.lines(),
                 &live,
             )?;
-            Ok(Reply::Ran(trace, refused))
+            Ok(RunReply::Ran(trace, refused))
         }
-        Err(LiveError::NoThread) => Ok(Reply::NoThread),
+        Err(LiveError::NoThread) => Ok(RunReply::NoThread),
         Err(LiveError::TooManyReaders) => Err(opening_stop(OpenError::TooManyReaders)),
         Err(LiveError::Spent | LiveError::NoMemory | LiveError::Unpublished) => Err(Stop::NoMemory),
     }
@@ -150,7 +150,7 @@ pub fn run_commands<T: Threads + Moments<Parcel> + Starter + Sync>(
     words: &Words,
     topology: &[u8],
     script: &[u8],
-) -> Result<Reply, Stop>
+) -> Result<RunReply, Stop>
     ensures { Gives (AnswersTopology words.now.format (lines topology.now)
         (AnswersLiveScript (Bor T) T.was_full T.was_empty (T.unstarted rt.now) (T.came_back rt.now)
         (T.was_closed rt.now) words.now (lines script.now))) result }

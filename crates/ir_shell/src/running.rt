@@ -7,7 +7,7 @@ ghost use Rattle.ir_cli.specs.{Notices.{told_text, ShowsFound}, Words.{FitsItsKi
 
 use crate::live::run_commands;
 use ir_answer::{asked_shape, follow_by, sources_by, two_texts, write_given};
-use ir_cli::{Outcome, Sub, Words, read_inputs, status_of, tell_unread};
+use ir_cli::{RunOutcome, Sub, Words, read_inputs, status_of, tell_unread};
 use ir_control::Starter;
 use ir_exports::LineCrew;
 use ir_links::Moments;
@@ -24,7 +24,7 @@ fn write_live<T: Threads + Moments<Parcel> + Starter + Sync, W: Writer, F: Write
     texts: &[Vec<u8>],
     output: &mut W,
     faults: &mut F,
-) -> Outcome
+) -> RunOutcome
     requires { length texts.now ≡ length (sim_sources words.now) }
     ensures ends { EndsAs (InForm Sub.Live words.now (LiveAnswers (Bor T) T.was_full T.was_empty (T.unstarted rt.now)
         (T.came_back rt.now) (T.was_closed rt.now) words.now)) result.ending
@@ -48,7 +48,7 @@ fn follow_live<T: Threads + Moments<Parcel> + Starter + Sync, R: Reader, W: Writ
     inputs: &mut [R],
     output: &mut W,
     faults: &mut F,
-) -> Outcome
+) -> RunOutcome
     requires { length inputs.old ≡ length (sim_sources words.now) }
     ensures ends { EndsAs (InForm Sub.Live words.now (LiveAnswers (Bor T) T.was_full T.was_empty (T.unstarted rt.now)
         (T.came_back rt.now) (T.was_closed rt.now) words.now)) result.ending
@@ -106,7 +106,7 @@ pub fn follow<
     inputs: &mut [R],
     output: &mut W,
     faults: &mut F,
-) -> Outcome
+) -> RunOutcome
     requires kind { FitsItsKind words.now }
     requires inputs { length inputs.old ≡ length (sources_of words.now) }
     ensures ends { EndsAs (Answers (LiveAnswers (Bor T) T.was_full T.was_empty (T.unstarted rt.now) (T.came_back rt.now)

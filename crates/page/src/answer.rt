@@ -5,7 +5,7 @@ ghost use Rattle.ir_cli.specs.Words.{FitsItsKind};
 ghost use Rattle.page.specs.Calls.{typed_words, text_for, IsFollowed, IsCallAnswer};
 
 use crate::words::asked;
-use ir_answer::{Alone, Outcome, Source, Words, WordsError, follow_by, sources_of};
+use ir_answer::{Alone, RunOutcome, Source, Words, WordsError, follow_by, sources_of};
 use ir_cli::{Ending, status_of};
 use ir_explain::{Given, Trouble, explanation};
 use std::alloc::{AllocError, Global};
@@ -56,7 +56,7 @@ fn sentences(
     alloc: Global,
     words: &Words,
     texts: &[&[u8]],
-    outcome: &Outcome,
+    outcome: &RunOutcome,
 ) -> Result<String, AllocError>
     ensures { IfOk result (λ text. words.now.explain ≡ false → string_bytes text ≡ []) }
 {

@@ -24,7 +24,7 @@ use input::{Input, open};
 use ir_cli::{Called, read_words_as, status_of};
 use ir_explain::explanation_by;
 use ir_plan::Several;
-use ir_shell::{Outcome, Source, Sub, Words, WordsError, follow, sources_of};
+use ir_shell::{RunOutcome, Source, Sub, Words, WordsError, follow, sources_of};
 use naming::{called_by, said_by};
 use output::{Output, is_whole};
 use piped::Piped;
@@ -92,7 +92,7 @@ fn sentences<T: Threads + Sync>(
     threads: &T,
     words: &Words,
     inputs: &[Input],
-    outcome: &Outcome,
+    outcome: &RunOutcome,
     is_kept: bool,
 ) -> Result<String, AllocError> {
     let mut given = Vec::new(alloc);

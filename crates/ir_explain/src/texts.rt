@@ -30,7 +30,7 @@ pub struct Given<'a> {
 
 /// A text of a run: its file, how many lines of the file stand above it, and its bytes.
 #[derive(Clone, Copy)]
-pub struct Part<'a> {
+pub struct GivenText<'a> {
     pub file: &'a str,
     pub above: usize,
     pub bytes: &'a [u8],
@@ -39,16 +39,16 @@ pub struct Part<'a> {
 
 /// The texts of a run. One that the run does not have is empty.
 #[derive(Clone, Copy)]
-pub struct Parts<'a> {
-    pub topology: Part<'a>,
-    pub script: Part<'a>,
-    pub trace: Part<'a>,
-    pub numbering: Part<'a>,
+pub struct GivenTexts<'a> {
+    pub topology: GivenText<'a>,
+    pub script: GivenText<'a>,
+    pub trace: GivenText<'a>,
+    pub numbering: GivenText<'a>,
 }
 
-impl<'a> Parts<'a> {
+impl<'a> GivenTexts<'a> {
     /// The text of a source; of an input with several texts the first.
-    pub fn of(&self, source: Source) -> &Part<'a> {
+    pub fn of(&self, source: Source) -> &GivenText<'a> {
         match source {
             Source::Input | Source::Topology => &self.topology,
             Source::Script => &self.script,
@@ -59,13 +59,13 @@ impl<'a> Parts<'a> {
 }
 
 /// All of the input at a place, as a text of this file.
-fn whole<'a>(given: &[Given<'a>], place: usize, file: &'a str) -> Part<'a> {
+fn whole<'a>(given: &[Given<'a>], place: usize, file: &'a str) -> GivenText<'a> {
     let (bytes, trouble): (&'a [u8], Trouble) = match given.get(place) {
         Some(input) => (input.bytes, input.trouble),
         None => (&[], Trouble::Unknown),
     };
     let above = 0;
-    Part {
+    GivenText {
         file,
         above,
         bytes,
@@ -74,11 +74,11 @@ fn whole<'a>(given: &[Given<'a>], place: usize, file: &'a str) -> Part<'a> {
 }
 
 /// What the line `%%` cuts a text into: what stands above it, and what stands below.
-fn halves<'a>(part: Part<'a>) -> (Part<'a>, Part<'a>) {
+fn halves<'a>(part: GivenText<'a>) -> (GivenText<'a>, GivenText<'a>) {
     let (bytes, below) = cut(part.bytes);
     let above = line_ends(part.bytes).saturating_sub(line_ends(below));
-    let first = Part { bytes, ..part };
-    let second = Part {
+    let first = GivenText { bytes, ..part };
+    let second = GivenText {
         bytes: below,
         above: part.above.saturating_add(above),
         ..part
@@ -87,7 +87,7 @@ fn halves<'a>(part: Part<'a>) -> (Part<'a>, Part<'a>) {
 }
 
 /// The texts of a run, of what was given of its inputs.
-pub fn parts_of<'a>(words: &'a Words, given: &[Given<'a>]) -> Parts<'a> {
+pub fn texts_of<'a>(words: &'a Words, given: &[Given<'a>]) -> GivenTexts<'a> {
     let first = whole(given, 0, words.file(0));
     let numbering = whole(given, 1, words.order_file());
     let (topology, script, trace) = match words.sub {
@@ -106,7 +106,7 @@ pub fn parts_of<'a>(words: &'a Words, given: &[Given<'a>]) -> Parts<'a> {
             whole(given, 2, words.file(2)),
         ),
     };
-    Parts {
+    GivenTexts {
         topology,
         script,
         trace,
@@ -116,15 +116,19 @@ pub fn parts_of<'a>(words: &'a Words, given: &[Given<'a>]) -> Parts<'a> {
 
 /// A run that is explained: where memory is, the graph of its topology, what its words ask for, and its texts.
 #[derive(Clone, Copy)]
-pub struct Run<'a> {
+pub struct RunTexts<'a> {
     pub alloc: Global,
     pub graph: &'a Graph,
     pub words: &'a Words,
-    pub parts: Parts<'a>,
+    pub texts: GivenTexts<'a>,
 }
 
 /// The graph of a topology; one with no node where the text has a fault.
-pub fn graph_of(alloc: Global, words: &Words, topology: &Part<'_>) -> Result<Graph, AllocError> {
+pub fn graph_of(
+    alloc: Global,
+    words: &Words,
+    topology: &GivenText<'_>,
+) -> Result<Graph, AllocError> {
     match read_topology(alloc, words.format, topology.bytes) {
         Ok(graph) => Ok(graph),
         Err(error) if error.kind == Fault::NoMemory => Err(AllocError),
