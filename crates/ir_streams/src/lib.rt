@@ -6,19 +6,15 @@
 
 mod call;
 mod parts;
-mod reader;
 mod reading;
 mod texts;
-mod writer;
 mod writing;
 
 pub use call::CallError;
 pub use parts::TextParts;
-pub use reader::Reader;
-pub use reading::{NoInput, read_text};
+pub use reading::{NoInput, Reader, read_text};
 pub use texts::Texts;
-pub use writer::Writer;
-pub use writing::write_text;
+pub use writing::{Writer, write_text};
 
 /// The most bytes of an input.
 pub const MAX_INPUT_BYTES: usize = 16_777_216;

@@ -5,8 +5,7 @@ ghost use Rattle.ir_streams.specs.{declared.TheConstants.PART_BYTES, Room.{kept_
 
 use crate::PART_BYTES;
 use crate::texts::Texts;
-use crate::writer::Writer;
-use crate::writing::{put_all, write_text};
+use crate::writing::{Writer, put_all, write_text};
 use std::alloc::{AllocError, Global};
 use std::marker::Model;
 
@@ -24,17 +23,6 @@ fn keep(kept: &mut Vec<u8>, bytes: &[u8])
     ensures bytes { kept.new.items ≡ kept.old.items ++ bytes.now }
 {
     let _kept = kept.extend_from_slice(bytes);
-}
-
-/// Makes what is kept back longer, by bytes that count for nothing yet, where a part has room for them.
-fn lengthen(kept: &mut Vec<u8>)
-    requires { IsRoom kept.old }
-    ensures room { IsRoom kept.new }
-    ensures front { take (length kept.old.items) kept.new.items ≡ kept.old.items }
-{
-    if MORE_BYTES <= PART_BYTES - kept.len() {
-        let _kept = kept.extend_from_slice(&[0; MORE_BYTES]);
-    }
 }
 
 /// Puts bytes behind the first `count` of others; `more` of them count.
@@ -128,8 +116,9 @@ impl TextParts {
     fn make_room(&mut self)
         ensures { self.new ≡ self.old }
     {
-        if self.kept.len() - self.count < SHORT_BYTES {
-            lengthen(&mut self.kept);
+        let has_room = SHORT_BYTES <= self.kept.len() - self.count;
+        if !has_room && MORE_BYTES <= PART_BYTES - self.kept.len() {
+            let _kept = self.kept.extend_from_slice(&[0; MORE_BYTES]);
         }
     }
 
