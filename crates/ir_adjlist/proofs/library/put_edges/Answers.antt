@@ -1,7 +1,7 @@
 use Rattle.std.proofs.Common.{◌∙◌, ◌++◌, sym, ap}
 use Rattle.ir_model.specs.Graph.{neighbors}
 use Rattle.ir_adjlist.proofs.Writing.{node_edges-one, put_more}
-use Rattle.ir_adjlist.proofs.writer.put_edges.Goals as goal
+use Rattle.ir_adjlist.proofs.library.put_edges.Goals as goal
 
 pub loop-place-preserved : goal.loop-place-preserved
 loop-place-preserved c =

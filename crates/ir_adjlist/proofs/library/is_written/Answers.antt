@@ -1,7 +1,7 @@
 use Rattle.std.proofs.Common.{sym}
 use Rattle.ir_model.specs.Graph.{names}
 use Rattle.ir_adjlist.proofs.Writing.{place_among_first, no_place_among_first}
-use Rattle.ir_adjlist.proofs.writer.is_written.Goals as goal
+use Rattle.ir_adjlist.proofs.library.is_written.Goals as goal
 
 pub returns-in-Some : goal.returns-in-Some
 returns-in-Some c = sym (place_among_first (names c.args.graph.now) c.args.name.now c.args.count c.in-Some.place c.in-Some.ensures.place)

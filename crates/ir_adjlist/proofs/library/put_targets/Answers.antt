@@ -2,7 +2,7 @@ use Rattle.std.proofs.Common.{◌∙◌, ◌++◌, sym, ap}
 use Rattle.std.specs.Map.{keys_of}
 use Rattle.ir_model.specs.Graph.{neighbors}
 use Rattle.ir_adjlist.proofs.Writing.{spaced-one, put_more}
-use Rattle.ir_adjlist.proofs.writer.put_targets.Goals as goal
+use Rattle.ir_adjlist.proofs.library.put_targets.Goals as goal
 
 pub loop-place-preserved : goal.loop-place-preserved
 loop-place-preserved c =

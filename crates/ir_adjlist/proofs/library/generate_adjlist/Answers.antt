@@ -3,7 +3,7 @@ use Rattle.ir_adjlist.specs.RoundTrip.{IsReadAsAdjlist}
 use Rattle.ir_adjlist.specs.Written.{adjlist_text}
 use Rattle.ir_adjlist.proofs.AdjlistRead.{adjlist_read}
 use Rattle.ir_adjlist.proofs.Writing.{rows_text, rows_text-one, put_through, rows_written}
-use Rattle.ir_adjlist.proofs.generate_adjlist.Goals as goal
+use Rattle.ir_adjlist.proofs.library.generate_adjlist.Goals as goal
 
 pub loop-place-preserved : goal.loop-place-preserved
 loop-place-preserved c =

@@ -3,7 +3,7 @@ use Rattle.ir_adjlist.specs.RoundTrip.{IsReadAsEdgelist}
 use Rattle.ir_adjlist.specs.Written.{edgelist_text}
 use Rattle.ir_adjlist.proofs.EdgelistRead.{edgelist_read}
 use Rattle.ir_adjlist.proofs.Writing.{edges_text, edges_text-one, put_through, edges_written}
-use Rattle.ir_adjlist.proofs.generate_weighted_edgelist.Goals as goal
+use Rattle.ir_adjlist.proofs.library.generate_weighted_edgelist.Goals as goal
 
 pub loop-place-preserved : goal.loop-place-preserved
 loop-place-preserved c =
