@@ -23,8 +23,8 @@ pub use library::{generate_adjlist, generate_weighted_edgelist};
 use std::alloc::Global;
 use thiserror::Error;
 
-/// Why a text is refused: its first faulty line, counted from 1, and that line's first fault. Want of
-/// memory has line 0.
+/// Why a text is refused: its first faulty line, counted from 1, and that line's first fault. Want
+/// of memory has line 0.
 #[derive(Clone, Copy, Debug, PartialEq, Eq, Error)]
 #[error("line {line}: {kind:?}")]
 pub struct TextError {

@@ -189,10 +189,10 @@ pub fn generate_adjlist(alloc: Global, graph: &Graph) -> Result<Vec<u8>, AllocEr
     Ok(text)
 }
 
-/// The weighted edge list of a graph: a line for each edge in order, with its ends and its weight in
-/// decimal. It is read again as the same edges and weights, and as the same nodes where no node is
-/// without an edge; the orders are then those of the text. Refused for want of memory alone. Takes
-/// O(n + m) on average, for n nodes and m edges.
+/// The weighted edge list of a graph: a line for each edge in order, with its ends and its weight
+/// in decimal. It is read again as the same edges and weights, and as the same nodes where no node
+/// is without an edge; the orders are then those of the text. Refused for want of memory alone.
+/// Takes O(n + m) on average, for n nodes and m edges.
 pub fn generate_weighted_edgelist(alloc: Global, graph: &Graph) -> Result<Vec<u8>, AllocError>
     ensures text { IfOk result (λ text. text.items ≡ edgelist_text graph.now) }
     ensures read { IfOk result (λ text. IsReadAsEdgelist graph.now text.items) }

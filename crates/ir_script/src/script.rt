@@ -13,8 +13,8 @@ use ir_graph::Graph;
 use ir_tables::Topology;
 use std::alloc::Global;
 
-/// The steps of a simulation's script, or the commands of a live run's, and beside each the number of
-/// its line.
+/// The steps of a simulation's script, or the commands of a live run's, and beside each the number
+/// of its line.
 #[derive(Drop)]
 pub struct Script<T> {
     steps: Vec<T>,
@@ -149,10 +149,10 @@ pub fn parse<T: ScriptItem>(
 /// - `act N`.
 ///
 /// Numbers have one to five decimal digits and a value of at most 65,535. Lines, words, blanks and
-/// comments are as in the texts of a topology; a line with no word is skipped, and counts. The faults
-/// of a line, in order: `BadByte`; `BadCommand`; `BadNumber` and `UnknownNode`, by the words from left
-/// to right; `UnknownLink`. A script with a fault gives no step. Condition: the topology is that of
-/// the graph.
+/// comments are as in the texts of a topology; a line with no word is skipped, and counts. The
+/// faults of a line, in order: `BadByte`; `BadCommand`; `BadNumber` and `UnknownNode`, by the words
+/// from left to right; `UnknownLink`. A script with a fault gives no step. Condition: the topology
+/// is that of the graph.
 pub fn parse_script(
     alloc: Global,
     text: &[u8],

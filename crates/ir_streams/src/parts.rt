@@ -60,8 +60,8 @@ fn pour<W: Writer>(kept: &mut Vec<u8>, writer: &mut W, bytes: &[u8]) -> bool
     true
 }
 
-/// A text on its way to a writer, in writes of at most `PART_BYTES` bytes. What makes no part yet is
-/// kept back. Once a write failed no call is made of the writer.
+/// A text on its way to a writer, in writes of at most `PART_BYTES` bytes. What makes no part yet
+/// is kept back. Once a write failed no call is made of the writer.
 #[derive(Drop)]
 pub struct TextParts {
     /// Of these bytes the first `count` are kept back.
@@ -122,8 +122,8 @@ impl TextParts {
         }
     }
 
-    /// More of the text, which is one of some texts: as `push` of its bytes, and faster where they are
-    /// few. Condition: `k` is below `texts.len()`.
+    /// More of the text, which is one of some texts: as `push` of its bytes, and faster where they
+    /// are few. Condition: `k` is below `texts.len()`.
     pub fn push_text<W: Writer>(&mut self, writer: &mut W, texts: &Texts, k: usize)
         requires { k < length texts.now }
         ensures writes { Pours W.contents W.wrote W.settled writer.old self.old (slice_index_or texts.now k [])

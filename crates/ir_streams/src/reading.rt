@@ -18,8 +18,8 @@ pub trait Reader {
     // a call of `get`: the reader before it, the bytes that it gave or why it gave none, and the reader after it
     ghost gave: { Self → Result (List ℕ) CallError → Self → Type 0 };
 
-    /// Puts some of the bytes that are left at the front of the room, and answers how many: none at the end alone.
-    /// Condition: there is room.
+    /// Puts some of the bytes that are left at the front of the room, and answers how many: none at
+    /// the end alone. Condition: there is room.
     fn get(&mut self, room: &mut [u8]) -> Result<usize, CallError>
         requires { 0 < length room.old }
         ensures call { MatchResult result (λ n. gave self.old (Ok (take n room.new)) self.new)

@@ -94,8 +94,8 @@ pub(crate) fn put_all<W: Writer>(writer: &mut W, text: &[u8]) -> bool
 }
 
 /// Writes all of a text, and returns whether the writer took and flushed it. A call that was
-/// interrupted is made again, `MAX_TRIES` times in a row at most. After a call that failed nothing is
-/// written; what went out is a front of the text then.
+/// interrupted is made again, `MAX_TRIES` times in a row at most. After a call that failed nothing
+/// is written; what went out is a front of the text then.
 pub fn write_text<W: Writer>(writer: &mut W, text: &[u8]) -> bool
     ensures calls { Calls W.wrote W.settled result writer.old text.now writer.new }
     ensures bytes { Writes result (W.contents writer.old) (W.contents writer.new) text.now }
