@@ -2,7 +2,7 @@ use Rattle.std.proofs.Common.{◌∙◌, sym, ap, arith, Some}
 use Rattle.std.proofs.lemmas.Option.{slice_get-get_or}
 use Rattle.ir_trace.specs.Row.{Segment}
 use Rattle.ir_trace.proofs.Parts.{followed_more, left_told}
-use Rattle.ir_trace.proofs.departing.segments.first_left.Goals as goal
+use Rattle.ir_trace.proofs.departing.first_left.Goals as goal
 
 pub left_in-requires : goal.left_in-requires
 left_in-requires c =

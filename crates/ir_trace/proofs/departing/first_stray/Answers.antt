@@ -1,6 +1,6 @@
 use Rattle.std.proofs.Common.{arith, sym}
 use Rattle.ir_trace.proofs.Strays.{stray_from, front_of_all}
-use Rattle.ir_trace.proofs.departing.hops.first_stray.Goals as goal
+use Rattle.ir_trace.proofs.departing.first_stray.Goals as goal
 
 pub returns-then-not-is_node-clause-stray : goal.returns-then-not-is_node-clause-stray
 returns-then-not-is_node-clause-stray c =

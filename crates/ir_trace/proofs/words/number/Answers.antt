@@ -1,7 +1,7 @@
 use Rattle.std.proofs.Common.{◌≡◌, ◌∙◌, sym, ap, subst, MatchOption, decimal}
 use Rattle.ir_trace.specs.Spelled.{IsNoNumber, has_needless_front}
 use Rattle.ir_trace.proofs.ReadNumbers.{no_number_needless, read_number}
-use Rattle.ir_trace.proofs.numbers.number.Goals as goal
+use Rattle.ir_trace.proofs.words.number.Goals as goal
 
 pub returns-then-has_needless_front : goal.returns-then-has_needless_front
 returns-then-has_needless_front c = no_number_needless c.args.word.now (ap has_needless_front (sym c.as_bytes.ensures.value) ∙ sym c.has_needless_front.ensures ∙ c.if-has_needless_front.true)

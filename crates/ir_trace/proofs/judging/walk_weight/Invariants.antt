@@ -1,6 +1,6 @@
 use Rattle.std.proofs.Common.{◌≡◌, ◌≤◌, ◌*◌, take}
 use Rattle.ir_model.specs.Walk.{walk_weight}
-use Rattle.ir_trace.proofs.weight.walk_weight.Given as goal
+use Rattle.ir_trace.proofs.judging.walk_weight.Given as goal
 
 abbrev pub invariant-loop-i : goal.invariant-loop-i
 invariant-loop-i l = record {

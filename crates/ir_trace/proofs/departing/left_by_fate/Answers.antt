@@ -4,7 +4,7 @@ use Rattle.ir_model.specs.Plan.{Plan}
 use Rattle.ir_trace.specs.Row.{Segment}
 use Rattle.ir_trace.specs.Checked.{plan_at}
 use Rattle.ir_trace.proofs.Inspecting.{part_facts}
-use Rattle.ir_trace.proofs.departing.segments.left_by_fate.Goals as goal
+use Rattle.ir_trace.proofs.departing.left_by_fate.Goals as goal
 
 pub next_of-next-requires-clause-at : goal.next_of-next-requires-clause-at
 next_of-next-requires-clause-at c =

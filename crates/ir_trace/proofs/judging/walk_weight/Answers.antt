@@ -1,7 +1,7 @@
 use Rattle.std.proofs.Common.{◌≡◌, ◌+◌, ◌-◌, arith, take, get_or}
 use Rattle.ir_model.specs.Walk.{link_weight, walk_weight}
 use Rattle.ir_trace.proofs.Weighing.{walk_weight-take}
-use Rattle.ir_trace.proofs.weight.walk_weight.Goals as goal
+use Rattle.ir_trace.proofs.judging.walk_weight.Goals as goal
 
 pub loop-i-preserved : goal.loop-i-preserved
 loop-i-preserved c =
