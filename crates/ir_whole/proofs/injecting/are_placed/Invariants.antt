@@ -1,6 +1,6 @@
 use Rattle.std.proofs.Common.{◌≡◌, ◌≤◌, drop, length}
 use Rattle.ir_whole.specs.Judged.{are_placed}
-use Rattle.ir_whole.proofs.placing.are_placed.Given as goal
+use Rattle.ir_whole.proofs.injecting.are_placed.Given as goal
 
 abbrev pub invariant-loop-inject : goal.invariant-loop-inject
 invariant-loop-inject l = record {

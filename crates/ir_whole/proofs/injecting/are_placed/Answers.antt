@@ -1,6 +1,6 @@
 use Rattle.std.proofs.Common.{◌∙◌, arith}
 use Rattle.ir_whole.proofs.Numbered.{placed_end}
-use Rattle.ir_whole.proofs.placing.are_placed.Goals as goal
+use Rattle.ir_whole.proofs.injecting.are_placed.Goals as goal
 
 pub returns : goal.returns
 returns c =
