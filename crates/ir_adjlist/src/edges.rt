@@ -1,25 +1,11 @@
 //! One line of a weighted edge list.
-ghost use Rattle.std.specs.Prelude.{◌≡◌, Ok, Some, ◌∷◌, true, OnOk, IfErr};
-ghost use Rattle.ir_model.specs.{Graph.{is_name, is_weight}, Text.words_of};
-ghost use Rattle.ir_adjlist.specs.Steps.{edge_run, ending_run, edge_line_run, Fails};
+ghost use Rattle.std.specs.Prelude.{◌≡◌, Ok, true, OnOk, IfErr};
+ghost use Rattle.ir_model.specs.{Graph.is_name, Text.words_of};
+ghost use Rattle.ir_adjlist.specs.Steps.{ending_run, edge_line_run, Fails};
 
 use crate::{rows, scan, weights};
 use ir_graph::Graph;
 use ir_model::{Fault, MAX_NAME_BYTES};
-
-/// Links two ends.
-fn add_edge(graph: &mut Graph, u: &str, v: &str, weight: u32) -> Result<(), Fault>
-    requires u { is_name u.now ≡ true }
-    requires v { is_name v.now ≡ true }
-    requires weight { is_weight weight ≡ true }
-    ensures ok { OnOk result (edge_run graph.old u.now v.now weight ≡ Ok graph.new) }
-    ensures fault { IfErr result (λ e. Fails e (edge_run graph.old u.now v.now weight)) }
-{
-    match graph.add_edge(u, v, weight) {
-        Ok(_) => Ok(()),
-        Err(error) => Err(rows::as_fault(error)),
-    }
-}
 
 /// Links two ends by the weight in the words, which are to be one.
 fn add_weighted(graph: &mut Graph, u: &str, v: &str, words: &[u8]) -> Result<(), Fault>
@@ -34,9 +20,12 @@ fn add_weighted(graph: &mut Graph, u: &str, v: &str, words: &[u8]) -> Result<(),
     if scan::next_word(rest).is_some() {
         return Err(Fault::BadRow);
     }
-    match weights::read_weight(word) {
-        None => Err(Fault::BadWeight),
-        Some(weight) => add_edge(graph, u, v, weight),
+    let Some(weight) = weights::read_weight(word) else {
+        return Err(Fault::BadWeight);
+    };
+    match graph.add_edge(u, v, weight) {
+        Ok(_) => Ok(()),
+        Err(error) => Err(rows::as_fault(error)),
     }
 }
 

@@ -1,43 +1,35 @@
-//! The two texts of a topology, in the formats of NetworkX: adjacency lists and weighted edge lists, read and written.
+//! Two formats of NetworkX, read and written: adjacency lists and weighted edge lists.
 //!
-//! A line ends with a line feed or with the text. What stands behind a `#` is a comment and holds any bytes; outside a
-//! comment each byte is a blank (space, tab, carriage return, vertical tab, form feed) or one of `!` to `~`. A name is a
-//! word of 1 to 64 bytes. A line with no word is skipped.
+//! A line ends with a line feed or with the text. What stands behind a `#` is a comment and holds any
+//! bytes; outside a comment each byte is a blank (space, tab, carriage return, vertical tab, form
+//! feed) or one of `!` to `~`. A name is a word of 1 to 64 bytes. A line with no word is skipped.
 #![tactic(auto)]
 
 ghost use Rattle.std.specs.Prelude.{◌≡◌, [], None, IfOk, IfErr};
 ghost use Rattle.ir_model.specs.{Made.graph_of, Text.{lines, names_in, pairs_in, first_fault}};
 ghost use Rattle.ir_model.specs.Edgelist.{edges_in, graph_of_edges, first_edge_fault};
-ghost use Rattle.ir_adjlist.specs.{RoundTrip.{IsReadAsAdjlist, IsReadAsEdgelist}, Told.{Tells, told_at}};
-ghost use Rattle.ir_adjlist.specs.{Written.{adjlist_text, edgelist_text}, Told.text_code};
+ghost use Rattle.ir_adjlist.specs.Told.{Tells, told_at};
 
 pub mod digits;
 mod edges;
+mod library;
 mod rows;
 pub mod scan;
 mod weights;
-mod writer;
 
 use ir_graph::Graph;
 pub use ir_model::Fault;
-use std::alloc::{AllocError, Global};
+pub use library::{generate_adjlist, generate_weighted_edgelist};
+use std::alloc::Global;
 use thiserror::Error;
 
-/// Why a text is refused: its first faulty line, counted from 1, and that line's first fault. Want of memory has line 0.
+/// Why a text is refused: its first faulty line, counted from 1, and that line's first fault. Want
+/// of memory has line 0.
 #[derive(Clone, Copy, Debug, PartialEq, Eq, Error)]
 #[error("line {line}: {kind:?}")]
 pub struct TextError {
     pub line: usize,
     pub kind: Fault,
-}
-
-impl TextError {
-    /// The number of the kind, from 1 for `BadByte` to 7 for `NoMemory`. For users of the library.
-    pub fn code(self) -> u8
-        ensures { result ≡ text_code self.kind }
-    {
-        self.kind as u8
-    }
 }
 
 /// The error for a fault in a line.
@@ -95,34 +87,4 @@ pub fn parse_weighted_edgelist(alloc: Global, text: &[u8]) -> Result<Graph, Text
         rest = after;
     }
     Ok(graph)
-}
-
-/// The adjacency list of a graph: a line for each node in order, with the node and then its neighbours, in order, that
-/// have no line before it. So each edge stands once, and no weight. It is read again as the same nodes and the same
-/// edges, each of weight 1; the orders are then those of the text. Refused for want of memory alone. Takes O(n + m) on
-/// average, for n nodes and m edges. For users of the library.
-pub fn generate_adjlist(alloc: Global, graph: &Graph) -> Result<Vec<u8>, AllocError>
-    ensures text { IfOk result (λ text. text.items ≡ adjlist_text graph.now) }
-    ensures read { IfOk result (λ text. IsReadAsAdjlist graph.now text.items) }
-{
-    let mut text = Vec::new(alloc);
-    for place in 0..graph.number_of_nodes() {
-        writer::put_row_at(&mut text, graph, place)?;
-    }
-    Ok(text)
-}
-
-/// The weighted edge list of a graph: a line for each edge in order, with its ends and its weight in decimal. It is read
-/// again as the same edges and weights, and as the same nodes where no node is without an edge; the orders are then
-/// those of the text. Refused for want of memory alone. Takes O(n + m) on average, for n nodes and m edges.
-/// For users of the library.
-pub fn generate_weighted_edgelist(alloc: Global, graph: &Graph) -> Result<Vec<u8>, AllocError>
-    ensures text { IfOk result (λ text. text.items ≡ edgelist_text graph.now) }
-    ensures read { IfOk result (λ text. IsReadAsEdgelist graph.now text.items) }
-{
-    let mut text = Vec::new(alloc);
-    for place in 0..graph.number_of_nodes() {
-        writer::put_edges_at(alloc, &mut text, graph, place)?;
-    }
-    Ok(text)
 }

@@ -1,6 +1,6 @@
 //! One line of an adjacency list.
-ghost use Rattle.std.specs.{Prelude.{◌≡◌, List, ◌∷◌, Ok, true, OnOk, IfErr}, List.list_all};
-ghost use Rattle.ir_model.specs.{Graph.{Name, is_name}, Text.words_of};
+ghost use Rattle.std.specs.{Prelude.{◌≡◌, Ok, true, OnOk, IfErr}, List.list_all};
+ghost use Rattle.ir_model.specs.{Graph.is_name, Text.words_of};
 ghost use Rattle.ir_adjlist.specs.Steps.{targets_run, row_run, line_run, Fails, fault_of};
 
 use crate::scan;
@@ -30,34 +30,6 @@ pub fn name_of(word: &[u8]) -> &str
     str::from_utf8(word).unwrap()
 }
 
-/// Links a source to a target.
-fn add_target(graph: &mut Graph, source: &str, target: &str) -> Result<(), Fault>
-    requires source { is_name source.now ≡ true }
-    requires target { is_name target.now ≡ true }
-    ensures ok { OnOk result ((ts : List Name)
-        → targets_run graph.old source.now (target.now ∷ ts) ≡ targets_run graph.new source.now ts) }
-    ensures fault { IfErr result (λ e. (ts : List Name)
-        → Fails e (targets_run graph.old source.now (target.now ∷ ts))) }
-{
-    match graph.add_edge(source, target, 1) {
-        Ok(_) => Ok(()),
-        Err(error) => Err(as_fault(error)),
-    }
-}
-
-/// Adds a source.
-fn add_source(graph: &mut Graph, source: &str) -> Result<(), Fault>
-    requires source { is_name source.now ≡ true }
-    ensures ok { OnOk result ((ts : List Name)
-        → row_run graph.old (source.now ∷ ts) ≡ targets_run graph.new source.now ts) }
-    ensures fault { IfErr result (λ e. (ts : List Name) → Fails e (row_run graph.old (source.now ∷ ts))) }
-{
-    match graph.add_node(source) {
-        Ok(_) => Ok(()),
-        Err(error) => Err(as_fault(error)),
-    }
-}
-
 /// Links a source to the targets in the words.
 fn add_targets(graph: &mut Graph, source: &str, words: &[u8]) -> Result<(), Fault>
     requires source { is_name source.now ≡ true }
@@ -67,8 +39,8 @@ fn add_targets(graph: &mut Graph, source: &str, words: &[u8]) -> Result<(), Faul
 {
     let mut rest = words;
     while let Some((target, after)) = scan::next_word(rest) {
-        if let Err(fault) = add_target(graph, source, name_of(target)) {
-            return Err(fault);
+        if let Err(error) = graph.add_edge(source, name_of(target), 1) {
+            return Err(as_fault(error));
         }
         rest = after;
     }
@@ -81,16 +53,14 @@ fn add_row(graph: &mut Graph, words: &[u8]) -> Result<(), Fault>
     ensures ok { OnOk result (row_run graph.old (words_of words.now) ≡ Ok graph.new) }
     ensures fault { IfErr result (λ e. Fails e (row_run graph.old (words_of words.now))) }
 {
-    match scan::next_word(words) {
-        None => Ok(()),
-        Some((word, rest)) => {
-            let source = name_of(word);
-            if let Err(fault) = add_source(graph, source) {
-                return Err(fault);
-            }
-            add_targets(graph, source, rest)
-        }
+    let Some((word, rest)) = scan::next_word(words) else {
+        return Ok(());
+    };
+    let source = name_of(word);
+    if let Err(error) = graph.add_node(source) {
+        return Err(as_fault(error));
     }
+    add_targets(graph, source, rest)
 }
 
 /// Reads a line into the graph.

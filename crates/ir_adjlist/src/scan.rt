@@ -13,18 +13,11 @@ pub fn is_blank_byte(byte: u8) -> bool
     byte == b' ' || (byte >= 9 && byte <= 13 && byte != b'\n')
 }
 
-/// Whether the byte may stand outside a comment.
-fn is_plain_byte(byte: u8) -> bool
-    ensures { result ≡ is_plain byte }
-{
-    is_blank_byte(byte) || (byte >= b'!' && byte <= b'~')
-}
-
 /// Whether each byte may stand outside a comment. Takes O(b), for b bytes.
 pub fn all_plain(bytes: &[u8]) -> bool
     ensures { result ≡ list_all is_plain bytes.now }
 {
-    bytes.iter().all(|byte| is_plain_byte(*byte))
+    bytes.iter().all(|byte| is_blank_byte(*byte) || (*byte >= b'!' && *byte <= b'~'))
 }
 
 /// The place of the first byte of this value, if there is one. Takes O(b), for b bytes up to it.

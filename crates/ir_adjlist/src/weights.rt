@@ -1,7 +1,6 @@
 //! The weight that a word spells.
-ghost use Rattle.std.specs.{Prelude.{◌≡◌, ◌+◌, ◌==◌, min}, List.list_all};
-ghost use Rattle.ir_model.specs.declared.TheConstants.{MAX_WEIGHT};
-ghost use Rattle.ir_model.specs.Edgelist.{value_of, is_zero_fraction, whole, is_decimal, spelled_weight};
+ghost use Rattle.std.specs.{Prelude.{◌≡◌, ◌==◌}, List.list_all};
+ghost use Rattle.ir_model.specs.Edgelist.{is_zero_fraction, is_decimal, spelled_weight};
 
 use crate::digits::{all_digits, capped_value};
 use crate::scan;
@@ -28,13 +27,6 @@ fn is_decimal(word: &[u8]) -> bool
     !digits.is_empty() && all_digits(digits) && is_zero_fraction(fraction)
 }
 
-/// The value of what stands before the point, or one more than the greatest weight.
-fn capped_whole(word: &[u8]) -> u32
-    ensures { result ≡ min (MAX_WEIGHT + 1) (value_of (whole word.now)) }
-{
-    capped_value(&word[..scan::before(word, b'.')], MAX_WEIGHT)
-}
-
 /// The weight that the word spells, from 1 to 65,535, where it spells one.
 pub fn read_weight(word: &[u8]) -> Option<u32>
     ensures { result ≡ spelled_weight word.now }
@@ -42,7 +34,7 @@ pub fn read_weight(word: &[u8]) -> Option<u32>
     if !is_decimal(word) {
         return None;
     }
-    let value = capped_whole(word);
+    let value = capped_value(&word[..scan::before(word, b'.')], MAX_WEIGHT);
     if value == 0 || value > MAX_WEIGHT {
         return None;
     }

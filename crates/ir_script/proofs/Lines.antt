@@ -1,5 +1,5 @@
 -- What the node of a line says of the line's fault.
-use Rattle.std.proofs.Common.{◌≡◌, ◌≢◌, ℕ, ◌<◌, ◌≤◌, Bool, true, false, not, cond, ◌||◌, List, [], ◌∷◌, map, length, take, Option, Some, None, Result, Ok, Err, nat_lt, position, bytes_eq, refl, sym, ap, subst, ◌∙◌, arith, slice_get, slice_index_or, suc, zero}
+use Rattle.std.proofs.Common.{◌≡◌, ℕ, ◌<◌, Bool, true, false, not, cond, ◌||◌, List, [], ◌∷◌, map, length, Option, Some, None, Ok, Err, position, bytes_eq, refl, sym, ap, ◌∙◌, arith, slice_get, suc, zero}
 use Rattle.std.specs.Prelude.{slice_index}
 use Rattle.std.specs.List.{position_or_len, list_all}
 use Rattle.std.proofs.lemmas.List.{take_all}
@@ -7,9 +7,9 @@ use Rattle.std.proofs.lemmas.Option.{same_Some}
 use Rattle.ir_model.specs.Graph.{Name, among}
 use Rattle.ir_model.specs.Text.{content, words, is_plain}
 use Rattle.ir_model.proofs.Names.{same_names, bytes_eq-same}
-use Rattle.ir_graph.proofs.Places.{named_place, among-take, place_found}
+use Rattle.ir_graph.proofs.Places.{named_place, among-take}
 use Rattle.ir_script.specs.declared.order_fault.OrderFaultKind.{OrderFaultKind}
-use Rattle.ir_script.specs.declared.order_fault.OrderFaultKind.TheVariants.{BadByte, BadRow, UnknownNode, Twice, Missing, NoMemory}
+use Rattle.ir_script.specs.declared.order_fault.OrderFaultKind.TheVariants.{BadByte, BadRow, UnknownNode, Twice}
 use Rattle.ir_script.specs.Order.{words_fault, order_line_fault}
 use Rattle.ir_script.specs.Steps.{listed_node, words_node, line_node}
 

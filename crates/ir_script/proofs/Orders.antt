@@ -1,19 +1,18 @@
 -- An order that is read up to a line.
-use Rattle.std.proofs.Common.{◌≡◌, ◌≢◌, ℕ, ◌+◌, ◌<◌, ◌≤◌, Bool, true, false, not, cond, List, [], ◌∷◌, ◌++◌, map, flat_map, length, set, replicate, Option, Some, None, option_to_list, Result, Ok, Err, nat_lt, position, bytes_eq, refl, sym, ap, subst, ◌∙◌, arith, slice_index_or, append_assoc, length-append, suc, zero}
+use Rattle.std.proofs.Common.{◌≡◌, ◌≢◌, ℕ, ◌+◌, ◌<◌, ◌≤◌, Bool, true, false, cond, List, [], ◌∷◌, ◌++◌, map, length, set, replicate, Option, Some, None, option_to_list, Ok, Err, position, bytes_eq, refl, sym, ap, subst, ◌∙◌, arith, slice_index_or, append_assoc, suc, zero}
 use Rattle.std.specs.Prelude.{slice_index, IfSome}
 use Rattle.std.proofs.lemmas.Bool.{lt-ltb, le-ltb}
 use Rattle.std.proofs.lemmas.List.{append-nil, length_push, length-map, map-append}
 use Rattle.std.proofs.lemmas.Grind.{flat_map-append}
 use Rattle.ir_model.specs.Graph.{Name, among}
-use Rattle.ir_model.specs.Text.{lines, words, names_in, content, is_plain}
+use Rattle.ir_model.specs.Text.{lines, words, names_in}
 use Rattle.ir_numbering.specs.Numbering.{IsListing}
 use Rattle.ir_numbering.proofs.Placing.{IsPlacing, placing_start, placing_more, placing_done}
-use Rattle.ir_script.specs.declared.order_fault.OrderFault.{OrderFault}
 use Rattle.ir_script.specs.declared.order_fault.OrderFaultKind.{OrderFaultKind}
 use Rattle.ir_script.specs.declared.order_fault.OrderFaultKind.TheVariants.{BadByte, BadRow, UnknownNode, Twice, Missing, NoMemory}
 use Rattle.ir_script.specs.Order.{order_line_fault, end_fault, or_later_order, first_order_fault, order_fault, IsOrder, OrderTold, told_order}
 use Rattle.ir_script.specs.Steps.{line_node, has_place, with_place}
-use Rattle.ir_script.proofs.Lines.{NamesOne, ArePlaces, line_named, line_wrong, line_empty, line_known, place_of_named, named_of_place}
+use Rattle.ir_script.proofs.Lines.{ArePlaces, line_named, line_wrong, line_empty, line_known, place_of_named, named_of_place}
 
 told : (line : ℕ) (kind : OrderFaultKind) (first : Option (ℕ × OrderFaultKind)) → first ≡ Some (line, kind) → OrderTold (told_order line kind) first
 told line BadByte first e = e

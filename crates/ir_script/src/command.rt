@@ -1,7 +1,7 @@
 //! One line of a script.
 ghost use Rattle.std.specs.Prelude.{◌≡◌};
 ghost use Rattle.ir_model.specs.{Graph.names, OfGraph.topology_of_graph, Text.words_of};
-ghost use Rattle.ir_script.specs.Command.{event_of_one, event_of_two, event_of_three, step_of, line_step, is_of_simulation, command_of, command_named, line_command};
+ghost use Rattle.ir_script.specs.Command.{event_of_one, event_of_two, event_of_three, step_of, is_of_simulation, command_of};
 
 use crate::fault::ScriptFault;
 use crate::word::{link_between, link_of, node_of, number_of};
@@ -85,7 +85,11 @@ fn event_of_three(
 }
 
 /// The step that the words of a line name; none where it has no word.
-fn step_of(graph: &Graph, topology: &Topology, words: &[u8]) -> Result<Option<Step>, ScriptFault>
+pub fn step_of(
+    graph: &Graph,
+    topology: &Topology,
+    words: &[u8],
+) -> Result<Option<Step>, ScriptFault>
     requires { topology.now ≡ topology_of_graph graph.now }
     ensures { result ≡ step_of (names graph.now) topology.now (words_of words.now) }
 {
@@ -110,24 +114,8 @@ fn step_of(graph: &Graph, topology: &Topology, words: &[u8]) -> Result<Option<St
     Ok(Some(Step::Event(event_of_three(graph, topology, command, first, second, third)?)))
 }
 
-/// The step that a line names; none where it has no word.
-pub fn line_step(
-    graph: &Graph,
-    topology: &Topology,
-    line: &[u8],
-) -> Result<Option<Step>, ScriptFault>
-    requires { topology.now ≡ topology_of_graph graph.now }
-    ensures { result ≡ line_step (names graph.now) topology.now line.now }
-{
-    let words = scan::without_comment(line);
-    if !scan::all_plain(words) {
-        return Err(ScriptFault::BadByte);
-    }
-    step_of(graph, topology, words)
-}
-
 /// Whether a first word begins a line of a simulation alone.
-fn is_of_simulation(word: &[u8]) -> bool
+pub fn is_of_simulation(word: &[u8]) -> bool
     ensures { result ≡ is_of_simulation word.now }
 {
     word == b"learn".as_slice()
@@ -137,7 +125,7 @@ fn is_of_simulation(word: &[u8]) -> bool
 }
 
 /// The command that a step is.
-fn command_of(step: Step) -> Result<Command, ScriptFault>
+pub fn command_of(step: Step) -> Result<Command, ScriptFault>
     ensures { result ≡ command_of step }
 {
     match step {
@@ -151,41 +139,4 @@ fn command_of(step: Step) -> Result<Command, ScriptFault>
             Err(ScriptFault::BadCommand)
         }
     }
-}
-
-/// The command that the words of a line name; none where it has no word.
-fn command_named(
-    graph: &Graph,
-    topology: &Topology,
-    words: &[u8],
-) -> Result<Option<Command>, ScriptFault>
-    requires { topology.now ≡ topology_of_graph graph.now }
-    ensures { result ≡ command_named (names graph.now) topology.now (words_of words.now) }
-{
-    let Some((word, _)) = scan::next_word(words) else {
-        return Ok(None);
-    };
-    if is_of_simulation(word) {
-        return Err(ScriptFault::BadCommand);
-    }
-    match step_of(graph, topology, words)? {
-        Some(step) => Ok(Some(command_of(step)?)),
-        None => Ok(None),
-    }
-}
-
-/// The command that a line of a live run's script names; none where it has no word.
-pub fn line_command(
-    graph: &Graph,
-    topology: &Topology,
-    line: &[u8],
-) -> Result<Option<Command>, ScriptFault>
-    requires { topology.now ≡ topology_of_graph graph.now }
-    ensures { result ≡ line_command (names graph.now) topology.now line.now }
-{
-    let words = scan::without_comment(line);
-    if !scan::all_plain(words) {
-        return Err(ScriptFault::BadByte);
-    }
-    command_named(graph, topology, words)
 }

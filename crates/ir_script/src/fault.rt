@@ -1,8 +1,7 @@
 //! Why a script is refused.
 ghost use Rattle.std.specs.Prelude.{◌≡◌};
-ghost use Rattle.ir_script.specs.{Script.fault_code, declared.fault.ScriptFault.TheVariants.NoMemory};
+ghost use Rattle.ir_script.specs.Script.{fault_code};
 
-use std::alloc::AllocError;
 use thiserror::Error;
 
 /// What is wrong with a line of a script.
@@ -36,16 +35,5 @@ impl ScriptError {
         ensures { result ≡ fault_code self.kind }
     {
         self.kind as u8
-    }
-}
-
-impl From<AllocError> for ScriptError {
-    ghost from_gives = { λ _ e. e ≡ record { line = 0; kind = NoMemory } };
-
-    fn from(_error: AllocError) -> ScriptError {
-        ScriptError {
-            line: 0,
-            kind: ScriptFault::NoMemory,
-        }
     }
 }

@@ -1,13 +1,13 @@
-//! Texts whose lines name nodes of a graph: scripts, of which each line is a step of a simulation or a command of a live
-//! run, and orders of the nodes; and what is wrong with them.
+//! Texts whose lines name nodes of a graph: scripts, of which each line is a step of a simulation
+//! or a command of a live run, and orders of the nodes; and what is wrong with them.
 //!
-//! They are read over a graph, a script over its topology too, so that what is read names nodes and links by number.
-//! `specs/Command` says what a line of a script means, `specs/Script` what a whole script says: its steps or commands with
-//! their lines, or its first fault. `specs/Order` says what an order says: each node once, or its first fault.
+//! `specs/Command` says what a line of a script means, `specs/Script` what a whole script says, and
+//! `specs/Order` what an order says.
 #![tactic(auto)]
 
 mod command;
 mod fault;
+mod library;
 mod order;
 mod order_fault;
 mod script;
@@ -15,9 +15,10 @@ mod word;
 
 pub use fault::{ScriptError, ScriptFault};
 pub use ir_core::{Command, Step};
+pub use library::parse_live;
 pub use order::read_order;
 pub use order_fault::{OrderFault, OrderFaultKind};
-pub use script::{Named, Script, parse, parse_live, parse_script};
+pub use script::{Script, ScriptItem, parse, parse_script};
 
 /// The most digits of a number.
 pub const MAX_DIGITS: usize = 5;

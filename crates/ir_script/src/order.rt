@@ -1,11 +1,12 @@
 //! Orders of nodes, line by line: each line has the name of a node, and the labels of a numbering are the places in it.
-ghost use Rattle.std.specs.Prelude.{◌≡◌, ◌≢◌, ◌<◌, ◌++◌, false, true, length, position, bytes_eq, option_to_list, IfOk, IfErr, IfSome, OnOk};
+ghost use Rattle.std.specs.Prelude.{◌≡◌, ◌≢◌, ◌<◌, ◌++◌, false, true, length, option_to_list, IfOk, IfErr, IfSome, OnOk};
 ghost use Rattle.ir_model.specs.{Graph.names, Text.lines};
 ghost use Rattle.ir_numbering.specs.Numbering.{IsListing};
 ghost use Rattle.ir_script.specs.Order.{order_fault, IsOrder, OrderTold, told_order};
-ghost use Rattle.ir_script.specs.Steps.{listed_node, line_node, has_place, with_place};
+ghost use Rattle.ir_script.specs.Steps.{line_node, has_place, with_place};
 
 use crate::order_fault::{OrderFault, OrderFaultKind};
+use crate::word::node_of;
 use ir_adjlist::scan;
 use ir_graph::Graph;
 use std::alloc::Global;
@@ -17,21 +18,6 @@ fn fault_at(line: usize, kind: OrderFaultKind) -> OrderFault
     match kind {
         OrderFaultKind::NoMemory => OrderFault { line: 0, kind },
         _ => OrderFault { line, kind },
-    }
-}
-
-/// The node that a word names.
-fn node_of(graph: &Graph, word: &[u8]) -> Result<Option<u16>, OrderFaultKind>
-    ensures node { result ≡ listed_node (position (bytes_eq word.now) (names graph.now)) }
-    ensures within { IfOk result (λ node. IfSome node (λ u. u < length graph.now)) }
-{
-    graph.invariant();
-    let Ok(name) = str::from_utf8(word) else {
-        return Err(OrderFaultKind::UnknownNode);
-    };
-    match graph.index_of(name) {
-        Some(u) => Ok(Some(u)),
-        None => Err(OrderFaultKind::UnknownNode),
     }
 }
 
@@ -50,7 +36,10 @@ fn line_node(graph: &Graph, line: &[u8]) -> Result<Option<u16>, OrderFaultKind>
     if scan::next_word(rest).is_some() {
         return Err(OrderFaultKind::BadRow);
     }
-    node_of(graph, word)
+    match node_of(graph, word) {
+        Ok(u) => Ok(Some(u)),
+        Err(_) => Err(OrderFaultKind::UnknownNode),
+    }
 }
 
 /// Gives a node the next place of an order, if there is one and it has no place yet.
@@ -73,17 +62,14 @@ fn place(
         return Err(OrderFaultKind::Twice);
     }
     placed[u as usize] = true;
-    match order.push(u) {
-        Ok(()) => Ok(()),
-        Err(_) => Err(OrderFaultKind::NoMemory),
-    }
+    order.push(u).map_err(|_| OrderFaultKind::NoMemory)
 }
 
-/// The nodes of a graph in the order in which a text names them, a name on each line. Lines, blanks and comments are as in
-/// the texts of a topology; a line with no word is skipped, and counts. The faults of a line, in order: `BadByte`; `BadRow`
-/// where it has more than one word; `UnknownNode`; `Twice`. Where no line has a fault, `Missing` where a node is not named,
-/// with the number of the last line. NoMemory may come before these. Takes O(n + b) on average, for n nodes and a text
-/// of b bytes.
+/// The nodes of a graph in the order in which a text names them, a name on each line. Lines, blanks
+/// and comments are as in the texts of a topology; a line with no word is skipped, and counts. The
+/// faults of a line, in order: `BadByte`; `BadRow` where it has more than one word; `UnknownNode`;
+/// `Twice`. Else `Missing`, with the last line, where a node is not named. NoMemory may come before
+/// these. Takes O(n + b) on average, for n nodes and a text of b bytes.
 pub fn read_order(alloc: Global, graph: &Graph, text: &[u8]) -> Result<Vec<u16>, OrderFault>
     ensures order { IfOk result (λ order. IsOrder (names graph.now) (lines text.now) order.items) }
     ensures listing { IfOk result (λ order. IsListing (length graph.now) order.items) }

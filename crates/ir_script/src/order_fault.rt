@@ -22,8 +22,8 @@ pub enum OrderFaultKind {
     NoMemory = 6,
 }
 
-/// The first faulty line of an order, counted from 1, and its fault. A missing node has the last line, want of memory has
-/// line 0.
+/// The first faulty line of an order, counted from 1, and its fault. A missing node has the last
+/// line, want of memory has line 0.
 #[derive(Clone, Copy, Debug, PartialEq, Eq, Error)]
 #[error("line {line}: {kind:?}")]
 pub struct OrderFault {

@@ -10,7 +10,7 @@ use crate::crew::{Block, TextCrew};
 use ir_graph::Graph;
 use ir_model::Kind;
 use ir_plan::Plan;
-use ir_streams::{Parts, Texts, Writer};
+use ir_streams::{TextParts, Texts, Writer};
 use ir_trace::text::{name_of, push_name, push_next_number};
 use itoa::Buffer;
 use std::alloc::{AllocError, Global};
@@ -35,7 +35,7 @@ pub fn kind_text(kind: Kind) -> &'static str
 }
 
 /// Writes a space and a word.
-fn pour_word<W: Writer>(parts: &mut Parts, writer: &mut W, word: &str)
+fn pour_word<W: Writer>(parts: &mut TextParts, writer: &mut W, word: &str)
     ensures { Pours W.contents W.wrote W.settled writer.old parts.old (spaced word.now) writer.new parts.new }
 {
     parts.push(writer, b" ");
@@ -43,7 +43,7 @@ fn pour_word<W: Writer>(parts: &mut Parts, writer: &mut W, word: &str)
 }
 
 /// Writes a space and a number.
-fn pour_number<W: Writer>(parts: &mut Parts, writer: &mut W, n: usize)
+fn pour_number<W: Writer>(parts: &mut TextParts, writer: &mut W, n: usize)
     ensures { Pours W.contents W.wrote W.settled writer.old parts.old (spaced (decimal n)) writer.new parts.new }
 {
     let mut digits = Buffer::new();
@@ -90,7 +90,7 @@ fn spaced_names(alloc: Global, graph: &Graph) -> Result<Texts, AllocError>
 }
 
 /// Writes a start of a node's row, and the name of the neighbour at its port.
-fn pour_start<W: Writer>(parts: &mut Parts, writer: &mut W, pieces: &Pieces, u: u16, i: usize)
+fn pour_start<W: Writer>(parts: &mut TextParts, writer: &mut W, pieces: &Pieces, u: u16, i: usize)
     requires pieces { ArePieces pieces.now }
     requires node { u < length pieces.now.graph }
     requires place { i < length (row_in pieces.now.plan u) }
@@ -105,7 +105,7 @@ fn pour_start<W: Writer>(parts: &mut Parts, writer: &mut W, pieces: &Pieces, u: 
 }
 
 /// Writes the starts of a node's row.
-fn pour_starts<W: Writer>(parts: &mut Parts, writer: &mut W, pieces: &Pieces, u: u16)
+fn pour_starts<W: Writer>(parts: &mut TextParts, writer: &mut W, pieces: &Pieces, u: u16)
     requires pieces { ArePieces pieces.now }
     requires node { u < length pieces.now.graph }
     ensures { Pours W.contents W.wrote W.settled writer.old parts.old
@@ -119,7 +119,7 @@ fn pour_starts<W: Writer>(parts: &mut Parts, writer: &mut W, pieces: &Pieces, u:
 }
 
 /// Writes the line of a node. None is made once a write failed.
-fn pour_node<W: Writer>(parts: &mut Parts, writer: &mut W, pieces: &Pieces, u: u16)
+fn pour_node<W: Writer>(parts: &mut TextParts, writer: &mut W, pieces: &Pieces, u: u16)
     requires pieces { ArePieces pieces.now }
     requires node { u < length pieces.now.graph }
     ensures { Pours W.contents W.wrote W.settled writer.old parts.old
@@ -135,7 +135,7 @@ fn pour_node<W: Writer>(parts: &mut Parts, writer: &mut W, pieces: &Pieces, u: u
 }
 
 /// Writes the first line.
-fn pour_head<W: Writer>(parts: &mut Parts, writer: &mut W, plan: &Plan)
+fn pour_head<W: Writer>(parts: &mut TextParts, writer: &mut W, plan: &Plan)
     ensures { Pours W.contents W.wrote W.settled writer.old parts.old (line_text (plan_head plan.now))
         writer.new parts.new }
 {
@@ -147,7 +147,7 @@ fn pour_head<W: Writer>(parts: &mut Parts, writer: &mut W, plan: &Plan)
 }
 
 /// Writes the lines of a block of nodes.
-fn pour_block<W: Writer>(parts: &mut Parts, writer: &mut W, pieces: &Pieces, block: Block)
+fn pour_block<W: Writer>(parts: &mut TextParts, writer: &mut W, pieces: &Pieces, block: Block)
     requires pieces { ArePieces pieces.now }
     requires block { IsBlock (length pieces.now.graph) block }
     ensures { Pours W.contents W.wrote W.settled writer.old parts.old (block_lines pieces.now block)
@@ -161,7 +161,7 @@ fn pour_block<W: Writer>(parts: &mut Parts, writer: &mut W, pieces: &Pieces, blo
 
 /// Writes the line of a node as a text of its own, and answers whether the writer took it.
 pub(crate) fn write_node<W: Writer>(
-    mut parts: Parts,
+    mut parts: TextParts,
     writer: &mut W,
     pieces: &Pieces,
     u: u16,
@@ -177,7 +177,7 @@ pub(crate) fn write_node<W: Writer>(
 }
 
 /// Writes texts one after the other.
-fn pour_texts<W: Writer>(parts: &mut Parts, writer: &mut W, texts: &[Vec<u8>])
+fn pour_texts<W: Writer>(parts: &mut TextParts, writer: &mut W, texts: &[Vec<u8>])
     ensures { Pours W.contents W.wrote W.settled writer.old parts.old (flat_map (λ text. text.items) texts.now)
         writer.new parts.new }
 {
@@ -190,7 +190,7 @@ fn pour_texts<W: Writer>(parts: &mut Parts, writer: &mut W, texts: &[Vec<u8>])
 fn pour_block_by<C: TextCrew, W: Writer>(
     crew: &C,
     alloc: Global,
-    parts: &mut Parts,
+    parts: &mut TextParts,
     writer: &mut W,
     pieces: &Pieces,
     block: Block,
@@ -211,7 +211,7 @@ fn pour_block_by<C: TextCrew, W: Writer>(
 }
 
 /// Writes the text of a plan over a graph's network.
-fn pour_plan<W: Writer>(parts: &mut Parts, writer: &mut W, pieces: &Pieces)
+fn pour_plan<W: Writer>(parts: &mut TextParts, writer: &mut W, pieces: &Pieces)
     requires { ArePieces pieces.now }
     ensures { Pours W.contents W.wrote W.settled writer.old parts.old
         (plan_text (names pieces.now.graph) pieces.now.plan) writer.new parts.new }
@@ -241,7 +241,7 @@ fn block_end(plan: &Plan, from: usize) -> usize
 fn pour_plan_by<C: TextCrew, W: Writer>(
     crew: &C,
     alloc: Global,
-    parts: &mut Parts,
+    parts: &mut TextParts,
     writer: &mut W,
     pieces: &Pieces,
     most: Option<usize>,
@@ -269,7 +269,7 @@ fn pour_plan_by<C: TextCrew, W: Writer>(
 #[derive(Drop)]
 pub struct PlanText {
     pieces: Pieces,
-    parts: Parts,
+    parts: TextParts,
 }
 
 impl Model for PlanText {
@@ -287,7 +287,7 @@ impl PlanText {
         requires { node_count plan.topology ≡ length graph }
         ensures { IfOk result (λ text. text ≡ plan_text (names graph) plan) }
     {
-        let parts = Parts::new(alloc)?;
+        let parts = TextParts::new(alloc)?;
         let numbers = spaced_numbers(alloc, plan.nodes())?;
         let names = spaced_names(alloc, &graph)?;
         let pieces = Pieces {

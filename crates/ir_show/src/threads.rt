@@ -5,7 +5,7 @@ ghost use Rattle.ir_show.specs.{Blocks.{ArePieces, IsBlock, block_lines}, PlanTe
 
 use crate::crew::Block;
 use crate::plan_text::{Pieces, write_node};
-use ir_streams::Parts;
+use ir_streams::TextParts;
 use rayon::prelude::*;
 use std::alloc::{AllocError, Global};
 use std::thread::Threads;
@@ -74,7 +74,7 @@ fn node_text(alloc: Global, pieces: &Pieces, u: usize) -> Result<Vec<u8>, AllocE
     ensures { IfOk result (λ text. text.items ≡ line_text (node_words (names pieces.now.graph) pieces.now.plan u)) }
 {
     pieces.plan.invariant();
-    let parts = Parts::new(alloc)?;
+    let parts = TextParts::new(alloc)?;
     let mut text = Vec::new(alloc);
     if !write_node(parts, &mut text, pieces, u as u16) {
         return Err(AllocError);

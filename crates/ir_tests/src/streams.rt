@@ -1,7 +1,7 @@
 //! A caller of `write_text` under the bound of `std::io`.
 ghost use Rattle.ir_streams.specs.Writing.{Writes};
 
-use ir_streams::{Parts, Texts, write_text};
+use ir_streams::{TextParts, Texts, write_text};
 use std::io::Write;
 use std::test::Fail;
 
@@ -29,7 +29,7 @@ fn texts_are_poured_again_and_again(rt: HostRuntime) -> Result<(), Fail> {
         return Err("not so many texts".into());
     }
     let mut bytes: Vec<u8> = Vec::new(rt.alloc());
-    let mut parts = Parts::new(rt.alloc())?;
+    let mut parts = TextParts::new(rt.alloc())?;
     parts.push_text(&mut bytes, &texts, 0);
     parts.push(&mut bytes, b" a".as_slice());
     parts.push_text(&mut bytes, &texts, 0);

@@ -1,5 +1,5 @@
 -- A row leaves the walks of its epochs first at one place at most.
-use Rattle.std.proofs.Common.{◌≡◌, ◌≢◌, ◌<◌, ◌≤◌, ◌⊎◌, ◌==◌, ℕ, zero, suc, Bool, true, false, ◌&&◌, List, [], ◌∷◌, length, take, slice_get, nat_le, Option, Some, None, refl, sym, ap, subst, ◌∙◌, arith, inl, inr}
+use Rattle.std.proofs.Common.{◌≡◌, ◌≢◌, ◌<◌, ◌≤◌, ◌⊎◌, ◌==◌, ℕ, zero, suc, Bool, true, ◌&&◌, List, [], ◌∷◌, length, take, slice_get, nat_le, Option, Some, None, refl, sym, ap, subst, ◌∙◌, arith, inl, inr}
 use Rattle.std.specs.List.{list_all}
 use Rattle.std.proofs.lemmas.Bool.{and_parts, cases_eq}
 use Rattle.std.proofs.lemmas.List.{take_all}
@@ -14,8 +14,8 @@ use Rattle.ir_trace.specs.Inspect.{is_node, next_of, leads_through, are_known, a
 use Rattle.ir_trace.proofs.CheckedRows.{over_plans, short_parts, follows, known_is, computed, is_found_as}
 use Rattle.ir_trace.proofs.Fronts.{node_is, front_back}
 use Rattle.ir_trace.proofs.CheckedTrace.{over_from}
-use Rattle.ir_trace.specs.declared.departing.departures.Departure.{Departure}
-use Rattle.ir_trace.specs.declared.departing.departures.Departure.TheVariants.{Epoch, Start, Hop, Fate}
+use Rattle.ir_trace.specs.declared.departing.Departure.{Departure}
+use Rattle.ir_trace.specs.declared.departing.Departure.TheVariants.{Epoch, Start, Hop, Fate}
 use Rattle.ir_trace.specs.Leaving.{stands_after, last_epoch, IsStray, IsReachedByParts, LeavesAmong, LeavesByFate, Leaves, IsDeparture, LeavesIn}
 
 apart : (a b : ℕ) → a ≢ b → (a < b) ⊎ (b < a)

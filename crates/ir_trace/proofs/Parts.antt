@@ -1,18 +1,18 @@
 -- Parts of a row that are joined so far, and what a row leaves.
-use Rattle.std.proofs.Common.{◌≡◌, ◌≢◌, ◌<◌, ◌≤◌, ◌+◌, ◌-◌, ◌==◌, ℕ, zero, suc, Bool, true, false, ◌&&◌, List, [], ◌∷◌, ◌++◌, length, take, get_or, slice_get, Option, Some, None, if◌then◌else◌, refl, sym, ap, subst, ◌∙◌, arith}
-use Rattle.std.proofs.lemmas.Bool.{and_parts, and_from}
+use Rattle.std.proofs.Common.{◌≡◌, ◌<◌, ◌≤◌, ◌+◌, ◌==◌, ℕ, Bool, true, false, ◌&&◌, List, [], ◌∷◌, ◌++◌, length, take, get_or, slice_get, Option, Some, None, if◌then◌else◌, refl, sym, ap, subst, ◌∙◌}
+use Rattle.std.proofs.lemmas.Bool.{and_from}
 use Rattle.std.proofs.lemmas.List.{take_more}
 use Rattle.std.proofs.lemmas.Option.{slice_get-get_or}
 use Rattle.ir_model.specs.Topology.{Topology, node_count}
 use Rattle.ir_model.specs.Plan.{Plan}
 use Rattle.ir_core.specs.Sound.{last_of}
 use Rattle.ir_trace.specs.Row.{Segment, TraceRow}
-use Rattle.ir_trace.specs.Checked.{plan_at, last_part, KnowsEpochs, IsFrontOfWalk, AreJoined, GoesOn, FollowsWalks}
+use Rattle.ir_trace.specs.Checked.{plan_at, last_part, KnowsEpochs, IsFrontOfWalk, AreJoined, FollowsWalks}
 use Rattle.ir_trace.specs.Inspect.{next_of, are_known, are_joined, fits_fate, goes_on, has_arrived, segments_weight, first_of_four, AreOverPlans}
 use Rattle.ir_trace.proofs.CheckedRows.{IsFound, found, over_plans, joined_tells}
-use Rattle.ir_trace.specs.declared.departing.departures.Departure.{Departure}
-use Rattle.ir_trace.specs.declared.departing.departures.Departure.TheVariants.{Epoch, Start, Hop, Fate}
-use Rattle.ir_trace.specs.Leaving.{stands_after, last_epoch, IsStray, IsReachedByParts, LeavesAmong, LeavesByFate, Leaves, IsDeparture, LeavesIn, AreOverRow}
+use Rattle.ir_trace.specs.declared.departing.Departure.{Departure}
+use Rattle.ir_trace.specs.declared.departing.Departure.TheVariants.{Epoch, Start, Hop, Fate}
+use Rattle.ir_trace.specs.Leaving.{stands_after, last_epoch, IsReachedByParts, LeavesAmong, IsDeparture, LeavesIn, AreOverRow}
 
 -- ---- one part more
 

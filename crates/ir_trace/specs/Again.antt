@@ -1,5 +1,5 @@
 -- What a trace that was written is read as again.
-use Rattle.std.specs.Prelude.{◌≡◌, ℕ, ◌≤◌, true, List, [], ◌∷◌, sum_by, nat_le, slice_get, Some}
+use Rattle.std.specs.Prelude.{◌≡◌, ℕ, ◌≤◌, true, List, [], ◌∷◌, map, sum_by, nat_le, slice_get, Some, Result, MatchResult}
 use Rattle.std.specs.List.{list_all}
 use Rattle.ir_model.specs.Graph.{Adjacency, names}
 use Rattle.ir_model.specs.Topology.{Topology}
@@ -11,6 +11,8 @@ use Rattle.ir_core.specs.declared.packet.Fate.TheVariants as fate
 use Rattle.ir_trace.specs.declared.TheConstants.{MAX_NUMBER}
 use Rattle.ir_trace.specs.declared.row.RowFate.{RowFate}
 use Rattle.ir_trace.specs.declared.row.RowFate.TheVariants as read
+use Rattle.ir_trace.specs.declared.finding.Finding.{Finding}
+use Rattle.ir_trace.specs.declared.finding.FindingKind.TheVariants.{NoMemory}
 use Rattle.ir_trace.specs.Row.{TraceRow}
 use Rattle.ir_trace.specs.Written.{link_at, other_end, records_text, AreWritable, parts_of, segments_text, HaveSegments}
 
@@ -65,3 +67,9 @@ pub record AreSegmentsOf (g : Adjacency) (text : List ℕ) (records : List Recor
   pub writable : HaveSegments (topology_of_graph g) records
   pub numbered : AreSegmentsNumbered records
   pub whole : text ≡ segments_text (names g) (topology_of_graph g) records
+
+-- ---- what is written is read again
+
+-- The text of any records is read as their rows; no fault is told but want of memory.
+abbrev pub IsReadAsRows : (List Record → Type 0) → (Record → TraceRow) → Result (List TraceRow) Finding → Type 0
+IsReadAsRows is_text row result = (records : List Record) → is_text records → MatchResult result (λ trace. trace ≡ map row records) (λ e. e.kind ≡ NoMemory)

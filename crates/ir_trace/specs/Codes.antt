@@ -2,8 +2,8 @@
 use Rattle.std.specs.Prelude.{ℕ}
 use Rattle.ir_trace.specs.declared.finding.FindingKind.{FindingKind}
 use Rattle.ir_trace.specs.declared.finding.FindingKind.TheVariants.{NotTrace, BadRow, UnknownNode, UnknownEpoch, NotAPrefix, NotAtDestination, BadWeight, Repeated, NoMemory}
-use Rattle.ir_trace.specs.declared.outlet.TraceError.{TraceError}
-use Rattle.ir_trace.specs.declared.outlet.TraceError.TheVariants as writing
+use Rattle.ir_trace.specs.declared.library.TraceError.{TraceError}
+use Rattle.ir_trace.specs.declared.library.TraceError.TheVariants as writing
 
 abbrev pub finding_code : FindingKind → ℕ
 finding_code NotTrace = 1

@@ -6,7 +6,7 @@ use Rattle.ir_core.specs.declared.built.Install.{Install}
 use Rattle.ir_trace.specs.declared.finding.FindingKind.{FindingKind}
 use Rattle.ir_trace.specs.declared.finding.FindingKind.TheVariants.{NoMemory}
 use Rattle.ir_trace.specs.Row.{TraceRow}
-use Rattle.ir_trace.specs.Checked.{plan_at, Finds}
+use Rattle.ir_trace.specs.Checked.{plan_at, AreRowsOver, ArePlansOf, Finds}
 use Rattle.ir_trace.specs.Sound.{IsSoundTrace}
 
 -- Two plans route alike: over one network they have the same labels, the same port at each node for each destination, and
@@ -30,3 +30,21 @@ FindsNothing topology installs rows = (line : ℕ) (kind : FindingKind) → Find
 pub record IsOnlyFinding (topology : Topology) (installs : List Install) (rows : List TraceRow) (line : ℕ) (kind : FindingKind) : Type 0 where
   pub unsound : IsSoundTrace topology installs rows → ⊥
   pub only : (other : ℕ) (found : FindingKind) → Finds topology installs rows other found → found ≢ NoMemory → (other ≡ line) × (found ≡ kind)
+
+-- ---- laws
+
+-- any two lists of plans that installs may have route alike
+abbrev pub PlansRouteAlike : Type 0
+PlansRouteAlike = (topology : Topology) (installs : List Install) (plans others : List Plan)
+    → ArePlansOf topology installs plans → ArePlansOf topology installs others → RouteAlike plans others
+
+-- nothing is found in sound rows
+abbrev pub SoundFindsNothing : Type 0
+SoundFindsNothing = (topology : Topology) (installs : List Install) (rows : List TraceRow)
+    → AreRowsOver (node_count topology) rows → IsSoundTrace topology installs rows → FindsNothing topology installs rows
+
+-- a finding is the only one, want of memory aside
+abbrev pub FindingIsOnly : Type 0
+FindingIsOnly = (topology : Topology) (installs : List Install) (rows : List TraceRow) (line : ℕ) (kind : FindingKind)
+    → AreRowsOver (node_count topology) rows → Finds topology installs rows line kind → kind ≢ NoMemory
+    → IsOnlyFinding topology installs rows line kind

@@ -8,8 +8,8 @@ use Rattle.ir_trace.specs.declared.row.RowFate.{RowFate}
 use Rattle.ir_trace.specs.Row.{Segment, TraceRow}
 use Rattle.ir_trace.specs.Checked.{plan_at, last_part, IsRowOver, ArePlansOf, KnowsEpochs, IsFrontOfWalk, AreJoined, GoesOn, FollowsWalks}
 use Rattle.ir_trace.specs.Inspect.{next_of, fits_fate, AreOver}
-use Rattle.ir_trace.specs.declared.departing.departures.Departure.{Departure}
-use Rattle.ir_trace.specs.declared.departing.departures.Departure.TheVariants.{Epoch, Start, Hop, Fate}
+use Rattle.ir_trace.specs.declared.departing.Departure.{Departure}
+use Rattle.ir_trace.specs.declared.departing.Departure.TheVariants.{Epoch, Start, Hop, Fate}
 
 -- where a packet stands after these parts of its way, from node u on
 abbrev pub stands_after : ℕ → List Segment → ℕ
@@ -75,6 +75,12 @@ IsDeparture plans row (Some found) = KnowsEpochs plans row.parts × Leaves plans
 -- the same by plans of the installs
 abbrev pub IsDepartureOf : Topology → List Install → TraceRow → Option Departure → Type 0
 IsDepartureOf topology installs row found = (plans : List Plan) × ArePlansOf topology installs plans × IsDeparture plans row found
+
+-- a row leaves the walks of its epochs first at one place, or at none
+abbrev pub DepartureIsDetermined : Type 0
+DepartureIsDetermined = (topology : Topology) (installs : List Install) (plans : List Plan) (row : TraceRow) (found other : Option Departure)
+    → ArePlansOf topology installs plans → IsRowOver (node_count topology) row
+    → IsDeparture plans row found → IsDeparture plans row other → found ≡ other
 
 -- ---- what the parts of the program say
 

@@ -3,8 +3,8 @@ use Rattle.std.specs.Prelude.{◌≡◌, ◌↔◌, ℕ, Bool, List, Option, Res
 use Rattle.std.specs.Io.KnownBytes.{Appends}
 use Rattle.ir_streams.specs.declared.call.CallError.{CallError}
 use Rattle.ir_streams.specs.Writing.{AppendsFront, IsSent, HasFailed}
-use Rattle.ir_trace.specs.declared.outlet.TraceError.{TraceError}
-use Rattle.ir_trace.specs.declared.outlet.TraceError.TheVariants.{Unwritable, NoMemory}
+use Rattle.ir_trace.specs.declared.library.TraceError.{TraceError}
+use Rattle.ir_trace.specs.declared.library.TraceError.TheVariants.{Unwritable, NoMemory}
 
 -- a writer, and whether it has failed
 pub record Outlet (W : Type 0) : Type 0 where

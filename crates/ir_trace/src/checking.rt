@@ -11,13 +11,12 @@ ghost use Rattle.ir_trace.specs.Inspect.{is_delivered, segments_weight, found_of
 use crate::MAX_SEGMENTS;
 use crate::departing::first_departure;
 use crate::finding::{Finding, FindingKind};
-use crate::judging::{are_known, last_hop, last_segment, plans_by};
+use crate::judging::{are_known, last_hop, last_segment, plans_by, walk_weight};
 use crate::reading::Trace;
 use crate::row::{RowFate, Segment, TraceRow};
-use crate::weight::walk_weight;
 use ir_core::Install;
 use ir_model::MAX_NODES;
-use ir_plan::{Alone, Crew, Plan};
+use ir_plan::{Crew, Plan};
 use ir_tables::Topology;
 use std::alloc::Global;
 use std::collections::BTreeSet;
@@ -68,37 +67,18 @@ fn found_of(topology: &Topology, plans: &[Plan], row: &TraceRow) -> Option<Findi
     None
 }
 
-/// The first finding of a trace: the first line with one, and in it the first of these. `UnknownEpoch` where no install
-/// made the epoch of a segment; `NotAPrefix` where the segments are not joined end to end from the source on over rising
-/// epochs, or one is not a prefix of the walk to the destination that the full table of its own epoch prescribes from its
-/// first hop, or the last one's walk doesn't go on along the link that was down, or to the node whose channel was full;
-/// `NotAtDestination` where a packet is delivered and its last segment is not the whole walk; `BadWeight` where the weight
-/// is not that of the hops; `Repeated` where an earlier line has the id. Where there is none, each segment of each row is
-/// a sound record of its epoch, and a delivered one of a shortest-path epoch went over its distance. The install of
-/// epoch e stands at place e - 1.
-/// Nothing is started: the plans are made on the thread that calls.
-/// Condition: the trace was read over the topology's graph; each install has a mark for each link, a root that is a
-/// node, and joins all nodes. Takes as long as `judging::plans_by`, O(log k + d) for each hop and O(log r) for each of
-/// r rows, for at most k starts and d ports of a node.
-pub fn check_trace(
-    alloc: Global,
-    topology: &Topology,
-    installs: &[Install],
-    trace: &Trace,
-) -> Result<(), Finding>
-    requires installs { AreInstalls topology.now installs.now }
-    requires rows { AreRowsOver (node_count topology.now) trace.now }
-    ensures sound { IfOk result (λ _. IsSoundTrace topology.now installs.now trace.now) }
-    ensures finding { IfErr result (λ e. Finds topology.now installs.now trace.now e.line e.kind) }
-    ensures nothing { IfOk result (λ _. FindsNothing topology.now installs.now trace.now) }
-    ensures only { IfErr result (λ e. e.kind ≢ NoMemory
-        → IsOnlyFinding topology.now installs.now trace.now e.line e.kind) }
-{
-    check_trace_by(&Alone, alloc, topology, installs, trace)
-}
-
-/// What `check_trace` finds, the rows of the plans made by a crew: those of more than 256 nodes in threads, if it starts
-/// any.
+/// The first finding of a trace: the first line with one, and in it the first of these. `UnknownEpoch`
+/// where no install made the epoch of a segment; `NotAPrefix` where the segments are not joined end to
+/// end from the source on over rising epochs, or one is not a prefix of the walk to the destination
+/// that the full table of its own epoch prescribes from its first hop, or the last one's walk doesn't
+/// go on along the link that was down, or to the node whose channel was full; `NotAtDestination` where
+/// a packet is delivered and its last segment is not the whole walk; `BadWeight` where the weight is
+/// not that of the hops; `Repeated` where an earlier line has the id. Where there is none, each segment
+/// of each row is a sound record of its epoch. The install of epoch e stands at place e - 1. The rows
+/// of the plans are made by a crew.
+/// Condition: the trace was read over the topology's graph; each install has a mark for each link, a
+/// root that is a node, and joins all nodes. Takes as long as `judging::plans_by`, O(log k + d) for each
+/// hop and O(log r) for each of r rows, for at most k starts and d ports of a node.
 pub fn check_trace_by(
     crew: &impl Crew,
     alloc: Global,

@@ -1,6 +1,6 @@
 //! Why a trace is refused.
 ghost use Rattle.std.specs.Prelude.{◌≡◌};
-ghost use Rattle.ir_trace.specs.{Codes.finding_code, declared.finding.FindingKind.TheVariants.NoMemory};
+ghost use Rattle.ir_trace.specs.declared.finding.FindingKind.TheVariants.{NoMemory};
 
 use std::alloc::{AllocError, AllocFailed};
 use thiserror::Error;
@@ -16,8 +16,8 @@ pub enum FindingKind {
     UnknownNode = 3,
     /// No epoch has this number.
     UnknownEpoch = 4,
-    /// The segments are not joined from the source on over rising epochs, or one is not a beginning of its prescribed walk,
-    /// or the last walk does not go on as the fate says.
+    /// The segments are not joined from the source on over rising epochs, or one is not a beginning of
+    /// its prescribed walk, or the last walk does not go on as the fate says.
     NotAPrefix = 5,
     /// The packet is delivered, and its last segment is not the whole walk.
     NotAtDestination = 6,
@@ -34,15 +34,6 @@ pub enum FindingKind {
 pub struct Finding {
     pub line: usize,
     pub kind: FindingKind,
-}
-
-impl Finding {
-    /// The number of the kind, from 1 for `NotTrace` to 9 for `NoMemory`. For users of the library.
-    pub fn code(self) -> u8
-        ensures { result ≡ finding_code self.kind }
-    {
-        self.kind as u8
-    }
 }
 
 impl From<AllocError> for Finding {

@@ -1,7 +1,6 @@
-//! What a check of a trace and the place where a row leaves its walks are judged by: the plans of epochs, and segments of
-//! rows beside them.
-ghost use Rattle.std.specs.Prelude.{◌≡◌, ◌<◌, ◌≤◌, IfOk, length, nat_lt, nat_le, ◌&&◌, Some};
-ghost use Rattle.ir_model.specs.Topology.{node_count, restrict};
+//! What rows are judged by: the plans of epochs, and segments beside them.
+ghost use Rattle.std.specs.{Prelude.{◌≡◌, ◌<◌, ◌≤◌, ◌*◌, true, IfOk, length, nat_lt}, List.list_all};
+ghost use Rattle.ir_model.specs.{Topology.{node_count, restrict}, Walk.{link_weight, walk_weight}};
 ghost use Rattle.ir_core.specs.Sound.{last_of};
 ghost use Rattle.ir_plan.specs.Building.{FromRoot, IsPlanBy};
 ghost use Rattle.ir_trace.specs.Checked.{plan_at, last_part, IsInstall, AreInstalls, ArePlansOf};
@@ -9,6 +8,7 @@ ghost use Rattle.ir_trace.specs.Inspect.{is_node, next_of, are_known, fits_fate}
 
 use crate::row::{RowFate, Segment};
 use ir_core::{Draft, Install, plan_over_by};
+use ir_model::{MAX_NODES, MAX_WEIGHT};
 use ir_plan::{Crew, Plan, PlanError};
 use ir_tables::Topology;
 use std::alloc::{AllocError, Global};
@@ -79,26 +79,11 @@ pub fn next_of(plan: &Plan, at: u16, dest: u16) -> Option<u16>
     Some(plan.hop(at, port).node)
 }
 
-/// Whether the epoch of a segment is one of so many.
-fn is_known(segment: &Segment, epochs: usize) -> bool
-    ensures { result ≡ (nat_lt 0 segment.now.epoch && nat_le segment.now.epoch epochs) }
-{
-    0 < segment.epoch && segment.epoch as usize <= epochs
-}
-
 /// Whether the epoch of each segment is one of so many.
 pub fn are_known(segments: &[Segment], epochs: usize) -> bool
     ensures { result ≡ are_known epochs segments.now }
 {
-    segments.iter().all(|segment| is_known(segment, epochs))
-}
-
-/// The node that a packet of these hops has come to.
-pub fn last_of(hops: &[u16]) -> u16
-    requires { 0 < length hops.now }
-    ensures { result ≡ last_of hops.now }
-{
-    hops[hops.len() - 1]
+    segments.iter().all(|segment| 0 < segment.epoch && segment.epoch as usize <= epochs)
 }
 
 /// The last hop of a segment.
@@ -106,7 +91,8 @@ pub fn last_hop(segment: &Segment) -> u16
     requires { 0 < length segment.now.hops }
     ensures { result ≡ last_of segment.now.hops }
 {
-    last_of(segment.hops.as_slice())
+    let hops = segment.hops.as_slice();
+    hops[hops.len() - 1]
 }
 
 /// The segment that a packet is on, or ended in.
@@ -115,6 +101,32 @@ pub fn last_segment(segments: &[Segment]) -> &Segment
     ensures { result.now ≡ last_part segments.now }
 {
     &segments[segments.len() - 1]
+}
+
+/// The weight of the link between two nodes, 0 where they are not linked.
+fn link_weight(topology: &Topology, u: u16, v: u16) -> u32
+    requires { u < node_count topology.now }
+    ensures weight { result ≡ link_weight topology.now u v }
+    ensures bounded { result ≤ MAX_WEIGHT }
+{
+    match topology.hop_to(u, v) {
+        Some(hop) => hop.weight,
+        None => 0,
+    }
+}
+
+/// The sum of the weights of the links between neighbours in a list of nodes.
+pub(crate) fn walk_weight(topology: &Topology, hops: &[u16]) -> u32
+    requires within { list_all (λ x. nat_lt x (node_count topology.now)) hops.now ≡ true }
+    requires few { length hops.now ≤ MAX_NODES }
+    ensures weight { result ≡ walk_weight topology.now hops.now }
+    ensures light { result ≤ MAX_WEIGHT * MAX_NODES }
+{
+    let mut sum = 0;
+    for i in 1..hops.len() {
+        sum += link_weight(topology, hops[i - 1], hops[i]);
+    }
+    sum
 }
 
 /// Whether there is a next node, and it is this one.

@@ -1,9 +1,8 @@
 //! Traces as they are read.
-ghost use Rattle.std.specs.Prelude.{◌≡◌, ◌<◌, ◌++◌, List, Some, MatchOption, MatchResult, IfOk, IfErr, length, map, slice_get};
+ghost use Rattle.std.specs.Prelude.{◌≡◌, ◌<◌, ◌++◌, List, Some, MatchOption, IfOk, IfErr, length, slice_get};
 ghost use Rattle.ir_model.specs.{OfGraph.topology_of_graph, Topology.node_count};
-ghost use Rattle.ir_core.specs.Record.{Record};
 ghost use Rattle.ir_trace.specs.{Rows.header, Reading.{IsNoTrace, IsTrace, TellsFinding}, Checked.AreRowsOver};
-ghost use Rattle.ir_trace.specs.Again.{row_again, IsTraceOf, segments_again, AreSegmentsOf};
+ghost use Rattle.ir_trace.specs.Again.{row_again, IsTraceOf, segments_again, AreSegmentsOf, IsReadAsRows};
 ghost use Rattle.ir_trace.specs.{Line.{HasNoFeed, CutsLine, IsLineOf, LineTold}, Row.TraceRow};
 
 use crate::finding::{Finding, FindingKind};
@@ -93,10 +92,8 @@ fn version_of(text: &[u8]) -> Option<(Version, &[u8])>
     if let Some(rest) = text.strip_prefix(b"trace 1\n".as_slice()) {
         return Some((Version::One, rest));
     }
-    match text.strip_prefix(b"trace 2\n".as_slice()) {
-        Some(rest) => Some((Version::Two, rest)),
-        None => None,
-    }
+    let rest = text.strip_prefix(b"trace 2\n".as_slice())?;
+    Some((Version::Two, rest))
 }
 
 /// The trace that a text is over a graph, or its first fault.
@@ -126,10 +123,10 @@ fn read_rows(alloc: Global, text: &[u8], graph: &Graph) -> Result<Trace, Finding
     Ok(Trace { rows })
 }
 
-/// The trace of either version that a text is over a graph, or its first fault: `NotTrace` in line 1; in a later line
-/// `BadRow`, or else `UnknownNode`; or `NoMemory`. Rows may stand in any order, and an id may be any number that a row
-/// may hold. The trace of records that can be written is read again as their rows. Takes O(b) on average, for a text
-/// of b bytes.
+/// The trace of either version that a text is over a graph, or its first fault: `NotTrace` in line 1;
+/// in a later line `BadRow`, or else `UnknownNode`; or `NoMemory`. Rows may stand in any order, and an
+/// id may be any number that a row may hold. The trace of records that can be written is read again as
+/// their rows. Takes O(b) on average, for a text of b bytes.
 pub fn read_trace(alloc: Global, text: &[u8], graph: &Graph) -> Result<Trace, Finding>
     ensures read { IfOk result (λ trace. IsTrace graph.now text.now trace) }
     ensures fault { IfErr result (λ e. TellsFinding graph.now text.now e.line e.kind) }
@@ -138,12 +135,9 @@ pub fn read_trace(alloc: Global, text: &[u8], graph: &Graph) -> Result<Trace, Fi
     ensures within { IfOk result (λ trace. AreRowsOver (node_count (topology_of_graph graph.now)) trace) }
 
     // What is written is read again: no fault but want of memory, and the rows of the records.
-    ensures again { (records : List Record) → IsTraceOf graph.now text.now records
-        → MatchResult result (λ trace. trace ≡ map (row_again (topology_of_graph graph.now)) records)
-        (λ e. e.kind ≡ FindingKind.NoMemory) }
-    ensures segments_again { (records : List Record) → AreSegmentsOf graph.now text.now records
-        → MatchResult result (λ trace. trace ≡ map (segments_again (topology_of_graph graph.now)) records)
-        (λ e. e.kind ≡ FindingKind.NoMemory) }
+    ensures again { IsReadAsRows (IsTraceOf graph.now text.now) (row_again (topology_of_graph graph.now)) result }
+    ensures segments_again { IsReadAsRows (AreSegmentsOf graph.now text.now)
+        (segments_again (topology_of_graph graph.now)) result }
 {
     graph.invariant();
     read_rows(alloc, text, graph)

@@ -32,11 +32,7 @@ fn fate_of(graph: &Graph, fate: FateSpelling) -> Option<RowFate>
         FateSpelling::Left => Some(RowFate::Left),
         FateSpelling::Down(x, y) => {
             let (low, high) = ends_of(graph, x, y)?;
-            if low < high {
-                Some(RowFate::Down { low, high })
-            } else {
-                None
-            }
+            (low < high).then_some(RowFate::Down { low, high })
         }
         FateSpelling::Full(x, y) => {
             let (from, to) = ends_of(graph, x, y)?;

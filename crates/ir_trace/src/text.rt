@@ -18,16 +18,14 @@ pub(crate) fn push_number(text: &mut String, n: usize) -> Result<(), AllocError>
 pub fn push_next_number(text: &mut String, n: usize) -> Result<(), AllocError>
     ensures { OnOk result (string_bytes text.new ≡ string_bytes text.old ++ spaced (decimal n)) }
 {
-    text.push_str(" ")?;
-    push_number(text, n)
+    write!(text, " {n}")
 }
 
 /// Writes a space and a word. Takes O(b), for b bytes.
 pub fn push_word(text: &mut String, word: &str) -> Result<(), AllocError>
     ensures { OnOk result (string_bytes text.new ≡ string_bytes text.old ++ spaced word.now) }
 {
-    text.push_str(" ")?;
-    text.push_str(word)
+    write!(text, " {word}")
 }
 
 /// The name of a node. Condition: it is a node of the graph.

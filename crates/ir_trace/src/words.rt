@@ -1,11 +1,12 @@
 //! The words of a line, and the row that they spell.
-ghost use Rattle.std.specs.Prelude.{◌≡◌, ◌==◌, ◌&&◌, [], ◌∷◌, ◌++◌, true, not, ◌<◌, ◌≤◌, MatchOption, IfOk, IfSome, drop, length, map, nat_le};
+ghost use Rattle.std.specs.Prelude.{◌≡◌, ◌==◌, ◌&&◌, [], ◌∷◌, ◌++◌, true, not, ◌<◌, ◌≤◌, nat_le, MatchOption, IfOk, IfSome, decimal, drop, length, map};
 ghost use Rattle.std.specs.List.{list_all, slice_split, prefix_len};
 ghost use Rattle.ir_trace.specs.Rows.{is_word, is_mark, mark, fate_words};
-ghost use Rattle.ir_trace.specs.Spelled.{texts, fate_held, part_held, row_told, text_held, HasWords, HasNoWords, Spells, SpellsNothing, HasHead, HasNoHead, BeginsWith, BeginsWithNone, AreParts, AreNoParts, IsNoFate, IsNoMark};
+ghost use Rattle.ir_trace.specs.Spelled.{texts, fate_held, part_held, row_told, text_held, has_needless_front, IsNoNumber};
+ghost use Rattle.ir_trace.specs.Spelled.{HasWords, HasNoWords, Spells, SpellsNothing, HasHead, HasNoHead, IsNoFate, IsNoMark};
+ghost use Rattle.ir_trace.specs.Spelled.{BeginsWith, BeginsWithNone, AreParts, AreNoParts};
 
 use crate::MAX_SEGMENTS;
-use crate::numbers::number;
 use crate::row::Version;
 use std::alloc::{AllocError, Global};
 
@@ -43,17 +44,30 @@ pub struct Spelling<'a> {
     pub segments: Vec<SegmentSpelling<'a>>,
 }
 
-/// Whether the byte is one of `!` to `~`.
-fn is_word_byte(byte: u8) -> bool
-    ensures { result ≡ (nat_le 33 byte && nat_le byte 126) }
+/// Whether a plus stands first, or a zero with another byte behind it.
+fn has_needless_front(bytes: &[u8]) -> bool
+    ensures { result ≡ has_needless_front bytes.now }
 {
-    byte >= b'!' && byte <= b'~'
+    if bytes.is_empty() {
+        return false;
+    }
+    bytes[0] == b'+' || (bytes[0] == b'0' && bytes.len() > 1)
+}
+
+/// The number that a word is in decimal without leading zeros, if a row may hold it.
+fn number(word: &str) -> Option<u32>
+    ensures { MatchOption result (IsNoNumber word.now) (λ n. decimal n ≡ word.now) }
+{
+    if has_needless_front(word.as_bytes()) {
+        return None;
+    }
+    word.parse().ok()
 }
 
 fn all_word_bytes(bytes: &[u8]) -> bool
     ensures { result ≡ list_all (λ b. nat_le 33 b && nat_le b 126) bytes.now }
 {
-    bytes.iter().all(|byte| is_word_byte(*byte))
+    bytes.iter().all(|byte| *byte >= b'!' && *byte <= b'~')
 }
 
 /// Whether there is a byte, and each is one of `!` to `~`.

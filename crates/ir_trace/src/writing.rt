@@ -1,18 +1,16 @@
 //! Traces as they are written.
-ghost use Rattle.std.specs.Prelude.{◌≡◌, ◌<◌, true, false, [], ◌∷◌, ◌++◌, IfOk, OnOk, length, nat_lt, string_bytes, flat_map, map};
+ghost use Rattle.std.specs.Prelude.{◌≡◌, ◌<◌, true, [], ◌∷◌, ◌++◌, IfOk, OnOk, length, nat_lt, string_bytes, flat_map, map};
 ghost use Rattle.std.specs.List.{list_all};
 ghost use Rattle.ir_model.specs.{Graph.names, Topology.node_count, OfGraph.topology_of_graph};
-ghost use Rattle.ir_trace.specs.{Rows.{spaced, fate_words, part_words, row_line}, Outlet.IsWritten};
-ghost use Rattle.ir_trace.specs.Written.{name_at, link_at, other_end, fate_text, row_of, records_text, FateIsIn, IsWritable, AreWritable, named, segments_row, segments_text, HasSegments, HaveSegments};
-ghost use Rattle.ir_trace.specs.Stretches.{parts_from, AreAscending};
+ghost use Rattle.ir_trace.specs.{Rows.{spaced, fate_words, part_words, row_line}, Stretches.{parts_from, AreAscending}};
+ghost use Rattle.ir_trace.specs.Written.{name_at, link_at, other_end, fate_text, row_of, records_text, named, segments_row};
+ghost use Rattle.ir_trace.specs.Written.{segments_text, FateIsIn, IsWritable, AreWritable, HasSegments, HaveSegments};
 
-use crate::outlet::{Outlet, TraceError};
+use crate::judging::walk_weight;
 use crate::row::Version;
 use crate::text::{push_name, push_names, push_next_number, push_number, push_word};
-use crate::weight::walk_weight;
 use ir_core::{Fate, Record, Restamp};
 use ir_graph::Graph;
-use ir_streams::Writer;
 use ir_tables::Topology;
 use std::alloc::{AllocError, Global};
 
@@ -166,11 +164,12 @@ fn push_segments_row(
     Ok(())
 }
 
-/// The trace of records over the topology of their graph: the line `trace 1`, and a row for each record in order, with
-/// its first epoch and all of its hops, restamped or not. Only want of memory is refused. Condition: the topology is
-/// that of the graph; the nodes and links of each record are among its nodes and links; the hops are 1 to
-/// `ir_model::MAX_NODES` nodes, each linked to the next; the node of a `Full` is an end of its link. Takes O(r + h d),
-/// for r records of h hops in all and at most d ports of a node.
+/// The trace of records over the topology of their graph: the line `trace 1`, and a row for each record
+/// in order, with its first epoch and all of its hops, restamped or not. Only want of memory is refused.
+/// Condition: the topology is that of the graph; the nodes and links of each record are among its nodes
+/// and links; the hops are 1 to `ir_model::MAX_NODES` nodes, each linked to the next; the node of a
+/// `Full` is an end of its link. Takes O(r + h d), for r records of h hops in all and at most d ports of
+/// a node.
 pub fn trace_text(
     alloc: Global,
     graph: &Graph,
@@ -188,32 +187,10 @@ pub fn trace_text(
     Ok(text)
 }
 
-/// Writes the trace of records over their graph: the line `trace 1`, and a row for each record in order, with its first
-/// epoch and all of its hops, restamped or not. `Unwritable` where the writer gives an error, also as it is flushed, or
-/// takes none of the bytes left: a front of the text went out then, and the outlet has failed. After `NoMemory` the outlet
-/// is as it was. Condition: the outlet has not failed; the
-/// nodes and links of each record are those of the graph; the hops are 1 to `ir_model::MAX_NODES` nodes, each linked to
-/// the next; the node of a `Full` is an end of its link. Takes as long as `trace_text`. For users of the library.
-pub fn write_trace<W: Writer>(
-    alloc: Global,
-    graph: &Graph,
-    records: &[Record],
-    outlet: &mut Outlet<W>,
-) -> Result<(), TraceError>
-    requires open { outlet.old.failed ≡ false }
-    requires records { AreWritable (topology_of_graph graph.now) records.now }
-    ensures { IsWritten W.contents W.wrote W.settled outlet.old
-        (records_text (names graph.now) (topology_of_graph graph.now) records.now) result outlet.new }
-{
-    let topology = Topology::of(alloc, graph)?;
-    let text = trace_text(alloc, graph, &topology, records)?;
-    outlet.write_text(text.as_bytes())
-}
-
-/// The trace of records in the second version: the line `trace 2`, and a row of segments for each record in order. Only
-/// want of memory is refused. Condition: that of `trace_text`, and each record has at most three restamps, each `from` a
-/// place in its hops, strictly ascending. Takes O(r + h d), for r records of h hops in all and at most d ports of a
-/// node.
+/// The trace of records in the second version: the line `trace 2`, and a row of segments for each
+/// record in order. Only want of memory is refused. Condition: that of `trace_text`, and each record
+/// has at most three restamps, each `from` a place in its hops, strictly ascending. Takes as long as
+/// `trace_text`.
 pub fn trace_text_2(
     alloc: Global,
     graph: &Graph,
@@ -229,24 +206,4 @@ pub fn trace_text_2(
         push_segments_row(&mut text, graph, topology, record)?;
     }
     Ok(text)
-}
-
-/// Writes the trace of records over their graph in the second version: the line `trace 2`, and a row of segments for
-/// each record in order. Refused as `write_trace` is. Condition: that of `write_trace`, and each record has at most three
-/// restamps, each `from` a place in its hops, strictly ascending. Takes as long as `trace_text_2`.
-/// For users of the library.
-pub fn write_trace_2<W: Writer>(
-    alloc: Global,
-    graph: &Graph,
-    records: &[Record],
-    outlet: &mut Outlet<W>,
-) -> Result<(), TraceError>
-    requires open { outlet.old.failed ≡ false }
-    requires records { HaveSegments (topology_of_graph graph.now) records.now }
-    ensures { IsWritten W.contents W.wrote W.settled outlet.old
-        (segments_text (names graph.now) (topology_of_graph graph.now) records.now) result outlet.new }
-{
-    let topology = Topology::of(alloc, graph)?;
-    let text = trace_text_2(alloc, graph, &topology, records)?;
-    outlet.write_text(text.as_bytes())
 }

@@ -7,7 +7,7 @@ use Rattle.ir_core.proofs.Lists.{get_set, get_set_same, get_set_other, get_push,
 use Rattle.ir_trace.specs.Row.{TraceRow}
 use Rattle.ir_trace.specs.Checked.{HasNewId}
 use Rattle.ir_whole.specs.declared.injecting.Inject.{Inject}
-use Rattle.ir_whole.specs.declared.placing.Wanted.{Wanted}
+use Rattle.ir_whole.specs.declared.injecting.Wanted.{Wanted}
 use Rattle.ir_whole.specs.Injects.{AreSomeOf, AreAccepted}
 use Rattle.ir_whole.specs.Judged.{fits, fits_any, are_placed}
 

@@ -8,7 +8,7 @@ use Rattle.ir_trace.proofs.CheckedRows.{Tells}
 use Rattle.ir_whole.specs.declared.finding.WholeKind.{WholeKind}
 use Rattle.ir_whole.specs.declared.finding.WholeKind.TheVariants.{NeverInjected, NotYetInstalled, NeverDown, NeverRetired, NeverFull, NoMemory}
 use Rattle.ir_whole.specs.declared.injecting.Inject.{Inject}
-use Rattle.ir_whole.specs.declared.placing.Wanted.{Wanted}
+use Rattle.ir_whole.specs.declared.injecting.Wanted.{Wanted}
 use Rattle.ir_whole.specs.Injects.{inject_lines, HasEnds, IsStampedAt, AreAccepted}
 use Rattle.ir_whole.specs.Whole.{GivenRun, HaveOwnIds, IsAccountedFor, IsWholeFinding, IsFirstWholeFinding, FindsWhole}
 use Rattle.ir_whole.specs.Judged.{ends_wanted, stamp_wanted, fits, are_placed, cause_of, first_of_three}

@@ -13,7 +13,7 @@ use Rattle.ir_trace.specs.Checked.{last_part}
 use Rattle.ir_whole.specs.declared.finding.WholeKind.{WholeKind}
 use Rattle.ir_whole.specs.declared.finding.WholeKind.TheVariants.{NeverInjected, NotYetInstalled, NeverDown, NeverRetired, NeverFull}
 use Rattle.ir_whole.specs.declared.injecting.Inject.{Inject}
-use Rattle.ir_whole.specs.declared.placing.Wanted.{Wanted}
+use Rattle.ir_whole.specs.declared.injecting.Wanted.{Wanted}
 use Rattle.ir_whole.specs.Injects.{first_epoch}
 use Rattle.ir_whole.specs.Causes.{may_pass}
 

@@ -21,8 +21,8 @@ pub enum WholeKind {
     NoMemory = 6,
 }
 
-/// The first row of a trace that no run of the script can have had: its line, counted from 1, and why. Want of memory has
-/// line 0.
+/// The first row of a trace that no run of the script can have had: its line, counted from 1, and
+/// why. Want of memory has line 0.
 #[derive(Clone, Copy, Debug, PartialEq, Eq, Error)]
 #[error("line {line}: {kind:?}")]
 pub struct WholeFinding {

@@ -1,12 +1,13 @@
-//! The inject lines of a script.
-ghost use Rattle.std.specs.Prelude.{◌≡◌, ◌++◌, ◌<◌, ◌≤◌, ◌+◌, ◌^◌, IfOk, OnOk, option_to_list};
-ghost use Rattle.ir_whole.specs.Injects.{inject_in, epochs_after, inject_lines};
+//! The inject lines of a script, and of which rows they can be the packets.
+ghost use Rattle.std.specs.Prelude.{◌≡◌, ◌<◌, ◌≤◌, ◌+◌, ◌^◌, IfOk, length, take};
+ghost use Rattle.ir_whole.specs.{Injects.{inject_in, epochs_after, inject_lines}, Judged.{fits_any, are_placed, first_of_three}};
 
+use crate::finding::WholeKind;
 use ir_core::{Event, Step};
 use std::alloc::{AllocError, Global};
 
-/// An inject line of a script: the ends of its packet, and how many epochs there are where each install line above it made
-/// one.
+/// An inject line of a script: the ends of its packet, and how many epochs there are where each
+/// install line above it made one.
 #[derive(Clone, Copy)]
 pub struct Inject {
     pub source: u16,
@@ -40,16 +41,6 @@ fn epochs_after(epochs: usize, step: Step) -> usize
     }
 }
 
-/// Keeps an inject line, if it is one.
-fn keep(kept: &mut Vec<Inject>, inject: Option<Inject>) -> Result<(), AllocError>
-    ensures { OnOk result (kept.new.items ≡ kept.old.items ++ option_to_list inject) }
-{
-    if let Some(inject) = inject {
-        kept.push(inject)?;
-    }
-    Ok(())
-}
-
 /// The inject lines of a script, in order.
 pub fn injects_of(alloc: Global, steps: &[Step]) -> Result<Vec<Inject>, AllocError>
     ensures { IfOk result (λ found. found.items ≡ inject_lines steps.now) }
@@ -57,8 +48,71 @@ pub fn injects_of(alloc: Global, steps: &[Step]) -> Result<Vec<Inject>, AllocErr
     let mut found = Vec::new(alloc);
     let mut epochs = 1;
     for step in steps {
-        keep(&mut found, inject_in(epochs, *step))?;
+        if let Some(inject) = inject_in(epochs, *step) {
+            found.push(inject)?;
+        }
         epochs = epochs_after(epochs, *step);
     }
     Ok(found)
+}
+
+/// What a row wants of its packet's inject: the ends, and an epoch that was installed above it.
+#[derive(Clone, Copy)]
+pub struct Wanted {
+    pub source: u16,
+    pub dest: u16,
+    pub epoch: u32,
+}
+
+/// Whether an inject has the ends that are wanted, and the epoch is one of those above it; any is
+/// as is wanted where nothing is.
+fn fits_any(wanted: Option<Wanted>, inject: Inject) -> bool
+    ensures { result ≡ fits_any wanted inject }
+{
+    match wanted {
+        None => true,
+        Some(wanted) => {
+            wanted.source == inject.source
+                && wanted.dest == inject.dest
+                && wanted.epoch as usize <= inject.epochs
+        }
+    }
+}
+
+/// Whether for each number of a packet there is an inject as it is wanted, in the order of the numbers.
+fn are_placed(table: &[Option<Wanted>], injects: &[Inject]) -> bool
+    ensures { result ≡ are_placed table.now injects.now }
+{
+    let mut next = 0;
+    for inject in injects {
+        if next == table.len() {
+            return true;
+        }
+        if fits_any(table[next], *inject) {
+            next += 1;
+        }
+    }
+    next == table.len()
+}
+
+/// The first of what is found of a row, where so many numbers of packets are used.
+pub fn found_of(
+    ends: &[Option<Wanted>],
+    stamps: &[Option<Wanted>],
+    used: usize,
+    injects: &[Inject],
+    cause: Option<WholeKind>,
+) -> Option<WholeKind>
+    requires ends { used ≤ length ends.now }
+    requires stamps { used ≤ length stamps.now }
+    ensures { result ≡ first_of_three (are_placed (take used ends.now) injects.now)
+        (are_placed (take used stamps.now) injects.now) cause }
+{
+    if !are_placed(&ends[..used], injects) {
+        return Some(WholeKind::NeverInjected);
+    }
+    if !are_placed(&stamps[..used], injects) {
+        return Some(WholeKind::NotYetInstalled);
+    }
+    cause
 }

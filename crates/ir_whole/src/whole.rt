@@ -1,5 +1,5 @@
 //! Traces checked for what no run of a script can have had.
-ghost use Rattle.std.specs.Prelude.{◌≡◌, ◌⊎◌, ◌+◌, max, IfOk, IfErr};
+ghost use Rattle.std.specs.Prelude.{◌≡◌, ◌⊎◌, ◌+◌, IfOk, IfErr};
 ghost use Rattle.ir_model.specs.Topology.{node_count};
 ghost use Rattle.ir_trace.specs.Checked.{AreRowsOver};
 ghost use Rattle.ir_whole.specs.Causes.{HasHops};
@@ -8,8 +8,7 @@ ghost use Rattle.ir_whole.specs.Whole.{run_of, HaveOwnIds, AreWhole, FindsWhole}
 
 use crate::causes::cause_of;
 use crate::finding::{WholeFinding, WholeKind};
-use crate::injecting::injects_of;
-use crate::placing::{Wanted, found_of};
+use crate::injecting::{Wanted, found_of, injects_of};
 use ir_core::Step;
 use ir_tables::Topology;
 use ir_trace::{Trace, TraceRow};
@@ -38,14 +37,6 @@ fn stamp_wanted(row: &TraceRow) -> Wanted
     }
 }
 
-/// How many numbers of packets are used with a further one.
-fn used_with(used: usize, id: u32) -> usize
-    ensures { result ≡ max used (id + 1) }
-{
-    let next = id as usize + 1;
-    if used < next { next } else { used }
-}
-
 /// What is found of the row at a place; want of memory for a place that no list has.
 fn finding_at(place: usize, kind: WholeKind) -> WholeFinding
     ensures { ((result.line ≡ place + 2) × (result.kind ≡ kind))
@@ -60,18 +51,18 @@ fn finding_at(place: usize, kind: WholeKind) -> WholeFinding
     }
 }
 
-/// The first row of a trace that no run of a script can have had: the first line with a finding, and in it the first of
-/// these. `NeverInjected` where no choice of the script's injects, of at most so many packets, gives it and each row before
-/// it the number of its packet; `NotYetInstalled` where none does that also has each row's first epoch among those that
-/// install lines above its inject can have made; `NeverDown` where it was dropped at a link that no line takes down;
-/// `NeverRetired` where its last epoch is retired by no line; `NeverFull` where it was dropped at a full channel, and
-/// fewer rows than the capacity went over it, or ended before it and were not delivered. Where there is none, each row has
-/// an inject, an epoch that was installed above it, and a cause.
-/// Nothing more is known of the lines that a run refused than that of its injects some are accepted: each install line may
-/// have made an epoch, and each line that takes a link down or retires epochs may have done so.
-/// Condition: the trace was read over the topology, and each row has an id of its own; `ir_trace::check_trace` finds
-/// where not. The capacity and the most packets are those of the run. Takes O(r (s + h)) for r rows of h hops in all and
-/// s steps.
+/// The first row of a trace that no run of a script can have had: the first line with a finding, and in
+/// it the first of these. `NeverInjected` where no choice of the script's injects, of at most so many
+/// packets, gives it and each row before it the number of its packet; `NotYetInstalled` where none does
+/// that also has each row's first epoch among those that install lines above its inject can have made;
+/// `NeverDown` where it was dropped at a link that no line takes down; `NeverRetired` where its last
+/// epoch is retired by no line; `NeverFull` where it was dropped at a full channel, and fewer rows than
+/// the capacity went over it, or ended before it and were not delivered.
+/// Of the lines that a run refused nothing is known: each install line may have made an epoch, and each
+/// line that takes a link down or retires epochs may have done so.
+/// Condition: the trace was read over the topology, and each row has an id of its own, as
+/// `ir_trace::check_trace` finds. The capacity and the most packets are those of the run. Takes
+/// O(r (s + h)) for r rows of h hops in all and s steps.
 pub fn check_whole(
     alloc: Global,
     topology: &Topology,
@@ -96,7 +87,7 @@ pub fn check_whole(
         if packets <= id {
             return Err(finding_at(place, WholeKind::NeverInjected));
         }
-        used = used_with(used, row.id);
+        used = used.max(id + 1);
         ends[id] = Some(ends_wanted(row));
         stamps[id] = Some(stamp_wanted(row));
         let cause = cause_of(topology, steps, capacity, trace, row);

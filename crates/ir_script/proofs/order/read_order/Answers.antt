@@ -1,11 +1,10 @@
-use Rattle.std.proofs.Common.{rules, ◌≡◌, ℕ, ◌<◌, ◌≤◌, Bool, false, List, [], map, length, replicate, Result, Ok, Err, Option, refl, ◌∷◌, arith, sym, ap, subst, ◌∙◌}
+use Rattle.std.proofs.Common.{rules, ◌≡◌, ℕ, ◌<◌, ◌≤◌, Bool, false, List, [], length, replicate, Ok, Err, refl, ◌∷◌, arith, sym, subst, ◌∙◌}
 use Rattle.std.specs.Prelude.{IfSome}
 use Rattle.std.proofs.lemmas.List.{length-map}
-use Rattle.ir_model.specs.Graph.{Adjacency, Name, names}
+use Rattle.ir_model.specs.Graph.{Adjacency, names}
 use Rattle.ir_model.specs.Text.{lines}
 use Rattle.ir_numbering.specs.Numbering.{IsListing}
 use Rattle.ir_script.specs.declared.order_fault.OrderFault.{OrderFault}
-use Rattle.ir_script.specs.declared.order_fault.OrderFaultKind.{OrderFaultKind}
 use Rattle.ir_script.specs.Order.{order_fault, OrderTold}
 use Rattle.ir_script.specs.Steps.{line_node}
 use Rattle.ir_script.proofs.Orders.{IsReading, read_none, read_wrong, read_twice, read_on, read_listing}

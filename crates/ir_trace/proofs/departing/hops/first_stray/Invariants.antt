@@ -1,5 +1,0 @@
-use Rattle.ir_trace.proofs.Strays.{AreSteps}
-use Rattle.ir_trace.proofs.departing.hops.first_stray.Given as goal
-
-abbrev pub invariant-loop-i : goal.invariant-loop-i
-invariant-loop-i l = AreSteps l.plan l.dest l.hops l.i

@@ -1,5 +1,0 @@
-use Rattle.ir_trace.proofs.Parts.{AreFollowed}
-use Rattle.ir_trace.proofs.departing.segments.first_left.Given as goal
-
-abbrev pub invariant-loop-k : goal.invariant-loop-k
-invariant-loop-k l = AreFollowed l.plans l.dest l.source l.segments l.k l.at l.above
