@@ -41,14 +41,27 @@ fn shape_of(sub: Sub, words: &Words) -> Option<Shape>
     }
 }
 
-/// The shape as which it is printed as JSON, where the words ask for that.
-pub fn asked_shape(sub: Sub, words: &Words) -> Option<Shape>
-    ensures { result ≡ asked_shape sub words.now }
+/// In what form an answer is written.
+#[derive(Clone, Copy)]
+pub struct AnswerForm {
+    /// The shape as which it is printed as JSON; None where it is text.
+    pub shape: Option<Shape>,
+    /// In how many threads at most the lines of a plan are made; None for as many as suit the processors.
+    pub most: Option<usize>,
+}
+
+/// The form that the words ask for.
+pub fn form_of(sub: Sub, words: &Words) -> AnswerForm
+    ensures { result.shape ≡ asked_shape sub words.now }
 {
-    if words.json {
+    let shape = if words.json {
         shape_of(sub, words)
     } else {
         None
+    };
+    AnswerForm {
+        shape,
+        most: words.threads,
     }
 }
 
@@ -105,16 +118,15 @@ pub fn put_notice<W: Writer>(
 pub fn put_plan<C: TextCrew, W: Writer>(
     crew: &C,
     alloc: Global,
-    most: Option<usize>,
-    shape: Option<Shape>,
+    form: AnswerForm,
     text: PlanText,
     output: &mut W,
 ) -> Result<bool, AllocError>
-    ensures { IsTextPut (shaped shape text) result
+    ensures { IsTextPut (shaped form.shape text) result
         (Sends W.contents W.wrote W.settled output.old output.new) (output.new ≡ output.old) }
 {
-    match shape {
-        None => Ok(text.write_by(crew, alloc, most, output)),
+    match form.shape {
+        None => Ok(text.write_by(crew, alloc, form.most, output)),
         Some(shape) => {
             let json = plan_json(alloc, shape, text)?;
             Ok(write_text(output, json.as_bytes()))

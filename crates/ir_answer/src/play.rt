@@ -5,7 +5,7 @@ ghost use Rattle.ir_trace.specs.Written.{HaveSegments};
 ghost use Rattle.ir_cli.specs.{Lines.{reply_line, steps_text}, Openings.{AnswersTopology}};
 ghost use Rattle.ir_answer.specs.{Plays.{wants_memory, refused_text, run_text, AnswersScript}, Stops.Gives};
 
-use crate::asking::{Stop, opening_stop, read_asked};
+use crate::asking::{AnswerStop, opening_stop, read_asked};
 use ir_cli::{RunReply, Words, opening_of};
 use ir_core::{Played, Record, Refused, Reply, Step, play_by};
 use ir_graph::Graph;
@@ -107,7 +107,7 @@ pub fn simulate(
     words: &Words,
     topology: &[u8],
     script: &[u8],
-) -> Result<RunReply, Stop>
+) -> Result<RunReply, AnswerStop>
     ensures { Gives (AnswersTopology words.now.format (lines topology.now)
         (AnswersScript words.now (lines script.now))) result }
 {

@@ -7,7 +7,7 @@ ghost use Rattle.ir_control.specs.Lives.{IsLive, IsRefusal};
 ghost use Rattle.ir_shell.specs.Lives.{is_for_memory, refusals_text, IsOpenedNet, AnswersLive, AnswersLiveScript, ends_somewhere};
 ghost use Rattle.ir_answer.specs.{Plays.{listing_in, run_text}, Stops.{StopsAs, Gives}};
 
-use ir_answer::{Asked, Stop, opening_stop, read_asked, run_text};
+use ir_answer::{AnswerStop, Asked, opening_stop, read_asked, run_text};
 use ir_cli::{RunReply, Words, opening_of};
 use ir_control::{Live, LiveError, Net, Starter, run_live};
 use ir_core::{OpenError, Refused};
@@ -117,11 +117,11 @@ fn answer_net<T: Threads + Moments<Parcel> + Starter + Sync>(
     words: &Words,
     asked: &Asked<Command>,
     net: &Net,
-) -> Result<RunReply, Stop>
+) -> Result<RunReply, AnswerStop>
     requires over { asked.now.topology ≡ topology_of_graph asked.now.graph }
     requires opened { IsOpenedNet asked.now.graph words.now asked.now.root net.now }
-    ensures { Gives (AnswersLive (Bor T) T.was_full T.was_empty (T.unstarted rt.now) (T.came_back rt.now)
-        (T.was_closed rt.now) asked.now.graph words.now (listing_in asked.now.script) asked.now.root) result }
+    ensures { Gives (AnswersLive T.Moments T.Starter rt.now asked.now.graph words.now (listing_in asked.now.script)
+        asked.now.root) result }
 {
     asked.topology.invariant();
     match run_open(rt, net, asked.script.steps()) {
@@ -138,7 +138,9 @@ fn answer_net<T: Threads + Moments<Parcel> + Starter + Sync>(
         }
         Err(LiveError::NoThread) => Ok(RunReply::NoThread),
         Err(LiveError::TooManyReaders) => Err(opening_stop(OpenError::TooManyReaders)),
-        Err(LiveError::Spent | LiveError::NoMemory | LiveError::Unpublished) => Err(Stop::NoMemory),
+        Err(LiveError::Spent | LiveError::NoMemory | LiveError::Unpublished) => Err(
+            AnswerStop::NoMemory,
+        ),
     }
 }
 
@@ -150,10 +152,9 @@ pub fn run_commands<T: Threads + Moments<Parcel> + Starter + Sync>(
     words: &Words,
     topology: &[u8],
     script: &[u8],
-) -> Result<RunReply, Stop>
+) -> Result<RunReply, AnswerStop>
     ensures { Gives (AnswersTopology words.now.format (lines topology.now)
-        (AnswersLiveScript (Bor T) T.was_full T.was_empty (T.unstarted rt.now) (T.came_back rt.now)
-        (T.was_closed rt.now) words.now (lines script.now))) result }
+        (AnswersLiveScript T.Moments T.Starter rt.now words.now (lines script.now))) result }
 {
     let asked = read_asked::<Command>(alloc, words, topology, script)?;
     let opening = opening_of(alloc, words, &asked.topology, asked.root)?;

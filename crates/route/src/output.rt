@@ -108,20 +108,13 @@ impl Output {
 
     /// Opens the file, if nothing was written to it.
     fn open(&mut self) -> io::Result<()> {
-        let opened = match &self.sink {
-            Sink::Named(name) => sink_of(&self.rt, name.as_str()),
-            _ => return Ok(()),
+        let Sink::Named(name) = &self.sink else {
+            return Ok(());
         };
-        match opened {
-            Ok(sink) => {
-                self.sink = sink;
-                Ok(())
-            }
-            Err(error) => {
-                self.sink = Sink::Shut;
-                Err(error)
-            }
-        }
+        let opened = sink_of(&self.rt, name.as_str());
+        self.sink = Sink::Shut;
+        self.sink = opened?;
+        Ok(())
     }
 
     /// Puts what was written in its place.

@@ -1,4 +1,5 @@
 //! How far a plan is, on a terminal.
+use crate::terminal::tell;
 use ir_plan::Watch;
 use std::alloc::AllocError;
 use std::io::IsTerminal;
@@ -63,7 +64,7 @@ impl Progress<'_> {
     /// Takes the line away, if there is one.
     pub fn clear(&self) {
         if self.is_shown.swap(false, Ordering::SeqCst) {
-            let _told = self.rt.eprint("\r\x1b[K");
+            tell(self.rt, "\r\x1b[K");
         }
     }
 
@@ -85,7 +86,7 @@ impl Progress<'_> {
     /// Writes a line.
     fn show(&self, line: Result<String, AllocError>) {
         if let Ok(line) = line {
-            let _told = self.rt.eprint(line);
+            tell(self.rt, line.as_str());
             self.is_shown.store(true, Ordering::SeqCst);
         }
     }

@@ -1,6 +1,11 @@
-//! What is said on a terminal without being asked for.
+//! What is said on standard error, and when sentences are.
 ghost use Rattle.std.specs.Prelude.{◌≡◌, codes};
 ghost use Rattle.route.specs.Sentences.{are_wanted, is_given};
+
+/// Writes a text to standard error. Where that takes none of it, nobody can be told.
+pub fn tell(rt: &HostRuntime, text: &str) {
+    let _told = rt.eprint(text);
+}
 
 /// Whether `--no-explain` stands among the words behind the program's name: before a word `--`, behind which all are files.
 fn are_sentences_forbidden(words: &[String]) -> bool
