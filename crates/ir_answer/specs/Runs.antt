@@ -1,5 +1,5 @@
 -- How a run of a subcommand ends, by what it did to its readers and its writers.
-use Rattle.std.specs.Prelude.{◌≡◌, ℕ, Bool, List, Result}
+use Rattle.std.specs.Prelude.{◌≡◌, ℕ, Bool, List, Result, Ok, Err}
 use Rattle.ir_streams.specs.declared.reader.Reader as reader
 use Rattle.ir_streams.specs.declared.reading.NoInput.{NoInput}
 use Rattle.ir_streams.specs.declared.writer.Writer as writer

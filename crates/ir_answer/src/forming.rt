@@ -3,7 +3,7 @@ ghost use Rattle.std.specs.Prelude.{◌≡◌, IfOk, string_bytes};
 ghost use Rattle.ir_model.specs.Text.{lines};
 ghost use Rattle.ir_json.specs.JsonText.{json_text};
 ghost use Rattle.ir_cli.specs.{Notices.notice_line, Told.Sends};
-ghost use Rattle.ir_answer.specs.Formed.{trace_shape, shape_of, asked_shape, shaped, IsTextPut};
+ghost use Rattle.ir_answer.specs.Formed.{shape_of, asked_shape, shaped, IsTextPut};
 
 use ir_cli::{Notice, Sub, Words, notice_line};
 use ir_json::{Shape, json_of};
@@ -11,17 +11,6 @@ use ir_show::TextCrew;
 use ir_show::plan_text::PlanText;
 use ir_streams::{Writer, write_text};
 use std::alloc::{AllocError, Global};
-
-/// The shape of a trace, by its version.
-fn trace_shape(words: &Words) -> Shape
-    ensures { result ≡ trace_shape words.now }
-{
-    if words.restamps == 0 {
-        Shape::Trace
-    } else {
-        Shape::Restamps
-    }
-}
 
 /// The shape of what a subcommand prints; a drawing has none.
 fn shape_of(sub: Sub, words: &Words) -> Option<Shape>
@@ -36,7 +25,8 @@ fn shape_of(sub: Sub, words: &Words) -> Option<Shape>
         Sub::Draw => None,
         Sub::Prefixes => Some(Shape::Prefixes),
         Sub::Ranges => Some(Shape::Ranges),
-        Sub::Sim | Sub::Live => Some(trace_shape(words)),
+        Sub::Sim | Sub::Live if words.restamps == 0 => Some(Shape::Trace),
+        Sub::Sim | Sub::Live => Some(Shape::Restamps),
         Sub::Check => Some(Shape::Check),
     }
 }

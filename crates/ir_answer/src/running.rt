@@ -19,7 +19,7 @@ use ir_streams::{Reader, Writer};
 use std::alloc::Global;
 
 /// A subcommand, and the words of which it is one.
-#[derive(Clone, Copy)]
+#[derive(Drop)]
 struct Request<'a> {
     sub: Sub,
     words: &'a Words,
@@ -64,12 +64,12 @@ pub fn sources_of(words: &Words) -> &'static [Source]
 fn answer_by<C: LineCrew>(
     crew: &C,
     alloc: Global,
-    request: Request<'_>,
+    request: &Request<'_>,
     texts: &[Vec<u8>],
 ) -> Result<RunReply, AnswerStop>
-    requires kind { FitsSub request.sub request.words.now }
-    requires texts { length texts.now ≡ length (sources_by request.sub request.words.now) }
-    ensures { Gives (PlainBy NoThreads request.sub request.words.now (texts_of texts.now)) result }
+    requires kind { FitsSub request.now.sub request.now.words.now }
+    requires texts { length texts.now ≡ length (sources_by request.now.sub request.now.words.now) }
+    ensures { Gives (PlainBy NoThreads request.now.sub request.now.words.now (texts_of texts.now)) result }
 {
     let words = request.words;
     match request.sub {
@@ -93,17 +93,17 @@ fn answer_by<C: LineCrew>(
 fn write_answer<C: LineCrew, W: Writer, F: Writer>(
     crew: &C,
     alloc: Global,
-    request: Request<'_>,
+    request: &Request<'_>,
     texts: &[Vec<u8>],
     output: &mut W,
     faults: &mut F,
 ) -> RunOutcome
-    requires kind { FitsSub request.sub request.words.now }
-    requires texts { length texts.now ≡ length (sources_by request.sub request.words.now) }
-    ensures ends { RunEndsAs NoThreads request.sub request.words.now result.ending
+    requires kind { FitsSub request.now.sub request.now.words.now }
+    requires texts { length texts.now ≡ length (sources_by request.now.sub request.now.words.now) }
+    ensures ends { RunEndsAs NoThreads request.now.sub request.now.words.now result.ending
         (io_over (texts_of texts.now) (written_of W.Writer F.Writer output.old output.new faults.old faults.new)) }
     ensures told { Tells F.contents F.wrote F.settled faults.old faults.new (told_text result.told) }
-    ensures found { ShowsFound (asked_form request.sub request.words.now) result.found result.ending
+    ensures found { ShowsFound (asked_form request.now.sub request.now.words.now) result.found result.ending
         (Sends W.contents W.wrote W.settled output.old output.new) }
 {
     let plain = answer_by(crew, alloc, request, texts);
@@ -115,17 +115,17 @@ fn write_answer<C: LineCrew, W: Writer, F: Writer>(
 fn follow_as<C: LineCrew, R: Reader, W: Writer, F: Writer>(
     crew: &C,
     alloc: Global,
-    request: Request<'_>,
+    request: &Request<'_>,
     inputs: &mut [R],
     output: &mut W,
     faults: &mut F,
 ) -> RunOutcome
-    requires kind { FitsSub request.sub request.words.now }
-    requires inputs { length inputs.old ≡ length (sources_by request.sub request.words.now) }
-    ensures ends { RunEndsAs NoThreads request.sub request.words.now result.ending
+    requires kind { FitsSub request.now.sub request.now.words.now }
+    requires inputs { length inputs.old ≡ length (sources_by request.now.sub request.now.words.now) }
+    ensures ends { RunEndsAs NoThreads request.now.sub request.now.words.now result.ending
         (io_of R.Reader W.Writer F.Writer inputs.old inputs.new output.old output.new faults.old faults.new) }
     ensures told { Tells F.contents F.wrote F.settled faults.old faults.new (told_text result.told) }
-    ensures found { ShowsFound (asked_form request.sub request.words.now) result.found result.ending
+    ensures found { ShowsFound (asked_form request.now.sub request.now.words.now) result.found result.ending
         (Sends W.contents W.wrote W.settled output.old output.new) }
 {
     match read_inputs(alloc, sources_by(request.sub, request.words), inputs) {
@@ -152,18 +152,11 @@ pub fn run_plan<R: Reader, W: Writer, F: Writer>(
     ensures { RunEnds NoThreads Sub.Plan words.now result
         (io_of R.Reader W.Writer F.Writer inputs.old inputs.new output.old output.new faults.old faults.new) }
 {
-    let sub = Sub::Plan;
-    status_of(
-        follow_as(
-            &Alone,
-            alloc,
-            Request { sub, words },
-            inputs,
-            output,
-            faults,
-        )
-        .ending,
-    )
+    let request = Request {
+        sub: Sub::Plan,
+        words,
+    };
+    status_of(follow_as(&Alone, alloc, &request, inputs, output, faults).ending)
 }
 
 /// Reads a topology and a script, plays the script's steps in a world over the topology, and writes the trace of its
@@ -184,18 +177,11 @@ pub fn run_sim<R: Reader, W: Writer, F: Writer>(
     ensures { RunEnds NoThreads Sub.Sim words.now result
         (io_of R.Reader W.Writer F.Writer inputs.old inputs.new output.old output.new faults.old faults.new) }
 {
-    let sub = Sub::Sim;
-    status_of(
-        follow_as(
-            &Alone,
-            alloc,
-            Request { sub, words },
-            inputs,
-            output,
-            faults,
-        )
-        .ending,
-    )
+    let request = Request {
+        sub: Sub::Sim,
+        words,
+    };
+    status_of(follow_as(&Alone, alloc, &request, inputs, output, faults).ending)
 }
 
 /// Reads a topology, a script and a trace, and writes `ok N` for a trace of N rows, or its first finding: `finding LINE
@@ -216,29 +202,19 @@ pub fn run_check<R: Reader, W: Writer, F: Writer>(
     ensures { RunEnds NoThreads Sub.Check words.now result
         (io_of R.Reader W.Writer F.Writer inputs.old inputs.new output.old output.new faults.old faults.new) }
 {
-    let sub = Sub::Check;
-    status_of(
-        follow_as(
-            &Alone,
-            alloc,
-            Request { sub, words },
-            inputs,
-            output,
-            faults,
-        )
-        .ending,
-    )
+    let request = Request {
+        sub: Sub::Check,
+        words,
+    };
+    status_of(follow_as(&Alone, alloc, &request, inputs, output, faults).ending)
 }
 
 /// Does what the words ask for over readers and writers, and answers what it came to, as values: how the run ended, what its
-/// lines of faults tell, and what a check found. What takes part in it is made by a crew, and is the same for any.
+/// lines of faults tell, and what a check found. A crew takes part in it; what is written is the same for any.
 ///
-/// The subcommands of a plan read a topology, and an order where the words have one, and write its plan with a line for
-/// each node or the order of the labels, a walk of it, its figures, a drawing of it, or the fewest prefixes or ranges by
-/// which each node sends on; `compare` writes the figures of plans of each kind and order of labels. What is
-/// written is text, or its JSON where the words ask for that; a drawing is text. `sim`
-/// and `check` are `run_sim` and `run_check`, and `plan` is `run_plan`. `live` wants
-/// threads of nodes, so its inputs are read, and it is told as `no thread`.
+/// `plan`, `sim` and `check` are `run_plan`, `run_sim` and `run_check`. The other subcommands of a plan read what `plan` does,
+/// and `compare` a topology alone; each writes the one text that it shows, or its JSON where the words ask for that. `live`
+/// wants threads of nodes: its inputs are read, and it is told as `no thread`.
 ///
 /// Conditions: an order is of no plan of kind Tree; the inputs are a reader for each text, or for `words.is_one_input()` one
 /// of all texts, which the first lines that are exactly `%%` cut. `status_of` has the exit status of an ending: 0 where all
@@ -261,5 +237,5 @@ pub fn follow_by<C: LineCrew, R: Reader, W: Writer, F: Writer>(
         (Sends W.contents W.wrote W.settled output.old output.new) }
 {
     let sub = words.sub;
-    follow_as(crew, alloc, Request { sub, words }, inputs, output, faults)
+    follow_as(crew, alloc, &Request { sub, words }, inputs, output, faults)
 }

@@ -1,8 +1,8 @@
 //! Runs of the program among which are live ones, from bytes to bytes.
 ghost use Rattle.std.specs.Prelude.{◌≡◌, length};
 ghost use Rattle.ir_answer.specs.Asked.{sim_sources, sources_of};
-ghost use Rattle.ir_answer.specs.{Formed.asked_form, Runs.{written_of, io_of, io_over, RunEndsAs, RunEnds}};
-ghost use Rattle.ir_shell.specs.Asked.{LiveAnswers};
+ghost use Rattle.ir_answer.specs.{Formed.asked_form, Runs.{written_of, io_of, io_over, RunEnds}};
+ghost use Rattle.ir_shell.specs.Asked.{LiveAnswers, LiveEndsAs, FollowsAs};
 ghost use Rattle.ir_cli.specs.{Reading.texts_of, Notices.{told_text, ShowsFound}, Told.{Sends, Tells}, Words.FitsItsKind};
 
 use crate::live::run_commands;
@@ -34,7 +34,7 @@ fn write_live<T: Threads + Moments<Parcel> + Starter + Sync, W: Writer, F: Write
     faults: &mut F,
 ) -> RunOutcome
     requires { length texts.now ≡ length (sim_sources words.now) }
-    ensures ends { RunEndsAs (LiveAnswers T.Moments T.Starter rt.now) Sub.Live words.now result.ending
+    ensures ends { LiveEndsAs T.Moments T.Starter rt.now words.now result.ending
         (io_over (texts_of texts.now) (written_of W.Writer F.Writer output.old output.new faults.old faults.new)) }
     ensures told { Tells F.contents F.wrote F.settled faults.old faults.new (told_text result.told) }
     ensures found { ShowsFound (asked_form Sub.Live words.now) result.found result.ending
@@ -56,7 +56,7 @@ fn follow_live<T: Threads + Moments<Parcel> + Starter + Sync, R: Reader, W: Writ
     faults: &mut F,
 ) -> RunOutcome
     requires { length inputs.old ≡ length (sim_sources words.now) }
-    ensures ends { RunEndsAs (LiveAnswers T.Moments T.Starter rt.now) Sub.Live words.now result.ending
+    ensures ends { LiveEndsAs T.Moments T.Starter rt.now words.now result.ending
         (io_of R.Reader W.Writer F.Writer inputs.old inputs.new output.old output.new faults.old faults.new) }
     ensures told { Tells F.contents F.wrote F.settled faults.old faults.new (told_text result.told) }
     ensures found { ShowsFound (asked_form Sub.Live words.now) result.found result.ending
@@ -112,7 +112,7 @@ pub fn follow<
 ) -> RunOutcome
     requires kind { FitsItsKind words.now }
     requires inputs { length inputs.old ≡ length (sources_of words.now) }
-    ensures ends { RunEndsAs (LiveAnswers T.Moments T.Starter team.now.rt.now) words.now.sub words.now result.ending
+    ensures ends { FollowsAs T.Moments T.Starter team.now.rt.now words.now result.ending
         (io_of R.Reader W.Writer F.Writer inputs.old inputs.new output.old output.new faults.old faults.new) }
     ensures told { Tells F.contents F.wrote F.settled faults.old faults.new (told_text result.told) }
     ensures found { ShowsFound (asked_form words.now.sub words.now) result.found result.ending

@@ -13,8 +13,8 @@ use Rattle.ir_answer.proofs.running.follow_as.Goals as goal
 
 pub returns-in-Ok-clause-ends : goal.returns-in-Ok-clause-ends
 returns-in-Ok-clause-ends g c =
-    let words = c.args.request.words.now in
-    let sub = c.args.request.sub in
+    let words = c.args.request.now.words.now in
+    let sub = c.args.request.now.sub in
     let old = c.args.inputs.now in
     let new = c.read_inputs.new.inputs in
     let io : RunIo = io_of g.R.Reader g.W.Writer g.F.Writer old new c.args.output.now c.write_answer.new.output c.args.faults.now c.write_answer.new.faults in
@@ -25,8 +25,8 @@ returns-in-Ok-clause-ends g c =
 
 pub returns-in-Err-clause-ends : goal.returns-in-Err-clause-ends
 returns-in-Err-clause-ends g c =
-    let words = c.args.request.words.now in
-    let sub = c.args.request.sub in
+    let words = c.args.request.now.words.now in
+    let sub = c.args.request.now.sub in
     let old = c.args.inputs.now in
     let new = c.read_inputs.new.inputs in
     let output = c.args.output.now in
@@ -38,5 +38,5 @@ returns-in-Err-clause-ends g c =
 pub returns-in-Err-clause-found : goal.returns-in-Err-clause-found
 returns-in-Err-clause-found g c =
     let output = c.args.output.now in
-    subst (λ (found : Option Notice). ShowsFound (asked_form c.args.request.sub c.args.request.words.now) found c.tell_unread.result.ending (Sends g.W.Writer.contents g.W.Writer.wrote g.W.Writer.settled output output))
+    subst (λ (found : Option Notice). ShowsFound (asked_form c.args.request.now.sub c.args.request.now.words.now) found c.tell_unread.result.ending (Sends g.W.Writer.contents g.W.Writer.wrote g.W.Writer.settled output output))
     (sym c.tell_unread.ensures.found) c.tell_unread.ensures.none

@@ -11,8 +11,8 @@ use Rattle.ir_answer.proofs.running.write_answer.Goals as goal
 
 pub returns-clause-ends : goal.returns-clause-ends
 returns-clause-ends g c =
-    let sub = c.args.request.sub in
-    let words = c.args.request.words.now in
+    let sub = c.args.request.now.sub in
+    let words = c.args.request.now.words.now in
     let to : Written = written_of g.W.Writer g.F.Writer c.args.output.now c.write_given.new.output c.args.faults.now c.write_given.new.faults in
     ends_given (PlainBy NoThreads sub words) sub words (texts_of c.args.texts.now) to
     c.answer_by-plain.result c.write_given.result.ending c.answer_by-plain.ensures
