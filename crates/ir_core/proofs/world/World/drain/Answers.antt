@@ -11,7 +11,7 @@ returns-then-not-acted-clause-history c =
 
 pub returns-then-not-acted-clause-none_left : goal.returns-then-not-acted-clause-none_left
 returns-then-not-acted-clause-none_left c =
-    quiet_none_left c.round-acted.new.self c.invariant2.ensures.world (c.round-acted.ensures.quiet c.if-not-acted.true)
+    quiet_none_left c.round-acted.new.self c.invariant-then-not-acted.ensures.world (c.round-acted.ensures.quiet c.if-not-acted.true)
 
 pub rounds-init : goal.rounds-init
 rounds-init c = drain_none c.args.self.now
