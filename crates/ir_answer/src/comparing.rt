@@ -20,8 +20,9 @@ fn one_text<'a>(texts: &'a [Vec<u8>]) -> &'a [u8]
     texts[0].as_slice()
 }
 
-/// The answer to the text of a topology: what compares its plans from the root that the words name. Refused are, in this
-/// order, the topology's first fault, a root that is no node, and what refuses the plans. The plans' rows are made by a crew.
+/// The answer to the text of a topology: what compares its plans from the root that the words name. Refused are, in
+/// this order, the topology's first fault, a root that is no node, and what refuses the plans. The plans' rows are
+/// made by a crew.
 pub fn compare(
     crew: &impl Crew,
     alloc: Global,

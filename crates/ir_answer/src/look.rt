@@ -31,8 +31,8 @@ pub enum Show {
     /// The walk from a node to another.
     Between(u16, u16),
     Figures,
-    /// The figures, and the links that wait for each other where packets of a second plan are under way too, which is of
-    /// this kind and numbered depth first from this node.
+    /// The figures, and the links that wait for each other where packets of a second plan are under way too, which is
+    /// of this kind and numbered depth first from this node.
     Beside(Kind, u16),
     /// A drawing, with the walk between two nodes in bold if there are any.
     Drawing(Option<(u16, u16)>),
@@ -190,7 +190,8 @@ fn read_figures(words: &Words, graph: &Graph) -> Result<Show, AnswerStop>
     Ok(Show::Beside(second.kind, root))
 }
 
-/// What is to be drawn: the circle of the node that the words name, or else the network, with ends only where both are named.
+/// What is to be drawn: the circle of the node that the words name, or else the network, with ends only where both are
+/// named.
 fn read_drawing(words: &Words, graph: &Graph) -> Result<Show, AnswerStop>
     ensures show { IfOk result (λ show. IsDrawn words.now graph.now show) }
     ensures among { IfOk result (λ show. 0 < length graph.now → AreAmong (length graph.now) show) }
@@ -229,8 +230,8 @@ fn read_show(sub: Sub, words: &Words, graph: &Graph) -> Result<Show, AnswerStop>
     }
 }
 
-/// The ends of a walk that is shown, where its plan need not be built: that is of a kind other than Tree, and no tour is
-/// sought for its labels.
+/// The ends of a walk that is shown, where its plan need not be built: that is of a kind other than Tree, and no tour
+/// is sought for its labels.
 fn ends_alone(show: Show, kind: Kind, nodes: usize, labels: &Labels) -> Option<(u16, u16)>
     ensures shown { IfSome result (λ ends. show ≡ Show.Between ends.0 ends.1) }
     ensures kind { IsSome result → kind ≢ Kind.Tree }
@@ -268,7 +269,8 @@ fn show_walk(
     }
 }
 
-/// The answer that shows a plan, or tells what refuses it. A walk is told without its plan where that need not be built.
+/// The answer that shows a plan, or tells what refuses it. A walk is told without its plan where that need not be
+/// built.
 fn show_plan(
     crew: &impl LineCrew,
     alloc: Global,
@@ -295,8 +297,8 @@ fn show_plan(
 }
 
 /// The answer to the text of a topology, and to that of an order where the words have one: what is shown of the plan.
-/// Refused are, in this order, the topology's first fault, the order's or a root that is no node, an end, a circle's node or
-/// a second plan's root that is none, and what refuses the plan. The plan's rows are made by a crew.
+/// Refused are, in this order, the topology's first fault, the order's or a root that is no node, an end, a circle's
+/// node or a second plan's root that is none, and what refuses the plan. The plan's rows are made by a crew.
 pub fn look_at(
     crew: &impl LineCrew,
     alloc: Global,

@@ -99,8 +99,8 @@ fn run_texts(
     Ok((trace, refused))
 }
 
-/// The answer of `sim` to the texts of a topology and of a script: the trace of the packets, and a line for each step that
-/// was refused. Plans are made by a crew.
+/// The answer of `sim` to the texts of a topology and of a script: the trace of the packets, and a line for each step
+/// that was refused. Plans are made by a crew.
 pub fn simulate(
     crew: &impl Crew,
     alloc: Global,

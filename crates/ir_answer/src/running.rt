@@ -134,12 +134,13 @@ fn follow_as<C: LineCrew, R: Reader, W: Writer, F: Writer>(
     }
 }
 
-/// Reads a topology, and an order where the words have one, and writes the plan that the words ask for: a line for each node
-/// with its label and its row, or with its name alone in the order of the labels; as JSON where the words ask for that.
+/// Reads a topology, and an order where the words have one, and writes the plan that the words ask for: a line for
+/// each node with its label and its row, or with its name alone in the order of the labels; as JSON where the words
+/// ask for that.
 ///
-/// Conditions: an order is of no plan of kind Tree; there is a reader for the topology, or for all of standard input where
-/// `words.is_one_input()`, and one for the order if there is one. The answer is the exit status: 0 done; 1 an input is
-/// refused, or a reader or writer failed; 3 want of memory.
+/// Conditions: an order is of no plan of kind Tree; there is a reader for the topology, or for all of standard input
+/// where `words.is_one_input()`, and one for the order if there is one. The answer is the exit status: 0 done; 1 an
+/// input is refused, or a reader or writer failed; 3 want of memory.
 pub fn run_plan<R: Reader, W: Writer, F: Writer>(
     alloc: Global,
     words: &Words,
@@ -152,10 +153,8 @@ pub fn run_plan<R: Reader, W: Writer, F: Writer>(
     ensures { RunEnds NoThreads Sub.Plan words.now result
         (io_of R.Reader W.Writer F.Writer inputs.old inputs.new output.old output.new faults.old faults.new) }
 {
-    let request = Request {
-        sub: Sub::Plan,
-        words,
-    };
+    let sub = Sub::Plan;
+    let request = Request { sub, words };
     status_of(follow_as(&Alone, alloc, &request, inputs, output, faults).ending)
 }
 
@@ -163,9 +162,9 @@ pub fn run_plan<R: Reader, W: Writer, F: Writer>(
 /// packets: of version 1 where no packet may be restamped, else of version 2. Each step that is refused is a line
 /// `refused LINE NAME` of the faults. The trace is JSON where the words ask for that.
 ///
-/// Condition: there is one reader where `words.is_one_input()`, whose text the first line that is exactly `%%` cuts into the
-/// two, and else one of the topology and one of the script. The answer is the exit status: 0 done; 1 an input is refused,
-/// or a reader or writer failed; 3 want of memory, also where a step wanted it.
+/// Condition: there is one reader where `words.is_one_input()`, whose text the first line that is exactly `%%` cuts
+/// into the two, and else one of the topology and one of the script. The answer is the exit status: 0 done; 1 an input
+/// is refused, or a reader or writer failed; 3 want of memory, also where a step wanted it.
 pub fn run_sim<R: Reader, W: Writer, F: Writer>(
     alloc: Global,
     words: &Words,
@@ -177,20 +176,18 @@ pub fn run_sim<R: Reader, W: Writer, F: Writer>(
     ensures { RunEnds NoThreads Sub.Sim words.now result
         (io_of R.Reader W.Writer F.Writer inputs.old inputs.new output.old output.new faults.old faults.new) }
 {
-    let request = Request {
-        sub: Sub::Sim,
-        words,
-    };
+    let sub = Sub::Sim;
+    let request = Request { sub, words };
     status_of(follow_as(&Alone, alloc, &request, inputs, output, faults).ending)
 }
 
-/// Reads a topology, a script and a trace, and writes `ok N` for a trace of N rows, or its first finding: `finding LINE
-/// KIND`, as JSON where the words ask for that. The epochs of the rows are those of the script's installs, where its changes
-/// of the board alone are played.
+/// Reads a topology, a script and a trace, and writes `ok N` for a trace of N rows, or its first finding: `finding
+/// LINE KIND`, as JSON where the words ask for that. The epochs of the rows are those of the script's installs, where
+/// its changes of the board alone are played.
 ///
-/// Condition: there is one reader where `words.is_one_input()`, whose text the first two lines that are exactly `%%` cut
-/// into the three, and else one of the topology, one of the script and one of the trace. The answer is the exit status:
-/// 0 done; 1 a finding, an input that is refused, or a reader or writer that failed; 3 want of memory.
+/// Condition: there is one reader where `words.is_one_input()`, whose text the first two lines that are exactly `%%`
+/// cut into the three, and else one of the topology, one of the script and one of the trace. The answer is the exit
+/// status: 0 done; 1 a finding, an input that is refused, or a reader or writer that failed; 3 want of memory.
 pub fn run_check<R: Reader, W: Writer, F: Writer>(
     alloc: Global,
     words: &Words,
@@ -202,24 +199,23 @@ pub fn run_check<R: Reader, W: Writer, F: Writer>(
     ensures { RunEnds NoThreads Sub.Check words.now result
         (io_of R.Reader W.Writer F.Writer inputs.old inputs.new output.old output.new faults.old faults.new) }
 {
-    let request = Request {
-        sub: Sub::Check,
-        words,
-    };
+    let sub = Sub::Check;
+    let request = Request { sub, words };
     status_of(follow_as(&Alone, alloc, &request, inputs, output, faults).ending)
 }
 
-/// Does what the words ask for over readers and writers, and answers what it came to, as values: how the run ended, what its
-/// lines of faults tell, and what a check found. A crew takes part in it; what is written is the same for any.
+/// Does what the words ask for over readers and writers, and answers what it came to, as values: how the run ended,
+/// what its lines of faults tell, and what a check found. A crew takes part in it; what is written is the same for
+/// any.
 ///
-/// `plan`, `sim` and `check` are `run_plan`, `run_sim` and `run_check`. The other subcommands of a plan read what `plan` does,
-/// and `compare` a topology alone; each writes the one text that it shows, or its JSON where the words ask for that. `live`
-/// wants threads of nodes: its inputs are read, and it is told as `no thread`.
+/// `plan`, `sim` and `check` are `run_plan`, `run_sim` and `run_check`. The other subcommands of a plan read what
+/// `plan` does, and `compare` a topology alone; each writes the one text that it shows, or its JSON where the words
+/// ask for that. `live` wants threads of nodes: its inputs are read, and it is told as `no thread`.
 ///
-/// Conditions: an order is of no plan of kind Tree; the inputs are a reader for each text, or for `words.is_one_input()` one
-/// of all texts, which the first lines that are exactly `%%` cut. `status_of` has the exit status of an ending: 0 where all
-/// is done; 1 for an input that is refused, a finding, or a reader or writer that failed; 3 for want of memory, also where a
-/// step wanted it, and for `live`.
+/// Conditions: an order is of no plan of kind Tree; the inputs are a reader for each text, or for
+/// `words.is_one_input()` one of all texts, which the first lines that are exactly `%%` cut. `status_of` has the exit
+/// status of an ending: 0 where all is done; 1 for an input that is refused, a finding, or a reader or writer that
+/// failed; 3 for want of memory, also where a step wanted it, and for `live`.
 pub fn follow_by<C: LineCrew, R: Reader, W: Writer, F: Writer>(
     crew: &C,
     alloc: Global,

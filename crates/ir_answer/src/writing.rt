@@ -114,8 +114,8 @@ fn write_reply<C: TextCrew, W: Writer, F: Writer>(
     }
 }
 
-/// Writes what the inputs come to, in a form, or the line that tells why that is nothing. A crew makes the lines of a plan's
-/// text.
+/// Writes what the inputs come to, in a form, or the line that tells why that is nothing. A crew makes the lines of a
+/// plan's text.
 pub fn write_given<C: TextCrew, W: Writer, F: Writer>(
     crew: &C,
     alloc: Global,

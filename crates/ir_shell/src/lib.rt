@@ -1,4 +1,5 @@
-//! The program's shell: what `route` does over readers and writers. What it answers without threads of nodes is `ir_answer`'s.
+//! The program's shell: what `route` does over readers and writers. What it answers without threads of nodes is
+//! `ir_answer`'s.
 #![tactic(auto)]
 
 mod live;

@@ -109,8 +109,9 @@ fn run_open<T: Threads + Moments<Parcel> + Starter + Sync>(
     run_live(rt, net, commands, &Open, &stop, rt)
 }
 
-/// The answer to a script and a net that was opened for it. Its parts were not handed out before; that they are not handed
-/// out is told as want of memory, and that the board has no place for a reader of each node as a refused opening.
+/// The answer to a script and a net that was opened for it. Its parts were not handed out before; that they are not
+/// handed out is told as want of memory, and that the board has no place for a reader of each node as a refused
+/// opening.
 fn answer_net<T: Threads + Moments<Parcel> + Starter + Sync>(
     rt: &T,
     alloc: Global,
@@ -144,8 +145,8 @@ fn answer_net<T: Threads + Moments<Parcel> + Starter + Sync>(
     }
 }
 
-/// The answer of `live` to the texts of a topology and of a script: the trace of the packets, and a line for each command
-/// that was refused.
+/// The answer of `live` to the texts of a topology and of a script: the trace of the packets, and a line for each
+/// command that was refused.
 pub fn run_commands<T: Threads + Moments<Parcel> + Starter + Sync>(
     rt: &T,
     alloc: Global,

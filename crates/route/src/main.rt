@@ -1,10 +1,11 @@
 //! `route`: interval routing over a network. `route sim` plays the lines of a script over a topology, and prints what
-//! became of its packets; `route live` does so while each node runs in a thread of its own; `route check` checks such a
-//! print; `route plan` prints the labels and rows of a topology's nodes, `route walk` a walk of that plan, `route stats`
-//! its figures, `route draw` a drawing of it, `route prefixes` its forwarding tables, and `route ranges` its ranges of
-//! labels. With no words it does as `route sim -`, with both texts from standard input, and where that is a terminal it
-//! prints its help. Where standard error is a terminal, sentences for people stand behind the lines of faults, and a plan
-//! that takes longer than a second says there how far it is. A program that is called `bentzolu` calls itself so.
+//! became of its packets; `route live` does so while each node runs in a thread of its own; `route check` checks such
+//! a print; `route plan` prints the labels and rows of a topology's nodes, `route walk` a walk of that plan, `route
+//! stats` its figures, `route draw` a drawing of it, `route prefixes` its forwarding tables, and `route ranges` its
+//! ranges of labels. With no words it does as `route sim -`, with both texts from standard input, and where that is a
+//! terminal it prints its help. Where standard error is a terminal, sentences for people stand behind the lines of
+//! faults, and a plan that takes longer than a second says there how far it is. A program that is called `bentzolu`
+//! calls itself so.
 #![tactic(auto)]
 
 ghost use Rattle.std.specs.Prelude.{◌≡◌, IfOk, length};
@@ -85,8 +86,8 @@ fn inputs_of(rt: &HostRuntime, words: &Words) -> Result<Vec<Input>, AllocError>
     Ok(inputs)
 }
 
-/// Sentences on a run that came to this; none where the words do not ask for them. Refused where there is no memory for all
-/// of it.
+/// Sentences on a run that came to this; none where the words do not ask for them. Refused where there is no memory
+/// for all of it.
 fn sentences<T: Threads + Sync>(
     alloc: Global,
     threads: &T,
@@ -110,8 +111,8 @@ fn explain(rt: &HostRuntime, name: &str, text: &str) {
     }
 }
 
-/// Ends the output of a run with a status, and answers whether it came to its place: a file takes its place where all of
-/// the output is written, and else stays as it is.
+/// Ends the output of a run with a status, and answers whether it came to its place: a file takes its place where all
+/// of the output is written, and else stays as it is.
 fn end_output(output: &mut Piped<'_, Output>, faults: &mut Piped<'_, Stderr>, status: u8) -> bool {
     let is_whole = is_whole(status, faults.is_used);
     let is_kept = is_whole && output.writer.keep().is_ok();

@@ -15,9 +15,9 @@ const PAUSE: u64 = 100;
 /// The fewest rows behind which a line says that walks are counted.
 const MANY: usize = 2_048;
 
-/// A line on standard error that says how many rows of a plan are made, where that is a terminal and the command has run
-/// for a second. It goes away with the plan's last row; where figures are wanted and rows are many, a line that says so
-/// stands from then on to the output. Threads that make rows write it by turns.
+/// A line on standard error that says how many rows of a plan are made, where that is a terminal and the command has
+/// run for a second. It goes away with the plan's last row; where figures are wanted and rows are many, a line that
+/// says so stands from then on to the output. Threads that make rows write it by turns.
 #[derive(Drop)]
 pub struct Progress<'a> {
     rt: &'a HostRuntime,

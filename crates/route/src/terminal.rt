@@ -7,7 +7,8 @@ pub fn tell(rt: &HostRuntime, text: &str) {
     let _told = rt.eprint(text);
 }
 
-/// Whether `--no-explain` stands among the words behind the program's name: before a word `--`, behind which all are files.
+/// Whether `--no-explain` stands among the words behind the program's name: before a word `--`, behind which all are
+/// files.
 fn are_sentences_forbidden(words: &[String]) -> bool
     ensures { result ≡ is_given (codes "--no-explain") words.now }
 {
