@@ -2,7 +2,7 @@
 ghost use Rattle.std.specs.Prelude.{◌≡◌, ◌≢◌, ◌<◌, ℕ, IfOk, IfErr, IfSome, IsSome, length, string_bytes};
 ghost use Rattle.ir_model.specs.{Graph.names, Topology.node_count};
 ghost use Rattle.ir_answer.specs.Asked.{look_sources};
-ghost use Rattle.ir_answer.specs.Looks.{from_name, to_name, AnswersShow, AreAmong, AreTexts, Says, AnswerShows, order_in, IsNode, IsLabelling, AreShown, IsDrawn, IsShow, RefusesLabels, RefusesEnds, RefusesFigures, RefusesDrawn, RefusesShow, ShowsPlan, LookAnswers, IsFiguresBeside};
+ghost use Rattle.ir_answer.specs.Looks.{from_name, to_name, circle_text, AnswersShow, AreAmong, AreTexts, Says, AnswerShows, order_in, IsNode, IsLabelling, AreShown, IsDrawn, IsShow, RefusesLabels, RefusesEnds, RefusesFigures, RefusesDrawn, RefusesShow, ShowsPlan, LookAnswers, IsFiguresBeside};
 ghost use Rattle.ir_answer.specs.Stops.{StopsAs, Gives};
 ghost use Rattle.ir_model.specs.OfGraph.{topology_of_graph};
 ghost use Rattle.ir_plan.specs.Building.{MayLabel, labelling_of};
@@ -75,6 +75,25 @@ fn beside_text(
     }
 }
 
+/// The circle of labels with the intervals of a node: as SVG, or for Graphviz.
+fn circle_text(
+    alloc: Global,
+    graph: &Graph,
+    plan: &Plan,
+    node: u16,
+    is_svg: bool,
+) -> Result<String, AllocError>
+    requires nodes { node_count plan.now.topology ≡ length graph.now }
+    requires node { node < length graph.now }
+    ensures { IfOk result (λ text. string_bytes text ≡ circle_text is_svg (names graph.now) plan.now node) }
+{
+    if is_svg {
+        circle_svg(alloc, graph, plan, node)
+    } else {
+        circle_dot(alloc, graph, plan, node)
+    }
+}
+
 /// What is shown of a plan other than its rows.
 fn text_of(
     crew: &impl LineCrew,
@@ -95,8 +114,7 @@ fn text_of(
         Show::Figures => figures_text(alloc, graph, plan),
         Show::Beside(kind, root) => beside_text(crew, alloc, graph, plan, (kind, root), most),
         Show::Drawing(ends) => draw_text(alloc, graph, plan, ends),
-        Show::Circle(node, true) => circle_svg(alloc, graph, plan, node),
-        Show::Circle(node, false) => circle_dot(alloc, graph, plan, node),
+        Show::Circle(node, is_svg) => circle_text(alloc, graph, plan, node, is_svg),
         Show::Tables(is_disjoint) => crew.prefixes(alloc, graph, plan, is_disjoint, most),
         Show::Ranges => ranges_text(alloc, graph, plan),
         Show::Order => order_text(alloc, graph, plan),

@@ -7,7 +7,7 @@ mod running;
 
 pub use ir_answer::{
     Format, Notice, NumberingChoice, RunOutcome, Source, Sub, Words, WordsError, read_words,
-    run_by, run_check, run_plan, run_sim, sources_of,
+    run_check, run_plan, run_sim, sources_of,
 };
 pub use ir_exports::LineCrew;
 pub use ir_plan::{Alone, Crew, Several};
