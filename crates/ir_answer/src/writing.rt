@@ -22,12 +22,8 @@ fn out_of_memory<F: Writer>(faults: &mut F) -> RunOutcome
     ensures told { Tells F.contents F.wrote F.settled faults.old faults.new (told_text result.told) }
     ensures found { result.found ≡ None }
 {
-    tell_fault(
-        faults,
-        Ending::NoMemory,
-        Notice::NoMemory,
-        "out of memory\n",
-    )
+    let line = "out of memory\n";
+    tell_fault(faults, Ending::NoMemory, Notice::NoMemory, line)
 }
 
 /// What a run came to whose output is whole.
@@ -58,12 +54,8 @@ fn ended<F: Writer>(
             told
         }
         Ok(false) => {
-            tell_fault(
-                faults,
-                Ending::Unwritable,
-                Notice::Unwritable,
-                "output unwritable\n",
-            )
+            let line = "output unwritable\n";
+            tell_fault(faults, Ending::Unwritable, Notice::Unwritable, line)
         }
         Err(_) => out_of_memory(faults),
     }

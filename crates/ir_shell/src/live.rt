@@ -83,13 +83,8 @@ fn live_texts(
     if wants_memory(refusals) {
         return Err(AllocError);
     }
-    let trace = run_text(
-        alloc,
-        graph,
-        topology,
-        restamps,
-        live.report.records.as_slice(),
-    )?;
+    let records = live.report.records.as_slice();
+    let trace = run_text(alloc, graph, topology, restamps, records)?;
     let refused = refused_steps(alloc, lines, refusals)?;
     Ok((trace, refused))
 }
