@@ -32,14 +32,9 @@ fn trace_of(
         (IsFound graph.now built.now trace.now) }
     ensures rows { IfOk result (λ read. AreRowsOver (node_count topology.now) read) }
 {
-    let read = match read_trace(alloc, trace, graph) {
-        Ok(read) => read,
-        Err(finding) => return Err(finding),
-    };
-    match check_trace_by(crew, alloc, topology, built, &read) {
-        Ok(()) => Ok(read),
-        Err(finding) => Err(finding),
-    }
+    let read = read_trace(alloc, trace, graph)?;
+    check_trace_by(crew, alloc, topology, built, &read)?;
+    Ok(read)
 }
 
 /// The first finding of a trace beside its script, where the words ask for it.
