@@ -27,8 +27,8 @@ FURTHER = [
     ("check_trace", "ir_trace", "that a trace is judged rightly"),
     ("run_live", "ir_control", "the same of running threads"),
     ("read_words", "ir_cli", "that words mean what was typed"),
-    ("run_by", "ir_answer", "that the output is what was asked for"),
-    ("run", "ir_shell", "the same with `live`"),
+    ("follow_by", "ir_answer", "that the output is what was asked for"),
+    ("follow", "ir_shell", "the same with `live`"),
 ]
 IN_FEW_WORDS = ("ir_cli", "ir_answer", "ir_shell")  # of their further definitions the names alone
 

@@ -17,9 +17,10 @@ use Rattle.ir_cli.specs.declared.reply.RunReply.{RunReply}
 use Rattle.ir_cli.specs.Words.{FitsItsKind}
 use Rattle.ir_answer.specs.Asked.{PlainBy, AnswersBy, FitsSub, NoThreads}
 use Rattle.ir_answer.specs.Formed.{asked_form, InForm}
-use Rattle.ir_answer.specs.Stops.{Gives, GivenAs}
-use Rattle.ir_answer.specs.declared.asking.Stop.{Stop}
-use Rattle.ir_answer.specs.declared.asking.Stop.TheVariants as stops
+use Rattle.ir_answer.specs.Runs.{Written, GivenAs}
+use Rattle.ir_answer.specs.Stops.{Gives}
+use Rattle.ir_answer.specs.declared.asking.AnswerStop.{AnswerStop}
+use Rattle.ir_answer.specs.declared.asking.AnswerStop.TheVariants as stops
 
 -- a source that was not read
 pub given_up : (answers : List (List ℕ) → Answer → Type 0) (ending : Ending) (read : List (List ℕ) → Type 0) (stops : Source → NoInput → Type 0) (out : Bool → List ℕ → Type 0) (unused : Type 0) (told : List ℕ → Type 0)
@@ -71,15 +72,15 @@ module _ (P : List (List ℕ) → Answer → Type 0) (texts : List (List ℕ)) (
   replied endings.NoThread NoThread holds given = (texts, refl, holds, given.0, given.1)
 
 -- what was given of an answer in the form that the words ask for is how a run ends
-module _ (P : List (List ℕ) → Answer → Type 0) (sub : Sub) (words : Words) (texts : List (List ℕ)) (out : Bool → List ℕ → Type 0) (unused : Type 0) (told : List ℕ → Type 0) where
-  pub ends_given : (given : Result RunReply Stop) (ending : Ending) → Gives (P texts) given → GivenAs (asked_form sub words) given ending out unused told
-      → EndsSo (InForm sub words P) texts out unused told ending
+module _ (P : List (List ℕ) → Answer → Type 0) (sub : Sub) (words : Words) (texts : List (List ℕ)) (to : Written) where
+  pub ends_given : (given : Result RunReply AnswerStop) (ending : Ending) → Gives (P texts) given → GivenAs (asked_form sub words) given ending to
+      → EndsSo (InForm sub words P) texts to.out to.unused to.told ending
   ends_given (Ok reply) ending holds given =
-      replied (InForm sub words P) texts out unused told ending (asked_form sub words (answer_of reply)) (answer_of reply, holds, refl) given
+      replied (InForm sub words P) texts to.out to.unused to.told ending (asked_form sub words (answer_of reply)) (answer_of reply, holds, refl) given
   ends_given (Err (stops.Refused notice)) ending holds given =
-      replied (InForm sub words P) texts out unused told ending (Refused (notice_line notice)) (Refused (notice_line notice), holds, refl) given
+      replied (InForm sub words P) texts to.out to.unused to.told ending (Refused (notice_line notice)) (Refused (notice_line notice), holds, refl) given
   ends_given (Err stops.NoMemory) ending holds (same, nothing, line) =
-      subst (EndsSo (InForm sub words P) texts out unused told) (sym same) (inl (texts, refl), nothing, line)
+      subst (EndsSo (InForm sub words P) texts to.out to.unused to.told) (sym same) (inl (texts, refl), nothing, line)
 
 -- a run over texts that were read, by what that says
 module _ (P : List (List ℕ) → Answer → Type 0) (texts : List (List ℕ)) (read : List (List ℕ) → Type 0) (was_read : read texts)

@@ -1,5 +1,5 @@
 -- What the texts of a topology and of a script, and the name of a root, come to before a run is opened over them.
-use Rattle.std.specs.Prelude.{◌≡◌, ℕ, Bool, List, Option, None, Some, Result, Ok, Err, MatchResult}
+use Rattle.std.specs.Prelude.{◌≡◌, ℕ, List, Option, None, Some, Result, Ok, Err, MatchResult}
 use Rattle.ir_model.specs.Graph.{Name, Adjacency, names}
 use Rattle.ir_model.specs.Topology.{Topology}
 use Rattle.ir_model.specs.OfGraph.{topology_of_graph}
@@ -7,31 +7,22 @@ use Rattle.ir_script.specs.declared.fault.ScriptFault.{ScriptFault}
 use Rattle.ir_script.specs.Script.{Listing, listing_from}
 use Rattle.ir_cli.specs.declared.words.Words.{Words}
 use Rattle.ir_cli.specs.declared.reply.RunReply.{RunReply}
-use Rattle.ir_cli.specs.declared.ending.Ending.{Ending}
-use Rattle.ir_cli.specs.declared.ending.Ending.TheVariants as endings
 use Rattle.ir_cli.specs.Answer.{Answer, Refused}
-use Rattle.ir_cli.specs.Lines.{script_line, out_of_memory_line}
+use Rattle.ir_cli.specs.Lines.{script_line}
 use Rattle.ir_cli.specs.Openings.{topology_fault, topology_graph, root_name, root_in, AnswersTopology, AnswersRoot}
 use Rattle.ir_cli.specs.Notices.{notice_line}
-use Rattle.ir_cli.specs.Replied.{RepliesAs}
 use Rattle.ir_cli.specs.Replies.{answer_of}
-use Rattle.ir_answer.specs.declared.asking.Stop.{Stop}
-use Rattle.ir_answer.specs.declared.asking.Stop.TheVariants as stops
+use Rattle.ir_answer.specs.declared.asking.AnswerStop.{AnswerStop}
+use Rattle.ir_answer.specs.declared.asking.AnswerStop.TheVariants as stops
 
 -- the line of a refusal, of which this holds; or want of memory
-abbrev pub StopsAs : Stop → (List ℕ → Type 0) → Type 0
+abbrev pub StopsAs : AnswerStop → (List ℕ → Type 0) → Type 0
 StopsAs (stops.Refused notice) refuses = refuses (notice_line notice)
 StopsAs stops.NoMemory refuses = Unit {0}
 
 -- an answer of these, a refusal among them, or want of memory
-abbrev pub Gives : (Answer → Type 0) → Result RunReply Stop → Type 0
+abbrev pub Gives : (Answer → Type 0) → Result RunReply AnswerStop → Type 0
 Gives answers result = MatchResult result (λ reply. answers (answer_of reply)) (λ stop. StopsAs stop (λ line. answers (Refused line)))
-
--- what the writers were given of an answer in a form or of a refusal, or of want of memory
-abbrev pub GivenAs : (Answer → Answer) → Result RunReply Stop → Ending → (out : Bool → List ℕ → Type 0) (unused : Type 0) (told : List ℕ → Type 0) → Type 0
-GivenAs form (Ok reply) ending out unused told = RepliesAs ending (form (answer_of reply)) out unused told
-GivenAs form (Err (stops.Refused notice)) ending out unused told = RepliesAs ending (Refused (notice_line notice)) out unused told
-GivenAs form (Err stops.NoMemory) ending out unused told = (ending ≡ endings.NoMemory) × unused × told out_of_memory_line
 
 module _ {A : Type 0} (says : List Name → Topology → List ℕ → Result (Option A) ScriptFault) where
   -- The answer to a graph and the lines of a script, by what a line says: the script's first fault, or else the refusal of a

@@ -7,7 +7,7 @@ ghost use Rattle.ir_cli.specs.Openings.{AnswersTopology};
 ghost use Rattle.ir_answer.specs.Checks.{IsCleanTrace, IsFound, AnswersRows, AnswersTraceAsked, AnswersChecked, run_with};
 ghost use Rattle.ir_answer.specs.Stops.{Gives};
 
-use crate::asking::{Asked, Stop, opening_stop, read_asked};
+use crate::asking::{AnswerStop, Asked, opening_stop, read_asked};
 use ir_cli::{Notice, RunReply, Words, opening_of};
 use ir_core::{Install, Step, installs_by};
 use ir_graph::Graph;
@@ -32,14 +32,9 @@ fn trace_of(
         (IsFound graph.now built.now trace.now) }
     ensures rows { IfOk result (λ read. AreRowsOver (node_count topology.now) read) }
 {
-    let read = match read_trace(alloc, trace, graph) {
-        Ok(read) => read,
-        Err(finding) => return Err(finding),
-    };
-    match check_trace_by(crew, alloc, topology, built, &read) {
-        Ok(()) => Ok(read),
-        Err(finding) => Err(finding),
-    }
+    let read = read_trace(alloc, trace, graph)?;
+    check_trace_by(crew, alloc, topology, built, &read)?;
+    Ok(read)
 }
 
 /// The first finding of a trace beside its script, where the words ask for it.
@@ -69,7 +64,7 @@ fn answer_clean(
     words: &Words,
     asked: &Asked<Step>,
     read: &Trace,
-) -> Result<RunReply, Stop>
+) -> Result<RunReply, AnswerStop>
     requires rows { AreRowsOver (node_count asked.now.topology) read.now }
     requires ids { HaveOwnIds read.now }
     ensures { Gives (AnswersRows words.now.whole (run_with words.now asked.now.topology asked.now.script.steps.items)
@@ -78,7 +73,7 @@ fn answer_clean(
     match beside_script(alloc, words, &asked.topology, asked.script.steps(), read) {
         Ok(()) => Ok(RunReply::Sound(read.rows())),
         Err(finding) => match finding.kind {
-            WholeKind::NoMemory => Err(Stop::NoMemory),
+            WholeKind::NoMemory => Err(AnswerStop::NoMemory),
             _ => Ok(RunReply::Found(Notice::Beside(finding))),
         },
     }
@@ -92,7 +87,7 @@ fn answer_trace(
     asked: &Asked<Step>,
     built: &[Install],
     trace: &[u8],
-) -> Result<RunReply, Stop>
+) -> Result<RunReply, AnswerStop>
     requires over { asked.now.topology ≡ topology_of_graph asked.now.graph }
     requires installs { AreInstalls asked.now.topology built.now }
     ensures { Gives (AnswersTraceAsked words.now.whole asked.now.graph trace.now built.now
@@ -101,15 +96,15 @@ fn answer_trace(
     match trace_of(crew, alloc, &asked.graph, &asked.topology, built, trace) {
         Ok(read) => answer_clean(alloc, words, asked, &read),
         Err(finding) => match finding.kind {
-            FindingKind::NoMemory => Err(Stop::NoMemory),
+            FindingKind::NoMemory => Err(AnswerStop::NoMemory),
             _ => Ok(RunReply::Found(Notice::Finding(finding))),
         },
     }
 }
 
-/// The answer of `check` to the texts of a topology, of a script and of a trace: `ok N` for a sound trace of N rows, or the
-/// first finding; where the words ask for it, the rows are judged beside the script too, behind that. Plans are made by a
-/// crew.
+/// The answer of `check` to the texts of a topology, of a script and of a trace: `ok N` for a sound trace of N rows,
+/// or the first finding; where the words ask for it, the rows are judged beside the script too, behind that. Plans are
+/// made by a crew.
 pub fn check(
     crew: &impl Crew,
     alloc: Global,
@@ -117,7 +112,7 @@ pub fn check(
     topology: &[u8],
     script: &[u8],
     trace: &[u8],
-) -> Result<RunReply, Stop>
+) -> Result<RunReply, AnswerStop>
     ensures { Gives (AnswersTopology words.now.format (lines topology.now)
         (AnswersChecked words.now (lines script.now) trace.now)) result }
 {

@@ -4,24 +4,13 @@ ghost use Rattle.ir_answer.specs.Compares.{compare_sources, CompareAnswers};
 ghost use Rattle.ir_answer.specs.Stops.{Gives};
 ghost use Rattle.ir_cli.specs.Reading.{texts_of};
 
-use crate::asking::{Stop, opening_stop, read_graph, read_node};
-use ir_cli::{RunReply, Source, Words};
+use crate::asking::{AnswerStop, opening_stop, read_graph, read_node};
+use ir_cli::{RunReply, Words};
 use ir_core::OpenError;
 use ir_figures::compare_text;
 use ir_plan::Crew;
 use ir_tables::Topology;
 use std::alloc::Global;
-
-/// Where the text of the topology is read.
-pub fn compare_sources(words: &Words) -> &'static [Source]
-    ensures { result.now ≡ compare_sources words.now }
-{
-    if words.is_one_input() {
-        &[Source::Input]
-    } else {
-        &[Source::Topology]
-    }
-}
 
 /// The one text, of a topology.
 fn one_text<'a>(texts: &'a [Vec<u8>]) -> &'a [u8]
@@ -31,14 +20,15 @@ fn one_text<'a>(texts: &'a [Vec<u8>]) -> &'a [u8]
     texts[0].as_slice()
 }
 
-/// The answer to the text of a topology: what compares its plans from the root that the words name. Refused are, in this
-/// order, the topology's first fault, a root that is no node, and what refuses the plans. The plans' rows are made by a crew.
+/// The answer to the text of a topology: what compares its plans from the root that the words name. Refused are, in
+/// this order, the topology's first fault, a root that is no node, and what refuses the plans. The plans' rows are
+/// made by a crew.
 pub fn compare(
     crew: &impl Crew,
     alloc: Global,
     words: &Words,
     texts: &[Vec<u8>],
-) -> Result<RunReply, Stop>
+) -> Result<RunReply, AnswerStop>
     requires { length texts.now ≡ length (compare_sources words.now) }
     ensures { Gives (CompareAnswers words.now (texts_of texts.now)) result }
 {

@@ -3,7 +3,7 @@ ghost use Rattle.std.specs.Prelude.{◌≡◌, IfOk, string_bytes};
 ghost use Rattle.ir_model.specs.Text.{lines};
 ghost use Rattle.ir_json.specs.JsonText.{json_text};
 ghost use Rattle.ir_cli.specs.{Notices.notice_line, Told.Sends};
-ghost use Rattle.ir_answer.specs.Formed.{trace_shape, shape_of, asked_shape, shaped, IsTextPut};
+ghost use Rattle.ir_answer.specs.Formed.{shape_of, asked_shape, shaped, IsTextPut};
 
 use ir_cli::{Notice, Sub, Words, notice_line};
 use ir_json::{Shape, json_of};
@@ -11,17 +11,6 @@ use ir_show::TextCrew;
 use ir_show::plan_text::PlanText;
 use ir_streams::{Writer, write_text};
 use std::alloc::{AllocError, Global};
-
-/// The shape of a trace, by its version.
-fn trace_shape(words: &Words) -> Shape
-    ensures { result ≡ trace_shape words.now }
-{
-    if words.restamps == 0 {
-        Shape::Trace
-    } else {
-        Shape::Restamps
-    }
-}
 
 /// The shape of what a subcommand prints; a drawing has none.
 fn shape_of(sub: Sub, words: &Words) -> Option<Shape>
@@ -36,19 +25,33 @@ fn shape_of(sub: Sub, words: &Words) -> Option<Shape>
         Sub::Draw => None,
         Sub::Prefixes => Some(Shape::Prefixes),
         Sub::Ranges => Some(Shape::Ranges),
-        Sub::Sim | Sub::Live => Some(trace_shape(words)),
+        Sub::Sim | Sub::Live if words.restamps == 0 => Some(Shape::Trace),
+        Sub::Sim | Sub::Live => Some(Shape::Restamps),
         Sub::Check => Some(Shape::Check),
     }
 }
 
-/// The shape as which it is printed as JSON, where the words ask for that.
-pub fn asked_shape(sub: Sub, words: &Words) -> Option<Shape>
-    ensures { result ≡ asked_shape sub words.now }
+/// In what form an answer is written.
+#[derive(Clone, Copy)]
+pub struct AnswerForm {
+    /// The shape as which it is printed as JSON; None where it is text.
+    pub shape: Option<Shape>,
+    /// In how many threads at most the lines of a plan are made; None for as many as suit the processors.
+    pub most: Option<usize>,
+}
+
+/// The form that the words ask for.
+pub fn form_of(sub: Sub, words: &Words) -> AnswerForm
+    ensures { result.shape ≡ asked_shape sub words.now }
 {
-    if words.json {
+    let shape = if words.json {
         shape_of(sub, words)
     } else {
         None
+    };
+    AnswerForm {
+        shape,
+        most: words.threads,
     }
 }
 
@@ -105,16 +108,15 @@ pub fn put_notice<W: Writer>(
 pub fn put_plan<C: TextCrew, W: Writer>(
     crew: &C,
     alloc: Global,
-    most: Option<usize>,
-    shape: Option<Shape>,
+    form: AnswerForm,
     text: PlanText,
     output: &mut W,
 ) -> Result<bool, AllocError>
-    ensures { IsTextPut (shaped shape text) result
+    ensures { IsTextPut (shaped form.shape text) result
         (Sends W.contents W.wrote W.settled output.old output.new) (output.new ≡ output.old) }
 {
-    match shape {
-        None => Ok(text.write_by(crew, alloc, most, output)),
+    match form.shape {
+        None => Ok(text.write_by(crew, alloc, form.most, output)),
         Some(shape) => {
             let json = plan_json(alloc, shape, text)?;
             Ok(write_text(output, json.as_bytes()))

@@ -2,7 +2,7 @@
 ghost use Rattle.std.specs.Prelude.{◌≡◌, ◌≢◌, ◌<◌, ℕ, IfOk, IfErr, IfSome, IsSome, length, string_bytes};
 ghost use Rattle.ir_model.specs.{Graph.names, Topology.node_count};
 ghost use Rattle.ir_answer.specs.Asked.{look_sources};
-ghost use Rattle.ir_answer.specs.Looks.{from_name, to_name, circle_text, AnswersShow, AreAmong, AreTexts, Says, AnswerShows, order_in, IsNode, IsLabelling, AreShown, IsDrawn, IsShow, RefusesLabels, RefusesEnds, RefusesFigures, RefusesDrawn, RefusesShow, ShowsPlan, LookAnswers, rows_or_order, IsFiguresBeside};
+ghost use Rattle.ir_answer.specs.Looks.{from_name, to_name, circle_text, AnswersShow, AreAmong, AreTexts, Says, AnswerShows, order_in, IsNode, IsLabelling, AreShown, IsDrawn, IsShow, RefusesLabels, RefusesEnds, RefusesFigures, RefusesDrawn, RefusesShow, ShowsPlan, LookAnswers, IsFiguresBeside};
 ghost use Rattle.ir_answer.specs.Stops.{StopsAs, Gives};
 ghost use Rattle.ir_model.specs.OfGraph.{topology_of_graph};
 ghost use Rattle.ir_plan.specs.Building.{MayLabel, labelling_of};
@@ -10,7 +10,7 @@ ghost use Rattle.ir_show.specs.Plans.{NeedsNoTour};
 ghost use Rattle.ir_answer.specs.Plans.{AnswersText};
 ghost use Rattle.ir_cli.specs.{Reading.texts_of, Replies.answer_of, Words.FitsItsKind};
 
-use crate::asking::{Stop, opening_stop, read_graph, read_node};
+use crate::asking::{AnswerStop, opening_stop, read_graph, read_node};
 use ir_cli::{Notice, RunReply, Sub, Words, label_order};
 use ir_core::OpenError;
 use ir_exports::{LineCrew, circle_dot, circle_svg, order_text, ranges_text};
@@ -31,8 +31,8 @@ pub enum Show {
     /// The walk from a node to another.
     Between(u16, u16),
     Figures,
-    /// The figures, and the links that wait for each other where packets of a second plan are under way too, which is of
-    /// this kind and numbered depth first from this node.
+    /// The figures, and the links that wait for each other where packets of a second plan are under way too, which is
+    /// of this kind and numbered depth first from this node.
     Beside(Kind, u16),
     /// A drawing, with the walk between two nodes in bold if there are any.
     Drawing(Option<(u16, u16)>),
@@ -53,16 +53,16 @@ fn beside_text(
     alloc: Global,
     graph: &Graph,
     plan: &Plan,
-    kind: Kind,
-    root: u16,
+    second: (Kind, u16),
     most: Option<usize>,
 ) -> Result<String, AllocError>
     requires nodes { node_count plan.now.topology ≡ length graph.now }
-    requires root { root < length graph.now }
-    ensures { IfOk result (λ text. IsFiguresBeside kind root (names graph.now) plan.now (string_bytes text)) }
+    requires root { second.1 < length graph.now }
+    ensures { IfOk result (λ text. IsFiguresBeside second.0 second.1 (names graph.now) plan.now (string_bytes text)) }
 {
     plan.invariant();
     let topology = plan.topology().try_clone(alloc)?;
+    let (kind, root) = second;
     let labels = Labels::FromRoot(LabelOrder::DepthFirst, root);
     match Plan::build_by(crew, alloc, topology, kind, labels, most) {
         Ok(second) => Ok(figures_text_beside(alloc, graph, plan, &second)?),
@@ -112,7 +112,7 @@ fn text_of(
         Show::Rows => unreachable!(),
         Show::Between(from, to) => walk_text(alloc, graph, plan, from, to),
         Show::Figures => figures_text(alloc, graph, plan),
-        Show::Beside(kind, root) => beside_text(crew, alloc, graph, plan, kind, root, most),
+        Show::Beside(kind, root) => beside_text(crew, alloc, graph, plan, (kind, root), most),
         Show::Drawing(ends) => draw_text(alloc, graph, plan, ends),
         Show::Circle(node, is_svg) => circle_text(alloc, graph, plan, node, is_svg),
         Show::Tables(is_disjoint) => crew.prefixes(alloc, graph, plan, is_disjoint, most),
@@ -161,7 +161,7 @@ fn read_labels(
     words: &Words,
     graph: &Graph,
     order: Option<&[u8]>,
-) -> Result<Labels, Stop>
+) -> Result<Labels, AnswerStop>
     requires { IsSome order → words.now.kind ≢ Kind.Tree }
     ensures labels { IfOk result (λ labels. IsLabelling words.now (order_in order.entry) graph.now
         (labelling_of labels)) }
@@ -176,14 +176,14 @@ fn read_labels(
     match read_order(alloc, graph, text) {
         Ok(order) => Ok(Labels::Listed(order)),
         Err(fault) => match fault.kind {
-            OrderFaultKind::NoMemory => Err(Stop::NoMemory),
-            _ => Err(Stop::Refused(Notice::Numbering(fault))),
+            OrderFaultKind::NoMemory => Err(AnswerStop::NoMemory),
+            _ => Err(AnswerStop::Refused(Notice::Numbering(fault))),
         },
     }
 }
 
 /// The numbers of the ends that the words name.
-fn read_ends(words: &Words, graph: &Graph) -> Result<(u16, u16), Stop>
+fn read_ends(words: &Words, graph: &Graph) -> Result<(u16, u16), AnswerStop>
     ensures from { IfOk result (λ ends. IsNode graph.now (from_name words.now) ends.0) }
     ensures to { IfOk result (λ ends. IsNode graph.now (to_name words.now) ends.1) }
     ensures among { IfOk result (λ ends. 0 < length graph.now
@@ -195,20 +195,8 @@ fn read_ends(words: &Words, graph: &Graph) -> Result<(u16, u16), Stop>
     Ok((from, to))
 }
 
-/// What `plan` shows: the rows, or the order of the labels.
-fn rows_or_order(words: &Words) -> Show
-    ensures shown { result ≡ rows_or_order words.now }
-    ensures among { (n : ℕ) → AreAmong n result }
-{
-    if words.order_alone {
-        Show::Order
-    } else {
-        Show::Rows
-    }
-}
-
 /// The figures, beside those of a second plan if the words ask for one.
-fn read_figures(words: &Words, graph: &Graph) -> Result<Show, Stop>
+fn read_figures(words: &Words, graph: &Graph) -> Result<Show, AnswerStop>
     ensures show { IfOk result (λ show. AreShown words.now.second graph.now show) }
     ensures among { IfOk result (λ show. 0 < length graph.now → AreAmong (length graph.now) show) }
     ensures stop { IfErr result (λ s. StopsAs s (RefusesFigures words.now.second graph.now)) }
@@ -220,8 +208,9 @@ fn read_figures(words: &Words, graph: &Graph) -> Result<Show, Stop>
     Ok(Show::Beside(second.kind, root))
 }
 
-/// What is to be drawn: the circle of the node that the words name, or else the network, with ends only where both are named.
-fn read_drawing(words: &Words, graph: &Graph) -> Result<Show, Stop>
+/// What is to be drawn: the circle of the node that the words name, or else the network, with ends only where both are
+/// named.
+fn read_drawing(words: &Words, graph: &Graph) -> Result<Show, AnswerStop>
     ensures show { IfOk result (λ show. IsDrawn words.now graph.now show) }
     ensures among { IfOk result (λ show. 0 < length graph.now → AreAmong (length graph.now) show) }
     ensures stop { IfErr result (λ s. StopsAs s (RefusesDrawn words.now graph.now)) }
@@ -238,7 +227,7 @@ fn read_drawing(words: &Words, graph: &Graph) -> Result<Show, Stop>
 }
 
 /// What of a plan is to be shown, with the nodes that the words name.
-fn read_show(sub: Sub, words: &Words, graph: &Graph) -> Result<Show, Stop>
+fn read_show(sub: Sub, words: &Words, graph: &Graph) -> Result<Show, AnswerStop>
     requires { ShowsPlan sub }
     ensures show { IfOk result (λ show. IsShow sub words.now graph.now show) }
     ensures among { IfOk result (λ show. 0 < length graph.now → AreAmong (length graph.now) show) }
@@ -246,7 +235,8 @@ fn read_show(sub: Sub, words: &Words, graph: &Graph) -> Result<Show, Stop>
 {
     match sub {
         Sub::Compare | Sub::Sim | Sub::Live | Sub::Check => unreachable!(),
-        Sub::Plan => Ok(rows_or_order(words)),
+        Sub::Plan if words.order_alone => Ok(Show::Order),
+        Sub::Plan => Ok(Show::Rows),
         Sub::Stats => read_figures(words, graph),
         Sub::Prefixes => Ok(Show::Tables(words.disjoint)),
         Sub::Ranges => Ok(Show::Ranges),
@@ -258,8 +248,8 @@ fn read_show(sub: Sub, words: &Words, graph: &Graph) -> Result<Show, Stop>
     }
 }
 
-/// The ends of a walk that is shown, where its plan need not be built: that is of a kind other than Tree, and no tour is
-/// sought for its labels.
+/// The ends of a walk that is shown, where its plan need not be built: that is of a kind other than Tree, and no tour
+/// is sought for its labels.
 fn ends_alone(show: Show, kind: Kind, nodes: usize, labels: &Labels) -> Option<(u16, u16)>
     ensures shown { IfSome result (λ ends. show ≡ Show.Between ends.0 ends.1) }
     ensures kind { IsSome result → kind ≢ Kind.Tree }
@@ -282,7 +272,7 @@ fn show_walk(
     kind: Kind,
     labels: Labels,
     ends: (u16, u16),
-) -> Result<RunReply, Stop>
+) -> Result<RunReply, AnswerStop>
     requires kind { kind ≢ Kind.Tree }
     requires topology { topology.now ≡ topology_of_graph graph.now }
     requires ends { 0 < length graph.now → (ends.0 < length graph.now) × (ends.1 < length graph.now) }
@@ -297,7 +287,8 @@ fn show_walk(
     }
 }
 
-/// The answer that shows a plan, or tells what refuses it. A walk is told without its plan where that need not be built.
+/// The answer that shows a plan, or tells what refuses it. A walk is told without its plan where that need not be
+/// built.
 fn show_plan(
     crew: &impl LineCrew,
     alloc: Global,
@@ -305,7 +296,7 @@ fn show_plan(
     graph: Graph,
     labels: Labels,
     show: Show,
-) -> Result<RunReply, Stop>
+) -> Result<RunReply, AnswerStop>
     requires labels { MayLabel (topology_of_graph graph) words.now.kind (labelling_of labels) }
     requires ends { 0 < length graph → AreAmong (length graph) show }
     ensures { Gives (AnswersShow words.now graph (labelling_of labels) show) result }
@@ -324,15 +315,15 @@ fn show_plan(
 }
 
 /// The answer to the text of a topology, and to that of an order where the words have one: what is shown of the plan.
-/// Refused are, in this order, the topology's first fault, the order's or a root that is no node, an end, a circle's node or
-/// a second plan's root that is none, and what refuses the plan. The plan's rows are made by a crew.
+/// Refused are, in this order, the topology's first fault, the order's or a root that is no node, an end, a circle's
+/// node or a second plan's root that is none, and what refuses the plan. The plan's rows are made by a crew.
 pub fn look_at(
     crew: &impl LineCrew,
     alloc: Global,
     sub: Sub,
     words: &Words,
     texts: &[Vec<u8>],
-) -> Result<RunReply, Stop>
+) -> Result<RunReply, AnswerStop>
     requires kind { FitsItsKind words.now }
     requires texts { length texts.now ≡ length (look_sources words.now) }
     requires shows { ShowsPlan sub }

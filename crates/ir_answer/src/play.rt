@@ -5,7 +5,7 @@ ghost use Rattle.ir_trace.specs.Written.{HaveSegments};
 ghost use Rattle.ir_cli.specs.{Lines.{reply_line, steps_text}, Openings.{AnswersTopology}};
 ghost use Rattle.ir_answer.specs.{Plays.{wants_memory, refused_text, run_text, AnswersScript}, Stops.Gives};
 
-use crate::asking::{Stop, opening_stop, read_asked};
+use crate::asking::{AnswerStop, opening_stop, read_asked};
 use ir_cli::{RunReply, Words, opening_of};
 use ir_core::{Played, Record, Refused, Reply, Step, play_by};
 use ir_graph::Graph;
@@ -99,15 +99,15 @@ fn run_texts(
     Ok((trace, refused))
 }
 
-/// The answer of `sim` to the texts of a topology and of a script: the trace of the packets, and a line for each step that
-/// was refused. Plans are made by a crew.
+/// The answer of `sim` to the texts of a topology and of a script: the trace of the packets, and a line for each step
+/// that was refused. Plans are made by a crew.
 pub fn simulate(
     crew: &impl Crew,
     alloc: Global,
     words: &Words,
     topology: &[u8],
     script: &[u8],
-) -> Result<RunReply, Stop>
+) -> Result<RunReply, AnswerStop>
     ensures { Gives (AnswersTopology words.now.format (lines topology.now)
         (AnswersScript words.now (lines script.now))) result }
 {

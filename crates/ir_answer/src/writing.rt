@@ -1,18 +1,16 @@
 //! Writing what the inputs come to: values become texts here.
-ghost use Rattle.std.specs.Prelude.{◌≡◌, None};
+ghost use Rattle.std.specs.Prelude.{◌≡◌, None, Ok};
 ghost use Rattle.ir_cli.specs.declared.ending.Ending.TheVariants as endings;
 ghost use Rattle.ir_cli.specs.declared.outcome.Told.TheVariants.{Steps};
-ghost use Rattle.ir_cli.specs.{Lines.out_of_memory_line, Notices.{told_text, ShowsFound}, Replied.RepliesAs, Replies.answer_of, Told.{Sends, Tells}};
-ghost use Rattle.ir_answer.specs.{Formed.{in_shape, EndsPut}, Stops.GivenAs};
+ghost use Rattle.ir_cli.specs.{Lines.out_of_memory_line, Notices.{told_text, ShowsFound}, Told.{Sends, Tells}};
+ghost use Rattle.ir_answer.specs.{Formed.{in_shape, EndsPut}, Runs.{written_of, GivenAs}};
 
-use crate::asking::Stop;
-use crate::forming::{put_notice, put_plan, put_text};
+use crate::asking::AnswerStop;
+use crate::forming::{AnswerForm, put_notice, put_plan, put_text};
 use ir_cli::{
     Ending, Notice, RunOutcome, RunReply, Told, notice_line, steps_text, tell, tell_fault,
 };
 use ir_core::Refused;
-use ir_json::Shape;
-use ir_plan::Alone;
 use ir_show::TextCrew;
 use ir_streams::Writer;
 use std::alloc::{AllocError, Global};
@@ -24,12 +22,8 @@ fn out_of_memory<F: Writer>(faults: &mut F) -> RunOutcome
     ensures told { Tells F.contents F.wrote F.settled faults.old faults.new (told_text result.told) }
     ensures found { result.found ≡ None }
 {
-    tell_fault(
-        faults,
-        Ending::NoMemory,
-        Notice::NoMemory,
-        "out of memory\n",
-    )
+    let line = "out of memory\n";
+    tell_fault(faults, Ending::NoMemory, Notice::NoMemory, line)
 }
 
 /// What a run came to whose output is whole.
@@ -60,12 +54,8 @@ fn ended<F: Writer>(
             told
         }
         Ok(false) => {
-            tell_fault(
-                faults,
-                Ending::Unwritable,
-                Notice::Unwritable,
-                "output unwritable\n",
-            )
+            let line = "output unwritable\n";
+            tell_fault(faults, Ending::Unwritable, Notice::Unwritable, line)
         }
         Err(_) => out_of_memory(faults),
     }
@@ -75,17 +65,15 @@ fn ended<F: Writer>(
 fn write_reply<C: TextCrew, W: Writer, F: Writer>(
     crew: &C,
     alloc: Global,
-    most: Option<usize>,
-    shape: Option<Shape>,
+    form: AnswerForm,
     reply: RunReply,
     output: &mut W,
     faults: &mut F,
 ) -> RunOutcome
-    ensures ends { RepliesAs result.ending (in_shape shape (answer_of reply))
-        (Sends W.contents W.wrote W.settled output.old output.new) (output.new ≡ output.old)
-        (Tells F.contents F.wrote F.settled faults.old faults.new) }
+    ensures ends { GivenAs (in_shape form.shape) (Ok reply) result.ending
+        (written_of W.Writer F.Writer output.old output.new faults.old faults.new) }
     ensures told { Tells F.contents F.wrote F.settled faults.old faults.new (told_text result.told) }
-    ensures found { ShowsFound (in_shape shape) result.found result.ending
+    ensures found { ShowsFound (in_shape form.shape) result.found result.ending
         (Sends W.contents W.wrote W.settled output.old output.new) }
 {
     match reply {
@@ -93,22 +81,22 @@ fn write_reply<C: TextCrew, W: Writer, F: Writer>(
             let Ok(lines) = steps_text(alloc, steps.as_slice()) else {
                 return out_of_memory(faults);
             };
-            let put = put_text(alloc, shape, text, output);
+            let put = put_text(alloc, form.shape, text, output);
             let told = whole(Ending::Done, steps, None);
             ended(put, lines.as_bytes(), told, faults)
         }
         RunReply::Plan(text) => {
-            let put = put_plan(crew, alloc, most, shape, text, output);
+            let put = put_plan(crew, alloc, form, text, output);
             let told = whole(Ending::Done, Vec::new(alloc), None);
             ended(put, b"", told, faults)
         }
         RunReply::Sound(rows) => {
-            let put = put_notice(alloc, shape, Notice::Sound(rows), output);
+            let put = put_notice(alloc, form.shape, Notice::Sound(rows), output);
             let told = whole(Ending::Done, Vec::new(alloc), Some(Notice::Sound(rows)));
             ended(put, b"", told, faults)
         }
         RunReply::Found(notice) => {
-            let put = put_notice(alloc, shape, notice, output);
+            let put = put_notice(alloc, form.shape, notice, output);
             let told = whole(Ending::Found, Vec::new(alloc), Some(notice));
             ended(put, b"", told, faults)
         }
@@ -118,48 +106,28 @@ fn write_reply<C: TextCrew, W: Writer, F: Writer>(
     }
 }
 
-/// Does what `write_given` does; a crew makes the lines of a plan's text, in at most `most` threads, or in as many as suit
-/// the processors where it is None.
-pub fn write_given_by<C: TextCrew, W: Writer, F: Writer>(
+/// Writes what the inputs come to, in a form, or the line that tells why that is nothing. A crew makes the lines of a
+/// plan's text.
+pub fn write_given<C: TextCrew, W: Writer, F: Writer>(
     crew: &C,
     alloc: Global,
-    most: Option<usize>,
-    shape: Option<Shape>,
-    given: Result<RunReply, Stop>,
+    form: AnswerForm,
+    given: Result<RunReply, AnswerStop>,
     output: &mut W,
     faults: &mut F,
 ) -> RunOutcome
-    ensures ends { GivenAs (in_shape shape) given result.ending
-        (Sends W.contents W.wrote W.settled output.old output.new) (output.new ≡ output.old)
-        (Tells F.contents F.wrote F.settled faults.old faults.new) }
+    ensures ends { GivenAs (in_shape form.shape) given result.ending
+        (written_of W.Writer F.Writer output.old output.new faults.old faults.new) }
     ensures told { Tells F.contents F.wrote F.settled faults.old faults.new (told_text result.told) }
-    ensures found { ShowsFound (in_shape shape) result.found result.ending
+    ensures found { ShowsFound (in_shape form.shape) result.found result.ending
         (Sends W.contents W.wrote W.settled output.old output.new) }
 {
     match given {
-        Ok(reply) => write_reply(crew, alloc, most, shape, reply, output, faults),
-        Err(Stop::Refused(notice)) => match notice_line(alloc, notice) {
+        Ok(reply) => write_reply(crew, alloc, form, reply, output, faults),
+        Err(AnswerStop::Refused(notice)) => match notice_line(alloc, notice) {
             Ok(line) => tell_fault(faults, Ending::Refused, notice, line.as_str()),
             Err(_) => out_of_memory(faults),
         },
-        Err(Stop::NoMemory) => out_of_memory(faults),
+        Err(AnswerStop::NoMemory) => out_of_memory(faults),
     }
-}
-
-/// Writes what the inputs come to, as text or as JSON of a shape, or the line that tells why that is nothing.
-pub fn write_given<W: Writer, F: Writer>(
-    alloc: Global,
-    shape: Option<Shape>,
-    given: Result<RunReply, Stop>,
-    output: &mut W,
-    faults: &mut F,
-) -> RunOutcome
-    ensures ends { GivenAs (in_shape shape) given result.ending
-        (Sends W.contents W.wrote W.settled output.old output.new) (output.new ≡ output.old)
-        (Tells F.contents F.wrote F.settled faults.old faults.new) }
-    ensures told { Tells F.contents F.wrote F.settled faults.old faults.new (told_text result.told) }
-    ensures found { ShowsFound (in_shape shape) result.found result.ending
-        (Sends W.contents W.wrote W.settled output.old output.new) }
-{
-    write_given_by(&Alone, alloc, None, shape, given, output, faults)
 }

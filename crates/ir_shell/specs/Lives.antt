@@ -1,5 +1,6 @@
 -- What a graph, a root and a script come to as a live run.
 use Rattle.std.specs.Prelude.{◌≡◌, ◌≢◌, ◌+◌, ◌<◌, ◌^◌, ◌⊎◌, ℕ, Bool, true, false, List, None, flat_map, slice_index_or}
+use Rattle.std.specs.Borrow.{Bor}
 use Rattle.std.specs.List.{list_any}
 use Rattle.ir_model.specs.Graph.{Adjacency, names}
 use Rattle.ir_model.specs.OfGraph.{topology_of_graph}
@@ -10,12 +11,11 @@ use Rattle.ir_core.specs.declared.event.OpenError.{OpenError}
 use Rattle.ir_core.specs.declared.event.OpenError.TheVariants as openings
 use Rattle.ir_core.specs.Opened.{open_refused}
 use Rattle.ir_core.specs.declared.command.Command.{Command}
-use Rattle.ir_control.specs.declared.injector.Injector.{Injector}
 use Rattle.ir_control.specs.declared.net.Net.{Net}
+use Rattle.ir_control.specs.declared.starter.Starter as Starter
+use Rattle.ir_links.specs.declared.moments.Moments as Moments
 use Rattle.ir_control.specs.Nets.{IsNetFor}
 use Rattle.ir_control.specs.Opened.{IsNetRefusal}
-use Rattle.ir_links.specs.Ends.{Word}
-use Rattle.ir_worker.specs.declared.node.Node.{Node}
 use Rattle.ir_worker.specs.Seen.{Parcel}
 use Rattle.ir_control.specs.declared.live.Live.{Live}
 use Rattle.ir_control.specs.Lives.{IsLive}
@@ -55,9 +55,9 @@ abbrev pub RefusesNet : Adjacency → Words → ℕ → OpenError → Type 0
 RefusesNet g words root e =
     IsNetRefusal (opening_by words (topology_of_graph g) root) e ⊎ ((e ≡ openings.TooManyReaders) × (net : Net) × IsOpenedNet g words root net)
 
--- In the words for a refused push and a refused pop, for a thread that was not started, for a node that was shown as it came back and for an injector
--- that was shown behind the commands.
-module _ (B : Type 0) (was_full was_empty : Word Parcel) (unstarted : ℕ → Type 0) (came_back : Node → Type 0) (was_closed : Injector → Type 0) where
+-- In the words of a runtime: for a refused push and a refused pop, for a thread that was not started, for a node that was
+-- shown as it came back, and for an injector that was shown behind the commands.
+module _ {T Place : Type 0} (moments : Moments.Ghosts T Parcel Place) (starter : Starter.Ghosts T) (rt : T) where
   -- The commands of a script are carried out over such a net while its nodes turn on threads of their own, and none of them
   -- wants memory. The text is the trace of the records that are reported, each of which is a
   -- sound record by the plans of its epochs: epoch 1 has the plan that the words ask for, and each other epoch the one that
@@ -66,7 +66,7 @@ module _ (B : Type 0) (was_full was_empty : Word Parcel) (unstarted : ℕ → Ty
     pub net : Net
     pub live : Live
     pub opened : IsOpenedNet g words root net
-    pub ran : IsLive B was_full was_empty ends_somewhere came_back was_closed net script.steps live
+    pub ran : IsLive (Bor T) moments.was_full moments.was_empty ends_somewhere (starter.came_back rt) (starter.was_closed rt) net script.steps live
     pub in_memory : list_any is_for_memory live.refusals.items ≡ false
     pub trace : text ≡ run_text words.restamps (names g) (topology_of_graph g) live.report.records.items
     pub told : refused ≡ refusals_text script.lines live.refusals.items
@@ -79,7 +79,7 @@ module _ (B : Type 0) (was_full was_empty : Word Parcel) (unstarted : ℕ → Ty
   AnswersLive g words script root (Refused line) =
       (e : OpenError) × (e ≢ openings.NoMemory) × RefusesNet g words root e × (line ≡ opening_line e)
   AnswersLive g words script root NoThread =
-      (net : Net) × IsOpenedNet g words root net × ((u : ℕ) × (u < node_count net.topology) × unstarted u)
+      (net : Net) × IsOpenedNet g words root net × ((u : ℕ) × (u < node_count net.topology) × starter.unstarted rt u)
 
   -- the answer to a graph and the lines of a script: the script's first fault comes before the refusal of the opening
   abbrev pub AnswersLiveScript : Words → List (List ℕ) → Adjacency → Answer → Type 0

@@ -1,4 +1,5 @@
-//! The program's shell: what `route` does over readers and writers. What it answers without threads of nodes is `ir_answer`'s.
+//! The program's shell: what `route` does over readers and writers. What it answers without threads of nodes is
+//! `ir_answer`'s.
 #![tactic(auto)]
 
 mod live;
@@ -6,9 +7,9 @@ mod running;
 
 pub use ir_answer::{
     Format, Notice, NumberingChoice, RunOutcome, Source, Sub, Words, WordsError, read_words,
-    run_by, run_check, run_plan, run_sim, sources_of,
+    run_check, run_plan, run_sim, sources_of,
 };
 pub use ir_exports::LineCrew;
 pub use ir_plan::{Alone, Crew, Several};
 pub use ir_script::{Command, Script, ScriptError, ScriptFault, parse_live, parse_script};
-pub use running::{follow, run, run_live_text};
+pub use running::{Team, follow, run_live_text};

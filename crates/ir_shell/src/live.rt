@@ -7,7 +7,7 @@ ghost use Rattle.ir_control.specs.Lives.{IsLive, IsRefusal};
 ghost use Rattle.ir_shell.specs.Lives.{is_for_memory, refusals_text, IsOpenedNet, AnswersLive, AnswersLiveScript, ends_somewhere};
 ghost use Rattle.ir_answer.specs.{Plays.{listing_in, run_text}, Stops.{StopsAs, Gives}};
 
-use ir_answer::{Asked, Stop, opening_stop, read_asked, run_text};
+use ir_answer::{AnswerStop, Asked, opening_stop, read_asked, run_text};
 use ir_cli::{RunReply, Words, opening_of};
 use ir_control::{Live, LiveError, Net, Starter, run_live};
 use ir_core::{OpenError, Refused};
@@ -83,13 +83,8 @@ fn live_texts(
     if wants_memory(refusals) {
         return Err(AllocError);
     }
-    let trace = run_text(
-        alloc,
-        graph,
-        topology,
-        restamps,
-        live.report.records.as_slice(),
-    )?;
+    let records = live.report.records.as_slice();
+    let trace = run_text(alloc, graph, topology, restamps, records)?;
     let refused = refused_steps(alloc, lines, refusals)?;
     Ok((trace, refused))
 }
@@ -109,19 +104,20 @@ fn run_open<T: Threads + Moments<Parcel> + Starter + Sync>(
     run_live(rt, net, commands, &Open, &stop, rt)
 }
 
-/// The answer to a script and a net that was opened for it. Its parts were not handed out before; that they are not handed
-/// out is told as want of memory, and that the board has no place for a reader of each node as a refused opening.
+/// The answer to a script and a net that was opened for it. Its parts were not handed out before; that they are not
+/// handed out is told as want of memory, and that the board has no place for a reader of each node as a refused
+/// opening.
 fn answer_net<T: Threads + Moments<Parcel> + Starter + Sync>(
     rt: &T,
     alloc: Global,
     words: &Words,
     asked: &Asked<Command>,
     net: &Net,
-) -> Result<RunReply, Stop>
+) -> Result<RunReply, AnswerStop>
     requires over { asked.now.topology ≡ topology_of_graph asked.now.graph }
     requires opened { IsOpenedNet asked.now.graph words.now asked.now.root net.now }
-    ensures { Gives (AnswersLive (Bor T) T.was_full T.was_empty (T.unstarted rt.now) (T.came_back rt.now)
-        (T.was_closed rt.now) asked.now.graph words.now (listing_in asked.now.script) asked.now.root) result }
+    ensures { Gives (AnswersLive T.Moments T.Starter rt.now asked.now.graph words.now (listing_in asked.now.script)
+        asked.now.root) result }
 {
     asked.topology.invariant();
     match run_open(rt, net, asked.script.steps()) {
@@ -138,22 +134,23 @@ fn answer_net<T: Threads + Moments<Parcel> + Starter + Sync>(
         }
         Err(LiveError::NoThread) => Ok(RunReply::NoThread),
         Err(LiveError::TooManyReaders) => Err(opening_stop(OpenError::TooManyReaders)),
-        Err(LiveError::Spent | LiveError::NoMemory | LiveError::Unpublished) => Err(Stop::NoMemory),
+        Err(LiveError::Spent | LiveError::NoMemory | LiveError::Unpublished) => Err(
+            AnswerStop::NoMemory,
+        ),
     }
 }
 
-/// The answer of `live` to the texts of a topology and of a script: the trace of the packets, and a line for each command
-/// that was refused.
+/// The answer of `live` to the texts of a topology and of a script: the trace of the packets, and a line for each
+/// command that was refused.
 pub fn run_commands<T: Threads + Moments<Parcel> + Starter + Sync>(
     rt: &T,
     alloc: Global,
     words: &Words,
     topology: &[u8],
     script: &[u8],
-) -> Result<RunReply, Stop>
+) -> Result<RunReply, AnswerStop>
     ensures { Gives (AnswersTopology words.now.format (lines topology.now)
-        (AnswersLiveScript (Bor T) T.was_full T.was_empty (T.unstarted rt.now) (T.came_back rt.now)
-        (T.was_closed rt.now) words.now (lines script.now))) result }
+        (AnswersLiveScript T.Moments T.Starter rt.now words.now (lines script.now))) result }
 {
     let asked = read_asked::<Command>(alloc, words, topology, script)?;
     let opening = opening_of(alloc, words, &asked.topology, asked.root)?;

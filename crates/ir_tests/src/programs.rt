@@ -4,8 +4,8 @@ ghost use Rattle.std.specs.Prelude.{◌≡◌, length, IfOk};
 ghost use Rattle.ir_answer.specs.Asked.{sources_of};
 ghost use Rattle.ir_cli.specs.Words.{FitsItsKind};
 
-use ir_answer::{Alone, follow_by, run_by, run_check, run_plan, run_sim, sources_of};
-use ir_cli::{Called, Notice, Sub, Told, Words, WordsError, read_words_as};
+use ir_answer::{Alone, follow_by, run_check, run_plan, run_sim, sources_of};
+use ir_cli::{Called, Notice, Sub, Told, Words, WordsError, read_words_as, status_of};
 use ir_core::OpenError;
 use std::alloc::Global;
 
@@ -55,7 +55,7 @@ fn run_alone(
         Sub::Plan => run_plan(alloc, words, inputs, output, faults),
         Sub::Sim => run_sim(alloc, words, inputs, output, faults),
         Sub::Check => run_check(alloc, words, inputs, output, faults),
-        _ => run_by(&Alone, alloc, words, inputs, output, faults),
+        _ => status_of(follow_by(&Alone, alloc, words, inputs, output, faults).ending),
     }
 }
 

@@ -89,14 +89,8 @@ fn followed(
     let mut inputs = texts_of(alloc, words, topology, script, trace)?;
     let mut output = Vec::new(alloc);
     let mut faults = Vec::with_capacity(alloc, LINE)?;
-    let outcome = follow_by(
-        &Alone,
-        alloc,
-        words,
-        inputs.as_mut_slice(),
-        &mut output,
-        &mut faults,
-    );
+    let readers = inputs.as_mut_slice();
+    let outcome = follow_by(&Alone, alloc, words, readers, &mut output, &mut faults);
     if outcome.ending == Ending::Unwritable {
         return Err(AllocError);
     }
@@ -110,16 +104,14 @@ fn followed(
 }
 
 /// The answer to words that are refused: their text.
-fn refused(alloc: Global, text: &String) -> Result<Answered, AllocError>
-    ensures { IfOk result (λ it. (it.status ≡ 2) × (it.output.items ≡ [])) }
+fn refused(alloc: Global, text: String) -> Answered
+    ensures { (result.status ≡ 2) × (result.output.items ≡ []) }
 {
-    let mut faults = Vec::new(alloc);
-    faults.extend_from_slice(text.as_bytes())?;
-    Ok(Answered {
+    Answered {
         status: 2,
         output: Vec::new(alloc),
-        faults,
-    })
+        faults: text.into_bytes(),
+    }
 }
 
 /// Does what the words of a text ask for. It is refused for memory alone.
@@ -135,7 +127,7 @@ pub fn answer_to(
 {
     match asked(alloc, words) {
         Ok(words) => followed(alloc, &words, topology, script, trace),
-        Err(WordsError::Usage(text) | WordsError::Help(text)) => refused(alloc, &text),
+        Err(WordsError::Usage(text) | WordsError::Help(text)) => Ok(refused(alloc, text)),
         Err(WordsError::NoMemory) => Err(AllocError),
     }
 }

@@ -12,8 +12,8 @@ use ir_tables::Topology;
 use std::alloc::{AllocError, Global};
 use std::thread::Threads;
 
-/// Several threads, started by a runtime, of which each row that is made is told to the line of progress. Where memory for
-/// rows is refused, that line goes away before anything is said of it.
+/// Several threads, started by a runtime, of which each row that is made is told to the line of progress. Where memory
+/// for rows is refused, that line goes away before anything is said of it.
 #[derive(Clone, Copy)]
 pub struct Shown<'a, R> {
     pub rt: &'a R,

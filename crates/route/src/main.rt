@@ -1,10 +1,11 @@
 //! `route`: interval routing over a network. `route sim` plays the lines of a script over a topology, and prints what
-//! became of its packets; `route live` does so while each node runs in a thread of its own; `route check` checks such a
-//! print; `route plan` prints the labels and rows of a topology's nodes, `route walk` a walk of that plan, `route stats`
-//! its figures, `route draw` a drawing of it, `route prefixes` its forwarding tables, and `route ranges` its ranges of
-//! labels. With no words it does as `route sim -`, with both texts from standard input, and where that is a terminal it
-//! prints its help. Where standard error is a terminal, sentences for people stand behind the lines of faults, and a plan
-//! that takes longer than a second says there how far it is. A program that is called `bentzolu` calls itself so.
+//! became of its packets; `route live` does so while each node runs in a thread of its own; `route check` checks such
+//! a print; `route plan` prints the labels and rows of a topology's nodes, `route walk` a walk of that plan, `route
+//! stats` its figures, `route draw` a drawing of it, `route prefixes` its forwarding tables, and `route ranges` its
+//! ranges of labels. With no words it does as `route sim -`, with both texts from standard input, and where that is a
+//! terminal it prints its help. Where standard error is a terminal, sentences for people stand behind the lines of
+//! faults, and a plan that takes longer than a second says there how far it is. A program that is called `bentzolu`
+//! calls itself so.
 #![tactic(auto)]
 
 ghost use Rattle.std.specs.Prelude.{◌≡◌, IfOk, length};
@@ -24,7 +25,7 @@ use input::{Input, open};
 use ir_cli::{Called, read_words_as, status_of};
 use ir_explain::explanation_by;
 use ir_plan::Several;
-use ir_shell::{RunOutcome, Source, Sub, Words, WordsError, follow, sources_of};
+use ir_shell::{RunOutcome, Source, Sub, Team, Words, WordsError, follow, sources_of};
 use naming::{called_by, said_by};
 use output::{Output, is_whole};
 use piped::Piped;
@@ -36,7 +37,7 @@ use std::process::ExitCode;
 use std::sync::Wait;
 use std::thread::Threads;
 use std::{env, io};
-use terminal::are_sentences_wanted;
+use terminal::{are_sentences_wanted, tell};
 
 /// The words behind the program's name.
 fn words(rt: &HostRuntime) -> io::Result<Vec<String>> {
@@ -53,7 +54,7 @@ fn words_for_none(rt: &HostRuntime, name: &str) -> Result<Vec<String>, AllocErro
         let told = format!(in rt.alloc();
             "{name}: topology and script are read from standard input, with the line %% between them; see {name} --help\n"
         )?;
-        let _told = rt.eprint(told);
+        tell(rt, told.as_str());
     }
     let mut words = Vec::new(rt.alloc());
     words.push(String::from_str(rt.alloc(), "sim")?)?;
@@ -85,8 +86,8 @@ fn inputs_of(rt: &HostRuntime, words: &Words) -> Result<Vec<Input>, AllocError>
     Ok(inputs)
 }
 
-/// Sentences on a run that came to this; none where the words do not ask for them. Refused where there is no memory for all
-/// of it.
+/// Sentences on a run that came to this; none where the words do not ask for them. Refused where there is no memory
+/// for all of it.
 fn sentences<T: Threads + Sync>(
     alloc: Global,
     threads: &T,
@@ -106,12 +107,12 @@ fn sentences<T: Threads + Sync>(
 /// Prints sentences behind the faults of a run, by the program's name, where there is memory for them.
 fn explain(rt: &HostRuntime, name: &str, text: &str) {
     if let Ok(said) = said_by(rt.alloc(), name, text) {
-        let _told = rt.eprint(said);
+        tell(rt, said.as_str());
     }
 }
 
-/// Ends the output of a run with a status, and answers whether it came to its place: a file takes its place where all of
-/// the output is written, and else stays as it is.
+/// Ends the output of a run with a status, and answers whether it came to its place: a file takes its place where all
+/// of the output is written, and else stays as it is.
 fn end_output(output: &mut Piped<'_, Output>, faults: &mut Piped<'_, Stderr>, status: u8) -> bool {
     let is_whole = is_whole(status, faults.is_used);
     let is_kept = is_whole && output.writer.keep().is_ok();
@@ -121,11 +122,6 @@ fn end_output(output: &mut Piped<'_, Output>, faults: &mut Piped<'_, Stderr>, st
         return false;
     }
     true
-}
-
-/// Whether a subcommand shows a plan, of whose making a terminal is told.
-fn is_plan_shown(sub: Sub) -> bool {
-    !matches!(sub, Sub::Sim | Sub::Live | Sub::Check)
 }
 
 /// Does what the words ask for over the inputs, and writes to this output.
@@ -141,33 +137,26 @@ fn run_over<T: Threads + Wait + Sync>(
     requires inputs { length inputs.old ≡ length (sources_of words.now) }
 {
     let is_quiet = Cell::new(words.quiet);
+    let is_plan_shown = !matches!(words.sub, Sub::Sim | Sub::Live | Sub::Check);
     let is_counted = matches!(words.sub, Sub::Stats | Sub::Compare);
-    let progress = Progress::new(
-        rt,
-        name,
-        !words.quiet && is_plan_shown(words.sub),
-        is_counted,
-    );
+    let progress = Progress::new(rt, name, is_plan_shown && !words.quiet, is_counted);
     let mut output = Piped::new(output, true, &is_quiet, &progress);
     let mut faults = Piped::new(rt.stderr(), false, &is_quiet, &progress);
     let crew = Shown {
         rt: threads,
         progress: &progress,
     };
-    let outcome = follow(
-        threads,
-        &crew,
-        rt.alloc(),
-        words,
-        inputs,
-        &mut output,
-        &mut faults,
-    );
+    let team = Team {
+        rt: threads,
+        crew: &crew,
+    };
+    let alloc = rt.alloc();
+    let outcome = follow(&team, alloc, words, inputs, &mut output, &mut faults);
     progress.clear();
     let status = status_of(outcome.ending);
     let is_kept = end_output(&mut output, &mut faults, status);
     if words.explain && !is_quiet.get() {
-        if let Ok(text) = sentences(rt.alloc(), threads, words, inputs, &outcome, is_kept) {
+        if let Ok(text) = sentences(alloc, threads, words, inputs, &outcome, is_kept) {
             explain(rt, name, text.as_str());
         }
     }
@@ -186,7 +175,7 @@ fn asked(rt: &HostRuntime, called: Called, given: &[String]) -> Result<Words, Wo
 
 /// Says that memory was refused, and answers the exit status.
 fn out_of_memory(rt: &HostRuntime) -> u8 {
-    let _told = rt.eprintln("out of memory");
+    tell(rt, "out of memory\n");
     3
 }
 
@@ -218,7 +207,7 @@ fn follow_words<T: Threads + Wait + Sync>(
             Err(_) => out_of_memory(rt),
         },
         Err(WordsError::Usage(text)) => {
-            let _told = rt.eprint(text);
+            tell(rt, text.as_str());
             2
         }
         Err(WordsError::Help(text)) => {
@@ -226,7 +215,7 @@ fn follow_words<T: Threads + Wait + Sync>(
                 return 0;
             };
             if error.kind() != io::ErrorKind::BrokenPipe {
-                let _told = rt.eprintln("output unwritable");
+                tell(rt, "output unwritable\n");
             }
             1
         }
@@ -247,7 +236,7 @@ fn follow_none<T: Threads + Wait + Sync>(
     let mut help = Vec::new(rt.alloc());
     help.push(String::from_str(rt.alloc(), "--help")?)?;
     if let Err(WordsError::Help(text)) = read_words_as(rt.alloc(), called, help.as_slice()) {
-        let _told = rt.eprint(text);
+        tell(rt, text.as_str());
     }
     Ok(2)
 }

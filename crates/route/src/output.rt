@@ -40,8 +40,9 @@ enum Sink {
     Shut,
 }
 
-/// The output of a run: standard output, or a file. A file that is regular, or not there, is written whole or not at all:
-/// the bytes go to a new file in its folder, which takes its place at the end. A device or a pipe takes them as they come.
+/// The output of a run: standard output, or a file. A file that is regular, or not there, is written whole or not at
+/// all: the bytes go to a new file in its folder, which takes its place at the end. A device or a pipe takes them as
+/// they come.
 #[derive(Drop)]
 pub struct Output {
     rt: HostRuntime,
@@ -61,7 +62,8 @@ fn part_beside(rt: &HostRuntime, place: String) -> io::Result<Part> {
     Err(io::ErrorKind::AlreadyExists.into())
 }
 
-/// What takes the bytes for a file that is there and may be written: one beside it, with its permissions, if it is regular.
+/// What takes the bytes for a file that is there and may be written: one beside it, with its permissions, if it is
+/// regular.
 fn sink_over(rt: &HostRuntime, name: &str, file: File) -> io::Result<Sink> {
     let found = file.metadata()?;
     if !found.is_file() {
@@ -108,20 +110,13 @@ impl Output {
 
     /// Opens the file, if nothing was written to it.
     fn open(&mut self) -> io::Result<()> {
-        let opened = match &self.sink {
-            Sink::Named(name) => sink_of(&self.rt, name.as_str()),
-            _ => return Ok(()),
+        let Sink::Named(name) = &self.sink else {
+            return Ok(());
         };
-        match opened {
-            Ok(sink) => {
-                self.sink = sink;
-                Ok(())
-            }
-            Err(error) => {
-                self.sink = Sink::Shut;
-                Err(error)
-            }
-        }
+        let opened = sink_of(&self.rt, name.as_str());
+        self.sink = Sink::Shut;
+        self.sink = opened?;
+        Ok(())
     }
 
     /// Puts what was written in its place.

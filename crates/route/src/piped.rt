@@ -4,9 +4,9 @@ use std::cell::Cell;
 use std::io;
 use std::io::Write;
 
-/// A writer. That of the output notes where the reader of a pipe went away; that of the faults then takes what is left and
-/// writes nothing, since nobody asked for more of the output. It writes nothing either where it is quiet from the first.
-/// What is written takes the line of progress away.
+/// A writer. That of the output notes where the reader of a pipe went away; that of the faults then takes what is left
+/// and writes nothing, since nobody asked for more of the output. It writes nothing either where it is quiet from the
+/// first. What is written takes the line of progress away.
 #[derive(Drop)]
 pub struct Piped<'a, W> {
     pub writer: W,

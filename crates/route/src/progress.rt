@@ -1,4 +1,5 @@
 //! How far a plan is, on a terminal.
+use crate::terminal::tell;
 use ir_plan::Watch;
 use std::alloc::AllocError;
 use std::io::IsTerminal;
@@ -14,9 +15,9 @@ const PAUSE: u64 = 100;
 /// The fewest rows behind which a line says that walks are counted.
 const MANY: usize = 2_048;
 
-/// A line on standard error that says how many rows of a plan are made, where that is a terminal and the command has run
-/// for a second. It goes away with the plan's last row; where figures are wanted and rows are many, a line that says so
-/// stands from then on to the output. Threads that make rows write it by turns.
+/// A line on standard error that says how many rows of a plan are made, where that is a terminal and the command has
+/// run for a second. It goes away with the plan's last row; where figures are wanted and rows are many, a line that
+/// says so stands from then on to the output. Threads that make rows write it by turns.
 #[derive(Drop)]
 pub struct Progress<'a> {
     rt: &'a HostRuntime,
@@ -63,7 +64,7 @@ impl Progress<'_> {
     /// Takes the line away, if there is one.
     pub fn clear(&self) {
         if self.is_shown.swap(false, Ordering::SeqCst) {
-            let _told = self.rt.eprint("\r\x1b[K");
+            tell(self.rt, "\r\x1b[K");
         }
     }
 
@@ -85,7 +86,7 @@ impl Progress<'_> {
     /// Writes a line.
     fn show(&self, line: Result<String, AllocError>) {
         if let Ok(line) = line {
-            let _told = self.rt.eprint(line);
+            tell(self.rt, line.as_str());
             self.is_shown.store(true, Ordering::SeqCst);
         }
     }

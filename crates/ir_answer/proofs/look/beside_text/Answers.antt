@@ -9,7 +9,7 @@ use Rattle.ir_answer.proofs.look.beside_text.Goals as goal
 pub unreachable-requires : goal.unreachable-requires
 unreachable-requires g c =
     let plan = c.args.plan.now in
-    let root = c.args.root in
+    let root = c.args.second.1 in
     let copy : c.in_ok-topology.topology ≡ plan.topology = c.in_ok-topology.ensures ∙ c.topology.ensures in
     let refuses = subst (λ (over : Topology). RefusesPlan over (FromRoot orders.DepthFirst root) c.in-Err.error) copy c.in-Err.ensures.refused in
     let memory : c.in-Err.error ≡ NoMemory = second_refused plan c.invariant.ensures.plan root (omega (arith, c.requires.root, c.requires.nodes)) c.in-Err.error refuses in

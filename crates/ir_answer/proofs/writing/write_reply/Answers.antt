@@ -28,6 +28,6 @@ returns-in-Sound-clause-found g c =
     let output = c.args.output.now in
     let new = c.put_notice-put.new.output in
     found_behind c.whole-told-in-Sound.result c.ended-in-Sound.result _ (Tells g.F.Writer.contents g.F.Writer.wrote g.F.Writer.settled c.args.faults.now c.ended-in-Sound.new.faults)
-    c.put_notice-put.result (in_shape c.args.shape) (shaped c.args.shape (notice_line (Sound c.in-Sound.rows)))
+    c.put_notice-put.result (in_shape c.args.form.shape) (shaped c.args.form.shape (notice_line (Sound c.in-Sound.rows)))
     (Sends g.W.Writer.contents g.W.Writer.wrote g.W.Writer.settled output new) (new ≡ output) (Sound c.in-Sound.rows)
     c.whole-told-in-Sound.ensures.found refl c.put_notice-put.ensures c.ended-in-Sound.ensures

@@ -42,7 +42,7 @@ pub returns-in-Err-TooManyReaders : goal.returns-in-Err-TooManyReaders
 returns-in-Err-TooManyReaders g c =
     let asked = c.args.asked.now in
     stops_more (λ (line : List ℕ). (TooManyReaders ≢ NoMemory) × (line ≡ opening_line TooManyReaders))
-    (λ (line : List ℕ). AnswersLive (Bor g.row.T.Denot) g.T.Moments.was_full g.T.Moments.was_empty (g.T.Starter.unstarted c.args.rt.now) (g.T.Starter.came_back c.args.rt.now) (g.T.Starter.was_closed c.args.rt.now) asked.graph c.args.words.now (listing_in asked.script) asked.root (Refused line))
+    (λ (line : List ℕ). AnswersLive g.T.Moments g.T.Starter c.args.rt.now asked.graph c.args.words.now (listing_in asked.script) asked.root (Refused line))
     (λ line holds. (TooManyReaders, holds.0, inr (refl, c.args.net.now, c.requires.opened), holds.1)) c.opening_stop.result c.opening_stop.ensures
 
 pub returns-in-Err-NoThread : goal.returns-in-Err-NoThread

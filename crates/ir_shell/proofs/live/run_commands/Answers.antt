@@ -9,5 +9,5 @@ pub returns-in-Ok : goal.returns-in-Ok
 returns-in-Ok g c =
     let w = c.args.words.now in
     let asked = c.in_ok-asked.asked in
-    gives_asked line_command w (lines c.args.topology.now) (lines c.args.script.now) (λ h. AnswersLive _ g.T.Moments.was_full g.T.Moments.was_empty (g.T.Starter.unstarted c.args.rt.now) (g.T.Starter.came_back c.args.rt.now) (g.T.Starter.was_closed c.args.rt.now) h w)
+    gives_asked line_command w (lines c.args.topology.now) (lines c.args.script.now) (λ h. AnswersLive g.T.Moments g.T.Starter c.args.rt.now h w)
     asked.graph asked.topology (listing_in asked.script) asked.root c.in_ok-asked.ensures.asked c.answer_net.result c.answer_net.ensures

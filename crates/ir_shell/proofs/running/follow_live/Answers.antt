@@ -5,9 +5,10 @@ use Rattle.ir_cli.specs.declared.read.Source.{Source}
 use Rattle.ir_cli.specs.declared.words.Sub.TheVariants.{Live}
 use Rattle.ir_cli.specs.Notices.{ShowsFound}
 use Rattle.ir_cli.specs.Reading.{AreRead, IsUnread, texts_of}
-use Rattle.ir_cli.specs.Told.{Sends, Tells}
-use Rattle.ir_answer.specs.Asked.{sim_sources}
-use Rattle.ir_answer.specs.Formed.{InForm, asked_form}
+use Rattle.ir_cli.specs.Told.{Sends}
+use Rattle.ir_answer.specs.Asked.{sim_sources, AnswersBy}
+use Rattle.ir_answer.specs.Formed.{asked_form}
+use Rattle.ir_answer.specs.Runs.{RunIo, io_of}
 use Rattle.ir_answer.proofs.Runs.{given_up, ends_read}
 use Rattle.ir_shell.specs.Asked.{LiveAnswers}
 use Rattle.ir_shell.proofs.running.follow_live.Goals as goal
@@ -17,13 +18,10 @@ returns-in-Ok-clause-ends g c =
     let words = c.args.words.now in
     let old = c.args.inputs.now in
     let new = c.read_inputs.new.inputs in
-    let output = c.args.output.now in
-    ends_read (InForm Live words (LiveAnswers _ g.T.Moments.was_full g.T.Moments.was_empty (g.T.Starter.unstarted c.args.rt.now) (g.T.Starter.came_back c.args.rt.now) (g.T.Starter.was_closed c.args.rt.now) words)) (texts_of c.as_slice.result.now)
-    (λ (texts : List (List ℕ)). AreRead g.R.Reader.remaining g.R.Reader.gave old texts new)
+    let io : RunIo = io_of g.R.Reader g.W.Writer g.F.Writer old new c.args.output.now c.write_live.new.output c.args.faults.now c.write_live.new.faults in
+    ends_read (AnswersBy (LiveAnswers g.T.Moments g.T.Starter c.args.rt.now) Live words) (texts_of c.as_slice.result.now) io.read
     (subst (λ (texts : List (Vec ℕ)). AreRead g.R.Reader.remaining g.R.Reader.gave old (texts_of texts) new) (sym c.as_slice.ensures.value) c.in-Ok.ensures.read)
-    (IsUnread g.R.Reader.remaining g.R.Reader.gave (sim_sources words) old new)
-    (Sends g.W.Writer.contents g.W.Writer.wrote g.W.Writer.settled output c.write_live.new.output) (c.write_live.new.output ≡ output)
-    (Tells g.F.Writer.contents g.F.Writer.wrote g.F.Writer.settled c.args.faults.now c.write_live.new.faults)
+    (io.stops (sim_sources words)) io.written.out io.written.unused io.written.told
     c.write_live.result.ending c.write_live.ensures.ends
 
 pub returns-in-Err-clause-ends : goal.returns-in-Err-clause-ends
@@ -32,10 +30,8 @@ returns-in-Err-clause-ends g c =
     let old = c.args.inputs.now in
     let new = c.read_inputs.new.inputs in
     let output = c.args.output.now in
-    given_up (InForm Live words (LiveAnswers _ g.T.Moments.was_full g.T.Moments.was_empty (g.T.Starter.unstarted c.args.rt.now) (g.T.Starter.came_back c.args.rt.now) (g.T.Starter.was_closed c.args.rt.now) words)) c.tell_unread.result.ending (λ (texts : List (List ℕ)). AreRead g.R.Reader.remaining g.R.Reader.gave old texts new)
-    (IsUnread g.R.Reader.remaining g.R.Reader.gave (sim_sources words) old new)
-    (Sends g.W.Writer.contents g.W.Writer.wrote g.W.Writer.settled output output) (output ≡ output)
-    (Tells g.F.Writer.contents g.F.Writer.wrote g.F.Writer.settled c.args.faults.now c.tell_unread.new.faults)
+    let io : RunIo = io_of g.R.Reader g.W.Writer g.F.Writer old new output output c.args.faults.now c.tell_unread.new.faults in
+    given_up (AnswersBy (LiveAnswers g.T.Moments g.T.Starter c.args.rt.now) Live words) c.tell_unread.result.ending io.read (io.stops (sim_sources words)) io.written.out io.written.unused io.written.told
     c.in-Err.unread.source c.in-Err.unread.why c.tell_unread.ensures.ends
     (subst (λ (sources : List Source). IsUnread g.R.Reader.remaining g.R.Reader.gave sources old new c.in-Err.unread.source c.in-Err.unread.why) c.sources_by.ensures c.in-Err.ensures.unread) refl
 

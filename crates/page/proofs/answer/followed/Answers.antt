@@ -16,7 +16,7 @@ follow_by-outcome-requires-clause-inputs c κs =
     let text : Source → List ℕ = text_for c.args.topology.now c.args.script.now c.args.trace.now in
     let sources = sources_of c.args.words.now in
     let now : Bor (List ℕ) → List ℕ = λ text. text.now in
-    ap length c.as_mut_slice.ensures.value ∙ sym (length-map texts now) ∙ ap length c.in_ok-inputs.ensures ∙ length-map sources text
+    ap length c.as_mut_slice-readers.ensures.value ∙ sym (length-map texts now) ∙ ap length c.in_ok-inputs.ensures ∙ length-map sources text
 
 pub returns : goal.returns
 returns c =
@@ -29,7 +29,7 @@ returns c =
     now (λ r. refl)
     (λ (old : Vec ℕ) (bytes : List ℕ) (taken : Result ℕ CallError) (new : Vec ℕ). WriteAppends (Some old.items) (Some new.items) taken bytes)
     (λ (old : Vec ℕ) (done : Result (Unit {0}) CallError) (new : Vec ℕ). Keeps (Some old.items) (Some new.items))
-    c.args.words.now text c.as_mut_slice.result.now c.follow_by-outcome.new.inputs (ap (map now) c.as_mut_slice.ensures.value ∙ c.in_ok-inputs.ensures)
+    c.args.words.now text c.as_mut_slice-readers.result.now c.follow_by-outcome.new.inputs (ap (map now) c.as_mut_slice-readers.ensures.value ∙ c.in_ok-inputs.ensures)
     c.new-output.result output c.in_ok-faults.faults c.follow_by-outcome.new.faults c.new-output.ensures.items c.in_ok-faults.ensures.items
     c.status_of.result faults c.as_bytes.result.now c.in_ok-extend_from_slice.ensures.items (λ off. c.as_bytes.ensures.value ∙ c.in_ok-text.ensures off)
     (c.follow_by-outcome.result.ending, c.status_of.ensures, c.follow_by-outcome.ensures.ends) in
