@@ -1,8 +1,8 @@
 //! Templates with the words of a line in place of their signs.
-ghost use Rattle.std.specs.Prelude.{◌≡◌, ◌<◌, ◌++◌, [], true, OnOk, IfOk, length, nat_lt, drop, string_bytes};
+ghost use Rattle.std.specs.Prelude.{◌≡◌, ◌<◌, ◌≤◌, ◌++◌, [], true, OnOk, IfOk, length, nat_lt, drop, string_bytes};
 ghost use Rattle.std.specs.List.{list_all};
 ghost use Rattle.ir_model.specs.Text.{words_of};
-ghost use Rattle.ir_json.specs.Signs.{sign_of, sign_text, words_after, first_word, part_text, part_left, filled, left};
+ghost use Rattle.ir_json.specs.Signs.{sign_of, sign_text, first_word, part_text, part_left, filled, left};
 
 use crate::sign::{Sign, sign_of};
 use crate::words::{before_mark, behind_mark, push_goal, push_number, push_quoted};
@@ -13,6 +13,7 @@ use std::alloc::AllocError;
 pub fn first_word(line: &[u8]) -> (&[u8], &[u8])
     ensures word { result.0.now ≡ first_word (words_of line.now) }
     ensures rest { words_of result.1.now ≡ drop 1 (words_of line.now) }
+    ensures shorter { length result.1.now ≤ length line.now }
 {
     match next_word(line) {
         Some((word, rest)) => (word, rest),
@@ -34,17 +35,6 @@ fn push_shown(text: &mut String, sign: Sign, word: &[u8]) -> Result<(), AllocErr
     }
 }
 
-/// What follows a sign's word.
-fn after_sign<'a>(sign: Sign, line: &'a [u8], rest: &'a [u8]) -> &'a [u8]
-    requires { words_of rest.now ≡ drop 1 (words_of line.now) }
-    ensures { words_of result.now ≡ words_after sign (words_of line.now) }
-{
-    match sign {
-        Sign::Front => line,
-        _ => rest,
-    }
-}
-
 /// Writes what a byte of a template comes to, and answers what of the line is left behind it.
 fn push_part<'a>(text: &mut String, byte: u8, line: &'a [u8]) -> Result<&'a [u8], AllocError>
     requires { byte < 128 }
@@ -60,7 +50,7 @@ fn push_part<'a>(text: &mut String, byte: u8, line: &'a [u8]) -> Result<&'a [u8]
         Some(sign) => {
             let (word, rest) = first_word(line);
             push_shown(text, sign, word)?;
-            Ok(after_sign(sign, line, rest))
+            Ok(if let Sign::Front = sign { line } else { rest })
         }
     }
 }

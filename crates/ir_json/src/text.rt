@@ -1,7 +1,7 @@
 //! The JSON of a text.
 ghost use Rattle.std.specs.Prelude.{◌≡◌, ◌++◌, true, OnOk, IfOk, string_bytes};
 ghost use Rattle.ir_model.specs.Text.{lines, words_of};
-ghost use Rattle.ir_json.specs.Forms.{form_held, is_ascii, is_ascii_further};
+ghost use Rattle.ir_json.specs.Forms.{form_held, IsForm};
 ghost use Rattle.ir_json.specs.JsonText.{form_text, json_line, lines_text, json_text};
 
 use crate::fill::push_filled;
@@ -13,8 +13,7 @@ use std::alloc::{AllocError, Global};
 
 /// Writes a line in its form.
 fn push_form(text: &mut String, form: Form, line: &[u8]) -> Result<(), AllocError>
-    requires front { is_ascii (form_held form).front ≡ true }
-    requires items { is_ascii_further (form_held form).further ≡ true }
+    requires { IsForm (form_held form) form }
     ensures { OnOk result (string_bytes text.new ≡ string_bytes text.old
         ++ form_text (form_held form) (words_of line.now)) }
 {
