@@ -21,7 +21,7 @@ mark_rows_also-requires-clause-wide c =
     let moved = subst (λ (net : Topology). AreLinks net (Waits t) more.begins.items (marks_of more.marks.items) (exits_before net (node_count net))) c.requires c.in_ok-more.ensures in
     subst (λ (xs : List (Vec Bool)). (k : ℕ) → k < length xs → width_of (marks_of links.marks.items) k ≡ width_of (marks_of xs) k) (sym c.as_slice-3.ensures.value)
     (λ k lt.
-    as_wide s.topology c.nodes.ensures.plan.topology first nodes exits (Waits s) (Waits t) links.begins.items more.begins.items (marks_of links.marks.items) (marks_of more.marks.items)
+    as_wide s.topology c.invariant.ensures.plan.topology first nodes exits (Waits s) (Waits t) links.begins.items more.begins.items (marks_of links.marks.items) (marks_of more.marks.items)
     c.in_ok-links.ensures moved k (omega (arith, lt, marks_len more.marks.items, moved.every_row, exits.all)))
 
 pub ring_in-requires-clause-digraph : goal.ring_in-requires-clause-digraph
@@ -35,7 +35,7 @@ ring_in-requires-clause-digraph c =
     let more = c.in_ok-more.more in
     let both = links_together s t links.begins.items more.begins.items links.marks.items more.marks.items c.as_slice-3.result.now c.mark_rows_also.new.rows.items
     c.requires c.in_ok-links.ensures c.in_ok-more.ensures c.as_slice-3.ensures.value c.mark_rows_also.ensures in
-    digraph s.topology c.nodes.ensures.plan.topology first nodes exits (WaitsInEither s t) links.begins.items (marks_of c.mark_rows_also.new.rows.items) both
+    digraph s.topology c.invariant.ensures.plan.topology first nodes exits (WaitsInEither s t) links.begins.items (marks_of c.mark_rows_also.new.rows.items) both
 
 pub returns-clause-acyclic : goal.returns-clause-acyclic
 returns-clause-acyclic c =
@@ -48,8 +48,8 @@ returns-clause-acyclic c =
     let more = c.in_ok-more.more in
     let both = links_together s t links.begins.items more.begins.items links.marks.items more.marks.items c.as_slice-3.result.now c.mark_rows_also.new.rows.items
     c.requires c.in_ok-links.ensures c.in_ok-more.ensures c.as_slice-3.ensures.value c.mark_rows_also.ensures in
-    ok_none_then c.ring_in.result (without_ring s.topology c.nodes.ensures.plan.topology first nodes exits (WaitsInEither s t) links.begins.items (marks_of c.mark_rows_also.new.rows.items) both
-    (either_leads s t c.nodes.ensures.plan c.nodes-2.ensures.plan c.requires)) c.ring_in.ensures.acyclic
+    ok_none_then c.ring_in.result (without_ring s.topology c.invariant.ensures.plan.topology first nodes exits (WaitsInEither s t) links.begins.items (marks_of c.mark_rows_also.new.rows.items) both
+    (either_leads s t c.invariant.ensures.plan c.invariant-2.ensures.plan c.requires)) c.ring_in.ensures.acyclic
 
 pub returns-clause-ring : goal.returns-clause-ring
 returns-clause-ring c =
@@ -62,5 +62,5 @@ returns-clause-ring c =
     let more = c.in_ok-more.more in
     let both = links_together s t links.begins.items more.begins.items links.marks.items more.marks.items c.as_slice-3.result.now c.mark_rows_also.new.rows.items
     c.requires c.in_ok-links.ensures c.in_ok-more.ensures c.as_slice-3.ensures.value c.mark_rows_also.ensures in
-    ok_some_then c.ring_in.result (λ named told. waiting s.topology c.nodes.ensures.plan.topology first nodes exits (WaitsInEither s t) links.begins.items (marks_of c.mark_rows_also.new.rows.items) both
+    ok_some_then c.ring_in.result (λ named told. waiting s.topology c.invariant.ensures.plan.topology first nodes exits (WaitsInEither s t) links.begins.items (marks_of c.mark_rows_also.new.rows.items) both
     told.0 named.items told.1 told.2) c.ring_in.ensures.ring
