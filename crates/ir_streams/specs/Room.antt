@@ -3,7 +3,7 @@ use Rattle.std.specs.Prelude.{ℕ, ◌≤◌, List, cond, Option, Some, None, le
 use Rattle.std.specs.Global.{Vec}
 use Rattle.std.specs.Vec.{vec_capacity}
 use Rattle.ir_streams.specs.declared.TheConstants.{PART_BYTES}
-use Rattle.ir_streams.specs.declared.parts.Parts.TheInside.{Inside}
+use Rattle.ir_streams.specs.declared.parts.TextParts.TheInside.{Inside}
 
 -- the bytes that are kept back, if no write failed
 abbrev pub kept_back : Inside → Option (List ℕ)

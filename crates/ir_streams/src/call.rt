@@ -17,10 +17,9 @@ impl CallError {
     pub fn of(error: io::Error) -> CallError
         ensures { (result ≡ CallError.Interrupted) ↔ (error_kind error ≡ Interrupted) }
     {
-        if error.kind() == io::ErrorKind::Interrupted {
-            CallError::Interrupted
-        } else {
-            CallError::Failed
+        match error.kind() {
+            io::ErrorKind::Interrupted => CallError::Interrupted,
+            _ => CallError::Failed,
         }
     }
 }

@@ -1,8 +1,7 @@
-//! Readers and writers whose calls contracts can speak of, and what is read and written by such calls.
+//! Readers and writers whose calls contracts can speak of, and what is read and written by them.
 //!
-//! What `std::io` says of a call holds of a body, too, that never made it. `Reader` and `Writer` have a word for each of
-//! their calls, which the call alone can give; each `std::io::Read` is such a reader, and each `std::io::Write` such a
-//! writer. So contracts say that a call failed, and which calls were made.
+//! `Reader` and `Writer` have a word for each of their calls, which the call alone can give. So
+//! contracts say that a call failed, and which calls were made.
 #![tactic(auto)]
 
 mod call;
@@ -14,7 +13,7 @@ mod writer;
 mod writing;
 
 pub use call::CallError;
-pub use parts::Parts;
+pub use parts::TextParts;
 pub use reader::Reader;
 pub use reading::{NoInput, read_text};
 pub use texts::Texts;

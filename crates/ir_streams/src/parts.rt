@@ -1,8 +1,7 @@
 //! A text, to a writer, in parts.
-ghost use Rattle.std.specs.{Prelude.{◌≡◌, ◌+◌, ◌<◌, ◌≤◌, ◌++◌, [], Some, IfOk, IfSome, length, is_none, take, slice_index_or}, Vec.vec_capacity};
-ghost use Rattle.ir_streams.specs.{declared.TheConstants.PART_BYTES, Room.{IsRoom, IsPart}, Pouring.{Puts, Pours, Finishes}};
-ghost use Rattle.std.specs.Prelude.{List, Option, ℕ};
-ghost use Rattle.ir_streams.specs.Room.{kept_back};
+ghost use Rattle.std.specs.Prelude.{◌≡◌, ◌+◌, ◌<◌, ◌≤◌, ◌++◌, [], Some, IfOk, IfSome, length, is_none, take, slice_index_or};
+ghost use Rattle.std.specs.{Prelude.{List, Option, ℕ}, Vec.vec_capacity};
+ghost use Rattle.ir_streams.specs.{declared.TheConstants.PART_BYTES, Room.{kept_back, IsRoom, IsPart}, Pouring.{Puts, Pours, Finishes}};
 
 use crate::PART_BYTES;
 use crate::texts::Texts;
@@ -38,7 +37,7 @@ fn lengthen(kept: &mut Vec<u8>)
     }
 }
 
-/// Puts bytes behind the first so many of others, of which so many count. Conditions: there is room, and so many of them.
+/// Puts bytes behind the first `count` of others; `more` of them count.
 #[inline(always)]
 fn put_front(kept: &mut [u8], count: usize, bytes: &[u8], more: usize) -> usize
     requires room { count + length bytes.now ≤ length kept.old }
@@ -51,8 +50,8 @@ fn put_front(kept: &mut [u8], count: usize, bytes: &[u8], more: usize) -> usize
     count + more
 }
 
-/// Writes parts of what is kept back and these bytes behind it, and keeps the rest back. The answer is false where a write
-/// failed, and none is made then.
+/// Writes parts of what is kept back and these bytes behind it, and keeps the rest back. Returns
+/// false where a write failed; none is made then.
 fn pour<W: Writer>(kept: &mut Vec<u8>, writer: &mut W, bytes: &[u8]) -> bool
     requires { IsRoom kept.old }
     ensures room { IsRoom kept.new }
@@ -73,17 +72,17 @@ fn pour<W: Writer>(kept: &mut Vec<u8>, writer: &mut W, bytes: &[u8]) -> bool
     true
 }
 
-/// A text on its way to a writer, in writes of at most `PART_BYTES` bytes. What makes no part yet is kept back. Once a write
-/// failed no call is made of the writer.
+/// A text on its way to a writer, in writes of at most `PART_BYTES` bytes. What makes no part yet is
+/// kept back. Once a write failed no call is made of the writer.
 #[derive(Drop)]
-pub struct Parts {
+pub struct TextParts {
     /// Of these bytes the first `count` are kept back.
     kept: Vec<u8>,
     count: usize,
     has_failed: bool,
 }
 
-impl Model for Parts {
+impl Model for TextParts {
     ghost Value = { Option (List ℕ) };
 
     ghost view = { kept_back };
@@ -91,13 +90,13 @@ impl Model for Parts {
     ghost invariant = { IsPart };
 }
 
-impl Parts {
+impl TextParts {
     /// The parts of a text of which nothing has come yet. It is refused for memory alone, and no later call takes any.
-    pub fn new(alloc: Global) -> Result<Parts, AllocError>
+    pub fn new(alloc: Global) -> Result<TextParts, AllocError>
         ensures { IfOk result (λ parts. parts ≡ Some []) }
     {
         let kept = Vec::with_capacity(alloc, PART_BYTES)?;
-        Ok(Parts {
+        Ok(TextParts {
             kept,
             count: 0,
             has_failed: false,
@@ -111,8 +110,8 @@ impl Parts {
         self.has_failed
     }
 
-    /// More of the text. Parts of it are written, and the rest is kept back, which is a part at most. Takes O(b), for b
-    /// bytes, beside the calls of the writer.
+    /// More of the text. Parts of it are written, and the rest, a part at most, is kept back. Takes
+    /// O(b), for b bytes, beside the calls of the writer.
     pub fn push<W: Writer>(&mut self, writer: &mut W, bytes: &[u8])
         ensures writes { Pours W.contents W.wrote W.settled writer.old self.old bytes.now writer.new self.new }
         ensures few { IfSome self.new (λ kept. length kept ≤ PART_BYTES) }
@@ -134,8 +133,8 @@ impl Parts {
         }
     }
 
-    /// More of the text, which is one of some texts: as `push` of its bytes, and faster where they are few. Condition: there
-    /// is such a one.
+    /// More of the text, which is one of some texts: as `push` of its bytes, and faster where they are
+    /// few. Condition: `k` is below `texts.len()`.
     pub fn push_text<W: Writer>(&mut self, writer: &mut W, texts: &Texts, k: usize)
         requires { k < length texts.now }
         ensures writes { Pours W.contents W.wrote W.settled writer.old self.old (slice_index_or texts.now k [])
@@ -154,8 +153,8 @@ impl Parts {
         }
     }
 
-    /// The text ends: what is kept back is written, and the writer is flushed. The answer is whether the writer took and
-    /// flushed all of the text.
+    /// The text ends: what is kept back is written, and the writer is flushed. Returns whether the
+    /// writer took and flushed all of the text.
     pub fn finish<W: Writer>(self, writer: &mut W) -> bool
         ensures { Finishes W.contents W.wrote W.settled result writer.old self writer.new }
     {

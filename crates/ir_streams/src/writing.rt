@@ -6,8 +6,8 @@ use crate::MAX_TRIES;
 use crate::call::CallError;
 use crate::writer::Writer;
 
-/// Writes some of the bytes, and answers how many the writer took. A call that was interrupted is made again; the calls
-/// are `MAX_TRIES` at most.
+/// How many of the bytes the writer took. A call that was interrupted is made again; the calls are
+/// `MAX_TRIES` at most.
 fn put_some<W: Writer>(writer: &mut W, bytes: &[u8]) -> Result<usize, CallError>
     ensures calls { PutsSome W.wrote W.settled writer.old bytes.now result writer.new }
     ensures bound { WritesAtMost result bytes.now }
@@ -15,9 +15,8 @@ fn put_some<W: Writer>(writer: &mut W, bytes: &[u8]) -> Result<usize, CallError>
 {
     for _turn in 0..MAX_TRIES - 1 {
         match writer.put(bytes) {
-            Ok(n) => return Ok(n),
-            Err(CallError::Failed) => return Err(CallError::Failed),
             Err(CallError::Interrupted) => {}
+            outcome => return outcome,
         }
     }
     writer.put(bytes)
@@ -30,16 +29,14 @@ fn flush<W: Writer>(writer: &mut W) -> Result<(), CallError>
 {
     for _turn in 0..MAX_TRIES - 1 {
         match writer.settle() {
-            Ok(()) => return Ok(()),
-            Err(CallError::Failed) => return Err(CallError::Failed),
             Err(CallError::Interrupted) => {}
+            outcome => return outcome,
         }
     }
     writer.settle()
 }
 
-/// Writes all of a text, and answers whether the writer took it. A call that was interrupted is made again. The answer is
-/// false only where a write failed, and none is made then.
+/// Whether the writer took all of a text. After a write that failed none is made.
 pub(crate) fn put_all<W: Writer>(writer: &mut W, text: &[u8]) -> bool
     ensures { Puts W.contents W.wrote W.settled result writer.old text.now writer.new [] }
 {
@@ -54,15 +51,12 @@ pub(crate) fn put_all<W: Writer>(writer: &mut W, text: &[u8]) -> bool
     true
 }
 
-/// Writes all of a text, and answers whether the writer took and flushed it. A call that was interrupted is made again,
-/// `MAX_TRIES` times in a row at most. Nothing is written after a call that failed, and the answer is false only where one
-/// did. What went out is a front of the text.
+/// Writes all of a text, and returns whether the writer took and flushed it. A call that was
+/// interrupted is made again, `MAX_TRIES` times in a row at most. After a call that failed nothing is
+/// written; what went out is a front of the text then.
 pub fn write_text<W: Writer>(writer: &mut W, text: &[u8]) -> bool
     ensures calls { Calls W.wrote W.settled result writer.old text.now writer.new }
     ensures bytes { Writes result (W.contents writer.old) (W.contents writer.new) text.now }
 {
-    if !put_all(writer, text) {
-        return false;
-    }
-    flush(writer).is_ok()
+    put_all(writer, text) && flush(writer).is_ok()
 }
