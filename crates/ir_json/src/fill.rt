@@ -62,7 +62,8 @@ pub fn push_filled<'a>(
     line: &'a [u8],
 ) -> Result<&'a [u8], AllocError>
     requires { list_all (λ b. nat_lt b 128) template.now ≡ true }
-    ensures text { OnOk result (string_bytes text.new ≡ string_bytes text.old ++ filled template.now (words_of line.now)) }
+    ensures text { OnOk result (string_bytes text.new ≡ string_bytes text.old
+        ++ filled template.now (words_of line.now)) }
     ensures rest { IfOk result (λ rest. words_of rest.now ≡ left template.now (words_of line.now)) }
 {
     let mut rest = line;

@@ -87,7 +87,6 @@ fn has_link(line: &[u8], place: usize) -> bool
     is(word, "down") || is(word, "full")
 }
 
-/// The form of a figure, by its first word.
 fn figure_form(line: &[u8]) -> Form
     ensures { IsForm (figure_form (words_of line.now)) result }
 {

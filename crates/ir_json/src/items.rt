@@ -84,7 +84,6 @@ fn push_segment_word(text: &mut String, word: &[u8]) -> Result<(), AllocError>
     Ok(())
 }
 
-/// Writes the segments of a row.
 fn push_segments(text: &mut String, line: &[u8]) -> Result<(), AllocError>
     ensures { OnOk result (string_bytes text.new ≡ string_bytes text.old ++ segments_from [] (words_of line.now)) }
 {

@@ -11,7 +11,6 @@ use crate::shape::Shape;
 use ir_adjlist::scan::{next_line, next_word};
 use std::alloc::{AllocError, Global};
 
-/// Writes a line in its form.
 fn push_form(text: &mut String, form: Form, line: &[u8]) -> Result<(), AllocError>
     requires { IsForm (form_held form) form }
     ensures { OnOk result (string_bytes text.new ≡ string_bytes text.old
@@ -21,7 +20,6 @@ fn push_form(text: &mut String, form: Form, line: &[u8]) -> Result<(), AllocErro
     push_items(text, form.items, rest)
 }
 
-/// Writes the line at a place.
 fn push_line(text: &mut String, shape: Shape, place: usize, line: &[u8]) -> Result<(), AllocError>
     ensures { OnOk result (string_bytes text.new ≡ string_bytes text.old ++ json_line shape place (words_of line.now)) }
 {
@@ -46,8 +44,9 @@ fn push_lines(json: &mut String, shape: Shape, text: &[u8]) -> Result<(), AllocE
     Ok(())
 }
 
-/// The JSON of a text of this shape, a line for each line of the text that has a word. It has printable bytes of ASCII and
-/// line feeds alone. Refused for memory alone. Takes O(b), for a text of b bytes.
+/// The JSON of a text of this shape, a line for each line of the text that has a word. It has
+/// printable bytes of ASCII and line feeds alone. Refused for memory alone. Takes O(b), for a text
+/// of b bytes.
 pub fn json_of(alloc: Global, shape: Shape, text: &[u8]) -> Result<String, AllocError>
     ensures { IfOk result (λ json. string_bytes json ≡ json_text shape (lines text.now)) }
 {
