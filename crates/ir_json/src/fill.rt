@@ -4,10 +4,41 @@ ghost use Rattle.std.specs.List.{list_all};
 ghost use Rattle.ir_model.specs.Text.{words_of};
 ghost use Rattle.ir_json.specs.Signs.{sign_of, sign_text, first_word, part_text, part_left, filled, left};
 
-use crate::sign::{Sign, sign_of};
 use crate::words::{before_mark, behind_mark, push_goal, push_number, push_quoted};
 use ir_adjlist::scan::next_word;
 use std::alloc::AllocError;
+
+/// What stands in place of a word.
+#[derive(Clone, Copy)]
+pub enum Sign {
+    /// The word as a string: `$`.
+    Text,
+    /// The word as a number: `#`.
+    Count,
+    /// The word as a string, or null for a dash: `?`.
+    Goal,
+    /// The number before a mark in the word, which is left to the next sign: `<`.
+    Front,
+    /// The number behind a mark in the word: `>`.
+    Behind,
+    /// Nothing: `~`.
+    Skipped,
+}
+
+/// The sign that a byte of a template is, if it is one.
+pub fn sign_of(byte: u8) -> Option<Sign>
+    ensures { result ≡ sign_of byte }
+{
+    match byte {
+        b'$' => Some(Sign::Text),
+        b'#' => Some(Sign::Count),
+        b'?' => Some(Sign::Goal),
+        b'<' => Some(Sign::Front),
+        b'>' => Some(Sign::Behind),
+        b'~' => Some(Sign::Skipped),
+        _ => None,
+    }
+}
 
 /// The first word of a line, none being empty, and what follows it.
 pub fn first_word(line: &[u8]) -> (&[u8], &[u8])

@@ -11,7 +11,6 @@ mod form;
 mod items;
 mod laws;
 mod shape;
-mod sign;
 mod text;
 mod words;
 
