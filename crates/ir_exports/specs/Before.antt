@@ -7,7 +7,7 @@ use Rattle.ir_model.specs.Plan.{Plan}
 use Rattle.ir_prefix.specs.Longest.{IsWidth}
 use Rattle.ir_prefix.specs.declared.line.TableLine.{TableLine}
 use Rattle.ir_exports.specs.Tables.{AreLinesOf}
-use Rattle.ir_exports.specs.PrefixesText.{nodes_text}
+use Rattle.ir_exports.specs.PrefixesText.{IsPrefixesOf, nodes_text}
 
 -- so many starts of a row are below a label, and the others are not
 pub record AreBelow (row : List Start) (label count : ℕ) : Type 0 where
@@ -22,3 +22,8 @@ pub record AreWritten (is_disjoint : Bool) (nodes : List Name) (plan : Plan) (co
   pub each : (u : ℕ) → u < count → (bits : ℕ) → IsWidth (node_count plan.topology) bits → AreLinesOf is_disjoint plan bits u (slice_index_or tables u [])
   pub sum : sum_by length tables ≡ lines
   pub whole : after ≡ before ++ nodes_text nodes plan 0 tables
+
+-- where the lines of all nodes are written so, the text is that of the tables
+abbrev pub IsTextOfLines : Plan → ℕ → List ℕ → List ℕ → Type 0
+IsTextOfLines plan lines tables text =
+    (is_disjoint : Bool) (nodes : List Name) → AreWritten is_disjoint nodes plan (node_count plan.topology) lines [] tables → IsPrefixesOf is_disjoint nodes plan text

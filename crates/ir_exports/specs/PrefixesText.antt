@@ -1,5 +1,5 @@
 -- The text of a plan's forwarding tables.
-use Rattle.std.specs.Prelude.{◌≡◌, ℕ, ◌+◌, Bool, List, [], ◌∷◌, ◌++◌, Option, None, Some, length, flat_map, sum_by, decimal, codes}
+use Rattle.std.specs.Prelude.{◌≡◌, ℕ, ◌+◌, Bool, List, [], ◌∷◌, ◌++◌, Option, None, Some, length, map, flat_map, sum_by, decimal, codes}
 use Rattle.ir_model.specs.Graph.{Name}
 use Rattle.ir_model.specs.Topology.{Topology, node_count}
 use Rattle.ir_model.specs.Plan.{Plan, label_in}
@@ -44,3 +44,9 @@ pub record IsPrefixesOf (is_disjoint : Bool) (nodes : List Name) (plan : Plan) (
   pub tables : List (List TableLine)
   pub are : AreTablesOf is_disjoint plan bits tables
   pub whole : text ≡ prefixes_text nodes plan bits tables
+
+-- both texts have the same width, and as many lines for each node; they are one text where they have the same lines
+abbrev pub AgreeByLines : Bool → List Name → Plan → List ℕ → List ℕ → Type 0
+AgreeByLines is_disjoint nodes plan text other =
+    (a : IsPrefixesOf is_disjoint nodes plan text) (b : IsPrefixesOf is_disjoint nodes plan other)
+    → (a.bits ≡ b.bits) × (map length a.tables ≡ map length b.tables) × (a.tables ≡ b.tables → text ≡ other)

@@ -1,5 +1,5 @@
 -- How what is sent to a number goes from node to node by the lines of each, whole tables or parts of them.
-use Rattle.std.specs.Prelude.{◌≡◌, ◌≢◌, ℕ, ◌-◌, ◌<◌, List, [], ◌∷◌, ◌++◌, Some, option_map, if◌then◌else◌, nat_lt}
+use Rattle.std.specs.Prelude.{◌≡◌, ◌≢◌, ℕ, ◌-◌, ◌<◌, ◌^◌, All, Contains, List, [], ◌∷◌, ◌++◌, Some, option_map, if◌then◌else◌, nat_lt, slice_index_or, take}
 use Rattle.ir_model.specs.declared.Hop.{Hop}
 use Rattle.ir_model.specs.Topology.{node_count, port_at}
 use Rattle.ir_model.specs.Table.{IsPrescribedWalk}
@@ -43,3 +43,22 @@ pub record GoesAllTheWay (plan : Plan) (bits : ℕ) (lines : ℕ → List TableL
   pub goes : (u : ℕ) (rest : List ℕ) → u < node_count plan.topology → IsPrescribedWalk plan.topology (table_port plan) u d (u ∷ rest) → GoesThrough plan bits lines x u rest
   pub ends : (u : ℕ) (rest : List ℕ) → u < node_count plan.topology → GoesThrough plan bits lines x u rest → EndsAfter plan bits lines x u rest
       → IsPrescribedWalk plan.topology (table_port plan) u d (u ∷ rest)
+
+-- with the first ones of each node's lines alone it keeps to the walk, for each number
+abbrev pub FrontsKeepToWalks : Plan → ℕ → List (List TableLine) → Type 0
+FrontsKeepToWalks plan bits tables =
+    (counts : ℕ → ℕ) (x : ℕ) → x < 2 ^ bits → KeepsToWalk plan bits (λ u. take (counts u) (slice_index_or tables u [])) x (end_of plan x)
+
+-- with any of each node's lines it keeps to the walk, for each label
+abbrev pub PartsKeepToWalks : Plan → ℕ → List (List TableLine) → Type 0
+PartsKeepToWalks plan bits tables =
+    (lines : ℕ → List TableLine) (x : ℕ) → ((u : ℕ) → All (λ m. Contains (slice_index_or tables u []) m) (lines u)) → x < node_count plan.topology
+    → KeepsToWalk plan bits lines x (end_of plan x)
+
+-- with all lines it goes all the way, for each number below this one
+abbrev pub GoAllTheWay : Plan → ℕ → List (List TableLine) → ℕ → Type 0
+GoAllTheWay plan bits tables count = (x : ℕ) → x < count → GoesAllTheWay plan bits (λ u. slice_index_or tables u []) x (end_of plan x)
+
+-- the same for each label
+abbrev pub LabelsGoAllTheWay : Plan → ℕ → List (List TableLine) → Type 0
+LabelsGoAllTheWay plan bits tables = GoAllTheWay plan bits tables (node_count plan.topology)

@@ -15,8 +15,8 @@ use std::thread::Threads;
 
 /// Who makes plans, the lines of their texts and their forwarding tables. All crews make the same ones.
 pub trait LineCrew: TextCrew {
-    /// The text that `prefixes_text` makes, its tables made in at most `most` threads, or in as many as suit the processors
-    /// where it is None. Refused for memory alone, also in a thread.
+    /// The text that `prefixes_text` makes, its tables made in at most `most` threads, or in as
+    /// many as suit the processors where it is None. Refused for memory alone, also in a thread.
     /// Condition: the plan is over the graph's network.
     fn prefixes(
         &self,

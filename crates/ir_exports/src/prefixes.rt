@@ -1,27 +1,22 @@
 //! The text of a plan's forwarding tables.
-ghost use Rattle.std.specs.Prelude.{◌≡◌, ◌<◌, ◌≤◌, ◌++◌, Bool, IfOk, IfSome, List, OnOk, All, [], length, flat_map, string_bytes};
-ghost use Rattle.ir_model.specs.{Graph.{Name, names}, Topology.{node_count, ports_of}, Plan.IsPlan};
+ghost use Rattle.std.specs.Prelude.{◌≡◌, ◌<◌, ◌≤◌, ◌++◌, IfOk, IfSome, OnOk, All, length, flat_map, string_bytes};
+ghost use Rattle.ir_model.specs.{Graph.names, Topology.{node_count, ports_of}, Plan.IsPlan};
 ghost use Rattle.ir_trace.specs.Rows.{spaced};
 ghost use Rattle.ir_show.specs.Words.{line_text};
-ghost use Rattle.ir_exports.specs.Before.{AreWritten};
+ghost use Rattle.ir_exports.specs.Before.{AreWritten, IsTextOfLines};
 ghost use Rattle.ir_exports.specs.PrefixesText.{entry_words, prefixes_head, prefix_node_words, IsPrefixesOf};
 
 use crate::table::table_of;
 use ir_graph::Graph;
 use ir_plan::Plan;
 use ir_prefix::{TableLine, width};
+use ir_show::TextResult;
 use ir_show::plan_text::kind_text;
 use ir_trace::text::{name_of, push_name, push_next_number, push_word};
 use std::alloc::{AllocError, Global};
 
 /// Writes a line of a node: its prefix, and the neighbour at its port, or `-` where there is no port.
-fn push_entry(
-    text: &mut String,
-    graph: &Graph,
-    plan: &Plan,
-    u: u16,
-    line: &TableLine,
-) -> Result<(), AllocError>
+fn push_entry(text: &mut String, graph: &Graph, plan: &Plan, u: u16, line: &TableLine) -> TextResult
     requires nodes { node_count plan.now.topology ≡ length graph.now }
     requires plan { IsPlan plan.now }
     requires node { u < length graph.now }
@@ -29,27 +24,20 @@ fn push_entry(
     ensures { OnOk result (string_bytes text.new ≡ string_bytes text.old
         ++ flat_map spaced (entry_words (names graph.now) plan.now.topology u line.now)) }
 {
-    let TableLine {
-        value,
-        length,
-        port,
-    } = *line;
-    write!(text, " {value}/{length}")?;
-    match port {
-        Some(port) => push_name(text, graph, plan.hop(u, port).node)?,
-        None => push_word(text, "-")?,
+    write!(text, " {}/{}", line.value, line.length)?;
+    match line.port {
+        Some(port) => push_name(text, graph, plan.hop(u, port).node),
+        None => push_word(text, "-"),
     }
-    Ok(())
 }
 
-/// Writes the lines of a node.
 fn push_entries(
     text: &mut String,
     graph: &Graph,
     plan: &Plan,
     u: u16,
     table: &[TableLine],
-) -> Result<(), AllocError>
+) -> TextResult
     requires nodes { node_count plan.now.topology ≡ length graph.now }
     requires plan { IsPlan plan.now }
     requires node { u < length graph.now }
@@ -71,7 +59,7 @@ pub fn push_node(
     plan: &Plan,
     u: u16,
     table: &[TableLine],
-) -> Result<(), AllocError>
+) -> TextResult
     requires nodes { node_count plan.now.topology ≡ length graph.now }
     requires plan { IsPlan plan.now }
     requires node { u < length graph.now }
@@ -82,8 +70,7 @@ pub fn push_node(
     text.push_str(name_of(graph, u))?;
     push_next_number(text, plan.label_of(u) as usize)?;
     push_entries(text, graph, plan, u, table)?;
-    text.push_str("\n")?;
-    Ok(())
+    text.push_str("\n")
 }
 
 /// Writes the lines of each node, the table of one node after the other, and answers how many lines there are.
@@ -108,8 +95,7 @@ fn push_nodes(
     Ok(lines)
 }
 
-/// Writes the first line.
-fn push_head(text: &mut String, plan: &Plan, bits: u8, lines: usize) -> Result<(), AllocError>
+fn push_head(text: &mut String, plan: &Plan, bits: u8, lines: usize) -> TextResult
     ensures { OnOk result (string_bytes text.new ≡ string_bytes text.old
         ++ line_text (prefixes_head plan.now bits lines)) }
 {
@@ -118,8 +104,7 @@ fn push_head(text: &mut String, plan: &Plan, bits: u8, lines: usize) -> Result<(
     push_next_number(text, plan.nodes())?;
     push_next_number(text, bits as usize)?;
     push_next_number(text, lines)?;
-    text.push_str("\n")?;
-    Ok(())
+    text.push_str("\n")
 }
 
 /// The text of the forwarding tables of a plan's nodes: `prefixes KIND N BITS LINES`, and for each node its name, its
@@ -148,9 +133,7 @@ pub fn text_of_lines(
     lines: usize,
     tables: &str,
 ) -> Result<String, AllocError>
-    ensures { IfOk result (λ text. (is_disjoint : Bool) (nodes : List Name)
-        → AreWritten is_disjoint nodes plan.now (node_count plan.now.topology) lines [] tables.now
-        → IsPrefixesOf is_disjoint nodes plan.now (string_bytes text)) }
+    ensures { IfOk result (λ text. IsTextOfLines plan.now lines tables.now (string_bytes text)) }
 {
     let bits = width(plan.nodes() as u16);
     let mut text = String::new(alloc);

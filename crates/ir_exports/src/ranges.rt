@@ -11,6 +11,7 @@ use crate::table::ports_by_label;
 use ir_graph::Graph;
 use ir_plan::Plan;
 use ir_prefix::{LabelRange, label_ranges};
+use ir_show::TextResult;
 use ir_show::plan_text::kind_text;
 use ir_trace::text::{name_of, push_name, push_next_number, push_word};
 use std::alloc::{AllocError, Global};
@@ -31,7 +32,7 @@ pub fn ranges_of(alloc: Global, plan: &Plan, u: u16) -> Result<Vec<LabelRange>, 
 }
 
 /// Writes a space and the labels of a range.
-fn push_span(text: &mut String, from: u16, to: u16) -> Result<(), AllocError>
+fn push_span(text: &mut String, from: u16, to: u16) -> TextResult
     ensures { OnOk result (string_bytes text.new ≡ string_bytes text.old ++ spaced (labels_text from to)) }
 {
     write!(text, " {from}-{to}")
@@ -44,7 +45,7 @@ fn push_range(
     plan: &Plan,
     u: u16,
     range: &LabelRange,
-) -> Result<(), AllocError>
+) -> TextResult
     requires nodes { node_count plan.now.topology ≡ length graph.now }
     requires plan { IsPlan plan.now }
     requires node { u < length graph.now }
@@ -53,18 +54,16 @@ fn push_range(
         ++ flat_map spaced (range_words (names graph.now) plan.now.topology u range.now)) }
 {
     push_span(text, range.from, range.to)?;
-    push_name(text, graph, plan.hop(u, range.port).node)?;
-    Ok(())
+    push_name(text, graph, plan.hop(u, range.port).node)
 }
 
-/// Writes the ranges of a node.
 fn push_ranges(
     text: &mut String,
     graph: &Graph,
     plan: &Plan,
     u: u16,
     set: &[LabelRange],
-) -> Result<(), AllocError>
+) -> TextResult
     requires nodes { node_count plan.now.topology ≡ length graph.now }
     requires plan { IsPlan plan.now }
     requires node { u < length graph.now }
@@ -121,21 +120,20 @@ fn push_nodes(
     Ok(count)
 }
 
-/// Writes the first line.
-fn push_head(text: &mut String, plan: &Plan, count: usize) -> Result<(), AllocError>
+fn push_head(text: &mut String, plan: &Plan, count: usize) -> TextResult
     ensures { OnOk result (string_bytes text.new ≡ string_bytes text.old ++ line_text (ranges_head plan.now count)) }
 {
     text.push_str("ranges")?;
     push_word(text, kind_text(plan.kind()))?;
     push_next_number(text, plan.nodes())?;
     push_next_number(text, count)?;
-    text.push_str("\n")?;
-    Ok(())
+    text.push_str("\n")
 }
 
-/// The text of the ranges of a plan's nodes: `ranges KIND N COUNT`, and for each node its name, its label and its ranges,
-/// each as `FROM-TO` and the neighbour. They are those of `ranges_of`. Condition: the plan is over the graph's network.
-/// It is refused for memory alone. Takes O(n * n), for n nodes.
+/// The text of the ranges of a plan's nodes: `ranges KIND N COUNT`, and for each node its name, its
+/// label and its ranges, each as `FROM-TO` and the neighbour. They are those of `ranges_of`.
+/// Condition: the plan is over the graph's network. It is refused for memory alone. Takes O(n * n),
+/// for n nodes.
 pub fn ranges_text(alloc: Global, graph: &Graph, plan: &Plan) -> Result<String, AllocError>
     requires { node_count plan.now.topology ≡ length graph.now }
     ensures { IfOk result (λ text. string_bytes text ≡ ranges_text (names graph.now) plan.now) }

@@ -59,9 +59,9 @@ fn port_behind(row: &Row, below: usize, own: u16, label: u16) -> Option<u16>
     Some(row.port(below - 1))
 }
 
-/// The forwarding table of a node, by the ports of its row: that of `ir_prefix::disjoint_lines` if the lines
-/// are to be disjoint, else that of `ir_prefix::forwarding_lines`. It is refused for memory alone. Takes O(n log n), for n
-/// nodes.
+/// The forwarding table of a node, by the ports of its row: that of `ir_prefix::disjoint_lines` if
+/// the lines are to be disjoint, else that of `ir_prefix::forwarding_lines`. It is refused for
+/// memory alone. Takes O(n log n), for n nodes.
 pub fn table_of(
     alloc: Global,
     plan: &Plan,

@@ -19,11 +19,11 @@ pub struct NodeText {
     pub lines: usize,
 }
 
-/// The text that `prefixes_text` makes, the lines of the nodes made in at most `most` threads, or in as many as suit the
-/// processors where it is None. Where no thread can be started, they are made on this one. Each thread holds one node's
-/// table at a time.
-/// Condition: the plan is over the graph's network. It is refused for memory alone, also in a thread. All threads
-/// together take as long as `prefixes_text`.
+/// The text that `prefixes_text` makes, the lines of the nodes made in at most `most` threads, or
+/// in as many as suit the processors where it is None. Where no thread can be started, they are
+/// made on this one. Each thread holds one node's table at a time. Condition: the plan is over the
+/// graph's network. It is refused for memory alone, also in a thread. All threads together take as
+/// long as `prefixes_text`.
 pub fn prefixes_text_in_threads(
     rt: &(impl Threads + Sync),
     alloc: Global,

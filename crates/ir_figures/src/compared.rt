@@ -13,7 +13,7 @@ use crate::waits::waiting_ring;
 use ir_model::Kind;
 use ir_plan::{Crew, LabelOrder, Labels, Plan, PlanError};
 use ir_show::plan_text::kind_text;
-use ir_show::{Figures, figures_of, greatest_row};
+use ir_show::{Figures, TextResult, figures_of, greatest_row};
 use ir_tables::Topology;
 use ir_trace::text::{push_next_number, push_word};
 use std::alloc::{AllocError, Global};
@@ -38,15 +38,13 @@ fn ring_word(ring: &Option<Vec<u16>>) -> &'static str
     }
 }
 
-/// Writes a space and a ratio.
-fn push_ratio(text: &mut String, over: u64, under: u64) -> Result<(), AllocError>
+fn push_ratio(text: &mut String, over: u64, under: u64) -> TextResult
     ensures { OnOk result (string_bytes text.new ≡ string_bytes text.old ++ spaced (ratio_text over under)) }
 {
     write!(text, " {over}/{under}")
 }
 
-/// Writes the mean and the worst stretch of a plan's walks.
-fn push_stretches(text: &mut String, figures: &Figures) -> Result<(), AllocError>
+fn push_stretches(text: &mut String, figures: &Figures) -> TextResult
     ensures { OnOk result (string_bytes text.new ≡ string_bytes text.old
         ++ flat_map spaced (stretches_of figures.now.walks figures.now.distances figures.now.worst)) }
 {
@@ -55,20 +53,18 @@ fn push_stretches(text: &mut String, figures: &Figures) -> Result<(), AllocError
         return Ok(());
     };
     push_ratio(text, figures.walks, figures.distances)?;
-    push_ratio(text, worst.walk as u64, worst.distance as u64)?;
-    Ok(())
+    push_ratio(text, worst.walk as u64, worst.distance as u64)
 }
 
 /// Writes how many starts the rows of a plan have, its greatest row, and the bits of its rows.
-fn push_counts(text: &mut String, plan: &Plan, greatest: u16, bits: u64) -> Result<(), AllocError>
+fn push_counts(text: &mut String, plan: &Plan, greatest: u16, bits: u64) -> TextResult
     requires { greatest < node_count plan.now.topology }
     ensures { OnOk result (string_bytes text.new ≡ string_bytes text.old
         ++ flat_map spaced (count_words plan.now greatest bits)) }
 {
     push_next_number(text, plan.labels())?;
     push_next_number(text, plan.row(greatest).len())?;
-    push_next_number(text, bits as usize)?;
-    Ok(())
+    push_next_number(text, bits as usize)
 }
 
 /// Writes the row of a plan, and answers the bits of full tables.
@@ -95,15 +91,21 @@ fn push_row(
     Ok(bits.tables)
 }
 
-/// Builds a plan over a topology and writes its row; answers the topology again, and the bits of full tables.
-fn push_plan(
-    text: &mut String,
-    crew: &impl Crew,
+/// Who builds the plans that are compared, in at most so many threads.
+#[derive(Drop)]
+struct Builders<'a, C> {
+    crew: &'a C,
     alloc: Global,
+    most: Option<usize>,
+}
+
+/// Builds a plan over a topology and writes its row; answers the topology again, and the bits of full tables.
+fn push_plan<C: Crew>(
+    text: &mut String,
+    by: &Builders<'_, C>,
     topology: Topology,
     kind: Kind,
     labels: (LabelOrder, u16),
-    most: Option<usize>,
 ) -> Result<(Topology, u64), PlanError>
     ensures row { OnOk result ((line : List ℕ) × IsRowBy topology labels.1 kind labels.0 line
         × (string_bytes text.new ≡ string_bytes text.old ++ line)) }
@@ -114,25 +116,23 @@ fn push_plan(
 {
     let (order, root) = labels;
     let from_root = Labels::FromRoot(order, root);
-    match Plan::build_by(crew, alloc, topology, kind, from_root, most) {
+    match Plan::build_by(by.crew, by.alloc, topology, kind, from_root, by.most) {
         Ok(plan) => {
-            let tables = push_row(text, alloc, &plan, order)?;
+            let tables = push_row(text, by.alloc, &plan, order)?;
             Ok((plan.into_topology(), tables))
         }
         Err((error, _topology)) => Err(error),
     }
 }
 
-/// Writes the rows of the plans of a kind, of a tree that of depth first alone; answers the topology again, and the bits of
-/// full tables.
-fn push_kind(
+/// Writes the rows of the plans of a kind, of a tree that of depth first alone; answers the
+/// topology again, and the bits of full tables.
+fn push_kind<C: Crew>(
     text: &mut String,
-    crew: &impl Crew,
-    alloc: Global,
+    by: &Builders<'_, C>,
     topology: Topology,
     kind: Kind,
     root: u16,
-    most: Option<usize>,
 ) -> Result<(Topology, u64), PlanError>
     ensures rows { OnOk result ((lines : List ℕ) × AreRowsOf topology root kind lines
         × (string_bytes text.new ≡ string_bytes text.old ++ lines)) }
@@ -142,17 +142,17 @@ fn push_kind(
         → RefusesPlan topology (FromRoot LabelOrder.DepthFirst root) e) }
 {
     let first = (LabelOrder::DepthFirst, root);
-    let (topology, tables) = push_plan(text, crew, alloc, topology, kind, first, most)?;
+    let (topology, tables) = push_plan(text, by, topology, kind, first)?;
     if kind == Kind::Tree {
         return Ok((topology, tables));
     }
     let second = (LabelOrder::Tour, root);
-    let (topology, tables) = push_plan(text, crew, alloc, topology, kind, second, most)?;
+    let (topology, tables) = push_plan(text, by, topology, kind, second)?;
     Ok((topology, tables))
 }
 
 /// Writes the first line, and the line of the columns' names.
-fn push_head(text: &mut String, topology: &Topology) -> Result<(), AllocError>
+fn push_head(text: &mut String, topology: &Topology) -> TextResult
     ensures { OnOk result (string_bytes text.new ≡ (string_bytes text.old ++ line_text (compare_head topology.now))
         ++ line_text column_names) }
 {
@@ -162,24 +162,22 @@ fn push_head(text: &mut String, topology: &Topology) -> Result<(), AllocError>
     text.push_str("\n")?;
     text.push_str(
         "kind numbering intervals greatest-row bits mean-stretch worst-stretch dependencies\n",
-    )?;
-    Ok(())
+    )
 }
 
-/// Writes the row of full tables.
-fn push_tables(text: &mut String, tables: u64) -> Result<(), AllocError>
+fn push_tables(text: &mut String, tables: u64) -> TextResult
     ensures { OnOk result (string_bytes text.new ≡ string_bytes text.old ++ line_text (table_words tables)) }
 {
     text.push_str("tables - - -")?;
     push_next_number(text, tables as usize)?;
-    text.push_str(" - - -\n")?;
-    Ok(())
+    text.push_str(" - - -\n")
 }
 
-/// The text that compares the plans of a topology from a root: a row for each kind and each order of labels, with the
-/// figures that `figures_text` has of that plan, and a row of full tables by label. Their order is `shortest`, `compact`
-/// and `tree`, of each depth first and then by a tour, but for trees. One plan is held at a time, by a tour two. Its rows
-/// are made by a crew in at most `most` threads.
+/// The text that compares the plans of a topology from a root: a row for each kind and each order
+/// of labels, with the figures that `figures_text` has of that plan, and a row of full tables by
+/// label. Their order is `shortest`, `compact` and `tree`, of each depth first and then by a tour,
+/// but for trees. One plan is held at a time, by a tour two. Its rows are made by a crew in at most
+/// `most` threads.
 ///
 /// Refused as each of these plans is: as Empty, NoNode or Disconnected, or for want of memory. Takes as long as
 /// `figures_text` and `Plan::build_by` of each plan.
@@ -194,11 +192,12 @@ pub fn compare_text(
     ensures refused { IfErr result (λ e. e ≢ PlanError.NoMemory
         → RefusesPlan topology (FromRoot LabelOrder.DepthFirst root) e) }
 {
+    let by = Builders { crew, alloc, most };
     let mut text = String::new(alloc);
     push_head(&mut text, &topology)?;
-    let (network, _) = push_kind(&mut text, crew, alloc, topology, Kind::Shortest, root, most)?;
-    let (network, _) = push_kind(&mut text, crew, alloc, network, Kind::Compact, root, most)?;
-    let (_network, tables) = push_kind(&mut text, crew, alloc, network, Kind::Tree, root, most)?;
+    let (network, _) = push_kind(&mut text, &by, topology, Kind::Shortest, root)?;
+    let (network, _) = push_kind(&mut text, &by, network, Kind::Compact, root)?;
+    let (_network, tables) = push_kind(&mut text, &by, network, Kind::Tree, root)?;
     push_tables(&mut text, tables)?;
     Ok(text)
 }

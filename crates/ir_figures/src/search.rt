@@ -1,6 +1,10 @@
-//! A search of a digraph, depth first.
+//! Digraphs: whether the nodes can be numbered such that each arc rises, or else a ring of arcs.
+//!
+//! An arc from a node leads into that node's block, some nodes in a row, of which those that an arc
+//! leads to are marked. `specs/Arcs` says what an arc, rising numbers and a ring are; the search is
+//! depth first (Tarjan 1972).
 ghost use Rattle.std.specs.Prelude.{◌≡◌, ◌+◌, ◌<◌, ◌≤◌, ℕ, List, length, slice_index, IfOk, IfNone, IfSome, OnOk};
-ghost use Rattle.ir_figures.specs.Arcs.{marks_of, width_of, IsDigraph};
+ghost use Rattle.ir_figures.specs.Arcs.{marks_of, width_of, IsAcyclic, IsDigraph, IsRing};
 ghost use Rattle.ir_figures.specs.Search.{Searches, OnlyFall, IsLast, IsPassed, ArcLeadsOn, IsBack, HasOnPath, IsPathFrom};
 
 use std::alloc::{AllocError, Global};
@@ -17,7 +21,7 @@ pub struct Search {
 
 impl Search {
     /// The search in which each node is fresh.
-    pub fn new(alloc: Global, leads: &[Vec<bool>]) -> Result<Search, AllocError>
+    fn new(alloc: Global, leads: &[Vec<bool>]) -> Result<Search, AllocError>
         requires few { length leads.now ≤ 4294967295 }
         requires narrow { (c : ℕ) → c < length leads.now → width_of (marks_of leads.now) c ≤ 65535 }
         ensures search { IfOk result (λ s. (first : List ℕ) → Searches first leads.now s) }
@@ -88,8 +92,8 @@ impl Search {
         Ok(())
     }
 
-    /// Takes a step from the last node of the path. Answers an open node that an arc from there leads to, where the step
-    /// would take that arc; then nothing was changed.
+    /// Takes a step from the last node of the path. Answers an open node that an arc from there
+    /// leads to, where the step would take that arc; then nothing was changed.
     fn step(
         &mut self,
         first: &[u32],
@@ -141,9 +145,9 @@ impl Search {
         Ok(None)
     }
 
-    /// Visits a node, and all that arcs lead to from it, unless that was done. Answers an open node that an arc from the
-    /// last node of the path leads to.
-    pub fn visit(
+    /// Visits a node, and all that arcs lead to from it, unless that was done. Answers an open node
+    /// that an arc from the last node of the path leads to.
+    fn visit(
         &mut self,
         first: &[u32],
         leads: &[Vec<bool>],
@@ -167,7 +171,7 @@ impl Search {
     }
 
     /// The nodes of the path from an open one on.
-    pub fn path_from(&self, alloc: Global, d: u32) -> Result<Vec<u32>, AllocError>
+    fn path_from(&self, alloc: Global, d: u32) -> Result<Vec<u32>, AllocError>
         requires held { HasOnPath self.now d }
         ensures { IfOk result (λ nodes. IsPathFrom self.now d nodes.items) }
     {
@@ -188,4 +192,28 @@ fn place_of(path: &[u32], d: u32) -> usize
         }
     }
     0
+}
+
+/// A ring of a digraph's arcs, as the nodes that they begin at, in order; None where the nodes can
+/// be numbered such that each arc rises. From the node c an arc leads to the node `first[c] + q`
+/// exactly where `leads[c][q]`.
+///
+/// The digraph has fewer than 2^32 nodes. Refused for memory alone.
+pub fn ring_of(
+    alloc: Global,
+    first: &[u32],
+    leads: &[Vec<bool>],
+) -> Result<Option<Vec<u32>>, AllocError>
+    requires { IsDigraph first.now (marks_of leads.now) }
+    ensures acyclic { IfOk result (λ found. IfNone found (IsAcyclic first.now (marks_of leads.now))) }
+    ensures ring { IfOk result (λ found. IfSome found (λ ring. IsRing first.now (marks_of leads.now) ring.items)) }
+{
+    let mut search = Search::new(alloc, leads)?;
+    for c in 0..leads.len() {
+        if let Some(d) = search.visit(first, leads, c)? {
+            let ring = search.path_from(alloc, d)?;
+            return Ok(Some(ring));
+        }
+    }
+    Ok(None)
 }

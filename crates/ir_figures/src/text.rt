@@ -11,17 +11,12 @@ use crate::most::{Most, most_intervals};
 use crate::waits::{waiting_ring, waiting_ring_together};
 use ir_graph::Graph;
 use ir_plan::Plan;
-use ir_show::stats_text;
+use ir_show::{TextResult, stats_text};
 use ir_trace::text::{push_name, push_next_number};
 use std::alloc::{AllocError, Global};
 
 /// Writes the line of the port of the most intervals, if there is one.
-fn push_most(
-    text: &mut String,
-    graph: &Graph,
-    plan: &Plan,
-    most: Option<Most>,
-) -> Result<(), AllocError>
+fn push_most(text: &mut String, graph: &Graph, plan: &Plan, most: Option<Most>) -> TextResult
     requires nodes { node_count plan.now.topology ≡ length graph.now }
     requires port { IfSome most (λ m. HasPortNumber plan.now m.node m.port) }
     ensures { OnOk result (string_bytes text.new ≡ string_bytes text.old
@@ -36,23 +31,19 @@ fn push_most(
     push_name(text, graph, most.node)?;
     push_name(text, graph, hop.node)?;
     push_next_number(text, most.count)?;
-    text.push_str("\n")?;
-    Ok(())
+    text.push_str("\n")
 }
 
-/// Writes the line of the bits.
-fn push_bits(text: &mut String, bits: Bits) -> Result<(), AllocError>
+fn push_bits(text: &mut String, bits: Bits) -> TextResult
     ensures { OnOk result (string_bytes text.new ≡ string_bytes text.old ++ bits_line bits.rows bits.tables) }
 {
     text.push_str("bits")?;
     push_next_number(text, bits.rows as usize)?;
     push_next_number(text, bits.tables as usize)?;
-    text.push_str("\n")?;
-    Ok(())
+    text.push_str("\n")
 }
 
-/// Writes the names of nodes, each behind a space.
-fn push_names(text: &mut String, graph: &Graph, ring: &[u16]) -> Result<(), AllocError>
+fn push_names(text: &mut String, graph: &Graph, ring: &[u16]) -> TextResult
     requires { (i : ℕ) → i < length ring.now → slice_index ring.now i < length graph.now }
     ensures { OnOk result (string_bytes text.new
         ≡ string_bytes text.old ++ flat_map spaced (map (name_at (names graph.now)) ring.now)) }
@@ -65,12 +56,7 @@ fn push_names(text: &mut String, graph: &Graph, ring: &[u16]) -> Result<(), Allo
 
 /// Writes the line of the ring of links that wait for each other, if there is one, behind a word.
 #[tactic(auto, using(ir_show::proofs::PlanLines::words_of_a_line))]
-fn push_ring(
-    text: &mut String,
-    word: &str,
-    graph: &Graph,
-    ring: &Option<Vec<u16>>,
-) -> Result<(), AllocError>
+fn push_ring(text: &mut String, word: &str, graph: &Graph, ring: &Option<Vec<u16>>) -> TextResult
     requires { IfSome ring.now (λ r. (i : ℕ) → i < length r.items → slice_index r.items i < length graph.now) }
     ensures { OnOk result (string_bytes text.new
         ≡ string_bytes text.old ++ ring_line word.now (names graph.now) (option_map (λ r. r.items) ring.now)) }
@@ -82,8 +68,7 @@ fn push_ring(
     };
     text.push_str(" cycle")?;
     push_names(text, graph, ring.as_slice())?;
-    text.push_str("\n")?;
-    Ok(())
+    text.push_str("\n")
 }
 
 /// The text of the figures of a plan, those of the field behind the others. Condition: the plan is over the graph's
@@ -101,9 +86,10 @@ pub fn figures_text(alloc: Global, graph: &Graph, plan: &Plan) -> Result<String,
     Ok(text)
 }
 
-/// The text of the figures of a plan, and behind it the line of a ring of links that wait for each other in that plan and a
-/// second one together. Conditions: both plans are over the graph's network. It is refused for memory alone. Takes as long
-/// as `figures_text` and `waiting_ring_together`.
+/// The text of the figures of a plan, and behind it the line of a ring of links that wait for each
+/// other in that plan and a second one together. Conditions: both plans are over the graph's
+/// network. It is refused for memory alone. Takes as long as `figures_text` and
+/// `waiting_ring_together`.
 pub fn figures_text_beside(
     alloc: Global,
     graph: &Graph,

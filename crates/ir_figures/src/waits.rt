@@ -3,12 +3,43 @@ ghost use Rattle.std.specs.Prelude.{◌≡◌, ◌↔◌, ◌+◌, ◌<◌, ℕ,
 ghost use Rattle.ir_model.specs.{Topology.{node_count, ports_of}, Plan.IsPlan};
 ghost use Rattle.ir_figures.specs.Arcs.{marks_of, width_of, IsDigraph, IsAcyclic, IsRing};
 ghost use Rattle.ir_figures.specs.Waits.{Waits, WaitsInEither, IsWithoutRing, IsWaitingRing};
-ghost use Rattle.ir_figures.specs.Exits.{exits_before, AreExits, ArePortsByLabel, AreOnward, IsMarkedFor, AreLinks, AreMarkedAlso, AreRowsMarkedAlso, AreLeftBy};
+ghost use Rattle.ir_figures.specs.Exits.{exits_before, AreExits, AreNextExits, ArePortsByLabel, AreOnward, IsMarkedFor, AreLinks, AreMarkedAlso, AreRowsMarkedAlso, AreLeftBy};
 
-use crate::exits::{Exits, exits_of};
-use crate::ring::ring_of;
+use crate::search::ring_of;
 use ir_plan::Plan;
+use ir_tables::Topology;
 use std::alloc::{AllocError, Global};
+
+/// Where the links that leave each node begin, and the node that each link leaves.
+#[derive(Drop)]
+struct Exits {
+    first: Vec<u32>,
+    nodes: Vec<u16>,
+}
+
+/// Writes a node as often as it has links.
+fn push_node(nodes: &mut Vec<u16>, u: u16, links: usize) -> Result<(), AllocError>
+    ensures { OnOk result (AreNextExits nodes.old.items u links nodes.new.items) }
+{
+    for _p in 0..links {
+        nodes.push(u)?;
+    }
+    Ok(())
+}
+
+/// The links of a topology.
+fn exits_of(alloc: Global, topology: &Topology) -> Result<Exits, AllocError>
+    ensures { IfOk result (λ exits.
+        AreExits topology.now (node_count topology.now) exits.first.items exits.nodes.items) }
+{
+    let mut first = Vec::with_capacity(alloc, topology.nodes())?;
+    let mut nodes = Vec::new(alloc);
+    for u in 0..topology.nodes() {
+        first.push(nodes.len() as u32)?;
+        push_node(&mut nodes, u as u16, topology.degree(u as u16))?;
+    }
+    Ok(Exits { first, nodes })
+}
 
 /// For each directed link where the links begin of the node that it leads to, and which of these links take on what
 /// comes over it.
@@ -47,26 +78,22 @@ fn mark_port(plan: &Plan, v: u16, a: u16, marks: &mut Vec<bool>)
 fn goes_by(port: Option<u16>, p: u16) -> bool
     ensures { IsTrue result ↔ (port ≡ Some p) }
 {
-    match port {
-        Some(q) => q == p,
-        None => false,
-    }
+    port == Some(p)
 }
 
 /// A mark for each port of the node behind a port of another one: whether what goes that way leaves by it.
 fn onward(
     alloc: Global,
     plan: &Plan,
-    u: u16,
     ports: &[Option<u16>],
     p: u16,
     v: u16,
 ) -> Result<Vec<bool>, AllocError>
-    requires ports { ArePortsByLabel plan.now u ports.now }
+    requires every { length ports.now ≡ node_count plan.now.topology }
     requires node { v < node_count plan.now.topology }
-    ensures { IfOk result (λ marks. AreOnward plan.now u p v (node_count plan.now.topology) marks.items) }
+    ensures { IfOk result (λ marks. (u : ℕ) → ArePortsByLabel plan.now u ports.now
+        → AreOnward plan.now u p v (node_count plan.now.topology) marks.items) }
 {
-    let _ = u;
     let mut marks = vec![in alloc; false; plan.topology().degree(v)]?;
     for a in 0..plan.nodes() {
         if goes_by(ports[a], p) {
@@ -95,7 +122,7 @@ fn push_links(
     let ports = ports_by_label(alloc, plan, u)?;
     for p in 0..plan.topology().degree(u) {
         let next = plan.hop(u, p as u16).node;
-        let marks = onward(alloc, plan, u, ports.as_slice(), p as u16, next)?;
+        let marks = onward(alloc, plan, ports.as_slice(), p as u16, next)?;
         links.marks.push(marks)?;
         links.begins.push(first[next as usize])?;
     }
@@ -172,9 +199,10 @@ fn ring_in(alloc: Global, exits: &Exits, links: &Links) -> Result<Option<Vec<u16
     Ok(Some(named))
 }
 
-/// Nodes that directed links leave which wait for each other in a ring, in order; None where the links can be numbered
-/// such that each waits for greater ones alone. A link waits for another one where a walk that the plan prescribes takes
-/// them one behind the other: packets that hold one's buffer wait for room in the other's (Dally and Seitz 1987).
+/// Nodes that directed links leave which wait for each other in a ring, in order; None where the
+/// links can be numbered such that each waits for greater ones alone. A link waits for another one
+/// where a walk that the plan prescribes takes them one behind the other: packets that hold one's
+/// buffer wait for room in the other's (Dally and Seitz 1987).
 ///
 /// It takes a byte for each directed link and port of the node that it leads to. Refused for memory alone. Takes
 /// O(n * n log n + n m), for n nodes and m links.
@@ -189,11 +217,12 @@ pub fn waiting_ring(alloc: Global, plan: &Plan) -> Result<Option<Vec<u16>>, Allo
     ring_in(alloc, &exits, &links)
 }
 
-/// The same of two plans over one network together: a link waits for another one where it does so in either plan, as while
-/// packets of both are under way in shared buffers.
+/// The same of two plans over one network together: a link waits for another one where it does so
+/// in either plan, as while packets of both are under way in shared buffers.
 ///
-/// Condition: both plans are over the same network. It takes two bytes for each directed link and port of the node that it
-/// leads to. Refused for memory alone. Takes as long as `waiting_ring` of both plans.
+/// Condition: both plans are over the same network. It takes two bytes for each directed link and
+/// port of the node that it leads to. Refused for memory alone. Takes as long as `waiting_ring` of
+/// both plans.
 pub fn waiting_ring_together(
     alloc: Global,
     plan: &Plan,

@@ -1,5 +1,5 @@
 -- The forms of lines: the template of a line's front, and what its further words are.
-use Rattle.std.specs.Prelude.{ℕ, ◌==◌, Bool, true, ◌||◌, if◌then◌else◌, List, [], slice_index_or, bytes_eq, codes, nat_lt}
+use Rattle.std.specs.Prelude.{◌≡◌, ℕ, ◌==◌, Bool, true, ◌||◌, if◌then◌else◌, List, [], slice_index_or, bytes_eq, codes, nat_lt}
 use Rattle.std.specs.List.{list_all}
 use Rattle.ir_model.specs.Graph.{Name}
 use Rattle.ir_model.specs.Text.{is_empty}
@@ -50,6 +50,12 @@ is_ascii_further NoMore = true
 is_ascii_further Names = true
 is_ascii_further (Pairs template) = is_ascii template
 is_ascii_further Segments = true
+
+-- The value of the program is this form, and its templates are of ASCII.
+pub record IsForm (wanted : LineForm) (form : Form) : Type 0 where
+  pub held : form_held form ≡ wanted
+  pub front : is_ascii (form_held form).front ≡ true
+  pub further : is_ascii_further (form_held form).further ≡ true
 
 -- the word at a place of a line, none being empty
 abbrev pub word_at : List Name → ℕ → Name

@@ -1,8 +1,8 @@
 -- Templates: the JSON of a line, with signs in place of its words.
 use Rattle.std.specs.Prelude.{ℕ, ◌==◌, if◌then◌else◌, List, [], ◌∷◌, ◌++◌, drop, slice_index_or, Option, Some, None}
 use Rattle.ir_model.specs.Graph.{Name}
-use Rattle.ir_json.specs.declared.sign.Sign.{Sign}
-use Rattle.ir_json.specs.declared.sign.Sign.TheVariants.{Text, Count, Goal, Front, Behind, Skipped}
+use Rattle.ir_json.specs.declared.fill.Sign.{Sign}
+use Rattle.ir_json.specs.declared.fill.Sign.TheVariants.{Text, Count, Goal, Front, Behind, Skipped}
 use Rattle.ir_json.specs.Words.{json_string, json_number, goal, before_mark, behind_mark}
 
 -- `$`, `#`, `?`, `<`, `>` and `~`; each other byte stands for itself

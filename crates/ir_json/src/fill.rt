@@ -1,18 +1,50 @@
 //! Templates with the words of a line in place of their signs.
-ghost use Rattle.std.specs.Prelude.{◌≡◌, ◌<◌, ◌++◌, [], true, OnOk, IfOk, length, nat_lt, drop, string_bytes};
+ghost use Rattle.std.specs.Prelude.{◌≡◌, ◌<◌, ◌≤◌, ◌++◌, [], true, OnOk, IfOk, length, nat_lt, drop, string_bytes};
 ghost use Rattle.std.specs.List.{list_all};
 ghost use Rattle.ir_model.specs.Text.{words_of};
-ghost use Rattle.ir_json.specs.Signs.{sign_of, sign_text, words_after, first_word, part_text, part_left, filled, left};
+ghost use Rattle.ir_json.specs.Signs.{sign_of, sign_text, first_word, part_text, part_left, filled, left};
 
-use crate::sign::{Sign, sign_of};
 use crate::words::{before_mark, behind_mark, push_goal, push_number, push_quoted};
 use ir_adjlist::scan::next_word;
 use std::alloc::AllocError;
+
+/// What stands in place of a word.
+#[derive(Clone, Copy)]
+pub enum Sign {
+    /// The word as a string: `$`.
+    Text,
+    /// The word as a number: `#`.
+    Count,
+    /// The word as a string, or null for a dash: `?`.
+    Goal,
+    /// The number before a mark in the word, which is left to the next sign: `<`.
+    Front,
+    /// The number behind a mark in the word: `>`.
+    Behind,
+    /// Nothing: `~`.
+    Skipped,
+}
+
+/// The sign that a byte of a template is, if it is one.
+pub fn sign_of(byte: u8) -> Option<Sign>
+    ensures { result ≡ sign_of byte }
+{
+    match byte {
+        b'$' => Some(Sign::Text),
+        b'#' => Some(Sign::Count),
+        b'?' => Some(Sign::Goal),
+        b'<' => Some(Sign::Front),
+        b'>' => Some(Sign::Behind),
+        b'~' => Some(Sign::Skipped),
+        _ => None,
+    }
+}
 
 /// The first word of a line, none being empty, and what follows it.
 pub fn first_word(line: &[u8]) -> (&[u8], &[u8])
     ensures word { result.0.now ≡ first_word (words_of line.now) }
     ensures rest { words_of result.1.now ≡ drop 1 (words_of line.now) }
+    ensures shorter { length result.1.now ≤ length line.now }
 {
     match next_word(line) {
         Some((word, rest)) => (word, rest),
@@ -34,17 +66,6 @@ fn push_shown(text: &mut String, sign: Sign, word: &[u8]) -> Result<(), AllocErr
     }
 }
 
-/// What follows a sign's word.
-fn after_sign<'a>(sign: Sign, line: &'a [u8], rest: &'a [u8]) -> &'a [u8]
-    requires { words_of rest.now ≡ drop 1 (words_of line.now) }
-    ensures { words_of result.now ≡ words_after sign (words_of line.now) }
-{
-    match sign {
-        Sign::Front => line,
-        _ => rest,
-    }
-}
-
 /// Writes what a byte of a template comes to, and answers what of the line is left behind it.
 fn push_part<'a>(text: &mut String, byte: u8, line: &'a [u8]) -> Result<&'a [u8], AllocError>
     requires { byte < 128 }
@@ -60,7 +81,7 @@ fn push_part<'a>(text: &mut String, byte: u8, line: &'a [u8]) -> Result<&'a [u8]
         Some(sign) => {
             let (word, rest) = first_word(line);
             push_shown(text, sign, word)?;
-            Ok(after_sign(sign, line, rest))
+            Ok(if let Sign::Front = sign { line } else { rest })
         }
     }
 }
@@ -72,7 +93,8 @@ pub fn push_filled<'a>(
     line: &'a [u8],
 ) -> Result<&'a [u8], AllocError>
     requires { list_all (λ b. nat_lt b 128) template.now ≡ true }
-    ensures text { OnOk result (string_bytes text.new ≡ string_bytes text.old ++ filled template.now (words_of line.now)) }
+    ensures text { OnOk result (string_bytes text.new ≡ string_bytes text.old
+        ++ filled template.now (words_of line.now)) }
     ensures rest { IfOk result (λ rest. words_of rest.now ≡ left template.now (words_of line.now)) }
 {
     let mut rest = line;

@@ -1,12 +1,38 @@
 //! The forms of lines.
 ghost use Rattle.std.specs.Prelude.{◌≡◌, true};
 ghost use Rattle.ir_model.specs.Text.{words_of};
-ghost use Rattle.ir_json.specs.Forms.{word_at, has_link, figure_form, head_form, row_form, form_of, listed, plain, further_held, form_held, is_ascii, is_ascii_further};
-ghost use Rattle.ir_json.specs.JsonText.{is_tables, lead};
+ghost use Rattle.ir_json.specs.Forms.{word_at, has_link, figure_form, head_form, row_form, form_of, listed, plain, further_held, is_ascii, is_ascii_further, IsForm};
+ghost use Rattle.ir_json.specs.JsonText.{lead};
 
 use crate::fill::first_word;
 use crate::shape::Shape;
 use crate::words::is;
+
+const PLAN_ROW: &str = "{\"node\":$,\"label\":#,\"intervals\":[";
+
+const WALK_ROW: &str = "{\"node\":$,\"label\":#,\"start\":#,\"end\":#,\"next\":$,\"weight\":#}";
+
+const COMPARED_ROW: &str =
+    "{\"kind\":$,\"numbering\":$,\"intervals\":#,\"greatest-row\":#,\"bits\":#,\"mean-stretch\":{\"walks\":<,\"distances\":>},\"worst-stretch\":{\"walk\":<,\"distance\":>},\"dependencies\":$}";
+
+const PREFIXES_ROW: &str = "{\"node\":$,\"label\":#,\"entries\":[";
+
+const PREFIX: &str = "{\"value\":<,\"length\":>,\"next\":?}";
+
+const RANGES_ROW: &str = "{\"node\":$,\"label\":#,\"ranges\":[";
+
+const TRACE_ROW: &str =
+    "{\"id\":#,\"epoch\":#,\"from\":$,\"to\":$,\"weight\":#,\"fate\":$,\"hops\":[";
+
+const TRACE_ROW_WITH_LINK: &str =
+    "{\"id\":#,\"epoch\":#,\"from\":$,\"to\":$,\"weight\":#,\"fate\":$,\"link\":[$,$],\"hops\":[";
+
+const RESTAMPS_ROW: &str = "{\"id\":#,\"from\":$,\"to\":$,\"weight\":#,\"fate\":$,\"segments\":[";
+
+const RESTAMPS_ROW_WITH_LINK: &str =
+    "{\"id\":#,\"from\":$,\"to\":$,\"weight\":#,\"fate\":$,\"link\":[$,$],\"segments\":[";
+
+const FINDING: &str = "{~\"line\":#,\"finding\":$}";
 
 /// What the words behind a line's front are.
 #[derive(Clone, Copy)]
@@ -29,9 +55,7 @@ pub struct Form {
 fn listed(front: &'static str, items: Items) -> Form
     requires front { is_ascii front.now ≡ true }
     requires items { is_ascii_further (further_held items) ≡ true }
-    ensures form { form_held result ≡ listed front.now (further_held items) }
-    ensures front { is_ascii (form_held result).front ≡ true }
-    ensures items { is_ascii_further (form_held result).further ≡ true }
+    ensures { IsForm (listed front.now (further_held items)) result }
 {
     Form { front, items }
 }
@@ -39,9 +63,7 @@ fn listed(front: &'static str, items: Items) -> Form
 /// The form of a line that is its front.
 fn plain(front: &'static str) -> Form
     requires { is_ascii front.now ≡ true }
-    ensures form { form_held result ≡ plain front.now }
-    ensures front { is_ascii (form_held result).front ≡ true }
-    ensures items { is_ascii_further (form_held result).further ≡ true }
+    ensures { IsForm (plain front.now) result }
 {
     listed(front, Items::NoItems)
 }
@@ -65,11 +87,8 @@ fn has_link(line: &[u8], place: usize) -> bool
     is(word, "down") || is(word, "full")
 }
 
-/// The form of a figure, by its first word.
 fn figure_form(line: &[u8]) -> Form
-    ensures form { form_held result ≡ figure_form (words_of line.now) }
-    ensures front { is_ascii (form_held result).front ≡ true }
-    ensures items { is_ascii_further (form_held result).further ≡ true }
+    ensures { IsForm (figure_form (words_of line.now)) result }
 {
     let first = word_at(line, 0);
     let second = word_at(line, 1);
@@ -94,9 +113,7 @@ fn figure_form(line: &[u8]) -> Form
 
 /// The form of the first line of a text.
 fn head_form(shape: Shape, line: &[u8]) -> Form
-    ensures form { form_held result ≡ head_form shape (words_of line.now) }
-    ensures front { is_ascii (form_held result).front ≡ true }
-    ensures items { is_ascii_further (form_held result).further ≡ true }
+    ensures { IsForm (head_form shape (words_of line.now)) result }
 {
     match shape {
         Shape::Plan => plain("{$:$,\"nodes\":#,\"intervals\":#,\"rows\":["),
@@ -108,65 +125,36 @@ fn head_form(shape: Shape, line: &[u8]) -> Form
         Shape::Ranges => plain("{$:$,\"nodes\":#,\"count\":#,\"rows\":["),
         Shape::Trace | Shape::Restamps => plain("{$:#,\"packets\":["),
         Shape::Check if is(word_at(line, 0), "ok") => plain("{$:#}"),
-        Shape::Check => plain("{~\"line\":#,\"finding\":$}"),
+        Shape::Check => plain(FINDING),
     }
 }
 
 /// The form of a further line, by its place.
 fn row_form(shape: Shape, place: usize, line: &[u8]) -> Form
-    ensures form { form_held result ≡ row_form shape place (words_of line.now) }
-    ensures front { is_ascii (form_held result).front ≡ true }
-    ensures items { is_ascii_further (form_held result).further ≡ true }
+    ensures { IsForm (row_form shape place (words_of line.now)) result }
 {
     match shape {
-        Shape::Plan => listed(
-            "{\"node\":$,\"label\":#,\"intervals\":[",
-            Items::Pairs("{\"start\":#,\"next\":$}"),
-        ),
+        Shape::Plan => listed(PLAN_ROW, Items::Pairs("{\"start\":#,\"next\":$}")),
         Shape::Order => plain("$"),
         Shape::Walk if word_at(line, 2).is_empty() => plain("{\"node\":$,\"label\":#}"),
-        Shape::Walk => plain(
-            "{\"node\":$,\"label\":#,\"start\":#,\"end\":#,\"next\":$,\"weight\":#}",
-        ),
+        Shape::Walk => plain(WALK_ROW),
         Shape::Stats => figure_form(line),
         Shape::Compare if place == 1 => plain(""),
         Shape::Compare if is(word_at(line, 0), "tables") => plain("$:{~~~\"bits\":#}"),
-        Shape::Compare => plain(
-            "{\"kind\":$,\"numbering\":$,\"intervals\":#,\"greatest-row\":#,\"bits\":#,\"mean-stretch\":{\"walks\":<,\"distances\":>},\"worst-stretch\":{\"walk\":<,\"distance\":>},\"dependencies\":$}",
-        ),
-        Shape::Prefixes => listed(
-            "{\"node\":$,\"label\":#,\"entries\":[",
-            Items::Pairs("{\"value\":<,\"length\":>,\"next\":?}"),
-        ),
-        Shape::Ranges => listed(
-            "{\"node\":$,\"label\":#,\"ranges\":[",
-            Items::Pairs("{\"from\":<,\"to\":>,\"next\":$}"),
-        ),
-        Shape::Trace if has_link(line, 5) => listed(
-            "{\"id\":#,\"epoch\":#,\"from\":$,\"to\":$,\"weight\":#,\"fate\":$,\"link\":[$,$],\"hops\":[",
-            Items::Names,
-        ),
-        Shape::Trace => listed(
-            "{\"id\":#,\"epoch\":#,\"from\":$,\"to\":$,\"weight\":#,\"fate\":$,\"hops\":[",
-            Items::Names,
-        ),
-        Shape::Restamps if has_link(line, 4) => listed(
-            "{\"id\":#,\"from\":$,\"to\":$,\"weight\":#,\"fate\":$,\"link\":[$,$],\"segments\":[",
-            Items::Segments,
-        ),
-        Shape::Restamps => listed(
-            "{\"id\":#,\"from\":$,\"to\":$,\"weight\":#,\"fate\":$,\"segments\":[",
-            Items::Segments,
-        ),
-        Shape::Check => plain("{~\"line\":#,\"finding\":$}"),
+        Shape::Compare => plain(COMPARED_ROW),
+        Shape::Prefixes => listed(PREFIXES_ROW, Items::Pairs(PREFIX)),
+        Shape::Ranges => listed(RANGES_ROW, Items::Pairs("{\"from\":<,\"to\":>,\"next\":$}")),
+        Shape::Trace if has_link(line, 5) => listed(TRACE_ROW_WITH_LINK, Items::Names),
+        Shape::Trace => listed(TRACE_ROW, Items::Names),
+        Shape::Restamps if has_link(line, 4) => listed(RESTAMPS_ROW_WITH_LINK, Items::Segments),
+        Shape::Restamps => listed(RESTAMPS_ROW, Items::Segments),
+        Shape::Check => plain(FINDING),
     }
 }
 
 /// The form of a line, by the shape of its text, by its place, counted from 0, and by its words.
 pub fn form_of(shape: Shape, place: usize, line: &[u8]) -> Form
-    ensures form { form_held result ≡ form_of shape place (words_of line.now) }
-    ensures front { is_ascii (form_held result).front ≡ true }
-    ensures items { is_ascii_further (form_held result).further ≡ true }
+    ensures { IsForm (form_of shape place (words_of line.now)) result }
 {
     if place == 0 {
         head_form(shape, line)
@@ -175,18 +163,11 @@ pub fn form_of(shape: Shape, place: usize, line: &[u8]) -> Form
     }
 }
 
-/// Whether a line has the sizes of full tables, which stand behind the list of plans.
-fn is_tables(shape: Shape, place: usize, line: &[u8]) -> bool
-    ensures { result ≡ is_tables shape place (words_of line.now) }
-{
-    matches!(shape, Shape::Compare) && place > 1 && is(word_at(line, 0), "tables")
-}
-
 /// What stands before the line at a place.
 pub fn lead(shape: Shape, place: usize, line: &[u8]) -> &'static str
     ensures { result.now ≡ lead shape place (words_of line.now) }
 {
-    if is_tables(shape, place, line) {
+    if matches!(shape, Shape::Compare) && place > 1 && is(word_at(line, 0), "tables") {
         "\n],\n"
     } else if place > shape.first_row() {
         ",\n"

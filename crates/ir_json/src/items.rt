@@ -1,11 +1,11 @@
 //! The words behind a line's front as a list.
-ghost use Rattle.std.specs.Prelude.{◌≡◌, ◌≤◌, ◌++◌, [], true, OnOk, nat_lt, length, drop, string_bytes};
+ghost use Rattle.std.specs.Prelude.{◌≡◌, ◌++◌, [], true, OnOk, nat_lt, string_bytes};
 ghost use Rattle.std.specs.List.{list_all};
 ghost use Rattle.ir_model.specs.Text.{words_of};
 ghost use Rattle.ir_json.specs.Forms.{further_held, is_ascii_further};
 ghost use Rattle.ir_json.specs.Lists.{comma, names_from, pairs_from, opens_segment, between, segment_word, segments_from, items_text};
 
-use crate::fill::push_filled;
+use crate::fill::{first_word, push_filled};
 use crate::form::Items;
 use crate::words::{push_number, push_quoted};
 use ir_adjlist::scan::next_word;
@@ -33,17 +33,6 @@ fn push_names(text: &mut String, line: &[u8]) -> Result<(), AllocError>
     Ok(())
 }
 
-/// What follows the word at the front, if there is one.
-fn behind_word(line: &[u8]) -> &[u8]
-    ensures rest { words_of result.now ≡ drop 1 (words_of line.now) }
-    ensures shorter { length result.now ≤ length line.now }
-{
-    match next_word(line) {
-        Some((_, rest)) => rest,
-        None => line,
-    }
-}
-
 /// Writes each two words in a template, with commas between.
 fn push_pairs(text: &mut String, template: &str, line: &[u8]) -> Result<(), AllocError>
     requires { list_all (λ b. nat_lt b 128) template.now ≡ true }
@@ -55,7 +44,7 @@ fn push_pairs(text: &mut String, template: &str, line: &[u8]) -> Result<(), Allo
     while let Some((_, after)) = next_word(rest) {
         text.push_str(comma(is_first))?;
         push_filled(text, template, rest)?;
-        rest = behind_word(after);
+        rest = first_word(after).1;
         is_first = false;
     }
     Ok(())
@@ -95,7 +84,6 @@ fn push_segment_word(text: &mut String, word: &[u8]) -> Result<(), AllocError>
     Ok(())
 }
 
-/// Writes the segments of a row.
 fn push_segments(text: &mut String, line: &[u8]) -> Result<(), AllocError>
     ensures { OnOk result (string_bytes text.new ≡ string_bytes text.old ++ segments_from [] (words_of line.now)) }
 {

@@ -1,8 +1,9 @@
 //! The texts of `route` as JSON. What a text means is said where the text is; here its lines are written again as JSON,
 //! a line for each.
 //!
-//! A line has a form, by the shape of the text, by its place and by its words. `specs/Forms` has the template of each form:
-//! the JSON of such a line, with signs in place of its words. `json_of` makes the JSON of a text.
+//! A line has a form, by the shape of the text, by its place and by its words. `specs/Forms` has
+//! the template of each form: the JSON of such a line, with signs in place of its words. `json_of`
+//! makes the JSON of a text.
 #![tactic(auto)]
 
 mod fill;
@@ -10,7 +11,6 @@ mod form;
 mod items;
 mod laws;
 mod shape;
-mod sign;
 mod text;
 mod words;
 

@@ -1,7 +1,7 @@
 //! The JSON of a text.
 ghost use Rattle.std.specs.Prelude.{◌≡◌, ◌++◌, true, OnOk, IfOk, string_bytes};
 ghost use Rattle.ir_model.specs.Text.{lines, words_of};
-ghost use Rattle.ir_json.specs.Forms.{form_held, is_ascii, is_ascii_further};
+ghost use Rattle.ir_json.specs.Forms.{form_held, IsForm};
 ghost use Rattle.ir_json.specs.JsonText.{form_text, json_line, lines_text, json_text};
 
 use crate::fill::push_filled;
@@ -11,10 +11,8 @@ use crate::shape::Shape;
 use ir_adjlist::scan::{next_line, next_word};
 use std::alloc::{AllocError, Global};
 
-/// Writes a line in its form.
 fn push_form(text: &mut String, form: Form, line: &[u8]) -> Result<(), AllocError>
-    requires front { is_ascii (form_held form).front ≡ true }
-    requires items { is_ascii_further (form_held form).further ≡ true }
+    requires { IsForm (form_held form) form }
     ensures { OnOk result (string_bytes text.new ≡ string_bytes text.old
         ++ form_text (form_held form) (words_of line.now)) }
 {
@@ -22,7 +20,6 @@ fn push_form(text: &mut String, form: Form, line: &[u8]) -> Result<(), AllocErro
     push_items(text, form.items, rest)
 }
 
-/// Writes the line at a place.
 fn push_line(text: &mut String, shape: Shape, place: usize, line: &[u8]) -> Result<(), AllocError>
     ensures { OnOk result (string_bytes text.new ≡ string_bytes text.old ++ json_line shape place (words_of line.now)) }
 {
@@ -47,8 +44,9 @@ fn push_lines(json: &mut String, shape: Shape, text: &[u8]) -> Result<(), AllocE
     Ok(())
 }
 
-/// The JSON of a text of this shape, a line for each line of the text that has a word. It has printable bytes of ASCII and
-/// line feeds alone. Refused for memory alone. Takes O(b), for a text of b bytes.
+/// The JSON of a text of this shape, a line for each line of the text that has a word. It has
+/// printable bytes of ASCII and line feeds alone. Refused for memory alone. Takes O(b), for a text
+/// of b bytes.
 pub fn json_of(alloc: Global, shape: Shape, text: &[u8]) -> Result<String, AllocError>
     ensures { IfOk result (λ json. string_bytes json ≡ json_text shape (lines text.now)) }
 {

@@ -1,5 +1,5 @@
 //! Words as values of JSON.
-ghost use Rattle.std.specs.Prelude.{◌≡◌, ◌<◌, ◌≤◌, ◌++◌, true, not, OnOk, length, position, codes, string_bytes, bytes_eq, take, drop};
+ghost use Rattle.std.specs.Prelude.{◌≡◌, ◌<◌, ◌≤◌, ◌++◌, not, OnOk, length, position, string_bytes, bytes_eq};
 ghost use Rattle.std.specs.List.{list_all, prefix_len};
 ghost use Rattle.ir_json.specs.Words.{hex_digit, json_byte, json_escaped, json_string, is_digit_byte, is_whole_number, json_number, goal, before_mark, behind_mark};
 
@@ -35,24 +35,15 @@ fn push_escaped_byte(text: &mut String, byte: u8) -> Result<(), AllocError>
     Ok(())
 }
 
-/// Writes the bytes of a string.
-fn push_escaped(text: &mut String, word: &[u8]) -> Result<(), AllocError>
-    ensures { OnOk result (string_bytes text.new ≡ string_bytes text.old ++ json_escaped word.now) }
-{
-    for byte in word {
-        push_escaped_byte(text, *byte)?;
-    }
-    Ok(())
-}
-
 /// Writes a word as a string.
 pub fn push_quoted(text: &mut String, word: &[u8]) -> Result<(), AllocError>
     ensures { OnOk result (string_bytes text.new ≡ string_bytes text.old ++ json_string word.now) }
 {
     text.push_str("\"")?;
-    push_escaped(text, word)?;
-    text.push_str("\"")?;
-    Ok(())
+    for byte in word {
+        push_escaped_byte(text, *byte)?;
+    }
+    text.push_str("\"")
 }
 
 fn is_digit_byte(byte: u8) -> bool
@@ -67,25 +58,15 @@ fn all_digits(word: &[u8]) -> bool
     word.iter().all(|byte| is_digit_byte(*byte))
 }
 
-/// Writes bytes of which each is a digit.
-fn push_digits(text: &mut String, word: &[u8]) -> Result<(), AllocError>
-    requires { list_all is_digit_byte word.now ≡ true }
-    ensures { OnOk result (string_bytes text.new ≡ string_bytes text.old ++ word.now) }
-{
-    for byte in word {
-        text.push(*byte as char)?;
-    }
-    Ok(())
-}
-
 /// Writes a word as a number; what is none as null.
 pub fn push_number(text: &mut String, word: &[u8]) -> Result<(), AllocError>
     ensures { OnOk result (string_bytes text.new ≡ string_bytes text.old ++ json_number word.now) }
 {
-    if word.len() >= 1 && all_digits(word) {
-        push_digits(text, word)?;
-    } else {
-        text.push_str("null")?;
+    if word.is_empty() || !all_digits(word) {
+        return text.push_str("null");
+    }
+    for byte in word {
+        text.push(*byte as char)?;
     }
     Ok(())
 }
@@ -95,11 +76,9 @@ pub fn push_goal(text: &mut String, word: &[u8]) -> Result<(), AllocError>
     ensures { OnOk result (string_bytes text.new ≡ string_bytes text.old ++ goal word.now) }
 {
     if is(word, "-") {
-        text.push_str("null")?;
-    } else {
-        push_quoted(text, word)?;
+        return text.push_str("null");
     }
-    Ok(())
+    push_quoted(text, word)
 }
 
 /// Whether a word is this one.

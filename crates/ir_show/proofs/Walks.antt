@@ -21,13 +21,13 @@ use Rattle.ir_show.specs.Words.{line_text}
 use Rattle.ir_show.proofs.WalkLines.{IsWalkSoFar, walk_begins, walk_goes_on, walk_whole, interval_to}
 use Rattle.ir_show.specs.Plans.{IsPlanOver}
 use Rattle.ir_show.specs.Stops.{IsStopOf, stop_nodes, AreStopsTo, AreStopsOf, AreStopsAmong, stop_line, end_line, head_line, text_of_stops}
-use Rattle.ir_show.specs.declared.stops.Stop.{Stop}
+use Rattle.ir_show.specs.declared.stops.WalkStop.{WalkStop}
 use Rattle.ir_show.specs.declared.stops.Stops.{Stops}
 
 -- ---- the walk so far
 
 -- the stops so far on the walk of a plan from a to b
-pub record AreStopsAlong (s : Plan) (a b at weight : ℕ) (stops : List Stop) : Type 0 where
+pub record AreStopsAlong (s : Plan) (a b at weight : ℕ) (stops : List WalkStop) : Type 0 where
   pub far : IsWalkSoFar s a b at weight (length stops) (stop_nodes stops at)
   pub each : All (IsStopOf s b) stops
 
@@ -35,14 +35,14 @@ module _ (s : Plan) (valid : IsPlan s) (a b : ℕ) where
   pub along_begins : a < node_count s.topology → b < node_count s.topology → AreStopsAlong s a b a 0 []
   along_begins a_in b_in = record { far = walk_begins s valid a b a_in b_in; each = λ k d lt. absurd (omega (arith, lt)) }
 
-  module _ (at weight : ℕ) (stops : List Stop) (so : AreStopsAlong s a b at weight stops) where
-    pub along_goes_on : (stop : Stop) → stop.node ≡ at → IsStopOf s b stop → AreStopsAlong s a b stop.hop.node (weight + stop.hop.weight) (stops ++ stop ∷ [])
+  module _ (at weight : ℕ) (stops : List WalkStop) (so : AreStopsAlong s a b at weight stops) where
+    pub along_goes_on : (stop : WalkStop) → stop.node ≡ at → IsStopOf s b stop → AreStopsAlong s a b stop.hop.node (weight + stop.hop.weight) (stops ++ stop ∷ [])
     along_goes_on stop node here =
         let Q : ℕ → Type 0 = λ x. (x ≢ b) × (next_hop s x b ≡ Some stop.hop) in
         let on : Q at = subst Q node (here.before, here.hop) in
         let nodes : stop_nodes stops at ++ stop.hop.node ∷ [] ≡ stop_nodes (stops ++ stop ∷ []) stop.hop.node =
-        ap (λ (x : ℕ). (map (λ (t : Stop). t.node) stops ++ x ∷ []) ++ stop.hop.node ∷ []) (sym node)
-        ∙ ap (λ (xs : List ℕ). xs ++ stop.hop.node ∷ []) (sym (map_push (λ (t : Stop). t.node) stops stop)) in
+        ap (λ (x : ℕ). (map (λ (t : WalkStop). t.node) stops ++ x ∷ []) ++ stop.hop.node ∷ []) (sym node)
+        ∙ ap (λ (xs : List ℕ). xs ++ stop.hop.node ∷ []) (sym (map_push (λ (t : WalkStop). t.node) stops stop)) in
         let len = length_push stops stop in
         let steps : length stops + 1 ≡ length (stops ++ stop ∷ []) = omega (arith, len) in
         let P : ℕ → List ℕ → Type 0 = λ k xs. IsWalkSoFar s a b stop.hop.node (weight + stop.hop.weight) k xs in
@@ -65,7 +65,7 @@ module _ (s : Plan) (valid : IsPlan s) (a b : ℕ) where
     along_light = let left = so.far.left in let light = so.far.light in (light, omega (arith, left))
 
     -- one step more weighs less than 2^32
-    pub along_weighs : (stop : Stop) → IsStopOf s b stop → weight + stop.hop.weight < 4294967296
+    pub along_weighs : (stop : WalkStop) → IsStopOf s b stop → weight + stop.hop.weight < 4294967296
     along_weighs stop here =
         let next = next_at s.topology (table_port s) stop.node b stop.hop here.hop in
         let facts = port_facts s.topology valid.topology stop.node next.port stop.hop next.there in
@@ -73,7 +73,7 @@ module _ (s : Plan) (valid : IsPlan s) (a b : ℕ) where
         omega (arith, along_light.0, along_light.1, facts.bounded, few)
 
 -- a plan of these numbers, and its stops so far on the walk from a to b
-pub record AreStopsSoFar (net : Topology) (kind : Kind) (numbers : Numbering) (a b at weight : ℕ) (stops : List Stop) : Type 0 where
+pub record AreStopsSoFar (net : Topology) (kind : Kind) (numbers : Numbering) (a b at weight : ℕ) (stops : List WalkStop) : Type 0 where
   pub plan : Plan
   pub is : IsPlanOver net kind numbers plan
   pub along : AreStopsAlong plan a b at weight stops
@@ -85,14 +85,14 @@ module _ (net : Topology) (kind : Kind) (numbers : Numbering) (a b : ℕ) where
       let within : P plan.topology = subst P (sym is.over) (a_in, b_in) in
       record { plan = plan; is = is; along = along_begins plan is.valid a b within.0 within.1 }
 
-  module _ (at weight : ℕ) (stops : List Stop) (so : AreStopsSoFar net kind numbers a b at weight stops) where
+  module _ (at weight : ℕ) (stops : List WalkStop) (so : AreStopsSoFar net kind numbers a b at weight stops) where
     pub stops_stand : at < node_count net
     stops_stand = subst (λ (over : Topology). at < node_count over) so.is.over so.along.far.in_net
 
     pub stops_few : length stops < node_count net
     stops_few = subst (λ (over : Topology). length stops < node_count over) so.is.over (along_light so.plan so.is.valid a b at weight stops so.along).1
 
-    module _ (stop : Stop) (says : (plan : Plan) → IsPlanOver net kind numbers plan → IsStopOf plan b stop) where
+    module _ (stop : WalkStop) (says : (plan : Plan) → IsPlanOver net kind numbers plan → IsStopOf plan b stop) where
       pub stops_go_on : stop.node ≡ at → AreStopsSoFar net kind numbers a b stop.hop.node (weight + stop.hop.weight) (stops ++ stop ∷ [])
       stops_go_on node = record { plan = so.plan; is = so.is; along = along_goes_on so.plan so.is.valid a b at weight stops so.along stop node (says so.plan so.is) }
 
@@ -103,14 +103,14 @@ module _ (net : Topology) (kind : Kind) (numbers : Numbering) (a b : ℕ) where
 
 module _ (nodes : List Name) (s : Plan) (b : ℕ) where
   -- the line of a stop
-  stop_same : (stop : Stop) → IsStopOf s b stop → stop_line nodes stop ≡ stop_words nodes s b stop.node
+  stop_same : (stop : WalkStop) → IsStopOf s b stop → stop_line nodes stop ≡ stop_words nodes s b stop.node
   stop_same stop is =
       let u = stop.node in
       let words : (if u == b then [] else option_map_or (onward_words nodes s b u) (next_hop s u b) []) ≡ onward_words nodes s b u stop.hop = rw (ne_eqb u b is.before, is.hop) refl in
       rw (words, is.label, is.start, is.end) refl
 
-  lines_same : (stops : List Stop) → All (IsStopOf s b) stops
-      → flat_map (λ (t : Stop). line_text (stop_line nodes t)) stops ≡ flat_map (λ (u : ℕ). line_text (stop_words nodes s b u)) (map (λ (t : Stop). t.node) stops)
+  lines_same : (stops : List WalkStop) → All (IsStopOf s b) stops
+      → flat_map (λ (t : WalkStop). line_text (stop_line nodes t)) stops ≡ flat_map (λ (u : ℕ). line_text (stop_words nodes s b u)) (map (λ (t : WalkStop). t.node) stops)
   lines_same [] all = refl
   lines_same (stop ∷ stops) all =
       let here = ap line_text (stop_same stop (All-head (IsStopOf s b) stop stops all)) in
@@ -123,13 +123,13 @@ module _ (nodes : List Name) (s : Plan) (b : ℕ) where
   pub text_same : (a : ℕ) (walk : Stops) → AreStopsOf s a b walk → text_of_stops nodes walk ≡ walk_text nodes s a b (stop_nodes walk.stops.items b)
   text_same a walk is =
       let line : ℕ → List ℕ = λ u. line_text (stop_words nodes s b u) in
-      let passed = map (λ (t : Stop). t.node) walk.stops.items in
+      let passed = map (λ (t : WalkStop). t.node) walk.stops.items in
       let head : head_line nodes walk ≡ walk_head nodes s a b (walk_weight s.topology (stop_nodes walk.stops.items b)) = rw (is.from, is.to, is.kind, is.label, is.stops.weighs) refl in
       let stops = lines_same walk.stops.items is.stops.each in
       let end : line_text (end_line nodes walk) ≡ flat_map line (b ∷ []) = ap line_text (end_same walk is.to is.label) ∙ sym (append-nil (line b)) in
-      let all : flat_map (λ (t : Stop). line_text (stop_line nodes t)) walk.stops.items ++ line_text (end_line nodes walk) ≡ flat_map line (stop_nodes walk.stops.items b) =
+      let all : flat_map (λ (t : WalkStop). line_text (stop_line nodes t)) walk.stops.items ++ line_text (end_line nodes walk) ≡ flat_map line (stop_nodes walk.stops.items b) =
       ap (λ (xs : List ℕ). xs ++ line_text (end_line nodes walk)) stops ∙ ap (λ (xs : List ℕ). flat_map line passed ++ xs) end ∙ sym (flat_map-append line passed (b ∷ [])) in
-      ap (λ (ws : List (List ℕ)). line_text ws ++ (flat_map (λ (t : Stop). line_text (stop_line nodes t)) walk.stops.items ++ line_text (end_line nodes walk))) head
+      ap (λ (ws : List (List ℕ)). line_text ws ++ (flat_map (λ (t : WalkStop). line_text (stop_line nodes t)) walk.stops.items ++ line_text (end_line nodes walk))) head
       ∙ ap (λ (xs : List ℕ). line_text (walk_head nodes s a b (walk_weight s.topology (stop_nodes walk.stops.items b))) ++ xs) all
 
   pub walk_told : IsPlan s → b < node_count s.topology → (a : ℕ) (walk : Stops) → AreStopsOf s a b walk → (text : List ℕ) → text ≡ text_of_stops nodes walk → IsWalkOf nodes s a b text

@@ -1,9 +1,10 @@
 -- The plans of a kind by their numbers, and which labels need no plan.
-use Rattle.std.specs.Prelude.{◌≡◌, ℕ, ◌<◌, List}
+use Rattle.std.specs.Prelude.{◌≡◌, ◌≢◌, ℕ, ◌<◌, List}
 use Rattle.ir_model.specs.declared.Kind.{Kind}
+use Rattle.ir_model.specs.declared.Kind.TheVariants.{Tree}
 use Rattle.ir_model.specs.Topology.{Topology, node_count}
 use Rattle.ir_model.specs.Numbering.{IsDepthFirst, neighbors_of}
-use Rattle.ir_model.specs.Plan.{Plan, IsPlan}
+use Rattle.ir_model.specs.Plan.{Plan, AreLabels, IsPlan}
 use Rattle.ir_numbering.specs.Numbering.{Numbering}
 use Rattle.ir_plan.specs.declared.tour.LabelOrder.TheVariants.{DepthFirst, Tour}
 use Rattle.ir_plan.specs.Building.{Labelling, FromRoot, ByList}
@@ -26,3 +27,8 @@ pub record IsPlanOver (topology : Topology) (kind : Kind) (numbers : Numbering) 
   pub of_kind : plan.kind ≡ kind
   pub order : plan.order ≡ numbers.order
   pub labels : plan.labels ≡ numbers.labels
+
+-- the network has a plan of each kind but Tree for each numbering of its nodes
+abbrev pub HasPlans : Topology → Type 0
+HasPlans topology =
+    (kind : Kind) → kind ≢ Tree → (numbers : Numbering) → AreLabels (node_count topology) numbers.order numbers.labels → (plan : Plan) × IsPlanOver topology kind numbers plan

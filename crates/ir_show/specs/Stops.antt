@@ -8,11 +8,11 @@ use Rattle.ir_trace.specs.Written.{name_at}
 use Rattle.ir_show.specs.PlanText.{kind_text}
 use Rattle.ir_show.specs.WalkText.{interval_with}
 use Rattle.ir_show.specs.Words.{line_text}
-use Rattle.ir_show.specs.declared.stops.Stop.{Stop}
+use Rattle.ir_show.specs.declared.stops.WalkStop.{WalkStop}
 use Rattle.ir_show.specs.declared.stops.Stops.{Stops}
 
 -- what a plan says of a node on the way to b
-pub record IsStopOf (plan : Plan) (b : ℕ) (stop : Stop) : Type 0 where
+pub record IsStopOf (plan : Plan) (b : ℕ) (stop : WalkStop) : Type 0 where
   pub before : stop.node ≢ b
   pub label : stop.label ≡ label_in plan stop.node
   pub start : stop.start ≡ (interval_with (row_in plan stop.node) (label_in plan b)).start
@@ -20,11 +20,11 @@ pub record IsStopOf (plan : Plan) (b : ℕ) (stop : Stop) : Type 0 where
   pub hop : next_hop plan stop.node b ≡ Some stop.hop
 
 -- the nodes of the stops, and b behind them
-abbrev pub stop_nodes : List Stop → ℕ → List ℕ
-stop_nodes stops b = map (λ (s : Stop). s.node) stops ++ b ∷ []
+abbrev pub stop_nodes : List WalkStop → ℕ → List ℕ
+stop_nodes stops b = map (λ (s : WalkStop). s.node) stops ++ b ∷ []
 
 -- the stops before b of the walk from a to b that a plan prescribes, which has this weight
-pub record AreStopsTo (plan : Plan) (a b : ℕ) (stops : List Stop) (weight : ℕ) : Type 0 where
+pub record AreStopsTo (plan : Plan) (a b : ℕ) (stops : List WalkStop) (weight : ℕ) : Type 0 where
   pub prescribed : IsPrescribedWalk plan.topology (table_port plan) a b (stop_nodes stops b)
   pub weighs : walk_weight plan.topology (stop_nodes stops b) ≡ weight
   pub each : All (IsStopOf plan b) stops
@@ -41,10 +41,10 @@ pub record AreStopsOf (plan : Plan) (a b : ℕ) (walk : Stops) : Type 0 where
 pub record AreStopsAmong (n : ℕ) (walk : Stops) : Type 0 where
   pub from : walk.from < n
   pub to : walk.to < n
-  pub stops : All (λ (s : Stop). (s.node < n) × (s.hop.node < n)) walk.stops.items
+  pub stops : All (λ (s : WalkStop). (s.node < n) × (s.hop.node < n)) walk.stops.items
 
 -- the words of a stop
-abbrev pub stop_line : List Name → Stop → List (List ℕ)
+abbrev pub stop_line : List Name → WalkStop → List (List ℕ)
 stop_line nodes stop = name_at nodes stop.node ∷ decimal stop.label ∷ decimal stop.start ∷ decimal stop.end ∷ name_at nodes stop.hop.node ∷ decimal stop.hop.weight ∷ []
 
 -- the words of the end

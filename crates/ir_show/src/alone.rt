@@ -1,24 +1,55 @@
 //! The text of a walk of a plan that is not built: rows are made for the nodes on the walk alone.
-ghost use Rattle.std.specs.Prelude.{◌≡◌, ◌≢◌, ◌<◌, IfOk, IfErr, length, string_bytes};
+ghost use Rattle.std.specs.Prelude.{◌≡◌, ◌≢◌, ◌<◌, ◌↔◌, IfOk, IfErr, IsTrue, OnOk, length, string_bytes};
 ghost use Rattle.ir_model.specs.{Graph.names, Topology.node_count, Walk.IsConnected, Plan.{AreLabels, Plan}};
 ghost use Rattle.ir_plan.specs.Building.{MayLabel, RefusesPlan, labelling_of};
 ghost use Rattle.ir_show.specs.Stops.{AreStopsOf, IsStopOf};
-ghost use Rattle.ir_show.specs.{Alone.IsWalkOfPlan, Plans.{IsPlanOver, NeedsNoTour}};
+ghost use Rattle.ir_show.specs.{Alone.IsWalkOfPlan, Plans.{IsOrderBy, IsPlanOver, NeedsNoTour}};
 
-mod laws;
-mod numbers;
-
-use crate::alone::numbers::numbers_by;
 use crate::interval::interval_with;
-use crate::stops::{Stop, Stops, text_of};
+use crate::stops::{Stops, WalkStop, text_of};
 use ir_graph::Graph;
 use ir_model::Kind;
 use ir_numbering::Numbering;
-use ir_plan::{Labels, PlanError, row_of_node};
+use ir_plan::{
+    LabelOrder, Labels, MOST_TOUR_NODES, PlanError, numbering_by, numbering_of, row_of_node,
+};
 use ir_tables::Topology;
-pub use laws::plans_are_there;
-pub use numbers::needs_no_tour;
 use std::alloc::{AllocError, Global};
+
+/// Whether so many nodes get these labels with no tour sought.
+pub fn needs_no_tour(nodes: usize, labels: &Labels) -> bool
+    ensures { IsTrue result ↔ NeedsNoTour nodes (labelling_of labels.now) }
+{
+    match labels {
+        Labels::FromRoot(LabelOrder::Tour, _) => nodes > MOST_TOUR_NODES,
+        _ => true,
+    }
+}
+
+/// The numbers of the nodes of a connected topology by these labels. Refused as the plan is.
+fn numbers_by(
+    alloc: Global,
+    topology: &Topology,
+    kind: Kind,
+    labels: Labels,
+) -> Result<Numbering, PlanError>
+    requires may { MayLabel topology.now kind (labelling_of labels) }
+    ensures some { OnOk result (0 < node_count topology.now) }
+    ensures order { IfOk result (λ numbers. IsOrderBy topology.now (labelling_of labels) numbers.order) }
+    ensures labels { IfOk result (λ numbers. AreLabels (node_count topology.now) numbers.order numbers.labels) }
+    ensures connected { OnOk result (IsConnected topology.now) }
+    ensures refused { IfErr result (RefusesPlan topology.now (labelling_of labels)) }
+{
+    match labels {
+        Labels::FromRoot(_, root) => numbering_of(alloc, topology, root),
+        Labels::Listed(list) => {
+            if topology.nodes() == 0 {
+                return Err(PlanError::Empty);
+            }
+            numbering_by(alloc, topology, list)
+        }
+    }
+}
 
 /// What each plan of a kind with these numbers says of a node on the way to another. The row of the node is made alone.
 fn stop_at(
@@ -28,7 +59,7 @@ fn stop_at(
     kind: Kind,
     to: u16,
     u: u16,
-) -> Result<Stop, AllocError>
+) -> Result<WalkStop, AllocError>
     requires kind { kind ≢ Kind.Tree }
     requires labels { AreLabels (node_count topology.now) numbering.now.order numbering.now.labels }
     requires connected { IsConnected topology.now }
@@ -42,7 +73,7 @@ fn stop_at(
     topology.invariant();
     let row = row_of_node(alloc, topology, numbering, kind, u)?;
     let interval = interval_with(&row, numbering.label_of(to));
-    Ok(Stop {
+    Ok(WalkStop {
         node: u,
         label: numbering.label_of(u),
         start: interval.start,

@@ -11,21 +11,21 @@ use std::thread::Threads;
 
 /// Nodes that follow one another, by their numbers: from one on, and to one that is none of them.
 #[derive(Clone, Copy, Drop)]
-pub struct Block {
+pub struct TextBlock {
     pub from: usize,
     pub to: usize,
 }
 
 /// Who makes plans and the lines of their texts. All crews make the same ones.
 pub trait TextCrew: Crew {
-    /// The lines of a block of nodes, in texts that follow one another, made in at most `most` threads, or in as many as suit
-    /// the processors where it is None. None where no other thread than the one that calls would make them, or where memory
-    /// for them is refused.
+    /// The lines of a block of nodes, in texts that follow one another, made in at most `most`
+    /// threads, or in as many as suit the processors where it is None. None where no other thread
+    /// than the one that calls would make them, or where memory for them is refused.
     fn lines(
         &self,
         alloc: Global,
         pieces: &Pieces,
-        block: Block,
+        block: TextBlock,
         most: Option<usize>,
     ) -> Option<Vec<Vec<u8>>>
         requires shared { MayBeShared Self.Shared.row }
@@ -39,7 +39,7 @@ impl<'a, R: Threads + Sync> TextCrew for Several<'a, R> {
         &self,
         alloc: Global,
         pieces: &Pieces,
-        block: Block,
+        block: TextBlock,
         most: Option<usize>,
     ) -> Option<Vec<Vec<u8>>> {
         lines_in_threads(self.rt, alloc, pieces, block, most)
@@ -51,7 +51,7 @@ impl TextCrew for Alone {
         &self,
         _alloc: Global,
         _pieces: &Pieces,
-        _block: Block,
+        _block: TextBlock,
         _most: Option<usize>,
     ) -> Option<Vec<Vec<u8>>> {
         None

@@ -5,7 +5,8 @@ ghost use Rattle.ir_model.specs.{Graph.names, Topology.{node_count, ports_of}, P
 ghost use Rattle.ir_show.specs.{Before.separated, Intervals.as_interval};
 ghost use Rattle.ir_show.specs.Drawing.{node_line, interval_text, goes_by, intervals_text, are_ends, passes, edge_style, edge_labels, edge_line, edge_lines, IsBold, IsDrawingOf};
 
-use crate::interval::{Interval, interval_at};
+use crate::TextResult;
+use crate::interval::{Interval, interval_at, push_interval};
 use crate::quoted::{push_escaped_name, push_quoted};
 use crate::walk::walk_between;
 use ir_graph::Graph;
@@ -14,8 +15,7 @@ use ir_plan::Plan;
 use ir_trace::text::push_next_number;
 use std::alloc::{AllocError, Global};
 
-/// Writes the line of a node.
-fn push_node(text: &mut String, graph: &Graph, plan: &Plan, u: u16) -> Result<(), AllocError>
+fn push_node(text: &mut String, graph: &Graph, plan: &Plan, u: u16) -> TextResult
     requires nodes { node_count plan.now.topology ≡ length graph.now }
     requires node { u < length graph.now }
     ensures { OnOk result (string_bytes text.new ≡ string_bytes text.old ++ node_line (names graph.now) plan.now u) }
@@ -25,8 +25,7 @@ fn push_node(text: &mut String, graph: &Graph, plan: &Plan, u: u16) -> Result<()
     text.push_str(" [label=\"")?;
     push_escaped_name(text, graph, u)?;
     push_next_number(text, plan.label_of(u) as usize)?;
-    text.push_str("\"];\n")?;
-    Ok(())
+    text.push_str("\"];\n")
 }
 
 /// Whether the port of an interval of a node's row is by a link.
@@ -39,23 +38,18 @@ fn goes_by(plan: &Plan, u: u16, link: u16, interval: Interval) -> bool
 }
 
 /// Writes an interval, behind a space if it is not the first.
-fn push_interval(text: &mut String, interval: Interval, first: bool) -> Result<(), AllocError>
+fn push_separated(text: &mut String, interval: Interval, first: bool) -> TextResult
     ensures { OnOk result (string_bytes text.new ≡ string_bytes text.old
         ++ separated first (interval_text (as_interval interval))) }
 {
     if !first {
         text.push_str(" ")?;
     }
-    let Interval {
-        start,
-        end,
-        port: _,
-    } = interval;
-    write!(text, "[{start},{end})")
+    push_interval(text, interval)
 }
 
 /// Writes the intervals of a node's row whose port is by a link.
-fn push_intervals(text: &mut String, plan: &Plan, u: u16, link: u16) -> Result<(), AllocError>
+fn push_intervals(text: &mut String, plan: &Plan, u: u16, link: u16) -> TextResult
     requires plan { IsPlan plan.now }
     requires node { u < node_count plan.now.topology }
     ensures { OnOk result (string_bytes text.new ≡ string_bytes text.old ++ intervals_text plan.now u link) }
@@ -65,7 +59,7 @@ fn push_intervals(text: &mut String, plan: &Plan, u: u16, link: u16) -> Result<(
     for i in 0..count {
         let interval = interval_at(plan, u, i);
         if goes_by(plan, u, link, interval) {
-            push_interval(text, interval, first)?;
+            push_separated(text, interval, first)?;
             first = false;
         }
     }
@@ -103,7 +97,7 @@ fn edge_style(u: u16, v: u16, walk: &[u16]) -> &'static str
 }
 
 /// Writes the weight of a link of a node, and the intervals of its port at each end.
-fn push_labels(text: &mut String, plan: &Plan, u: u16, hop: Hop) -> Result<(), AllocError>
+fn push_labels(text: &mut String, plan: &Plan, u: u16, hop: Hop) -> TextResult
     requires plan { IsPlan plan.now }
     requires node { u < node_count plan.now.topology }
     requires other { hop.node < node_count plan.now.topology }
@@ -114,8 +108,7 @@ fn push_labels(text: &mut String, plan: &Plan, u: u16, hop: Hop) -> Result<(), A
     push_intervals(text, plan, u, hop.link)?;
     text.push_str("\", headlabel=\"")?;
     push_intervals(text, plan, hop.node, hop.link)?;
-    text.push_str("\"")?;
-    Ok(())
+    text.push_str("\"")
 }
 
 /// Writes the line of a link of a node, if it leads to a later node.
@@ -126,7 +119,7 @@ fn push_edge(
     walk: &[u16],
     u: u16,
     hop: Hop,
-) -> Result<(), AllocError>
+) -> TextResult
     requires nodes { node_count plan.now.topology ≡ length graph.now }
     requires plan { IsPlan plan.now }
     requires node { u < length graph.now }
@@ -143,18 +136,10 @@ fn push_edge(
     push_quoted(text, graph, hop.node)?;
     push_labels(text, plan, u, hop)?;
     text.push_str(edge_style(u, hop.node, walk))?;
-    text.push_str("];\n")?;
-    Ok(())
+    text.push_str("];\n")
 }
 
-/// Writes the lines of a node's links to later nodes.
-fn push_edges(
-    text: &mut String,
-    graph: &Graph,
-    plan: &Plan,
-    walk: &[u16],
-    u: u16,
-) -> Result<(), AllocError>
+fn push_edges(text: &mut String, graph: &Graph, plan: &Plan, walk: &[u16], u: u16) -> TextResult
     requires nodes { node_count plan.now.topology ≡ length graph.now }
     requires plan { IsPlan plan.now }
     requires node { u < length graph.now }
@@ -168,8 +153,7 @@ fn push_edges(
     Ok(())
 }
 
-/// Writes the lines of all nodes.
-fn push_all_nodes(text: &mut String, graph: &Graph, plan: &Plan) -> Result<(), AllocError>
+fn push_all_nodes(text: &mut String, graph: &Graph, plan: &Plan) -> TextResult
     requires { node_count plan.now.topology ≡ length graph.now }
     ensures { OnOk result (string_bytes text.new ≡ string_bytes text.old
         ++ flat_map (node_line (names graph.now) plan.now) (range_with_len 0 (node_count plan.now.topology))) }
@@ -180,13 +164,7 @@ fn push_all_nodes(text: &mut String, graph: &Graph, plan: &Plan) -> Result<(), A
     Ok(())
 }
 
-/// Writes the lines of all links.
-fn push_all_edges(
-    text: &mut String,
-    graph: &Graph,
-    plan: &Plan,
-    walk: &[u16],
-) -> Result<(), AllocError>
+fn push_all_edges(text: &mut String, graph: &Graph, plan: &Plan, walk: &[u16]) -> TextResult
     requires { node_count plan.now.topology ≡ length graph.now }
     ensures { OnOk result (string_bytes text.new ≡ string_bytes text.old ++ flat_map
         (edge_lines (names graph.now) plan.now walk.now) (range_with_len 0 (node_count plan.now.topology))) }
@@ -214,10 +192,11 @@ fn bold_walk(alloc: Global, plan: &Plan, ends: Option<(u16, u16)>) -> Result<Vec
     Ok(nodes)
 }
 
-/// The drawing of a plan for Graphviz: a `graph` with a statement for each node, with its name and label, and one for each
-/// link, with its weight and at each end the intervals of its port; the links of the walk from the first of the ends to the
-/// second are bold. Condition: the plan is over the graph's network, and the ends are nodes. It is refused for memory
-/// alone. Takes O(n + m (k + w)), for n nodes and m links, at most k starts in a row, and w nodes on the bold walk.
+/// The drawing of a plan for Graphviz: a `graph` with a statement for each node, with its name and
+/// label, and one for each link, with its weight and at each end the intervals of its port; the
+/// links of the walk from the first of the ends to the second are bold. Condition: the plan is over
+/// the graph's network, and the ends are nodes. It is refused for memory alone. Takes O(n + m (k +
+/// w)), for n nodes and m links, at most k starts in a row, and w nodes on the bold walk.
 pub fn draw_text(
     alloc: Global,
     graph: &Graph,

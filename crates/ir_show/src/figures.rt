@@ -1,7 +1,7 @@
 //! The figures of a plan's walks, destination by destination.
 ghost use Rattle.std.specs.Prelude.{◌+◌, ◌<◌, IfOk};
 ghost use Rattle.ir_model.specs.Topology.{node_count};
-ghost use Rattle.ir_show.specs.Figures.{AreDistancesTo, AreFiguresBefore, AreFigures};
+ghost use Rattle.ir_show.specs.Figures.{AreFiguresBefore, AreFigures};
 
 use crate::weights::{sum_to, walk_weights_to};
 use crate::worst::{Weighed, worst_to};
@@ -18,16 +18,6 @@ pub struct Figures {
     pub worst: Option<Weighed>,
 }
 
-/// The distances of a plan's nodes to one of them, by node. They take memory for one destination's worth.
-fn distances_to(alloc: Global, plan: &Plan, d: u16) -> Result<Vec<u32>, AllocError>
-    requires { d < node_count plan.now.topology }
-    ensures { IfOk result (λ weights. AreDistancesTo plan.now.topology d weights.items) }
-{
-    plan.invariant();
-    let weights = weights_to(alloc, plan.topology(), d as usize)?;
-    Ok(weights)
-}
-
 /// The figures up to those of the destination `d`, by those of the nodes before it.
 fn figures_with(alloc: Global, plan: &Plan, d: u16, before: Figures) -> Result<Figures, AllocError>
     requires node { d < node_count plan.now.topology }
@@ -36,7 +26,7 @@ fn figures_with(alloc: Global, plan: &Plan, d: u16, before: Figures) -> Result<F
 {
     plan.invariant();
     let walks = walk_weights_to(alloc, plan, d)?;
-    let distances = distances_to(alloc, plan, d)?;
+    let distances = weights_to(alloc, plan.topology(), d as usize)?;
     Ok(Figures {
         walks: before.walks + sum_to(walks.as_slice(), d),
         distances: before.distances + sum_to(distances.as_slice(), d),

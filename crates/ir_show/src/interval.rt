@@ -1,9 +1,10 @@
 //! The intervals of a row: where each begins and ends, and which has a label.
-ghost use Rattle.std.specs.Prelude.{◌≡◌, ◌<◌, length, slice_index_or};
+ghost use Rattle.std.specs.Prelude.{◌≡◌, ◌<◌, ◌++◌, OnOk, length, slice_index_or, string_bytes};
 ghost use Rattle.ir_model.specs.{Topology.{node_count, ports_of}, Row.intervals_of, Plan.{IsPlan, row_in}};
 ghost use Rattle.ir_plan.specs.Shown.{has_label};
-ghost use Rattle.ir_show.specs.{Intervals.as_interval, WalkText.{interval_with, no_interval}};
+ghost use Rattle.ir_show.specs.{Drawing.interval_text, Intervals.as_interval, WalkText.{interval_with, no_interval}};
 
+use crate::TextResult;
 use ir_lookup::Row;
 use ir_plan::Plan;
 
@@ -79,4 +80,11 @@ pub fn interval_at(plan: &Plan, u: u16, i: usize) -> Interval
     ensures port { result.port < length (ports_of plan.now.topology u) }
 {
     interval_of(plan.row(u), i)
+}
+
+/// Writes an interval as `[START,END)`.
+pub fn push_interval(text: &mut String, interval: Interval) -> TextResult
+    ensures { OnOk result (string_bytes text.new ≡ string_bytes text.old ++ interval_text (as_interval interval)) }
+{
+    write!(text, "[{},{})", interval.start, interval.end)
 }

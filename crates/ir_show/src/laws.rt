@@ -1,8 +1,8 @@
 //! Laws of the texts, each the contract of a function with an empty body.
-ghost use Rattle.std.specs.Prelude.{◌≡◌, ℕ, ◌∷◌, ◌++◌, Option, Some, List};
-ghost use Rattle.ir_model.specs.{Graph.Name, Plan.Plan};
+ghost use Rattle.std.specs.Prelude.{◌≡◌, ◌<◌, ℕ, ◌∷◌, ◌++◌, Option, Some, List};
+ghost use Rattle.ir_model.specs.{Graph.Name, Plan.Plan, Topology.{Topology, IsTopology, node_count}, Walk.IsConnected};
 ghost use Rattle.ir_show.specs.{WalkText.IsWalkOf, StatsText.IsStatsOf, Quoted.{escaped, read_quoted}};
-ghost use Rattle.ir_show.specs.Drawing.{IsDrawingOf};
+ghost use Rattle.ir_show.specs.{Drawing.IsDrawingOf, Plans.HasPlans};
 
 /// A plan has one text of the walk from a node to a node.
 pub fn walk_text_is_determined()
@@ -25,4 +25,9 @@ pub fn drawing_is_determined()
 /// What is escaped has no quote of its own that ends it, and is read again as it was.
 pub fn escaped_text_is_read_again()
     ensures { (text rest : List ℕ) → read_quoted (escaped text ++ 34 ∷ rest) ≡ Some (text, rest) }
+{}
+
+/// A connected network with a node has a plan of each kind but Tree for each numbering of its nodes.
+pub fn plans_are_there()
+    ensures { (net : Topology) → IsTopology net → IsConnected net → 0 < node_count net → HasPlans net }
 {}

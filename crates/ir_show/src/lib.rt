@@ -1,5 +1,8 @@
-//! The texts that show a plan: its rows, a walk of it, its figures, and a drawing; and a walk of a plan that is not built.
+//! The texts that show a plan: its rows, a walk of it, its figures, and a drawing; and a walk of a
+//! plan that is not built.
 #![tactic(auto)]
+
+use std::alloc::AllocError;
 
 mod alone;
 mod crew;
@@ -16,15 +19,18 @@ mod walk;
 mod weights;
 mod worst;
 
-pub use alone::{needs_no_tour, plans_are_there, walk_text_alone};
-pub use crew::{Block, TextCrew};
+pub use alone::{needs_no_tour, walk_text_alone};
+pub use crew::{TextBlock, TextCrew};
 pub use draw::draw_text;
 pub use figures::{Figures, figures_of};
 pub use laws::{
-    drawing_is_determined, escaped_text_is_read_again, stats_text_is_determined,
+    drawing_is_determined, escaped_text_is_read_again, plans_are_there, stats_text_is_determined,
     walk_text_is_determined,
 };
 pub use stats::{greatest_row, stats_text};
 pub use threads::lines_in_threads;
 pub use walk::walk_text;
 pub use worst::{Pair, Weighed};
+
+/// What comes of writing to a text: it is refused for memory alone.
+pub type TextResult = Result<(), AllocError>;

@@ -1,12 +1,12 @@
 //! The text of a plan, which is not built: its words are written as they are made.
-ghost use Rattle.std.specs.Prelude.{◌≡◌, ◌<◌, ◌≤◌, [], ◌∷◌, Some, IfOk, length, flat_map, slice_index_or, decimal, List, ℕ};
+ghost use Rattle.std.specs.Prelude.{◌≡◌, ◌<◌, ◌≤◌, [], Some, IfOk, IfSome, length, flat_map, decimal, List, ℕ};
 ghost use Rattle.ir_model.specs.{Graph.names, Topology.node_count, Plan.row_in};
 ghost use Rattle.ir_streams.specs.{Pouring.Pours, Writing.{Calls, Writes}};
 ghost use Rattle.ir_trace.specs.{Rows.spaced, Written.name_at};
-ghost use Rattle.ir_show.specs.{Blocks.{ArePieces, AreSpaced, IsBlock, block_lines}, Held.{plan_text_held, IsHeld}};
-ghost use Rattle.ir_show.specs.{PlanText.{kind_text, start_words, plan_head, node_words, plan_text}, Words.line_text};
+ghost use Rattle.ir_show.specs.Blocks.{ArePieces, AreSpaced, IsBlock, block_lines, line_of_node, start_text, starts_text};
+ghost use Rattle.ir_show.specs.{Held.{plan_text_held, IsHeld}, PlanText.{kind_text, plan_head, plan_text}, Words.line_text};
 
-use crate::crew::{Block, TextCrew};
+use crate::crew::{TextBlock, TextCrew};
 use ir_graph::Graph;
 use ir_model::Kind;
 use ir_plan::Plan;
@@ -16,8 +16,8 @@ use itoa::Buffer;
 use std::alloc::{AllocError, Global};
 use std::marker::Model;
 
-/// How many starts the rows of a block of nodes have at least, where they are not the last: some mebibytes of text. A plan
-/// with fewer is written by the thread that calls alone.
+/// How many starts the rows of a block of nodes have at least, where they are not the last: some
+/// mebibytes of text. A plan with fewer is written by the thread that calls alone.
 const BLOCK_STARTS: usize = 1 << 18;
 
 /// A block that is not the last has a multiple of so many nodes, so that threads get as many each.
@@ -50,8 +50,8 @@ fn pour_number<W: Writer>(parts: &mut TextParts, writer: &mut W, n: usize)
     pour_word(parts, writer, digits.format(n));
 }
 
-/// What the text of a plan is made of: for each label and each node the piece that stands for it in a row, which is made
-/// once, since rows name them again and again.
+/// What the text of a plan is made of: for each label and each node the piece that stands for it in
+/// a row, which is made once, since rows name them again and again.
 #[derive(Drop)]
 pub struct Pieces {
     graph: Graph,
@@ -94,9 +94,7 @@ fn pour_start<W: Writer>(parts: &mut TextParts, writer: &mut W, pieces: &Pieces,
     requires pieces { ArePieces pieces.now }
     requires node { u < length pieces.now.graph }
     requires place { i < length (row_in pieces.now.plan u) }
-    ensures { Pours W.contents W.wrote W.settled writer.old parts.old
-        (flat_map spaced (start_words (names pieces.now.graph) pieces.now.plan.topology u
-        (slice_index_or (row_in pieces.now.plan u) i (record { label = 0; port = 0 })))) writer.new parts.new }
+    ensures { Pours W.contents W.wrote W.settled writer.old parts.old (start_text pieces.now u i) writer.new parts.new }
 {
     let row = pieces.plan.row(u);
     parts.push_text(writer, &pieces.numbers, row.start(i) as usize);
@@ -104,13 +102,10 @@ fn pour_start<W: Writer>(parts: &mut TextParts, writer: &mut W, pieces: &Pieces,
     parts.push_text(writer, &pieces.names, hop.node as usize);
 }
 
-/// Writes the starts of a node's row.
 fn pour_starts<W: Writer>(parts: &mut TextParts, writer: &mut W, pieces: &Pieces, u: u16)
     requires pieces { ArePieces pieces.now }
     requires node { u < length pieces.now.graph }
-    ensures { Pours W.contents W.wrote W.settled writer.old parts.old
-        (flat_map spaced (flat_map (start_words (names pieces.now.graph) pieces.now.plan.topology u)
-        (row_in pieces.now.plan u))) writer.new parts.new }
+    ensures { Pours W.contents W.wrote W.settled writer.old parts.old (starts_text pieces.now u) writer.new parts.new }
 {
     let count = pieces.plan.row(u).len();
     for i in 0..count {
@@ -122,8 +117,7 @@ fn pour_starts<W: Writer>(parts: &mut TextParts, writer: &mut W, pieces: &Pieces
 fn pour_node<W: Writer>(parts: &mut TextParts, writer: &mut W, pieces: &Pieces, u: u16)
     requires pieces { ArePieces pieces.now }
     requires node { u < length pieces.now.graph }
-    ensures { Pours W.contents W.wrote W.settled writer.old parts.old
-        (line_text (node_words (names pieces.now.graph) pieces.now.plan u)) writer.new parts.new }
+    ensures { Pours W.contents W.wrote W.settled writer.old parts.old (line_of_node pieces.now u) writer.new parts.new }
 {
     if parts.has_failed() {
         return;
@@ -134,7 +128,6 @@ fn pour_node<W: Writer>(parts: &mut TextParts, writer: &mut W, pieces: &Pieces, 
     parts.push(writer, b"\n");
 }
 
-/// Writes the first line.
 fn pour_head<W: Writer>(parts: &mut TextParts, writer: &mut W, plan: &Plan)
     ensures { Pours W.contents W.wrote W.settled writer.old parts.old (line_text (plan_head plan.now))
         writer.new parts.new }
@@ -146,8 +139,7 @@ fn pour_head<W: Writer>(parts: &mut TextParts, writer: &mut W, plan: &Plan)
     parts.push(writer, b"\n");
 }
 
-/// Writes the lines of a block of nodes.
-fn pour_block<W: Writer>(parts: &mut TextParts, writer: &mut W, pieces: &Pieces, block: Block)
+fn pour_block<W: Writer>(parts: &mut TextParts, writer: &mut W, pieces: &Pieces, block: TextBlock)
     requires pieces { ArePieces pieces.now }
     requires block { IsBlock (length pieces.now.graph) block }
     ensures { Pours W.contents W.wrote W.settled writer.old parts.old (block_lines pieces.now block)
@@ -169,14 +161,12 @@ pub(crate) fn write_node<W: Writer>(
     requires parts { parts ≡ Some [] }
     requires pieces { ArePieces pieces.now }
     requires node { u < length pieces.now.graph }
-    ensures { Writes result (W.contents writer.old) (W.contents writer.new)
-        (line_text (node_words (names pieces.now.graph) pieces.now.plan u)) }
+    ensures { Writes result (W.contents writer.old) (W.contents writer.new) (line_of_node pieces.now u) }
 {
     pour_node(&mut parts, writer, pieces, u);
     parts.finish(writer)
 }
 
-/// Writes texts one after the other.
 fn pour_texts<W: Writer>(parts: &mut TextParts, writer: &mut W, texts: &[Vec<u8>])
     ensures { Pours W.contents W.wrote W.settled writer.old parts.old (flat_map (λ text. text.items) texts.now)
         writer.new parts.new }
@@ -186,25 +176,21 @@ fn pour_texts<W: Writer>(parts: &mut TextParts, writer: &mut W, texts: &[Vec<u8>
     }
 }
 
-/// Writes the lines of a block of nodes, which a crew makes. None is made once a write failed.
-fn pour_block_by<C: TextCrew, W: Writer>(
-    crew: &C,
-    alloc: Global,
+/// Writes the lines of a block of nodes, which a crew made or else this thread makes.
+fn pour_lines<W: Writer>(
     parts: &mut TextParts,
     writer: &mut W,
     pieces: &Pieces,
-    block: Block,
-    most: Option<usize>,
+    block: TextBlock,
+    made: Option<Vec<Vec<u8>>>,
 )
     requires pieces { ArePieces pieces.now }
     requires block { IsBlock (length pieces.now.graph) block }
+    requires made { IfSome made (λ texts. flat_map (λ text. text.items) texts.items ≡ block_lines pieces.now block) }
     ensures { Pours W.contents W.wrote W.settled writer.old parts.old (block_lines pieces.now block)
         writer.new parts.new }
 {
-    if parts.has_failed() {
-        return;
-    }
-    match crew.lines(alloc, pieces, block, most) {
+    match made {
         Some(texts) => pour_texts(parts, writer, texts.as_slice()),
         None => pour_block(parts, writer, pieces, block),
     }
@@ -218,7 +204,7 @@ fn pour_plan<W: Writer>(parts: &mut TextParts, writer: &mut W, pieces: &Pieces)
 {
     pour_head(parts, writer, &pieces.plan);
     let nodes = pieces.plan.nodes();
-    pour_block(parts, writer, pieces, Block { from: 0, to: nodes });
+    pour_block(parts, writer, pieces, TextBlock { from: 0, to: nodes });
 }
 
 /// Where a block of nodes from one on ends: where their rows have `BLOCK_STARTS` starts, or behind the last.
@@ -237,7 +223,8 @@ fn block_end(plan: &Plan, from: usize) -> usize
     plan.nodes()
 }
 
-/// Writes the text of a plan over a graph's network; a crew makes the lines of a large one, one block of nodes after the other.
+/// Writes the text of a plan over a graph's network; a crew makes the lines of a large one, one
+/// block of nodes after the other.
 fn pour_plan_by<C: TextCrew, W: Writer>(
     crew: &C,
     alloc: Global,
@@ -258,14 +245,19 @@ fn pour_plan_by<C: TextCrew, W: Writer>(
     let nodes = pieces.plan.nodes();
     let mut from = 0;
     while from < nodes {
+        if parts.has_failed() {
+            return;
+        }
         let to = block_end(&pieces.plan, from);
-        pour_block_by(crew, alloc, parts, writer, pieces, Block { from, to }, most);
+        let block = TextBlock { from, to };
+        let made = crew.lines(alloc, pieces, block, most);
+        pour_lines(parts, writer, pieces, block, made);
         from = to;
     }
 }
 
-/// The text of a plan over a graph's network. It is not built: beside the graph and the plan it holds the memory that its
-/// writing wants.
+/// The text of a plan over a graph's network. It is not built: beside the graph and the plan it
+/// holds the memory that its writing wants.
 #[derive(Drop)]
 pub struct PlanText {
     pieces: Pieces,
@@ -281,8 +273,8 @@ impl Model for PlanText {
 }
 
 impl PlanText {
-    /// The text of a plan over the graph's network. It is refused for memory alone, and its writing takes none. Takes O(n),
-    /// for n nodes.
+    /// The text of a plan over the graph's network. It is refused for memory alone, and its writing
+    /// takes none. Takes O(n), for n nodes.
     pub fn new(alloc: Global, graph: Graph, plan: Plan) -> Result<PlanText, AllocError>
         requires { node_count plan.topology ≡ length graph }
         ensures { IfOk result (λ text. text ≡ plan_text (names graph) plan) }
@@ -299,9 +291,10 @@ impl PlanText {
         Ok(PlanText { pieces, parts })
     }
 
-    /// Writes the text, in writes of at most `ir_streams::PART_BYTES` bytes, and answers whether the writer took and flushed
-    /// it. Nothing is written after a call that failed, and the answer is false only where one did. What went out is a front
-    /// of the text. Takes O(n + s), for n nodes and s starts, beside the calls of the writer.
+    /// Writes the text, in writes of at most `ir_streams::PART_BYTES` bytes, and answers whether
+    /// the writer took and flushed it. Nothing is written after a call that failed, and the answer
+    /// is false only where one did. What went out is a front of the text. Takes O(n + s), for n
+    /// nodes and s starts, beside the calls of the writer.
     pub fn write<W: Writer>(self, writer: &mut W) -> bool
         ensures calls { Calls W.wrote W.settled result writer.old self writer.new }
         ensures bytes { Writes result (W.contents writer.old) (W.contents writer.new) self }
@@ -311,8 +304,9 @@ impl PlanText {
         parts.finish(writer)
     }
 
-    /// Does what `write` does. The lines of a large plan are made by a crew in at most `most` threads, or in as many as suit
-    /// the processors where it is None, some mebibytes at a time; where memory for them is refused, by the thread that calls.
+    /// Does what `write` does. The lines of a large plan are made by a crew in at most `most`
+    /// threads, or in as many as suit the processors where it is None, some mebibytes at a time;
+    /// where memory for them is refused, by the thread that calls.
     pub fn write_by<C: TextCrew, W: Writer>(
         self,
         crew: &C,

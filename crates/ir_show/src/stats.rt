@@ -4,6 +4,7 @@ ghost use Rattle.ir_model.specs.{Graph.names, Topology.node_count};
 ghost use Rattle.ir_show.specs.StatsText.{IsGreatestRow, stats_head, count_line, greatest_line, rows_text, IsStatsOf};
 ghost use Rattle.ir_show.specs.{Figures.{weighed_line, figures_text}, Words.line_text};
 
+use crate::TextResult;
 use crate::figures::{Figures, figures_of};
 use crate::plan_text::kind_text;
 use crate::worst::Weighed;
@@ -25,29 +26,26 @@ pub fn greatest_row(plan: &Plan) -> u16
     best
 }
 
-/// Writes the first line.
-fn push_head(text: &mut String, plan: &Plan) -> Result<(), AllocError>
+fn push_head(text: &mut String, plan: &Plan) -> TextResult
     ensures { OnOk result (string_bytes text.new ≡ string_bytes text.old ++ line_text (stats_head plan.now)) }
 {
     text.push_str("stats")?;
     push_word(text, kind_text(plan.kind()))?;
     push_next_number(text, plan.nodes())?;
-    text.push_str("\n")?;
-    Ok(())
+    text.push_str("\n")
 }
 
 /// Writes a line of a word and a number.
-fn push_count(text: &mut String, what: &str, count: usize) -> Result<(), AllocError>
+fn push_count(text: &mut String, what: &str, count: usize) -> TextResult
     ensures { OnOk result (string_bytes text.new ≡ string_bytes text.old ++ count_line what.now count) }
 {
     text.push_str(what)?;
     push_next_number(text, count)?;
-    text.push_str("\n")?;
-    Ok(())
+    text.push_str("\n")
 }
 
 /// Writes the line of the greatest row, which is that of a node.
-fn push_greatest(text: &mut String, graph: &Graph, plan: &Plan, u: u16) -> Result<(), AllocError>
+fn push_greatest(text: &mut String, graph: &Graph, plan: &Plan, u: u16) -> TextResult
     requires nodes { node_count plan.now.topology ≡ length graph.now }
     requires node { u < length graph.now }
     ensures { OnOk result (string_bytes text.new ≡ string_bytes text.old
@@ -60,8 +58,7 @@ fn push_greatest(text: &mut String, graph: &Graph, plan: &Plan, u: u16) -> Resul
     Ok(())
 }
 
-/// Writes the line of the worst pair, if there is one.
-fn push_worst(text: &mut String, graph: &Graph, worst: Option<Weighed>) -> Result<(), AllocError>
+fn push_worst(text: &mut String, graph: &Graph, worst: Option<Weighed>) -> TextResult
     requires { IfSome worst (λ p. (p.ends.from < length graph.now) × (p.ends.to < length graph.now)) }
     ensures { OnOk result (string_bytes text.new ≡ string_bytes text.old ++ weighed_line (names graph.now) worst) }
 {
@@ -73,12 +70,11 @@ fn push_worst(text: &mut String, graph: &Graph, worst: Option<Weighed>) -> Resul
     push_name(text, graph, pair.ends.to)?;
     push_next_number(text, pair.walk as usize)?;
     push_next_number(text, pair.distance as usize)?;
-    text.push_str("\n")?;
-    Ok(())
+    text.push_str("\n")
 }
 
 /// Writes the lines that count what a plan holds, of which one is for the greatest row.
-fn push_rows(text: &mut String, graph: &Graph, plan: &Plan, greatest: u16) -> Result<(), AllocError>
+fn push_rows(text: &mut String, graph: &Graph, plan: &Plan, greatest: u16) -> TextResult
     requires nodes { node_count plan.now.topology ≡ length graph.now }
     requires greatest { greatest < length graph.now }
     ensures { OnOk result (string_bytes text.new ≡ string_bytes text.old
@@ -89,20 +85,17 @@ fn push_rows(text: &mut String, graph: &Graph, plan: &Plan, greatest: u16) -> Re
     push_count(text, "links", plan.topology().links())?;
     push_count(text, "starts", plan.labels())?;
     push_count(text, "entries", nodes * (nodes - 1))?;
-    push_greatest(text, graph, plan, greatest)?;
-    Ok(())
+    push_greatest(text, graph, plan, greatest)
 }
 
-/// Writes the lines that weigh the walks of a plan.
-fn push_weights(text: &mut String, graph: &Graph, figures: &Figures) -> Result<(), AllocError>
+fn push_weights(text: &mut String, graph: &Graph, figures: &Figures) -> TextResult
     requires { IfSome figures.now.worst (λ p. (p.ends.from < length graph.now) × (p.ends.to < length graph.now)) }
     ensures { OnOk result (string_bytes text.new ≡ string_bytes text.old
         ++ figures_text (names graph.now) figures.now) }
 {
     push_count(text, "walks", figures.walks as usize)?;
     push_count(text, "distances", figures.distances as usize)?;
-    push_worst(text, graph, figures.worst)?;
-    Ok(())
+    push_worst(text, graph, figures.worst)
 }
 
 /// The text of the figures of a plan. Condition: the plan is over the graph's network. It is refused for memory alone.

@@ -4,6 +4,7 @@ ghost use Rattle.ir_model.specs.Graph.{names};
 ghost use Rattle.ir_show.specs.Words.{line_text};
 ghost use Rattle.ir_show.specs.Stops.{AreStopsAmong, end_line, head_line, stop_line, text_of_stops};
 
+use crate::TextResult;
 use crate::plan_text::kind_text;
 use ir_graph::Graph;
 use ir_model::{Hop, Kind};
@@ -13,7 +14,7 @@ use std::alloc::{AllocError, Global};
 /// A node on the way to another one: its label, where the interval of its row begins and ends that has the other's
 /// label, and where it sends on.
 #[derive(Clone, Copy, Debug, PartialEq, Eq)]
-pub struct Stop {
+pub struct WalkStop {
     pub node: u16,
     pub label: u16,
     pub start: u16,
@@ -29,11 +30,10 @@ pub struct Stops {
     pub to: u16,
     pub label: u16,
     pub weight: u32,
-    pub stops: Vec<Stop>,
+    pub stops: Vec<WalkStop>,
 }
 
-/// Writes the first line.
-fn push_head(text: &mut String, graph: &Graph, walk: &Stops) -> Result<(), AllocError>
+fn push_head(text: &mut String, graph: &Graph, walk: &Stops) -> TextResult
     requires { AreStopsAmong (length graph.now) walk.now }
     ensures { OnOk result (string_bytes text.new ≡ string_bytes text.old
         ++ line_text (head_line (names graph.now) walk.now)) }
@@ -44,13 +44,11 @@ fn push_head(text: &mut String, graph: &Graph, walk: &Stops) -> Result<(), Alloc
     push_name(text, graph, walk.to)?;
     push_next_number(text, walk.label as usize)?;
     push_next_number(text, walk.weight as usize)?;
-    text.push_str("\n")?;
-    Ok(())
+    text.push_str("\n")
 }
 
-/// Writes the line of a stop.
 #[tactic(auto, using(crate::proofs::PlanLines::words_of_a_line))]
-fn push_stop(text: &mut String, graph: &Graph, stop: &Stop) -> Result<(), AllocError>
+fn push_stop(text: &mut String, graph: &Graph, stop: &WalkStop) -> TextResult
     requires node { stop.now.node < length graph.now }
     requires next { stop.now.hop.node < length graph.now }
     ensures { OnOk result (string_bytes text.new ≡ string_bytes text.old
@@ -62,33 +60,18 @@ fn push_stop(text: &mut String, graph: &Graph, stop: &Stop) -> Result<(), AllocE
     push_next_number(text, stop.end as usize)?;
     push_name(text, graph, stop.hop.node)?;
     push_next_number(text, stop.hop.weight as usize)?;
-    text.push_str("\n")?;
-    Ok(())
+    text.push_str("\n")
 }
 
-/// Writes a line for each stop.
-fn push_stops(text: &mut String, graph: &Graph, stops: &[Stop]) -> Result<(), AllocError>
-    requires { All (λ s. (s.node < length graph.now) × (s.hop.node < length graph.now)) stops.now }
-    ensures { OnOk result (string_bytes text.new ≡ string_bytes text.old
-        ++ flat_map (λ s. line_text (stop_line (names graph.now) s)) stops.now) }
-{
-    for stop in stops {
-        push_stop(text, graph, stop)?;
-    }
-    Ok(())
-}
-
-/// Writes the line of the end.
 #[tactic(auto, using(crate::proofs::PlanLines::words_of_a_line))]
-fn push_end(text: &mut String, graph: &Graph, walk: &Stops) -> Result<(), AllocError>
+fn push_end(text: &mut String, graph: &Graph, walk: &Stops) -> TextResult
     requires { AreStopsAmong (length graph.now) walk.now }
     ensures { OnOk result (string_bytes text.new ≡ string_bytes text.old
         ++ line_text (end_line (names graph.now) walk.now)) }
 {
     text.push_str(name_of(graph, walk.to))?;
     push_next_number(text, walk.label as usize)?;
-    text.push_str("\n")?;
-    Ok(())
+    text.push_str("\n")
 }
 
 /// The text of a walk.
@@ -98,7 +81,10 @@ pub fn text_of(alloc: Global, graph: &Graph, walk: &Stops) -> Result<String, All
 {
     let mut text = String::new(alloc);
     push_head(&mut text, graph, walk)?;
-    push_stops(&mut text, graph, walk.stops.as_slice())?;
+    let stops = walk.stops.as_slice();
+    for stop in stops {
+        push_stop(&mut text, graph, stop)?;
+    }
     push_end(&mut text, graph, walk)?;
     Ok(text)
 }

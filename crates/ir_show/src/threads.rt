@@ -1,9 +1,8 @@
 //! The lines of a plan's text, made in several threads.
 ghost use Rattle.std.specs.Prelude.{◌≡◌, ◌<◌, IfOk, IfSome, flat_map, length};
-ghost use Rattle.ir_model.specs.Graph.{names};
-ghost use Rattle.ir_show.specs.{Blocks.{ArePieces, IsBlock, block_lines}, PlanText.node_words, Words.line_text};
+ghost use Rattle.ir_show.specs.Blocks.{ArePieces, IsBlock, block_lines, line_of_node};
 
-use crate::crew::Block;
+use crate::crew::TextBlock;
 use crate::plan_text::{Pieces, write_node};
 use ir_streams::TextParts;
 use rayon::prelude::*;
@@ -13,14 +12,14 @@ use std::thread::Threads;
 /// The fewest nodes that a thread is started for.
 const LEAST_NODES: usize = 4;
 
-/// The lines of a block of nodes, a text each, made in at most `most` threads, or in as many as suit the processors where it
-/// is None. Where no thread can be started, they are made on this one. None where one thread alone is wanted, or where memory
-/// is refused.
+/// The lines of a block of nodes, a text each, made in at most `most` threads, or in as many as
+/// suit the processors where it is None. Where no thread can be started, they are made on this one.
+/// None where one thread alone is wanted, or where memory is refused.
 pub fn lines_in_threads(
     rt: &(impl Threads + Sync),
     alloc: Global,
     pieces: &Pieces,
-    block: Block,
+    block: TextBlock,
     most: Option<usize>,
 ) -> Option<Vec<Vec<u8>>>
     requires pieces { ArePieces pieces.now }
@@ -38,7 +37,7 @@ fn texts_in_threads(
     rt: &(impl Threads + Sync),
     alloc: Global,
     pieces: &Pieces,
-    block: Block,
+    block: TextBlock,
     most: Option<usize>,
 ) -> Result<Vec<Vec<u8>>, AllocError>
     requires pieces { ArePieces pieces.now }
@@ -52,8 +51,7 @@ fn texts_in_threads(
         .map(
             |u: usize| -> Result<Vec<u8>, AllocError>
                 requires { (u < length pieces.now.graph) × ArePieces pieces.now }
-                ensures { IfOk result (λ text. text.items
-                    ≡ line_text (node_words (names pieces.entry.now.graph) pieces.entry.now.plan u)) }
+                ensures { IfOk result (λ text. text.items ≡ line_of_node pieces.entry.now u) }
             { node_text(alloc, pieces, u) },
         )
         .collect::<Result<Vec<Vec<u8>>, AllocError>>(rt, alloc)?
@@ -71,7 +69,7 @@ fn nodes_of_a_thread(nodes: usize, most: Option<usize>) -> usize {
 fn node_text(alloc: Global, pieces: &Pieces, u: usize) -> Result<Vec<u8>, AllocError>
     requires pieces { ArePieces pieces.now }
     requires node { u < length pieces.now.graph }
-    ensures { IfOk result (λ text. text.items ≡ line_text (node_words (names pieces.now.graph) pieces.now.plan u)) }
+    ensures { IfOk result (λ text. text.items ≡ line_of_node pieces.now u) }
 {
     pieces.plan.invariant();
     let parts = TextParts::new(alloc)?;

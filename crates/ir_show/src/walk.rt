@@ -4,7 +4,7 @@ ghost use Rattle.ir_model.specs.{Graph.names, Topology.node_count, Plan.{IsPlan,
 ghost use Rattle.ir_show.specs.{Stops.{AreStopsOf, IsStopOf}, WalkText.IsWalkOf};
 
 use crate::interval::interval_with;
-use crate::stops::{Stop, Stops, text_of};
+use crate::stops::{Stops, WalkStop, text_of};
 use ir_graph::Graph;
 use ir_model::Hop;
 use ir_plan::Plan;
@@ -23,7 +23,7 @@ pub fn hop_towards(plan: &Plan, u: u16, to: u16) -> Hop
 }
 
 /// What a plan says of a node on the way to another.
-fn stop_of(plan: &Plan, to: u16, u: u16) -> Stop
+fn stop_of(plan: &Plan, to: u16, u: u16) -> WalkStop
     requires plan { IsPlan plan.now }
     requires end { to < node_count plan.now.topology }
     requires node { u < node_count plan.now.topology }
@@ -32,7 +32,7 @@ fn stop_of(plan: &Plan, to: u16, u: u16) -> Stop
     ensures stop { IsStopOf plan.now to result }
 {
     let interval = interval_with(plan.row(u), plan.label_of(to));
-    Stop {
+    WalkStop {
         node: u,
         label: plan.label_of(u),
         start: interval.start,

@@ -1,6 +1,6 @@
 //! The pair of nodes whose walk is the greatest multiple of its distance.
 ghost use Rattle.std.specs.Prelude.{◌≡◌, ◌↔◌, ◌≤◌, IsTrue, length};
-ghost use Rattle.ir_show.specs.{StatsText.IsEarlier, Before.{IsWorse, IsWorstWith}, Figures.IsWorstWithThoseTo};
+ghost use Rattle.ir_show.specs.{Before.{IsWorse, IsWorstWith}, Figures.IsWorstWithThoseTo};
 
 /// An ordered pair of two nodes.
 #[derive(Clone, Copy, Debug, PartialEq, Eq)]
@@ -17,17 +17,6 @@ pub struct Weighed {
     pub distance: u32,
 }
 
-/// Whether a pair stands before another.
-fn is_earlier(pair: Pair, other: Pair) -> bool
-    ensures { IsTrue result ↔ IsEarlier pair.from pair.to other.from other.to }
-{
-    if pair.from == other.from {
-        pair.to < other.to
-    } else {
-        pair.from < other.from
-    }
-}
-
 /// Whether the walk of a pair is a greater multiple of its distance than that of another; of two that are as great the
 /// earlier pair is the worse one.
 fn is_worse(pair: Weighed, other: Weighed) -> bool
@@ -35,11 +24,11 @@ fn is_worse(pair: Weighed, other: Weighed) -> bool
 {
     let this = pair.walk as u64 * other.distance as u64;
     let that = other.walk as u64 * pair.distance as u64;
-    if this == that {
-        is_earlier(pair.ends, other.ends)
-    } else {
-        that < this
+    if this != that {
+        return that < this;
     }
+    let Pair { from, to } = other.ends;
+    pair.ends.from < from || (pair.ends.from == from && pair.ends.to < to)
 }
 
 /// The worst of the pairs up to a pair, by the worst of those looked at before it.
@@ -49,15 +38,13 @@ fn worse_of(best: Option<Weighed>, pair: Weighed) -> Option<Weighed>
     if pair.ends.from == pair.ends.to {
         return best;
     }
-    match best {
-        None => Some(pair),
-        Some(other) => {
-            if is_worse(pair, other) {
-                Some(pair)
-            } else {
-                Some(other)
-            }
-        }
+    let Some(other) = best else {
+        return Some(pair);
+    };
+    if is_worse(pair, other) {
+        Some(pair)
+    } else {
+        Some(other)
     }
 }
 

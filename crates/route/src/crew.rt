@@ -7,7 +7,7 @@ use ir_model::Kind;
 use ir_numbering::Numbering;
 use ir_plan::{Crew, Makers, Plan, columns_in_threads, distances_in_threads, rows_in_threads};
 use ir_show::plan_text::Pieces;
-use ir_show::{Block, TextCrew, lines_in_threads};
+use ir_show::{TextBlock, TextCrew, lines_in_threads};
 use ir_tables::Topology;
 use std::alloc::{AllocError, Global};
 use std::thread::Threads;
@@ -67,7 +67,7 @@ impl<'a, R: Threads + Sync> TextCrew for Shown<'a, R> {
         &self,
         alloc: Global,
         pieces: &Pieces,
-        block: Block,
+        block: TextBlock,
         most: Option<usize>,
     ) -> Option<Vec<Vec<u8>>> {
         lines_in_threads(self.rt, alloc, pieces, block, most)

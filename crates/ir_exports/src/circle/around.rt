@@ -10,11 +10,11 @@ ghost use Rattle.ir_exports.specs.Around.{degrees, angle, spoke, anchor, bold_te
 use crate::circle::names::push_short_name;
 use ir_graph::Graph;
 use ir_plan::Plan;
+use ir_show::TextResult;
 use ir_show::interval::interval_at;
-use std::alloc::AllocError;
 
 /// Writes an angle in degrees, to a thousandth.
-fn push_degrees(text: &mut String, thousandths: u64) -> Result<(), AllocError>
+fn push_degrees(text: &mut String, thousandths: u64) -> TextResult
     ensures { OnOk result (string_bytes text.new ≡ string_bytes text.old ++ degrees thousandths) }
 {
     let whole = thousandths / 1000;
@@ -24,8 +24,7 @@ fn push_degrees(text: &mut String, thousandths: u64) -> Result<(), AllocError>
     write!(text, "{whole}.{tenths}{hundredths}{last}")
 }
 
-/// Writes the angle of half cells of the circle of `n` labels.
-fn push_angle(text: &mut String, n: u16, half_cells: u32) -> Result<(), AllocError>
+fn push_angle(text: &mut String, n: u16, half_cells: u32) -> TextResult
     requires { 0 < n }
     ensures { OnOk result (string_bytes text.new ≡ string_bytes text.old ++ angle n half_cells) }
 {
@@ -33,7 +32,7 @@ fn push_angle(text: &mut String, n: u16, half_cells: u32) -> Result<(), AllocErr
 }
 
 /// Writes a text element at half cells of the circle of `n` labels, up to its place.
-fn push_spoke(text: &mut String, n: u16, half_cells: u32) -> Result<(), AllocError>
+fn push_spoke(text: &mut String, n: u16, half_cells: u32) -> TextResult
     requires { 0 < n }
     ensures { OnOk result (string_bytes text.new ≡ string_bytes text.old ++ spoke n half_cells) }
 {
@@ -67,7 +66,7 @@ fn bold_text(is_bold: bool) -> &'static str
 }
 
 /// Writes a text element outside the circle, up to its words.
-fn push_outside(text: &mut String, n: u16, half_cells: u32, is_bold: bool) -> Result<(), AllocError>
+fn push_outside(text: &mut String, n: u16, half_cells: u32, is_bold: bool) -> TextResult
     requires { 0 < n }
     ensures { OnOk result (string_bytes text.new ≡ string_bytes text.old ++ outside_start n half_cells is_bold) }
 {
@@ -76,8 +75,7 @@ fn push_outside(text: &mut String, n: u16, half_cells: u32, is_bold: bool) -> Re
     text.push_str(anchor(n, half_cells))?;
     text.push_str("\"")?;
     text.push_str(bold_text(is_bold))?;
-    text.push_str(">")?;
-    Ok(())
+    text.push_str(">")
 }
 
 /// Writes the name of a node outside the circle.
@@ -88,7 +86,7 @@ fn push_name_outside(
     half_cells: u32,
     is_bold: bool,
     v: u16,
-) -> Result<(), AllocError>
+) -> TextResult
     requires n { 0 < n }
     requires node { v < length graph.now }
     ensures { OnOk result (string_bytes text.new ≡ string_bytes text.old
@@ -100,8 +98,7 @@ fn push_name_outside(
     Ok(())
 }
 
-/// Writes a label in its cell.
-fn push_label(text: &mut String, n: u16, d: u16) -> Result<(), AllocError>
+fn push_label(text: &mut String, n: u16, d: u16) -> TextResult
     requires { 0 < n }
     ensures { OnOk result (string_bytes text.new ≡ string_bytes text.old ++ label_text n d) }
 {
@@ -109,18 +106,11 @@ fn push_label(text: &mut String, n: u16, d: u16) -> Result<(), AllocError>
     write!(
         text,
         "226\" text-anchor=\"middle\" fill=\"#ffffff\">{d}</text>\n"
-    )?;
-    Ok(())
+    )
 }
 
 /// Writes a label in its cell, and outside the name of its node.
-fn push_cell(
-    text: &mut String,
-    graph: &Graph,
-    plan: &Plan,
-    u: u16,
-    d: u16,
-) -> Result<(), AllocError>
+fn push_cell(text: &mut String, graph: &Graph, plan: &Plan, u: u16, d: u16) -> TextResult
     requires nodes { node_count plan.now.topology ≡ length graph.now }
     requires node { u < length graph.now }
     requires label { d < length graph.now }
@@ -133,8 +123,7 @@ fn push_cell(
     Ok(())
 }
 
-/// Writes each label with its node's name.
-fn push_cells(text: &mut String, graph: &Graph, plan: &Plan, u: u16) -> Result<(), AllocError>
+fn push_cells(text: &mut String, graph: &Graph, plan: &Plan, u: u16) -> TextResult
     requires nodes { node_count plan.now.topology ≡ length graph.now }
     requires node { u < length graph.now }
     ensures { OnOk result (string_bytes text.new ≡ string_bytes text.old
@@ -147,7 +136,7 @@ fn push_cells(text: &mut String, graph: &Graph, plan: &Plan, u: u16) -> Result<(
 }
 
 /// Writes where the interval at a place of a node's row begins.
-fn push_bound(text: &mut String, plan: &Plan, u: u16, i: usize) -> Result<(), AllocError>
+fn push_bound(text: &mut String, plan: &Plan, u: u16, i: usize) -> TextResult
     requires plan { IsPlan plan.now }
     requires node { u < node_count plan.now.topology }
     requires place { i < length (row_in plan.now u) }
@@ -161,47 +150,36 @@ fn push_bound(text: &mut String, plan: &Plan, u: u16, i: usize) -> Result<(), Al
     Ok(())
 }
 
-/// Writes where each interval of a node's row begins.
-fn push_starts(text: &mut String, plan: &Plan, u: u16) -> Result<(), AllocError>
+/// Writes where each interval of a node's row begins, where there is room for it.
+fn push_starts(text: &mut String, plan: &Plan, u: u16) -> TextResult
     requires plan { IsPlan plan.now }
     requires node { u < node_count plan.now.topology }
-    ensures { OnOk result (string_bytes text.new ≡ string_bytes text.old
-        ++ flat_map (bound (node_count plan.now.topology)) (intervals_of (row_in plan.now u))) }
+    ensures { OnOk result (string_bytes text.new ≡ string_bytes text.old ++ starts plan.now u) }
 {
     let count = plan.row(u).len();
+    if count > 64 {
+        return Ok(());
+    }
     for i in 0..count {
         push_bound(text, plan, u, i)?;
     }
     Ok(())
 }
 
-/// Writes where each interval of a node's row begins, where there is room for it.
-fn push_few_starts(text: &mut String, plan: &Plan, u: u16) -> Result<(), AllocError>
-    requires plan { IsPlan plan.now }
-    requires node { u < node_count plan.now.topology }
-    ensures { OnOk result (string_bytes text.new ≡ string_bytes text.old ++ starts plan.now u) }
-{
-    if plan.row(u).len() <= 64 {
-        push_starts(text, plan, u)
-    } else {
-        Ok(())
-    }
-}
-
 /// Writes the bounds of a node's intervals, and its name.
-fn push_bounds(text: &mut String, graph: &Graph, plan: &Plan, u: u16) -> Result<(), AllocError>
+fn push_bounds(text: &mut String, graph: &Graph, plan: &Plan, u: u16) -> TextResult
     requires nodes { node_count plan.now.topology ≡ length graph.now }
     requires node { u < length graph.now }
     ensures { OnOk result (string_bytes text.new ≡ string_bytes text.old ++ bounds (names graph.now) plan.now u) }
 {
     let n = plan.nodes() as u16;
-    push_few_starts(text, plan, u)?;
+    push_starts(text, plan, u)?;
     push_name_outside(text, graph, n, 2 * plan.label_of(u) as u32 + 1, true, u)?;
     Ok(())
 }
 
 /// Writes what stands round the circle.
-pub fn push_around(text: &mut String, graph: &Graph, plan: &Plan, u: u16) -> Result<(), AllocError>
+pub fn push_around(text: &mut String, graph: &Graph, plan: &Plan, u: u16) -> TextResult
     requires nodes { node_count plan.now.topology ≡ length graph.now }
     requires node { u < length graph.now }
     ensures { OnOk result (string_bytes text.new ≡ string_bytes text.old ++ around (names graph.now) plan.now u) }

@@ -2,17 +2,16 @@
 ghost use Rattle.std.specs.Prelude.{◌≡◌, ◌<◌, ◌≤◌, ◌++◌, OnOk, length, string_bytes, flat_map};
 ghost use Rattle.std.specs.List.{range_with_len};
 ghost use Rattle.ir_model.specs.{Graph.names, Topology.{node_count, ports_of}};
-ghost use Rattle.ir_exports.specs.Ports.{shown_ports};
 ghost use Rattle.ir_exports.specs.Circle.{key_start, port_key, own_key, more_ports, key_head, key};
 
 use crate::circle::names::push_xml_name;
 use crate::circle::ports::{INK, colour, node_by, push_first, shown_ports};
 use ir_graph::Graph;
 use ir_plan::Plan;
-use std::alloc::AllocError;
+use ir_show::TextResult;
 
 /// Writes a line of the key, up to its words.
-fn push_key_start(text: &mut String, line: u16, paint: &str) -> Result<(), AllocError>
+fn push_key_start(text: &mut String, line: u16, paint: &str) -> TextResult
     ensures { OnOk result (string_bytes text.new ≡ string_bytes text.old ++ key_start line paint.now) }
 {
     let top = 20 * line as u32;
@@ -23,14 +22,7 @@ fn push_key_start(text: &mut String, line: u16, paint: &str) -> Result<(), Alloc
     Ok(())
 }
 
-/// Writes the line of a port.
-fn push_port_key(
-    text: &mut String,
-    graph: &Graph,
-    plan: &Plan,
-    u: u16,
-    port: u16,
-) -> Result<(), AllocError>
+fn push_port_key(text: &mut String, graph: &Graph, plan: &Plan, u: u16, port: u16) -> TextResult
     requires nodes { node_count plan.now.topology ≡ length graph.now }
     requires node { u < length graph.now }
     requires port { port < length (ports_of plan.now.topology u) }
@@ -47,8 +39,7 @@ fn push_port_key(
     Ok(())
 }
 
-/// Writes the line of a node's own label.
-fn push_own_key(text: &mut String, graph: &Graph, plan: &Plan, u: u16) -> Result<(), AllocError>
+fn push_own_key(text: &mut String, graph: &Graph, plan: &Plan, u: u16) -> TextResult
     requires nodes { node_count plan.now.topology ≡ length graph.now }
     requires node { u < length graph.now }
     ensures { OnOk result (string_bytes text.new ≡ string_bytes text.old ++ own_key (names graph.now) plan.now u) }
@@ -60,23 +51,8 @@ fn push_own_key(text: &mut String, graph: &Graph, plan: &Plan, u: u16) -> Result
     Ok(())
 }
 
-/// Writes the lines of the first ports.
-fn push_port_keys(text: &mut String, graph: &Graph, plan: &Plan, u: u16) -> Result<(), AllocError>
-    requires nodes { node_count plan.now.topology ≡ length graph.now }
-    requires node { u < length graph.now }
-    ensures { OnOk result (string_bytes text.new ≡ string_bytes text.old
-        ++ flat_map (port_key (names graph.now) plan.now u)
-        (range_with_len 0 (shown_ports (length (ports_of plan.now.topology u))))) }
-{
-    let shown = shown_ports(plan.topology().degree(u));
-    for port in 0..shown {
-        push_port_key(text, graph, plan, u, port as u16)?;
-    }
-    Ok(())
-}
-
 /// Writes how many more ports there are.
-fn push_more(text: &mut String, count: usize) -> Result<(), AllocError>
+fn push_more(text: &mut String, count: usize) -> TextResult
     ensures { OnOk result (string_bytes text.new ≡ string_bytes text.old ++ more_ports count) }
 {
     if count > 30 {
@@ -90,8 +66,7 @@ fn push_more(text: &mut String, count: usize) -> Result<(), AllocError>
     }
 }
 
-/// Writes what the key begins with.
-fn push_key_head(text: &mut String) -> Result<(), AllocError>
+fn push_key_head(text: &mut String) -> TextResult
     ensures { OnOk result (string_bytes text.new ≡ string_bytes text.old ++ key_head) }
 {
     text.push_str(
@@ -99,20 +74,22 @@ fn push_key_head(text: &mut String) -> Result<(), AllocError>
     )?;
     text.push_str(
         "<text y=\"-18\">[a,b): the labels from a up to, and without, b, clockwise</text>\n",
-    )?;
-    Ok(())
+    )
 }
 
 /// Writes the key.
-pub fn push_key(text: &mut String, graph: &Graph, plan: &Plan, u: u16) -> Result<(), AllocError>
+pub fn push_key(text: &mut String, graph: &Graph, plan: &Plan, u: u16) -> TextResult
     requires nodes { node_count plan.now.topology ≡ length graph.now }
     requires node { u < length graph.now }
     ensures { OnOk result (string_bytes text.new ≡ string_bytes text.old ++ key (names graph.now) plan.now u) }
 {
     push_key_head(text)?;
     push_own_key(text, graph, plan, u)?;
-    push_port_keys(text, graph, plan, u)?;
-    push_more(text, plan.topology().degree(u))?;
+    let ports = plan.topology().degree(u);
+    for port in 0..shown_ports(ports) {
+        push_port_key(text, graph, plan, u, port as u16)?;
+    }
+    push_more(text, ports)?;
     text.push_str("</g>\n")?;
     Ok(())
 }

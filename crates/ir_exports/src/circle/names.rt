@@ -5,11 +5,10 @@ ghost use Rattle.ir_trace.specs.{Rows.is_word, Written.name_at};
 ghost use Rattle.ir_exports.specs.Names.{xml_byte, xml, short_name};
 
 use ir_graph::Graph;
+use ir_show::TextResult;
 use ir_trace::text::name_of;
-use std::alloc::AllocError;
 
-/// Writes a byte of a text in XML.
-fn push_xml_byte(text: &mut String, byte: u8) -> Result<(), AllocError>
+fn push_xml_byte(text: &mut String, byte: u8) -> TextResult
     requires { byte < 128 }
     ensures { OnOk result (string_bytes text.new ≡ string_bytes text.old ++ xml_byte byte) }
 {
@@ -25,7 +24,7 @@ fn push_xml_byte(text: &mut String, byte: u8) -> Result<(), AllocError>
 }
 
 /// Writes the first bytes of a word in XML.
-fn push_front(text: &mut String, word: &str, most: usize) -> Result<(), AllocError>
+fn push_front(text: &mut String, word: &str, most: usize) -> TextResult
     requires word { is_word word.now ≡ true }
     requires most { most ≤ length word.now }
     ensures { OnOk result (string_bytes text.new ≡ string_bytes text.old ++ xml (take most word.now)) }
@@ -38,18 +37,17 @@ fn push_front(text: &mut String, word: &str, most: usize) -> Result<(), AllocErr
 }
 
 /// Writes the name of a node in XML.
-pub fn push_xml_name(text: &mut String, graph: &Graph, u: u16) -> Result<(), AllocError>
+pub fn push_xml_name(text: &mut String, graph: &Graph, u: u16) -> TextResult
     requires { u < length graph.now }
     ensures { OnOk result (string_bytes text.new ≡ string_bytes text.old ++ xml (name_at (names graph.now) u)) }
 {
     graph.invariant();
     let name = name_of(graph, u);
-    push_front(text, name, name.len())?;
-    Ok(())
+    push_front(text, name, name.len())
 }
 
 /// Writes the name of a node in XML, cut if it is long.
-pub fn push_short_name(text: &mut String, graph: &Graph, u: u16) -> Result<(), AllocError>
+pub fn push_short_name(text: &mut String, graph: &Graph, u: u16) -> TextResult
     requires { u < length graph.now }
     ensures { OnOk result (string_bytes text.new ≡ string_bytes text.old ++ short_name (name_at (names graph.now) u)) }
 {

@@ -6,8 +6,8 @@ ghost use Rattle.ir_show.specs.{Intervals.as_interval, PlanText.node_by};
 ghost use Rattle.ir_exports.specs.Ports.{ink, colour, said, intervals_by, count_text, first_intervals, shown_ports};
 
 use ir_plan::Plan;
-use ir_show::interval::{Interval, interval_at};
-use std::alloc::AllocError;
+use ir_show::TextResult;
+use ir_show::interval::{Interval, interval_at, push_interval};
 
 /// The colour of a node's own label.
 pub const INK: &str = "#1d2733";
@@ -53,18 +53,13 @@ pub fn node_by(plan: &Plan, u: u16, port: u16) -> u16
 }
 
 /// Writes an interval, or that it has all labels.
-pub fn push_said(text: &mut String, interval: Interval) -> Result<(), AllocError>
+pub fn push_said(text: &mut String, interval: Interval) -> TextResult
     ensures { OnOk result (string_bytes text.new ≡ string_bytes text.old ++ said (as_interval interval)) }
 {
     if interval.start == interval.end {
         text.push_str("all labels")
     } else {
-        let Interval {
-            start,
-            end,
-            port: _,
-        } = interval;
-        write!(text, "[{start},{end})")
+        push_interval(text, interval)
     }
 }
 
@@ -76,7 +71,7 @@ fn goes_by(interval: Interval, port: u16) -> bool
 }
 
 /// Writes an interval behind a space, if fewer than six were written before.
-fn push_early(text: &mut String, interval: Interval, seen: usize) -> Result<(), AllocError>
+fn push_early(text: &mut String, interval: Interval, seen: usize) -> TextResult
     ensures { OnOk result (string_bytes text.new ≡ string_bytes text.old
         ++ (if nat_lt seen 6 then spaced (said (as_interval interval)) else [])) }
 {
@@ -88,7 +83,7 @@ fn push_early(text: &mut String, interval: Interval, seen: usize) -> Result<(), 
 }
 
 /// Writes how many intervals there are, where they are none, or more than six.
-fn push_count(text: &mut String, count: usize) -> Result<(), AllocError>
+fn push_count(text: &mut String, count: usize) -> TextResult
     ensures { OnOk result (string_bytes text.new ≡ string_bytes text.old ++ count_text count) }
 {
     if count == 0 {
@@ -102,7 +97,7 @@ fn push_count(text: &mut String, count: usize) -> Result<(), AllocError>
 }
 
 /// Writes the first intervals of a node's row that have a port, and how many more there are.
-pub fn push_first(text: &mut String, plan: &Plan, u: u16, port: u16) -> Result<(), AllocError>
+pub fn push_first(text: &mut String, plan: &Plan, u: u16, port: u16) -> TextResult
     requires plan { IsPlan plan.now }
     requires node { u < node_count plan.now.topology }
     ensures { OnOk result (string_bytes text.new ≡ string_bytes text.old

@@ -2,12 +2,12 @@
 ghost use Rattle.std.specs.Prelude.{◌≡◌, ◌<◌, ◌++◌, IfOk, OnOk, IfSome, Option, length, string_bytes, flat_map};
 ghost use Rattle.std.specs.List.{range_with_len};
 ghost use Rattle.ir_model.specs.{Graph.names, Topology.{node_count, ports_of}};
-ghost use Rattle.ir_exports.specs.Ports.{shown_ports};
 ghost use Rattle.ir_exports.specs.Ring.{paint, node_of_ring, label_behind, edge_of_ring, port_box, more_box, ring_head, circle_dot};
 
 use crate::circle::ports::{INK, colour, node_by, push_first, shown_ports};
 use ir_graph::Graph;
 use ir_plan::Plan;
+use ir_show::TextResult;
 use ir_show::quoted::{push_escaped_name, push_quoted};
 use std::alloc::{AllocError, Global};
 
@@ -22,13 +22,7 @@ fn paint(port: Option<u16>) -> &'static str
 }
 
 /// Writes the node with a label.
-fn push_ring_node(
-    text: &mut String,
-    graph: &Graph,
-    plan: &Plan,
-    u: u16,
-    d: u16,
-) -> Result<(), AllocError>
+fn push_ring_node(text: &mut String, graph: &Graph, plan: &Plan, u: u16, d: u16) -> TextResult
     requires nodes { node_count plan.now.topology ≡ length graph.now }
     requires node { u < length graph.now }
     requires label { d < length graph.now }
@@ -43,12 +37,10 @@ fn push_ring_node(
     push_escaped_name(text, graph, v)?;
     write!(text, "\\n{d}\", fillcolor=\"")?;
     text.push_str(paint(plan.port(u, d)))?;
-    text.push_str("\"];\n")?;
-    Ok(())
+    text.push_str("\"];\n")
 }
 
-/// Writes all nodes by label.
-fn push_ring_nodes(text: &mut String, graph: &Graph, plan: &Plan, u: u16) -> Result<(), AllocError>
+fn push_ring_nodes(text: &mut String, graph: &Graph, plan: &Plan, u: u16) -> TextResult
     requires nodes { node_count plan.now.topology ≡ length graph.now }
     requires node { u < length graph.now }
     ensures { OnOk result (string_bytes text.new ≡ string_bytes text.old
@@ -70,7 +62,7 @@ fn label_behind(n: u16, d: u16) -> u16
 }
 
 /// Writes the edge from the node with a label to that with the next.
-fn push_ring_edge(text: &mut String, graph: &Graph, plan: &Plan, d: u16) -> Result<(), AllocError>
+fn push_ring_edge(text: &mut String, graph: &Graph, plan: &Plan, d: u16) -> TextResult
     requires nodes { node_count plan.now.topology ≡ length graph.now }
     requires label { d < length graph.now }
     ensures { OnOk result (string_bytes text.new ≡ string_bytes text.old ++ edge_of_ring (names graph.now) plan.now d) }
@@ -84,12 +76,10 @@ fn push_ring_edge(text: &mut String, graph: &Graph, plan: &Plan, d: u16) -> Resu
     push_quoted(text, graph, plan.node_of(d))?;
     text.push_str(" -- ")?;
     push_quoted(text, graph, next)?;
-    text.push_str(";\n")?;
-    Ok(())
+    text.push_str(";\n")
 }
 
-/// Writes the edges of the ring.
-fn push_ring_edges(text: &mut String, graph: &Graph, plan: &Plan) -> Result<(), AllocError>
+fn push_ring_edges(text: &mut String, graph: &Graph, plan: &Plan) -> TextResult
     requires { node_count plan.now.topology ≡ length graph.now }
     ensures { OnOk result (string_bytes text.new ≡ string_bytes text.old
         ++ flat_map (edge_of_ring (names graph.now) plan.now) (range_with_len 0 (node_count plan.now.topology))) }
@@ -100,14 +90,7 @@ fn push_ring_edges(text: &mut String, graph: &Graph, plan: &Plan) -> Result<(), 
     Ok(())
 }
 
-/// Writes the box of a port.
-fn push_port_box(
-    text: &mut String,
-    graph: &Graph,
-    plan: &Plan,
-    u: u16,
-    port: u16,
-) -> Result<(), AllocError>
+fn push_port_box(text: &mut String, graph: &Graph, plan: &Plan, u: u16, port: u16) -> TextResult
     requires nodes { node_count plan.now.topology ≡ length graph.now }
     requires node { u < length graph.now }
     requires port { port < length (ports_of plan.now.topology u) }
@@ -121,27 +104,11 @@ fn push_port_box(
     push_escaped_name(text, graph, node_by(plan, u, port))?;
     text.push_str(":")?;
     push_first(text, plan, u, port)?;
-    text.push_str("\"];\n")?;
-    Ok(())
-}
-
-/// Writes the boxes of a node's ports.
-fn push_port_boxes(text: &mut String, graph: &Graph, plan: &Plan, u: u16) -> Result<(), AllocError>
-    requires nodes { node_count plan.now.topology ≡ length graph.now }
-    requires node { u < length graph.now }
-    ensures { OnOk result (string_bytes text.new ≡ string_bytes text.old
-        ++ flat_map (port_box (names graph.now) plan.now u)
-        (range_with_len 0 (shown_ports (length (ports_of plan.now.topology u))))) }
-{
-    let shown = shown_ports(plan.topology().degree(u));
-    for port in 0..shown {
-        push_port_box(text, graph, plan, u, port as u16)?;
-    }
-    Ok(())
+    text.push_str("\"];\n")
 }
 
 /// Writes how many ports have no box.
-fn push_more_box(text: &mut String, count: usize) -> Result<(), AllocError>
+fn push_more_box(text: &mut String, count: usize) -> TextResult
     ensures { OnOk result (string_bytes text.new ≡ string_bytes text.old ++ more_box count) }
 {
     if count > 30 {
@@ -155,8 +122,7 @@ fn push_more_box(text: &mut String, count: usize) -> Result<(), AllocError>
     }
 }
 
-/// Writes what the graph begins with.
-fn push_ring_head(text: &mut String) -> Result<(), AllocError>
+fn push_ring_head(text: &mut String) -> TextResult
     ensures { OnOk result (string_bytes text.new ≡ string_bytes text.old ++ ring_head) }
 {
     text.push_str(
@@ -166,10 +132,11 @@ fn push_ring_head(text: &mut String) -> Result<(), AllocError>
     Ok(())
 }
 
-/// The circle of labels for Graphviz: a `strict graph` of all nodes in a ring by label, each with its name and label in
-/// the colour of the port that `u` has for it, and a box for each of its first 30 ports with the neighbour's name and its
-/// intervals. Condition: the plan is over the graph's network, of which `u` is a node. It is refused for memory alone.
-/// Takes O(n log k), for n nodes and k intervals of `u`.
+/// The circle of labels for Graphviz: a `strict graph` of all nodes in a ring by label, each with
+/// its name and label in the colour of the port that `u` has for it, and a box for each of its
+/// first 30 ports with the neighbour's name and its intervals. Condition: the plan is over the
+/// graph's network, of which `u` is a node. It is refused for memory alone. Takes O(n log k), for n
+/// nodes and k intervals of `u`.
 pub fn circle_dot(alloc: Global, graph: &Graph, plan: &Plan, u: u16) -> Result<String, AllocError>
     requires nodes { node_count plan.now.topology ≡ length graph.now }
     requires node { u < length graph.now }
@@ -179,8 +146,11 @@ pub fn circle_dot(alloc: Global, graph: &Graph, plan: &Plan, u: u16) -> Result<S
     push_ring_head(&mut text)?;
     push_ring_nodes(&mut text, graph, plan, u)?;
     push_ring_edges(&mut text, graph, plan)?;
-    push_port_boxes(&mut text, graph, plan, u)?;
-    push_more_box(&mut text, plan.topology().degree(u))?;
+    let ports = plan.topology().degree(u);
+    for port in 0..shown_ports(ports) {
+        push_port_box(&mut text, graph, plan, u, port as u16)?;
+    }
+    push_more_box(&mut text, ports)?;
     text.push_str("}\n")?;
     Ok(text)
 }

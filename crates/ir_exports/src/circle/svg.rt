@@ -10,6 +10,7 @@ use crate::circle::names::{push_short_name, push_xml_name};
 use crate::circle::ports::{INK, colour, node_by, push_said};
 use ir_graph::Graph;
 use ir_plan::Plan;
+use ir_show::TextResult;
 use ir_show::interval::{Interval, interval_at};
 use std::alloc::{AllocError, Global};
 
@@ -27,13 +28,7 @@ fn label_count(n: u16, interval: Interval) -> u16
 }
 
 /// Writes an arc of the circle of `n` labels, up to what it says of itself.
-fn push_arc_start(
-    text: &mut String,
-    n: u16,
-    paint: &str,
-    start: u16,
-    count: u16,
-) -> Result<(), AllocError>
+fn push_arc_start(text: &mut String, n: u16, paint: &str, start: u16, count: u16) -> TextResult
     requires start { start ≤ n }
     requires count { count ≤ n }
     ensures { OnOk result (string_bytes text.new ≡ string_bytes text.old ++ arc_start n paint.now start count) }
@@ -52,13 +47,7 @@ fn push_arc_start(
 }
 
 /// Writes the arc of the interval at a place of a node's row.
-fn push_arc(
-    text: &mut String,
-    graph: &Graph,
-    plan: &Plan,
-    u: u16,
-    i: usize,
-) -> Result<(), AllocError>
+fn push_arc(text: &mut String, graph: &Graph, plan: &Plan, u: u16, i: usize) -> TextResult
     requires nodes { node_count plan.now.topology ≡ length graph.now }
     requires plan { IsPlan plan.now }
     requires node { u < length graph.now }
@@ -77,8 +66,7 @@ fn push_arc(
     Ok(())
 }
 
-/// Writes the arcs of the intervals of a node's row.
-fn push_arcs(text: &mut String, graph: &Graph, plan: &Plan, u: u16) -> Result<(), AllocError>
+fn push_arcs(text: &mut String, graph: &Graph, plan: &Plan, u: u16) -> TextResult
     requires nodes { node_count plan.now.topology ≡ length graph.now }
     requires node { u < length graph.now }
     ensures { OnOk result (string_bytes text.new ≡ string_bytes text.old
@@ -92,8 +80,7 @@ fn push_arcs(text: &mut String, graph: &Graph, plan: &Plan, u: u16) -> Result<()
     Ok(())
 }
 
-/// Writes the arc of a node's own label.
-fn push_own_arc(text: &mut String, graph: &Graph, plan: &Plan, u: u16) -> Result<(), AllocError>
+fn push_own_arc(text: &mut String, graph: &Graph, plan: &Plan, u: u16) -> TextResult
     requires nodes { node_count plan.now.topology ≡ length graph.now }
     requires node { u < length graph.now }
     ensures { OnOk result (string_bytes text.new ≡ string_bytes text.old ++ own_arc (names graph.now) plan.now u) }
@@ -106,7 +93,7 @@ fn push_own_arc(text: &mut String, graph: &Graph, plan: &Plan, u: u16) -> Result
 }
 
 /// Writes the marks between labels, where there is room for them.
-fn push_marks(text: &mut String, n: u16) -> Result<(), AllocError>
+fn push_marks(text: &mut String, n: u16) -> TextResult
     ensures { OnOk result (string_bytes text.new ≡ string_bytes text.old ++ label_marks n) }
 {
     if n <= 64 {
@@ -121,8 +108,7 @@ fn push_marks(text: &mut String, n: u16) -> Result<(), AllocError>
     Ok(())
 }
 
-/// Writes what the ring begins with.
-fn push_ring_start(text: &mut String, n: u16) -> Result<(), AllocError>
+fn push_ring_start(text: &mut String, n: u16) -> TextResult
     ensures { OnOk result (string_bytes text.new ≡ string_bytes text.old ++ ring_start n) }
 {
     let half = 185 * n as u32;
@@ -139,8 +125,7 @@ fn push_ring_start(text: &mut String, n: u16) -> Result<(), AllocError>
     Ok(())
 }
 
-/// Writes the ring.
-fn push_ring(text: &mut String, graph: &Graph, plan: &Plan, u: u16) -> Result<(), AllocError>
+fn push_ring(text: &mut String, graph: &Graph, plan: &Plan, u: u16) -> TextResult
     requires nodes { node_count plan.now.topology ≡ length graph.now }
     requires node { u < length graph.now }
     ensures { OnOk result (string_bytes text.new ≡ string_bytes text.old ++ ring (names graph.now) plan.now u) }
@@ -155,7 +140,7 @@ fn push_ring(text: &mut String, graph: &Graph, plan: &Plan, u: u16) -> Result<()
 }
 
 /// Writes what the document begins with.
-fn push_head(text: &mut String, graph: &Graph, u: u16) -> Result<(), AllocError>
+fn push_head(text: &mut String, graph: &Graph, u: u16) -> TextResult
     requires { u < length graph.now }
     ensures { OnOk result (string_bytes text.new ≡ string_bytes text.old ++ head (names graph.now) u) }
 {
@@ -170,7 +155,7 @@ fn push_head(text: &mut String, graph: &Graph, u: u16) -> Result<(), AllocError>
 }
 
 /// Writes a node's name and label in the middle.
-fn push_middle(text: &mut String, graph: &Graph, plan: &Plan, u: u16) -> Result<(), AllocError>
+fn push_middle(text: &mut String, graph: &Graph, plan: &Plan, u: u16) -> TextResult
     requires nodes { node_count plan.now.topology ≡ length graph.now }
     requires node { u < length graph.now }
     ensures { OnOk result (string_bytes text.new ≡ string_bytes text.old ++ middle (names graph.now) plan.now u) }
@@ -185,10 +170,11 @@ fn push_middle(text: &mut String, graph: &Graph, plan: &Plan, u: u16) -> Result<
     Ok(())
 }
 
-/// The circle of labels as SVG, with an arc for each interval of a node in the colour of its port, and beside it a line
-/// for each of its first 30 ports with the neighbour's name and its intervals. Each label stands there with its node's
-/// name up to 64 nodes; above, the bounds of up to 64 intervals. Condition: the plan is over the graph's network, of which
-/// `u` is a node. It is refused for memory alone. Takes O(n), for n nodes.
+/// The circle of labels as SVG, with an arc for each interval of a node in the colour of its port,
+/// and beside it a line for each of its first 30 ports with the neighbour's name and its intervals.
+/// Each label stands there with its node's name up to 64 nodes; above, the bounds of up to 64
+/// intervals. Condition: the plan is over the graph's network, of which `u` is a node. It is
+/// refused for memory alone. Takes O(n), for n nodes.
 pub fn circle_svg(alloc: Global, graph: &Graph, plan: &Plan, u: u16) -> Result<String, AllocError>
     requires nodes { node_count plan.now.topology ≡ length graph.now }
     requires node { u < length graph.now }

@@ -1,8 +1,8 @@
-use Rattle.std.proofs.Common.{◌≡◌, ◌+◌, ◌<◌, ◌++◌, ◌∷◌, [], ℕ, Bool, List, length, slice_index, ap, sym, subst, ◌∙◌, arith}
+use Rattle.std.proofs.Common.{◌≡◌, ◌+◌, ◌<◌, ◌++◌, ◌∷◌, [], ℕ, Bool, List, Option, length, slice_index, ap, sym, subst, ◌∙◌, arith}
 use Rattle.ir_model.specs.Topology.{Topology, IsTopology, node_count, ports_of}
 use Rattle.ir_model.proofs.Walks.{port_facts}
 use Rattle.ir_figures.specs.Arcs.{marks_of}
-use Rattle.ir_figures.specs.Exits.{exits_before, AreLinks}
+use Rattle.ir_figures.specs.Exits.{exits_before, AreLinks, ArePortsByLabel}
 use Rattle.ir_figures.specs.Waits.{Waits}
 use Rattle.ir_figures.proofs.Offsets.{degree_le, before_more}
 use Rattle.ir_figures.proofs.Links.{links_more, marks_push}
@@ -31,7 +31,8 @@ loop-p-preserved c =
     let row = c.in_ok-marks.marks in
     let next_in : hop.node < node_count s.topology = (port_facts s.topology c.requires.plan.topology c.args.u c.loop-p.p hop c.hop-next.ensures).to in
     let begins : slice_index c.args.first.now hop.node ≡ exits_before s.topology hop.node = c.requires.first.1.starts hop.node next_in in
-    let waited = awaited s c.requires.plan c.args.u c.loop-p.p hop row.items c.requires.node c.hop-next.ensures c.in_ok-marks.ensures in
+    let ports : ArePortsByLabel s c.args.u c.as_slice.result.now = subst (λ (os : List (Option ℕ)). ArePortsByLabel s c.args.u os) (sym c.as_slice.ensures.value) c.in_ok-ports.ensures in
+    let waited = awaited s c.requires.plan c.args.u c.loop-p.p hop row.items c.requires.node c.hop-next.ensures (c.in_ok-marks.ensures c.args.u ports) in
     let done = links_more s.topology (Waits s) blocks (marks_of rows) (slice_index c.args.first.now hop.node) row.items c.args.u c.loop-p.p (exits_before s.topology c.args.u + c.loop-p.p) hop
     c.requires.node p_in (omega arith) c.hop-next.ensures begins waited c.loop-p.invariant in
     let count : exits_before s.topology c.args.u + c.loop-p.p + 1 ≡ exits_before s.topology c.args.u + (c.loop-p.p + 1) = omega arith in

@@ -13,4 +13,4 @@ loop-after-preserved c =
     let made : string_bytes c.push_filled.new.text ≡ string_bytes c.push_str.new.self ++ filled template words = search rules in
     let written : string_bytes c.push_filled.new.text ≡ (string_bytes c.loop-after.text ++ c.comma.result.now) ++ filled template words = made ∙ ap (λ t. t ++ filled template words) led in
     pairs_on template (string_bytes c.loop-after.text) (string_bytes c.push_filled.new.text) (string_bytes c.args.text.now ++ pairs_from template true (words_of c.args.line.now)) c.comma.result.now c.loop-after.is_first
-    c.in-Some.field-0-0.now words (words_of c.in-Some.after.now) (words_of c.behind_word-rest.result.now) c.loop-after.invariant c.in-Some.ensures.0 c.comma.ensures written c.behind_word-rest.ensures.rest
+    c.in-Some.field-0-0.now words (words_of c.in-Some.after.now) (words_of c.first_word.result.1.now) c.loop-after.invariant c.in-Some.ensures.0 c.comma.ensures written c.first_word.ensures.rest

@@ -10,7 +10,7 @@ use Rattle.ir_show.specs.Before.{separated}
 use Rattle.ir_show.specs.Drawing.{goes_by, interval_text}
 use Rattle.ir_show.proofs.Drawn.{shown_intervals, shown_more, shown_same, no_longer_first}
 use Rattle.ir_show.proofs.draw.push_intervals.Goals as goal
-use Rattle.ir_show.proofs.draw.push_intervals.Goals.{then-goes_by+in_ok-push_interval, else-goes_by}
+use Rattle.ir_show.proofs.draw.push_intervals.Goals.{then-goes_by+in_ok-push_separated, else-goes_by}
 
 pub loop-i-preserved : goal.loop-i-preserved
 loop-i-preserved c =
@@ -21,9 +21,9 @@ loop-i-preserved c =
     let i_in : c.loop-i.i < length ms = omega (arith, c.loop-i-test.true, c.len-count.ensures.len, ap length c.row.ensures.row, length-intervals_of (row_in s c.args.u)) in
     let is = c.interval_at-interval.ensures.interval in
     elim c.if-goes_by.branch [
-      | then-goes_by+in_ok-push_interval w ↦
+      | then-goes_by+in_ok-push_separated w ↦
           let passes_test = ap test (sym is) ∙ sym c.goes_by.ensures ∙ w.if-goes_by.true in (
-            ap string_bytes w.text-is ∙ w.in_ok-push_interval.ensures ∙ ap (λ (m : PortInterval). string_bytes c.loop-i.text ++ separated c.loop-i.first (interval_text m)) is
+            ap string_bytes w.text-is ∙ w.in_ok-push_separated.ensures ∙ ap (λ (m : PortInterval). string_bytes c.loop-i.text ++ separated c.loop-i.first (interval_text m)) is
                 ∙ ap (λ (t : List ℕ). t ++ separated c.loop-i.first (interval_text (get_or ms c.loop-i.i no_interval))) c.loop-i.invariant.0
                 ∙ shown_more test ms c.loop-i.i i_in old c.loop-i.first c.loop-i.invariant.1 passes_test,
             w.first-is ∙ no_longer_first test ms c.loop-i.i i_in passes_test,

@@ -1,12 +1,12 @@
 use Rattle.std.proofs.Common.{◌+◌, ◌∙◌, List, length, refl, sym, ap, subst, arith}
 use Rattle.std.proofs.lemmas.List.{length_push}
-use Rattle.ir_show.specs.declared.stops.Stop.{Stop}
+use Rattle.ir_show.specs.declared.stops.WalkStop.{WalkStop}
 use Rattle.ir_show.proofs.Walks.{AreStopsAlong, along_begins, along_goes_on, along_whole, along_light, along_weighs}
 use Rattle.ir_show.proofs.walk.walk_between.Goals as goal
 
 pub loop-at-init : goal.loop-at-init
 loop-at-init c =
-    subst (λ (stops : List Stop). AreStopsAlong c.args.plan.now c.args.from c.args.to c.args.from 0 stops) (sym c.new-stops.ensures.items)
+    subst (λ (stops : List WalkStop). AreStopsAlong c.args.plan.now c.args.from c.args.to c.args.from 0 stops) (sym c.new-stops.ensures.items)
     (along_begins c.args.plan.now c.invariant.ensures.plan c.args.from c.args.to c.requires.from c.requires.to)
 
 pub stop_of-stop-requires-clause-node : goal.stop_of-stop-requires-clause-node
@@ -19,8 +19,8 @@ overflow_add-weight c =
 
 pub loop-at-preserved : goal.loop-at-preserved
 loop-at-preserved c =
-    let stop : Stop = c.stop_of-stop.result in
-    subst (λ (stops : List Stop). AreStopsAlong c.args.plan.now c.args.from c.args.to stop.hop.node (c.loop-at.weight + stop.hop.weight) stops) (sym c.in_ok-push.ensures.items)
+    let stop : WalkStop = c.stop_of-stop.result in
+    subst (λ (stops : List WalkStop). AreStopsAlong c.args.plan.now c.args.from c.args.to stop.hop.node (c.loop-at.weight + stop.hop.weight) stops) (sym c.in_ok-push.ensures.items)
     (along_goes_on c.args.plan.now c.invariant.ensures.plan c.args.from c.args.to c.loop-at.at c.loop-at.weight c.loop-at.stops.items c.loop-at.invariant stop c.stop_of-stop.ensures.node c.stop_of-stop.ensures.stop)
 
 pub loop-at-smaller : goal.loop-at-smaller

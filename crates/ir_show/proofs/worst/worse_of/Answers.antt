@@ -7,10 +7,10 @@ use Rattle.ir_show.proofs.worst.worse_of.Goals as goal
 pub returns-then-pair : goal.returns-then-pair
 returns-then-pair c = λ n walk distance from_in to_in positive weighed before. passes n walk distance c.args.pair.ends.from c.args.pair.ends.to c.if-pair.true c.args.best before
 
-pub returns-in-None : goal.returns-in-None
-returns-in-None c = λ n walk distance from_in to_in positive weighed before.
+pub returns-in_default : goal.returns-in_default
+returns-in_default c = λ n walk distance from_in to_in positive weighed before.
     let P : Option Weighed → Type 0 = λ best. IsWorstBefore n walk distance c.args.pair.ends.from c.args.pair.ends.to best in
-    (begins n walk distance c.args.pair.ends.from c.args.pair.ends.to from_in to_in c.if-pair.false (subst P c.in-None.is before), weighed)
+    (begins n walk distance c.args.pair.ends.from c.args.pair.ends.to from_in to_in c.if-pair.false (subst P c.in_default.is before), weighed)
 
 pub returns-then-is_worse : goal.returns-then-is_worse
 returns-then-is_worse c = λ n walk distance from_in to_in positive weighed before.

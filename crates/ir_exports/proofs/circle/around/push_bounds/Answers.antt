@@ -18,7 +18,7 @@ returns c =
     let own : c.label_of.result ≡ label_in plan c.args.u = c.label_of.ensures in
     let line : ℕ → ℕ → List ℕ = λ n l. old ++ (starts plan c.args.u ++ outside n (2 * l + 1) true name) in
     let here : string_bytes c.push_name_outside.new.text ≡ old ++ (starts plan c.args.u ++ outside c.nodes-n.result (2 * c.label_of.result + 1) true name) =
-    followed old (starts plan c.args.u) (outside c.nodes-n.result (2 * c.label_of.result + 1) true name) (string_bytes c.push_few_starts.new.text) (string_bytes c.push_name_outside.new.text) c.in_ok-push_few_starts.ensures c.in_ok-push_name_outside.ensures in
+    followed old (starts plan c.args.u) (outside c.nodes-n.result (2 * c.label_of.result + 1) true name) (string_bytes c.push_starts.new.text) (string_bytes c.push_name_outside.new.text) c.in_ok-push_starts.ensures c.in_ok-push_name_outside.ensures in
     here
     ∙ ap (λ (n : ℕ). line n c.label_of.result) count
     ∙ ap (λ (l : ℕ). line (node_count plan.topology) l) own

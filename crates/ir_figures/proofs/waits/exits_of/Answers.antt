@@ -2,7 +2,7 @@ use Rattle.std.proofs.Common.{◌+◌, ◌<◌, ℕ, List, sym, subst, arith}
 use Rattle.ir_model.specs.Topology.{node_count}
 use Rattle.ir_figures.specs.Exits.{AreExits, AreNextExits}
 use Rattle.ir_figures.proofs.Offsets.{before_le, exits_more}
-use Rattle.ir_figures.proofs.exits.exits_of.Goals as goal
+use Rattle.ir_figures.proofs.waits.exits_of.Goals as goal
 
 pub overflow_cast-len : goal.overflow_cast-len
 overflow_cast-len c =

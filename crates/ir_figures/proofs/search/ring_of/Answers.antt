@@ -2,7 +2,7 @@ use Rattle.std.proofs.Common.{arith}
 use Rattle.ir_figures.specs.Arcs.{marks_of}
 use Rattle.ir_figures.proofs.Marks.{marks_len}
 use Rattle.ir_figures.proofs.ClosedRings.{ring_closes, all_done}
-use Rattle.ir_figures.proofs.ring.ring_of.Goals as goal
+use Rattle.ir_figures.proofs.search.ring_of.Goals as goal
 
 pub loop-c-init : goal.loop-c-init
 loop-c-init c = record {

@@ -1,6 +1,6 @@
 use Rattle.std.proofs.Common.{◌≡◌, ◌<◌, ℕ, length, slice_index}
 use Rattle.ir_figures.specs.Search.{Searches}
-use Rattle.ir_figures.proofs.ring.ring_of.Given as goal
+use Rattle.ir_figures.proofs.search.ring_of.Given as goal
 
 abbrev pub invariant-loop-c : goal.invariant-loop-c
 invariant-loop-c l = record {
