@@ -4,7 +4,7 @@
 ghost use Rattle.std.specs.Prelude.{◌≡◌, ◌<◌, ◌+◌, ◌≤◌, List, [], ◌∷◌, ◌++◌, length, All, IfOk, IfErr, IfNone, IfSome, None, true, MatchOption, MatchResult, vec_len, vec_capacity, drop};
 ghost use Rattle.std.specs.Arc.{arc_value};
 ghost use Rattle.crossbeam_queue.specs.Passes.{view as pass_view, IsSamePass, IsPassOf, ruled_capacity};
-ghost use Rattle.ir_links.specs.{Ends.{channel_named, with_sent, WasFull, WasEmpty, WasRefused, FoundNone}, Rule.{terms_of, known, knows_base}};
+ghost use Rattle.ir_links.specs.{Ends.{channel_named, with_sent, with_taken, WasFull, WasEmpty, WasRefused, FoundNone}, Rule.{terms_of, known, knows_base}};
 ghost use Rattle.ir_links.specs.{Ends.{Channel, Sender, Taker, Remains}, Rule.{knows_sent, knows_taken, knows_both}};
 
 use crate::moments::{Moments, Shared};
@@ -98,8 +98,8 @@ impl<T: Bound> Model for Taker<T> {
         (pass_view s.pass).taken) };
 }
 
-/// What is left of a channel whose two ends were brought together. Contracts see the channel's `Channel`, and the list of
-/// the items that it still holds, oldest first.
+/// What is left of a channel whose two ends were brought together. Contracts see the channel's
+/// `Channel`, and the list of the items that it still holds, oldest first.
 #[derive(Drop)]
 pub struct Remains<T: Bound> {
     shared: Arc<Shared<T>, Global>,
@@ -188,9 +188,9 @@ impl<T: Bound> Sender<T> {
 
     /// Puts the item behind those in the channel, or gives it back.
     ///
-    /// The sent list grows by the item exactly where the answer is `Ok`. It is `Full` only where the channel held as
-    /// many items as it can at one moment of the call, at which the push of this call was refused. They are then the last
-    /// of the sent list, and each goes to the place.
+    /// The sent list grows by the item exactly where the answer is `Ok`. It is `Full` only where
+    /// the channel held as many items as it can at one moment of the call, at which the push of
+    /// this call was refused. They are then the last of the sent list, and each goes to the place.
     pub fn send<R: Moments<T>>(&mut self, rt: &R, item: T) -> Result<(), Full<T>>
         requires { T.goes_to item self.old.channel.place }
         ensures sent { MatchResult result
@@ -214,15 +214,14 @@ impl<T: Bound> Taker<T> {
 
     /// Takes the oldest item in the channel.
     ///
-    /// The taken list grows by that item, which goes to the channel's place. `None` comes only where the queue held
-    /// nothing at one moment of the call, at which the pop of this call was refused. The taken list was then all that had
-    /// been sent, and each item of it goes to the place: the taker alone doesn't know that, and the channel's rule shows
-    /// it at a step.
+    /// The taken list grows by that item, which goes to the channel's place. `None` comes only
+    /// where the queue held nothing at one moment of the call, at which the pop of this call was
+    /// refused. The taken list was then all that had been sent, and each item of it goes to the
+    /// place: the taker alone doesn't know that, and the channel's rule shows it at a step.
     pub fn take<R: Moments<T>>(&mut self, rt: &R) -> Option<T>
         ensures taken { MatchOption result
             ((self.new ≡ self.old) × WasEmpty T.goes_to self.old)
-            (λ item. (self.new ≡ record self.old { taken = self.old.taken ++ item ∷ [] })
-            × T.goes_to item self.old.channel.place) }
+            (λ item. (self.new ≡ with_taken self.old item) × T.goes_to item self.old.channel.place) }
         ensures moment { IfNone result (FoundNone R.was_empty T.goes_to self.old) }
         ensures channel { self.new.channel ≡ self.old.channel }
     {

@@ -1,8 +1,8 @@
 //! Pushes and pops that tell their own moment where they are refused.
-ghost use Rattle.std.specs.Prelude.{◌≡◌, List, IfErr, IfNone, IfSome, MatchOption, MatchResult};
+ghost use Rattle.std.specs.Prelude.{◌≡◌, List, IfErr, IfNone, IfSome};
 ghost use Rattle.atomic_table.specs.Seated.{TableId};
 ghost use Rattle.crossbeam_queue.specs.Passes.{view as pass_view, IsSamePass, IsPassOf, ruled_capacity};
-ghost use Rattle.ir_links.specs.{Ends.{channel_named, RefusesPush, RefusesPop}, Rule.{knows_sent, knows_taken, knows_more_sent, knows_more_taken}};
+ghost use Rattle.ir_links.specs.{Ends.{channel_named, RefusesPush, RefusesPop}, Rule.{knows_sent, knows_taken, IsPushAnswer, IsPopAnswer}};
 ghost use Rattle.ir_links.specs.Lists.{EndsWith};
 
 use crate::rule::{Bound, EndView, InOrder, SendsItem, TakesItem};
@@ -16,16 +16,20 @@ pub struct Shared<T: Bound> {
     pub place: T::Place,
 }
 
-/// A runtime with a word for each call of a channel's queue that is refused: so a contract can say that this very push or
-/// pop was refused, and not only that the queue was full or empty once. Each runtime that may wait is one.
+/// A runtime with a word for each call of a channel's queue that is refused: so a contract can say
+/// that this very push or pop was refused, and not only that the queue was full or empty once. Each
+/// runtime that may wait is one.
 pub trait Moments<T: Bound>: Wait {
-    // A push on the queue of this name was refused, by the end that had sent the first list. The queue then held the second.
+    // A push on the queue of this name was refused, by the end that had sent the first list. The
+    // queue then held the second.
     ghost was_full: { TableId → List T → List T → Type 0 };
 
-    // A pop of the queue of this name was refused, by the end that had taken the first list. The second had then been sent.
+    // A pop of the queue of this name was refused, by the end that had taken the first list. The
+    // second had then been sent.
     ghost was_empty: { TableId → List T → List T → Type 0 };
 
-    /// Puts the item behind those in the queue, or gives it back, and then this push was refused where the queue was full.
+    /// Puts the item behind those in the queue, or gives it back, and then this push was refused
+    /// where the queue was full.
     fn push(
         &self,
         shared: &Shared<T>,
@@ -37,10 +41,8 @@ pub trait Moments<T: Bound>: Wait {
             ≡ knows_sent shared.now.place (ruled_capacity shared.now.queue) (pass_view pass.old).sent }
         requires goes { T.goes_to item shared.now.place }
         ensures queue { IsSamePass pass.old pass.new }
-        ensures sent { MatchResult result
-            (λ _. pass_view pass.new ≡ knows_more_sent shared.now.place (ruled_capacity shared.now.queue)
-            (pass_view pass.old) item)
-            (λ back. (back ≡ item) × (pass_view pass.new ≡ pass_view pass.old)) }
+        ensures sent { IsPushAnswer shared.now.place (ruled_capacity shared.now.queue) item
+            (pass_view pass.old) result (pass_view pass.new) }
         ensures moment { IfErr result (λ _. RefusesPush was_full T.goes_to (channel_named pass.old.table_id
             shared.now.place (ruled_capacity shared.now.queue)) (pass_view pass.old).sent) };
 
@@ -50,10 +52,8 @@ pub trait Moments<T: Bound>: Wait {
         requires knows { pass_view pass.old
             ≡ knows_taken shared.now.place (ruled_capacity shared.now.queue) (pass_view pass.old).taken }
         ensures queue { IsSamePass pass.old pass.new }
-        ensures taken { MatchOption result
-            (pass_view pass.new ≡ pass_view pass.old)
-            (λ item. pass_view pass.new ≡ knows_more_taken shared.now.place (ruled_capacity shared.now.queue)
-            (pass_view pass.old) item) }
+        ensures taken { IsPopAnswer shared.now.place (ruled_capacity shared.now.queue)
+            (pass_view pass.old) result (pass_view pass.new) }
         ensures goes { IfSome result (λ item. T.goes_to item shared.now.place) }
         ensures moment { IfNone result (RefusesPop was_empty T.goes_to (channel_named pass.old.table_id
             shared.now.place (ruled_capacity shared.now.queue)) (pass_view pass.old).taken) };
