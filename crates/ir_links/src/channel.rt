@@ -4,7 +4,7 @@
 ghost use Rattle.std.specs.Prelude.{◌≡◌, ◌<◌, ◌+◌, ◌≤◌, List, [], ◌∷◌, ◌++◌, length, All, IfOk, IfErr, IfNone, IfSome, None, true, MatchOption, MatchResult, vec_len, vec_capacity, drop};
 ghost use Rattle.std.specs.Arc.{arc_value};
 ghost use Rattle.crossbeam_queue.specs.Passes.{view as pass_view, IsSamePass, IsPassOf, ruled_capacity};
-ghost use Rattle.ir_links.specs.{Ends.{channel_named, with_sent, with_taken, WasFull, WasEmpty, WasRefused, FoundNone}, Rule.{terms_of, known, knows_base}};
+ghost use Rattle.ir_links.specs.{Ends.{channel_named, with_item_sent, with_item_taken, WasFull, WasEmpty, WasRefused, FoundNone}, Rule.{terms_of, known, knows_base}};
 ghost use Rattle.ir_links.specs.{Ends.{Channel, Sender, Taker, Remains}, Rule.{knows_sent, knows_taken, knows_both}};
 
 use crate::moments::{Moments, Shared};
@@ -194,7 +194,7 @@ impl<T: Bound> Sender<T> {
     pub fn send<R: Moments<T>>(&mut self, rt: &R, item: T) -> Result<(), Full<T>>
         requires { T.goes_to item self.old.channel.place }
         ensures sent { MatchResult result
-            (λ _. self.new ≡ with_sent self.old item)
+            (λ _. self.new ≡ with_item_sent self.old item)
             (λ full. (full.item ≡ item) × (self.new ≡ self.old) × WasFull T.goes_to self.old) }
         ensures moment { IfErr result (λ _. WasRefused R.was_full T.goes_to self.old) }
         ensures channel { self.new.channel ≡ self.old.channel }
@@ -221,7 +221,7 @@ impl<T: Bound> Taker<T> {
     pub fn take<R: Moments<T>>(&mut self, rt: &R) -> Option<T>
         ensures taken { MatchOption result
             ((self.new ≡ self.old) × WasEmpty T.goes_to self.old)
-            (λ item. (self.new ≡ with_taken self.old item) × T.goes_to item self.old.channel.place) }
+            (λ item. (self.new ≡ with_item_taken self.old item) × T.goes_to item self.old.channel.place) }
         ensures moment { IfNone result (FoundNone R.was_empty T.goes_to self.old) }
         ensures channel { self.new.channel ≡ self.old.channel }
     {
