@@ -4,18 +4,16 @@
 ghost use Rattle.std.specs.Prelude.{◌≡◌, ◌<◌, ◌+◌, ◌≤◌, List, [], ◌∷◌, ◌++◌, length, All, IfOk, IfErr, IfNone, IfSome, None, true, MatchOption, MatchResult, vec_len, vec_capacity, drop};
 ghost use Rattle.std.specs.Arc.{arc_value};
 ghost use Rattle.crossbeam_queue.specs.Passes.{view as pass_view, IsSamePass, IsPassOf, ruled_capacity};
-ghost use Rattle.ir_links.specs.{Ends.{channel_named, WasFull, WasEmpty, WasRefused, FoundNone}, Rule.{terms_of, known, knows_base}};
+ghost use Rattle.ir_links.specs.{Ends.{channel_named, with_item_sent, with_item_taken, WasFull, WasEmpty, WasRefused, FoundNone}, Rule.{terms_of, known, knows_base}};
 ghost use Rattle.ir_links.specs.{Ends.{Channel, Sender, Taker, Remains}, Rule.{knows_sent, knows_taken, knows_both}};
 
 use crate::moments::{Moments, Shared};
-use crate::rule::{Bound, Empties, InOrder, Named, Naming, Roles, View};
+use crate::rule::{Bound, Empties, EndView, InOrder, NamedTerms, Naming, Roles};
 use atomic_table::{Perch, Seat};
 use crossbeam_queue::{Pass, RuledArrayQueue};
 use std::alloc::{AllocError, Global};
 use std::marker::{Brand, Model};
 use std::sync::{Arc, Wait};
-
-type Queue<T, P> = RuledArrayQueue<T, View<T, P>, InOrder>;
 
 /// The perch of a pass's kind: a pass rests there until one caller takes it, with no lock.
 pub trait Rests {
@@ -41,7 +39,7 @@ impl<S, V> Rests for Seat<S, V> {
 #[derive(Drop)]
 pub struct Channel<T: Bound> {
     shared: Arc<Shared<T>, Global>,
-    base: <Pass<T, View<T, T::Place>> as Rests>::On,
+    base: <Pass<T, EndView<T, T::Place>> as Rests>::On,
 }
 
 impl<T: Bound> Model for Channel<T> {
@@ -64,7 +62,7 @@ pub struct Full<T> {
 #[derive(Drop)]
 pub struct Sender<T: Bound> {
     shared: Arc<Shared<T>, Global>,
-    pass: Pass<T, View<T, T::Place>>,
+    pass: Pass<T, EndView<T, T::Place>>,
 }
 
 impl<T: Bound> Model for Sender<T> {
@@ -84,7 +82,7 @@ impl<T: Bound> Model for Sender<T> {
 #[derive(Drop)]
 pub struct Taker<T: Bound> {
     shared: Arc<Shared<T>, Global>,
-    pass: Pass<T, View<T, T::Place>>,
+    pass: Pass<T, EndView<T, T::Place>>,
 }
 
 impl<T: Bound> Model for Taker<T> {
@@ -100,12 +98,12 @@ impl<T: Bound> Model for Taker<T> {
         (pass_view s.pass).taken) };
 }
 
-/// What is left of a channel whose two ends were brought together. Contracts see the channel's `Channel`, and the list of
-/// the items that it still holds, oldest first.
+/// What is left of a channel whose two ends were brought together. Contracts see the channel's
+/// `Channel`, and the list of the items that it still holds, oldest first.
 #[derive(Drop)]
 pub struct Remains<T: Bound> {
     shared: Arc<Shared<T>, Global>,
-    pass: Pass<T, View<T, T::Place>>,
+    pass: Pass<T, EndView<T, T::Place>>,
 }
 
 impl<T: Bound> Model for Remains<T> {
@@ -125,8 +123,8 @@ impl<T: Bound> Model for Remains<T> {
 
 // Tells the rule where the channel leads and how much it holds.
 fn name<T: Bound, K: Naming<T::Place>>(
-    queue: &Queue<T, T::Place>,
-    pass: &mut Pass<T, View<T, T::Place>>,
+    queue: &RuledArrayQueue<T, EndView<T, T::Place>, InOrder>,
+    pass: &mut Pass<T, EndView<T, T::Place>>,
     _place: &T::Place,
 )
     requires queue { IsPassOf queue.now pass.old }
@@ -135,7 +133,7 @@ fn name<T: Bound, K: Naming<T::Place>>(
     ensures queue { IsSamePass pass.old pass.new }
     ensures named { pass_view pass.new ≡ knows_base _place.now (ruled_capacity queue.now) }
 {
-    queue.another::<Named<K>>(pass);
+    queue.another::<NamedTerms<K>>(pass);
 }
 
 impl<T: Bound> Channel<T> {
@@ -190,13 +188,13 @@ impl<T: Bound> Sender<T> {
 
     /// Puts the item behind those in the channel, or gives it back.
     ///
-    /// The sent list grows by the item exactly where the answer is `Ok`. It is `Full` only where the channel held as
-    /// many items as it can at one moment of the call, at which the push of this call was refused. They are then the last
-    /// of the sent list, and each goes to the place.
+    /// The sent list grows by the item exactly where the answer is `Ok`. It is `Full` only where
+    /// the channel held as many items as it can at one moment of the call, at which the push of
+    /// this call was refused. They are then the last of the sent list, and each goes to the place.
     pub fn send<R: Moments<T>>(&mut self, rt: &R, item: T) -> Result<(), Full<T>>
         requires { T.goes_to item self.old.channel.place }
         ensures sent { MatchResult result
-            (λ _. self.new ≡ record self.old { sent = self.old.sent ++ item ∷ [] })
+            (λ _. self.new ≡ with_item_sent self.old item)
             (λ full. (full.item ≡ item) × (self.new ≡ self.old) × WasFull T.goes_to self.old) }
         ensures moment { IfErr result (λ _. WasRefused R.was_full T.goes_to self.old) }
         ensures channel { self.new.channel ≡ self.old.channel }
@@ -216,15 +214,14 @@ impl<T: Bound> Taker<T> {
 
     /// Takes the oldest item in the channel.
     ///
-    /// The taken list grows by that item, which goes to the channel's place. `None` comes only where the queue held
-    /// nothing at one moment of the call, at which the pop of this call was refused. The taken list was then all that had
-    /// been sent, and each item of it goes to the place: the taker alone doesn't know that, and the channel's rule shows
-    /// it at a step.
+    /// The taken list grows by that item, which goes to the channel's place. `None` comes only
+    /// where the queue held nothing at one moment of the call, at which the pop of this call was
+    /// refused. The taken list was then all that had been sent, and each item of it goes to the
+    /// place: the taker alone doesn't know that, and the channel's rule shows it at a step.
     pub fn take<R: Moments<T>>(&mut self, rt: &R) -> Option<T>
         ensures taken { MatchOption result
             ((self.new ≡ self.old) × WasEmpty T.goes_to self.old)
-            (λ item. (self.new ≡ record self.old { taken = self.old.taken ++ item ∷ [] })
-            × T.goes_to item self.old.channel.place) }
+            (λ item. (self.new ≡ with_item_taken self.old item) × T.goes_to item self.old.channel.place) }
         ensures moment { IfNone result (FoundNone R.was_empty T.goes_to self.old) }
         ensures channel { self.new.channel ≡ self.old.channel }
     {
@@ -243,10 +240,7 @@ pub fn join<T: Bound>(sender: Sender<T>, taker: Taker<T>) -> Remains<T>
     ensures room { length result.left ≤ taker.channel.capacity }
     ensures goes { All (λ x. T.goes_to x taker.channel.place) result.left }
 {
-    let Sender {
-        shared: _,
-        mut pass,
-    } = sender;
+    let Sender { mut pass, .. } = sender;
     let Taker {
         shared,
         pass: taking,

@@ -10,8 +10,8 @@
 //! - a split of the first pass: once, where it is told the channel's terms, and once into the two ends (`ends`);
 //! - a join of the two ends' passes (`join`).
 //!
-//! A push or a pop that is refused changes neither list, and `Moments` has a word for it that this call of the queue alone
-//! can give. No clause says that a call returns.
+//! A push or a pop that is refused changes neither list, and `Moments` has a word for it that this
+//! call of the queue alone can give. No clause says that a call returns.
 #![tactic(auto)]
 
 mod channel;

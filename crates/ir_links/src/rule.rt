@@ -28,7 +28,7 @@ pub struct Terms<P> {
 }
 
 /// What a pass may do (send, take), the channel's terms, and what the pass has sent and taken. No value of it is made.
-pub struct View<T, P> {
+pub struct EndView<T, P> {
     pub sends: bool,
     pub takes: bool,
     pub terms: Option<Terms<P>>,
@@ -39,7 +39,7 @@ pub struct View<T, P> {
 /// What was sent is what was taken and then what the queue holds. A first pass may do both, and knows no terms.
 pub struct InOrder;
 
-impl<T: Bound> Protocol<T, View<T, T::Place>> for InOrder {
+impl<T: Bound> Protocol<T, EndView<T, T::Place>> for InOrder {
     ghost holds = { Kept T.goes_to };
 
     ghost first = { known true true None [] [] };
@@ -55,11 +55,11 @@ impl<P> Naming<P> for Brand {
 }
 
 /// A split that tells the first pass the channel's terms. The pass that it makes beside it may do nothing.
-pub struct Named<K> {
+pub struct NamedTerms<K> {
     marker: PhantomData<K>,
 }
 
-impl<T, P, K: Naming<P>> Split<View<T, P>> for Named<K> {
+impl<T, P, K: Naming<P>> Split<EndView<T, P>> for NamedTerms<K> {
     ghost left = { λ v. known true true K.terms [] [] };
 
     ghost right = { λ v. known false false None [] [] };
@@ -68,47 +68,47 @@ impl<T, P, K: Naming<P>> Split<View<T, P>> for Named<K> {
 /// The base pass becomes the sender's and the taker's, and at the end they are one again.
 pub struct Roles;
 
-impl<T, P> Split<View<T, P>> for Roles {
+impl<T, P> Split<EndView<T, P>> for Roles {
     ghost left = { λ v. known true false v.terms v.sent [] };
 
     ghost right = { λ v. known false true v.terms [] v.taken };
 }
 
-impl<T, P> Join<View<T, P>> for Roles {
+impl<T, P> Join<EndView<T, P>> for Roles {
     ghost both = { λ v w. known true true w.terms v.sent w.taken };
 
     ghost spent = { known false false None [] [] };
 }
 
 /// A push by the sender.
-pub struct Sends;
+pub struct SendsItem;
 
-impl<T, P> Outcome<T, View<T, P>> for Sends {
+impl<T, P> Outcome<T, EndView<T, P>> for SendsItem {
     ghost then = { λ v x w. w ≡ after_send v x };
 }
 
-impl<T: Bound> Lesson<T, View<T, T::Place>> for Sends {
+impl<T: Bound> Lesson<T, EndView<T, T::Place>> for SendsItem {
     ghost fact = { λ v items. EndsWith v.sent items × GoBy T.goes_to v.terms items };
 }
 
 /// A pop by the taker.
-pub struct Takes;
+pub struct TakesItem;
 
-impl<T: Bound> Outcome<T, View<T, T::Place>> for Takes {
+impl<T: Bound> Outcome<T, EndView<T, T::Place>> for TakesItem {
     ghost then = { λ v x w. (w ≡ after_take v x) × Goes T.goes_to v x };
 }
 
-impl<T: Bound> Lesson<T, View<T, T::Place>> for Takes {
+impl<T: Bound> Lesson<T, EndView<T, T::Place>> for TakesItem {
     ghost fact = { λ v items. (sent : List T) × (sent ≡ v.taken ++ items) × GoBy T.goes_to v.terms sent };
 }
 
 /// A pop at the end, by the one pass that is left.
 pub struct Empties;
 
-impl<T: Bound> Outcome<T, View<T, T::Place>> for Empties {
+impl<T: Bound> Outcome<T, EndView<T, T::Place>> for Empties {
     ghost then = { λ v x w. (w ≡ after_take v x) × ((rest : List T) × (v.sent ≡ v.taken ++ x ∷ rest)) };
 }
 
-impl<T: Bound> Lesson<T, View<T, T::Place>> for Empties {
+impl<T: Bound> Lesson<T, EndView<T, T::Place>> for Empties {
     ghost fact = { λ v items. (v.sent ≡ v.taken ++ items) × FitsIn v items × GoBy T.goes_to v.terms items };
 }

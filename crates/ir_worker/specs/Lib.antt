@@ -8,3 +8,4 @@ pub mod Turns
 pub mod Wires
 -- what bodies use
 pub mod Ends
+pub mod Passed

@@ -1,5 +1,5 @@
 -- The ends that a node owns, and what one step on them changes.
-use Rattle.std.specs.Prelude.{◌≡◌, ℕ, zero, suc, ◌+◌, ◌<◌, ◌≤◌, List, [], ◌∷◌, ◌++◌, Some, map, slice_get, slice_set, nat_lt, cond}
+use Rattle.std.specs.Prelude.{◌≡◌, ℕ, zero, suc, ◌+◌, ◌<◌, ◌≤◌, Option, MatchOption, List, [], ◌∷◌, ◌++◌, Some, map, slice_get, slice_set, nat_lt, cond}
 use Rattle.ir_model.specs.declared.Hop.{Hop}
 use Rattle.ir_model.specs.Topology.{node_count, ports_of}
 use Rattle.ir_core.specs.declared.TheConstants.{MAX_NODES, MAX_RESTAMPS}
@@ -36,6 +36,10 @@ abbrev pub TookAt : In → List In → In → List In → Parcel → ℕ → Typ
 TookAt inbox ins inbox' ins' p zero = (inbox' ≡ after_taking inbox p) × (ins' ≡ ins) × GoesTo p inbox.channel.place
 TookAt inbox ins inbox' ins' p (suc j) =
     (inbox' ≡ inbox) × ((t : In) × (slice_get ins j ≡ Some t) × (ins' ≡ slice_set ins j (after_taking t p)) × GoesTo p t.channel.place)
+
+-- so it was with the parcel that was found; or there was none, and nothing was taken
+abbrev pub TookBy : In → List In → In → List In → Option Parcel → ℕ → Type 0
+TookBy inbox ins inbox' ins' found k = MatchOption found ((inbox' ≡ inbox) × (ins' ≡ ins)) (λ p. TookAt inbox ins inbox' ins' p k)
 
 -- the way by which the core takes from way k of a node with these ports
 abbrev pub IsWayAt : List Hop → Way → ℕ → Type 0

@@ -1,7 +1,7 @@
 //! Nodes that sleep while nothing comes to them, and are rung awake. Nothing is claimed of it.
 //!
-//! No ring is lost: who is about to sleep says so first, and then looks once more at all that it would be rung for; who rings
-//! has put that there first, and looks then whether somebody sleeps.
+//! No ring is lost: who is about to sleep says so first, and then looks once more at all that it
+//! would be rung for; who rings has put that there first, and looks then whether somebody sleeps.
 
 use crate::node::Turn;
 use std::alloc::{AllocError, Global};
@@ -29,8 +29,8 @@ impl Bell {
         }
     }
 
-    // The thread of this bell is about to sleep: a ring that comes from now on wakes it. It then looks at all that it would be
-    // rung for.
+    // The thread of this bell is about to sleep: a ring that comes from now on wakes it. It then
+    // looks at all that it would be rung for.
     fn lie_down(&self) {
         self.asleep.store(true, Ordering::SeqCst);
     }
@@ -151,26 +151,22 @@ impl Bells {
         turn: Turn,
     ) -> Idle {
         match turn {
-            Turn::Idle => {}
-            Turn::Sent(_, to) => {
-                self.ring(to);
-                return Idle::new();
+            Turn::Sent(_, to) => self.ring(to),
+            Turn::Settled(_) => self.settle(),
+            Turn::Idle if idle.ways < ways => {
+                return Idle {
+                    ways: idle.ways + 1,
+                    looks: idle.looks,
+                };
             }
-            Turn::Settled(_) => {
-                self.settle();
-                return Idle::new();
+            Turn::Idle => {
+                return Idle {
+                    ways: 0,
+                    looks: self.rest(rt, node, idle.looks),
+                };
             }
         }
-        if idle.ways < ways {
-            return Idle {
-                ways: idle.ways + 1,
-                looks: idle.looks,
-            };
-        }
-        Idle {
-            ways: 0,
-            looks: self.rest(rt, node, idle.looks),
-        }
+        Idle::new()
     }
 
     // Rests behind another look at all ways, and answers how many were in vain.

@@ -6,12 +6,14 @@
 
 mod bells;
 mod entrances;
+mod library;
 mod node;
 mod parcel;
 mod passing;
 mod serving;
 
 pub use bells::Bells;
+pub use library::serve;
 pub use node::{Common, Ends, Node, Turn};
 pub use parcel::{Outcome, Parcel, Place};
-pub use serving::{ComesBack, Flag, Gate, NoMemory, serve, serve_with_bells};
+pub use serving::{ComesBack, Flag, Gate, NoMemory, serve_with_bells};

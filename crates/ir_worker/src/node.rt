@@ -28,10 +28,10 @@ pub enum Turn {
     Settled(u32),
 }
 
-/// A node of a net. It owns the ends that take from its inbox and from each port, and those that send over each port.
-/// The heads of the parcels that it took are those that it sent and settled, each as often, and the restamps that it made
-/// are of epochs that were current on the board that it reads. The causes of the drops that it keeps held on boards that
-/// it has read.
+/// A node of a net. It owns the ends that take from its inbox and from each port, and those that
+/// send over each port. The heads of the parcels that it took are those that it sent and settled,
+/// each as often, and the restamps that it made are of epochs that were current on the board that
+/// it reads. The causes of the drops that it keeps held on boards that it has read.
 #[derive(Drop)]
 pub struct Node {
     index: u16,
@@ -55,8 +55,8 @@ pub struct Node {
     ghost causes: { ∥ All (IsCauseKnown (known reader)) outcomes.items ∥₁ },
 }
 
-/// What the parts of a net share: the registry of its plans, the stamp of its opening, how many restamps it allows a packet,
-/// and how many packets were settled.
+/// What the parts of a net share: the registry of its plans, the stamp of its opening, how many
+/// restamps it allows a packet, and how many packets were settled.
 #[derive(Drop)]
 pub struct Common {
     pub registry: Arc<Registry, Global>,
@@ -86,8 +86,8 @@ impl Node {
     ghost use Rattle.ir_worker.specs.Same.{number_in_net, known_to, next_way, ReadsBoardOf, ReadsBoardOfReceipt};
     ghost use Rattle.ir_worker.specs.Same.{AreEndsOfNode, AreOutcomesOfNode, AreCausesKnownTo};
 
-    /// A node with its ends, which have taken and sent nothing. It counts in `settled`, with the net's other nodes, what it
-    /// settles: a hint of which nothing is claimed.
+    /// A node with its ends, which have taken and sent nothing. It counts in `settled`, with the
+    /// net's other nodes, what it settles: a hint of which nothing is claimed.
     pub fn new(index: u16, common: Common, ports: Vec<Hop>, ends: Ends, reader: BoardReader) -> Node
         requires board { (registry_of (known reader) ≡ registry_name common.opening)
             × (topology_of (known reader) ≡ (knows common.opening).topology) }
@@ -117,7 +117,11 @@ impl Node {
             opening,
             restamps,
             ports,
-            entrances: Entrances::new(inbox, ins),
+            entrances: Entrances {
+                inbox,
+                ports: ins,
+                next: 0,
+            },
             outs,
             reader,
             outcomes,
@@ -139,7 +143,7 @@ impl Node {
 
     // How many ways lead to it from its neighbours.
     pub(crate) fn degree(&self) -> usize {
-        self.entrances.ports()
+        self.entrances.ports.len()
     }
 
     /// From now on it knows the receipt's change: each later turn reads a board of at least its version.
@@ -167,7 +171,7 @@ impl Node {
     fn way(&self) -> Way
         ensures { IsWayAt self.now.ports.items result self.now.entrances.next }
     {
-        let next = self.entrances.next();
+        let next = self.entrances.next;
         if next == 0 {
             return Way::Inbox;
         }
@@ -219,18 +223,16 @@ impl Node {
         ensures causes { AreCausesKnownTo self result }
     {
         let Node {
-            index: _,
-            registry: _,
-            opening: _,
-            restamps: _,
-            ports: _,
             entrances,
             outs,
-            reader: _,
             outcomes,
-            settled: _,
+            ..
         } = self;
-        let (inbox, ins) = entrances.into_takers();
+        let Entrances {
+            inbox,
+            ports: ins,
+            ..
+        } = entrances;
         Ends {
             inbox,
             ins,

@@ -25,10 +25,11 @@ pub struct Place {
     pub opening: Stamp,
 }
 
-/// A packet on its way, which is moved and never copied. Its hops are segments, joined end to end, of rising epochs; each
-/// is a beginning of the walk that the plan of its own stamp prescribes from its first node to the destination. `next` is
-/// the node that follows the last segment, or its first node while the packet is there; the address is the destination's
-/// label in the plan of the present stamp. Without a restamp there is one segment, from the source.
+/// A packet on its way, which is moved and never copied. Its hops are segments, joined end to end,
+/// of rising epochs; each is a beginning of the walk that the plan of its own stamp prescribes from
+/// its first node to the destination. `next` is the node that follows the last segment, or its
+/// first node while the packet is there; the address is the destination's label in the plan of the
+/// present stamp. Without a restamp there is one segment, from the source.
 #[derive(Drop)]
 pub struct Parcel {
     body: Box<Body>,
@@ -92,8 +93,8 @@ pub struct Outcome {
 impl Parcel {
     ghost use Rattle.ir_worker.specs.Acts.{GoesOnAs, SettlesAs, parcel_verdict};
 
-    /// A new packet from a source, where it is, to a destination, of a net that allows so many restamps. It has room for all hops and restamps that it can
-    /// have.
+    /// A new packet from a source, where it is, to a destination, of a net that allows so many
+    /// restamps. It has room for all hops and restamps that it can have.
     pub fn start(
         alloc: Global,
         registry: &Registry,
@@ -197,7 +198,9 @@ impl Parcel {
     pub(crate) fn judge(&self, plan: &Plan, board: &Board, way: Way, at: u16) -> Verdict
         requires plan { plan.now ≡ knows (stamp_now self.now) }
         requires at_in { at < node_count (knows (stamp_now self.now)).topology }
-        ensures { result ≡ parcel_verdict self.now board.now false way at }
+        ensures verdict { result ≡ parcel_verdict self.now board.now false way at }
+        ensures under_way { IsSegmentUnderWay (knows (stamp_now self.now)) (present self.now.packet) self.now.next }
+        ensures last { last_of (present self.now.packet).hops ≡ last_of self.now.packet.hops }
     {
         plan.invariant();
         let body = &self.body;
@@ -264,19 +267,7 @@ impl Parcel {
             body.next = hop.node;
             return Ok((self, hop));
         }
-        let Body {
-            packet,
-            first,
-            later,
-            address: _,
-            next: _,
-        } = Box::into_inner(self.body);
-        Err(Outcome {
-            packet,
-            stamp: first,
-            later,
-            version: board.version(),
-        })
+        Err(outcome_of(Box::into_inner(self.body), board.version()))
     }
 
     // What it comes to where the channel of the hop that it was to go on by was full.
@@ -287,27 +278,16 @@ impl Parcel {
         ensures later { result.later.items ≡ self.later }
         ensures version { result.version ≡ version }
     {
-        let Body {
-            mut packet,
-            first,
-            later,
-            address: _,
-            next,
-        } = Box::into_inner(self.body);
-        packet.act(
-            next,
+        let mut body = Box::into_inner(self.body);
+        body.packet.act(
+            body.next,
             Way::Inbox,
             Ruling {
                 restamp: None,
                 verdict: Verdict::NoRoom(hop),
             },
         );
-        Outcome {
-            packet,
-            stamp: first,
-            later,
-            version,
-        }
+        outcome_of(body, version)
     }
 
     /// What is left of it at the end: its record as it is.
@@ -317,18 +297,28 @@ impl Parcel {
         ensures stamp { result.stamp ≡ self.first }
         ensures later { result.later.items ≡ self.later }
     {
-        let Body {
-            packet,
-            first,
-            later,
-            address: _,
-            next: _,
-        } = Box::into_inner(self.body);
-        Outcome {
-            packet,
-            stamp: first,
-            later,
-            version: 0,
-        }
+        outcome_of(Box::into_inner(self.body), 0)
+    }
+}
+
+// What a packet came to that stands in this body, by the board of this version.
+fn outcome_of(body: Body, version: u32) -> Outcome
+    requires epoch { body.packet.epoch ≡ body.first.epoch }
+    requires sound { ∥ IsSoundByStamps (stamps_of body.first body.later.items) body.packet ∥₁ }
+    ensures packet { result.packet ≡ body.packet }
+    ensures stamps { (result.stamp ≡ body.first) × (result.later.items ≡ body.later.items) }
+    ensures version { result.version ≡ version }
+{
+    let Body {
+        packet,
+        first,
+        later,
+        ..
+    } = body;
+    Outcome {
+        packet,
+        stamp: first,
+        later,
+        version,
     }
 }

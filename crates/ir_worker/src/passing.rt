@@ -1,21 +1,20 @@
 //! What a node does with a parcel in its hand.
-ghost use Rattle.std.specs.Prelude.{◌≡◌, ◌<◌, ◌≤◌, ℕ, Bool, false, Some, All, map, length, slice_get, MatchResult};
+ghost use Rattle.std.specs.Prelude.{◌≡◌, ◌<◌, ◌≤◌, ℕ, false, Some, All, map, length, slice_get};
 ghost use Rattle.ir_model.specs.{declared.Hop.Hop, Topology.{node_count, ports_of}, Plan.IsPlan};
-ghost use Rattle.ir_core.specs.{declared.event.Verdict.Verdict, declared.TheConstants.MAX_RESTAMPS, Sound.last_of};
+ghost use Rattle.ir_core.specs.{declared.TheConstants.MAX_RESTAMPS, Sound.last_of};
 ghost use Rattle.ir_core.specs.World.{IsNew, InHand};
 ghost use Rattle.ir_epochs.specs.Stamps.{IsOf, knows};
-ghost use Rattle.ir_worker.specs.{Seen.{Parcel, HasRoomOf, IsOfNet, net_place, stamps_of, stamp_now}, Account.lines_out};
-ghost use Rattle.ir_worker.specs.Acts.{restamp_on, with_restamp, way_then, parcel_verdict, GoesOnAs, SettlesAs};
-ghost use Rattle.ir_worker.specs.Ends.{CameBy};
-ghost use Rattle.ir_worker.specs.Wires.{Out, SentOver, WasFullFor};
+ghost use Rattle.ir_worker.specs.{Seen.{HasRoomOf, IsOfNet, net_place, stamps_of, stamp_now}, Account.lines_out};
+ghost use Rattle.ir_worker.specs.Acts.{restamp_on, with_restamp, way_then, parcel_verdict};
+ghost use Rattle.ir_worker.specs.{Ends.CameBy, Passed.{IsInHandAt, IsOnItsWay, PassesOn}, Wires.Out};
 
 use crate::parcel::{Outcome, Parcel};
 use ir_core::{Board, Hop, Verdict, Way};
 use ir_epochs::{Registry, Stamp};
 use ir_links::{Moments, Sender};
 
-/// What a node goes by in a turn: its net's plans, opening and limit on restamps, its number, its ports, and the board that it
-/// has read.
+/// What a node goes by in a turn: its net's plans, opening and limit on restamps, its number, its
+/// ports, and the board that it has read.
 #[derive(Clone, Copy)]
 pub struct Turning<'a> {
     pub registry: &'a Registry,
@@ -47,8 +46,9 @@ fn port_of_hop(ports: &[Hop], hop: Hop) -> usize
     unreachable!()
 }
 
-// A parcel that a node took, with its verdict by a board. Where its own epoch is retired and more restamps are allowed, it has
-// a new segment of the current stamp, and is judged as one from the inbox.
+// A parcel that a node took, with its verdict by a board. Where its own epoch is retired and more
+// restamps are allowed, it has a new segment of the current stamp, and is judged as one from the
+// inbox.
 pub fn ready(turning: &Turning<'_>, current: Stamp, way: Way, parcel: Parcel) -> Judged
     requires registry { IsOf turning.now.registry.now turning.now.opening.now }
     requires node_in { turning.now.at < node_count (knows turning.now.opening.now).topology }
@@ -57,11 +57,9 @@ pub fn ready(turning: &Turning<'_>, current: Stamp, way: Way, parcel: Parcel) ->
     requires current { IsOfNet turning.now.opening.now current }
     requires epoch { current.epoch ≡ turning.now.board.now.current }
     requires live { turning.now.board.now.floor ≤ turning.now.board.now.current }
-    requires of_net { All (λ s. IsOfNet turning.now.opening.now s) (stamps_of parcel.first parcel.later) }
-    requires few { length parcel.packet.restamps ≤ turning.now.restamps }
-    requires room { HasRoomOf turning.now.opening.now turning.now.restamps parcel }
+    requires held { IsInHandAt turning.now.opening.now turning.now.restamps turning.now.ports.now turning.now.at
+        way parcel }
     requires is_new { IsNew parcel.packet (InHand turning.now.at way) }
-    requires came { CameBy turning.now.ports.now turning.now.at way (last_of parcel.packet.hops) parcel.next }
     ensures parcel { result.parcel ≡ with_restamp
         (restamp_on turning.now.restamps parcel turning.now.board.now way turning.now.at) current way
         turning.now.at parcel }
@@ -75,6 +73,7 @@ pub fn ready(turning: &Turning<'_>, current: Stamp, way: Way, parcel: Parcel) ->
     ensures room { HasRoomOf turning.now.opening.now turning.now.restamps result.parcel }
     ensures came { CameBy turning.now.ports.now turning.now.at result.way (last_of result.parcel.packet.hops)
         result.parcel.next }
+    ensures under_way { IsOnItsWay result.parcel }
 {
     let plan = turning.registry.plan(parcel.stamp());
     plan.invariant();
@@ -115,18 +114,11 @@ pub fn pass_on<R: Moments<Parcel>>(
     requires plan { IsPlan (knows (stamp_now judged.parcel)) }
     requires verdict { judged.verdict
         ≡ parcel_verdict judged.parcel turning.now.board.now false judged.way turning.now.at }
-    requires of_net { All (λ s. IsOfNet turning.now.opening.now s) (stamps_of judged.parcel.first judged.parcel.later) }
-    requires few { length judged.parcel.packet.restamps ≤ turning.now.restamps }
-    requires room { HasRoomOf turning.now.opening.now turning.now.restamps judged.parcel }
-    requires came { CameBy turning.now.ports.now turning.now.at judged.way (last_of judged.parcel.packet.hops)
-        judged.parcel.next }
-    ensures acts { MatchResult result
-        (λ to. (h : Hop) × (q : Parcel)
-        × GoesOnAs turning.now.board.now judged.way turning.now.at judged.parcel h q × (h.node ≡ to)
-        × SentOver turning.now.ports.now outs.old.items outs.new.items h q)
-        (λ o. (refused : Bool) × (v : Verdict)
-        × SettlesAs turning.now.board.now refused judged.way turning.now.at judged.parcel v o
-        × (outs.new.items ≡ outs.old.items) × WasFullFor R.was_full turning.now.ports.now outs.old.items v) }
+    requires held { IsInHandAt turning.now.opening.now turning.now.restamps turning.now.ports.now turning.now.at
+        judged.way judged.parcel }
+    requires under_way { IsOnItsWay judged.parcel }
+    ensures acts { PassesOn R.was_full turning.now.board.now turning.now.ports.now turning.now.at
+        judged.way judged.parcel outs.old.items result outs.new.items }
     ensures lines { lines_out outs.new.items ≡ lines_out outs.old.items }
 {
     let Judged {
@@ -134,7 +126,6 @@ pub fn pass_on<R: Moments<Parcel>>(
         way,
         verdict,
     } = judged;
-    let _stamp = parcel.stamp();
     let (parcel, hop) = match parcel.act(turning.board, way, turning.at, verdict) {
         Ok(onward) => onward,
         Err(outcome) => return Err(outcome),

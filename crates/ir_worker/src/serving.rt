@@ -12,8 +12,8 @@ use std::snapshot::Snapshot;
 use std::sync::atomic::{AtomicBool, Ordering};
 use std::thread::Promise;
 
-/// Tells a node whether it may go on, with a word for a turn that it may not make: so a contract can say that a node ended
-/// there. It is asked before each turn.
+/// Tells a node whether it may go on, with a word for a turn that it may not make: so a contract
+/// can say that a node ended there. It is asked before each turn.
 pub trait Gate: Sync {
     // the node of this number was not let make the turn of this number
     ghost barred: { Self → ℕ → ℕ → Type 0 };
@@ -63,35 +63,12 @@ fn is_over<G: Gate, F: Flag>(node: u16, number: u64, gate: &G, stop: &F) -> bool
     ensures over { result ≡ true → MayEnd F.seen G.barred stop.now gate.now node number }
     ensures more { result ≡ false → number + 1 < 2 ^ 64 }
 {
-    if stop.is_set() {
-        return true;
-    }
-    if number == u64::MAX {
-        return true;
-    }
-    !gate.pass(node, number)
+    stop.is_set() || number == u64::MAX || !gate.pass(node, number)
 }
 
-/// Turns until the flag is set, the gate does not let the node pass, or the turn's number is u64's greatest. Where there
-/// is no memory for a turn it sets the flag and ends, and tells so. A node that finds nothing gives way, and does not sleep.
-/// For users of the library.
-///
-/// What comes back is the node that was given, after a list of turns.
-pub fn serve<R: Moments<Parcel>, G: Gate, F: Flag>(
-    rt: &R,
-    node: Node,
-    gate: &G,
-    stop: &F,
-) -> (Node, Option<NoMemory>)
-    ensures turns { HasServed R.was_full R.was_empty (MayEnd F.seen G.barred stop.now gate.now) node result.0 result.1 }
-    ensures same { IsSameNode node result.0 }
-{
-    let bells = Bells::over(Vec::new(node.allocator()));
-    serve_with_bells(rt, node, gate, stop, &bells)
-}
-
-/// What `serve` does, but where it finds nothing it sleeps, once it has looked some times, until its bell is rung; it rings
-/// that of a neighbour to which it sent. Who sets the flag rings all: a node that sleeps asks neither gate nor flag.
+/// What `serve` does, but where it finds nothing it sleeps, once it has looked some times, until
+/// its bell is rung; it rings that of a neighbour to which it sent. Who sets the flag rings all: a
+/// node that sleeps asks neither gate nor flag.
 pub fn serve_with_bells<R: Moments<Parcel>, G: Gate, F: Flag>(
     rt: &R,
     mut node: Node,
@@ -121,8 +98,8 @@ pub fn serve_with_bells<R: Moments<Parcel>, G: Gate, F: Flag>(
     (node, None)
 }
 
-/// Kept by a thread that runs `serve_with_bells` with this gate and this flag: what comes back is the node that went in, of the same
-/// net, after a list of turns.
+/// Kept by a thread that runs `serve_with_bells` with this gate and this flag: what comes back is
+/// the node that went in, of the same net, after a list of turns.
 #[derive(Drop)]
 pub struct ComesBack<R, G, F> {
     pub node: Snapshot<Node>,

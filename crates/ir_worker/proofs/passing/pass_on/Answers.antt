@@ -14,13 +14,13 @@ use Rattle.ir_worker.proofs.passing.pass_on.Goals as goal
 pub act-requires-clause-due : goal.act-requires-clause-due
 act-requires-clause-due g c =
     let p = c.args.judged.parcel in
-    due_at c.args.turning.now.opening.now (present_stamp p.first p.later) (knows (present_stamp p.first p.later)) refl c.requires.plan (now_of_net c.args.turning.now.opening.now p.first p.later c.requires.of_net).1
-    p.packet p.next c.args.turning.now.at c.args.judged.way c.args.turning.now.ports.now c.requires.ports c.stamp-stamp.ensures.under_way c.stamp-stamp.ensures.last c.requires.came
+    due_at c.args.turning.now.opening.now (present_stamp p.first p.later) (knows (present_stamp p.first p.later)) refl c.requires.plan (now_of_net c.args.turning.now.opening.now p.first p.later c.requires.held.of_net).1
+    p.packet p.next c.args.turning.now.at c.args.judged.way c.args.turning.now.ports.now c.requires.ports c.requires.under_way.0 c.requires.under_way.1 c.requires.held.came
 
 pub port_of_hop-port-requires : goal.port_of_hop-port-requires
 port_of_hop-port-requires g c =
     let p = c.args.judged.parcel in
-    let there = port_there (knows c.args.turning.now.opening.now).topology (knows (present_stamp p.first p.later)) (now_of_net c.args.turning.now.opening.now p.first p.later c.requires.of_net).1 c.args.turning.now.at p.packet.dest c.in-Ok.onward.1 c.in-Ok.ensures.table in
+    let there = port_there (knows c.args.turning.now.opening.now).topology (knows (present_stamp p.first p.later)) (now_of_net c.args.turning.now.opening.now p.first p.later c.requires.held.of_net).1 c.args.turning.now.at p.packet.dest c.in-Ok.onward.1 c.in-Ok.ensures.table in
     subst (λ (xs : List Hop). ∥ ((j : ℕ) × (slice_get xs j ≡ Some c.in-Ok.onward.1)) ∥₁) (sym c.requires.ports) there
 
 pub index_mut-out-requires : goal.index_mut-out-requires
@@ -34,7 +34,7 @@ send-requires-after_bounds g c κs within =
     let lt = slice_get_within c.args.turning.now.ports.now c.port_of_hop-port.result c.in-Ok.onward.1 c.port_of_hop-port.ensures in
     let many = as_many (λ (s : Out). s.channel.place) c.args.outs.now.items (λ (h : Hop). net_place c.args.turning.now.opening.now c.args.turning.now.restamps c.args.turning.now.at h.node) c.args.turning.now.ports.now c.requires.outs in
     let on = c.in-Ok.ensures.acts in
-    goes_out c.args.turning.now.opening.now c.args.turning.now.restamps c.args.turning.now.at c.args.turning.now.ports.now c.args.outs.now.items c.requires.outs c.args.judged.parcel c.in-Ok.onward.0 c.requires.of_net c.requires.few c.requires.room c.in-Ok.onward.1 c.port_of_hop-port.result c.index_mut-out.result.now
+    goes_out c.args.turning.now.opening.now c.args.turning.now.restamps c.args.turning.now.at c.args.turning.now.ports.now c.args.outs.now.items c.requires.outs c.args.judged.parcel c.in-Ok.onward.0 c.requires.held.of_net c.requires.held.few c.requires.held.room c.in-Ok.onward.1 c.port_of_hop-port.result c.index_mut-out.result.now
     (elsewhere c.args.turning.now.opening.now c.args.turning.now.at c.port_of_hop-port.result c.args.turning.now.ports.now c.in-Ok.onward.1 c.requires.ports c.port_of_hop-port.ensures)
     on.first on.later (ap (λ (r : Record). r.restamps) on.packet) (ap (λ (r : Record). r.room) on.packet) c.in-Ok.ensures.here on.next c.port_of_hop-port.ensures (omega arith) c.index_mut-out.ensures.value
 

@@ -18,12 +18,12 @@ stamped p q s first later = ap (λ (x : Stamp). present_stamp x q.later) first �
 pub plan-plan-requires : goal.plan-plan-requires
 plan-plan-requires c =
     let p = c.args.parcel in
-    ap registry_name c.stamp.ensures.stamp ∙ (now_of_net c.args.turning.now.opening.now p.first p.later c.requires.of_net).0 ∙ c.requires.registry
+    ap registry_name c.stamp.ensures.stamp ∙ (now_of_net c.args.turning.now.opening.now p.first p.later c.requires.held.of_net).0 ∙ c.requires.registry
 
 pub judge-verdict-requires-clause-at_in : goal.judge-verdict-requires-clause-at_in
 judge-verdict-requires-clause-at_in c =
     let p = c.args.parcel in
-    subst (λ (n : ℕ). c.args.turning.now.at < n) (sym (over_nodes (knows c.args.turning.now.opening.now).topology (knows (present_stamp p.first p.later)).topology (now_of_net c.args.turning.now.opening.now p.first p.later c.requires.of_net).1)) c.requires.node_in
+    subst (λ (n : ℕ). c.args.turning.now.at < n) (sym (over_nodes (knows c.args.turning.now.opening.now).topology (knows (present_stamp p.first p.later)).topology (now_of_net c.args.turning.now.opening.now p.first p.later c.requires.held.of_net).1)) c.requires.node_in
 
 pub restamp-parcel-requires-clause-at_in : goal.restamp-parcel-requires-clause-at_in
 restamp-parcel-requires-clause-at_in c =
@@ -32,29 +32,29 @@ restamp-parcel-requires-clause-at_in c =
 pub restamp-parcel-requires-clause-nodes : goal.restamp-parcel-requires-clause-nodes
 restamp-parcel-requires-clause-nodes c =
     let p = c.args.parcel in
-    same_nodes c.args.turning.now.opening.now c.args.current (present_stamp p.first p.later) c.requires.current (now_of_net c.args.turning.now.opening.now p.first p.later c.requires.of_net)
+    same_nodes c.args.turning.now.opening.now c.args.current (present_stamp p.first p.later) c.requires.current (now_of_net c.args.turning.now.opening.now p.first p.later c.requires.held.of_net)
 
 pub restamp-parcel-requires-clause-due : goal.restamp-parcel-requires-clause-due
 restamp-parcel-requires-clause-due c =
     let p = c.args.parcel in
-    due_at c.args.turning.now.opening.now (present_stamp p.first p.later) c.plan-plan.result.now (c.plan-plan.ensures ∙ ap knows c.stamp.ensures.stamp) c.invariant.ensures.plan (now_of_net c.args.turning.now.opening.now p.first p.later c.requires.of_net).1
-    p.packet p.next c.args.turning.now.at c.args.way c.args.turning.now.ports.now c.requires.ports c.stamp.ensures.under_way c.stamp.ensures.last c.requires.came
+    due_at c.args.turning.now.opening.now (present_stamp p.first p.later) c.plan-plan.result.now (c.plan-plan.ensures ∙ ap knows c.stamp.ensures.stamp) c.invariant.ensures.plan (now_of_net c.args.turning.now.opening.now p.first p.later c.requires.held.of_net).1
+    p.packet p.next c.args.turning.now.at c.args.way c.args.turning.now.ports.now c.requires.ports c.stamp.ensures.under_way c.stamp.ensures.last c.requires.held.came
 
 pub returns-in-Some-clause-of_net : goal.returns-in-Some-clause-of_net
 returns-in-Some-clause-of_net c =
     let p = c.args.parcel in
     let made = c.restamp-parcel.ensures in
-    restamped_of_net c.args.turning.now.opening.now p.first p.later c.args.current c.restamp-parcel.result (ap (λ (x : Parcel). x.first) made) (ap (λ (x : Parcel). x.later) made) c.requires.current c.requires.of_net
+    restamped_of_net c.args.turning.now.opening.now p.first p.later c.args.current c.restamp-parcel.result (ap (λ (x : Parcel). x.first) made) (ap (λ (x : Parcel). x.later) made) c.requires.current c.requires.held.of_net
 
 pub returns-in-Some-clause-came : goal.returns-in-Some-clause-came
 returns-in-Some-clause-came c =
     let p = c.args.parcel in
     let made = c.restamp-parcel.ensures in
-    (ap (λ (x : Parcel). last_of x.packet.hops) made ∙ restamped_last c.args.turning.now.ports.now c.args.turning.now.at c.args.way c.args.current.epoch p.next p.packet c.requires.came, ap (λ (x : Parcel). x.next) made)
+    (ap (λ (x : Parcel). last_of x.packet.hops) made ∙ restamped_last c.args.turning.now.ports.now c.args.turning.now.at c.args.way c.args.current.epoch p.next p.packet c.requires.held.came, ap (λ (x : Parcel). x.next) made)
 
 pub restamp-parcel-requires-clause-room : goal.restamp-parcel-requires-clause-room
 restamp-parcel-requires-clause-room c =
-    room_more c.args.turning.now.opening.now c.args.current c.args.turning.now.restamps c.from.result c.restamped.result c.current.result c.in-Some.field-0 c.judge-verdict.result c.args.parcel c.requires.current c.requires.room
+    room_more c.args.turning.now.opening.now c.args.current c.args.turning.now.restamps c.from.result c.restamped.result c.current.result c.in-Some.field-0 c.judge-verdict.result c.args.parcel c.requires.current c.requires.held.room
     c.from.ensures c.restamped.ensures (sym c.restamp.ensures ∙ c.in-Some.is)
 
 pub judge-again-requires-clause-plan : goal.judge-again-requires-clause-plan
@@ -75,3 +75,9 @@ returns-in-Some-clause-plan c =
 
 pub returns-in-None-clause-plan : goal.returns-in-None-clause-plan
 returns-in-None-clause-plan c = subst IsPlan (c.plan-plan.ensures ∙ ap knows c.stamp.ensures.stamp) c.invariant.ensures.plan
+
+pub returns-in-Some-clause-under_way : goal.returns-in-Some-clause-under_way
+returns-in-Some-clause-under_way c = (c.judge-again.ensures.under_way, c.judge-again.ensures.last)
+
+pub returns-in-None-clause-under_way : goal.returns-in-None-clause-under_way
+returns-in-None-clause-under_way c = (c.judge-verdict.ensures.under_way, c.judge-verdict.ensures.last)

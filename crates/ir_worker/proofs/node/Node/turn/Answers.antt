@@ -41,31 +41,26 @@ ready-judged-requires-clause-current g c =
     let n = c.args.self.now in
     current_of_net n.opening (known c.look.new.self) c.stamp.result c.stamp.ensures (c.look.ensures.opening.registry ∙ n.of_board.0) (c.look.ensures.opening.topology ∙ n.of_board.1)
 
-pub ready-judged-requires-clause-of_net : goal.ready-judged-requires-clause-of_net
-ready-judged-requires-clause-of_net g c =
-    let n = c.args.self.now in
-    (taken_place n.opening n.restamps n.index n.ports.items n.entrances.inbox n.entrances.ports.items n.outs.items n.ends c.poll.new.self.inbox c.poll.new.self.ports.items c.in-Some.parcel n.entrances.next c.in-Some.ensures.took c.way-way.result c.way-way.ensures).of_net
-
-pub ready-judged-requires-clause-few : goal.ready-judged-requires-clause-few
-ready-judged-requires-clause-few g c =
-    let n = c.args.self.now in
-    (taken_place n.opening n.restamps n.index n.ports.items n.entrances.inbox n.entrances.ports.items n.outs.items n.ends c.poll.new.self.inbox c.poll.new.self.ports.items c.in-Some.parcel n.entrances.next c.in-Some.ensures.took c.way-way.result c.way-way.ensures).few
-
-pub ready-judged-requires-clause-room : goal.ready-judged-requires-clause-room
-ready-judged-requires-clause-room g c =
-    let n = c.args.self.now in
-    (taken_place n.opening n.restamps n.index n.ports.items n.entrances.inbox n.entrances.ports.items n.outs.items n.ends c.poll.new.self.inbox c.poll.new.self.ports.items c.in-Some.parcel n.entrances.next c.in-Some.ensures.took c.way-way.result c.way-way.ensures).room
-
 pub ready-judged-requires-clause-is_new : goal.ready-judged-requires-clause-is_new
 ready-judged-requires-clause-is_new g c =
     let n = c.args.self.now in
     (taken_place n.opening n.restamps n.index n.ports.items n.entrances.inbox n.entrances.ports.items n.outs.items n.ends c.poll.new.self.inbox c.poll.new.self.ports.items c.in-Some.parcel n.entrances.next c.in-Some.ensures.took c.way-way.result c.way-way.ensures).is_new
 
-pub ready-judged-requires-clause-came : goal.ready-judged-requires-clause-came
-ready-judged-requires-clause-came g c =
+pub ready-judged-requires-clause-held : goal.ready-judged-requires-clause-held
+ready-judged-requires-clause-held g c =
     let n = c.args.self.now in
-    let place = (taken_place n.opening n.restamps n.index n.ports.items n.entrances.inbox n.entrances.ports.items n.outs.items n.ends c.poll.new.self.inbox c.poll.new.self.ports.items c.in-Some.parcel n.entrances.next c.in-Some.ensures.took c.way-way.result c.way-way.ensures).came in
-    subst (λ (xs : List Hop). CameBy xs n.index c.way-way.result (last_of c.in-Some.parcel.packet.hops) c.in-Some.parcel.next) (sym c.as_slice-ports.ensures.value) place
+    let place = taken_place n.opening n.restamps n.index n.ports.items n.entrances.inbox n.entrances.ports.items n.outs.items n.ends c.poll.new.self.inbox c.poll.new.self.ports.items c.in-Some.parcel n.entrances.next c.in-Some.ensures.took c.way-way.result c.way-way.ensures in
+    record {
+      of_net = place.of_net;
+      few = place.few;
+      room = place.room;
+      came = subst (λ (xs : List Hop). CameBy xs n.index c.way-way.result (last_of c.in-Some.parcel.packet.hops) c.in-Some.parcel.next) (sym c.as_slice-ports.ensures.value) place.came;
+    }
+
+pub pass_on-requires-clause-held : goal.pass_on-requires-clause-held
+pass_on-requires-clause-held g c =
+    let judged = c.ready-judged.ensures in
+    record { of_net = judged.of_net; few = judged.few; room = judged.room; came = judged.came }
 
 pub invariant_of-self-in-Ok-1 : goal.invariant_of-self-in-Ok-1
 invariant_of-self-in-Ok-1 g c =

@@ -35,14 +35,17 @@ returns-in-GoesOn-clause-here c =
     let judging : IsJudged c.args.board.now c.args.way c.args.at c.args.verdict c.args.self = (c.requires.plan, c.requires.at_in, c.requires.due, c.requires.verdict) in
     on_here c.args.board.now c.args.way c.args.at c.args.self i.first i.later.items i.packet i.next i.address is.1.0 c.args.verdict is.0 judging c.act.new.self c.act.ensures c.in-GoesOn.hop c.in-GoesOn.is
 
-pub invariant_of-result : goal.invariant_of-result
-invariant_of-result c =
+pub outcome_of-requires-clause-epoch : goal.outcome_of-requires-clause-epoch
+outcome_of-requires-clause-epoch c =
+    let i = c.deref_mut-body.result.now in
+    let is = body_again c.args.self c.self.inside.body.value i c.deref_mut-body.ensures.value (c.self.view_is, c.self.invariant) in
+    let out = c.into_inner.ensures in
+    ap (λ (b : Body). b.packet.epoch) out ∙ (ap (λ (r : Record). r.epoch) c.act.ensures ∙ is.1.0.first_epoch) ∙ sym (ap (λ (b : Body). b.first.epoch) out)
+
+pub outcome_of-requires-clause-sound : goal.outcome_of-requires-clause-sound
+outcome_of-requires-clause-sound c =
     let i = c.deref_mut-body.result.now in
     let is = body_again c.args.self c.self.inside.body.value i c.deref_mut-body.ensures.value (c.self.view_is, c.self.invariant) in
     let judging : IsJudged c.args.board.now c.args.way c.args.at c.args.verdict c.args.self = (c.requires.plan, c.requires.at_in, c.requires.due, c.requires.verdict) in
-    let out = c.into_inner-packet.ensures in
-    record {
-      epoch = ap (λ (b : Body). b.packet.epoch) out ∙ (ap (λ (r : Record). r.epoch) c.act.ensures ∙ is.1.0.first_epoch) ∙ sym (ap (λ (b : Body). b.first.epoch) out);
-      sound = subst (λ (b : Body). ∥ IsSoundByStamps (stamps_of b.first b.later.items) b.packet ∥₁) (sym out)
-          (on_sound c.args.board.now c.args.way c.args.at c.args.self i.first i.later.items i.packet i.next i.address is.1.0 c.args.verdict is.0 judging c.act.new.self c.act.ensures);
-    }
+    subst (λ (b : Body). ∥ IsSoundByStamps (stamps_of b.first b.later.items) b.packet ∥₁) (sym c.into_inner.ensures)
+    (on_sound c.args.board.now c.args.way c.args.at c.args.self i.first i.later.items i.packet i.next i.address is.1.0 c.args.verdict is.0 judging c.act.new.self c.act.ensures)
