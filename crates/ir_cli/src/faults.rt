@@ -18,30 +18,17 @@ fn texts_wanted(sub: Sub) -> usize
     ensures { result ≡ texts_wanted sub }
 {
     match sub {
-        Sub::Plan
-        | Sub::Walk
-        | Sub::Stats
-        | Sub::Compare
-        | Sub::Draw
-        | Sub::Prefixes
-        | Sub::Ranges => 1,
         Sub::Sim | Sub::Live => 2,
         Sub::Check => 3,
+        _ => 1,
     }
-}
-
-/// Whether the name of a file is none for standard input.
-fn is_no_dash(file: &str) -> bool
-    ensures { result ≡ is_no_dash file.now }
-{
-    file != "-"
 }
 
 /// Whether none of the files is standard input.
 fn are_named(files: &[String]) -> bool
     ensures { result ≡ list_all (λ file. is_no_dash (string_bytes file)) files.now }
 {
-    files.iter().all(|file| is_no_dash(file.as_str()))
+    files.iter().all(|file| file.as_str() != "-")
 }
 
 /// Whether the files are `-` alone, or one for each text with no `-` among them.
@@ -50,13 +37,6 @@ fn has_its_files(words: &Words) -> bool
 {
     words.is_one_input()
         || (words.files.len() == texts_wanted(words.sub) && are_named(&words.files))
-}
-
-/// Whether the numbering may be that of a plan of this kind.
-fn fits_its_kind(words: &Words) -> bool
-    ensures { MatchBool result (FitsItsKind words.now) (FitsItsKind words.now → ⊥) }
-{
-    !words.has_order() || words.kind != Kind::Tree
 }
 
 /// That a tree takes another numbering than depth first.
@@ -122,10 +102,10 @@ pub fn fault_of(called: Called, words: &Words) -> Option<&'static str>
     if let Some(fault) = drawing_fault(words) {
         return Some(fault);
     }
-    if fits_its_kind(words) {
-        None
-    } else {
+    if words.has_order() && words.kind == Kind::Tree {
         Some(TREE_NUMBERING)
+    } else {
+        None
     }
 }
 

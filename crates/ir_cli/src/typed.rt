@@ -48,20 +48,7 @@ pub fn is_set(found: &ArgMatches<'_>, name: &str) -> bool
     }
 }
 
-/// The number of an option, if it is one in this range.
-fn number_of(found: &ArgMatches<'_>, name: &str, least: usize, most: usize) -> Option<usize>
-    ensures { MatchOption result ((n : ℕ) → IsNumber name.now (rows_of (found_of found.now)) least most (Some n) → ⊥)
-        (λ n. IsNumber name.now (rows_of (found_of found.now)) least most (Some n)) }
-{
-    let number = found.get_one::<usize>(name)?;
-    if least <= number && number <= most {
-        Some(number)
-    } else {
-        None
-    }
-}
-
-/// The same, and none where the option is not given.
+/// The number of an option, if it is one in this range, and none where the option is not given.
 fn number_if_given(
     found: &ArgMatches<'_>,
     name: &str,
@@ -71,9 +58,14 @@ fn number_if_given(
     ensures { MatchOption result ((n : Option ℕ) → IsNumber name.now (rows_of (found_of found.now)) least most n → ⊥)
         (λ n. IsNumber name.now (rows_of (found_of found.now)) least most n) }
 {
-    match typed(found, name) {
-        Some(_) => Some(Some(number_of(found, name, least, most)?)),
-        None => Some(None),
+    let Some(_) = typed(found, name) else {
+        return Some(None);
+    };
+    let number = found.get_one::<usize>(name)?;
+    if least <= number && number <= most {
+        Some(Some(number))
+    } else {
+        None
     }
 }
 
@@ -88,10 +80,8 @@ fn number_or(
     ensures { MatchOption result ((n : ℕ) → IsNumberElse name.now (rows_of (found_of found.now)) least most other n → ⊥)
         (λ n. IsNumberElse name.now (rows_of (found_of found.now)) least most other n) }
 {
-    match number_if_given(found, name, least, most)? {
-        Some(number) => Some(number),
-        None => Some(other),
-    }
+    let number = number_if_given(found, name, least, most)?;
+    Some(number.unwrap_or(other))
 }
 
 /// The subcommand of a name.
@@ -211,17 +201,6 @@ pub fn files_of(alloc: Global, found: &ArgMatches<'_>) -> Result<Vec<String>, Al
     Ok(files)
 }
 
-/// A few restamps; none where there is no number.
-fn few(number: Option<usize>) -> u8
-    requires { IfSome number (λ n. n < 256) }
-    ensures { result ≡ unwrap_or number 0 }
-{
-    match number {
-        Some(number) => number as u8,
-        None => 0,
-    }
-}
-
 /// What is chosen or counted.
 #[derive(Clone, Copy)]
 pub struct Chosen {
@@ -240,14 +219,13 @@ pub fn choose(name: &str, found: &ArgMatches<'_>) -> Option<Chosen>
     ensures { MatchOption result ((all : Chosen) → AreTyped name.now (rows_of (found_of found.now)) all → ⊥)
         (λ all. AreTyped name.now (rows_of (found_of found.now)) all) }
 {
-    let restamps = number_if_given(found, "restamps", 0, MAX_RESTAMPS)?;
     Some(Chosen {
         sub: sub_of(name)?,
         format: format_of(found)?,
         kind: kind_of(found)?,
         capacity: number_or(found, "capacity", 1, MAX_CAPACITY, 16)?,
         packets: number_or(found, "packets", 1, MAX_PACKETS, 4096)?,
-        restamps: few(restamps),
+        restamps: number_or(found, "restamps", 0, MAX_RESTAMPS, 0)? as u8,
         threads: number_if_given(found, "threads", 1, MAX_THREADS as usize)?,
     })
 }

@@ -256,29 +256,6 @@ fn words_of(alloc: Global, name: &str, found: &ArgMatches<'_>) -> Result<Words, 
     })
 }
 
-/// The words of a subcommand's name and its matches, if nothing is wrong with them.
-fn words_found(
-    alloc: Global,
-    called: Called,
-    name: &str,
-    found: &ArgMatches<'_>,
-) -> Result<Words, WordsError>
-    ensures kind { IfOk result (λ words. FitsItsKind words) }
-    ensures taken { IfOk result (λ words. AreTaken words) }
-    ensures means { IfOk result (λ words. Means name.now (rows_of (found_of found.now)) words) }
-    ensures second { IfOk result (λ words. HasItsSecond (rows_of (found_of found.now)) words) }
-    ensures refused { IfErr result (FailsOn (NoneAsked (Some (name.now, rows_of (found_of found.now)))) ⊥) }
-{
-    let words = words_of(alloc, name, found)?;
-    if let Some(fault) = second_fault(found, &words) {
-        return Err(WordsError::Usage(fault_text(alloc, called, &words, name, fault)?));
-    }
-    match fault_of(called, &words) {
-        None => Ok(words),
-        Some(fault) => Err(WordsError::Usage(fault_text(alloc, called, &words, name, fault)?)),
-    }
-}
-
 /// The words of the subcommand that was met, if nothing is wrong with them.
 fn words_met(alloc: Global, called: Called, found: &ArgMatches<'_>) -> Result<Words, WordsError>
     ensures kind { IfOk result (λ words. FitsItsKind words) }
@@ -286,9 +263,16 @@ fn words_met(alloc: Global, called: Called, found: &ArgMatches<'_>) -> Result<Wo
     ensures means { IfOk result (λ words. MeansMet (subcommand_rows_of found.now) words) }
     ensures refused { IfErr result (FailsOn (NoneAsked (subcommand_rows_of found.now)) ⊥) }
 {
-    match found.subcommand() {
-        Some((name, inner)) => words_found(alloc, called, name, inner),
-        None => Err(WordsError::Usage(String::from_str(alloc, UNREAD)?)),
+    let Some((name, inner)) = found.subcommand() else {
+        return Err(WordsError::Usage(String::from_str(alloc, UNREAD)?));
+    };
+    let words = words_of(alloc, name, inner)?;
+    if let Some(fault) = second_fault(inner, &words) {
+        return Err(WordsError::Usage(fault_text(alloc, called, &words, name, fault)?));
+    }
+    match fault_of(called, &words) {
+        None => Ok(words),
+        Some(fault) => Err(WordsError::Usage(fault_text(alloc, called, &words, name, fault)?)),
     }
 }
 

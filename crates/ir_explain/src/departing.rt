@@ -3,6 +3,7 @@ ghost use Rattle.std.specs.Prelude.{◌≡◌, IfOk, IfSome};
 ghost use Rattle.ir_model.specs.{Topology.node_count, OfGraph.topology_of_graph};
 ghost use Rattle.ir_trace.specs.Checked.{AreInstalls, AreRowsOver};
 
+use crate::sentence::Pushed;
 use crate::texts::RunTexts;
 use ir_cli::{opening_of, root_of};
 use ir_core::{Install, OpenError, installs_by};
@@ -23,10 +24,7 @@ struct TracedWalk<'a> {
 impl TracedWalk<'_> {
     /// The name of a node.
     fn name(&self, node: u16) -> &str {
-        match self.graph.node(usize::from(node)) {
-            Some(name) => name,
-            None => "",
-        }
+        self.graph.node(usize::from(node)).unwrap_or("")
     }
 
     /// The epoch of the segment at a place, from 0; 0 where there is none.
@@ -36,18 +34,16 @@ impl TracedWalk<'_> {
 
     /// The hops of the segment at a place, from 0; none where there is none.
     fn hops(&self, place: usize) -> &[u16] {
-        match self.segments.get(place) {
-            Some(segment) => segment.hops.as_slice(),
-            None => &[],
-        }
+        self.segments
+            .get(place)
+            .map_or(&[], |segment| segment.hops.as_slice())
     }
 
     /// The name of a hop of the segment at a place, both from 0; nothing where there is none.
     fn hop(&self, place: usize, hop: usize) -> &str {
-        match self.hops(place).get(hop) {
-            Some(node) => self.name(*node),
-            None => "",
-        }
+        self.hops(place)
+            .get(hop)
+            .map_or("", |node| self.name(*node))
     }
 }
 
@@ -58,7 +54,7 @@ fn push_stray(
     place: usize,
     hop: usize,
     next: Option<u16>,
-) -> Result<(), AllocError> {
+) -> Pushed {
     let (epoch, number, is) = (
         walk.epoch(place),
         hop.saturating_add(1),
@@ -82,11 +78,7 @@ fn push_stray(
 }
 
 /// Says that the plan of the last segment does not go on as the fate says.
-fn push_unsaid(
-    text: &mut String,
-    walk: TracedWalk<'_>,
-    next: Option<u16>,
-) -> Result<(), AllocError> {
+fn push_unsaid(text: &mut String, walk: TracedWalk<'_>, next: Option<u16>) -> Pushed {
     let place = walk.segments.len().saturating_sub(1);
     let end = walk.hop(place, walk.hops(place).len().saturating_sub(1));
     match next {
@@ -105,7 +97,7 @@ fn push_unsaid(
 }
 
 /// Says where segments leave the walks of their epochs.
-fn push_found(text: &mut String, walk: TracedWalk<'_>, found: Departure) -> Result<(), AllocError> {
+fn push_found(text: &mut String, walk: TracedWalk<'_>, found: Departure) -> Pushed {
     match found {
         Departure::Epoch { segment } => {
             let (epoch, before) = (walk.epoch(segment), walk.epoch(segment.saturating_sub(1)));

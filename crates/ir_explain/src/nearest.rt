@@ -1,5 +1,6 @@
 //! The name that a word may have meant.
 
+use crate::sentence::Pushed;
 use crate::{MOST_EDITS, MOST_NAMES};
 use ir_adjlist::digits::all_digits;
 use ir_graph::Graph;
@@ -59,7 +60,7 @@ pub fn nearest_of<'a>(
 }
 
 /// Asks whether a name was meant, if there is one.
-pub fn push_near(text: &mut String, near: Option<&str>) -> Result<(), AllocError> {
+pub fn push_near(text: &mut String, near: Option<&str>) -> Pushed {
     match near {
         Some(name) => write!(text, " (did you mean '{name}'?)"),
         None => Ok(()),

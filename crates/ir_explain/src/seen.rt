@@ -57,10 +57,8 @@ fn has_comma(word: &[u8]) -> bool {
 
 /// The number that a word spells, up to 65,535; 0 where it spells none.
 fn count_of(word: &[u8]) -> usize {
-    match str::from_utf8(word).unwrap_or("").parse::<u16>() {
-        Ok(number) => usize::from(number),
-        Err(_) => 0,
-    }
+    let text = str::from_utf8(word).unwrap_or("");
+    usize::from(text.parse::<u16>().unwrap_or(0))
 }
 
 /// Whether a further line may stand in a multiline list behind what was seen.
