@@ -1,9 +1,9 @@
 //! What was typed for the options, flags and files of a subcommand, as the fields of its words.
 
-ghost use Rattle.std.specs.Prelude.{◌≡◌, ◌≢◌, ◌<◌, ◌++◌, ℕ, Option, Some, IfOk, IfSome, MatchOption, OnOk, codes, map, option_map, option_to_list, string_bytes, unwrap_or};
+ghost use Rattle.std.specs.Prelude.{◌≡◌, ◌≢◌, ◌<◌, ◌++◌, ℕ, Option, Some, IfOk, MatchOption, OnOk, codes, map, option_map, option_to_list, string_bytes, unwrap_or};
 ghost use Rattle.clap.specs.Words.{first_of, found_of, rows_of};
 ghost use Rattle.ir_model.specs.declared.Kind.{Kind};
-ghost use Rattle.ir_cli.specs.Meaning.{IsFormat, IsNumber, IsNumberElse, IsNumbering, IsSecond, files_in, first_kind, is_set, kind_word, numbering_word, second_kind, second_root, second_word};
+ghost use Rattle.ir_cli.specs.Meaning.{IsFormat, IsNumber, IsNumberElse, IsNumbering, IsSecond, files_in, is_set, kind_word, numbering_word, second_kind, second_root, second_word};
 ghost use Rattle.ir_cli.specs.CommandLine.{sub_word};
 ghost use Rattle.ir_cli.specs.Typed.{AreTyped};
 ghost use Rattle.ir_cli.specs.declared.typed.Chosen.{Chosen};
@@ -49,12 +49,7 @@ pub fn is_set(found: &ArgMatches<'_>, name: &str) -> bool
 }
 
 /// The number of an option, if it is one in this range, and none where the option is not given.
-fn number_if_given(
-    found: &ArgMatches<'_>,
-    name: &str,
-    least: usize,
-    most: usize,
-) -> Option<Option<usize>>
+fn number_in(found: &ArgMatches<'_>, name: &str, least: usize, most: usize) -> Option<Option<usize>>
     ensures { MatchOption result ((n : Option ℕ) → IsNumber name.now (rows_of (found_of found.now)) least most n → ⊥)
         (λ n. IsNumber name.now (rows_of (found_of found.now)) least most n) }
 {
@@ -80,7 +75,7 @@ fn number_or(
     ensures { MatchOption result ((n : ℕ) → IsNumberElse name.now (rows_of (found_of found.now)) least most other n → ⊥)
         (λ n. IsNumberElse name.now (rows_of (found_of found.now)) least most other n) }
 {
-    let number = number_if_given(found, name, least, most)?;
+    let number = number_in(found, name, least, most)?;
     Some(number.unwrap_or(other))
 }
 
@@ -113,14 +108,6 @@ fn kind_in(word: &str) -> Option<Kind>
         "compact" => Some(Kind::Compact),
         _ => None,
     }
-}
-
-/// The kind that is named, else that of shortest ways, as where the subcommand takes none.
-fn kind_of(found: &ArgMatches<'_>) -> Option<Kind>
-    ensures { MatchOption result ((kind : Kind) → kind_word kind ≢ first_kind (rows_of (found_of found.now)))
-        (λ kind. kind_word kind ≡ first_kind (rows_of (found_of found.now))) }
-{
-    kind_in(typed(found, "kind").unwrap_or("shortest"))
 }
 
 /// The word of a second plan as its kind and the name of its root, if that stands behind a comma.
@@ -222,10 +209,10 @@ pub fn choose(name: &str, found: &ArgMatches<'_>) -> Option<Chosen>
     Some(Chosen {
         sub: sub_of(name)?,
         format: format_of(found)?,
-        kind: kind_of(found)?,
+        kind: kind_in(typed(found, "kind").unwrap_or("shortest"))?,
         capacity: number_or(found, "capacity", 1, MAX_CAPACITY, 16)?,
         packets: number_or(found, "packets", 1, MAX_PACKETS, 4096)?,
         restamps: number_or(found, "restamps", 0, MAX_RESTAMPS, 0)? as u8,
-        threads: number_if_given(found, "threads", 1, MAX_THREADS as usize)?,
+        threads: number_in(found, "threads", 1, MAX_THREADS as usize)?,
     })
 }

@@ -5,7 +5,7 @@ ghost use Rattle.clap.specs.Words.{found_of, kind_of, rows_of, subcommand_rows_o
 ghost use Rattle.clap.specs.Walk.{texts};
 ghost use Rattle.clap.specs.declared.error.kind.ErrorKind.TheVariants.{DisplayHelp, DisplayVersion, OutOfMemory};
 ghost use Rattle.ir_cli.specs.Words.{AreTaken, FitsItsKind, file_at, format_of_name, order_name, is_one_input, has_order, words_code};
-ghost use Rattle.ir_cli.specs.Meaning.{Asks, AsksAs, HasItsSecond, Means, MeansMet};
+ghost use Rattle.ir_cli.specs.Meaning.{Asks, AsksAs, Means, MeansMet};
 ghost use Rattle.ir_cli.specs.Refusals.{AsksForHelp, AsksForHelpAs, FailsOn, IsMistake, NoneAsked, RefusesAs, RefusesWords};
 ghost use Rattle.ir_cli.specs.CommandLine.{name_of};
 ghost use Rattle.ir_cli.specs.declared.words.Words.{Words};
@@ -143,10 +143,7 @@ impl Words {
     pub fn has_order(&self) -> bool
         ensures { result ≡ has_order self.now }
     {
-        match self.numbering {
-            NumberingChoice::DepthFirst | NumberingChoice::Tour => false,
-            NumberingChoice::File(_) => true,
-        }
+        matches!(self.numbering, NumberingChoice::File(_))
     }
 }
 

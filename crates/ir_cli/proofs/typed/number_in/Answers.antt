@@ -1,10 +1,10 @@
-use Rattle.std.proofs.Common.{◌≡◌, ℕ, List, Option, Some, None, Result, refl, sym, arith}
+use Rattle.std.proofs.Common.{◌≡◌, ℕ, List, Option, Some, None, refl, sym, arith}
 use Rattle.std.specs.Str.Parse.{ParsesUnsigned, ExplainsUnsignedError, HasUnsignedDigitsIfOk}
 use Rattle.clap.specs.Words.{Row, Text, first_of, found_of, rows_of}
 use Rattle.ir_cli.specs.Meaning.{IsNumber}
 use Rattle.ir_cli.proofs.Given.{given_is_read, is_none_then, number_is, number_not_read, number_read}
-use Rattle.ir_cli.proofs.typed.number_if_given.Goals as goal
-use Rattle.ir_cli.proofs.typed.number_if_given.Goals.{else-least-number-via-then-least-number+else-number-most, else-least-number-via-else-least-number}
+use Rattle.ir_cli.proofs.typed.number_in.Goals as goal
+use Rattle.ir_cli.proofs.typed.number_in.Goals.{else-least-number-via-then-least-number+else-number-most, else-least-number-via-else-least-number}
 
 -- a range that no number of a given option is in holds no number of it, and the option is not without one
 outside : (name : Text) (rows : List Row) (t : Text) (least most : ℕ) → first_of name rows ≡ Some t
