@@ -553,7 +553,9 @@ impl World {
     /// Does nothing; a caller's proof learns by it what holds of each world.
     pub fn invariant(&self)
         ensures world { IsWorld self.now }
-    {}
+    {
+        self.nodes();
+    }
 
     /// How many nodes there are, as a node that `view` takes is one of them.
     pub fn nodes(&self) -> u16

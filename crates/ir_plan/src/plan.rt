@@ -82,7 +82,9 @@ impl Plan {
     /// Does nothing; a caller's proof learns by it what holds of each plan.
     pub fn invariant(&self)
         ensures plan { IsPlan self.now }
-    {}
+    {
+        self.nodes();
+    }
 
     /// How many nodes there are.
     pub fn nodes(&self) -> usize

@@ -48,7 +48,9 @@ impl Topology {
     /// Does nothing; a caller's proof learns by it what holds of each topology.
     pub fn invariant(&self)
         ensures topology { IsTopology self.now }
-    {}
+    {
+        self.nodes();
+    }
 
     /// How many nodes there are.
     pub fn nodes(&self) -> usize

@@ -17,11 +17,8 @@ fn opened(alloc: Global) -> Option<World> {
 
 /// Whether a board has the mark of one link down, and that of another up.
 fn is_down(world: &World, version: usize, link: u16, other: u16) -> bool {
-    match world.board_versions().get(version) {
-        Some(kept) => {
-            let board = kept.board();
-            board.version() as usize == version && !board.is_up(link) && board.is_up(other)
-        }
+    match world.board_version(version) {
+        Some(board) => board.version() as usize == version && !board.is_up(link) && board.is_up(other),
         None => false,
     }
 }
@@ -34,6 +31,7 @@ fn is_seen(world: &mut World) -> bool {
         && is_read
         && world.board_versions().len() == 2
         && is_down(world, 1, 0, 1)
+        && world.board_version(2).is_none()
         && world.nodes() == 3
         && (world.view(0), world.view(1)) == (0, 1)
 }

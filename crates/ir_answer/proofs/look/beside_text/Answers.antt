@@ -12,5 +12,5 @@ unreachable-requires g c =
     let root = c.args.root in
     let copy : c.in_ok-topology.topology ≡ plan.topology = c.in_ok-topology.ensures ∙ c.topology.ensures in
     let refuses = subst (λ (over : Topology). RefusesPlan over (FromRoot orders.DepthFirst root) c.in-Err.error) copy c.in-Err.ensures.refused in
-    let memory : c.in-Err.error ≡ NoMemory = second_refused plan c.nodes-nodes.ensures.plan root (omega (arith, c.requires.root, c.requires.nodes)) c.in-Err.error refuses in
+    let memory : c.in-Err.error ≡ NoMemory = second_refused plan c.invariant.ensures.plan root (omega (arith, c.requires.root, c.requires.nodes)) c.in-Err.error refuses in
     let other : true ≡ false = rw memory at c.if-ne.ensures in cc other

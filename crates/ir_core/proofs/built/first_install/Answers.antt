@@ -9,4 +9,4 @@ returns-in-Ok-push-clause-built c =
     let i : Install = record { labels = c.labels-labels.result; kind = c.args.kind; root = c.args.root; up = c.in-Ok.up } in
     let is = c.in-Ok-push.ensures.items ∙ ap (λ (xs : List Install). xs ++ i ∷ []) c.in-Ok-with_capacity.ensures.items in
     subst (λ (xs : List Install). AreBuiltFrom c.args.world.now.opening xs (c.args.world.now.opening.first ∷ [])) (sym is)
-    (first_built c.args.world.now c.nodes-nodes.ensures.world c.requires.history i c.in-Ok.ensures.count c.in-Ok.ensures.marks c.labels-labels.ensures c.requires.made)
+    (first_built c.args.world.now c.invariant.ensures.world c.requires.history i c.in-Ok.ensures.count c.in-Ok.ensures.marks c.labels-labels.ensures c.requires.made)

@@ -16,7 +16,7 @@ push_ranges-requires-clause-ports c =
     let s = c.args.plan.now in
     let u_in : c.args.u < node_count s.topology = omega (arith, c.requires.node, c.requires.nodes) in
     let P : List LabelRange → Type 0 = λ set. All (λ (r : LabelRange). r.port < length (ports_of s.topology c.args.u)) set in
-    subst P (sym c.as_slice.ensures.value) (range_ports_in s c.nodes-nodes.ensures.plan c.args.u c.in_ok-set.set.items u_in c.in_ok-set.ensures.tells)
+    subst P (sym c.as_slice.ensures.value) (range_ports_in s c.invariant.ensures.plan c.args.u c.in_ok-set.set.items u_in c.in_ok-set.ensures.tells)
 
 pub returns-clause-count : goal.returns-clause-count
 returns-clause-count c =
@@ -25,7 +25,7 @@ returns-clause-count c =
 
 pub returns-clause-few : goal.returns-clause-few
 returns-clause-few c =
-    let few = c.nodes-nodes.ensures.plan.topology.few_nodes in
+    let few = c.invariant.ensures.plan.topology.few_nodes in
     omega (arith, c.len.ensures, c.in_ok-set.set.ok, c.in_ok-set.ensures.few, few)
 
 pub returns-clause-text : goal.returns-clause-text

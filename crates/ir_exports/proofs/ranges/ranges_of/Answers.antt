@@ -6,7 +6,7 @@ use Rattle.ir_exports.proofs.ranges.ranges_of.Goals as goal
 
 pub label_ranges-requires : goal.label_ranges-requires
 label_ranges-requires c =
-    let is = c.nodes-nodes.ensures.plan in
+    let is = c.invariant.ensures.plan in
     let few = is.topology.few_nodes in
     let many = ports_many c.args.plan.now is c.args.u in
     subst (λ (ports : List (Option ℕ)). length ports ≤ 65536) (sym (c.as_slice.ensures.value ∙ c.in_ok-ports.ensures)) (omega (arith, few, many))
@@ -26,6 +26,6 @@ returns-clause-fewest c =
 
 pub returns-clause-few : goal.returns-clause-few
 returns-clause-few c =
-    let many = ports_many c.args.plan.now c.nodes-nodes.ensures.plan c.args.u in
+    let many = ports_many c.args.plan.now c.invariant.ensures.plan c.args.u in
     subst (λ (n : ℕ). IfOk c.label_ranges.result (λ set. length set.items ≤ n)) many
     (subst (λ (ports : List (Option ℕ)). IfOk c.label_ranges.result (λ set. length set.items ≤ length ports)) (c.as_slice.ensures.value ∙ c.in_ok-ports.ensures) c.label_ranges.ensures.few)

@@ -9,4 +9,4 @@ pub push_node-requires-clause-ports : goal.push_node-requires-clause-ports
 push_node-requires-clause-ports c =
     let s = c.args.plan.now in
     let P : List Line → Type 0 = λ table. All (λ (m : Line). IfSome m.port (λ p. p < length (ports_of s.topology c.args.u))) table in
-    subst P (sym c.as_slice.ensures.value) (ports_in s c.nodes-nodes.ensures.plan c.args.u c.in_ok-table.table.items c.requires.node c.in_ok-table.ensures.ports)
+    subst P (sym c.as_slice.ensures.value) (ports_in s c.invariant.ensures.plan c.args.u c.in_ok-table.table.items c.requires.node c.in_ok-table.ensures.ports)

@@ -50,4 +50,4 @@ returns-clause-row c =
     )
 
 pub returns-clause-tables : goal.returns-clause-tables
-returns-clause-tables c = (c.args.plan.now, c.nodes-nodes.ensures.plan, refl, c.bits_of-bits.result.rows, c.bits_of-bits.ensures)
+returns-clause-tables c = (c.args.plan.now, c.invariant.ensures.plan, refl, c.bits_of-bits.result.rows, c.bits_of-bits.ensures)

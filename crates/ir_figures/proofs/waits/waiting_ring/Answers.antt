@@ -13,7 +13,7 @@ ring_in-requires-clause-digraph c =
     let s = c.args.plan.now in
     let exits = subst (λ (net : Topology). AreExits net (node_count net) c.in_ok-exits.exits.first.items c.in_ok-exits.exits.nodes.items) c.topology.ensures c.in_ok-exits.ensures in
     let links = c.in_ok-links.links in
-    digraph s.topology c.nodes-nodes.ensures.plan.topology c.in_ok-exits.exits.first.items c.in_ok-exits.exits.nodes.items exits (Waits s) links.begins.items (marks_of links.marks.items) c.in_ok-links.ensures
+    digraph s.topology c.invariant.ensures.plan.topology c.in_ok-exits.exits.first.items c.in_ok-exits.exits.nodes.items exits (Waits s) links.begins.items (marks_of links.marks.items) c.in_ok-links.ensures
 
 pub ring_in-requires-clause-every : goal.ring_in-requires-clause-every
 ring_in-requires-clause-every c =
@@ -26,8 +26,8 @@ returns-clause-acyclic c =
     let exits = subst (λ (net : Topology). AreExits net (node_count net) c.in_ok-exits.exits.first.items c.in_ok-exits.exits.nodes.items) c.topology.ensures c.in_ok-exits.ensures in
     let links = c.in_ok-links.links in
     ok_none_then c.ring_in.result
-    (without_ring s.topology c.nodes-nodes.ensures.plan.topology c.in_ok-exits.exits.first.items c.in_ok-exits.exits.nodes.items exits (Waits s) links.begins.items (marks_of links.marks.items) c.in_ok-links.ensures
-    (waits_leads s c.nodes-nodes.ensures.plan))
+    (without_ring s.topology c.invariant.ensures.plan.topology c.in_ok-exits.exits.first.items c.in_ok-exits.exits.nodes.items exits (Waits s) links.begins.items (marks_of links.marks.items) c.in_ok-links.ensures
+    (waits_leads s c.invariant.ensures.plan))
     c.ring_in.ensures.acyclic
 
 pub returns-clause-ring : goal.returns-clause-ring
@@ -37,6 +37,6 @@ returns-clause-ring c =
     let links = c.in_ok-links.links in
     ok_some_then c.ring_in.result
     (λ named told.
-    waiting s.topology c.nodes-nodes.ensures.plan.topology c.in_ok-exits.exits.first.items c.in_ok-exits.exits.nodes.items exits (Waits s) links.begins.items (marks_of links.marks.items) c.in_ok-links.ensures
+    waiting s.topology c.invariant.ensures.plan.topology c.in_ok-exits.exits.first.items c.in_ok-exits.exits.nodes.items exits (Waits s) links.begins.items (marks_of links.marks.items) c.in_ok-links.ensures
     told.0 named.items told.1 told.2)
     c.ring_in.ensures.ring

@@ -21,5 +21,5 @@ returns c =
     let met = rw c.in-Some.is at c.in_ok-words.ensures.met in
     let tight = rw c.in-Some.is at c.in_ok-words.ensures.words in
     let P : List ℕ → Type 0 = λ xs. AreMet c.args.topology.now 1 xs c.as_slice-3.result.now in
-    told_here c.args.topology.now c.nodes-nodes.ensures.topology c.args.ends.now c.as_slice-3.result.now c.in_ok-starts.starts.items c.in-Some.words.items
+    told_here c.args.topology.now c.invariant.ensures.topology c.args.ends.now c.as_slice-3.result.now c.in_ok-starts.starts.items c.in-Some.words.items
     c.requires.nodes c.in_ok-starts.ensures.starts (subst P c.as_slice-2.ensures.value met) tight

@@ -15,7 +15,7 @@ loop-p-preserved c =
     let P : List Hop → Type 0 = λ xs. slice_get xs i ≡ Some hop in
     let port : port_at net c.args.source i ≡ Some hop = subst P c.ports-hop-items.ensures (slice_get-get_or hops i past c.loop-p-test.true) in
     let few = c.requires.ports in
-    beginning_more net c.nodes-nodes.ensures.topology c.args.unit c.args.source c.args.lane i hop c.args.starts.now c.loop-p.starts c.requires.unit
+    beginning_more net c.invariant.ensures.topology c.args.unit c.args.source c.args.lane i hop c.args.starts.now c.loop-p.starts c.requires.unit
     (omega (arith, c.loop-p-test.true, ap length c.ports-hop-items.ensures, few)) c.requires.lane port c.loop-p.invariant
 
 pub returns-clause-begun : goal.returns-clause-begun

@@ -9,8 +9,8 @@ use Rattle.ir_numbering.proofs.parents.port_to_neighbor.Goals as goal
 pub overflow_cast-result : goal.overflow_cast-result
 overflow_cast-result c =
     let net = c.args.topology.now in
-    let len = degree_bound net c.nodes-nodes.ensures.topology c.args.u in
-    let few = c.nodes-nodes.ensures.topology.few_nodes in
+    let len = degree_bound net c.invariant.ensures.topology c.args.u in
+    let few = c.invariant.ensures.topology.few_nodes in
     let e = ap (λ (xs : List Hop). length xs) c.ports-hop-items.ensures in
     omega arith
 

@@ -14,5 +14,5 @@ pub returns-in_ok-ways-in-None-clause-tied : goal.returns-in_ok-ways-in-None-cla
 returns-in_ok-ways-in-None-clause-tied c =
     let net = c.args.topology.now in
     let numbers = c.args.numbering.now in
-    let ok = c.nodes-nodes.ensures.topology in
+    let ok = c.invariant.ensures.topology in
     on_ok c.longest_runs.result _ (tied_choices net ok numbers.order numbers.labels c.requires.labels c.args.u c.in_ok-ways-in-None.ways.weights c.in_ok-ways-in-None.ensures.distances)

@@ -17,5 +17,5 @@ returns g c =
     let len : length new ≡ length start = ap length short ∙ length_permutation start (shortened far 16 start) (shortened_permutes far 16 start) in
     let whole : take c.in_ok-order.order.len (new ++ drop (length new) start) ≡ new = take_at new (drop (length new) start) c.in_ok-order.order.len (omega (arith, len, c.in_ok-order.order.ok)) in
     let nearest = rw (c.in_ok-far.ensures.nodes, c.root.ensures) at c.in_ok-order.ensures in
-    let made = tour_made plan.topology plan.root far start new c.in_ok-far.ensures.shortest c.nodes-nodes.ensures.plan.root_in nearest short in
+    let made = tour_made plan.topology plan.root far start new c.in_ok-far.ensures.shortest c.invariant.ensures.plan.root_in nearest short in
     rw whole (record { tour = made.0; listing = made.1; first = made.2 })

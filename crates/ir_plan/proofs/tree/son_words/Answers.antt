@@ -16,8 +16,8 @@ use Rattle.ir_plan.proofs.tree.son_words.Goals.{then-has_parent+in_ok-push, else
 pub overflow_cast-p : goal.overflow_cast-p
 overflow_cast-p c =
     let net = c.args.topology.now in
-    let bound = degree_bound net c.nodes-nodes.ensures.topology c.args.u in
-    let few = c.nodes-nodes.ensures.topology.few_nodes in
+    let bound = degree_bound net c.invariant.ensures.topology c.args.u in
+    let few = c.invariant.ensures.topology.few_nodes in
     let e = ap (λ (xs : List Hop). length xs) c.ports-ports.ensures in
     let h = c.loop-p-test.true in
     omega arith
@@ -30,7 +30,7 @@ loop-p-preserved c =
     let none : Hop = record { node = 0; link = 0; weight = 0 } in
     let hop = get_or c.ports-ports.result.now p none in
     let at = subst (λ (xs : List Hop). slice_get xs p ≡ Some hop) c.ports-ports.ensures (slice_get-get_or c.ports-ports.result.now p none c.loop-p-test.true) in
-    let ok = c.nodes-nodes.ensures.topology in
+    let ok = c.invariant.ensures.topology in
     let before = starts_of c.loop-p.words.items in
     elim c.if-has_parent.branch [
       | then-has_parent+in_ok-push w ↦

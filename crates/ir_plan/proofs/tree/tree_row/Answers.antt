@@ -7,4 +7,4 @@ returns c =
     let net = c.args.topology.now in
     let numbers = c.args.numbering.now in
     rw c.of.ensures
-    (tree_row_is net c.nodes-nodes.ensures.topology numbers c.requires.numbering c.args.u c.requires.node (starts_of c.add_father.new.words.items) c.in_ok-add_father.ensures)
+    (tree_row_is net c.invariant.ensures.topology numbers c.requires.numbering c.args.u c.requires.node (starts_of c.add_father.new.words.items) c.in_ok-add_father.ensures)

@@ -23,4 +23,4 @@ returns-clause-within c =
     let net = c.args.topology.now in
     let same : length (names g) ≡ node_count (topology_of_graph g) = simp length-map in
     let count : length (names g) ≡ node_count net = same ∙ sym (ap node_count c.requires) in
-    all_within (names g) net c.nodes-nodes.ensures.topology count (lines c.args.text.now) c.parse.result c.parse.ensures.parsed
+    all_within (names g) net c.invariant.ensures.topology count (lines c.args.text.now) c.parse.result c.parse.ensures.parsed

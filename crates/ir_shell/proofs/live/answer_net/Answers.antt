@@ -22,7 +22,7 @@ live_texts-requires-clause-records g c =
     let over : (knows c.args.net.now.opening).topology ≡ c.args.asked.now.topology = c.requires.opened.opened.first.over ∙ sym c.requires.over in
     let w = c.args.words.now in
     let few : node_count c.args.asked.now.topology ≤ MAX_NODES = subst (λ (n : Topology). node_count n ≤ MAX_NODES) (sym c.requires.over) (few_nodes (opening_by w (topology_of_graph c.args.asked.now.graph) c.args.asked.now.root) c.requires.opened.accepted) in
-    live_records g.T.Moments.was_full g.T.Moments.was_empty ends_somewhere (g.T.Starter.came_back c.args.rt.now) (g.T.Starter.was_closed c.args.rt.now) c.args.net.now c.steps.result.now c.in-Ok.live c.in-Ok.ensures.live c.args.asked.now.topology c.nodes-nodes.ensures.topology few over
+    live_records g.T.Moments.was_full g.T.Moments.was_empty ends_somewhere (g.T.Starter.came_back c.args.rt.now) (g.T.Starter.was_closed c.args.rt.now) c.args.net.now c.steps.result.now c.in-Ok.live c.in-Ok.ensures.live c.args.asked.now.topology c.invariant.ensures.topology few over
 
 pub returns-in_ok-trace-in-Ok : goal.returns-in_ok-trace-in-Ok
 returns-in_ok-trace-in-Ok g c =

@@ -13,7 +13,7 @@ port-requires-clause-port c =
     let net = c.args.topology.now in
     let numbers = c.args.numbering.now in
     let row = c.in_ok-row.row in
-    let plan = plan_some net c.nodes-nodes.ensures.topology c.requires.connected numbers c.requires.labels c.args.kind c.requires.kind (omega (arith, c.requires.node)) in
+    let plan = plan_some net c.invariant.ensures.topology c.requires.connected numbers c.requires.labels c.args.kind c.requires.kind (omega (arith, c.requires.node)) in
     let is : as_interval c.interval_with-interval.result ≡ interval_with row (slice_index numbers.labels c.args.to) = c.interval_with-interval.ensures ∙ ap (interval_with row) c.label_of.ensures in
     subst (λ (p : ℕ). p < length (ports_of net c.args.u)) (sym (ap (λ (m : PortInterval). m.port) is))
     (port_within net c.args.kind c.requires.kind numbers plan.0 plan.1 c.args.u c.requires.node row c.in_ok-row.ensures c.args.to c.requires.end c.requires.other)

@@ -10,7 +10,7 @@ pub loop-at-init : goal.loop-at-init
 loop-at-init c =
     let net = c.args.topology.now in
     let numbers = c.args.numbering.now in
-    let plan = plan_some net c.nodes-nodes.ensures.topology c.requires.connected numbers c.requires.labels c.args.kind c.requires.kind (omega (arith, c.requires.from)) in
+    let plan = plan_some net c.invariant.ensures.topology c.requires.connected numbers c.requires.labels c.args.kind c.requires.kind (omega (arith, c.requires.from)) in
     subst (λ (stops : List Stop). AreStopsSoFar net c.args.kind numbers c.args.from c.args.to c.args.from 0 stops) (sym c.new-stops.ensures.items)
     (stops_begin net c.args.kind numbers c.args.from c.args.to plan.0 plan.1 c.requires.from c.requires.to)
 

@@ -7,5 +7,5 @@ use Rattle.ir_show.proofs.figures.distances_to.Goals as goal
 pub returns : goal.returns
 returns c =
     let P : Topology → Type 0 = λ net. IsRelaxed net c.args.d c.in_ok-weights.weights.items in
-    let plan = c.nodes-nodes.ensures.plan in
+    let plan = c.invariant.ensures.plan in
     relaxed_to c.args.plan.now.topology plan.topology plan.connected c.args.d c.requires c.in_ok-weights.weights.items (subst P c.topology.ensures c.in_ok-weights.ensures)

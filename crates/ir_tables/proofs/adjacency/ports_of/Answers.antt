@@ -14,7 +14,7 @@ pub overflow_cast-link : goal.overflow_cast-link
 overflow_cast-link c =
     let g = c.args.graph.now in
     let u : ℕ = c.args.u in
-    let graph = c.number_of_nodes-nodes.ensures.graph in
+    let graph = c.invariant.ensures.graph in
     let row : Numbers = row_numbers g (neighbors_at g u) in
     let entry : slice_get row c.loop-place.place ≡ Some c.unwrap-v.result = next_entry g u c.loop-place.place c.unwrap-v.result (sym c.neighbor_at.ensures.at ∙ c.unwrap-v.ensures) in
     let P : Numbers → Type 0 = λ es. slice_get es c.loop-place.place ≡ Some c.unwrap-v.result in
@@ -26,7 +26,7 @@ overflow_cast-link c =
 
 pub link_between-link-requires-clause-ordered : goal.link_between-link-requires-clause-ordered
 link_between-link-requires-clause-ordered c = let g = c.args.graph.now in
-    subst AreOrdered (sym c.requires.links) (links_ordered (neighbor_rows g) (graph_numbered g c.number_of_nodes-nodes.ensures.graph))
+    subst AreOrdered (sym c.requires.links) (links_ordered (neighbor_rows g) (graph_numbered g c.invariant.ensures.graph))
 
 pub loop-place-preserved : goal.loop-place-preserved
 loop-place-preserved c =

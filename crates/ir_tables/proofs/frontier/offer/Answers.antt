@@ -18,7 +18,7 @@ loop-hop-preserved c =
     let own : ℕ = get_or c.args.weights.now c.args.v 0 in
     elim c.if-through-weights.branch [
       | then-through-weights+in_ok-push w ↦
-          rw (w.weights-is, w.frontier-is) (offering_lower net c.nodes-nodes.ensures.topology c.args.v own c.args.weights.now (heap_items c.args.frontier.now) c.loop-hop.weights (heap_items c.loop-hop.frontier) (heap_items w.push.new.self) i
+          rw (w.weights-is, w.frontier-is) (offering_lower net c.invariant.ensures.topology c.args.v own c.args.weights.now (heap_items c.args.frontier.now) c.loop-hop.weights (heap_items c.loop-hop.frontier) (heap_items w.push.new.self) i
           c.saturating_add-through.result hop port c.saturating_add-through.ensures w.if-through-weights.true (omega arith) w.in_ok-push.ensures.permutation c.loop-hop.invariant)
       | else-through-weights w ↦
           rw (w.weights-is, w.frontier-is) (offering_keep net c.args.v own c.args.weights.now (heap_items c.args.frontier.now) c.loop-hop.weights (heap_items c.loop-hop.frontier) i

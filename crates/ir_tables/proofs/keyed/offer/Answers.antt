@@ -17,20 +17,20 @@ port_here net x i hops is lt = subst (λ (xs : List Hop). slice_get xs i ≡ Som
 pub step_key-requires-clause-port : goal.step_key-requires-clause-port
 step_key-requires-clause-port c =
     let net : Topology = c.args.topology.now in
-    port_small net c.nodes-nodes.ensures.topology c.args.x c.loop-p.p (slice_index_or c.ports-hop-items.result.now c.loop-p.p past)
+    port_small net c.invariant.ensures.topology c.args.x c.loop-p.p (slice_index_or c.ports-hop-items.result.now c.loop-p.p past)
     (port_here net c.args.x c.loop-p.p c.ports-hop-items.result.now c.ports-hop-items.ensures c.loop-p-test.true)
 
 pub step_key-requires-clause-weight : goal.step_key-requires-clause-weight
 step_key-requires-clause-weight c =
     let net : Topology = c.args.topology.now in
-    let facts = port_facts net c.nodes-nodes.ensures.topology c.args.x c.loop-p.p (slice_index_or c.ports-hop-items.result.now c.loop-p.p past)
+    let facts = port_facts net c.invariant.ensures.topology c.args.x c.loop-p.p (slice_index_or c.ports-hop-items.result.now c.loop-p.p past)
     (port_here net c.args.x c.loop-p.p c.ports-hop-items.result.now c.ports-hop-items.ensures c.loop-p-test.true) in
     omega (arith, facts.bounded)
 
 pub bounds-keys-hop : goal.bounds-keys-hop
 bounds-keys-hop c =
     let net : Topology = c.args.topology.now in
-    let facts = port_facts net c.nodes-nodes.ensures.topology c.args.x c.loop-p.p (slice_index_or c.ports-hop-items.result.now c.loop-p.p past)
+    let facts = port_facts net c.invariant.ensures.topology c.args.x c.loop-p.p (slice_index_or c.ports-hop-items.result.now c.loop-p.p past)
     (port_here net c.args.x c.loop-p.p c.ports-hop-items.result.now c.ports-hop-items.ensures c.loop-p-test.true) in
     omega (arith, facts.to, c.loop-p.invariant.but.ways.every)
 
@@ -43,7 +43,7 @@ loop-p-preserved c =
     let own : ℕ = get_or c.args.keys.now c.args.x 0 in
     elim c.if-through-keys.branch [
       | then-through-keys+in_ok-push w ↦
-          rw (w.keys-is, w.frontier-is) (offering_lower net c.nodes-nodes.ensures.topology c.args.u c.args.x own c.args.keys.now (load c.args.frontier.now) c.loop-p.keys (keys_waiting c.loop-p.frontier) (keys_waiting w.push.new.self) (load c.loop-p.frontier) (load w.push.new.self) i
+          rw (w.keys-is, w.frontier-is) (offering_lower net c.invariant.ensures.topology c.args.u c.args.x own c.args.keys.now (load c.args.frontier.now) c.loop-p.keys (keys_waiting c.loop-p.frontier) (keys_waiting w.push.new.self) (load c.loop-p.frontier) (load w.push.new.self) i
           (own + c.step_key.result) c.step_key.result hop port c.step_key.ensures refl w.if-through-keys.true w.in_ok-push.ensures.waits w.in_ok-push.ensures.load c.loop-p.invariant)
       | else-through-keys w ↦
           rw (w.keys-is, w.frontier-is) (offering_keep net c.args.u c.args.x own c.args.keys.now (load c.args.frontier.now) c.loop-p.keys (keys_waiting c.loop-p.frontier) (load c.loop-p.frontier) i

@@ -20,7 +20,7 @@ loop-hop-preserved c =
     let hop : Hop = get_or c.ports-hop-items.result.now i past in
     let P : List Hop → Type 0 = λ xs. slice_get xs i ≡ Some hop in
     let port : port_at net c.args.x i ≡ Some hop = subst P c.ports-hop-items.ensures (slice_get-get_or c.ports-hop-items.result.now i past c.loop-hop-test.true) in
-    let facts : PortFacts net c.args.x hop = port_facts net c.nodes-nodes.ensures.topology c.args.x i hop port in
+    let facts : PortFacts net c.args.x hop = port_facts net c.invariant.ensures.topology c.args.x i hop port in
     let y_in : hop.node < length c.loop-hop.marks.items = let e = c.loop-hop.invariant.every in omega (arith, facts.to, c.requires.marks, e) in
     elim c.if-is_tight.branch [
       | then-is_tight+then-not-index+in_ok-push w ↦

@@ -37,7 +37,7 @@ restamp-parcel-requires-clause-nodes c =
 pub restamp-parcel-requires-clause-due : goal.restamp-parcel-requires-clause-due
 restamp-parcel-requires-clause-due c =
     let p = c.args.parcel in
-    due_at c.args.turning.now.opening.now (present_stamp p.first p.later) c.plan-plan.result.now (c.plan-plan.ensures ∙ ap knows c.stamp.ensures.stamp) c.nodes-nodes.ensures.plan (now_of_net c.args.turning.now.opening.now p.first p.later c.requires.of_net).1
+    due_at c.args.turning.now.opening.now (present_stamp p.first p.later) c.plan-plan.result.now (c.plan-plan.ensures ∙ ap knows c.stamp.ensures.stamp) c.invariant.ensures.plan (now_of_net c.args.turning.now.opening.now p.first p.later c.requires.of_net).1
     p.packet p.next c.args.turning.now.at c.args.way c.args.turning.now.ports.now c.requires.ports c.stamp.ensures.under_way c.stamp.ensures.last c.requires.came
 
 pub returns-in-Some-clause-of_net : goal.returns-in-Some-clause-of_net
@@ -71,7 +71,7 @@ judge-again-requires-clause-at_in c =
 pub returns-in-Some-clause-plan : goal.returns-in-Some-clause-plan
 returns-in-Some-clause-plan c =
     let made = c.restamp-parcel.ensures in
-    subst IsPlan (c.plan-newest.ensures ∙ sym (ap knows (stamped c.args.parcel c.restamp-parcel.result c.args.current (ap (λ (x : Parcel). x.first) made) (ap (λ (x : Parcel). x.later) made)))) c.nodes-nodes-in-Some.ensures.plan
+    subst IsPlan (c.plan-newest.ensures ∙ sym (ap knows (stamped c.args.parcel c.restamp-parcel.result c.args.current (ap (λ (x : Parcel). x.first) made) (ap (λ (x : Parcel). x.later) made)))) c.invariant-in-Some.ensures.plan
 
 pub returns-in-None-clause-plan : goal.returns-in-None-clause-plan
-returns-in-None-clause-plan c = subst IsPlan (c.plan-plan.ensures ∙ ap knows c.stamp.ensures.stamp) c.nodes-nodes.ensures.plan
+returns-in-None-clause-plan c = subst IsPlan (c.plan-plan.ensures ∙ ap knows c.stamp.ensures.stamp) c.invariant.ensures.plan

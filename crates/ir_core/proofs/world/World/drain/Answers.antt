@@ -7,11 +7,11 @@ rounds-preserved c =
 
 pub returns-then-not-acted-clause-history : goal.returns-then-not-acted-clause-history
 returns-then-not-acted-clause-history c =
-    drained c.args.self.now c.rounds.self c.round-acted.new.self c.nodes-nodes.ensures.world c.round-acted.result c.if-not-acted.true c.rounds.invariant c.round-acted.ensures.moves
+    drained c.args.self.now c.rounds.self c.round-acted.new.self c.invariant.ensures.world c.round-acted.result c.if-not-acted.true c.rounds.invariant c.round-acted.ensures.moves
 
 pub returns-then-not-acted-clause-none_left : goal.returns-then-not-acted-clause-none_left
 returns-then-not-acted-clause-none_left c =
-    quiet_none_left c.round-acted.new.self c.nodes-left.ensures.world (c.round-acted.ensures.quiet c.if-not-acted.true)
+    quiet_none_left c.round-acted.new.self c.invariant-then-not-acted.ensures.world (c.round-acted.ensures.quiet c.if-not-acted.true)
 
 pub rounds-init : goal.rounds-init
 rounds-init c = drain_none c.args.self.now

@@ -14,7 +14,7 @@ try_way-sent-requires-clause-channel c =
     let here = ap length c.ports.ensures in
     let lt : c.loop-port.port < length c.ports.result.now = omega arith in
     let at = port_read c.args.self.now s same c.args.node c.loop-port.port c.ports.result.now (record { node = 0; link = 0; weight = 0 }) c.ports.ensures lt in
-    port_channel s.opening c.nodes-nodes.ensures.world.opening.topology c.args.node c.loop-port.port _ at.1
+    port_channel s.opening c.invariant.ensures.world.opening.topology c.args.node c.loop-port.port _ at.1
 
 pub loop-port-preserved : goal.loop-port-preserved
 loop-port-preserved c =

@@ -26,7 +26,7 @@ pub returns-clause-ways : goal.returns-clause-ways
 returns-clause-ways c =
     let met = rw c.in-Some.is at c.in_ok-keys.ensures.met in
     let near = rw c.in-Some.is at c.in_ok-keys.ensures.near in
-    solved_here c.args.topology.now c.nodes-nodes.ensures.topology c.args.sources.now c.in_ok-from_slice.field-0.items c.in-Some.keys.items
+    solved_here c.args.topology.now c.invariant.ensures.topology c.args.sources.now c.in_ok-from_slice.field-0.items c.in-Some.keys.items
     c.in_ok-starts.starts.items c.as_slice.result.now c.bits_for-bits.result c.unit_of-unit.result c.greatest_degree.result
     c.bits_for-bits.ensures.few c.unit_of-unit.ensures.unit c.in_ok-from_slice.ensures.items c.as_slice.ensures.value
     c.requires.sixteen c.requires.nodes near c.in_ok-starts.ensures.starts c.greatest_degree.ensures.greatest c.bits_for-bits.ensures.enough met

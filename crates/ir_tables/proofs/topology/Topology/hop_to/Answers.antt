@@ -15,4 +15,4 @@ found_weight net ok u v (Some hop) e =
 
 pub returns-clause-weight : goal.returns-clause-weight
 returns-clause-weight c =
-    found_weight c.args.self.now c.nodes-nodes.ensures.topology c.args.node c.args.neighbor c.first_to.result (c.first_to.ensures ∙ ap (find (λ hop. hop.node == c.args.neighbor)) c.ports.ensures)
+    found_weight c.args.self.now c.invariant.ensures.topology c.args.node c.args.neighbor c.first_to.result (c.first_to.ensures ∙ ap (find (λ hop. hop.node == c.args.neighbor)) c.ports.ensures)
