@@ -1,8 +1,8 @@
 //! The rules of words that are taken, and what stands where one is broken.
 
-ghost use Rattle.std.specs.Prelude.{◌≡◌, true, false, is_some, MatchOption};
+ghost use Rattle.std.specs.Prelude.{◌≡◌, true, false, MatchOption};
 ghost use Rattle.clap.specs.Words.{found_of, rows_of};
-ghost use Rattle.ir_cli.specs.Words.{AreTaken, FitsItsKind, has_its_files, takes_drawing, takes_numbering, texts_wanted};
+ghost use Rattle.ir_cli.specs.Words.{AreTaken, FitsItsKind, has_its_files, has_its_numbering, takes_drawing, texts_wanted};
 ghost use Rattle.ir_cli.specs.Meaning.{HasItsSecond};
 
 use crate::help::{Called, texts_of, usage_of};
@@ -37,8 +37,7 @@ static TREE_NUMBERING: &str = "'--kind tree' takes '--numbering depth-first' alo
 
 /// What is wrong with the numbering of the words, if anything is.
 fn numbering_fault(words: &Words) -> Option<&'static str>
-    ensures { MatchOption result (takes_numbering words.now.numbering words.now.kind (is_some words.now.root) ≡ true)
-        (λ _. takes_numbering words.now.numbering words.now.kind (is_some words.now.root) ≡ false) }
+    ensures { MatchOption result (has_its_numbering words.now ≡ true) (λ _. has_its_numbering words.now ≡ false) }
 {
     match &words.numbering {
         NumberingChoice::Tour if words.kind == Kind::Tree => Some(TREE_NUMBERING),

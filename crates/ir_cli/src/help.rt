@@ -159,7 +159,7 @@ pub fn texts_of(called: Called) -> &'static HelpTexts
     }
 }
 
-/// How the words of a subcommand of several texts are to look; nothing for another, where it follows from the arguments.
+/// How the words of a subcommand of several texts are to look; nothing for another.
 pub fn usage_of(called: Called, sub: Sub) -> &'static str {
     let texts = texts_of(called);
     match sub {

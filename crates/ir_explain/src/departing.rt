@@ -118,8 +118,8 @@ fn push_found(text: &mut String, walk: TracedWalk<'_>, found: Departure) -> Push
     }
 }
 
-/// The installs of the run's script over the opening that its words ask for, the plans made by a crew; none where either
-/// is refused.
+/// The installs of the run's script, their plans made by a crew; none where script or root is
+/// refused.
 fn installs_of(
     crew: &impl Crew,
     run: &RunTexts<'_>,
@@ -155,8 +155,8 @@ fn trace_of(alloc: Global, graph: &Graph, text: &[u8]) -> Result<Option<Trace>, 
     }
 }
 
-/// Says where the row on a line of the trace leaves the walks of its epochs, whose plans a crew makes. Answers whether it
-/// was said: not where the script or the trace is refused, or the row leaves none.
+/// Says where the row on a line of the trace leaves the walks of its epochs, whose plans a crew
+/// makes. Returns whether it was said: not where script or trace is refused, or the row leaves none.
 pub fn push_departure_by(
     crew: &impl Crew,
     text: &mut String,

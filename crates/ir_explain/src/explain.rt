@@ -121,10 +121,10 @@ fn explain_outcome(
     }
 }
 
-/// The explanation of a run: a line `route: ..` for each step that was refused, for why it ended and for what a check found,
-/// one for a topology that looks like another format, and one for a packet of a simulation whose install was not learnt.
-/// `given` is what was given of the inputs, in their order. Refused for want of memory alone. Where there is something to
-/// explain, it reads the topology once more. For users of the library.
+/// The explanation of a run: a line `route: ..` for each refused step, for why it ended and for what
+/// a check found, for a topology that looks like another format, and for a packet of a simulation
+/// whose install was not learnt. `given` has what was read of the inputs, in their order. Refused
+/// for want of memory alone. For users of the library.
 pub fn explanation(
     alloc: Global,
     words: &Words,
@@ -134,8 +134,7 @@ pub fn explanation(
     explanation_by(&Alone, alloc, words, given, outcome, true)
 }
 
-/// What `explanation` answers, where it is told too whether the output came to its place; plans by which it finds where a
-/// row leaves its walks are made by a crew.
+/// The same, told too whether the output came to its place; a crew makes the plans that it needs.
 pub fn explanation_by(
     crew: &impl Crew,
     alloc: Global,

@@ -34,7 +34,7 @@ fn push_unknown_node(text: &mut String, run: &RunTexts<'_>, words: &[&[u8]]) -> 
     push_no_node(text, run, end)
 }
 
-/// Begins a sentence on a line of the trace by its row, as it stands: a trace has no comments, and `#` begins a segment.
+/// Begins a sentence on a line of the trace by its whole row: a trace has no comments.
 fn begin_row(text: &mut String, run: &RunTexts<'_>, line: usize) -> Pushed {
     begin_at(text, &run.texts.trace, line)?;
     write!(text, "{}: ", Quoted(line_at(run.texts.trace.bytes, line)))

@@ -11,8 +11,7 @@ use strsim::generic_levenshtein;
 /// A name, and how many edits lead to it.
 type Near<'a> = Option<(usize, &'a str)>;
 
-/// What is nearer to a word: what was found, or a further name. Nothing is near to a number, which is one edit away from
-/// many others.
+/// What is nearer to a word: what was found, or a further name. Nothing is near to a number.
 fn nearer<'a>(
     alloc: Global,
     word: &[u8],

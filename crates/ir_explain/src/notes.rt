@@ -93,7 +93,7 @@ fn likeness(seen: Seen, format: Format) -> (&'static str, Option<&'static str>) 
     }
 }
 
-/// Says so where a topology looks like one of another format than it is read in, and how many nodes and links were read.
+/// Says so where a topology looks like one of another format, and how many nodes and links were read.
 pub fn push_note(alloc: Global, text: &mut String, words: &Words, part: &GivenText<'_>) -> Pushed {
     let (name, word) = match convertible(part.bytes) {
         "" => likeness(seen_of(alloc, part.bytes)?, words.format),

@@ -26,7 +26,7 @@ pub struct Seen {
     pub has_tuple: bool,
     /// Each of these has a comma inside a word.
     pub has_commas: bool,
-    /// Each of these is a node and how many neighbours it has, or one of these neighbours with its attributes in braces.
+    /// Each of these is a node and its number of neighbours, or a neighbour with its attributes.
     pub is_multiline: bool,
     /// How many neighbours the last node of such a list still has.
     pub left: usize,

@@ -12,7 +12,7 @@ use std::fmt;
 /// What writing behind a text comes to: refused for want of memory alone.
 pub type Pushed = Result<(), AllocError>;
 
-/// A text in quotes, with bytes that are not printable ASCII as `\xNN`, and two points behind it where its end is not shown.
+/// A text in quotes, other bytes than printable ASCII as `\xNN`; two points stand for what is cut.
 #[derive(Clone, Copy)]
 pub struct Quoted<'a>(pub &'a [u8]);
 
@@ -81,7 +81,7 @@ pub fn begin(text: &mut String, file: &str) -> Pushed {
     write!(text, "route: {}: ", FileName(file))
 }
 
-/// Begins a sentence on a line of a text, counted from 1 in its file: `route: FILE:LINE: `. Line 0 stands for all of it.
+/// Begins a sentence on a line of a text, counted from 1: `route: FILE:LINE: `. Line 0 is all of it.
 pub fn begin_at(text: &mut String, part: &GivenText<'_>, line: usize) -> Pushed {
     if line == 0 {
         return begin(text, part.file);
