@@ -1,8 +1,9 @@
 //! The rules of words that are taken, and what stands where one is broken.
 
-ghost use Rattle.std.specs.Prelude.{◌≡◌, true, false, MatchOption};
+ghost use Rattle.std.specs.Prelude.{◌≡◌, true, false, MatchOption, string_bytes};
+ghost use Rattle.std.specs.List.{list_all};
 ghost use Rattle.clap.specs.Words.{found_of, rows_of};
-ghost use Rattle.ir_cli.specs.Words.{AreTaken, FitsItsKind, has_its_files, has_its_numbering, takes_drawing, texts_wanted};
+ghost use Rattle.ir_cli.specs.Words.{AreTaken, FitsItsKind, has_its_files, has_its_numbering, is_no_dash, takes_drawing, texts_wanted};
 ghost use Rattle.ir_cli.specs.Meaning.{HasItsSecond};
 
 use crate::help::{Called, texts_of, usage_of};
@@ -23,13 +24,19 @@ fn texts_wanted(sub: Sub) -> usize
     }
 }
 
+/// Whether none of the files is standard input.
+fn are_named(files: &[String]) -> bool
+    ensures { result ≡ list_all (λ file. is_no_dash (string_bytes file)) files.now }
+{
+    files.iter().all(|file| file.as_str() != "-")
+}
+
 /// Whether the files are `-` alone, or one for each text with no `-` among them.
 fn has_its_files(words: &Words) -> bool
     ensures { result ≡ has_its_files words.now }
 {
     words.is_one_input()
-        || (words.files.len() == texts_wanted(words.sub)
-            && words.files.iter().all(|file| file.as_str() != "-"))
+        || (words.files.len() == texts_wanted(words.sub) && are_named(&words.files))
 }
 
 /// That a tree takes another numbering than depth first.
