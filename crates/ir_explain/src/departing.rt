@@ -24,7 +24,10 @@ struct TracedWalk<'a> {
 impl TracedWalk<'_> {
     /// The name of a node.
     fn name(&self, node: u16) -> &str {
-        self.graph.node(usize::from(node)).unwrap_or("")
+        match self.graph.node(usize::from(node)) {
+            Some(name) => name,
+            None => "",
+        }
     }
 
     /// The epoch of the segment at a place, from 0; 0 where there is none.
@@ -34,16 +37,18 @@ impl TracedWalk<'_> {
 
     /// The hops of the segment at a place, from 0; none where there is none.
     fn hops(&self, place: usize) -> &[u16] {
-        self.segments
-            .get(place)
-            .map_or(&[], |segment| segment.hops.as_slice())
+        match self.segments.get(place) {
+            Some(segment) => segment.hops.as_slice(),
+            None => &[],
+        }
     }
 
     /// The name of a hop of the segment at a place, both from 0; nothing where there is none.
     fn hop(&self, place: usize, hop: usize) -> &str {
-        self.hops(place)
-            .get(hop)
-            .map_or("", |node| self.name(*node))
+        match self.hops(place).get(hop) {
+            Some(node) => self.name(*node),
+            None => "",
+        }
     }
 }
 
