@@ -1,4 +1,5 @@
 //! What a finding in a trace means.
+ghost use Rattle.std.specs.Prelude.{◌≤◌};
 
 use crate::departing::push_departure_by;
 use crate::lines::{line_at, line_with, word_at, words_of};
@@ -20,7 +21,9 @@ fn has_segments(trace: &GivenText<'_>) -> bool {
 }
 
 /// The place of the source among the words of a row; destination and weight stand behind it.
-fn source_place(trace: &GivenText<'_>) -> usize {
+fn source_place(trace: &GivenText<'_>) -> usize
+    ensures { result ≤ 2 }
+{
     if has_segments(trace) { 1 } else { 2 }
 }
 
