@@ -62,6 +62,9 @@ takes_numbering Tour Tree has_root = false
 takes_numbering Tour kind has_root = true
 takes_numbering (File name) kind has_root = is_no_dash (string_bytes name) && not has_root
 
+abbrev pub has_its_numbering : Words → Bool
+has_its_numbering words = takes_numbering words.numbering words.kind (is_some words.root)
+
 -- both or none
 abbrev pub alike : Bool → Bool → Bool
 alike one other = if one then other else not other

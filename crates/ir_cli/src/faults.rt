@@ -1,9 +1,9 @@
 //! The rules of words that are taken, and what stands where one is broken.
 
-ghost use Rattle.std.specs.Prelude.{◌≡◌, true, false, is_some, MatchBool, MatchOption, string_bytes};
+ghost use Rattle.std.specs.Prelude.{◌≡◌, true, false, MatchOption, string_bytes};
 ghost use Rattle.std.specs.List.{list_all};
 ghost use Rattle.clap.specs.Words.{found_of, rows_of};
-ghost use Rattle.ir_cli.specs.Words.{AreTaken, FitsItsKind, has_its_files, is_no_dash, takes_drawing, takes_numbering, texts_wanted};
+ghost use Rattle.ir_cli.specs.Words.{AreTaken, FitsItsKind, has_its_files, has_its_numbering, is_no_dash, takes_drawing, texts_wanted};
 ghost use Rattle.ir_cli.specs.Meaning.{HasItsSecond};
 
 use crate::help::{Called, texts_of, usage_of};
@@ -18,30 +18,17 @@ fn texts_wanted(sub: Sub) -> usize
     ensures { result ≡ texts_wanted sub }
 {
     match sub {
-        Sub::Plan
-        | Sub::Walk
-        | Sub::Stats
-        | Sub::Compare
-        | Sub::Draw
-        | Sub::Prefixes
-        | Sub::Ranges => 1,
         Sub::Sim | Sub::Live => 2,
         Sub::Check => 3,
+        _ => 1,
     }
-}
-
-/// Whether the name of a file is none for standard input.
-fn is_no_dash(file: &str) -> bool
-    ensures { result ≡ is_no_dash file.now }
-{
-    file != "-"
 }
 
 /// Whether none of the files is standard input.
 fn are_named(files: &[String]) -> bool
     ensures { result ≡ list_all (λ file. is_no_dash (string_bytes file)) files.now }
 {
-    files.iter().all(|file| is_no_dash(file.as_str()))
+    files.iter().all(|file| file.as_str() != "-")
 }
 
 /// Whether the files are `-` alone, or one for each text with no `-` among them.
@@ -52,20 +39,12 @@ fn has_its_files(words: &Words) -> bool
         || (words.files.len() == texts_wanted(words.sub) && are_named(&words.files))
 }
 
-/// Whether the numbering may be that of a plan of this kind.
-fn fits_its_kind(words: &Words) -> bool
-    ensures { MatchBool result (FitsItsKind words.now) (FitsItsKind words.now → ⊥) }
-{
-    !words.has_order() || words.kind != Kind::Tree
-}
-
 /// That a tree takes another numbering than depth first.
 static TREE_NUMBERING: &str = "'--kind tree' takes '--numbering depth-first' alone";
 
 /// What is wrong with the numbering of the words, if anything is.
 fn numbering_fault(words: &Words) -> Option<&'static str>
-    ensures { MatchOption result (takes_numbering words.now.numbering words.now.kind (is_some words.now.root) ≡ true)
-        (λ _. takes_numbering words.now.numbering words.now.kind (is_some words.now.root) ≡ false) }
+    ensures { MatchOption result (has_its_numbering words.now ≡ true) (λ _. has_its_numbering words.now ≡ false) }
 {
     match &words.numbering {
         NumberingChoice::Tour if words.kind == Kind::Tree => Some(TREE_NUMBERING),
@@ -122,10 +101,10 @@ pub fn fault_of(called: Called, words: &Words) -> Option<&'static str>
     if let Some(fault) = drawing_fault(words) {
         return Some(fault);
     }
-    if fits_its_kind(words) {
-        None
-    } else {
+    if words.has_order() && words.kind == Kind::Tree {
         Some(TREE_NUMBERING)
+    } else {
+        None
     }
 }
 

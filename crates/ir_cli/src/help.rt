@@ -159,7 +159,7 @@ pub fn texts_of(called: Called) -> &'static HelpTexts
     }
 }
 
-/// How the words of a subcommand of several texts are to look; nothing for another, where it follows from the arguments.
+/// How the words of a subcommand of several texts are to look; nothing for another.
 pub fn usage_of(called: Called, sub: Sub) -> &'static str {
     let texts = texts_of(called);
     match sub {
@@ -184,43 +184,33 @@ pub fn lines_of(called: Called, sub: Sub) -> &'static str {
     }
 }
 
+/// The names of the subcommands, in their order.
+static NAMES: [&str; 10] = [
+    "plan", "walk", "stats", "compare", "draw", "prefixes", "ranges", "sim", "live", "check",
+];
+
+/// What they do, as help tells it.
+static ABOUTS: [&str; 10] = [
+    "Prints the labels and rows of a topology's nodes",
+    "Prints the walk from one node to another, and the interval by which each node sends on",
+    "Prints the figures of a topology's plan: its starts, its greatest row, its walks",
+    "Prints the figures of a topology's plans of all kinds and numberings, beside full tables",
+    "Prints a drawing of a topology's plan for Graphviz",
+    "Prints the fewest prefixes of labels by which each node sends on, for longest prefix match",
+    "Prints the fewest ranges of labels by which each node sends on, for tables that match ranges",
+    "Plays the lines of a script, and prints what became of its packets",
+    "Plays the lines of a script while each node runs in a thread of its own, and prints what became of its packets",
+    "Checks the rows of a trace against the walks that the script's plans prescribe",
+];
+
 /// The name of a subcommand.
 pub fn name_of(sub: Sub) -> &'static str
     ensures { result.now ≡ sub_word sub }
 {
-    match sub {
-        Sub::Plan => "plan",
-        Sub::Walk => "walk",
-        Sub::Stats => "stats",
-        Sub::Compare => "compare",
-        Sub::Draw => "draw",
-        Sub::Prefixes => "prefixes",
-        Sub::Ranges => "ranges",
-        Sub::Sim => "sim",
-        Sub::Live => "live",
-        Sub::Check => "check",
-    }
+    NAMES[sub as usize]
 }
 
 /// What a subcommand does, as help tells it.
 pub fn about_of(sub: Sub) -> &'static str {
-    match sub {
-        Sub::Plan => "Prints the labels and rows of a topology's nodes",
-        Sub::Walk =>
-            "Prints the walk from one node to another, and the interval by which each node sends on",
-        Sub::Stats =>
-            "Prints the figures of a topology's plan: its starts, its greatest row, its walks",
-        Sub::Compare =>
-            "Prints the figures of a topology's plans of all kinds and numberings, beside full tables",
-        Sub::Draw => "Prints a drawing of a topology's plan for Graphviz",
-        Sub::Prefixes =>
-            "Prints the fewest prefixes of labels by which each node sends on, for longest prefix match",
-        Sub::Ranges =>
-            "Prints the fewest ranges of labels by which each node sends on, for tables that match ranges",
-        Sub::Sim => "Plays the lines of a script, and prints what became of its packets",
-        Sub::Live =>
-            "Plays the lines of a script while each node runs in a thread of its own, and prints what became of its packets",
-        Sub::Check =>
-            "Checks the rows of a trace against the walks that the script's plans prescribe",
-    }
+    ABOUTS[sub as usize]
 }

@@ -1,5 +1,4 @@
-//! What a run of the program is told and what it tells: the words of the command line, the reading of the inputs, and the
-//! lines and the endings of its replies.
+//! The words of the command line, the reading of the inputs, and the lines and endings of replies.
 #![tactic(auto)]
 
 mod command;

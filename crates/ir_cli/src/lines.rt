@@ -1,11 +1,11 @@
 //! The lines that tell of a refusal, and of an input that was not read.
 ghost use Rattle.std.specs.Prelude.{◌≡◌, ◌++◌, IfOk, OnOk, string_bytes};
-ghost use Rattle.ir_cli.specs.Lines.{numbered_line, ok_line, opening_line, refused_line, steps_text, too_large_line, unreadable_line};
+ghost use Rattle.ir_cli.specs.Lines.{numbered_line, refused_line, steps_text, too_large_line, unreadable_line};
 ghost use Rattle.ir_cli.specs.Notices.{notice_line};
 
 use crate::notice::Notice;
 use crate::read::Source;
-use ir_core::{OpenError, Refused};
+use ir_core::Refused;
 use std::alloc::{AllocError, Global};
 
 /// The words of the faults of a topology, in the order of their numbers, which are counted from 1.
@@ -135,21 +135,6 @@ pub fn too_large_line(source: Source) -> &'static str
     }
 }
 
-/// The line of a trace with so many rows and no finding.
-fn ok_line(alloc: Global, rows: usize) -> Result<String, AllocError>
-    ensures { IfOk result (λ text. string_bytes text ≡ ok_line rows) }
-{
-    format!(in alloc; "ok {rows}\n")
-}
-
-/// The line of a refused opening.
-fn opening_line(alloc: Global, error: OpenError) -> Result<String, AllocError>
-    ensures { IfOk result (λ text. string_bytes text ≡ opening_line error) }
-{
-    let name = OPENINGS[error.code() as usize - 1];
-    format!(in alloc; "opening {name}\n")
-}
-
 /// The line of a notice.
 pub fn notice_line(alloc: Global, notice: Notice) -> Result<String, AllocError>
     ensures { IfOk result (λ text. string_bytes text ≡ notice_line notice) }
@@ -160,10 +145,12 @@ pub fn notice_line(alloc: Global, notice: Notice) -> Result<String, AllocError>
         Notice::Topology(e) => line_of(alloc, "topology", e.line, FAULTS[e.kind as usize - 1]),
         Notice::Script(e) => line_of(alloc, "script", e.line, SCRIPT_FAULTS[e.kind as usize - 1]),
         Notice::Numbering(e) => { line_of(alloc, "numbering", e.line, ORDERS[e.kind as usize - 1]) }
-        Notice::Opening(error) => opening_line(alloc, error),
+        Notice::Opening(error) => {
+            format!(in alloc; "opening {}\n", OPENINGS[error.code() as usize - 1])
+        }
         Notice::Finding(f) => line_of(alloc, "finding", f.line, FINDINGS[f.kind as usize - 1]),
         Notice::Beside(f) => line_of(alloc, "finding", f.line, BESIDE_SCRIPT[f.kind as usize - 1]),
-        Notice::Sound(rows) => ok_line(alloc, rows),
+        Notice::Sound(rows) => format!(in alloc; "ok {rows}\n"),
         Notice::Unwritable => String::from_str(alloc, "output unwritable\n"),
         Notice::NoMemory => String::from_str(alloc, "out of memory\n"),
         Notice::NoThread => String::from_str(alloc, "no thread\n"),

@@ -57,8 +57,8 @@ pub fn label_order(numbering: &NumberingChoice) -> LabelOrder
     }
 }
 
-/// What the words ask for a run over a topology to be opened with, with the root of this number. It is refused for memory
-/// alone.
+/// What a run over a topology is opened with, by the words and this root's number. Memory alone
+/// refuses it.
 pub fn opening_of(
     alloc: Global,
     words: &Words,

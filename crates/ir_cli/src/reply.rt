@@ -66,12 +66,8 @@ pub fn tell_unread<F: Writer>(faults: &mut F, source: Source, why: NoInput) -> R
             tell_fault(faults, Ending::TooLarge, Notice::TooLarge(source), line)
         }
         NoInput::NoMemory => {
-            tell_fault(
-                faults,
-                Ending::NoMemory,
-                Notice::NoMemory,
-                "out of memory\n",
-            )
+            let line = "out of memory\n";
+            tell_fault(faults, Ending::NoMemory, Notice::NoMemory, line)
         }
     }
 }

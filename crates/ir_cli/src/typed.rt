@@ -1,9 +1,9 @@
 //! What was typed for the options, flags and files of a subcommand, as the fields of its words.
 
-ghost use Rattle.std.specs.Prelude.{◌≡◌, ◌≢◌, ◌<◌, ◌++◌, ℕ, Option, Some, IfOk, IfSome, MatchOption, OnOk, codes, map, option_map, option_to_list, string_bytes, unwrap_or};
+ghost use Rattle.std.specs.Prelude.{◌≡◌, ◌≢◌, ◌<◌, ◌++◌, ℕ, Option, Some, IfOk, MatchOption, OnOk, codes, map, option_map, option_to_list, string_bytes, unwrap_or};
 ghost use Rattle.clap.specs.Words.{first_of, found_of, rows_of};
 ghost use Rattle.ir_model.specs.declared.Kind.{Kind};
-ghost use Rattle.ir_cli.specs.Meaning.{IsFormat, IsNumber, IsNumberElse, IsNumbering, IsSecond, files_in, first_kind, is_set, kind_word, numbering_word, second_kind, second_root, second_word};
+ghost use Rattle.ir_cli.specs.Meaning.{IsFormat, IsNumber, IsNumberElse, IsNumbering, IsSecond, files_in, is_set, kind_word, numbering_word, second_kind, second_root, second_word};
 ghost use Rattle.ir_cli.specs.CommandLine.{sub_word};
 ghost use Rattle.ir_cli.specs.Typed.{AreTyped};
 ghost use Rattle.ir_cli.specs.declared.typed.Chosen.{Chosen};
@@ -48,32 +48,19 @@ pub fn is_set(found: &ArgMatches<'_>, name: &str) -> bool
     }
 }
 
-/// The number of an option, if it is one in this range.
-fn number_of(found: &ArgMatches<'_>, name: &str, least: usize, most: usize) -> Option<usize>
-    ensures { MatchOption result ((n : ℕ) → IsNumber name.now (rows_of (found_of found.now)) least most (Some n) → ⊥)
-        (λ n. IsNumber name.now (rows_of (found_of found.now)) least most (Some n)) }
-{
-    let number = found.get_one::<usize>(name)?;
-    if least <= number && number <= most {
-        Some(number)
-    } else {
-        None
-    }
-}
-
-/// The same, and none where the option is not given.
-fn number_if_given(
-    found: &ArgMatches<'_>,
-    name: &str,
-    least: usize,
-    most: usize,
-) -> Option<Option<usize>>
+/// The number of an option, if it is one in this range, and none where the option is not given.
+fn number_in(found: &ArgMatches<'_>, name: &str, least: usize, most: usize) -> Option<Option<usize>>
     ensures { MatchOption result ((n : Option ℕ) → IsNumber name.now (rows_of (found_of found.now)) least most n → ⊥)
         (λ n. IsNumber name.now (rows_of (found_of found.now)) least most n) }
 {
-    match typed(found, name) {
-        Some(_) => Some(Some(number_of(found, name, least, most)?)),
-        None => Some(None),
+    let Some(_) = typed(found, name) else {
+        return Some(None);
+    };
+    let number = found.get_one::<usize>(name)?;
+    if least <= number && number <= most {
+        Some(Some(number))
+    } else {
+        None
     }
 }
 
@@ -88,10 +75,8 @@ fn number_or(
     ensures { MatchOption result ((n : ℕ) → IsNumberElse name.now (rows_of (found_of found.now)) least most other n → ⊥)
         (λ n. IsNumberElse name.now (rows_of (found_of found.now)) least most other n) }
 {
-    match number_if_given(found, name, least, most)? {
-        Some(number) => Some(number),
-        None => Some(other),
-    }
+    let number = number_in(found, name, least, most)?;
+    Some(number.unwrap_or(other))
 }
 
 /// The subcommand of a name.
@@ -123,14 +108,6 @@ fn kind_in(word: &str) -> Option<Kind>
         "compact" => Some(Kind::Compact),
         _ => None,
     }
-}
-
-/// The kind that is named, else that of shortest ways, as where the subcommand takes none.
-fn kind_of(found: &ArgMatches<'_>) -> Option<Kind>
-    ensures { MatchOption result ((kind : Kind) → kind_word kind ≢ first_kind (rows_of (found_of found.now)))
-        (λ kind. kind_word kind ≡ first_kind (rows_of (found_of found.now))) }
-{
-    kind_in(typed(found, "kind").unwrap_or("shortest"))
 }
 
 /// The word of a second plan as its kind and the name of its root, if that stands behind a comma.
@@ -211,17 +188,6 @@ pub fn files_of(alloc: Global, found: &ArgMatches<'_>) -> Result<Vec<String>, Al
     Ok(files)
 }
 
-/// A few restamps; none where there is no number.
-fn few(number: Option<usize>) -> u8
-    requires { IfSome number (λ n. n < 256) }
-    ensures { result ≡ unwrap_or number 0 }
-{
-    match number {
-        Some(number) => number as u8,
-        None => 0,
-    }
-}
-
 /// What is chosen or counted.
 #[derive(Clone, Copy)]
 pub struct Chosen {
@@ -240,14 +206,13 @@ pub fn choose(name: &str, found: &ArgMatches<'_>) -> Option<Chosen>
     ensures { MatchOption result ((all : Chosen) → AreTyped name.now (rows_of (found_of found.now)) all → ⊥)
         (λ all. AreTyped name.now (rows_of (found_of found.now)) all) }
 {
-    let restamps = number_if_given(found, "restamps", 0, MAX_RESTAMPS)?;
     Some(Chosen {
         sub: sub_of(name)?,
         format: format_of(found)?,
-        kind: kind_of(found)?,
+        kind: kind_in(typed(found, "kind").unwrap_or("shortest"))?,
         capacity: number_or(found, "capacity", 1, MAX_CAPACITY, 16)?,
         packets: number_or(found, "packets", 1, MAX_PACKETS, 4096)?,
-        restamps: few(restamps),
-        threads: number_if_given(found, "threads", 1, MAX_THREADS as usize)?,
+        restamps: number_or(found, "restamps", 0, MAX_RESTAMPS, 0)? as u8,
+        threads: number_in(found, "threads", 1, MAX_THREADS as usize)?,
     })
 }

@@ -5,7 +5,7 @@ ghost use Rattle.clap.specs.Words.{found_of, kind_of, rows_of, subcommand_rows_o
 ghost use Rattle.clap.specs.Walk.{texts};
 ghost use Rattle.clap.specs.declared.error.kind.ErrorKind.TheVariants.{DisplayHelp, DisplayVersion, OutOfMemory};
 ghost use Rattle.ir_cli.specs.Words.{AreTaken, FitsItsKind, file_at, format_of_name, order_name, is_one_input, has_order, words_code};
-ghost use Rattle.ir_cli.specs.Meaning.{Asks, AsksAs, HasItsSecond, Means, MeansMet};
+ghost use Rattle.ir_cli.specs.Meaning.{Asks, AsksAs, Means, MeansMet};
 ghost use Rattle.ir_cli.specs.Refusals.{AsksForHelp, AsksForHelpAs, FailsOn, IsMistake, NoneAsked, RefusesAs, RefusesWords};
 ghost use Rattle.ir_cli.specs.CommandLine.{name_of};
 ghost use Rattle.ir_cli.specs.declared.words.Words.{Words};
@@ -62,10 +62,9 @@ pub struct Second {
     pub root: Option<String>,
 }
 
-/// What the words ask for. The files are the one word `-`, which stands for standard input with all texts, or else one
-/// for each text: the topology for `plan`, `walk`, `stats`, `compare`, `draw`, `prefixes` and `ranges`, the topology and
-/// the script for `sim` and `live`, and the trace too for `check`. No other number of files is read, and `-` beside another
-/// file is refused.
+/// What the words ask for. The files are the one word `-`, standard input with all texts, or else
+/// one for each text: the topology, for `sim`, `live` and `check` the script, and for `check` the
+/// trace. Another number of files is refused, and so is `-` beside another file.
 #[derive(Drop)]
 pub struct Words {
     pub sub: Sub,
@@ -73,8 +72,7 @@ pub struct Words {
     pub kind: Kind,
     /// The name of the root; the first node where there is none.
     pub root: Option<String>,
-    /// Other than depth first where the kind is not Tree alone; a file's for `plan`, `walk`, `stats`, `draw`, `prefixes` and
-    /// `ranges` alone, where no root is named.
+    /// Depth first for kind Tree. A file's only where a plan is shown, and no root is named.
     pub numbering: NumberingChoice,
     /// The capacity of each channel and inbox, from 1 to 1,024.
     pub capacity: usize,
@@ -82,17 +80,16 @@ pub struct Words {
     pub packets: usize,
     /// The most restamps of a packet, from 0 to 3.
     pub restamps: u8,
-    /// The most threads that make the rows of a plan, from 1 to 256; as many as suit the processors where there is none.
+    /// The most threads that make rows, from 1 to 256; without it as many as suit the processors.
     pub threads: Option<usize>,
-    /// The names of the nodes that a walk goes from and to: both for `walk`, both or none for `draw`, and none beside `node`.
+    /// The names of a walk's ends: both for `walk`, both or none for `draw`, none beside `node`.
     pub from: Option<String>,
     pub to: Option<String>,
     /// The name of the node whose intervals are drawn in place of the topology, for `draw`.
     pub node: Option<String>,
     /// Whether they are drawn as SVG, beside `node` alone.
     pub svg: bool,
-    /// The plan whose packets may be under way beside those of the first, for `stats`. Its root is that of the first where the
-    /// words name none for it.
+    /// The plan beside the first, for `stats`; its root is by default that of the first.
     pub second: Option<Second>,
     /// Whether no number is to match two lines of a node, for `prefixes`.
     pub disjoint: bool,
@@ -143,10 +140,7 @@ impl Words {
     pub fn has_order(&self) -> bool
         ensures { result ≡ has_order self.now }
     {
-        match self.numbering {
-            NumberingChoice::DepthFirst | NumberingChoice::Tour => false,
-            NumberingChoice::File(_) => true,
-        }
+        matches!(self.numbering, NumberingChoice::File(_))
     }
 }
 
@@ -205,8 +199,7 @@ fn refused(alloc: Global, error: &clap::Error) -> WordsError
     }
 }
 
-/// The format of a file by its name: that of edge lists where it ends in `.edgelist`, as `.weighted.edgelist` does, or in
-/// `.wel`, else that of adjacency lists.
+/// The format of a file by its name: edge lists end in `.edgelist` or `.wel`.
 pub(crate) fn format_of_file(name: &str) -> Format
     ensures { result ≡ format_of_name name.now }
 {
@@ -221,7 +214,7 @@ pub(crate) fn format_of_file(name: &str) -> Format
 /// What stands for words that the parser took and that are not read, of which there are none.
 static UNREAD: &str = "error: the words are not read\n";
 
-/// The words of a subcommand of this name. No words that the parser takes have a name or a number that is not taken here.
+/// The words of a subcommand of this name. All words that the parser takes are taken here.
 fn words_of(alloc: Global, name: &str, found: &ArgMatches<'_>) -> Result<Words, WordsError>
     ensures means { IfOk result (λ words. Means name.now (rows_of (found_of found.now)) words) }
     ensures refused { IfErr result (FailsOn
@@ -256,29 +249,6 @@ fn words_of(alloc: Global, name: &str, found: &ArgMatches<'_>) -> Result<Words, 
     })
 }
 
-/// The words of a subcommand's name and its matches, if nothing is wrong with them.
-fn words_found(
-    alloc: Global,
-    called: Called,
-    name: &str,
-    found: &ArgMatches<'_>,
-) -> Result<Words, WordsError>
-    ensures kind { IfOk result (λ words. FitsItsKind words) }
-    ensures taken { IfOk result (λ words. AreTaken words) }
-    ensures means { IfOk result (λ words. Means name.now (rows_of (found_of found.now)) words) }
-    ensures second { IfOk result (λ words. HasItsSecond (rows_of (found_of found.now)) words) }
-    ensures refused { IfErr result (FailsOn (NoneAsked (Some (name.now, rows_of (found_of found.now)))) ⊥) }
-{
-    let words = words_of(alloc, name, found)?;
-    if let Some(fault) = second_fault(found, &words) {
-        return Err(WordsError::Usage(fault_text(alloc, called, &words, name, fault)?));
-    }
-    match fault_of(called, &words) {
-        None => Ok(words),
-        Some(fault) => Err(WordsError::Usage(fault_text(alloc, called, &words, name, fault)?)),
-    }
-}
-
 /// The words of the subcommand that was met, if nothing is wrong with them.
 fn words_met(alloc: Global, called: Called, found: &ArgMatches<'_>) -> Result<Words, WordsError>
     ensures kind { IfOk result (λ words. FitsItsKind words) }
@@ -286,9 +256,16 @@ fn words_met(alloc: Global, called: Called, found: &ArgMatches<'_>) -> Result<Wo
     ensures means { IfOk result (λ words. MeansMet (subcommand_rows_of found.now) words) }
     ensures refused { IfErr result (FailsOn (NoneAsked (subcommand_rows_of found.now)) ⊥) }
 {
-    match found.subcommand() {
-        Some((name, inner)) => words_found(alloc, called, name, inner),
-        None => Err(WordsError::Usage(String::from_str(alloc, UNREAD)?)),
+    let Some((name, inner)) = found.subcommand() else {
+        return Err(WordsError::Usage(String::from_str(alloc, UNREAD)?));
+    };
+    let words = words_of(alloc, name, inner)?;
+    if let Some(fault) = second_fault(inner, &words) {
+        return Err(WordsError::Usage(fault_text(alloc, called, &words, name, fault)?));
+    }
+    match fault_of(called, &words) {
+        None => Ok(words),
+        Some(fault) => Err(WordsError::Usage(fault_text(alloc, called, &words, name, fault)?)),
     }
 }
 
@@ -308,10 +285,11 @@ fn all_words<'a>(
     Ok(all)
 }
 
-/// What the words behind the program's name ask for, where it is called so. Words that are refused give the text for standard
-/// error, `--help` and `--version` the text for standard output. Refused are also a number of files that the subcommand does
-/// not take, and `-` beside another file; a numbering other than depth first of a tree; a file's numbering beside a root, on
-/// standard input, or of a run; a second plan of no kind; a drawn walk with one end, a node beside one, and SVG of no node.
+/// What the words behind the program's name ask for. Words that are refused give the text for
+/// standard error, `--help` and `--version` that for standard output. Besides what the parser
+/// refuses: a number of files that the subcommand does not take, and `-` beside another file; a
+/// numbering other than depth first of a tree; a file's numbering beside a root, on standard input,
+/// or of a run; a second plan of no kind; a drawn walk with one end, a node beside one, SVG of none.
 pub fn read_words_as(alloc: Global, called: Called, words: &[String]) -> Result<Words, WordsError>
     ensures kind { IfOk result (λ words. FitsItsKind words) }
     ensures taken { IfOk result (λ words. AreTaken words) }

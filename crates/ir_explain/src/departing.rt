@@ -3,6 +3,7 @@ ghost use Rattle.std.specs.Prelude.{◌≡◌, IfOk, IfSome};
 ghost use Rattle.ir_model.specs.{Topology.node_count, OfGraph.topology_of_graph};
 ghost use Rattle.ir_trace.specs.Checked.{AreInstalls, AreRowsOver};
 
+use crate::sentence::Pushed;
 use crate::texts::RunTexts;
 use ir_cli::{opening_of, root_of};
 use ir_core::{Install, OpenError, installs_by};
@@ -58,7 +59,7 @@ fn push_stray(
     place: usize,
     hop: usize,
     next: Option<u16>,
-) -> Result<(), AllocError> {
+) -> Pushed {
     let (epoch, number, is) = (
         walk.epoch(place),
         hop.saturating_add(1),
@@ -82,11 +83,7 @@ fn push_stray(
 }
 
 /// Says that the plan of the last segment does not go on as the fate says.
-fn push_unsaid(
-    text: &mut String,
-    walk: TracedWalk<'_>,
-    next: Option<u16>,
-) -> Result<(), AllocError> {
+fn push_unsaid(text: &mut String, walk: TracedWalk<'_>, next: Option<u16>) -> Pushed {
     let place = walk.segments.len().saturating_sub(1);
     let end = walk.hop(place, walk.hops(place).len().saturating_sub(1));
     match next {
@@ -105,7 +102,7 @@ fn push_unsaid(
 }
 
 /// Says where segments leave the walks of their epochs.
-fn push_found(text: &mut String, walk: TracedWalk<'_>, found: Departure) -> Result<(), AllocError> {
+fn push_found(text: &mut String, walk: TracedWalk<'_>, found: Departure) -> Pushed {
     match found {
         Departure::Epoch { segment } => {
             let (epoch, before) = (walk.epoch(segment), walk.epoch(segment.saturating_sub(1)));
@@ -126,8 +123,8 @@ fn push_found(text: &mut String, walk: TracedWalk<'_>, found: Departure) -> Resu
     }
 }
 
-/// The installs of the run's script over the opening that its words ask for, the plans made by a crew; none where either
-/// is refused.
+/// The installs of the run's script, their plans made by a crew; none where script or root is
+/// refused.
 fn installs_of(
     crew: &impl Crew,
     run: &RunTexts<'_>,
@@ -163,8 +160,8 @@ fn trace_of(alloc: Global, graph: &Graph, text: &[u8]) -> Result<Option<Trace>, 
     }
 }
 
-/// Says where the row on a line of the trace leaves the walks of its epochs, whose plans a crew makes. Answers whether it
-/// was said: not where the script or the trace is refused, or the row leaves none.
+/// Says where the row on a line of the trace leaves the walks of its epochs, whose plans a crew
+/// makes. Returns whether it was said: not where script or trace is refused, or the row leaves none.
 pub fn push_departure_by(
     crew: &impl Crew,
     text: &mut String,

@@ -5,9 +5,9 @@ use crate::finding::{push_beside, push_finding};
 use crate::notes::push_note;
 use crate::numbering::push_numbering;
 use crate::opening::push_opening;
-use crate::refusal::explain_refusal;
+use crate::refusal::push_refusal;
 use crate::script::push_script;
-use crate::sentence::begin;
+use crate::sentence::{Pushed, begin};
 use crate::texts::{Given, RunTexts, Trouble, graph_of, texts_of};
 use crate::topology::push_topology;
 use crate::unlearnt::push_unlearnt;
@@ -28,7 +28,7 @@ fn unread(trouble: Trouble) -> &'static str {
 }
 
 /// Says which output was not written.
-fn push_unwritten(text: &mut String, words: &Words) -> Result<(), AllocError> {
+fn push_unwritten(text: &mut String, words: &Words) -> Pushed {
     match &words.output {
         Some(file) if file.as_str() != "-" => begin(text, file.as_str())?,
         _ => text.push_str("route: standard output: ")?,
@@ -46,12 +46,7 @@ fn unseen(words: &Words) -> &'static str {
 }
 
 /// Explains a notice.
-fn explain_notice(
-    crew: &impl Crew,
-    text: &mut String,
-    run: &RunTexts<'_>,
-    notice: Notice,
-) -> Result<(), AllocError> {
+fn push_notice(crew: &impl Crew, text: &mut String, run: &RunTexts<'_>, notice: Notice) -> Pushed {
     let texts = &run.texts;
     match notice {
         Notice::Unreadable(source) => {
@@ -91,12 +86,12 @@ fn explain_steps(
     run: &RunTexts<'_>,
     steps: &[(usize, Refused)],
     is_kept: bool,
-) -> Result<(), AllocError> {
+) -> Pushed {
     for (place, (line, refusal)) in steps.iter().enumerate() {
         if place == MOST_EXPLAINED {
             return text.push_str(FURTHER);
         }
-        explain_refusal(text, run, *line, *refusal)?;
+        push_refusal(text, run, *line, *refusal)?;
     }
     if is_kept {
         Ok(())
@@ -115,37 +110,21 @@ fn explain_outcome(
     run: &RunTexts<'_>,
     outcome: &RunOutcome,
     is_kept: bool,
-) -> Result<(), AllocError> {
+) -> Pushed {
     match &outcome.told {
         Told::Steps(steps) => explain_steps(text, run, steps.as_slice(), is_kept)?,
-        Told::Fault(notice) => explain_notice(crew, text, run, *notice)?,
+        Told::Fault(notice) => push_notice(crew, text, run, *notice)?,
     }
     match outcome.found {
-        Some(notice) => explain_notice(crew, text, run, notice),
+        Some(notice) => push_notice(crew, text, run, notice),
         None => Ok(()),
     }
 }
 
-/// Whether an outcome has nothing to explain.
-fn is_silent(outcome: &RunOutcome, is_kept: bool) -> bool {
-    match &outcome.told {
-        Told::Steps(steps) => steps.is_empty() && is_kept && outcome.found.is_none(),
-        Told::Fault(_) => false,
-    }
-}
-
-/// Whether the steps of a script were played, and that is the first that was told.
-fn was_played(outcome: &RunOutcome, is_kept: bool) -> bool {
-    match &outcome.told {
-        Told::Steps(steps) => is_kept || !steps.is_empty(),
-        Told::Fault(_) => false,
-    }
-}
-
-/// The explanation of a run: a line `route: ..` for each step that was refused, for why it ended and for what a check found,
-/// one for a topology that looks like another format, and one for a packet of a simulation whose install was not learnt.
-/// `given` is what was given of the inputs, in their order. Refused for want of memory alone. Where there is something to
-/// explain, it reads the topology once more. For users of the library.
+/// The explanation of a run: a line `route: ..` for each refused step, for why it ended and for what
+/// a check found, for a topology that looks like another format, and for a packet of a simulation
+/// whose install was not learnt. `given` has what was read of the inputs, in their order. Refused
+/// for want of memory alone. For users of the library.
 pub fn explanation(
     alloc: Global,
     words: &Words,
@@ -155,8 +134,7 @@ pub fn explanation(
     explanation_by(&Alone, alloc, words, given, outcome, true)
 }
 
-/// What `explanation` answers, where it is told too whether the output came to its place; plans by which it finds where a
-/// row leaves its walks are made by a crew.
+/// The same, told too whether the output came to its place; a crew makes the plans that it needs.
 pub fn explanation_by(
     crew: &impl Crew,
     alloc: Global,
@@ -167,7 +145,11 @@ pub fn explanation_by(
 ) -> Result<String, AllocError> {
     let texts = texts_of(words, given);
     let mut text = String::new(alloc);
-    if !is_silent(outcome, is_kept) {
+    let (has_steps, has_fault) = match &outcome.told {
+        Told::Steps(steps) => (!steps.is_empty(), false),
+        Told::Fault(_) => (false, true),
+    };
+    if has_steps || has_fault || !is_kept || outcome.found.is_some() {
         let graph = &graph_of(alloc, words, &texts.topology)?;
         let run = RunTexts {
             alloc,
@@ -178,7 +160,7 @@ pub fn explanation_by(
         explain_outcome(crew, &mut text, &run, outcome, is_kept)?;
     }
     push_note(alloc, &mut text, words, &texts.topology)?;
-    if words.sub == Sub::Sim && was_played(outcome, is_kept) {
+    if words.sub == Sub::Sim && !has_fault && (is_kept || has_steps) {
         push_unlearnt(alloc, &mut text, &texts.script)?;
     }
     Ok(text)

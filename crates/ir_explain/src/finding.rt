@@ -1,72 +1,50 @@
 //! What a finding in a trace means.
+ghost use Rattle.std.specs.Prelude.{◌≤◌};
 
 use crate::departing::push_departure_by;
 use crate::lines::{line_at, line_with, word_at, words_of};
 use crate::script::{push_no_node, unknown_word};
-use crate::sentence::{FileName, Quoted, begin_at};
+use crate::sentence::{FileName, Pushed, Quoted, begin_at};
 use crate::texts::{GivenText, RunTexts};
 use ir_plan::Crew;
 use ir_trace::{Finding, FindingKind};
 use ir_whole::{WholeFinding, WholeKind};
-use std::alloc::AllocError;
 
 static MEMORY: &str = "memory was refused while the trace was checked";
+
+static UNFOLLOWED: &str =
+    "the hops leave the walk that the plan of their epoch prescribes, or stop where the fate does not say so";
 
 /// Whether rows have their epochs before their hops, as those of `trace 2`, and not behind their ids.
 fn has_segments(trace: &GivenText<'_>) -> bool {
     trace.bytes.starts_with(b"trace 2\n".as_slice())
 }
 
-/// The places of the source, the destination and the weight among the words of a row.
-fn places(trace: &GivenText<'_>) -> [usize; 3] {
-    if has_segments(trace) {
-        [1, 2, 3]
-    } else {
-        [2, 3, 4]
-    }
+/// The place of the source among the words of a row; destination and weight stand behind it.
+fn source_place(trace: &GivenText<'_>) -> usize
+    ensures { result ≤ 2 }
+{
+    if has_segments(trace) { 1 } else { 2 }
 }
 
 /// Says which end of a row names no node, or that two of its hops are not linked.
-fn push_unknown_node(
-    text: &mut String,
-    run: &RunTexts<'_>,
-    words: &[&[u8]],
-) -> Result<(), AllocError> {
-    let places = places(&run.texts.trace);
-    let end = unknown_word(run.graph, words, &places[..2]);
+fn push_unknown_node(text: &mut String, run: &RunTexts<'_>, words: &[&[u8]]) -> Pushed {
+    let place = source_place(&run.texts.trace);
+    let end = unknown_word(run.graph, words, &[place, place + 1]);
     if end.is_empty() {
         return text.push_str("a hop of it is no node, or no link leads there from the hop before");
     }
     push_no_node(text, run, end)
 }
 
-/// Says where the row on a line leaves the walks of its epochs, or else that it does.
-fn push_unfollowed(
-    crew: &impl Crew,
-    text: &mut String,
-    run: &RunTexts<'_>,
-    line: usize,
-) -> Result<(), AllocError> {
-    if push_departure_by(crew, text, run, line)? {
-        return Ok(());
-    }
-    text.push_str(
-        "the hops leave the walk that the plan of their epoch prescribes, or stop where the fate does not say so",
-    )
-}
-
-/// Begins a sentence on a line of the trace by its row, as it stands: a trace has no comments, and `#` begins a segment.
-fn begin_row(text: &mut String, run: &RunTexts<'_>, line: usize) -> Result<(), AllocError> {
+/// Begins a sentence on a line of the trace by its whole row: a trace has no comments.
+fn begin_row(text: &mut String, run: &RunTexts<'_>, line: usize) -> Pushed {
     begin_at(text, &run.texts.trace, line)?;
     write!(text, "{}: ", Quoted(line_at(run.texts.trace.bytes, line)))
 }
 
 /// Says why no run of the script can have had a row.
-pub fn push_beside(
-    text: &mut String,
-    run: &RunTexts<'_>,
-    finding: WholeFinding,
-) -> Result<(), AllocError> {
+pub fn push_beside(text: &mut String, run: &RunTexts<'_>, finding: WholeFinding) -> Pushed {
     begin_row(text, run, finding.line)?;
     let (script, capacity) = (FileName(run.texts.script.file), run.words.capacity);
     match finding.kind {
@@ -94,7 +72,7 @@ pub fn push_finding(
     text: &mut String,
     run: &RunTexts<'_>,
     finding: Finding,
-) -> Result<(), AllocError> {
+) -> Pushed {
     let trace = &run.texts.trace;
     let found = words_of(run.alloc, line_at(trace.bytes, finding.line))?;
     let words = found.as_slice();
@@ -113,12 +91,13 @@ pub fn push_finding(
         FindingKind::UnknownEpoch => {
             write!(text, "the run has no epoch {}", Quoted(word_at(words, 1)))
         }
-        FindingKind::NotAPrefix => push_unfollowed(crew, text, run, finding.line),
+        FindingKind::NotAPrefix if push_departure_by(crew, text, run, finding.line)? => Ok(()),
+        FindingKind::NotAPrefix => text.push_str(UNFOLLOWED),
         FindingKind::NotAtDestination => {
             text.push_str("it says delivered, and the walk goes on behind its last hop")
         }
         FindingKind::BadWeight => {
-            let weight = Quoted(word_at(words, places(trace)[2]));
+            let weight = Quoted(word_at(words, source_place(trace) + 2));
             write!(text, "{weight} is not the weight of its hops")
         }
         FindingKind::Repeated => {

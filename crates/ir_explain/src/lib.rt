@@ -1,8 +1,8 @@
-//! Sentences for people behind the lines of faults: which file, which line and word, what was wanted and what stands there.
+//! Sentences for people behind the lines of faults: which file, line and word, and what was wanted.
 //!
-//! The lines themselves are short and never change, since scripts read them. `explanation` has what a run came to as values
-//! (`RunOutcome` of `ir_cli`), beside the texts of the inputs, and writes a line `route: ..` for each. Each match over a kind of
-//! fault is total, so that one without a sentence does not compile. Nothing here reads or writes anything but memory.
+//! `explanation` takes what a run came to as values (`RunOutcome` of `ir_cli`), beside the texts of
+//! the inputs, and writes a line `route: ..` for each. Each match over a kind of fault is total, so
+//! that one without a sentence does not compile. Nothing here reads or writes files.
 #![tactic(auto)]
 
 mod departing;

@@ -1,6 +1,5 @@
-//! The limits and defaults that the manual page, README.md and the other documents tell, written once more as numbers: laws,
-//! each a clause of a function with an empty body, of the constants that definitions and code have for them. A constant
-//! that is changed alone is refused here.
+//! The limits and defaults that documents tell, once more as numbers: each is a clause of a function
+//! with an empty body. A constant that is changed alone is refused here.
 ghost use Rattle.std.specs.Prelude.{◌≡◌, codes};
 ghost use Rattle.ir_model.specs.declared.TheConstants as graphs;
 ghost use Rattle.ir_plan.specs.declared.TheConstants as plans;
@@ -11,9 +10,8 @@ ghost use Rattle.ir_trace.specs.declared.TheConstants as traces;
 ghost use Rattle.ir_cli.specs.declared.TheConstants as words;
 ghost use Rattle.ir_explain.specs.declared.TheConstants as sentences;
 
-/// Texts: the most nodes and edges of a topology, bytes of a name, and weight of an edge; the most digits of a number in a
-/// script, and the greatest one; the greatest number in a trace, and the most segments of a row; the most bytes of an input,
-/// calls that read it, tries of a write, and bytes of a part that is written.
+/// Limits of texts: of topologies, names and weights, of numbers in scripts and traces, of segments
+/// of a row, and of reading and writing.
 pub fn limits_of_texts()
     ensures nodes { graphs.MAX_NODES ≡ 16384 }
     ensures edges { graphs.MAX_EDGES ≡ 65536 }
@@ -29,8 +27,7 @@ pub fn limits_of_texts()
     ensures part { streams.PART_BYTES ≡ 1048576 }
 {}
 
-/// Runs: the most nodes whose tour is sought, and sweeps that shorten it; the most nodes and links where packets travel,
-/// restamps of a packet, packets of a channel, packets of a run, epochs, and changes of the board.
+/// Limits of runs: of tours, and of networks where packets travel, their packets and epochs.
 pub fn limits_of_runs()
     ensures tour { plans.MOST_TOUR_NODES ≡ 4096 }
     ensures sweeps { plans.MOST_SWEEPS ≡ 16 }
@@ -43,9 +40,7 @@ pub fn limits_of_runs()
     ensures changes { runs.MAX_CHANGES ≡ 65535 }
 {}
 
-/// Words: the most threads of a plan, and what the capacity, the packets and the restamps are where the words tell none;
-/// the most bytes of a text that are quoted, lines of faults that are explained, names that are compared with one that is
-/// none, and letters by which they may differ.
+/// Limits and defaults of words, and the limits of sentences.
 pub fn limits_of_words()
     ensures threads { words.MAX_THREADS ≡ 256 }
     ensures capacity { words.DEFAULT_CAPACITY.now ≡ codes "16" }

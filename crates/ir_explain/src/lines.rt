@@ -40,10 +40,7 @@ pub fn line_at(text: &[u8], number: usize) -> &[u8]
 
 /// The first word of a line, without its comment; nothing where it has none.
 pub fn first_word(line: &[u8]) -> &[u8] {
-    match scan::next_word(scan::without_comment(line)) {
-        Some((word, _rest)) => word,
-        None => &[],
-    }
+    scan::next_word(scan::without_comment(line)).map_or(&[], |found| found.0)
 }
 
 /// The first line of a text behind so many that begins with a word, counted from 1; 0 where there is none.
@@ -76,10 +73,7 @@ pub fn words_of<'a>(alloc: Global, line: &'a [u8]) -> Result<Vec<&'a [u8]>, Allo
 
 /// The word at a place, from 0; nothing where there is none.
 pub fn word_at<'a>(words: &[&'a [u8]], place: usize) -> &'a [u8] {
-    match words.get(place) {
-        Some(word) => *word,
-        None => &[],
-    }
+    words.get(place).copied().unwrap_or(&[])
 }
 
 /// A word as text; nothing where it is none.

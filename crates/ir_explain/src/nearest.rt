@@ -1,5 +1,6 @@
 //! The name that a word may have meant.
 
+use crate::sentence::Pushed;
 use crate::{MOST_EDITS, MOST_NAMES};
 use ir_adjlist::digits::all_digits;
 use ir_graph::Graph;
@@ -10,8 +11,7 @@ use strsim::generic_levenshtein;
 /// A name, and how many edits lead to it.
 type Near<'a> = Option<(usize, &'a str)>;
 
-/// What is nearer to a word: what was found, or a further name. Nothing is near to a number, which is one edit away from
-/// many others.
+/// What is nearer to a word: what was found, or a further name. Nothing is near to a number.
 fn nearer<'a>(
     alloc: Global,
     word: &[u8],
@@ -59,7 +59,7 @@ pub fn nearest_of<'a>(
 }
 
 /// Asks whether a name was meant, if there is one.
-pub fn push_near(text: &mut String, near: Option<&str>) -> Result<(), AllocError> {
+pub fn push_near(text: &mut String, near: Option<&str>) -> Pushed {
     match near {
         Some(name) => write!(text, " (did you mean '{name}'?)"),
         None => Ok(()),

@@ -1,7 +1,7 @@
 //! Topologies that look like another format.
 
 use crate::seen::{Seen, seen_of};
-use crate::sentence::{FileName, begin};
+use crate::sentence::{FileName, Pushed, begin};
 use crate::texts::{GivenText, graph_of};
 use ir_cli::{Format, Words};
 use std::alloc::{AllocError, Global};
@@ -17,6 +17,12 @@ static QUOTES: &str =
 
 static WEIGHTS: &str =
     "each line has three words, the last a number (an edge list? try --format edgelist)";
+
+static TUPLES: &str = "a list of tuples, which blanks cut";
+
+static BRACES: &str = "an edge list with attributes in braces";
+
+static MULTILINE: &str = "a multiline adjacency list";
 
 /// Documents that are converted: what stands at the front, behind blanks, what further in, and the format.
 static DOCUMENTS: [(&str, &str, &str); 13] = [
@@ -67,91 +73,49 @@ fn convertible(text: &[u8]) -> &'static str {
     ""
 }
 
-/// What lines are that were seen to be this, and the word by which they are converted; two nothings where that wants none.
-fn listed(seen: Seen, format: Format) -> (&'static str, &'static str) {
+/// What lines that were seen to be this, read in this format, look like: another format, and the word by which it is
+/// converted, or else a note on them; nothing where they look like their own.
+fn likeness(seen: Seen, format: Format) -> (&'static str, Option<&'static str>) {
     match format {
-        _ if seen.is_gml => ("GML", ""),
-        Format::AdjList if seen.has_tuple => (
-            "a list of tuples, which blanks cut",
-            " --from adjlist",
-        ),
-        Format::EdgeList if seen.has_tuple => (
-            "a list of tuples, which blanks cut",
-            " --from edgelist",
-        ),
-        _ if seen.lines > 1 && seen.has_commas => ("CSV", " --from csv"),
-        Format::AdjList if seen.lines > 0 && seen.has_braces => {
-            ("an edge list with attributes in braces", " --from edgelist")
-        }
+        _ if seen.is_gml => ("GML", Some("")),
+        Format::AdjList if seen.has_tuple => (TUPLES, Some(" --from adjlist")),
+        Format::EdgeList if seen.has_tuple => (TUPLES, Some(" --from edgelist")),
+        _ if seen.lines > 1 && seen.has_commas => ("CSV", Some(" --from csv")),
+        Format::AdjList if seen.lines > 0 && seen.has_braces => (BRACES, Some(" --from edgelist")),
         Format::AdjList if seen.lines > 1 && seen.is_multiline => (
-            "a multiline adjacency list",
-            " --from multiline",
+            MULTILINE,
+            Some(" --from multiline"),
         ),
-        Format::AdjList | Format::EdgeList => ("", ""),
+        _ if seen.has_arrow => (ARROWS, None),
+        _ if seen.has_cut_name => (QUOTES, None),
+        Format::AdjList if seen.lines > 1 && seen.has_weights => (WEIGHTS, None),
+        Format::AdjList | Format::EdgeList => ("", None),
     }
 }
 
-/// Says that a topology is one of another format, which is converted.
-fn push_converted(text: &mut String, file: &str, name: &str, word: &str) -> Result<(), AllocError> {
-    begin(text, file)?;
-    let file = FileName(if file == "-" { "FILE" } else { file });
-    write!(
-        text,
-        "this looks like {name}; python3 -m bentzolu convert {file}{word} makes an edge list of it"
-    )
-}
-
-/// What is told of lines that were seen to be this, read in this format; nothing where they look like it.
-fn note_on(seen: Seen, format: Format) -> &'static str {
-    match format {
-        _ if seen.has_arrow => ARROWS,
-        _ if seen.has_cut_name => QUOTES,
-        Format::AdjList if seen.lines > 1 && seen.has_weights => WEIGHTS,
-        Format::AdjList | Format::EdgeList => "",
-    }
-}
-
-/// Says what a topology looks like, if that is another format than it is read in, and whether it said so.
-fn push_likeness(
-    alloc: Global,
-    text: &mut String,
-    format: Format,
-    topology: &GivenText<'_>,
-) -> Result<bool, AllocError> {
-    let name = convertible(topology.bytes);
-    if !name.is_empty() {
-        push_converted(text, topology.file, name, "")?;
-        return Ok(true);
-    }
-    let seen = seen_of(alloc, topology.bytes)?;
-    let (name, word) = listed(seen, format);
-    if !name.is_empty() {
-        push_converted(text, topology.file, name, word)?;
-        return Ok(true);
-    }
-    let note = note_on(seen, format);
-    if note.is_empty() {
-        return Ok(false);
-    }
-    begin(text, topology.file)?;
-    text.push_str(note)?;
-    Ok(true)
-}
-
-/// Says so where a topology looks like one of another format than it is read in, and how many nodes and links were read.
-pub fn push_note(
-    alloc: Global,
-    text: &mut String,
-    words: &Words,
-    topology: &GivenText<'_>,
-) -> Result<(), AllocError> {
-    if !push_likeness(alloc, text, words.format, topology)? {
+/// Says so where a topology looks like one of another format, and how many nodes and links were read.
+pub fn push_note(alloc: Global, text: &mut String, words: &Words, part: &GivenText<'_>) -> Pushed {
+    let (name, word) = match convertible(part.bytes) {
+        "" => likeness(seen_of(alloc, part.bytes)?, words.format),
+        name => (name, Some("")),
+    };
+    if name.is_empty() {
         return Ok(());
     }
-    let graph = graph_of(alloc, words, topology)?;
-    let nodes = graph.number_of_nodes();
+    begin(text, part.file)?;
+    match word {
+        Some(word) => {
+            let file = FileName(if part.file == "-" { "FILE" } else { part.file });
+            write!(
+                text,
+                "this looks like {name}; python3 -m bentzolu convert {file}{word} makes an edge list of it"
+            )?;
+        }
+        None => text.push_str(name)?,
+    }
+    let graph = graph_of(alloc, words, part)?;
+    let (nodes, links) = (graph.number_of_nodes(), graph.number_of_edges());
     if nodes > 0 {
-        let links = graph.number_of_edges();
         write!(text, "; nodes read: {nodes}, links: {links}")?;
     }
     text.push_str("\n")

@@ -2,26 +2,19 @@
 
 use crate::lines::{first_word, line_with, lines_of, text_of, word_at};
 use crate::script::push_no_node;
-use crate::sentence::{Quoted, WordCount, begin_line, push_bad_byte};
+use crate::sentence::{Pushed, Quoted, begin_line, push_bad_byte, push_count};
 use crate::texts::RunTexts;
-use ir_graph::Graph;
 use ir_script::{OrderFault, OrderFaultKind};
-use std::alloc::{AllocError, Global};
 
-/// Which nodes the lines of an order name.
-fn named_in(alloc: Global, graph: &Graph, order: &[u8]) -> Result<Vec<bool>, AllocError> {
-    let mut named = vec![in alloc; false; graph.number_of_nodes()]?;
-    for line in lines_of(alloc, order, order.len())?.iter() {
-        if let Some(node) = graph.index_of(text_of(first_word(line))) {
+/// Says which node the lines of an order do not name.
+fn push_missing(text: &mut String, run: &RunTexts<'_>) -> Pushed {
+    let order = run.texts.numbering.bytes;
+    let mut named = vec![in run.alloc; false; run.graph.number_of_nodes()]?;
+    for line in lines_of(run.alloc, order, order.len())?.iter() {
+        if let Some(node) = run.graph.index_of(text_of(first_word(line))) {
             named[node as usize] = true;
         }
     }
-    Ok(named)
-}
-
-/// Says which node an order does not name.
-fn push_missing(text: &mut String, run: &RunTexts<'_>) -> Result<(), AllocError> {
-    let named = named_in(run.alloc, run.graph, run.texts.numbering.bytes)?;
     let missing = named
         .iter()
         .position(|is_named| !*is_named)
@@ -35,11 +28,7 @@ fn push_missing(text: &mut String, run: &RunTexts<'_>) -> Result<(), AllocError>
 }
 
 /// Says what is wrong with a line of an order.
-pub fn push_numbering(
-    text: &mut String,
-    run: &RunTexts<'_>,
-    fault: OrderFault,
-) -> Result<(), AllocError> {
+pub fn push_numbering(text: &mut String, run: &RunTexts<'_>, fault: OrderFault) -> Pushed {
     let order = &run.texts.numbering;
     let place = if fault.kind == OrderFaultKind::Missing {
         0
@@ -52,8 +41,8 @@ pub fn push_numbering(
     match fault.kind {
         OrderFaultKind::BadByte => push_bad_byte(text, words, "names are"),
         OrderFaultKind::BadRow => {
-            let count = WordCount(words.len());
-            write!(text, "{count}; an order has the name of one node on a line")
+            push_count(text, words.len())?;
+            text.push_str("; an order has the name of one node on a line")
         }
         OrderFaultKind::UnknownNode => push_no_node(text, run, word),
         OrderFaultKind::Twice => {

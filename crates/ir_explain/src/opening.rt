@@ -1,7 +1,7 @@
 //! Why nothing was opened over a topology.
 
 use crate::script::push_no_node;
-use crate::sentence::begin;
+use crate::sentence::{Pushed, begin};
 use crate::texts::RunTexts;
 use ir_cli::{Format, Words, root_of};
 use ir_core::{MAX_LINKS, MAX_NODES, OpenError};
@@ -41,7 +41,7 @@ fn empty(run: &RunTexts<'_>) -> &'static str {
 }
 
 /// Keeps a node that is not marked yet, and marks it.
-fn keep(marked: &mut Vec<bool>, kept: &mut Vec<usize>, node: usize) -> Result<(), AllocError> {
+fn keep(marked: &mut Vec<bool>, kept: &mut Vec<usize>, node: usize) -> Pushed {
     if node < marked.len() && !marked[node] {
         marked[node] = true;
         kept.push(node)?;
@@ -50,12 +50,7 @@ fn keep(marked: &mut Vec<bool>, kept: &mut Vec<usize>, node: usize) -> Result<()
 }
 
 /// Keeps the neighbours of a node that are not marked yet.
-fn keep_neighbours(
-    graph: &Graph,
-    marked: &mut Vec<bool>,
-    kept: &mut Vec<usize>,
-    node: usize,
-) -> Result<(), AllocError> {
+fn keep_near(graph: &Graph, marked: &mut Vec<bool>, kept: &mut Vec<usize>, node: usize) -> Pushed {
     for place in 0..graph.neighbor_count(node) {
         if let Some((other, _weight)) = graph.neighbor_at(node, place) {
             keep(marked, kept, other)?;
@@ -78,7 +73,7 @@ fn mark_part(
             break;
         };
         let next = *next;
-        keep_neighbours(graph, marked, &mut kept, next)?;
+        keep_near(graph, marked, &mut kept, next)?;
     }
     Ok(kept.len())
 }
@@ -114,7 +109,7 @@ fn parts_from(alloc: Global, graph: &Graph, node: usize) -> Result<Divided, Allo
 }
 
 /// Says between which nodes there is no path, and into how many parts the graph falls.
-fn push_disconnected(text: &mut String, run: &RunTexts<'_>) -> Result<(), AllocError> {
+fn push_disconnected(text: &mut String, run: &RunTexts<'_>) -> Pushed {
     let root = usize::from(root_of(run.graph, &run.words.root).unwrap_or(0));
     let found = parts_from(run.alloc, run.graph, root)?;
     let name = run.graph.node(root).unwrap_or("");
@@ -128,14 +123,14 @@ fn push_disconnected(text: &mut String, run: &RunTexts<'_>) -> Result<(), AllocE
 }
 
 /// Says that a name of the words is no node.
-fn push_no_option(text: &mut String, run: &RunTexts<'_>) -> Result<(), AllocError> {
+fn push_no_option(text: &mut String, run: &RunTexts<'_>) -> Pushed {
     let (option, name) = unknown_option(run.graph, run.words);
     write!(text, "route: {option}: ")?;
     push_no_node(text, run, name.as_bytes())
 }
 
 /// Says that there are more nodes or links than a run may have.
-fn push_too_large(text: &mut String, graph: &Graph) -> Result<(), AllocError> {
+fn push_too_large(text: &mut String, graph: &Graph) -> Pushed {
     let nodes = graph.number_of_nodes();
     let (count, what, most) = if nodes > MAX_NODES {
         (nodes, "nodes", MAX_NODES)
@@ -149,11 +144,7 @@ fn push_too_large(text: &mut String, graph: &Graph) -> Result<(), AllocError> {
 }
 
 /// Says why nothing was opened over the topology.
-pub fn push_opening(
-    text: &mut String,
-    run: &RunTexts<'_>,
-    error: OpenError,
-) -> Result<(), AllocError> {
+pub fn push_opening(text: &mut String, run: &RunTexts<'_>, error: OpenError) -> Pushed {
     if error != OpenError::NoNode {
         begin(text, run.texts.topology.file)?;
     }

@@ -1,12 +1,11 @@
 //! Why a step of a script was refused.
 
-use crate::sentence::{Quoted, begin_line, joined};
+use crate::sentence::{Pushed, Quoted, begin_line, joined};
 use crate::texts::RunTexts;
 use ir_core::{MAX_CHANGES, MAX_EPOCHS, Refused};
-use std::alloc::AllocError;
 
 /// Says what a kind of refusal means.
-fn push_reason(text: &mut String, refusal: Refused) -> Result<(), AllocError> {
+fn push_reason(text: &mut String, refusal: Refused) -> Pushed {
     text.push_str(match refusal {
         Refused::EpochsFull => return write!(text, "all {MAX_EPOCHS} epochs are used"),
         Refused::TooManyChanges => return write!(
@@ -31,13 +30,8 @@ fn push_reason(text: &mut String, refusal: Refused) -> Result<(), AllocError> {
 }
 
 /// Explains the refusal of a step.
-pub fn explain_refusal(
-    text: &mut String,
-    run: &RunTexts<'_>,
-    line: usize,
-    refusal: Refused,
-) -> Result<(), AllocError> {
-    let words = begin_line(run.alloc, text, &run.texts.script, line)?;
+pub fn push_refusal(text: &mut String, run: &RunTexts<'_>, at: usize, refusal: Refused) -> Pushed {
+    let words = begin_line(run.alloc, text, &run.texts.script, at)?;
     let step = joined(run.alloc, words.as_slice())?;
     write!(text, "{} was refused: ", Quoted(step.as_slice()))?;
     push_reason(text, refusal)?;

@@ -2,12 +2,11 @@
 
 use crate::lines::{text_of, word_at};
 use crate::nearest::{nearest_node, nearest_of, push_near};
-use crate::sentence::{FileName, Quoted, begin_line, joined, push_bad_byte};
+use crate::sentence::{FileName, Pushed, Quoted, begin_line, joined, push_bad_byte};
 use crate::texts::RunTexts;
 use ir_cli::Sub;
 use ir_graph::Graph;
 use ir_script::{ScriptError, ScriptFault};
-use std::alloc::AllocError;
 
 /// The first words of the lines of a live run's script, and behind them those of a simulation alone.
 static COMMANDS: [&str; 10] = [
@@ -37,17 +36,8 @@ fn form_of(command: &str) -> &'static str {
     }
 }
 
-/// Whether a command is of a simulation alone.
-fn is_of_simulation(command: &str) -> bool {
-    matches!(command, "learn" | "take" | "read" | "act")
-}
-
 /// Says why the words of a line are no command.
-fn push_bad_command(
-    text: &mut String,
-    run: &RunTexts<'_>,
-    words: &[&[u8]],
-) -> Result<(), AllocError> {
+fn push_bad_command(text: &mut String, run: &RunTexts<'_>, words: &[&[u8]]) -> Pushed {
     let command = word_at(words, 0);
     let (name, is_live) = (text_of(command), run.words.sub == Sub::Live);
     let form = form_of(name);
@@ -60,24 +50,21 @@ fn push_bad_command(
         write!(text, "unknown command {}", Quoted(command))?;
         return push_near(text, nearest_of(run.alloc, &COMMANDS[..known], command)?);
     }
-    if is_live && is_of_simulation(name) {
+    if is_live && matches!(name, "learn" | "take" | "read" | "act") {
         return write!(text, "'{name}' is a command of 'route sim' alone");
     }
     if name == "install" && words.len() == 3 {
         let kind = word_at(words, 1);
+        let quoted = Quoted(kind);
         write!(
             text,
-            "{} is no kind of plan: tree, shortest or compact is wanted",
-            Quoted(kind)
+            "{quoted} is no kind of plan: tree, shortest or compact is wanted"
         )?;
         return push_near(text, nearest_of(run.alloc, KINDS.as_slice(), kind)?);
     }
     let line = joined(run.alloc, words)?;
-    write!(
-        text,
-        "{} is not of the form '{form}'",
-        Quoted(line.as_slice())
-    )
+    let line = Quoted(line.as_slice());
+    write!(text, "{line} is not of the form '{form}'")
 }
 
 /// The places of the words of a line that are to name nodes.
@@ -102,18 +89,14 @@ pub fn unknown_word<'a>(graph: &Graph, words: &[&'a [u8]], places: &[usize]) -> 
 }
 
 /// Says that a word names no node of the topology.
-pub fn push_no_node(text: &mut String, run: &RunTexts<'_>, word: &[u8]) -> Result<(), AllocError> {
+pub fn push_no_node(text: &mut String, run: &RunTexts<'_>, word: &[u8]) -> Pushed {
     let file = FileName(run.texts.topology.file);
     write!(text, "no node {} in {file}", Quoted(word))?;
     push_near(text, nearest_node(run.alloc, run.graph, word)?)
 }
 
 /// Says what is wrong with a line of a script.
-pub fn push_script(
-    text: &mut String,
-    run: &RunTexts<'_>,
-    error: ScriptError,
-) -> Result<(), AllocError> {
+pub fn push_script(text: &mut String, run: &RunTexts<'_>, error: ScriptError) -> Pushed {
     let line = begin_line(run.alloc, text, &run.texts.script, error.line)?;
     let words = line.as_slice();
     let command = text_of(word_at(words, 0));

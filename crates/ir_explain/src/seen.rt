@@ -26,7 +26,7 @@ pub struct Seen {
     pub has_tuple: bool,
     /// Each of these has a comma inside a word.
     pub has_commas: bool,
-    /// Each of these is a node and how many neighbours it has, or one of these neighbours with its attributes in braces.
+    /// Each of these is a node and its number of neighbours, or a neighbour with its attributes.
     pub is_multiline: bool,
     /// How many neighbours the last node of such a list still has.
     pub left: usize,
@@ -57,10 +57,8 @@ fn has_comma(word: &[u8]) -> bool {
 
 /// The number that a word spells, up to 65,535; 0 where it spells none.
 fn count_of(word: &[u8]) -> usize {
-    match str::from_utf8(word).unwrap_or("").parse::<u16>() {
-        Ok(number) => usize::from(number),
-        Err(_) => 0,
-    }
+    let text = str::from_utf8(word).unwrap_or("");
+    usize::from(text.parse::<u16>().unwrap_or(0))
 }
 
 /// Whether a further line may stand in a multiline list behind what was seen.

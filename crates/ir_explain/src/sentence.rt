@@ -9,17 +9,16 @@ use ir_adjlist::scan::all_plain;
 use std::alloc::{AllocError, Global};
 use std::fmt;
 
-/// A text in quotes, with bytes that are not printable ASCII as `\xNN`, and two points behind it where its end is not shown.
+/// What writing behind a text comes to: refused for want of memory alone.
+pub type Pushed = Result<(), AllocError>;
+
+/// A text in quotes, other bytes than printable ASCII as `\xNN`; two points stand for what is cut.
 #[derive(Clone, Copy)]
 pub struct Quoted<'a>(pub &'a [u8]);
 
 /// The name of a file, where `-` is standard input; a character that would move the terminal's cursor is `\xNN`.
 #[derive(Clone, Copy)]
 pub struct FileName<'a>(pub &'a str);
-
-/// How many words there are.
-#[derive(Clone, Copy)]
-pub struct WordCount(pub usize);
 
 /// What is shown of a text: its front.
 fn cut(bytes: &[u8]) -> &[u8]
@@ -68,32 +67,27 @@ impl fmt::Display for FileName<'_> {
     }
 }
 
-impl fmt::Display for WordCount {
-    fn fmt<W: fmt::Write>(&self, f: &mut fmt::Formatter<W>) -> fmt::Result {
-        match self.0 {
-            1 => f.write_str("one word"),
-            2 => f.write_str("two words"),
-            count => write!(f, "{count} words"),
-        }
+/// Says how many words there are.
+pub fn push_count(text: &mut String, words: usize) -> Pushed {
+    match words {
+        1 => text.push_str("one word"),
+        2 => text.push_str("two words"),
+        count => write!(text, "{count} words"),
     }
 }
 
 /// Begins a sentence on a file: `route: FILE: `.
-pub fn begin(text: &mut String, file: &str) -> Result<(), AllocError> {
+pub fn begin(text: &mut String, file: &str) -> Pushed {
     write!(text, "route: {}: ", FileName(file))
 }
 
-/// Begins a sentence on a line of a text, counted from 1 in its file: `route: FILE:LINE: `. Line 0 stands for all of it.
-pub fn begin_at(text: &mut String, part: &GivenText<'_>, line: usize) -> Result<(), AllocError> {
+/// Begins a sentence on a line of a text, counted from 1: `route: FILE:LINE: `. Line 0 is all of it.
+pub fn begin_at(text: &mut String, part: &GivenText<'_>, line: usize) -> Pushed {
     if line == 0 {
         return begin(text, part.file);
     }
-    write!(
-        text,
-        "route: {}:{}: ",
-        FileName(part.file),
-        line.saturating_add(part.above)
-    )
+    let (file, line) = (FileName(part.file), line.saturating_add(part.above));
+    write!(text, "route: {file}:{line}: ")
 }
 
 /// Begins a sentence on a line of a text, and answers the words that stand there.
@@ -120,7 +114,7 @@ pub fn joined(alloc: Global, words: &[&[u8]]) -> Result<Vec<u8>, AllocError> {
 }
 
 /// Says which byte of a line may not stand there: the first that is not printable ASCII.
-pub fn push_bad_byte(text: &mut String, words: &[&[u8]], wanted: &str) -> Result<(), AllocError> {
+pub fn push_bad_byte(text: &mut String, words: &[&[u8]], wanted: &str) -> Pushed {
     let strange = words.iter().find(|word| !all_plain(word));
     let word = strange.copied().unwrap_or(&[]);
     if word.starts_with(b"\xEF\xBB\xBF") {

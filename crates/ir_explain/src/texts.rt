@@ -60,16 +60,12 @@ impl<'a> GivenTexts<'a> {
 
 /// All of the input at a place, as a text of this file.
 fn whole<'a>(given: &[Given<'a>], place: usize, file: &'a str) -> GivenText<'a> {
-    let (bytes, trouble): (&'a [u8], Trouble) = match given.get(place) {
-        Some(input) => (input.bytes, input.trouble),
-        None => (&[], Trouble::Unknown),
-    };
-    let above = 0;
+    let given = given.get(place).copied();
     GivenText {
         file,
-        above,
-        bytes,
-        trouble,
+        above: 0,
+        bytes: given.map_or(&[], |input| input.bytes),
+        trouble: given.map_or(Trouble::Unknown, |input| input.trouble),
     }
 }
 
@@ -77,13 +73,13 @@ fn whole<'a>(given: &[Given<'a>], place: usize, file: &'a str) -> GivenText<'a> 
 fn halves<'a>(part: GivenText<'a>) -> (GivenText<'a>, GivenText<'a>) {
     let (bytes, below) = cut(part.bytes);
     let above = line_ends(part.bytes).saturating_sub(line_ends(below));
-    let first = GivenText { bytes, ..part };
+    let above = part.above.saturating_add(above);
     let second = GivenText {
         bytes: below,
-        above: part.above.saturating_add(above),
+        above,
         ..part
     };
-    (first, second)
+    (GivenText { bytes, ..part }, second)
 }
 
 /// The texts of a run, of what was given of its inputs.
@@ -124,12 +120,8 @@ pub struct RunTexts<'a> {
 }
 
 /// The graph of a topology; one with no node where the text has a fault.
-pub fn graph_of(
-    alloc: Global,
-    words: &Words,
-    topology: &GivenText<'_>,
-) -> Result<Graph, AllocError> {
-    match read_topology(alloc, words.format, topology.bytes) {
+pub fn graph_of(alloc: Global, words: &Words, part: &GivenText<'_>) -> Result<Graph, AllocError> {
+    match read_topology(alloc, words.format, part.bytes) {
         Ok(graph) => Ok(graph),
         Err(error) if error.kind == Fault::NoMemory => Err(AllocError),
         Err(_) => Ok(Graph::new(alloc)),

@@ -1,14 +1,13 @@
 //! What is wrong with a line of a topology.
 
 use crate::lines::word_at;
-use crate::sentence::{Quoted, WordCount, begin_line, push_bad_byte};
+use crate::sentence::{Pushed, Quoted, begin_line, push_bad_byte, push_count};
 use crate::texts::RunTexts;
 use ir_adjlist::TextError;
 use ir_model::{Fault, MAX_EDGES, MAX_NAME_BYTES, MAX_NODES, MAX_WEIGHT};
-use std::alloc::AllocError;
 
 /// Says that a name is too long: the first such word.
-fn push_long_name(text: &mut String, words: &[&[u8]]) -> Result<(), AllocError> {
+fn push_long_name(text: &mut String, words: &[&[u8]]) -> Pushed {
     let long = words.iter().find(|word| word.len() > MAX_NAME_BYTES);
     let bytes = long.map_or(0, |word| word.len());
     write!(
@@ -18,9 +17,9 @@ fn push_long_name(text: &mut String, words: &[&[u8]]) -> Result<(), AllocError> 
 }
 
 /// Says that a line of an edge list has another number of words.
-fn push_bad_row(text: &mut String, words: &[&[u8]]) -> Result<(), AllocError> {
-    let count = WordCount(words.len());
-    write!(text, "{count}; an edge list has NODE NODE WEIGHT on a line")?;
+fn push_bad_row(text: &mut String, words: &[&[u8]]) -> Pushed {
+    push_count(text, words.len())?;
+    text.push_str("; an edge list has NODE NODE WEIGHT on a line")?;
     text.push_str(if word_at(words, 2).starts_with(b"{") {
         " (attributes in braces are not read: write_weighted_edgelist of NetworkX writes none)"
     } else {
@@ -29,7 +28,7 @@ fn push_bad_row(text: &mut String, words: &[&[u8]]) -> Result<(), AllocError> {
 }
 
 /// Says that a topology has more of something than it may have.
-fn push_too_many(text: &mut String, most: usize, what: &str) -> Result<(), AllocError> {
+fn push_too_many(text: &mut String, most: usize, what: &str) -> Pushed {
     write!(
         text,
         "a topology has at most {most} {what}, and here is one more"
@@ -37,11 +36,7 @@ fn push_too_many(text: &mut String, most: usize, what: &str) -> Result<(), Alloc
 }
 
 /// Says what is wrong with a line of a topology.
-pub fn push_topology(
-    text: &mut String,
-    run: &RunTexts<'_>,
-    error: TextError,
-) -> Result<(), AllocError> {
+pub fn push_topology(text: &mut String, run: &RunTexts<'_>, error: TextError) -> Pushed {
     let line = begin_line(run.alloc, text, &run.texts.topology, error.line)?;
     let words = line.as_slice();
     match error.kind {

@@ -8,3 +8,7 @@ returns-in_err-number_or c =
 pub returns-in_err-number_or-2 : goal.returns-in_err-number_or-2
 returns-in_err-number_or-2 c =
     is_none_then c.from_residual-in_err-number_or-2.result _ _ c.from_residual-in_err-number_or-2.ensures (λ all are. c.in_err-number_or-2.ensures all.packets are.packets)
+
+pub returns-in_err-number_or-3 : goal.returns-in_err-number_or-3
+returns-in_err-number_or-3 c =
+    is_none_then c.from_residual-in_err-number_or-3.result _ _ c.from_residual-in_err-number_or-3.ensures (λ all are. c.in_err-number_or-3.ensures all.restamps are.restamps)
