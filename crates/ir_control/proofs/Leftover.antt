@@ -16,7 +16,8 @@ use Rattle.ir_control.specs.Parts.{IsNodeOf, AreNodesOf, node_number}
 use Rattle.ir_control.specs.Places.{offset, way_count}
 use Rattle.ir_control.specs.Reported.{AreAllThere}
 use Rattle.ir_control.specs.Rowed.{AllGet, AreEndRows, AreSlotsFrom}
-use Rattle.ir_control.specs.Slots.{slot_weight, hit, once, AllAt, AllIn}
+use Rattle.ir_control.specs.Slots.{slot_weight, hit, once, IsAt, AllAt, AllIn}
+use Rattle.ir_control.specs.Whole.{AreTakersOf}
 use Rattle.ir_control.specs.Wired.{AreEntries}
 use Rattle.ir_control.proofs.Rows.{offset_all, place_of}
 use Rattle.ir_control.proofs.Rowing.{slot_get}
@@ -27,6 +28,13 @@ use Rattle.ir_control.proofs.Wiring.{sum_nothing}
 module _ {X : Type 0} (slots : List (Option X)) (none : (k : ℕ) → slice_index_or slots k None ≡ None) where
   pub none_weigh : (f : X → ℕ) → sum_by (slot_weight f) slots ≡ 0
   none_weigh f = sum_of_none (slot_weight f) slots None (λ k lt. ap (slot_weight f) (none k))
+
+-- empty slots have nothing that is out of its place, or of another kind
+pub empty_at : {X : Type 0} (key : X → ℕ) (slots : List (Option X)) → ((k : ℕ) → slice_index_or slots k None ≡ None) → AllAt key slots
+empty_at {X} key slots none k = subst (λ (slot : Option X). IsAt key k slot) (sym (none k)) tt
+
+pub empty_in : {X : Type 0} (P : X → Type 0) (slots : List (Option X)) → ((k : ℕ) → slice_index_or slots k None ≡ None) → AllIn P slots
+empty_in P slots none k x got = absurd (none-some x (sym (none k) ∙ got))
 
 pub all_of_get : {X : Type 0} (P : X → Type 0) (xs : List X) → AllGet (λ k x. P x) xs → All P xs
 all_of_get P xs each = λ k d lt. each k (slice_index_or xs k d) (slice_get-get_or xs k d lt)
@@ -123,17 +131,17 @@ way_is net k channel got =
     (ap (λ (p : Place). p.opening) is.place, ap (λ (p : Place). p.restamps) is.place)
 
 module _ (net : Net) (n : ℕ) (inboxes takers : List In) (senders : List (Option Out)) (rows : AreEndRows net n inboxes takers senders) where
-  pub inboxes_placed : All (λ (t : In). t.channel.place.opening ≡ net.opening) inboxes
-  inboxes_placed = all_of_get (λ (t : In). t.channel.place.opening ≡ net.opening) inboxes (λ k t got. ap (λ (p : Place). p.opening) (net.inboxes_are.each k t.channel (rows.inbox_lines k t got)).place)
+  pub inboxes_of_net : AreTakersOf net.opening net.restamps inboxes
+  inboxes_of_net = record {
+    places = all_of_get (λ (t : In). t.channel.place.opening ≡ net.opening) inboxes (λ k t got. ap (λ (p : Place). p.opening) (net.inboxes_are.each k t.channel (rows.inbox_lines k t got)).place);
+    limits = all_of_get (λ (t : In). t.channel.place.restamps ≡ net.restamps) inboxes (λ k t got. ap (λ (p : Place). p.restamps) (net.inboxes_are.each k t.channel (rows.inbox_lines k t got)).place);
+  }
 
-  pub takers_placed : All (λ (t : In). t.channel.place.opening ≡ net.opening) takers
-  takers_placed = all_of_get (λ (t : In). t.channel.place.opening ≡ net.opening) takers (λ k t got. (way_is net (slice_index net.peers.items k) t.channel (rows.in_lines k t got)).0)
-
-  pub inboxes_limited : All (λ (t : In). t.channel.place.restamps ≡ net.restamps) inboxes
-  inboxes_limited = all_of_get (λ (t : In). t.channel.place.restamps ≡ net.restamps) inboxes (λ k t got. ap (λ (p : Place). p.restamps) (net.inboxes_are.each k t.channel (rows.inbox_lines k t got)).place)
-
-  pub takers_limited : All (λ (t : In). t.channel.place.restamps ≡ net.restamps) takers
-  takers_limited = all_of_get (λ (t : In). t.channel.place.restamps ≡ net.restamps) takers (λ k t got. (way_is net (slice_index net.peers.items k) t.channel (rows.in_lines k t got)).1)
+  pub takers_of_net : AreTakersOf net.opening net.restamps takers
+  takers_of_net = record {
+    places = all_of_get (λ (t : In). t.channel.place.opening ≡ net.opening) takers (λ k t got. (way_is net (slice_index net.peers.items k) t.channel (rows.in_lines k t got)).0);
+    limits = all_of_get (λ (t : In). t.channel.place.restamps ≡ net.restamps) takers (λ k t got. (way_is net (slice_index net.peers.items k) t.channel (rows.in_lines k t got)).1);
+  }
 
   pub rows_count : n ≡ node_count net.topology → length inboxes + length takers ≡ node_count net.topology + way_count net.topology
   rows_count is =

@@ -37,12 +37,10 @@ use Rattle.ir_control.specs.Desks.{Desk, desk_of}
 use Rattle.ir_control.specs.declared.live.Live.{Live}
 use Rattle.ir_control.specs.declared.live.LiveError.{LiveError}
 use Rattle.ir_control.specs.declared.live.LiveError.TheVariants as live_error
-use Rattle.ir_control.specs.declared.working.Run.{Run}
+use Rattle.ir_control.specs.declared.working.LiveRun.{LiveRun}
 use Rattle.ir_control.specs.Answers.{accepted_from}
 use Rattle.ir_control.specs.Lives.{AreSameNodes, IsLive, IsRefusal}
-use Rattle.ir_epochs.specs.declared.error.BoardError.{BoardError}
-use Rattle.ir_epochs.specs.declared.error.BoardError.TheVariants as board
-use Rattle.ir_control.specs.Runs.{IsNetRun, IsStopped, IsUnreported, parts_error}
+use Rattle.ir_control.specs.Runs.{IsNetRun, IsStopped, IsUnreported}
 use Rattle.ir_control.proofs.Accepting.{same_injector, injector_kept, accepted_are}
 use Rattle.ir_control.proofs.Causes.{causes_are}
 use Rattle.ir_control.proofs.Back.{first_back, same_back, turned_back, all_there}
@@ -60,13 +58,7 @@ module _ (B : Type 0) (was_full : Word Parcel) (unstarted : ℕ → Type 0) (cam
   refused n nodes live_error.TooManyReaders first h = absurd h
   refused n nodes live_error.Unpublished first h = absurd h
 
-  pub parts_refused : (why : BoardError) (error : LiveError) → error ≡ parts_error why → IsRefusal B was_full unstarted came_back net commands error
-  parts_refused why error is = subst (λ (e : LiveError). IsRefusal B was_full unstarted came_back net commands e) (sym is) (by_case why) where
-    by_case : (why : BoardError) → IsRefusal B was_full unstarted came_back net commands (parts_error why)
-    by_case board.TooManyReaders = tt
-    by_case board.NoMemory = tt
-
-module _ (was_full was_empty : Word Parcel) (may_end : ℕ → ℕ → Type 0) {B : Type 0} (net : Net) (nodes : List Node) (opened : Desk B) (commands : List Command) (run : Run B)
+module _ (was_full was_empty : Word Parcel) (may_end : ℕ → ℕ → Type 0) {B : Type 0} (net : Net) (nodes : List Node) (opened : Desk B) (commands : List Command) (run : LiveRun B)
     (fresh : AreFreshParts net nodes opened.injector opened.controller) (done : IsNetRun was_full was_empty may_end net.opening nodes opened commands run) where
   pub nodes_back : AreFirstNodes net (node_count net.topology) (map (λ (b : Node × Option NoMemory). b.0) run.back.items)
   nodes_back = first_back net (node_count net.topology) was_full was_empty may_end nodes run.back.items fresh.nodes_are done.came_back

@@ -16,7 +16,7 @@ use Rattle.ir_epochs.specs.Entries.{registry_of, topology_of, board_of, entered,
 use Rattle.ir_epochs.specs.Over.{IsOver}
 use Rattle.ir_epochs.specs.Stamps.{knows, registry_name}
 use Rattle.ir_links.specs.Ends.{Sender, Word, WasRefused}
-use Rattle.std.specs.Prelude.{false, All, zero, suc}
+use Rattle.std.specs.Prelude.{false, All, zero, suc, Some, slice_get}
 use Rattle.std.proofs.lemmas.List.{set-get_or}
 use Rattle.ir_worker.specs.declared.parcel.Place.{Place}
 use Rattle.ir_worker.specs.Seen.{Parcel, HasRoomOf, IsOfNet, GoesTo, net_place, stamps_of}
@@ -42,10 +42,10 @@ pub marks_len : (entries : List Entry) → length (board_of entries).up ≡ MAX_
 marks_len entries = marks_from opening_board entries (length-replicate {A = Bool} MAX_LINKS true)
 
 -- an end that stands at a place is of that place's line
-pub end_place : (o : Stamp) (restamps : ℕ) (outs : List (Sender Place Parcel)) (u : ℕ) (s : Sender Place Parcel) → AreEntryEnds o restamps (lines_out outs) → u < length outs → s ≡ get_or outs u s
+pub place_of_end : (o : Stamp) (restamps : ℕ) (outs : List (Sender Place Parcel)) (u : ℕ) (s : Sender Place Parcel) → AreEntryEnds o restamps (lines_out outs) → slice_get outs u ≡ Some s
     → s.channel.place ≡ net_place o restamps u u
-end_place o restamps outs u s ends lt read =
-    ends.each u s.channel (slice_get-map (λ (s : Sender Place Parcel). s.channel) outs u ∙ ap (option_map (λ (s : Sender Place Parcel). s.channel)) (slice_get_read outs (length outs) u s refl lt read))
+place_of_end o restamps outs u s ends got =
+    ends.each u s.channel (slice_get-map (λ (s : Sender Place Parcel). s.channel) outs u ∙ ap (option_map (λ (s : Sender Place Parcel). s.channel)) got)
 
 pub goes_in : (o : Stamp) (restamps u : ℕ) (p : Parcel) (place : Place) → place ≡ net_place o restamps u u → p.next ≡ u → p.packet.hops ≡ u ∷ [] → IsParcelOf o p → p.packet.restamps ≡ [] → HasRoomOf o restamps p → GoesTo p place
 goes_in o restamps u p place at next hops of fresh room = subst (λ (place : Place). GoesTo p place) (sym at) (record {

@@ -21,7 +21,8 @@ use Rattle.ir_control.specs.Accepted.{stamp_after_learning}
 use Rattle.ir_control.specs.Refusals.{IsInjectAnswer}
 use Rattle.ir_control.specs.Changes.{Installs, IsNoInstall, IsChangeAnswer}
 use Rattle.ir_control.specs.Desks.{Desk}
-use Rattle.ir_control.specs.Answers.{CommandAnswer}
+use Rattle.ir_control.specs.Answers.{CommandAnswer, refusals_from}
+use Rattle.ir_control.specs.Planned.{stamps_in}
 
 -- the same injector, of the same inboxes and with the same limit
 pub record IsSameInjector (before after : Injector) : Type 0 where
@@ -92,3 +93,9 @@ module _ (was_full : Word Parcel) {B : Type 0} where
   AreCarriedOut [] before (answer ∷ answers) after = ⊥
   AreCarriedOut (c ∷ commands) before [] after = ⊥
   AreCarriedOut (c ∷ commands) before (answer ∷ answers) after = (next : Desk B) × IsCarriedOut c before answer next × AreCarriedOut commands next answers after
+
+  -- The commands were carried out. The refused ones are told by their places, and the stamps are that of the opening and those of
+  -- the epochs that were installed.
+  abbrev pub AreTold : List Command → Desk B → Desk B → Stamp → List (ℕ × Refused) → List Stamp → Type 0
+  AreTold commands before after opening refusals stamps = (answers : List CommandAnswer) × AreCarriedOut commands before answers after
+      × (refusals ≡ refusals_from 0 answers) × (stamps ≡ opening ∷ stamps_in answers)

@@ -3,6 +3,7 @@ use Rattle.std.specs.Prelude.{◌≡◌, ◌⊎◌, ℕ, ◌+◌, Bool, List, �
 use Rattle.std.specs.Arc.{arc_value}
 use Rattle.ir_model.specs.declared.Kind.{Kind}
 use Rattle.ir_model.specs.Topology.{Topology, node_count, restrict}
+use Rattle.ir_model.specs.Plan.{Plan}
 use Rattle.ir_model.specs.Walk.{IsDisconnected}
 use Rattle.ir_core.specs.declared.event.Refused.{Refused}
 use Rattle.ir_core.specs.declared.event.Refused.TheVariants.{Disconnected, NoMemory, Used}
@@ -78,6 +79,12 @@ module _ {R : Type 0} where
   abbrev pub IsInstallRefusedBy : Controller R → Refused → Option Refused → Type 0
   IsInstallRefusedBy c error (Some e) = error ≡ e
   IsInstallRefusedBy c error None = ((error ≡ Disconnected) × IsDisconnected (topology_up c)) ⊎ ((error ≡ NoMemory) ⊎ (error ≡ Used))
+
+  -- a plan of this kind and root over the links that are up, labelled in the controller's order; or why there is none
+  abbrev pub IsPlanAnswer : Kind → ℕ → Controller R → Result Plan Refused → Type 0
+  IsPlanAnswer kind root c answer = MatchResult answer
+      (λ plan. IsMade c.labels kind root (topology_up c) (Some plan))
+      (λ e. ((e ≡ Disconnected) × IsDisconnected (topology_up c)) ⊎ (e ≡ NoMemory))
 
   -- The stamp of the next cell, which knows a plan of this kind and root over the links that were up, labelled in the
   -- controller's order, was installed.

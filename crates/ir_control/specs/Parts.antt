@@ -9,6 +9,7 @@ use Rattle.ir_worker.specs.declared.parcel.Place.{Place}
 use Rattle.ir_worker.specs.Seen.{Parcel}
 use Rattle.ir_worker.specs.Account.{lines_out}
 use Rattle.ir_epochs.specs.declared.entry.Entry.{Entry}
+use Rattle.ir_epochs.specs.declared.handles.BoardReader.{BoardReader}
 use Rattle.ir_epochs.specs.declared.entry.Entry.TheVariants.{Opened}
 use Rattle.ir_control.specs.Places.{offset}
 use Rattle.ir_control.specs.Slots.{hit}
@@ -48,6 +49,14 @@ pub record AreFirstNodes (net : Net) (count : ℕ) (nodes : List Node) : Type 0 
   pub count_is : length nodes ≡ count
   pub each : (u : ℕ) (n : Node) → slice_get nodes u ≡ Some n → IsNodeOf net n × (n.index ≡ u)
 
+-- the entries of a net's board as it is opened
+abbrev pub opening_entries : Net → List Entry
+opening_entries net = Opened (length net.topology.links) net.opening ∷ []
+
+-- the node reads the board of one of these readers
+abbrev pub ReadsAsOneOf : List BoardReader → Node → Type 0
+ReadsAsOneOf readers n = (k : ℕ) × (x : BoardReader) × (slice_get readers k ≡ Some x) × (reader_board n.reader ≡ reader_board x)
+
 -- A node as it is handed out: it has taken, sent and settled nothing, takes from its inbox first, and has read these entries of the board.
 pub record IsFreshNode (entries : List Entry) (n : Node) : Type 0 where
   pub inbox_untaken : n.entrances.inbox.taken ≡ []
@@ -61,7 +70,7 @@ pub record IsFreshNode (entries : List Entry) (n : Node) : Type 0 where
 pub record AreFreshParts {R : Type 0} (net : Net) (nodes : List Node) (injector : Injector) (controller : Controller R) : Type 0 where
   pub nodes_are : AreFirstNodes net (node_count net.topology) nodes
   pub boards : All (λ n. reader_board n.reader ≡ writer_board controller.writer) nodes
-  pub fresh_nodes : All (IsFreshNode (Opened (length net.topology.links) net.opening ∷ [])) nodes
+  pub fresh_nodes : All (IsFreshNode (opening_entries net)) nodes
   pub injector_of : IsInjectorOf net injector
   pub nothing : injector.accepted.items ≡ []
   pub unsent : All (λ s. s.sent ≡ []) injector.outs.items
@@ -70,4 +79,4 @@ pub record AreFreshParts {R : Type 0} (net : Net) (nodes : List Node) (injector 
   pub controller_labels : controller.labels ≡ net.labels
   pub controller_registry : arc_value controller.registry ≡ arc_value net.registry
   pub used : controller.used ≡ 1
-  pub board : published controller.writer ≡ Opened (length net.topology.links) net.opening ∷ []
+  pub board : published controller.writer ≡ opening_entries net

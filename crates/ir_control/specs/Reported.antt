@@ -6,13 +6,13 @@ use Rattle.ir_worker.specs.declared.parcel.Outcome.{Outcome}
 use Rattle.ir_worker.specs.Seen.{Parcel}
 use Rattle.ir_worker.specs.Wires.{Out}
 use Rattle.ir_control.specs.declared.net.Net.{Net}
-use Rattle.ir_control.specs.declared.leaving.Rows.{Rows}
+use Rattle.ir_control.specs.declared.leaving.EndRows.{EndRows}
 use Rattle.ir_control.specs.Parts.{node_number}
 use Rattle.ir_control.specs.Rowed.{node_settled, node_taken, node_sent}
 use Rattle.ir_control.specs.Slots.{hit}
 
 -- empty rows that have room for so many nodes and ways
-pub record AreEmptyRows (n ways : ℕ) (rows : Rows) : Type 0 where
+pub record AreEmptyRows (n ways : ℕ) (rows : EndRows) : Type 0 where
   pub slots_count : length rows.slots.items ≡ n
   pub slots_empty : (k : ℕ) → slice_index_or rows.slots.items k None ≡ None
   pub outs : (rows.outs.items ≡ []) × (n ≤ vec_capacity rows.outs)

@@ -19,15 +19,19 @@ use Rattle.ir_control.specs.Rowed.{node_settled, node_taken, node_sent}
 use Rattle.ir_control.specs.Slots.{hit}
 use Rattle.ir_control.specs.Told.{Told, outcome_told, told_left, IsOutcomeIn}
 
+-- a report that tells of nothing, and has room for so many packets
+pub record IsEmptyReport (m : ℕ) (report : Report) : Type 0 where
+  pub records : (report.records.items ≡ []) × (m ≤ vec_capacity report.records)
+  pub stamps : (report.stamps.items ≡ []) × (m ≤ vec_capacity report.stamps)
+  pub later : (report.later.items ≡ []) × (m ≤ vec_capacity report.later)
+
 -- room for a report of so many packets
 pub record HasReportRoom (n ways m : ℕ) (room : Room) : Type 0 where
   pub rows : AreEmptyRows n ways room.rows
   pub channels : (room.channels.items ≡ []) × (n + ways ≤ vec_capacity room.channels)
   pub slots_count : length room.slots.items ≡ m
   pub slots_empty : (k : ℕ) → slice_index_or room.slots.items k None ≡ None
-  pub records : (room.records.items ≡ []) × (m ≤ vec_capacity room.records)
-  pub stamps : (room.stamps.items ≡ []) × (m ≤ vec_capacity room.stamps)
-  pub later : (room.later.items ≡ []) × (m ≤ vec_capacity room.later)
+  pub report : IsEmptyReport m room.report
 
 -- A record is of its first stamp's epoch and sound by its stamps.
 abbrev pub IsSoundOutcome : Outcome → Type 0
@@ -49,6 +53,18 @@ pub record IsReport (net : Net) (nodes : List Node) (injector : Injector) (repor
   pub left_is : (w : Parcel → ℕ) → sum_by (λ s. sum_by w s.sent) injector.outs.items + sum_by (node_sent w) nodes ≡ sum_by (node_taken w) nodes + sum_by w left
   pub fates : All (λ x. x.packet.fate ≡ Left) left
   pub told_are : (w : Told → ℕ) → sum_by (λ o. w (outcome_told o)) outcomes ≡ sum_by (node_settled (λ o. w (outcome_told o))) nodes + sum_by (λ x. w (told_left x)) left
+
+-- each node below this number is there
+abbrev pub AreThereBelow : ℕ → List Node → Type 0
+AreThereBelow n nodes = (u : ℕ) → u < n → 0 < sum_by (hit node_number u) nodes
+
+-- a report of all nodes of a net, none of which is missing
+abbrev pub IsWholeReport : Net → List Node → Injector → Report → Type 0
+IsWholeReport net nodes injector report = IsReport net nodes injector report × AreAllThere net nodes
+
+-- two reports have the same records, in the same order
+abbrev pub HaveSameRecords : Report → Report → Type 0
+HaveSameRecords report other = report.records.items ≡ other.records.items
 
 -- the least node that is not among the parts
 pub record IsLeastMissing (net : Net) (nodes : List Node) (v : ℕ) : Type 0 where

@@ -11,9 +11,7 @@ use Rattle.ir_worker.specs.Turns.{HasServed}
 use Rattle.ir_control.specs.Desks.{Desk, desk_of}
 use Rattle.ir_control.specs.declared.live.LiveError.{LiveError}
 use Rattle.ir_control.specs.declared.live.LiveError.TheVariants as live
-use Rattle.ir_epochs.specs.declared.error.BoardError.{BoardError}
-use Rattle.ir_epochs.specs.declared.error.BoardError.TheVariants as boards
-use Rattle.ir_control.specs.declared.working.Run.{Run}
+use Rattle.ir_control.specs.declared.working.LiveRun.{LiveRun}
 use Rattle.ir_control.specs.Answers.{CommandAnswer, refusals_from}
 use Rattle.ir_control.specs.Planned.{stamps_in}
 use Rattle.ir_control.specs.Carried.{AreCarriedOut}
@@ -32,7 +30,7 @@ module _ (was_full was_empty : Word Parcel) (may_end : ℕ → ℕ → Type 0) w
 
 -- The nodes came back, and each command had its answer. The stamps are that of the opening and those of the epochs that were
 -- installed.
-pub record IsNetRun (was_full was_empty : Word Parcel) (may_end : ℕ → ℕ → Type 0) {B : Type 0} (opening : Stamp) (nodes : List Node) (desk : Desk B) (commands : List Command) (run : Run B) : Type 0 where
+pub record IsNetRun (was_full was_empty : Word Parcel) (may_end : ℕ → ℕ → Type 0) {B : Type 0} (opening : Stamp) (nodes : List Node) (desk : Desk B) (commands : List Command) (run : LiveRun B) : Type 0 where
   pub came_back : CameBack was_full was_empty may_end nodes run.back.items
   pub answers : List CommandAnswer
   pub carried_out : AreCarriedOut was_full commands desk answers (desk_of run.parts)
@@ -54,8 +52,3 @@ IsUnreported came_back controller live.NoThread = ⊥
 IsUnreported came_back controller live.NoMemory = Unit {0}
 IsUnreported came_back controller live.TooManyReaders = ⊥
 IsUnreported came_back controller live.Unpublished = (n : Node) × IsAhead came_back controller n
-
--- the error of a live run for why there are no parts of a net
-abbrev pub parts_error : BoardError → LiveError
-parts_error boards.TooManyReaders = live.TooManyReaders
-parts_error boards.NoMemory = live.NoMemory

@@ -1,5 +1,5 @@
 -- Slots that hold something or nothing, and what they weigh.
-use Rattle.std.specs.Prelude.{◌≡◌, ℕ, List, [], ◌∷◌, ◌++◌, Option, Some, None, cond, sum_by, slice_index_or, ltb, ◌==◌}
+use Rattle.std.specs.Prelude.{◌≡◌, ◌≤◌, ℕ, ◌+◌, List, [], ◌∷◌, ◌++◌, Option, Some, None, cond, length, sum_by, slice_index_or, ltb, ◌==◌}
 use Rattle.ir_links.specs.Ends.{Sender, Taker, Remains}
 
 -- things weighed, whatever each weighs: so lists are told apart by how often each thing stands in them
@@ -38,6 +38,18 @@ IsAt key i (Some x) = key x ≡ i
 
 abbrev pub AllAt : {X : Type 0} → (X → ℕ) → List (Option X) → Type 0
 AllAt key slots = (k : ℕ) → IsAt key k (slice_index_or slots k None)
+
+-- Slots into which things may come: a slot that is not empty has what has its number, and with things of which so many have
+-- each number, no number is met twice.
+pub record MayPlace {X : Type 0} (key : X → ℕ) (slots : List (Option X)) (count : ℕ → ℕ) : Type 0 where
+  pub at : AllAt key slots
+  pub fits : (i : ℕ) → sum_by (slot_weight (hit key i)) slots + count i ≤ once (length slots) i
+
+-- things of this weight came into the slots of their numbers
+pub record CameIntoSlots {X : Type 0} (key : X → ℕ) (before after : List (Option X)) (weight : (X → ℕ) → ℕ) : Type 0 where
+  pub count : length after ≡ length before
+  pub at : AllAt key after
+  pub weighs : (w : X → ℕ) → sum_by (slot_weight w) after ≡ sum_by (slot_weight w) before + weight w
 
 -- what stands in a slot is of this kind
 abbrev pub AllIn : {X : Type 0} → (X → Type 0) → List (Option X) → Type 0

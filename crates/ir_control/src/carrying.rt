@@ -1,7 +1,7 @@
 //! Carrying out commands in turn, with the injector and the controller of a net.
-ghost use Rattle.std.specs.Prelude.{◌≡◌, ◌++◌, ◌∷◌, List, IfOk, OnOk};
-ghost use Rattle.ir_control.specs.Answers.{CommandAnswer, command_answer, refusal_in, refusal_at, refusals_from};
-ghost use Rattle.ir_control.specs.{Planned.{stamp_by, stamps_in}, Carried.{IsInstalledAs, IsCarriedOut, AreCarriedOut}, Desks.desk_of};
+ghost use Rattle.std.specs.Prelude.{◌≡◌, ◌++◌, IfOk, OnOk};
+ghost use Rattle.ir_control.specs.Answers.{command_answer, refusal_in, refusal_at};
+ghost use Rattle.ir_control.specs.{Carried.{AreTold, IsInstalledAs, IsCarriedOut}, Desks.desk_of, Planned.stamp_by};
 
 use crate::net::{Net, Parts};
 use ir_core::{Command, MAX_EPOCHS, Refused};
@@ -90,8 +90,8 @@ fn note(
     Ok(())
 }
 
-/// Carries out commands in order, and answers each refused one's place, counted from 0, with its refusal; and the stamps of
-/// the opening and of each epoch that was installed.
+/// Carries out commands in order, and answers each refused one's place, counted from 0, with its
+/// refusal; and the stamps of the opening and of each epoch that was installed.
 pub(crate) fn carry_out_all<R: Threads + Moments<Parcel> + Sync, B: Wait + Drop>(
     rt: &R,
     net: &Net,
@@ -100,9 +100,8 @@ pub(crate) fn carry_out_all<R: Threads + Moments<Parcel> + Sync, B: Wait + Drop>
     commands: &[Command],
 ) -> Result<(Vec<(usize, Refused)>, Vec<Stamp>), AllocError>
     requires { parts.old.controller.opening ≡ parts.old.injector.opening }
-    ensures { IfOk result (λ told. (answers : List CommandAnswer)
-        × AreCarriedOut R.was_full commands.now (desk_of parts.old) answers (desk_of parts.new)
-        × (told.0.items ≡ refusals_from 0 answers) × (told.1.items ≡ net.now.opening ∷ stamps_in answers)) }
+    ensures { IfOk result (λ told. AreTold R.was_full commands.now (desk_of parts.old) (desk_of parts.new)
+        net.now.opening told.0.items told.1.items) }
 {
     let alloc = net.alloc();
     let mut refusals = Vec::with_capacity(alloc, commands.len())?;

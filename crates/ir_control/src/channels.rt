@@ -1,7 +1,7 @@
 //! The channels of a net and their ends, and which port is the other end of which port's link.
 ghost use Rattle.std.specs.Prelude.{◌≡◌, ℕ, ◌+◌, ◌^◌, ◌<◌, ◌≤◌, Some, IfOk, IfSome, length, slice_index};
 ghost use Rattle.ir_model.specs.Topology.{node_count, port_at, port_back};
-ghost use Rattle.ir_control.specs.{Places.{offset, way_count, IsFilled, IsFilledTo, IsPeer}, Wired.{IsNetChannel, AreInboxes}};
+ghost use Rattle.ir_control.specs.{Places.{way_count, IsFilled, IsFilledTo, IsPeer}, Wired.{IsNetChannel, AreInboxes, AreOffsets}};
 ghost use Rattle.ir_control.specs.Fresh.{AreFreshOuts, AreFreshIns, AreOutsAt, AreInsAt};
 
 use ir_epochs::Stamp;
@@ -12,7 +12,7 @@ use std::alloc::{AllocError, Global};
 
 /// What all channels of a net have: the opening of the net, its limit on restamps, and their capacity.
 #[derive(Clone, Copy)]
-pub struct Line<'a> {
+pub struct ChannelTerms<'a> {
     pub opening: &'a Stamp,
     pub restamps: u8,
     pub capacity: usize,
@@ -21,37 +21,37 @@ pub struct Line<'a> {
 // A channel between two nodes.
 fn channel(
     alloc: Global,
-    line: &Line<'_>,
+    terms: &ChannelTerms<'_>,
     from: u16,
     to: u16,
 ) -> Result<Channel<Parcel>, AllocError>
-    requires { 0 < line.now.capacity }
+    requires { 0 < terms.now.capacity }
     ensures { IfOk result
-        (λ channel. IsNetChannel line.now.opening.now line.now.restamps line.now.capacity from to channel) }
+        (λ channel. IsNetChannel terms.now.opening.now terms.now.restamps terms.now.capacity from to channel) }
 {
     let place = Place {
         from,
         to,
-        restamps: line.restamps,
-        opening: line.opening.again(),
+        restamps: terms.restamps,
+        opening: terms.opening.again(),
     };
-    Channel::new(alloc, line.capacity, place)
+    Channel::new(alloc, terms.capacity, place)
 }
 
 /// An inbox for each node.
 pub fn inboxes_of(
     alloc: Global,
     topology: &Topology,
-    line: &Line<'_>,
+    terms: &ChannelTerms<'_>,
 ) -> Result<Vec<Channel<Parcel>>, AllocError>
-    requires { 0 < line.now.capacity }
-    ensures { IfOk result (λ inboxes. AreInboxes topology.now line.now.opening.now line.now.restamps
-        line.now.capacity inboxes.items) }
+    requires { 0 < terms.now.capacity }
+    ensures { IfOk result (λ inboxes. AreInboxes topology.now terms.now.opening.now terms.now.restamps
+        terms.now.capacity inboxes.items) }
 {
     let nodes = topology.nodes();
     let mut inboxes = Vec::with_capacity(alloc, nodes)?;
     for u in 0..nodes {
-        inboxes.push(channel(alloc, line, u as u16, u as u16)?)?;
+        inboxes.push(channel(alloc, terms, u as u16, u as u16)?)?;
     }
     Ok(inboxes)
 }
@@ -60,21 +60,21 @@ pub fn inboxes_of(
 fn add_ways(
     alloc: Global,
     topology: &Topology,
-    line: &Line<'_>,
+    terms: &ChannelTerms<'_>,
     u: u16,
     ways: &mut Vec<Channel<Parcel>>,
 ) -> Result<(), AllocError>
-    requires capacity { 0 < line.now.capacity }
+    requires capacity { 0 < terms.now.capacity }
     requires node { u < node_count topology.now }
     requires before { IsFilledTo topology.now
-        (λ v hop channel. IsNetChannel line.now.opening.now line.now.restamps line.now.capacity v hop.node channel)
+        (λ v hop channel. IsNetChannel terms.now.opening.now terms.now.restamps terms.now.capacity v hop.node channel)
         u 0 ways.old.items }
     ensures { IfOk result (λ _. IsFilledTo topology.now
-        (λ v hop channel. IsNetChannel line.now.opening.now line.now.restamps line.now.capacity v hop.node channel)
+        (λ v hop channel. IsNetChannel terms.now.opening.now terms.now.restamps terms.now.capacity v hop.node channel)
         (u + 1) 0 ways.new.items) }
 {
     for hop in topology.ports(u as usize) {
-        ways.push(channel(alloc, line, u, hop.node)?)?;
+        ways.push(channel(alloc, terms, u, hop.node)?)?;
     }
     Ok(())
 }
@@ -83,14 +83,13 @@ fn add_ways(
 pub fn ways_of(
     alloc: Global,
     topology: &Topology,
-    line: &Line<'_>,
+    terms: &ChannelTerms<'_>,
 ) -> Result<(Vec<Channel<Parcel>>, Vec<usize>), AllocError>
-    requires { 0 < line.now.capacity }
+    requires { 0 < terms.now.capacity }
     ensures ways { IfOk result (λ made. IsFilled topology.now
-        (λ v hop channel. IsNetChannel line.now.opening.now line.now.restamps line.now.capacity v hop.node channel)
+        (λ v hop channel. IsNetChannel terms.now.opening.now terms.now.restamps terms.now.capacity v hop.node channel)
         made.0.items) }
-    ensures offsets { IfOk result (λ made. (length made.1.items ≡ node_count topology.now)
-        × ((v : ℕ) → v < node_count topology.now → slice_index made.1.items v ≡ offset topology.now v)) }
+    ensures offsets { IfOk result (λ made. AreOffsets topology.now made.1.items) }
     ensures fits { IfOk result (λ _. way_count topology.now < 2 ^ 64) }
 {
     let nodes = topology.nodes();
@@ -98,7 +97,7 @@ pub fn ways_of(
     let mut offsets = Vec::with_capacity(alloc, nodes)?;
     for u in 0..nodes {
         offsets.push(ways.len())?;
-        add_ways(alloc, topology, line, u as u16, &mut ways)?;
+        add_ways(alloc, topology, terms, u as u16, &mut ways)?;
     }
     Ok((ways, offsets))
 }
@@ -126,8 +125,7 @@ fn add_peers(
     peers: &mut Vec<usize>,
 ) -> Result<(), AllocError>
     requires node { u < node_count topology.now }
-    requires offsets { (length offsets.now ≡ node_count topology.now)
-        × ((v : ℕ) → v < node_count topology.now → slice_index offsets.now v ≡ offset topology.now v) }
+    requires offsets { AreOffsets topology.now offsets.now }
     requires fits { way_count topology.now < 2 ^ 64 }
     requires before { IsFilledTo topology.now (IsPeer topology.now) u 0 peers.old.items }
     ensures { IfOk result (λ _. IsFilledTo topology.now (IsPeer topology.now) (u + 1) 0 peers.new.items) }
@@ -145,8 +143,7 @@ pub fn peers_of(
     topology: &Topology,
     offsets: &[usize],
 ) -> Result<Vec<usize>, AllocError>
-    requires offsets { (length offsets.now ≡ node_count topology.now)
-        × ((v : ℕ) → v < node_count topology.now → slice_index offsets.now v ≡ offset topology.now v) }
+    requires offsets { AreOffsets topology.now offsets.now }
     requires fits { way_count topology.now < 2 ^ 64 }
     ensures { IfOk result (λ peers. IsFilled topology.now (IsPeer topology.now) peers.items) }
 {
@@ -190,7 +187,6 @@ pub(crate) fn outs_of(
     ensures fresh { AreFreshOuts channels.now.items senders.new.items }
     ensures outs { IfOk result (λ given. IfSome given (λ outs. AreOutsAt channels.now.items first count outs.items)) }
 {
-    let _all = channels.len();
     let mut outs = Vec::with_capacity(alloc, count)?;
     for p in 0..count {
         let Some(sender) = senders[first + p].take() else {
@@ -218,7 +214,6 @@ pub(crate) fn ins_of(
     ensures ins { IfOk result (λ given. IfSome given
         (λ ins. AreInsAt channels.now.items peers.now first count ins.items)) }
 {
-    let _all = channels.len();
     let mut ins = Vec::with_capacity(alloc, count)?;
     for p in 0..count {
         let Some(taker) = takers[peers[first + p]].take() else {

@@ -23,12 +23,12 @@ use std::thread::Threads;
 /// registry are used up: an epoch whose plan was registered and not published stays left out.
 #[derive(Drop)]
 pub struct Controller<R: Wait + Drop> {
-    alloc: Global,
-    registry: Arc<Registry, Global>,
-    opening: Stamp,
-    labels: LabelOrder,
-    writer: BoardWriter<R>,
-    used: u32,
+    pub(crate) alloc: Global,
+    pub(crate) registry: Arc<Registry, Global>,
+    pub(crate) opening: Stamp,
+    pub(crate) labels: LabelOrder,
+    pub(crate) writer: BoardWriter<R>,
+    pub(crate) used: u32,
     ghost of_registry: { IsOf (arc_value registry) opening },
     ghost registry_is: { registry_of (published writer) ≡ registry_name opening },
     ghost topology_is: { topology_of (published writer) ≡ (knows opening).topology },
@@ -40,33 +40,9 @@ pub struct Controller<R: Wait + Drop> {
 impl<R: Wait + Drop> Controller<R> {
     ghost use Rattle.ir_control.specs.Changes.{published_by, newest_board, IsReadBy, retiring_refused, marking_refused};
     ghost use Rattle.ir_worker.specs.Same.{known_to};
-    ghost use Rattle.ir_control.specs.Changes.{install_refusal, topology_up, IsChangeAnswer, IsInstallAnswer};
+    ghost use Rattle.ir_control.specs.Changes.{install_refusal, IsChangeAnswer, IsInstallAnswer, IsPlanAnswer};
     ghost use Rattle.ir_epochs.specs.declared.entry.Change.TheVariants.{Retire, Down, Up};
     ghost use Rattle.std.specs.Prelude.{◌↔◌, IsTrue, true, false};
-
-    // The controller of a board that was just opened over the stamp of epoch 1.
-    pub(crate) fn new(
-        alloc: Global,
-        registry: Arc<Registry, Global>,
-        opening: &Stamp,
-        labels: LabelOrder,
-        writer: BoardWriter<R>,
-    ) -> Controller<R>
-        requires registry { IsOf (arc_value registry) opening.now }
-        requires board { published writer ≡ Opened (length (knows opening.now).topology.links) opening.now ∷ [] }
-        requires few_links { length (knows opening.now).topology.links ≤ MAX_LINKS }
-        ensures { (result.opening ≡ opening.now) × (result.registry ≡ registry) × (result.writer ≡ writer)
-            × (result.used ≡ 1) × (result.labels ≡ labels) }
-    {
-        Controller {
-            alloc,
-            registry,
-            opening: opening.again(),
-            labels,
-            writer,
-            used: 1,
-        }
-    }
 
     /// The board as it is.
     pub fn board(&self) -> Board
@@ -91,15 +67,12 @@ impl<R: Wait + Drop> Controller<R> {
         ensures answer { IsChangeAnswer None change self.old self.new result }
         ensures number { IfErr result (λ e. 0 < change_number e) }
     {
-        match self.writer.change(change) {
-            Ok(receipt) => Ok(receipt),
-            Err(_) => Err(Refused::NoMemory),
-        }
+        self.writer.change(change).map_err(|_| Refused::NoMemory)
     }
 
-    /// Retires the epochs below a floor. Refused are, in this order: a floor above the current epoch (`NoEpoch`), one
-    /// that is not above the present floor (`Same`), a change too many, want of memory. `Refused::change_number` has the
-    /// numbers of a change's refusals.
+    /// Retires the epochs below a floor. Refused are, in this order: a floor above the current
+    /// epoch (`NoEpoch`), one that is not above the present floor (`Same`), a change too many, want
+    /// of memory. `Refused::change_number` has the numbers of a change's refusals.
     pub fn retire(&mut self, floor: u32) -> Result<Receipt, Refused>
         ensures answer { IsChangeAnswer (retiring_refused self.old floor) (Retire floor) self.old self.new result }
         ensures number { IfErr result (λ e. 0 < change_number e) }
@@ -157,10 +130,7 @@ impl<R: Wait + Drop> Controller<R> {
     // The plan of this kind and root over the links that are up.
     fn plan(&self, rt: &(impl Threads + Sync), kind: Kind, root: u16) -> Result<Plan, Refused>
         requires { root < node_count (knows self.now.opening).topology }
-        ensures answer { MatchResult result
-            (λ p. IsMade self.now.labels kind root (topology_up self.now) (Some p))
-            (λ e. ((e ≡ Refused.Disconnected) × IsDisconnected (topology_up self.now))
-            ⊎ (e ≡ Refused.NoMemory)) }
+        ensures answer { IsPlanAnswer kind root self.now result }
         ensures number { IfErr result (λ e. 0 < install_number e) }
     {
         let topology = self.registry.plan(&self.opening).topology();
@@ -187,9 +157,8 @@ impl<R: Wait + Drop> Controller<R> {
         ensures answer { IsInstallAnswer kind root self.old self.new result }
         ensures number { IfErr result (λ e. 0 < install_number e) }
     {
-        match self.install_refusal(root) {
-            Some(error) => return Err(error),
-            None => {}
+        if let Some(error) = self.install_refusal(root) {
+            return Err(error);
         }
         let plan = match self.plan(rt, kind, root) {
             Ok(plan) => plan,

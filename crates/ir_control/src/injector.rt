@@ -1,12 +1,12 @@
 //! The injector: it puts packets into the nodes' inboxes and keeps what was accepted.
-ghost use Rattle.std.specs.Prelude.{◌≡◌, ℕ, Bool, All, ◌<◌, ◌≤◌, [], ◌∷◌, IfErr, MatchResult, Some, None, length};
+ghost use Rattle.std.specs.Prelude.{◌≡◌, ℕ, Bool, All, ◌<◌, ◌≤◌, [], IfErr, Some, length, slice_get};
 ghost use Rattle.std.specs.Arc.{arc_value};
 ghost use Rattle.ir_model.specs.Topology.{node_count};
 ghost use Rattle.ir_core.specs.declared.TheConstants.{MAX_NODES, MAX_PACKETS};
 ghost use Rattle.ir_epochs.specs.Stamps.{IsOf, knows, registry_name};
-ghost use Rattle.ir_worker.specs.Seen.{HasRoomOf, IsOfNet};
+ghost use Rattle.ir_worker.specs.{Seen.{GoesTo, IsOfNet}, Wires.Out};
 ghost use Rattle.ir_worker.specs.Account.{Head, times_sent, weigh_sent, restamps_with, lines_out};
-ghost use Rattle.ir_control.specs.{Whole.IsParcelOf, Heads.{times_injected, AreNumbered}, Outs.{AreEntryEnds, IsSent}};
+ghost use Rattle.ir_control.specs.{Heads.{times_injected, AreNumbered}, Outs.{AreEntryEnds, IsSent}};
 
 use ir_core::Refused;
 use ir_epochs::{Receipt, Registry, Stamp};
@@ -28,12 +28,12 @@ pub struct Accepted {
 /// keeps a list of the packets that were accepted. What it sends had no restamp.
 #[derive(Drop)]
 pub struct Injector {
-    alloc: Global,
-    registry: Arc<Registry, Global>,
-    opening: Stamp,
-    newest: Stamp,
-    restamps: u8,
-    max_packets: usize,
+    pub(crate) alloc: Global,
+    pub(crate) registry: Arc<Registry, Global>,
+    pub(crate) opening: Stamp,
+    pub(crate) newest: Stamp,
+    pub(crate) restamps: u8,
+    pub(crate) max_packets: usize,
     pub(crate) outs: Vec<Sender<Parcel>>,
     pub(crate) accepted: Vec<Accepted>,
     ghost of_registry: { IsOf (arc_value registry) opening },
@@ -50,24 +50,15 @@ pub struct Injector {
 // Puts a parcel into an inbox, unless it has no room.
 fn send_to<R: Moments<Parcel>>(
     rt: &R,
-    opening: &Stamp,
-    restamps: u8,
     outs: &mut Vec<Sender<Parcel>>,
     node: usize,
     parcel: Parcel,
 ) -> bool
     requires node { node < length outs.old.items }
-    requires ends { AreEntryEnds opening.now restamps (lines_out outs.old.items) }
-    requires next { parcel.next ≡ node }
-    requires hops { parcel.packet.hops ≡ node ∷ [] }
-    requires stamp { IsParcelOf opening.now parcel }
-    requires fresh { parcel.packet.restamps ≡ [] }
-    requires room { HasRoomOf opening.now restamps parcel }
+    requires goes { (s : Out) → slice_get outs.old.items node ≡ Some s → GoesTo parcel s.channel.place }
     ensures sent { IsSent R.was_full outs.old.items outs.new.items node parcel result }
     ensures lines { lines_out outs.new.items ≡ lines_out outs.old.items }
 {
-    let _ = opening;
-    let _ = restamps;
     let out = &mut outs[node];
     match out.send(rt, parcel) {
         Ok(()) => {}
@@ -80,35 +71,6 @@ impl Injector {
     ghost use Rattle.ir_control.specs.{Accepted.{accepted_count, IsOfRegistryOf, IsOfNetworkOf}, Refusals.IsInjectAnswer};
     ghost use Rattle.ir_control.specs.Accepted.{HasNewestBy, HasAllOf, HasTermsOf, HasLinesOf};
     ghost use Rattle.ir_core.specs.Codes.{inject_number};
-
-    // An injector that accepted nothing, and learnt epoch 1.
-    pub(crate) fn new(
-        alloc: Global,
-        registry: Arc<Registry, Global>,
-        opening: &Stamp,
-        restamps: u8,
-        max_packets: usize,
-        outs: Vec<Sender<Parcel>>,
-    ) -> Injector
-        requires registry { IsOf (arc_value registry) opening.now }
-        requires few_nodes { node_count (knows opening.now).topology ≤ MAX_NODES }
-        requires few_packets { max_packets ≤ MAX_PACKETS }
-        requires ends { AreEntryEnds opening.now restamps (lines_out outs.items) }
-        requires fresh { All (λ s. s.sent ≡ []) outs.items }
-        ensures { (result.opening ≡ opening.now) × (result.newest ≡ opening.now)
-            × (result.max_packets ≡ max_packets) × (result.outs ≡ outs) × (result.accepted.items ≡ []) }
-    {
-        Injector {
-            alloc,
-            registry,
-            opening: opening.again(),
-            newest: opening.again(),
-            restamps,
-            max_packets,
-            outs,
-            accepted: Vec::new(alloc),
-        }
-    }
 
     /// How many packets were accepted.
     pub fn count(&self) -> u32
@@ -171,14 +133,7 @@ impl Injector {
         let Ok(()) = self.accepted.reserve(1) else {
             return Err(Refused::NoMemory);
         };
-        if !send_to(
-            rt,
-            &self.opening,
-            self.restamps,
-            &mut self.outs,
-            source as usize,
-            parcel,
-        ) {
+        if !send_to(rt, &mut self.outs, source as usize, parcel) {
             return Err(Refused::InboxFull);
         }
         self.accepted.push_reserved(Accepted {
@@ -194,16 +149,7 @@ impl Injector {
     pub(crate) fn into_outs(self) -> Vec<Sender<Parcel>>
         ensures { result ≡ self.outs }
     {
-        let Injector {
-            alloc: _,
-            registry: _,
-            opening: _,
-            newest: _,
-            restamps: _,
-            max_packets: _,
-            outs,
-            accepted: _,
-        } = self;
+        let Injector { outs, .. } = self;
         outs
     }
 }

@@ -3,22 +3,18 @@ ghost use Rattle.std.specs.Prelude.{◌≡◌, ◌≤◌, ◌<◌, ◌+◌, ◌+
 ghost use Rattle.ir_model.specs.Topology.{node_count};
 ghost use Rattle.ir_worker.specs.{Seen.Parcel, Account.lines_out};
 ghost use Rattle.ir_control.specs.{Parts.AreNodesOf, Pairs.ArePaired, Places.way_count, Told.IsOutcomeIn};
-ghost use Rattle.ir_control.specs.{Whole.{IsParcelOf, IsFew}, Slots.{times_in_slots, weight_taken, left_in}};
+ghost use Rattle.ir_control.specs.{Whole.{AreOfNet, AreTakersOf, StayOfNet}, Slots.{times_in_slots, weight_taken, left_in}};
 ghost use Rattle.ir_control.specs.{Reported.{AreEmptyRows, AreAllThere, IsGathered}, Rowed.{AreEndRows, AreSlotsFrom, AreWeighed}};
 
 use crate::net::Net;
 use crate::outcomes::empty_slots;
 use crate::placing::place_all;
-use ir_epochs::Stamp;
 use ir_links::{Remains, Sender, Taker, join};
 use ir_worker::{Ends, Node, Outcome, Parcel};
 use std::alloc::{AllocError, Global};
 
-// Brings the ends of each channel together: a taker's other end stands in the slot of its peer. What is left is of the
-// net of the opening, which allows so many restamps.
+// Brings the ends of each channel together: a taker's other end stands in the slot of its peer.
 fn join_all(
-    opening: &Stamp,
-    restamps: u8,
     peers: &[usize],
     mut senders: Vec<Option<Sender<Parcel>>>,
     mut takers: Vec<Taker<Parcel>>,
@@ -26,20 +22,13 @@ fn join_all(
 )
     requires pairs { ArePaired peers.now senders.items takers.items }
     requires room { vec_len channels.old + length takers.items ≤ vec_capacity channels.old }
-    requires places { All (λ t. t.channel.place.opening ≡ opening.now) takers.items }
-    requires limits { All (λ t. t.channel.place.restamps ≡ restamps) takers.items }
-    requires of_net { All (λ x. IsParcelOf opening.now x) (left_in channels.old.items) }
-    requires few { All (λ x. IsFew restamps x) (left_in channels.old.items) }
     ensures account { (w : Parcel → ℕ)
         → times_in_slots w senders.items + sum_by w (left_in channels.old.items) ≡ weight_taken w takers.items
         + sum_by w (left_in channels.new.items) }
     ensures room { (vec_capacity channels.new ≡ vec_capacity channels.old)
         × (vec_len channels.new ≤ vec_len channels.old + length takers.items) }
-    ensures of_net { All (λ x. IsParcelOf opening.now x) (left_in channels.new.items) }
-    ensures few { All (λ x. IsFew restamps x) (left_in channels.new.items) }
+    ensures of_net { StayOfNet takers.items (left_in channels.old.items) (left_in channels.new.items) }
 {
-    let _ = opening;
-    let _ = restamps;
     while let Some(taker) = takers.pop() {
         let place = peers[takers.len()];
         if let Some(sender) = senders[place].take() {
@@ -48,8 +37,8 @@ fn join_all(
     }
 }
 
-// Brings the ends of the inboxes together, whose senders are the injector's, and then those of the ways. What was sent is
-// what was taken and what is left, whatever each parcel weighs.
+// Brings the ends of the inboxes together, whose senders are the injector's, and then those of the
+// ways. What was sent is what was taken and what is left, whatever each parcel weighs.
 fn gather(
     net: &Net,
     injected: Vec<Option<Sender<Parcel>>>,
@@ -60,23 +49,17 @@ fn gather(
 )
     requires entries { ArePaired net.now.entries.items injected.items inboxes.items }
     requires ways { ArePaired net.now.peers.items senders.items takers.items }
-    requires places_in { All (λ t. t.channel.place.opening ≡ net.now.opening) inboxes.items }
-    requires places { All (λ t. t.channel.place.opening ≡ net.now.opening) takers.items }
-    requires limits_in { All (λ t. t.channel.place.restamps ≡ net.now.restamps) inboxes.items }
-    requires limits { All (λ t. t.channel.place.restamps ≡ net.now.restamps) takers.items }
-    requires of_net { All (λ x. IsParcelOf net.now.opening x) (left_in channels.old.items) }
-    requires few { All (λ x. IsFew net.now.restamps x) (left_in channels.old.items) }
+    requires inboxes { AreTakersOf net.now.opening net.now.restamps inboxes.items }
+    requires takers { AreTakersOf net.now.opening net.now.restamps takers.items }
+    requires of_net { AreOfNet net.now.opening net.now.restamps (left_in channels.old.items) }
     requires room { vec_len channels.old + (length inboxes.items + length takers.items) ≤ vec_capacity channels.old }
     ensures account { (w : Parcel → ℕ)
         → (times_in_slots w injected.items + times_in_slots w senders.items) + sum_by w (left_in channels.old.items)
         ≡ (weight_taken w inboxes.items + weight_taken w takers.items) + sum_by w (left_in channels.new.items) }
-    ensures of_net { All (λ x. IsParcelOf net.now.opening x) (left_in channels.new.items) }
-    ensures few { All (λ x. IsFew net.now.restamps x) (left_in channels.new.items) }
+    ensures of_net { AreOfNet net.now.opening net.now.restamps (left_in channels.new.items) }
 {
-    let (opening, restamps) = (&net.opening, net.restamps);
-    let (entries, peers) = (net.entries.as_slice(), net.peers.as_slice());
-    join_all(opening, restamps, entries, injected, inboxes, channels);
-    join_all(opening, restamps, peers, senders, takers, channels);
+    join_all(net.entries.as_slice(), injected, inboxes, channels);
+    join_all(net.peers.as_slice(), senders, takers, channels);
 }
 
 // Moves all of a row to the end of another, which has room.
@@ -166,7 +149,7 @@ fn take_apart(
 
 /// A slot for each node, and rows for all ends.
 #[derive(Drop)]
-pub(crate) struct Rows {
+pub(crate) struct EndRows {
     pub(crate) slots: Vec<Option<Node>>,
     pub(crate) outs: Vec<Option<Sender<Parcel>>>,
     pub(crate) inboxes: Vec<Taker<Parcel>>,
@@ -176,10 +159,10 @@ pub(crate) struct Rows {
 }
 
 /// Empty rows for so many nodes and ways.
-pub(crate) fn empty_rows(alloc: Global, nodes: usize, ways: usize) -> Result<Rows, AllocError>
+pub(crate) fn empty_rows(alloc: Global, nodes: usize, ways: usize) -> Result<EndRows, AllocError>
     ensures { IfOk result (λ rows. AreEmptyRows nodes ways rows) }
 {
-    Ok(Rows {
+    Ok(EndRows {
         slots: empty_slots(alloc, nodes)?,
         outs: Vec::with_capacity(alloc, nodes)?,
         inboxes: Vec::with_capacity(alloc, nodes)?,
@@ -194,7 +177,7 @@ pub(crate) fn left_over(
     net: &Net,
     nodes: Vec<Node>,
     injected: Vec<Sender<Parcel>>,
-    rows: Rows,
+    rows: EndRows,
     channels: &mut Vec<Remains<Parcel>>,
 ) -> Vec<Vec<Outcome>>
     requires nodes { AreNodesOf net.now nodes.items }
@@ -206,10 +189,9 @@ pub(crate) fn left_over(
     ensures gathered { IsGathered nodes.items injected.items (λ w. sum_by (λ row. sum_by w row.items) result.items)
         (left_in channels.new.items) }
     ensures settled { All (λ row. All (λ o. IsOutcomeIn net.now.opening o) row.items) result.items }
-    ensures left { All (λ x. IsParcelOf net.now.opening x) (left_in channels.new.items) }
-    ensures few { All (λ x. IsFew net.now.restamps x) (left_in channels.new.items) }
+    ensures left { AreOfNet net.now.opening net.now.restamps (left_in channels.new.items) }
 {
-    let Rows {
+    let EndRows {
         mut slots,
         mut outs,
         mut inboxes,
@@ -217,7 +199,7 @@ pub(crate) fn left_over(
         mut senders,
         mut settled,
     } = rows;
-    place_all(net, nodes, &mut slots);
+    place_all(nodes, &mut slots);
     append_slots(&mut outs, injected);
     take_apart(
         net,

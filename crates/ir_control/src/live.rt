@@ -18,18 +18,18 @@ pub struct Live {
 pub enum LiveError {
     /// The net's parts were handed out before.
     #[error("the net is spent")]
-    Spent,
+    Spent = 1,
     #[error("a thread was not started")]
-    NoThread,
+    NoThread = 2,
     /// A growth was refused, in a worker too. A command's stands among the refusals.
     #[error("out of memory")]
-    NoMemory,
+    NoMemory = 3,
     /// The board has no place for a reader of each node.
     #[error("no place is left for a reader of the board")]
-    TooManyReaders,
+    TooManyReaders = 4,
     /// A node knows of the board what its controller did not publish.
     #[error("a node knows what was not published")]
-    Unpublished,
+    Unpublished = 5,
 }
 
 impl LiveError {
@@ -37,12 +37,6 @@ impl LiveError {
     pub fn code(self) -> u8
         ensures { result ≡ live_code self }
     {
-        match self {
-            LiveError::Spent => 1,
-            LiveError::NoThread => 2,
-            LiveError::NoMemory => 3,
-            LiveError::TooManyReaders => 4,
-            LiveError::Unpublished => 5,
-        }
+        self as u8
     }
 }

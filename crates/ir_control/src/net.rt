@@ -6,13 +6,12 @@ ghost use Rattle.ir_control.specs.{Places.offset, Opened.IsNetRefusal};
 ghost use Rattle.ir_control.specs.Wired.{AreInboxes, AreWiredWays, AreEntries, AreOffsets, IsOpening};
 ghost use Rattle.ir_epochs.specs.Stamps.{IsOf, knows};
 
-use crate::channels::{Line, all_ends, inboxes_of, ins_of, outs_of, peers_of, ways_of};
+use crate::channels::{ChannelTerms, all_ends, inboxes_of, ins_of, outs_of, peers_of, ways_of};
 use crate::controller::Controller;
 use crate::injector::Injector;
 use ir_core::{Draft, MAX_PACKETS, MAX_RESTAMPS, OpenError, Opening, open_refusal, plan_over_by};
 use ir_epochs::{BoardError, BoardReader, BoardWriter, RegisterError, Registry, Stamp, board};
 use ir_links::{Channel, Sender, Taker};
-use ir_model::Kind;
 use ir_plan::{LabelOrder, Several};
 use ir_tables::Topology;
 use ir_worker::{Common, Ends, Node, Parcel};
@@ -102,36 +101,14 @@ fn entries_of(alloc: Global, nodes: usize) -> Result<Vec<usize>, AllocError>
 }
 
 impl Net {
-    ghost use Rattle.ir_core.specs.Opened.{opening_of};
     ghost use Rattle.ir_control.specs.Nets.{IsNetFor};
-
-    /// The net that `open` gives of the opening by these, whose plans are labelled depth first. For users of the library.
-    pub fn new(
-        rt: &(impl Threads + Sync),
-        alloc: Global,
-        topology: Topology,
-        kind: Kind,
-        root: u16,
-        capacity: usize,
-        max_packets: usize,
-        restamps: u8,
-    ) -> Result<Net, OpenError>
-        ensures opened { IfOk result
-            (λ net. IsNetFor (opening_of topology kind root capacity max_packets restamps) net) }
-        ensures accepted { IfOk result
-            (λ _. open_refused (opening_of topology kind root capacity max_packets restamps) ≡ None) }
-        ensures refused { IfErr result
-            (λ e. IsNetRefusal (opening_of topology kind root capacity max_packets restamps) e) }
-    {
-        let opening = Opening::of(topology, kind, root, capacity, max_packets, restamps);
-        Net::open(rt, alloc, opening)
-    }
 
     /// A net for an opening, whose epoch 1 has a plan of the opening's kind and root over all links.
     ///
-    /// Refused are, in this order: no node (`Empty`), a root that is no node, more than 1,024 nodes or 8,192 links or another
-    /// number out of its range (`TooLarge`), some node without a walk to some node, want of memory. `Used` would say
-    /// that a fresh cell of the registry refused its plan.
+    /// Refused are, in this order: no node (`Empty`), a root that is no node, more than 1,024 nodes
+    /// or 8,192 links or another number out of its range (`TooLarge`), some node without a walk to
+    /// some node, want of memory. `Used` would say that a fresh cell of the registry refused its
+    /// plan.
     pub fn open(
         rt: &(impl Threads + Sync),
         alloc: Global,
@@ -145,10 +122,7 @@ impl Net {
             return Err(error);
         }
         let (registry, first) = registered(rt, alloc, &opening)?;
-        match Net::wired(alloc, registry, first, opening) {
-            Ok(net) => Ok(net),
-            Err(_) => Err(OpenError::NoMemory),
-        }
+        Net::wired(alloc, registry, first, opening).map_err(|_| OpenError::NoMemory)
     }
 
     // With its channels.
@@ -171,24 +145,23 @@ impl Net {
         let Opening {
             topology,
             labels,
-            kind: _,
-            root: _,
             capacity,
             max_packets,
             restamps,
+            ..
         } = opening;
         let Ok(registry) = Arc::new(alloc, registry) else {
             return Err(AllocError);
         };
         let nodes = topology.nodes();
-        let line = Line {
+        let terms = ChannelTerms {
             opening: &first,
             restamps,
             capacity,
         };
-        let inboxes = inboxes_of(alloc, &topology, &line)?;
+        let inboxes = inboxes_of(alloc, &topology, &terms)?;
         let entries = entries_of(alloc, nodes)?;
-        let (ways, offsets) = ways_of(alloc, &topology, &line)?;
+        let (ways, offsets) = ways_of(alloc, &topology, &terms)?;
         let peers = peers_of(alloc, &topology, offsets.as_slice())?;
         let Ok(settled) = Arc::new(alloc, AtomicU32::new(0)) else {
             return Err(AllocError);
@@ -309,30 +282,26 @@ pub struct Parts<R: Wait + Drop> {
 }
 
 impl Net {
-    ghost use Rattle.std.specs.Prelude.{All, [], ◌∷◌, IfSome};
-    ghost use Rattle.ir_epochs.specs.declared.entry.Entry.TheVariants.{Opened};
+    ghost use Rattle.std.specs.Prelude.{All, IfSome};
     ghost use Rattle.ir_epochs.specs.Handles.{known, published, reader_board, writer_board};
-    ghost use Rattle.ir_control.specs.{Fresh.AreFreshIns, Parts.{AreFirstNodes, IsFreshNode, AreFreshParts}};
+    ghost use Rattle.ir_control.specs.Fresh.{AreFreshIns};
+    ghost use Rattle.ir_control.specs.Parts.{opening_entries, AreFirstNodes, AreFreshParts, IsFreshNode, ReadsAsOneOf};
 
     // All nodes, by number.
-    fn nodes<R: Wait + Drop>(
+    fn nodes(
         &self,
-        writer: &BoardWriter<R>,
         mut inboxes: Vec<Option<Taker<Parcel>>>,
         mut readers: Vec<BoardReader>,
     ) -> Result<Option<Vec<Node>>, AllocError>
         requires inboxes { AreFreshIns self.now.inboxes.items inboxes.items }
-        requires opening { published writer.now ≡ Opened (length self.now.topology.links) self.now.opening ∷ [] }
-        requires readers { All (λ x. (known x ≡ published writer.now)
-            × (reader_board x ≡ writer_board writer.now)) readers.items }
+        requires readers { All (λ x. known x ≡ opening_entries self.now) readers.items }
         ensures nodes { IfOk result (λ given. IfSome given
             (λ nodes. AreFirstNodes self.now (node_count self.now.topology) nodes.items)) }
         ensures boards { IfOk result (λ given. IfSome given
-            (λ nodes. All (λ n. reader_board n.reader ≡ writer_board writer.now) nodes.items)) }
+            (λ nodes. All (ReadsAsOneOf readers.items) nodes.items)) }
         ensures fresh { IfOk result (λ given. IfSome given
-            (λ nodes. All (IsFreshNode (published writer.now)) nodes.items)) }
+            (λ nodes. All (IsFreshNode (opening_entries self.now)) nodes.items)) }
     {
-        let _ = writer;
         let Some((mut senders, mut takers)) = all_ends(self.alloc, &self.ways)? else {
             return Ok(None);
         };
@@ -362,7 +331,8 @@ impl Net {
 
     /// The parts of the net, once, and then `None`; after an error `None` too.
     ///
-    /// An error is that of the board, which has no place for a reader of each node (`TooManyReaders`), or want of memory.
+    /// An error is that of the board, which has no place for a reader of each node
+    /// (`TooManyReaders`), or want of memory.
     pub fn parts<R: Wait + Drop>(&self, rt: R) -> Result<Option<Parts<R>>, BoardError>
         ensures { IfOk result (λ given. IfSome given
             (λ parts. AreFreshParts self.now parts.nodes.items parts.injector parts.controller)) }
@@ -372,14 +342,9 @@ impl Net {
         }
         let nodes = self.topology.nodes();
         let links = self.topology.links() as u16;
-        let (writer, readers) = match board(rt, self.alloc, &self.opening, links, nodes as u16) {
-            Ok(both) => both,
-            Err(error) => return Err(error),
-        };
-        match self.parts_over(writer, readers) {
-            Ok(parts) => Ok(parts),
-            Err(_) => Err(BoardError::NoMemory),
-        }
+        let (writer, readers) = board(rt, self.alloc, &self.opening, links, nodes as u16)?;
+        self.parts_over(writer, readers)
+            .map_err(|_| BoardError::NoMemory)
     }
 
     // The parts over a board that was just opened, with a reader of it for each node.
@@ -388,7 +353,7 @@ impl Net {
         writer: BoardWriter<R>,
         readers: Vec<BoardReader>,
     ) -> Result<Option<Parts<R>>, AllocError>
-        requires opening { published writer ≡ Opened (length self.now.topology.links) self.now.opening ∷ [] }
+        requires opening { published writer ≡ opening_entries self.now }
         requires readers { All (λ x. (known x ≡ published writer) × (reader_board x ≡ writer_board writer))
             readers.items }
         ensures { IfOk result (λ given. IfSome given
@@ -401,24 +366,27 @@ impl Net {
         let Some(outs) = outs_of(self.alloc, &self.inboxes, 0, nodes, &mut entries)? else {
             return Ok(None);
         };
-        let Some(nodes) = self.nodes(&writer, inboxes, readers)? else {
+        let Some(nodes) = self.nodes(inboxes, readers)? else {
             return Ok(None);
         };
-        let injector = Injector::new(
-            self.alloc,
-            Arc::try_clone(&self.registry)?,
-            &self.opening,
-            self.restamps,
-            self.max_packets,
+        let injector = Injector {
+            alloc: self.alloc,
+            registry: Arc::try_clone(&self.registry)?,
+            opening: self.opening.again(),
+            newest: self.opening.again(),
+            restamps: self.restamps,
+            max_packets: self.max_packets,
             outs,
-        );
-        let controller = Controller::new(
-            self.alloc,
-            Arc::try_clone(&self.registry)?,
-            &self.opening,
-            self.labels,
+            accepted: Vec::new(self.alloc),
+        };
+        let controller = Controller {
+            alloc: self.alloc,
+            registry: Arc::try_clone(&self.registry)?,
+            opening: self.opening.again(),
+            labels: self.labels,
             writer,
-        );
+            used: 1,
+        };
         Ok(Some(Parts {
             nodes,
             injector,

@@ -1,14 +1,14 @@
 //! One slot for each packet.
-ghost use Rattle.std.specs.Prelude.{◌≡◌, ◌≤◌, ◌<◌, ◌+◌, [], ℕ, All, List, None, Some, IfOk, length, map, slice_index_or, sum_by, vec_capacity};
-ghost use Rattle.ir_core.specs.declared.packet.Fate.TheVariants.{Left};
+ghost use Rattle.std.specs.Prelude.{◌≡◌, ◌<◌, ℕ, All, None, Some, IfOk, length, slice_index_or, sum_by};
 ghost use Rattle.ir_worker.specs.declared.parcel.Outcome.{Outcome};
-ghost use Rattle.ir_control.specs.Slots.{slot_weight, hit, once, AllAt, AllIn, left_in};
-ghost use Rattle.ir_control.specs.Parts.{node_number, IsNodeOf};
-ghost use Rattle.ir_control.specs.{Told.{Told, outcome_told, told_left, outcome_number, IsOutcomeIn}, Whole.IsParcelOf};
+ghost use Rattle.ir_control.specs.{Slots.{hit, AllIn, CameIntoSlots, MayPlace, left_in}, Whole.IsParcelOf};
+ghost use Rattle.ir_control.specs.{Parts.{node_number, IsNodeOf}, Reports.IsEmptyReport};
+ghost use Rattle.ir_control.specs.Told.{outcome_number, AreLeftPlaced, IsOutcomeIn, TellsOf};
+ghost use Rattle.ir_epochs.specs.declared.registry.Stamp.{Stamp};
 
 use crate::net::Net;
 use crate::placing::{Member, place, place_all};
-use ir_core::Record;
+use crate::report::Report;
 use ir_epochs::Stamp;
 use ir_links::Remains;
 use ir_worker::{Node, Outcome, Parcel};
@@ -55,51 +55,30 @@ pub(crate) fn empty_slots<T: Drop>(
 }
 
 /// Puts the outcomes of each row into the slots of their packets.
-pub(crate) fn place_rows(
-    opening: &Stamp,
-    mut rows: Vec<Vec<Outcome>>,
-    slots: &mut Vec<Option<Outcome>>,
-)
-    requires at { AllAt outcome_number slots.old.items }
-    requires fits { (i : ℕ) → sum_by (slot_weight (hit outcome_number i)) slots.old.items
-        + sum_by (λ row. sum_by (hit outcome_number i) row.items) rows.items ≤ once (length slots.old.items) i }
-    requires all { AllIn (λ o. IsOutcomeIn opening.now o) slots.old.items }
-    requires belongs { All (λ row. All (λ o. IsOutcomeIn opening.now o) row.items) rows.items }
-    ensures length { length slots.new.items ≡ length slots.old.items }
-    ensures at { AllAt outcome_number slots.new.items }
-    ensures all { AllIn (λ o. IsOutcomeIn opening.now o) slots.new.items }
-    ensures weighs { (w : Outcome → ℕ)
-        → sum_by (slot_weight w) slots.new.items ≡ sum_by (slot_weight w) slots.old.items
-        + sum_by (λ row. sum_by w row.items) rows.items }
+pub(crate) fn place_rows(mut rows: Vec<Vec<Outcome>>, slots: &mut Vec<Option<Outcome>>)
+    requires { MayPlace outcome_number slots.old.items
+        (λ i. sum_by (λ row. sum_by (hit outcome_number i) row.items) rows.items) }
+    ensures placed { CameIntoSlots outcome_number slots.old.items slots.new.items
+        (λ w. sum_by (λ row. sum_by w row.items) rows.items) }
+    ensures all { (opening : Stamp) → AllIn (λ o. IsOutcomeIn opening o) slots.old.items
+        → All (λ row. All (λ o. IsOutcomeIn opening o) row.items) rows.items
+        → AllIn (λ o. IsOutcomeIn opening o) slots.new.items }
 {
     while let Some(row) = rows.pop() {
-        place_all(opening, row, slots);
+        place_all(row, slots);
     }
 }
 
 // Puts what is left of each parcel of a channel into the slot of its packet, as it is taken.
-fn place_rest<R: Wait>(
-    rt: &R,
-    opening: &Stamp,
-    mut channel: Remains<Parcel>,
-    slots: &mut Vec<Option<Outcome>>,
-)
-    requires at { AllAt outcome_number slots.old.items }
-    requires fits { (i : ℕ) → sum_by (slot_weight (hit outcome_number i)) slots.old.items
-        + sum_by (hit (λ x. x.packet.id) i) channel.left ≤ once (length slots.old.items) i }
-    requires all { AllIn (λ o. IsOutcomeIn opening.now o) slots.old.items }
-    requires belongs { All (λ x. IsParcelOf opening.now x) channel.left }
-    ensures length { length slots.new.items ≡ length slots.old.items }
-    ensures at { AllAt outcome_number slots.new.items }
-    ensures all { AllIn (λ o. IsOutcomeIn opening.now o) slots.new.items }
-    ensures weighs { (w : Told → ℕ)
-        → sum_by (slot_weight (λ o. w (outcome_told o))) slots.new.items
-        ≡ sum_by (slot_weight (λ o. w (outcome_told o))) slots.old.items + sum_by (λ x. w (told_left x)) channel.left }
-    ensures fates { All (λ x. x.packet.fate ≡ Left) channel.left }
+fn place_rest<R: Wait>(rt: &R, mut channel: Remains<Parcel>, slots: &mut Vec<Option<Outcome>>)
+    requires { MayPlace outcome_number slots.old.items (λ i. sum_by (hit (λ x. x.packet.id) i) channel.left) }
+    ensures placed { AreLeftPlaced slots.old.items slots.new.items channel.left }
+    ensures all { (opening : Stamp) → AllIn (λ o. IsOutcomeIn opening o) slots.old.items
+        → All (λ x. IsParcelOf opening x) channel.left → AllIn (λ o. IsOutcomeIn opening o) slots.new.items }
 {
     for _ in rt.forever() {
         match channel.take(rt) {
-            Some(parcel) => place(opening, parcel.into_left(), slots),
+            Some(parcel) => place(parcel.into_left(), slots),
             None => break,
         }
     }
@@ -108,44 +87,27 @@ fn place_rest<R: Wait>(
 /// Puts what is left of each parcel in the channels into the slot of its packet.
 pub(crate) fn place_left<R: Wait>(
     rt: &R,
-    opening: &Stamp,
     mut channels: Vec<Remains<Parcel>>,
     slots: &mut Vec<Option<Outcome>>,
 )
-    requires at { AllAt outcome_number slots.old.items }
-    requires fits { (i : ℕ) → sum_by (slot_weight (hit outcome_number i)) slots.old.items
-        + sum_by (hit (λ x. x.packet.id) i) (left_in channels.items) ≤ once (length slots.old.items) i }
-    requires all { AllIn (λ o. IsOutcomeIn opening.now o) slots.old.items }
-    requires belongs { All (λ x. IsParcelOf opening.now x) (left_in channels.items) }
-    ensures length { length slots.new.items ≡ length slots.old.items }
-    ensures at { AllAt outcome_number slots.new.items }
-    ensures all { AllIn (λ o. IsOutcomeIn opening.now o) slots.new.items }
-    ensures weighs { (w : Told → ℕ)
-        → sum_by (slot_weight (λ o. w (outcome_told o))) slots.new.items
-        ≡ sum_by (slot_weight (λ o. w (outcome_told o))) slots.old.items
-        + sum_by (λ x. w (told_left x)) (left_in channels.items) }
-    ensures fates { All (λ x. x.packet.fate ≡ Left) (left_in channels.items) }
+    requires { MayPlace outcome_number slots.old.items
+        (λ i. sum_by (hit (λ x. x.packet.id) i) (left_in channels.items)) }
+    ensures placed { AreLeftPlaced slots.old.items slots.new.items (left_in channels.items) }
+    ensures all { (opening : Stamp) → AllIn (λ o. IsOutcomeIn opening o) slots.old.items
+        → All (λ x. IsParcelOf opening x) (left_in channels.items)
+        → AllIn (λ o. IsOutcomeIn opening o) slots.new.items }
 {
     while let Some(channel) = channels.pop() {
-        place_rest(rt, opening, channel, slots);
+        place_rest(rt, channel, slots);
     }
 }
 
-/// Takes each outcome out of its slot, in order: its record, its first stamp and those of its later segments.
-pub(crate) fn told_in_order(
-    mut slots: Vec<Option<Outcome>>,
-    records: &mut Vec<Record>,
-    stamps: &mut Vec<Stamp>,
-    later: &mut Vec<Vec<Stamp>>,
-)
+/// Takes each outcome out of its slot, in order, and tells it in the report, which has room.
+pub(crate) fn told_in_order(mut slots: Vec<Option<Outcome>>, report: &mut Report)
     requires full { (k : ℕ) → k < length slots.items
         → (o : Outcome) × (slice_index_or slots.items k None ≡ Some o) }
-    requires start { (records.old.items ≡ []) × (stamps.old.items ≡ []) × (later.old.items ≡ []) }
-    requires room { (length slots.items ≤ vec_capacity records.old)
-        × (length slots.items ≤ vec_capacity stamps.old) × (length slots.items ≤ vec_capacity later.old) }
-    ensures { (outcomes : List Outcome) × (slots.items ≡ map (λ o. Some o) outcomes)
-        × (records.new.items ≡ map (λ o. o.packet) outcomes) × (stamps.new.items ≡ map (λ o. o.stamp) outcomes)
-        × (later.new.items ≡ map (λ o. o.later) outcomes) }
+    requires empty { IsEmptyReport (length slots.items) report.old }
+    ensures { TellsOf slots.items report.new }
 {
     for i in 0..slots.len() {
         let Some(outcome) = slots[i].take() else {
@@ -154,11 +116,11 @@ pub(crate) fn told_in_order(
         let Outcome {
             packet,
             stamp,
-            later: others,
-            version: _,
+            later,
+            ..
         } = outcome;
-        records.push_reserved(packet);
-        stamps.push_reserved(stamp);
-        later.push_reserved(others);
+        report.records.push_reserved(packet);
+        report.stamps.push_reserved(stamp);
+        report.later.push_reserved(later);
     }
 }

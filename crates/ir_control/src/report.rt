@@ -1,9 +1,9 @@
 //! The report at the end.
-ghost use Rattle.std.specs.Prelude.{◌≡◌, ◌≤◌, ◌<◌, ℕ, true, false, MatchOption, sum_by};
+ghost use Rattle.std.specs.Prelude.{◌≡◌, ◌≤◌, ◌<◌, true, false, MatchOption, sum_by};
 ghost use Rattle.ir_control.specs.{Parts.node_number, Slots.hit};
-ghost use Rattle.ir_control.specs.Reports.{finish_code};
+ghost use Rattle.ir_control.specs.Reports.{AreThereBelow, finish_code};
 
-use crate::leaving::Rows;
+use crate::leaving::EndRows;
 use ir_core::Record;
 use ir_epochs::Stamp;
 use ir_links::Remains;
@@ -33,12 +33,10 @@ pub struct Report {
 // All the memory that a report takes.
 #[derive(Drop)]
 pub(crate) struct Room {
-    pub(crate) rows: Rows,
+    pub(crate) rows: EndRows,
     pub(crate) channels: Vec<Remains<Parcel>>,
     pub(crate) slots: Vec<Option<Outcome>>,
-    pub(crate) records: Vec<Record>,
-    pub(crate) stamps: Vec<Stamp>,
-    pub(crate) later: Vec<Vec<Stamp>>,
+    pub(crate) report: Report,
 }
 
 // Whether the node of this number is among these.
@@ -57,10 +55,8 @@ fn has_node(nodes: &Vec<Node>, u: usize) -> bool
 // The least number below this one whose node is not among these.
 pub(crate) fn missing(nodes: &Vec<Node>, count: usize) -> Option<u16>
     requires { count ≤ 65536 }
-    ensures { MatchOption result
-        ((u : ℕ) → u < count → 0 < sum_by (hit node_number u) nodes.now.items)
-        (λ v. (v < count) × (sum_by (hit node_number v) nodes.now.items ≡ 0)
-        × ((u : ℕ) → u < v → 0 < sum_by (hit node_number u) nodes.now.items)) }
+    ensures { MatchOption result (AreThereBelow count nodes.now.items)
+        (λ v. (v < count) × (sum_by (hit node_number v) nodes.now.items ≡ 0) × AreThereBelow v nodes.now.items) }
 {
     for u in 0..count {
         if !has_node(nodes, u) {

@@ -2,7 +2,7 @@
 ghost use Rattle.std.specs.Prelude.{◌≡◌, ◌<◌, ◌+◌, MatchResult, IfOk, length};
 ghost use Rattle.ir_model.specs.Topology.{node_count};
 ghost use Rattle.ir_control.specs.{Parts.{AreNodesOf, IsInjectorOf}, Places.way_count, Reported.AreAllThere};
-ghost use Rattle.ir_control.specs.Reports.{HasReportRoom, IsReport, IsFinishRefusal};
+ghost use Rattle.ir_control.specs.Reports.{HasReportRoom, IsReport, IsFinishRefusal, IsWholeReport};
 
 use crate::injector::Injector;
 use crate::leaving::{empty_rows, left_over};
@@ -24,9 +24,11 @@ fn room_for(alloc: Global, nodes: usize, ways: usize, packets: usize) -> Result<
         rows: empty_rows(alloc, nodes, ways)?,
         channels: Vec::with_capacity(alloc, channels)?,
         slots: empty_slots(alloc, packets)?,
-        records: Vec::with_capacity(alloc, packets)?,
-        stamps: Vec::with_capacity(alloc, packets)?,
-        later: Vec::with_capacity(alloc, packets)?,
+        report: Report {
+            records: Vec::with_capacity(alloc, packets)?,
+            stamps: Vec::with_capacity(alloc, packets)?,
+            later: Vec::with_capacity(alloc, packets)?,
+        },
     })
 }
 
@@ -43,26 +45,20 @@ fn reported<R: Wait>(rt: &R, net: &Net, nodes: Vec<Node>, injector: Injector, ro
         rows,
         mut channels,
         mut slots,
-        mut records,
-        mut stamps,
-        mut later,
+        mut report,
     } = room;
     let settled = left_over(net, nodes, injector.into_outs(), rows, &mut channels);
-    place_rows(&net.opening, settled, &mut slots);
-    place_left(rt, &net.opening, channels, &mut slots);
-    told_in_order(slots, &mut records, &mut stamps, &mut later);
-    Report {
-        records,
-        stamps,
-        later,
-    }
+    place_rows(settled, &mut slots);
+    place_left(rt, channels, &mut slots);
+    told_in_order(slots, &mut report);
+    report
 }
 
 /// Takes the parts of a net apart and reports what came of each packet that was accepted, by number. What is still in a
 /// channel is Left.
 ///
-/// Refused are, in this order: the least node that is not among the parts, and want of memory. All memory is taken before
-/// a part is taken apart, and a refusal hands the parts back.
+/// Refused are, in this order: the least node that is not among the parts, and want of memory. All
+/// memory is taken before a part is taken apart, and a refusal hands the parts back.
 pub fn finish<R: Wait, B: Wait + Drop>(
     rt: &R,
     net: &Net,
@@ -70,14 +66,12 @@ pub fn finish<R: Wait, B: Wait + Drop>(
 ) -> Result<Report, (FinishError, Parts<B>)>
     requires nodes { AreNodesOf net.now parts.nodes.items }
     requires injector { IsInjectorOf net.now parts.injector }
-    ensures { MatchResult result
-        (λ report. IsReport net.now parts.nodes.items parts.injector report × AreAllThere net.now parts.nodes.items)
+    ensures { MatchResult result (IsWholeReport net.now parts.nodes.items parts.injector)
         (λ refused. IsFinishRefusal net.now parts.nodes.items refused.0 × (refused.1 ≡ parts)) }
 {
     let count = net.inboxes.len();
-    match missing(&parts.nodes, count) {
-        Some(node) => return Err((FinishError::Missing(node), parts)),
-        None => {}
+    if let Some(node) = missing(&parts.nodes, count) {
+        return Err((FinishError::Missing(node), parts));
     }
     let packets = parts.injector.count() as usize;
     let Ok(room) = room_for(net.alloc, count, net.ways.len(), packets) else {
@@ -86,7 +80,7 @@ pub fn finish<R: Wait, B: Wait + Drop>(
     let Parts {
         nodes,
         injector,
-        controller: _,
+        ..
     } = parts;
     Ok(reported(rt, net, nodes, injector, room))
 }

@@ -6,7 +6,7 @@ ghost use mathlib.Core.List.{IsPrefix};
 ghost use Rattle.ir_epochs.specs.Handles.{known, published, reader_board, writer_board};
 ghost use Rattle.ir_worker.specs.Turns.{MayEnd};
 ghost use Rattle.ir_control.specs.{Parts.{AreFirstNodes, IsInjectorOf}, Reports.IsReport};
-ghost use Rattle.ir_control.specs.{Agreed.{AreOfOne, Agrees}, Lives.{IsLive, IsRefusal}, Runs.{IsUnreported, parts_error}};
+ghost use Rattle.ir_control.specs.{Agreed.{AreOfOne, Agrees}, Lives.{IsLive, IsRefusal}, Runs.IsUnreported};
 
 use crate::controller::Controller;
 use crate::live::{Live, LiveError};
@@ -14,7 +14,7 @@ use crate::net::Net;
 use crate::report::FinishError;
 use crate::reporting::finish;
 use crate::starter::Starter;
-use crate::working::{By, Run, run_nodes};
+use crate::working::{By, LiveRun, run_nodes};
 use ir_core::Command;
 use ir_epochs::{BoardError, Stamp};
 use ir_links::Moments;
@@ -69,16 +69,6 @@ fn agree_rows(rows: &Vec<Vec<Stamp>>, plans: &Vec<Stamp>)
     }
 }
 
-// Why there are no parts of a net.
-fn no_parts(error: BoardError) -> LiveError
-    ensures { result ≡ parts_error error }
-{
-    match error {
-        BoardError::TooManyReaders => LiveError::TooManyReaders,
-        BoardError::NoMemory => LiveError::NoMemory,
-    }
-}
-
 // The nodes that came back, unless one had no memory. The starter is shown each.
 fn all_back<S: Starter>(
     alloc: Global,
@@ -104,7 +94,7 @@ fn all_back<S: Starter>(
 fn reported<R: Wait, S: Starter, B: Wait + Drop>(
     rt: &R,
     net: &Net,
-    run: Run<B>,
+    run: LiveRun<B>,
     starter: &S,
 ) -> Result<Live, LiveError>
     requires nodes { AreFirstNodes net.now (node_count net.now.topology) (map (λ b. b.0) run.back.items) }
@@ -124,7 +114,7 @@ fn reported<R: Wait, S: Starter, B: Wait + Drop>(
     ensures later { IfOk result (λ live. All
         (λ row. All (λ s. Agrees run.stamps.items s) row.items) live.report.later.items) }
 {
-    let Run {
+    let LiveRun {
         back,
         mut parts,
         refusals,
@@ -148,17 +138,19 @@ fn reported<R: Wait, S: Starter, B: Wait + Drop>(
     }
 }
 
-/// Starts a thread for each node of a net, which runs `serve_with_bells`, unless the starter says no; carries out the commands in
-/// order, where the injector learns of each install at once, and shows the starter the injector; then lets the nodes end,
-/// waits until each has come back, shows the starter each, and reports what came of each packet. A refused command stands
-/// among the refusals, and the run goes on. It lets the nodes end by the flag, which it sets. Where others set it before,
-/// nodes that do not sleep end sooner.
+/// Starts a thread for each node of a net, which runs `serve_with_bells`, unless the starter says
+/// no; carries out the commands in order, where the injector learns of each install at once, and
+/// shows the starter the injector; then lets the nodes end, waits until each has come back, shows
+/// the starter each, and reports what came of each packet. A refused command stands among the
+/// refusals, and the run goes on. It lets the nodes end by the flag, which it sets. Where others
+/// set it before, nodes that do not sleep end sooner.
 ///
 /// A packet is refused for a full inbox only where the push of its inject was refused.
 ///
-/// Refused are: a net whose parts were handed out before (`Spent`), a board without a place for a reader of each node
-/// (`TooManyReaders`), a thread that was not started (`NoThread`), want of memory, a node's too, and a node that came back
-/// and knows of the board what was not published, which tests don't find (`Unpublished`). After any answer the net is spent.
+/// Refused are: a net whose parts were handed out before (`Spent`), a board without a place for a
+/// reader of each node (`TooManyReaders`), a thread that was not started (`NoThread`), want of
+/// memory, a node's too, and a node that came back and knows of the board what was not published,
+/// which tests don't find (`Unpublished`). After any answer the net is spent.
 pub fn run_live<R: Threads + Moments<Parcel> + Sync, G: Gate, F: Flag, S: Starter>(
     rt: &R,
     net: &Net,
@@ -175,7 +167,8 @@ pub fn run_live<R: Threads + Moments<Parcel> + Sync, G: Gate, F: Flag, S: Starte
 {
     let given = match net.parts(rt) {
         Ok(given) => given,
-        Err(error) => return Err(no_parts(error)),
+        Err(BoardError::TooManyReaders) => return Err(LiveError::TooManyReaders),
+        Err(BoardError::NoMemory) => return Err(LiveError::NoMemory),
     };
     let Some(parts) = given else {
         return Err(LiveError::Spent);

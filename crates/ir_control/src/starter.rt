@@ -7,9 +7,10 @@ use crate::injector::Injector;
 use ir_worker::Node;
 use std::thread::{SpawnError, Threads};
 
-/// Says of each node whether its thread is to be started, and is shown the injector once the commands are carried out and
-/// each node that came back. It has a word for a thread that was not started, for an injector and for a node that was
-/// shown: so a contract can say that a thread was not started, and of which injector and nodes a run tells.
+/// Says of each node whether its thread is to be started, and is shown the injector once the
+/// commands are carried out and each node that came back. It has a word for a thread that was not
+/// started, for an injector and for a node that was shown: so a contract can say that a thread was
+/// not started, and of which injector and nodes a run tells.
 pub trait Starter {
     // the thread of the node of this number was not started
     ghost unstarted: { Self → ℕ → Type 0 };
@@ -37,8 +38,8 @@ pub trait Starter {
         ensures { came_back self.now node.now };
 }
 
-/// A runtime is a starter that has each node's thread started. Who takes any runtime with this bound knows of its words no
-/// more than of another starter's.
+/// A runtime is a starter that has each node's thread started. Who takes any runtime with this
+/// bound knows of its words no more than of another starter's.
 impl<R: Threads> Starter for R {
     ghost unstarted = { λ _ _. Unit {0} };
 

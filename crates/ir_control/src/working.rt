@@ -26,7 +26,7 @@ pub(crate) struct By<'a, G, F, S> {
 /// What came of a run: the nodes that came back, the injector and the controller among parts without nodes, the refused
 /// commands, and the stamps of all epochs.
 #[derive(Drop)]
-pub(crate) struct Run<B: Wait + Drop> {
+pub(crate) struct LiveRun<B: Wait + Drop> {
     pub(crate) back: Vec<(Node, Option<NoMemory>)>,
     pub(crate) parts: Parts<B>,
     pub(crate) refusals: Vec<(usize, Refused)>,
@@ -47,11 +47,11 @@ pub(crate) fn run_nodes<
     parts: Parts<B>,
     commands: &[Command],
     by: &By<'_, G, F, S>,
-) -> Result<Run<B>, LiveError>
+) -> Result<LiveRun<B>, LiveError>
     requires { parts.controller.opening ≡ parts.injector.opening }
-    ensures run { IfOk result (λ run. IsNetRun R.was_full R.was_empty
+    ensures run { IfOk result (IsNetRun R.was_full R.was_empty
         (MayEnd F.seen G.barred by.now.stop.now by.now.gate.now) net.now.opening parts.nodes.items (desk_of parts)
-        commands.now run) }
+        commands.now) }
     ensures closed { IfOk result (λ run. S.was_closed by.now.starter.now run.parts.injector) }
     ensures stopped { IfErr result (λ error. IsStopped (S.unstarted by.now.starter.now) parts.nodes.items error) }
 {
@@ -64,13 +64,14 @@ pub(crate) fn run_nodes<
     thread::scope(
         thread::scope_env(),
         rt,
-        move |scope| -> Result<Run<B>, LiveError>
+        move |scope| -> Result<LiveRun<B>, LiveError>
             requires { parts.controller.opening ≡ parts.injector.opening }
             ensures run { IfOk result (λ run. IsNetRun R.was_full R.was_empty
                 (MayEnd F.seen G.barred stop.entry.now gate.entry.now) net.entry.now.opening parts.nodes.items
                 (desk_of parts) commands.entry.now run) }
             ensures closed { IfOk result (λ run. S.was_closed starter.entry.now run.parts.injector) }
-            ensures stopped { IfErr result (λ error. IsStopped (S.unstarted starter.entry.now) parts.nodes.items error) }
+            ensures stopped { IfErr result
+                (λ error. IsStopped (S.unstarted starter.entry.now) parts.nodes.items error) }
         {
             let mut parts = parts;
             let nodes = mem::replace(&mut parts.nodes, Vec::new(alloc));
@@ -113,7 +114,7 @@ pub(crate) fn run_nodes<
             let Ok(back) = thread::join_promised(rt, running) else {
                 return Err(LiveError::NoMemory);
             };
-            Ok(Run {
+            Ok(LiveRun {
                 back,
                 parts,
                 refusals,

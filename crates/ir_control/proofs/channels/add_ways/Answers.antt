@@ -12,12 +12,12 @@ has_way opening restamps capacity v hop channel = IsNetChannel opening restamps 
 
 pub loop-hop-preserved : goal.loop-hop-preserved
 loop-hop-preserved c =
-    one_more c.args.topology.now (has_way c.args.line.now.opening.now c.args.line.now.restamps c.args.line.now.capacity) c.args.u c.loop-hop.hop-index c.ports-hop-items.result.now
+    one_more c.args.topology.now (has_way c.args.terms.now.opening.now c.args.terms.now.restamps c.args.terms.now.capacity) c.args.u c.loop-hop.hop-index c.ports-hop-items.result.now
     c.ports-hop-items.ensures
     c.loop-hop.ways.items c.push.new.self.items c.in_ok-channel.field-0 _ c.loop-hop.invariant c.loop-hop-test.true c.in_ok-channel.ensures c.in_ok-push.ensures.items
 
 pub returns : goal.returns
 returns c =
-    row_done c.args.topology.now (has_way c.args.line.now.opening.now c.args.line.now.restamps c.args.line.now.capacity) c.args.u c.loop-hop.hop-index c.ports-hop-items.result.now
+    row_done c.args.topology.now (has_way c.args.terms.now.opening.now c.args.terms.now.restamps c.args.terms.now.capacity) c.args.u c.loop-hop.hop-index c.ports-hop-items.result.now
     c.ports-hop-items.ensures
     c.loop-hop.ways.items c.loop-hop.invariant c.requires.node c.loop-hop-test.false c.loop-hop.auto.hop-index-end

@@ -23,5 +23,5 @@ more opening restamps capacity u lines channel far here = (
 
 pub loop-u-preserved : goal.loop-u-preserved
 loop-u-preserved c =
-    subst (λ (lines : List (Channel Place)). AreSoFar c.args.line.now.opening.now c.args.line.now.restamps c.args.line.now.capacity (c.loop-u.u + 1) lines) (sym c.in_ok-push.ensures.items)
-    (more c.args.line.now.opening.now c.args.line.now.restamps c.args.line.now.capacity c.loop-u.u c.loop-u.inboxes.items c.in_ok-channel.field-0 c.loop-u.invariant c.in_ok-channel.ensures)
+    subst (λ (lines : List (Channel Place)). AreSoFar c.args.terms.now.opening.now c.args.terms.now.restamps c.args.terms.now.capacity (c.loop-u.u + 1) lines) (sym c.in_ok-push.ensures.items)
+    (more c.args.terms.now.opening.now c.args.terms.now.restamps c.args.terms.now.capacity c.loop-u.u c.loop-u.inboxes.items c.in_ok-channel.field-0 c.loop-u.invariant c.in_ok-channel.ensures)

@@ -6,4 +6,4 @@ use Rattle.ir_control.proofs.channels.inboxes_of.Given as goal
 
 abbrev pub invariant-loop-u : goal.invariant-loop-u
 invariant-loop-u l = (length l.inboxes.items ≡ l.u)
-    × ((v : ℕ) (channel : Channel Place) → slice_get l.inboxes.items v ≡ Some channel → IsNetChannel l.line.opening.now l.line.restamps l.line.capacity v v channel)
+    × ((v : ℕ) (channel : Channel Place) → slice_get l.inboxes.items v ≡ Some channel → IsNetChannel l.terms.opening.now l.terms.restamps l.terms.capacity v v channel)

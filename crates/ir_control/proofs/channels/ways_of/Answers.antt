@@ -1,5 +1,5 @@
 use Rattle.std.specs.Prelude.{ℕ, ◌≡◌}
-use Rattle.std.proofs.Common.{arith}
+use Rattle.std.proofs.Common.{arith, ◌∙◌}
 use Rattle.std.proofs.lemmas.Grind.{common_steps}
 use Rattle.ir_model.specs.declared.Hop.{Hop}
 use Rattle.ir_model.specs.Topology.{node_count}
@@ -17,7 +17,7 @@ pub loop-u-init : goal.loop-u-init
 loop-u-init c = (
   grind (arith, common_steps),
   λ v lt. absurd (omega (arith, lt)),
-  filled_none c.args.topology.now (has_way c.args.line.now.opening.now c.args.line.now.restamps c.args.line.now.capacity) c.new-ways.result.items c.new-ways.ensures.items,
+  filled_none c.args.topology.now (has_way c.args.terms.now.opening.now c.args.terms.now.restamps c.args.terms.now.capacity) c.new-ways.result.items c.new-ways.ensures.items,
 )
 
 pub returns-clause-ways : goal.returns-clause-ways
@@ -25,7 +25,7 @@ returns-clause-ways c =
     let least = c.loop-u-test.false in
     let most = c.loop-u.auto.u-end in
     let nodes : c.nodes-nodes.result ≡ node_count c.args.topology.now = c.nodes-nodes.ensures.count in
-    filled_all c.args.topology.now (has_way c.args.line.now.opening.now c.args.line.now.restamps c.args.line.now.capacity) c.loop-u.u c.loop-u.ways.items (omega (arith, least, most, nodes)) c.loop-u.invariant.2
+    filled_all c.args.topology.now (has_way c.args.terms.now.opening.now c.args.terms.now.restamps c.args.terms.now.capacity) c.loop-u.u c.loop-u.ways.items (omega (arith, least, most, nodes)) c.loop-u.invariant.2
 
 pub returns-clause-fits : goal.returns-clause-fits
 returns-clause-fits c =
@@ -34,6 +34,14 @@ returns-clause-fits c =
     let least = c.loop-u-test.false in
     let most = c.loop-u.auto.u-end in
     let nodes : c.nodes-nodes.result ≡ node_count c.args.topology.now = c.nodes-nodes.ensures.count in
-    let filled = filled_all c.args.topology.now (has_way c.args.line.now.opening.now c.args.line.now.restamps c.args.line.now.capacity) c.loop-u.u c.loop-u.ways.items (omega (arith, least, most, nodes)) c.loop-u.invariant.2 in
+    let filled = filled_all c.args.topology.now (has_way c.args.terms.now.opening.now c.args.terms.now.restamps c.args.terms.now.capacity) c.loop-u.u c.loop-u.ways.items (omega (arith, least, most, nodes)) c.loop-u.invariant.2 in
     let len = filled.len in
     omega (arith, small, kept, len)
+
+pub returns-clause-offsets : goal.returns-clause-offsets
+returns-clause-offsets c =
+    let least = c.loop-u-test.false in
+    let most = c.loop-u.auto.u-end in
+    let nodes : c.nodes-nodes.result ≡ node_count c.args.topology.now = c.nodes-nodes.ensures.count in
+    let at : c.loop-u.u ≡ node_count c.args.topology.now = omega (arith, least, most, nodes) in
+    record { count = c.loop-u.invariant.0 ∙ at; each = λ v lt. c.loop-u.invariant.1 v (omega (arith, lt, at)) }

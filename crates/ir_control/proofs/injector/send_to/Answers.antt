@@ -1,10 +1,11 @@
-use Rattle.ir_control.proofs.Nets.{end_place, goes_in, lines_kept, sent_by, not_sent_by}
+use Rattle.std.proofs.Common.{refl, length}
+use Rattle.std.proofs.lemmas.Option.{slice_get_read}
+use Rattle.ir_control.proofs.Nets.{lines_kept, sent_by, not_sent_by}
 use Rattle.ir_control.proofs.injector.send_to.Goals as goal
 
 pub send-requires-after_bounds : goal.send-requires-after_bounds
 send-requires-after_bounds g c κs within =
-    goes_in c.args.opening.now c.args.restamps c.args.node c.args.parcel _ (end_place c.args.opening.now c.args.restamps c.args.outs.now.items c.args.node c.index_mut-out.result.now c.requires.ends c.requires.node c.index_mut-out.ensures.value)
-    c.requires.next c.requires.hops c.requires.stamp c.requires.fresh c.requires.room
+    c.requires.goes c.index_mut-out.result.now (slice_get_read c.args.outs.now.items (length c.args.outs.now.items) c.args.node c.index_mut-out.result.now refl c.requires.node c.index_mut-out.ensures.value)
 
 pub returns-clause-sent : goal.returns-clause-sent
 returns-clause-sent g c =

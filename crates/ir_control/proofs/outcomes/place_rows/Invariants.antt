@@ -1,22 +1,22 @@
 use Rattle.std.specs.Prelude.{◌≡◌, ◌+◌, ℕ, All, length, sum_by}
+use Rattle.ir_epochs.specs.declared.registry.Stamp.{Stamp}
 use Rattle.ir_worker.specs.declared.parcel.Outcome.{Outcome}
 use Rattle.ir_control.specs.Slots.{slot_weight, AllAt, AllIn}
 use Rattle.ir_control.specs.Told.{outcome_number, IsOutcomeIn}
 use Rattle.ir_control.proofs.outcomes.place_rows.Given as goal
 
-pub record IsPlacing (Len At Kind Rest Weighs : Type 0) : Type 0 where
+pub record IsPlacing (Len At Kinds Weighs : Type 0) : Type 0 where
   pub len : Len
   pub at : At
-  pub kind : Kind
-  pub rest : Rest
+  pub kinds : Kinds
   pub weighs : Weighs
 
 abbrev pub invariant-loop-row : goal.invariant-loop-row
 invariant-loop-row l = IsPlacing
     (length l.slots.items ≡ length l.fn.slots.items)
     (AllAt outcome_number l.slots.items)
-    (AllIn (λ o. IsOutcomeIn l.opening o) l.slots.items)
-    (All (λ row. All (λ o. IsOutcomeIn l.opening o) row.items) l.rows.items)
+    ((opening : Stamp) → AllIn (λ o. IsOutcomeIn opening o) l.fn.slots.items → All (λ row. All (λ o. IsOutcomeIn opening o) row.items) l.fn.rows.items
+    → AllIn (λ o. IsOutcomeIn opening o) l.slots.items × All (λ row. All (λ o. IsOutcomeIn opening o) row.items) l.rows.items)
     ((w : Outcome → ℕ) → sum_by (slot_weight w) l.slots.items + sum_by (λ row. sum_by w row.items) l.rows.items ≡ sum_by (slot_weight w) l.fn.slots.items + sum_by (λ row. sum_by w row.items) l.fn.rows.items)
 
 abbrev pub decreases-loop-row : goal.decreases-loop-row

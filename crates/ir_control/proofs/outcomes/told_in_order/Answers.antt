@@ -1,5 +1,5 @@
 use Rattle.std.specs.Prelude.{◌≡◌, ◌<◌, ◌++◌, ◌∷◌, [], Some, None, length, map, slice_index_or}
-use Rattle.std.proofs.Common.{arith, sym, ◌∙◌}
+use Rattle.std.proofs.Common.{arith, refl, sym, ◌∙◌}
 use Rattle.std.proofs.lemmas.Option.{none-some}
 use Rattle.std.proofs.lemmas.List.{get_or_default, length_push, length-set, length-map, get_or-set_other}
 use Rattle.ir_worker.specs.declared.parcel.Outcome.{Outcome}
@@ -14,6 +14,16 @@ unreachable-requires c =
     let lt : c.loop-i.i < length c.args.slots.items = omega (arith, n, e, ok) in
     let f = c.requires.full c.loop-i.i lt in
     none-some f.0 (sym (sym c.take.ensures.value ∙ c.in_default.is) ∙ c.index_mut.ensures.value ∙ get_or_default c.loop-i.slots.items c.loop-i.i c.index_mut.result.now None (omega (arith, n, lt)) ∙ c.loop-i.invariant.full c.loop-i.i (omega arith) (omega (arith, n, lt)) ∙ f.1)
+
+pub loop-i-init : goal.loop-i-init
+loop-i-init c =
+    let e = c.requires.empty in
+    record {
+      count = refl;
+      full = λ k le lt. refl;
+      told = ([], refl, (λ k lt. absurd (omega (arith, lt))), e.records.0, e.stamps.0, e.later.0);
+      room = (e.records.1, e.stamps.1, e.later.1);
+    }
 
 pub loop-i-preserved : goal.loop-i-preserved
 loop-i-preserved c =
@@ -32,9 +42,9 @@ loop-i-preserved c =
         was.0 ++ c.in-Some.outcome ∷ [],
         (let p = length_push was.0 c.in-Some.outcome in let q = was.1 in omega (arith, p, q)),
         told_more c.args.slots.items was.0 c.in-Some.outcome c.loop-i.i was.1 here was.2,
-        c.push_reserved.ensures.items ∙ map_push (λ (o : Outcome). o.packet) was.0 c.in-Some.outcome c.loop-i.records.items was.3,
-        c.push_reserved-in-loop-i.ensures.items ∙ map_push (λ (o : Outcome). o.stamp) was.0 c.in-Some.outcome c.loop-i.stamps.items was.4,
-        c.push_reserved-in-loop-i-2.ensures.items ∙ map_push (λ (o : Outcome). o.later) was.0 c.in-Some.outcome c.loop-i.later.items was.5,
+        c.push_reserved.ensures.items ∙ map_push (λ (o : Outcome). o.packet) was.0 c.in-Some.outcome c.loop-i.report.records.items was.3,
+        c.push_reserved-in-loop-i.ensures.items ∙ map_push (λ (o : Outcome). o.stamp) was.0 c.in-Some.outcome c.loop-i.report.stamps.items was.4,
+        c.push_reserved-in-loop-i-2.ensures.items ∙ map_push (λ (o : Outcome). o.later) was.0 c.in-Some.outcome c.loop-i.report.later.items was.5,
       );
       room = (let r = c.loop-i.invariant.room in (let a = r.0 in let x = c.push_reserved.ensures.capacity in omega (arith, a, x), let b = r.1 in let y = c.push_reserved-in-loop-i.ensures.capacity in omega (arith, b, y), let d = r.2 in let z = c.push_reserved-in-loop-i-2.ensures.capacity in omega (arith, d, z)));
     }

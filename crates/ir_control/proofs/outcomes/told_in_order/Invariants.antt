@@ -13,5 +13,5 @@ invariant-loop-i l = IsTelling
     (length l.slots.items ≡ length l.fn.slots.items)
     ((k : ℕ) → l.i ≤ k → k < length l.slots.items → slice_index_or l.slots.items k None ≡ slice_index_or l.fn.slots.items k None)
     ((outcomes : List Outcome) × (length outcomes ≡ l.i) × ((k : ℕ) → k < l.i → slice_index_or (map (λ o. Some o) outcomes) k None ≡ slice_index_or l.fn.slots.items k None)
-    × (l.records.items ≡ map (λ o. o.packet) outcomes) × (l.stamps.items ≡ map (λ o. o.stamp) outcomes) × (l.later.items ≡ map (λ o. o.later) outcomes))
-    ((length l.fn.slots.items ≤ vec_capacity l.records) × (length l.fn.slots.items ≤ vec_capacity l.stamps) × (length l.fn.slots.items ≤ vec_capacity l.later))
+    × (l.report.records.items ≡ map (λ o. o.packet) outcomes) × (l.report.stamps.items ≡ map (λ o. o.stamp) outcomes) × (l.report.later.items ≡ map (λ o. o.later) outcomes))
+    ((length l.fn.slots.items ≤ vec_capacity l.report.records) × (length l.fn.slots.items ≤ vec_capacity l.report.stamps) × (length l.fn.slots.items ≤ vec_capacity l.report.later))

@@ -1,12 +1,13 @@
 use Rattle.std.specs.Prelude.{◌≡◌, ◌+◌, ◌≤◌, ◌∷◌, ◌++◌, [], ℕ, List, Option, length, sum_by}
 use Rattle.std.proofs.Common.{arith, refl, ap, ◌∙◌}
+use Rattle.std.proofs.lemmas.Grind.{common_steps}
 use Rattle.std.proofs.lemmas.List.Sums.{sum_by_push}
-use Rattle.ir_control.specs.Slots.{slot_weight, hit, once, AllAt, AllIn}
+use Rattle.ir_control.specs.Slots.{slot_weight, hit, once, AllIn, CameIntoSlots}
 use Rattle.ir_control.proofs.OfNet.{all_front, all_last}
 use Rattle.ir_control.proofs.placing.place_all.Invariants.{IsPlacing}
 use Rattle.ir_control.proofs.placing.place_all.Goals as goal
 
-module _ {X : Type 0} (key : X → ℕ) (P : X → Type 0) (slots_0 : List (Option X)) (all : List X) (slots : List (Option X)) (items rest : List X) (x : X)
+module _ {X : Type 0} (key : X → ℕ) {Whole : Type 0} (P : X → Whole → Type 0) (slots_0 : List (Option X)) (all : List X) (slots : List (Option X)) (items rest : List X) (x : X)
     (placing : IsPlacing key P slots_0 all slots items) (popped : items ≡ rest ++ x ∷ []) where
   split : (w : X → ℕ) → sum_by (slot_weight w) slots + (sum_by w rest + w x) ≡ sum_by (slot_weight w) slots_0 + sum_by w all
   split w =
@@ -21,29 +22,39 @@ module _ {X : Type 0} (key : X → ℕ) (P : X → Type 0) (slots_0 : List (Opti
       let len = ap (λ n. once n i) placing.len in
       omega (arith, sums, most, len)
 
-  placed_one : (after : List (Option X)) → length after ≡ length slots → AllAt key after → AllIn P after
-      → ((w : X → ℕ) → sum_by (slot_weight w) after ≡ sum_by (slot_weight w) slots + w x) → IsPlacing key P slots_0 all after rest
-  placed_one after len at kind weighs = record {
-    len = len ∙ placing.len;
-    at = at;
-    kind = kind;
-    rest_kind = all_front P rest items x popped placing.rest_kind;
-    weighs = λ w. (let sums = split w in let more = weighs w in omega (arith, sums, more));
+  placed_one : (after : List (Option X)) → CameIntoSlots key slots after (λ w. w x)
+      → ((whole : Whole) → AllIn (λ y. P y whole) slots → P x whole → AllIn (λ y. P y whole) after) → IsPlacing key P slots_0 all after rest
+  placed_one after placed kept = record {
+    len = placed.count ∙ placing.len;
+    at = placed.at;
+    kinds = λ whole first each. (let was = placing.kinds whole first each in
+        (kept whole was.0 (all_last (λ y. P y whole) rest items x popped was.1), all_front (λ y. P y whole) rest items x popped was.1));
+    weighs = λ w. (let sums = split w in let more = placed.weighs w in omega (arith, sums, more));
   }
 
-pub place-requires-clause-fits : goal.place-requires-clause-fits
-place-requires-clause-fits g c =
-    fits_one g.T.Member.key_of (λ x. g.T.Member.belongs x c.args.whole.now) c.args.slots.now.items c.args.items.items c.loop-item.slots.items c.loop-item.items.items c.pop.new.self.items c.in-Some.item
-    c.loop-item.invariant c.in-Some.ensures.items c.requires.fits
-
-pub place-requires-clause-belongs : goal.place-requires-clause-belongs
-place-requires-clause-belongs g c =
-    all_last (λ x. g.T.Member.belongs x c.args.whole.now) c.pop.new.self.items c.loop-item.items.items c.in-Some.item c.in-Some.ensures.items c.loop-item.invariant.rest_kind
+pub place-requires : goal.place-requires
+place-requires g c = record {
+  at = c.loop-item.invariant.at;
+  fits = fits_one g.T.Member.key_of g.T.Member.belongs c.args.slots.now.items c.args.items.items c.loop-item.slots.items c.loop-item.items.items c.pop.new.self.items c.in-Some.item
+      c.loop-item.invariant c.in-Some.ensures.items c.requires.fits;
+}
 
 pub loop-item-preserved : goal.loop-item-preserved
 loop-item-preserved g c =
-    placed_one g.T.Member.key_of (λ x. g.T.Member.belongs x c.args.whole.now) c.args.slots.now.items c.args.items.items c.loop-item.slots.items c.loop-item.items.items c.pop.new.self.items c.in-Some.item
-    c.loop-item.invariant c.in-Some.ensures.items c.place.new.slots.items c.place.ensures.length c.place.ensures.at c.place.ensures.all c.place.ensures.weighs
+    placed_one g.T.Member.key_of g.T.Member.belongs c.args.slots.now.items c.args.items.items c.loop-item.slots.items c.loop-item.items.items c.pop.new.self.items c.in-Some.item
+    c.loop-item.invariant c.in-Some.ensures.items c.place.new.slots.items c.place.ensures.placed c.place.ensures.all
 
 pub loop-item-init : goal.loop-item-init
-loop-item-init g c = record { len = refl; at = c.requires.at; kind = c.requires.all; rest_kind = c.requires.belongs; weighs = λ w. refl }
+loop-item-init g c = record { len = refl; at = c.requires.at; kinds = λ whole first each. (first, each); weighs = λ w. refl }
+
+pub returns-clause-placed : goal.returns-clause-placed
+returns-clause-placed g c =
+    let empty : c.loop-item.items.items ≡ [] = grind (arith, common_steps) in
+    record {
+      count = c.loop-item.invariant.len;
+      at = c.loop-item.invariant.at;
+      weighs = λ w. (let none = ap (sum_by w) empty in let all = c.loop-item.invariant.weighs w in omega (arith, none, all));
+    }
+
+pub returns-clause-all : goal.returns-clause-all
+returns-clause-all g c = λ whole first each. (c.loop-item.invariant.kinds whole first each).0

@@ -14,10 +14,10 @@ pub reported-requires-clause-all : goal.reported-requires-clause-all
 reported-requires-clause-all g c =
     let n = c.args.net.now.inboxes_are.count in
     let e = c.len-count.ensures in
-    all_there c.args.parts.nodes.items c.len-count.result (node_count c.args.net.now.topology) (omega (arith, n, e)) c.in-None.ensures
+    all_there c.args.parts.nodes.items c.len-count.result (node_count c.args.net.now.topology) (omega (arith, n, e)) (rw c.in_default.is at c.missing.ensures)
 
 pub returns : goal.returns
 returns g c =
     let n = c.args.net.now.inboxes_are.count in
     let e = c.len-count.ensures in
-    (c.reported.ensures, all_there c.args.parts.nodes.items c.len-count.result (node_count c.args.net.now.topology) (omega (arith, n, e)) c.in-None.ensures)
+    (c.reported.ensures, all_there c.args.parts.nodes.items c.len-count.result (node_count c.args.net.now.topology) (omega (arith, n, e)) (rw c.in_default.is at c.missing.ensures))

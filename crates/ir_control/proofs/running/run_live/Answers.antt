@@ -1,7 +1,7 @@
 use Rattle.ir_worker.specs.Turns.{MayEnd}
 use Rattle.std.proofs.Common.{sym, ◌∙◌}
 use Rattle.ir_control.specs.Desks.{desk_of}
-use Rattle.ir_control.proofs.Lived.{given, refused, parts_refused, unreported, nodes_back, injector_back, boards_back, stamps_of_net, lived}
+use Rattle.ir_control.proofs.Lived.{given, refused, unreported, nodes_back, injector_back, boards_back, stamps_of_net, lived}
 use Rattle.ir_control.proofs.running.run_live.Goals as goal
 
 pub reported-requires-clause-nodes : goal.reported-requires-clause-nodes
@@ -32,12 +32,8 @@ returns-in-Ok-run_nodes-clause-refused g c =
 
 pub returns-in-Err-clause-refused : goal.returns-in-Err-clause-refused
 returns-in-Err-clause-refused g c =
-    parts_refused _ g.R.Moments.was_full (g.S.Starter.unstarted c.args.starter.now) (g.S.Starter.came_back c.args.starter.now) c.args.net.now c.args.commands.now c.in-Err.error c.no_parts.result c.no_parts.ensures
-
-pub returns-in-Err-run_nodes-clause-refused : goal.returns-in-Err-run_nodes-clause-refused
-returns-in-Err-run_nodes-clause-refused g c =
     let fresh = given _ c.in-Ok.given c.in-Some.parts c.in-Some.is c.in-Ok.ensures in
-    refused _ g.R.Moments.was_full (g.S.Starter.unstarted c.args.starter.now) (g.S.Starter.came_back c.args.starter.now) c.args.net.now c.args.commands.now _ c.in-Some.parts.nodes.items c.in-Err-run_nodes.why fresh.nodes_are c.in-Err-run_nodes.ensures.stopped
+    refused _ g.R.Moments.was_full (g.S.Starter.unstarted c.args.starter.now) (g.S.Starter.came_back c.args.starter.now) c.args.net.now c.args.commands.now _ c.in-Some.parts.nodes.items c.in-Err.why fresh.nodes_are c.in-Err.ensures.stopped
 
 pub run_nodes-requires : goal.run_nodes-requires
 run_nodes-requires g c =

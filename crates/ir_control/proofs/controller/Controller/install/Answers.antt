@@ -22,7 +22,7 @@ pub returns-in-Ok-change-clause-answer : goal.returns-in-Ok-change-clause-answer
 returns-in-Ok-change-clause-answer g c =
     let s = c.in-Ok-register.stamp in
     record {
-      allowed = sym c.install_refusal.ensures.refusal ∙ c.in-None.is;
+      allowed = sym c.install_refusal.ensures.refusal ∙ c.in_default.is;
       stamp = s;
       epoch = c.in-Ok-register.ensures.answer.1;
       registered = subst (λ (r : Registry). IsOf r s) c.deref.ensures c.in-Ok-register.ensures.answer.0;

@@ -12,7 +12,7 @@ use Rattle.ir_worker.specs.Account.{head_of, times_sent, weigh_sent, restamps_wi
 use Rattle.ir_control.specs.declared.injector.Accepted.{Accepted}
 use Rattle.ir_control.specs.Heads.{head_at, times_injected, AreNumbered}
 use Rattle.ir_control.specs.Outs.{SentTo}
-use Rattle.ir_control.proofs.Nets.{parcel_of_net}
+use Rattle.ir_control.proofs.Nets.{goes_in, parcel_of_net, place_of_end}
 use Rattle.ir_control.proofs.Injecting.{numbered_more, account_more, fresh_more, not_refused}
 use Rattle.ir_control.proofs.injector.Injector.inject.Goals as goal
 
@@ -22,16 +22,17 @@ entry id epoch source dest = record { id = id; epoch = epoch; source = source; d
 abbrev parcel_of : ℕ → ℕ → ℕ → Stamp → ℕ → ℕ → Parcel
 parcel_of nodes restamps id s source dest = record { packet = fresh id s.epoch source dest (hop_room restamps nodes); first = s; later = []; next = source }
 
-pub send_to-requires-clause-stamp : goal.send_to-requires-clause-stamp
-send_to-requires-clause-stamp g c =
-    parcel_of_net c.args.self.now.opening c.in-Ok.parcel c.args.self.now.newest (ap (λ (p : Parcel). p.first) c.in-Ok.ensures ∙ c.again.ensures) (ap (λ (p : Parcel). p.later) c.in-Ok.ensures) c.args.self.now.newest_of
-
-pub send_to-requires-clause-room : goal.send_to-requires-clause-room
-send_to-requires-clause-room g c =
-    let n = c.args.self.now in
-    ap (λ (p : Parcel). p.packet.room) c.in-Ok.ensures
+pub send_to-requires-clause-goes : goal.send_to-requires-clause-goes
+send_to-requires-clause-goes g c = λ s got.
+    (let n = c.args.self.now in
+    let made = c.in-Ok.ensures in
+    let room = ap (λ (p : Parcel). p.packet.room) made
     ∙ ap (λ (s : Stamp). hop_room n.restamps (node_count (knows s).topology)) c.again.ensures
-    ∙ ap (λ (k : ℕ). hop_room n.restamps k) (over_nodes (knows n.opening).topology (knows n.newest).topology n.newest_of.1)
+    ∙ ap (λ (k : ℕ). hop_room n.restamps k) (over_nodes (knows n.opening).topology (knows n.newest).topology n.newest_of.1) in
+    goes_in n.opening n.restamps c.args.source c.in-Ok.parcel s.channel.place (place_of_end n.opening n.restamps n.outs.items c.args.source s n.ends got)
+    (ap (λ (p : Parcel). p.next) made) (ap (λ (p : Parcel). p.packet.hops) made)
+    (parcel_of_net n.opening c.in-Ok.parcel n.newest (ap (λ (p : Parcel). p.first) made ∙ c.again.ensures) (ap (λ (p : Parcel). p.later) made) n.newest_of)
+    (ap (λ (p : Parcel). p.packet.restamps) made) room)
 
 pub invariant_of-self-2-clause-account : goal.invariant_of-self-2-clause-account
 invariant_of-self-2-clause-account g c =

@@ -7,4 +7,4 @@ invariant_of-result-clause-ways_are c =
     c.nodes-nodes.ensures.topology c.in_ok-ways.ensures.ways c.in_ok-peers.ensures
 
 pub invariant_of-result-clause-offsets_are : goal.invariant_of-result-clause-offsets_are
-invariant_of-result-clause-offsets_are c = record { count = c.in_ok-ways.ensures.offsets.0; each = c.in_ok-ways.ensures.offsets.1 }
+invariant_of-result-clause-offsets_are c = c.in_ok-ways.ensures.offsets
