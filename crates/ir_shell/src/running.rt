@@ -19,9 +19,9 @@ use std::thread::Threads;
 
 /// Who takes part in a run: the runtime of a live run, in which each node has a thread, and the crew of all else.
 #[derive(Drop)]
-pub struct Team<'a, T, C> {
-    pub rt: &'a T,
-    pub crew: &'a C,
+pub struct Team<'t, 'c, T, C> {
+    pub rt: &'t T,
+    pub crew: &'c C,
 }
 
 /// Answers the texts of the inputs of a live run, and writes the answer in the form that the words ask for.
@@ -105,7 +105,7 @@ pub fn follow<
     W: Writer,
     F: Writer,
 >(
-    team: &Team<'_, T, C>,
+    team: &Team<'_, '_, T, C>,
     alloc: Global,
     words: &Words,
     inputs: &mut [R],
