@@ -5,9 +5,7 @@ ghost use Rattle.std.specs.Prelude.{IfOk};
 ghost use Rattle.ir_cli.specs.Words.{FitsItsKind};
 
 use ir_cli::status_of;
-use ir_shell::{
-    Several, Sub, Team, Words, WordsError, follow, read_words, run_live_text, sources_of,
-};
+use ir_shell::{Several, Sub, Words, WordsError, follow, read_words, run_live_text, sources_of};
 use std::alloc::Global;
 use std::io;
 use std::io::{Read, Write};
@@ -184,8 +182,7 @@ fn status<T: Threads + Wait + Sync>(
         return 255;
     }
     let crew = Several { rt };
-    let team = Team { rt, crew: &crew };
-    status_of(follow(&team, alloc, words, &mut inputs, output, faults).ending)
+    status_of(follow(rt, &crew, alloc, words, &mut inputs, output, faults).ending)
 }
 
 /// Whether a run over a text ends with status 0 or 1.

@@ -11,7 +11,7 @@ ghost use Rattle.ir_cli.specs.Words.{FitsItsKind};
 
 use anyhow::Error;
 use ir_cli::status_of;
-use ir_shell::{Several, Team, Words, follow, read_words, sources_of};
+use ir_shell::{Several, Words, follow, read_words, sources_of};
 use serde::Deserialize;
 use std::alloc::{AllocError, Global};
 use std::fs;
@@ -51,8 +51,7 @@ fn run_over<T: Threads + Wait + Sync>(
     let mut faults: Vec<u8> = Vec::new(alloc);
     let status = if inputs.len() == sources_of(words).len() {
         let crew = Several { rt };
-        let team = Team { rt, crew: &crew };
-        status_of(follow(&team, alloc, words, inputs, &mut output, &mut faults).ending)
+        status_of(follow(rt, &crew, alloc, words, inputs, &mut output, &mut faults).ending)
     } else {
         255
     };
