@@ -18,7 +18,9 @@ fn opened(alloc: Global) -> Option<World> {
 /// Whether a board has the mark of one link down, and that of another up.
 fn is_down(world: &World, version: usize, link: u16, other: u16) -> bool {
     match world.board_version(version) {
-        Some(board) => board.version() as usize == version && !board.is_up(link) && board.is_up(other),
+        Some(board) => board.version() as usize == version
+            && !board.is_up(link)
+            && board.is_up(other),
         None => false,
     }
 }

@@ -4,7 +4,8 @@
 ghost use Rattle.std.specs.Prelude.{IfOk};
 ghost use Rattle.ir_cli.specs.Words.{FitsItsKind};
 
-use ir_shell::{Several, Sub, Words, WordsError, read_words, run, run_live_text, sources_of};
+use ir_cli::status_of;
+use ir_shell::{Several, Sub, Words, WordsError, follow, read_words, run_live_text, sources_of};
 use std::alloc::Global;
 use std::io;
 use std::io::{Read, Write};
@@ -180,15 +181,8 @@ fn status<T: Threads + Wait + Sync>(
     if inputs.len() != sources_of(words).len() {
         return 255;
     }
-    run(
-        rt,
-        &Several { rt },
-        alloc,
-        words,
-        &mut inputs,
-        output,
-        faults,
-    )
+    let crew = Several { rt };
+    status_of(follow(rt, &crew, alloc, words, &mut inputs, output, faults).ending)
 }
 
 /// Whether a run over a text ends with status 0 or 1.

@@ -10,7 +10,8 @@ ghost use Rattle.std.specs.Prelude.{◌≡◌, length};
 ghost use Rattle.ir_cli.specs.Words.{FitsItsKind};
 
 use anyhow::Error;
-use ir_shell::{Several, Words, read_words, run, sources_of};
+use ir_cli::status_of;
+use ir_shell::{Several, Words, follow, read_words, sources_of};
 use serde::Deserialize;
 use std::alloc::{AllocError, Global};
 use std::fs;
@@ -49,15 +50,8 @@ fn run_over<T: Threads + Wait + Sync>(
     let mut output: Vec<u8> = Vec::new(alloc);
     let mut faults: Vec<u8> = Vec::new(alloc);
     let status = if inputs.len() == sources_of(words).len() {
-        run(
-            rt,
-            &Several { rt },
-            alloc,
-            words,
-            inputs,
-            &mut output,
-            &mut faults,
-        )
+        let crew = Several { rt };
+        status_of(follow(rt, &crew, alloc, words, inputs, &mut output, &mut faults).ending)
     } else {
         255
     };
