@@ -1,8 +1,8 @@
 -- How a run of a subcommand ends, by what it did to its readers and its writers.
 use Rattle.std.specs.Prelude.{◌≡◌, ℕ, Bool, List, Result, Ok, Err}
-use Rattle.ir_streams.specs.declared.reader.Reader as reader
+use Rattle.ir_streams.specs.declared.reading.Reader as reader
 use Rattle.ir_streams.specs.declared.reading.NoInput.{NoInput}
-use Rattle.ir_streams.specs.declared.writer.Writer as writer
+use Rattle.ir_streams.specs.declared.writing.Writer as writer
 use Rattle.ir_cli.specs.declared.ending.Ending.{Ending}
 use Rattle.ir_cli.specs.declared.ending.Ending.TheVariants as endings
 use Rattle.ir_cli.specs.declared.read.Source.{Source}
