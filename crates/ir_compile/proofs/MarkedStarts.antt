@@ -12,13 +12,6 @@ use Rattle.ir_model.proofs.Fewest.{predecessor_is_label, predecessor_differs}
 use Rattle.ir_model.proofs.Round.{shown, shown_own, shown_other, before_suc, before_differs}
 use Rattle.ir_model.proofs.Partial.{IsPartial, partial_pushed}
 
-start_of_word : (d p : ℕ) → p < 65536 → start_of (d * 65536 + p) ≡ record { label = d; port = p }
-start_of_word d p small =
-    let label : (d * 65536 + p) / 65536 ≡ d = omega arith in
-    let port : (d * 65536 + p) % 65536 ≡ p = omega arith in
-    ap (λ (a : ℕ). let s : Start = record { label = a; port = (d * 65536 + p) % 65536 } in s) label
-    ∙ ap (λ (b : ℕ). let s : Start = record { label = d; port = b } in s) port
-
 module _ (n own : ℕ) (plain : List ℕ) (ports : List (Option ℕ)) (stand : StandFor n own plain ports) where
   -- the port changes where the number does
   pub change_here : (d : ℕ) → d < n → d ≢ own → slice_index plain d ≢ slice_index plain (predecessor n own d) → IsChange n own ports d
@@ -42,11 +35,11 @@ module _ (n own : ℕ) (plain : List ℕ) (ports : List (Option ℕ)) (stand : S
       let there = stand.each p (predecessor_is_label n own d stand.destinations.has_own label) (predecessor_differs n own d stand.destinations.has_own label two) in
       change.2 (stand.each d label other ∙ ap Some same ∙ sym there)
 
-  pub marked_kept : (d : ℕ) (xs ys : List ℕ) (p : ℕ) → p < 65536 → p ≡ slice_index plain d
-      → IsPartial n own ports d (starts_of xs) → IsChange n own ports d → ys ≡ xs ++ (d * 65536 + p) ∷ [] → IsPartial n own ports (d + 1) (starts_of ys)
-  marked_kept d xs ys p small is part change more =
+  pub marked_kept : (d : ℕ) (xs ys : List ℕ) (p word : ℕ) → p ≡ slice_index plain d → IsPartial n own ports d (starts_of xs) → IsChange n own ports d
+      → start_of word ≡ (let s : Start = record { label = d; port = p } in s) → ys ≡ xs ++ word ∷ [] → IsPartial n own ports (d + 1) (starts_of ys)
+  marked_kept d xs ys p word is part change says more =
       let pushed : starts_of ys ≡ starts_of xs ++ (let s : Start = record { label = d; port = p } in s) ∷ [] =
-      ap starts_of more ∙ map_push start_of xs (d * 65536 + p) ∙ ap (λ (s : Start). starts_of xs ++ s ∷ []) (start_of_word d p small) in
+      ap starts_of more ∙ map_push start_of xs word ∙ ap (λ (s : Start). starts_of xs ++ s ∷ []) says in
       subst (IsPartial n own ports (d + 1)) (sym pushed)
       (partial_pushed n own ports d (starts_of xs) part change p (stand.each d change.0 change.1 ∙ ap Some (sym is)))
 

@@ -18,7 +18,7 @@ mod words;
 
 pub use choices::row_of_longest;
 pub use error::CompileError;
-use ir_lookup::{Row, WORD_BASE};
+use ir_lookup::Row;
 pub use runs::{MarkedPort, keep_longer};
 use std::alloc::{AllocError, Global};
 pub use words::{WORD_PORTS, runs_by_words};
@@ -131,7 +131,7 @@ fn mark_changes(words: &mut [u32], n: u16, own: u16, plain: &[u16]) -> usize
         count = put(
             words,
             count,
-            word_of(d, port),
+            Row::word(d, port),
             is_change(own, d, port, last),
         );
         last = if d != own { port } else { last };
@@ -164,16 +164,8 @@ fn push_start(words: &mut Vec<u32>, label: u16, port: u16) -> Result<(), AllocEr
     ensures { OnOk result (let s : Start = record { label = label; port = port } in starts_of words.new.items
         ≡ starts_of words.old.items ++ s ∷ []) }
 {
-    words.push(word_of(label, port))?;
+    words.push(Row::word(label, port))?;
     Ok(())
-}
-
-// The word of a start.
-#[inline(always)]
-fn word_of(label: u16, port: u16) -> u32
-    ensures { result ≡ label * 65536 + port }
-{
-    label as u32 * WORD_BASE + port as u32
 }
 
 // The label after the own one, in cyclic order.

@@ -9,15 +9,15 @@ ghost use Rattle.ir_exports.specs.Sent.{FrontsKeepToWalks, GoAllTheWay, LabelsGo
 /// the nodes that it goes through are the first ones of the prescribed walk to the node with that label; for a number
 /// beyond the labels to the node with the last one.
 pub fn beginnings_of_lines_keep_to_walks()
-    ensures { (plan : Plan) (bits : ℕ) (tables : List (List TableLine)) → IsPlan plan → AreTablesOf false plan bits tables
-        → FrontsKeepToWalks plan bits tables }
+    ensures { (plan : Plan) (bits : ℕ) (tables : List (List TableLine)) → IsPlan plan
+        → AreTablesOf false plan bits tables → FrontsKeepToWalks plan bits tables }
 {}
 
 /// Where each node has any of its disjoint lines, what is sent to a label goes through the first nodes of the
 /// prescribed walk to the node with that label.
 pub fn disjoint_lines_keep_to_walks()
-    ensures { (plan : Plan) (bits : ℕ) (tables : List (List TableLine)) → IsPlan plan → AreTablesOf true plan bits tables
-        → PartsKeepToWalks plan bits tables }
+    ensures { (plan : Plan) (bits : ℕ) (tables : List (List TableLine)) → IsPlan plan
+        → AreTablesOf true plan bits tables → PartsKeepToWalks plan bits tables }
 {}
 
 /// Where each node has all of its lines, disjoint or not, what is sent to a label goes all the way to the node with

@@ -11,8 +11,8 @@ mod steps;
 pub use row::Row;
 pub use steps::Steps;
 
-/// A row's word is the label of a start times this number, and its port.
-pub const WORD_BASE: u32 = 65_536;
+// A row's word is the label of a start times this number, and its port.
+pub(crate) const WORD_BASE: u32 = 65_536;
 
 /// Whether the label `d` of `n` labels lies in the cyclic interval from `a` up to, and without, `b`: in `a..b` where
 /// `a` is below `b`, and else in `a..n` or `0..b`. So the interval from a label up to itself has all labels.

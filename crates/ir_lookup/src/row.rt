@@ -1,6 +1,6 @@
 ghost use Rattle.std.specs.Prelude.{◌≡◌, ◌<◌, ◌≤◌, ◌+◌, ◌*◌, ◌^◌, ℕ, length, slice_index, IsTrue, ◌↔◌, List};
 ghost use Rattle.ir_model.specs.Row.{IsAscending, HasPort, labels, start_ports, Start};
-ghost use Rattle.ir_lookup.specs.{Halving.Halves, Words.starts_of};
+ghost use Rattle.ir_lookup.specs.{Halving.Halves, Words.{start_of, starts_of}};
 
 use crate::WORD_BASE;
 use crate::halving::place_counted;
@@ -81,8 +81,15 @@ impl Model for Row {
 }
 
 impl Row {
-    /// Takes over the words of a row, each the label of a start times `WORD_BASE`, and its port. The labels ascend
-    /// strictly; a row of no words meets that.
+    /// The word of a start, of which a row is made.
+    #[inline(always)]
+    pub fn word(label: u16, port: u16) -> u32
+        ensures { let start : Start = record { label = label; port = port } in start_of result ≡ start }
+    {
+        label as u32 * WORD_BASE + port as u32
+    }
+
+    /// Takes over the words of a row. The labels of their starts ascend strictly; a row of no words meets that.
     pub fn of(words: Vec<u32>) -> Self
         requires { IsAscending (starts_of words.items) }
         ensures { result ≡ starts_of words.items }
@@ -123,8 +130,8 @@ impl Row {
         self.starts.port(place)
     }
 
-    /// The port of the interval that has a label, of any number of labels above it. The row is not empty. Takes O(log k), for
-    /// k starts.
+    /// The port of the interval that has a label, of any number of labels above it. The row is not empty. Takes O(log
+    /// k), for k starts.
     pub fn find(&self, label: u16) -> u16
         requires { 0 < length self.now }
         ensures { (n : ℕ) → label < n → HasPort n self.now label result }
@@ -133,8 +140,8 @@ impl Row {
         port
     }
 
-    /// What `find` answers, and the number of starts that were compared with the label: those that halve the row until none is
-    /// left, at most as many as `len()` has binary digits, and at most one less.
+    /// What `find` answers, and the number of starts that were compared with the label: those that halve the row until
+    /// none is left, at most as many as `len()` has binary digits, and at most one less.
     pub fn find_counted(&self, label: u16) -> (u16, u32)
         requires { 0 < length self.now }
         ensures port { (n : ℕ) → label < n → HasPort n self.now label result.0 }

@@ -1,12 +1,12 @@
 //! The row of a node in the tree table, straight from the node's sons and its father.
 
 ghost use Rattle.std.specs.Prelude.{◌≡◌, ◌<◌, ◌≤◌, IfOk, OnOk, length, slice_index};
-ghost use Rattle.ir_model.specs.{declared.Kind.TheVariants.Tree, Topology.{node_count, ports_of}, Row.Start};
-ghost use Rattle.ir_lookup.specs.Words.{start_of, starts_of};
+ghost use Rattle.ir_model.specs.{declared.Kind.TheVariants.Tree, Topology.{node_count, ports_of}};
+ghost use Rattle.ir_lookup.specs.Words.{starts_of};
 ghost use Rattle.ir_numbering.specs.Numbering.{IsNumberingOf};
 ghost use Rattle.ir_plan.specs.{NodeRows.IsNodeRow, SonStarts.{AreSonStarts, AreTreeStarts}};
 
-use ir_lookup::{Row, WORD_BASE};
+use ir_lookup::Row;
 use ir_numbering::Numbering;
 use ir_tables::Topology;
 use std::alloc::{AllocError, Global};
@@ -48,7 +48,7 @@ fn son_words(
     let mut words = Vec::with_capacity(alloc, ports.len())?;
     for (p, hop) in ports.iter().enumerate() {
         if numbering.has_parent(hop.node, u) {
-            words.push(start_word(numbering.label_of(hop.node), p as u16))?;
+            words.push(Row::word(numbering.label_of(hop.node), p as u16))?;
         }
     }
     Ok(words)
@@ -72,17 +72,10 @@ fn add_father(
     let end = numbering.label_of(u) as usize + numbering.subtree(u);
     if let Some(up) = numbering.parent(u) {
         if end == nodes {
-            words.insert(0, start_word(0, up))?;
+            words.insert(0, Row::word(0, up))?;
         } else {
-            words.push(start_word(end as u16, up))?;
+            words.push(Row::word(end as u16, up))?;
         }
     }
     Ok(())
-}
-
-// The word of a start.
-fn start_word(label: u16, port: u16) -> u32
-    ensures { let start : Start = record { label = label; port = port } in start_of result ≡ start }
-{
-    label as u32 * WORD_BASE + port as u32
 }

@@ -12,4 +12,4 @@ pub use ir_answer::{
 pub use ir_exports::LineCrew;
 pub use ir_plan::{Alone, Crew, Several};
 pub use ir_script::{Command, Script, ScriptError, ScriptFault, parse_live, parse_script};
-pub use running::{follow, run_live_text};
+pub use running::{Team, follow, run_live_text};

@@ -17,6 +17,13 @@ use ir_worker::Parcel;
 use std::alloc::Global;
 use std::thread::Threads;
 
+/// Who takes part in a run: the runtime of a live run, in which each node has a thread, and the crew of all else.
+#[derive(Drop)]
+pub struct Team<'t, 'c, T, C> {
+    pub rt: &'t T,
+    pub crew: &'c C,
+}
+
 /// Answers the texts of the inputs of a live run, and writes the answer in the form that the words ask for.
 fn write_live<T: Threads + Moments<Parcel> + Starter + Sync, W: Writer, F: Writer>(
     rt: &T,
@@ -98,8 +105,7 @@ pub fn follow<
     W: Writer,
     F: Writer,
 >(
-    rt: &T,
-    crew: &C,
+    team: &Team<'_, '_, T, C>,
     alloc: Global,
     words: &Words,
     inputs: &mut [R],
@@ -108,15 +114,15 @@ pub fn follow<
 ) -> RunOutcome
     requires kind { FitsItsKind words.now }
     requires inputs { length inputs.old ≡ length (sources_of words.now) }
-    ensures ends { FollowsAs T.Moments T.Starter rt.now words.now result.ending
+    ensures ends { FollowsAs T.Moments T.Starter team.now.rt.now words.now result.ending
         (io_of R.Reader W.Writer F.Writer inputs.old inputs.new output.old output.new faults.old faults.new) }
     ensures told { Tells F.contents F.wrote F.settled faults.old faults.new (told_text result.told) }
     ensures found { ShowsFound (asked_form words.now.sub words.now) result.found result.ending
         (Sends W.contents W.wrote W.settled output.old output.new) }
 {
     if words.sub == Sub::Live {
-        follow_live(rt, alloc, words, inputs, output, faults)
+        follow_live(team.rt, alloc, words, inputs, output, faults)
     } else {
-        follow_by(crew, alloc, words, inputs, output, faults)
+        follow_by(team.crew, alloc, words, inputs, output, faults)
     }
 }

@@ -25,7 +25,7 @@ use input::{Input, open};
 use ir_cli::{Called, read_words_as, status_of};
 use ir_explain::explanation_by;
 use ir_plan::Several;
-use ir_shell::{RunOutcome, Source, Sub, Words, WordsError, follow, sources_of};
+use ir_shell::{RunOutcome, Source, Sub, Team, Words, WordsError, follow, sources_of};
 use naming::{called_by, said_by};
 use output::{Output, is_whole};
 use piped::Piped;
@@ -146,16 +146,12 @@ fn run_over<T: Threads + Wait + Sync>(
         rt: threads,
         progress: &progress,
     };
+    let team = Team {
+        rt: threads,
+        crew: &crew,
+    };
     let alloc = rt.alloc();
-    let outcome = follow(
-        threads,
-        &crew,
-        alloc,
-        words,
-        inputs,
-        &mut output,
-        &mut faults,
-    );
+    let outcome = follow(&team, alloc, words, inputs, &mut output, &mut faults);
     progress.clear();
     let status = status_of(outcome.ending);
     let is_kept = end_output(&mut output, &mut faults, status);

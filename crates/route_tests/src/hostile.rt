@@ -5,7 +5,9 @@ ghost use Rattle.std.specs.Prelude.{IfOk};
 ghost use Rattle.ir_cli.specs.Words.{FitsItsKind};
 
 use ir_cli::status_of;
-use ir_shell::{Several, Sub, Words, WordsError, follow, read_words, run_live_text, sources_of};
+use ir_shell::{
+    Several, Sub, Team, Words, WordsError, follow, read_words, run_live_text, sources_of,
+};
 use std::alloc::Global;
 use std::io;
 use std::io::{Read, Write};
@@ -182,7 +184,8 @@ fn status<T: Threads + Wait + Sync>(
         return 255;
     }
     let crew = Several { rt };
-    status_of(follow(rt, &crew, alloc, words, &mut inputs, output, faults).ending)
+    let team = Team { rt, crew: &crew };
+    status_of(follow(&team, alloc, words, &mut inputs, output, faults).ending)
 }
 
 /// Whether a run over a text ends with status 0 or 1.
@@ -298,8 +301,8 @@ fn are_unwritable<T: Threads + Wait + Sync>(rt: &T, alloc: Global) -> bool {
     true
 }
 
-/// A run: what is read and how the writers fail, and the status, what the writers take, and whether all of the output is
-/// flushed. The reader is interrupted where the output is.
+/// A run: what is read and how the writers fail, and the status, what the writers take, and whether all of the output
+/// is flushed. The reader is interrupted where the output is.
 struct Case {
     name: &'static str,
     sub: &'static str,

@@ -1,7 +1,7 @@
 //! Tests of `route`: each example of `cases.json` has the words behind the program's name, the texts of its inputs, and
 //! what the program prints and ends with. The words are read as `route` reads them, and the run goes over the texts in
-//! memory. Told are the names of the examples that differ, how many examples there are, and how many of them differ; and
-//! behind them the stored run under hostile use, where it ends otherwise than it is to.
+//! memory. Told are the names of the examples that differ, how many examples there are, and how many of them differ;
+//! and behind them the stored run under hostile use, where it ends otherwise than it is to.
 #![tactic(auto)]
 
 mod hostile;
@@ -11,7 +11,7 @@ ghost use Rattle.ir_cli.specs.Words.{FitsItsKind};
 
 use anyhow::Error;
 use ir_cli::status_of;
-use ir_shell::{Several, Words, follow, read_words, sources_of};
+use ir_shell::{Several, Team, Words, follow, read_words, sources_of};
 use serde::Deserialize;
 use std::alloc::{AllocError, Global};
 use std::fs;
@@ -51,7 +51,8 @@ fn run_over<T: Threads + Wait + Sync>(
     let mut faults: Vec<u8> = Vec::new(alloc);
     let status = if inputs.len() == sources_of(words).len() {
         let crew = Several { rt };
-        status_of(follow(rt, &crew, alloc, words, inputs, &mut output, &mut faults).ending)
+        let team = Team { rt, crew: &crew };
+        status_of(follow(&team, alloc, words, inputs, &mut output, &mut faults).ending)
     } else {
         255
     };

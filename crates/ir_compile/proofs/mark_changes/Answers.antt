@@ -32,9 +32,9 @@ loop-d-preserved c =
         | inl kept ↦
             let put = c.put-count.ensures.kept kept in
             let change = c.is_change.ensures.0 kept in
-            marked_kept n own plain ports stand d (take c.loop-d.count c.loop-d.words) (take c.put-count.result words) (slice_index plain d) (omega (arith, c.type_inv.plain d)) refl (was.starts ports stand)
+            marked_kept n own plain ports stand d (take c.loop-d.count c.loop-d.words) (take c.put-count.result words) (slice_index plain d) c.word.result refl (was.starts ports stand)
             (change_here n own plain ports stand d c.loop-d-test.true change.0 (λ same. change.1 (same ∙ sym (was.behind c.loop-d-test.true))))
-            (put.1 ∙ ap (λ (w : ℕ). take c.loop-d.count c.loop-d.words ++ w ∷ []) c.word_of.ensures)
+            c.word.ensures put.1
         | inr drops ↦
             let left = c.put-count.ensures.left (λ w. both_ways _ drops w) in
             subst (λ (xs : List ℕ). IsPartial n own ports (d + 1) (starts_of xs)) (sym left.1)

@@ -17,7 +17,7 @@ returns-in_ok-insert c =
     let before = starts_of c.args.words.now.items in
     let sub = subst (λ (n : ℕ). IsSubtree n numbers.parents (slice_index numbers.labels c.args.u) c.subtree.result) is.labels.every_label c.subtree.ensures in
     let last : slice_index numbers.labels c.args.u + c.subtree.result ≡ node_count net = omega (arith, c.if-end-nodes.true, c.label_of.ensures, c.nodes-nodes.ensures.count) in
-    let added = ap starts_of c.in_ok-insert.ensures.items ∙ ap (λ (s : Start). s ∷ before) c.start_word.ensures in
+    let added = ap starts_of c.in_ok-insert.ensures.items ∙ ap (λ (s : Start). s ∷ before) c.word.ensures in
     subst (AreTreeStarts net numbers c.args.u) (sym added)
     (starts_front net c.nodes-nodes.ensures.topology numbers is c.args.u c.requires.node c.subtree.result sub before c.requires.sons c.in-Some.up (sym c.parent.ensures ∙ c.in-Some.is) last)
 
@@ -29,9 +29,9 @@ returns-in_ok-push c =
     let before = starts_of c.args.words.now.items in
     let sub = subst (λ (n : ℕ). IsSubtree n numbers.parents (slice_index numbers.labels c.args.u) c.subtree.result) is.labels.every_label c.subtree.ensures in
     let end : slice_index numbers.labels c.args.u + c.subtree.result ≢ node_count net = λ e. c.if-end-nodes.false (omega (arith, e, c.label_of.ensures, c.nodes-nodes.ensures.count)) in
-    let at : start_of c.start_word-else-end-nodes.result ≡ start_with (slice_index numbers.labels c.args.u + c.subtree.result) c.in-Some.up =
-    c.start_word-else-end-nodes.ensures ∙ ap (λ (l : ℕ). start_with (l + c.subtree.result) c.in-Some.up) c.label_of.ensures in
-    let added = ap starts_of c.in_ok-push.ensures.items ∙ map_push start_of c.args.words.now.items c.start_word-else-end-nodes.result ∙ ap (λ (s : Start). before ++ s ∷ []) at in
+    let at : start_of c.word-else-end-nodes.result ≡ start_with (slice_index numbers.labels c.args.u + c.subtree.result) c.in-Some.up =
+    c.word-else-end-nodes.ensures ∙ ap (λ (l : ℕ). start_with (l + c.subtree.result) c.in-Some.up) c.label_of.ensures in
+    let added = ap starts_of c.in_ok-push.ensures.items ∙ map_push start_of c.args.words.now.items c.word-else-end-nodes.result ∙ ap (λ (s : Start). before ++ s ∷ []) at in
     subst (AreTreeStarts net numbers c.args.u) (sym added)
     (starts_behind net c.nodes-nodes.ensures.topology numbers is c.args.u c.requires.node c.subtree.result sub before c.requires.sons c.in-Some.up (sym c.parent.ensures ∙ c.in-Some.is) end)
 

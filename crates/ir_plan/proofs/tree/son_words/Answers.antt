@@ -34,8 +34,8 @@ loop-p-preserved c =
     let before = starts_of c.loop-p.words.items in
     elim c.if-has_parent.branch [
       | then-has_parent+in_ok-push w ↦
-          let is : start_of w.start_word.result ≡ start_with (slice_index numbers.labels hop.node) p = w.start_word.ensures ∙ ap (λ (l : ℕ). start_with l p) w.label_of.ensures in
-          let added = ap starts_of w.in_ok-push.ensures.items ∙ map_push start_of c.loop-p.words.items w.start_word.result ∙ ap (λ (s : Start). before ++ s ∷ []) is in
+          let is : start_of w.word.result ≡ start_with (slice_index numbers.labels hop.node) p = w.word.ensures ∙ ap (λ (l : ℕ). start_with l p) w.label_of.ensures in
+          let added = ap starts_of w.in_ok-push.ensures.items ∙ map_push start_of c.loop-p.words.items w.word.result ∙ ap (λ (s : Start). before ++ s ∷ []) is in
           rw w.words-is (subst (AreSonStarts net numbers c.args.u (p + 1)) (sym added)
           (starts_pushed net ok numbers c.requires.numbering c.args.u c.requires.node p before c.loop-p.invariant hop at (c.has_parent.ensures.0 w.if-has_parent.true)))
       | else-has_parent w ↦
