@@ -255,8 +255,8 @@ impl<R: Wait + Drop> BoardWriter<R> {
         &self.writer.published().front
     }
 
-    /// Whether all that a reader of this board knows was published. That it was, since the writer alone changes the board,
-    /// is shown by test.
+    /// Whether all that a reader of this board knows was published. That it was, since the writer alone changes the
+    /// board, is shown by test.
     pub fn leads(&self, reader: &BoardReader) -> bool
         requires { reader_board reader.now ≡ writer_board self.now }
         ensures { IsTrue result ↔ IsPrefix (known reader.now) (published self.now) }

@@ -62,7 +62,8 @@ fn are_met(topology: &Topology, unit: u32, starts: &[u32], lanes: &[u32]) -> boo
 }
 
 /// Lanes in which the equation holds, from those that the search starts with; none where the sweeps do not find them in
-/// time. They are found the sooner the nearer a node is to those that are searched from. It is refused for memory alone.
+/// time. They are found the sooner the nearer a node is to those that are searched from. It is refused for memory
+/// alone.
 pub fn settled(
     alloc: Global,
     topology: &Topology,

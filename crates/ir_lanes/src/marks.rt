@@ -12,8 +12,8 @@ use std::alloc::{AllocError, Global};
 use std::marker::Model;
 use std::simd::prelude::*;
 
-/// A mark for each port of each node and each place of a list of nodes: whether the port leads nearer to the node there.
-/// Takes 2 m n bits, for n nodes in the list and m links.
+/// A mark for each port of each node and each place of a list of nodes: whether the port leads nearer to the node
+/// there. Takes 2 m n bits, for n nodes in the list and m links.
 #[derive(Drop)]
 pub struct PortMarks {
     begins: Vec<usize>,
@@ -49,8 +49,8 @@ impl PortMarks {
         Ok(Some(PortMarks::from_batches(alloc, topology, order, batches)?))
     }
 
-    /// The marks for a list of nodes, of the words of all ports, by batches of sixteen nodes of the list. Condition: these
-    /// are their words, and of all of the list. It is refused for memory alone. Takes O(n), for n nodes.
+    /// The marks for a list of nodes, of the words of all ports, by batches of sixteen nodes of the list. Condition:
+    /// these are their words, and of all of the list. It is refused for memory alone. Takes O(n), for n nodes.
     pub fn from_batches(
         alloc: Global,
         topology: &Topology,
@@ -65,9 +65,9 @@ impl PortMarks {
         Ok(PortMarks { begins, batches })
     }
 
-    /// The marks of a port of a node, by the places of the list, and the places that have one, in order. Condition: these
-    /// are the marks for the list, which has at most 65,536 places, and the node has the port. It is refused for memory
-    /// alone. Takes O(n), for n nodes in the list.
+    /// The marks of a port of a node, by the places of the list, and the places that have one, in order. Condition:
+    /// these are the marks for the list, which has at most 65,536 places, and the node has the port. It is refused for
+    /// memory alone. Takes O(n), for n nodes in the list.
     pub fn row(
         &self,
         alloc: Global,
@@ -136,8 +136,8 @@ impl PortMarks {
     }
 }
 
-/// The words of all ports for a batch of sixteen nodes of a list, the first batch being 0; or none, where the distances to
-/// them were not found in time. Condition: they are nodes, and the list has such a batch. It is refused for memory
+/// The words of all ports for a batch of sixteen nodes of a list, the first batch being 0; or none, where the distances
+/// to them were not found in time. Condition: they are nodes, and the list has such a batch. It is refused for memory
 /// alone. Takes O(n + m) for each sweep, for n nodes and m links.
 pub fn words_to(
     alloc: Global,
@@ -156,8 +156,8 @@ pub fn words_to(
     Ok(Some(words))
 }
 
-/// Sixteen nodes of a list, from a place on; where it ends before, the last one again. Condition: the list has the place.
-/// It is refused for memory alone.
+/// Sixteen nodes of a list, from a place on; where it ends before, the last one again. Condition: the list has the
+/// place. It is refused for memory alone.
 pub fn sixteen_from(alloc: Global, nodes: &[u16], first: usize) -> Result<Vec<u16>, AllocError>
     requires { first < length nodes.now }
     ensures { IfOk result (λ sixteen. AreSixteen nodes.now first sixteen.items) }

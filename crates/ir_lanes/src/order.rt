@@ -1,5 +1,5 @@
-//! The order in which sweeps go over the nodes. Nothing is promised of it, and no answer depends on it: it only tells how
-//! soon the lanes settle.
+//! The order in which sweeps go over the nodes. Nothing is promised of it, and no answer depends on it: it only tells
+//! how soon the lanes settle.
 ghost use Rattle.std.specs.Prelude.{◌<◌, ◌≤◌};
 ghost use Rattle.ir_model.specs.Topology.{node_count};
 

@@ -11,8 +11,8 @@ use ir_tables::Topology;
 use std::alloc::{AllocError, Global};
 use std::marker::Model;
 
-/// The distances from sixteen nodes, and for each other node the least of their ports that lead nearer to it. A node may
-/// stand in several lanes.
+/// The distances from sixteen nodes, and for each other node the least of their ports that lead nearer to it. A node
+/// may stand in several lanes.
 #[derive(Drop)]
 pub struct OutwardLanes {
     sources: Vec<u16>,
@@ -27,10 +27,10 @@ impl Model for OutwardLanes {
 }
 
 impl OutwardLanes {
-    /// The ways from sixteen nodes, the first of them in lane 0; or none, where they were not found in 64 sweeps and by the
-    /// work of 20 passes over all links, as where a distance and the bits of a port take more than 31 bits, where some node
-    /// has no walk to some node, and of one node alone. Condition: they are nodes. It is refused for memory alone. Takes
-    /// O(n + m) for each sweep, for n nodes and m links.
+    /// The ways from sixteen nodes, the first of them in lane 0; or none, where they were not found in 64 sweeps and by
+    /// the work of 20 passes over all links, as where a distance and the bits of a port take more than 31 bits, where
+    /// some node has no walk to some node, and of one node alone. Condition: they are nodes. It is refused for memory
+    /// alone. Takes O(n + m) for each sweep, for n nodes and m links.
     pub fn from(
         alloc: Global,
         topology: &Topology,
@@ -56,8 +56,8 @@ impl OutwardLanes {
         }))
     }
 
-    /// The distances from the node of a lane, by node. Condition: these are the ways of the topology, and there is such a
-    /// lane. It is refused for memory alone. Takes O(n), for n nodes.
+    /// The distances from the node of a lane, by node. Condition: these are the ways of the topology, and there is such
+    /// a lane. It is refused for memory alone. Takes O(n), for n nodes.
     pub fn distances(
         &self,
         alloc: Global,
@@ -76,9 +76,9 @@ impl OutwardLanes {
         Ok(weights)
     }
 
-    /// The least port of the node of a lane that leads nearer to each of some nodes, one behind the other; what stands for
-    /// the lane's own node says nothing. Conditions: these are the ways of the topology, there is such a lane, and they are
-    /// its nodes. It is refused for memory alone. Takes O(n), for n nodes.
+    /// The least port of the node of a lane that leads nearer to each of some nodes, one behind the other; what stands
+    /// for the lane's own node says nothing. Conditions: these are the ways of the topology, there is such a lane, and
+    /// they are its nodes. It is refused for memory alone. Takes O(n), for n nodes.
     pub fn ports_along(
         &self,
         alloc: Global,
@@ -170,8 +170,8 @@ fn unit_of(bits: u32) -> u32
     1 << bits
 }
 
-// The lanes that the search from sixteen nodes starts with: at each neighbour the weight of the port to it, and behind it
-// the port.
+// The lanes that the search from sixteen nodes starts with: at each neighbour the weight of the port to it, and behind
+// it the port.
 fn source_starts(
     alloc: Global,
     topology: &Topology,

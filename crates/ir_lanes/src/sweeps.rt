@@ -52,8 +52,8 @@ fn pull(topology: &Topology, unit: u32, lanes: &mut [u32], u: usize) -> bool
     true
 }
 
-// Pulls at each node of a list that waits, forward or backward; where that changes its lanes its neighbours wait. How many
-// ports it pulled by.
+// Pulls at each node of a list that waits, forward or backward; where that changes its lanes its neighbours wait. How
+// many ports it pulled by.
 fn sweep(
     topology: &Topology,
     unit: u32,
@@ -96,8 +96,8 @@ fn wake(topology: &Topology, waits: &mut [bool], u: usize)
     }
 }
 
-// Sweeps over the nodes of a list forward and backward by turns, until none of them waits, or for `MOST_SWEEPS` or the work
-// of `MOST_PASSES`. How many ports it pulled by.
+// Sweeps over the nodes of a list forward and backward by turns, until none of them waits, or for `MOST_SWEEPS` or the
+// work of `MOST_PASSES`. How many ports it pulled by.
 fn turns(
     topology: &Topology,
     unit: u32,

@@ -49,8 +49,8 @@ pub(crate) fn opened(
     Net::open(rt, alloc, opening)
 }
 
-/// A net over the path a, b, c, whose links are a-b and b-c: nodes 0, 1 and 2, links 0 and 1. Its plan is of the tree with
-/// root b.
+/// A net over the path a, b, c, whose links are a-b and b-c: nodes 0, 1 and 2, links 0 and 1. Its plan is of the tree
+/// with root b.
 pub(crate) fn path(
     rt: &(impl Threads + Sync),
     alloc: Global,

@@ -215,7 +215,8 @@ fn opened_for_two<R: Wait + Drop>(
     }
 }
 
-// The board that a mark makes, the one that a reader who learns of it reads, and the one that a reader who does not reads.
+// The board that a mark makes, the one that a reader who learns of it reads, and the one that a reader who does not
+// reads.
 fn marked_for_two<R: Wait + Drop>(
     writer: &mut BoardWriter<R>,
     told: &mut BoardReader,
@@ -333,7 +334,8 @@ fn retire<R: Wait + Drop>(writer: &mut BoardWriter<R>, floor: u32) -> Option<Rec
     writer.change(Change::Retire(floor)).ok()
 }
 
-// What a receipt tells: the version, the epoch where it installed one, and the current epoch, the floor and link 0's mark.
+// What a receipt tells: the version, the epoch where it installed one, and the current epoch, the floor and link 0's
+// mark.
 type Told = (u32, Option<u32>, u32, u32, bool);
 
 fn told_by(receipt: &Receipt) -> Told {

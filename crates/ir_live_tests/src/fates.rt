@@ -1,5 +1,5 @@
-//! Live runs by what becomes of their packets where a gate holds a node back: full, retired, restamped and delivered, with
-//! a drain behind each; and as many packets as there may be, to their ends.
+//! Live runs by what becomes of their packets where a gate holds a node back: full, retired, restamped and delivered,
+//! with a drain behind each; and as many packets as there may be, to their ends.
 
 use crate::by_hand::{Became, network, opened, path, tells_all};
 use crate::live;
@@ -72,8 +72,8 @@ const OVER: Became<'static> = Became {
     fate: Fate::Delivered,
 };
 
-/// Two packets that meet at b, before a channel to c that holds one and that c does not poll until one of them is dropped;
-/// and a third behind a drain.
+/// Two packets that meet at b, before a channel to c that holds one and that c does not poll until one of them is
+/// dropped; and a third behind a drain.
 static MEETING: [Command; 5] = [
     Command::Inject(0, 2),
     Command::Inject(1, 2),
@@ -247,8 +247,8 @@ fn all_inwards(records: &[Record]) -> bool {
     records.len() == 4_096
 }
 
-// Whether all are delivered where the inboxes have room for all packets together: by the time that the node in the middle
-// makes its first turn they wait for it, and it settles them all.
+// Whether all are delivered where the inboxes have room for all packets together: by the time that the node in the
+// middle makes its first turn they wait for it, and it settles them all.
 fn settles_all<R: Threads + Wait + Sync, C: Clock + Sync>(
     rt: &R,
     clock: &C,

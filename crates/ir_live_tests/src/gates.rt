@@ -67,8 +67,8 @@ fn next_around(hops: &[u16], source: u16) -> Option<u16> {
     Some(next)
 }
 
-// Whether a record is that of the packet of this number, and its hops a beginning of its walk: the whole walk where it was
-// delivered, and else less, as where it was dropped since the channel to the node that follows was full.
+// Whether a record is that of the packet of this number, and its hops a beginning of its walk: the whole walk where it
+// was delivered, and else less, as where it was dropped since the channel to the node that follows was full.
 fn is_sound(record: &Record, id: u16) -> bool {
     let source = id / 64;
     let hops = record.hops.as_slice();

@@ -1,4 +1,5 @@
-//! Moves by hand over the path a, b, c: packets that are delivered, retired, restamped and dropped, and what is refused.
+//! Moves by hand over the path a, b, c: packets that are delivered, retired, restamped and dropped, and what is
+//! refused.
 ghost use Rattle.std.specs.Prelude.{◌≡◌, IfSome};
 ghost use Rattle.ir_epochs.specs.Handles.{receipt_board, reader_board, writer_board};
 ghost use Rattle.ir_worker.specs.Same.{IsSameNode};
@@ -332,8 +333,8 @@ fn turned_there<R: Threads + Wait + Sync>(
     thread::join(rt, there, || ()).0
 }
 
-// What node b does on another thread, where it learns that the epoch of a packet that is sent to it is retired, and turns
-// twice.
+// What node b does on another thread, where it learns that the epoch of a packet that is sent to it is retired, and
+// turns twice.
 fn turned_away<R: Threads + Wait + Sync>(
     rt: &R,
     hands: &mut ByHand<&R>,

@@ -1,5 +1,5 @@
-//! Laws that a reader would expect of the definitions, each the contract of a function with an empty body, so that a check
-//! of this crate asks for its proof.
+//! Laws that a reader would expect of the definitions, each the contract of a function with an empty body, so that a
+//! check of this crate asks for its proof.
 
 mod choices;
 mod intervals;

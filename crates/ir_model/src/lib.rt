@@ -1,6 +1,6 @@
 //! The definitions that every crate of the network shares: texts and graphs, networks and walks, full tables,
-//! depth-first numberings, cyclic intervals and rows. They stand in `specs/`; here are the limits, the plain records that
-//! contracts and getters speak of, and laws of the definitions.
+//! depth-first numberings, cyclic intervals and rows. They stand in `specs/`; here are the limits, the plain records
+//! that contracts and getters speak of, and laws of the definitions.
 #![tactic(auto)]
 
 mod laws;

@@ -79,8 +79,8 @@ impl Numbering {
         })
     }
 
-    /// Numbering nodes by a list that has each once. Each node but the first has the first for its parent in the tree of
-    /// the numbering, and none holds a port for it. Takes O(n), for n nodes.
+    /// Numbering nodes by a list that has each once. Each node but the first has the first for its parent in the tree
+    /// of the numbering, and none holds a port for it. Takes O(n), for n nodes.
     pub fn listed(alloc: Global, order: Vec<u16>) -> Result<Numbering, AllocError>
         requires listing { IsListing (length order.items) order.items }
         requires few { length order.items ≤ MAX_NODES }

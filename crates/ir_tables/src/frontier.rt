@@ -8,8 +8,8 @@ use std::alloc::{AllocError, Global};
 use std::cmp::Reverse;
 use std::collections::BinaryHeap;
 
-/// Offers the weight of `v` through its ports. Each neighbour that takes less enters the frontier, where nodes wait with
-/// the weights that they had, the least first.
+/// Offers the weight of `v` through its ports. Each neighbour that takes less enters the frontier, where nodes wait
+/// with the weights that they had, the least first.
 fn offer(
     topology: &Topology,
     v: u16,

@@ -10,15 +10,16 @@ use std::alloc::{AllocError, Global};
 use std::cmp::Reverse;
 use std::collections::BinaryHeap;
 
-/// What a key has for each unit of weight: more than any port. So much has an entry of the frontier for each unit of its
-/// key, which is more than any node.
+/// What a key has for each unit of weight: more than any port. So much has an entry of the frontier for each unit of
+/// its key, which is more than any node.
 pub const UNIT: u64 = 65_536;
 
 /// The key that stands for no way found yet.
 pub const NO_KEY: u64 = 140_737_488_355_328;
 
-/// Nodes that wait, each behind the key that it had: near ones up to a limit, the least first, and far ones in no order.
-/// Most of what waits is far, and gone by the time that the limit comes to it, since its node has a lesser key by then.
+/// Nodes that wait, each behind the key that it had: near ones up to a limit, the least first, and far ones in no
+/// order. Most of what waits is far, and gone by the time that the limit comes to it, since its node has a lesser key
+/// by then.
 #[derive(Drop)]
 struct Frontier {
     near: BinaryHeap<Reverse<u64>>,
@@ -101,8 +102,8 @@ impl Frontier {
         Ok(())
     }
 
-    /// The least half of the far entries' keys come near, and those that are no longer fresh are gone. Condition: there is
-    /// a far entry.
+    /// The least half of the far entries' keys come near, and those that are no longer fresh are gone. Condition: there
+    /// is a far entry.
     fn bring_near(&mut self, keys: &[u64]) -> Result<(), AllocError>
         requires far { 0 < length self.old.far.items }
         ensures fresh { OnOk result (KeepsFresh keys.now (keys_waiting self.old) (keys_waiting self.new)) }

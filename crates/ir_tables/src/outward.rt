@@ -106,8 +106,8 @@ fn is_tight(weights: &[u32], own: u32, weight: u32, y: usize) -> bool
     weights[y] as u64 == own as u64 + weight as u64
 }
 
-// The nodes to which the port `p` of `u` leads nearer. Each passes it on along its tight steps, in the order in which they
-// got it.
+// The nodes to which the port `p` of `u` leads nearer. Each passes it on along its tight steps, in the order in which
+// they got it.
 fn flood(
     alloc: Global,
     topology: &Topology,

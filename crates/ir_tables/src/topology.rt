@@ -85,8 +85,8 @@ impl Topology {
         self.ports.row(node as usize).len()
     }
 
-    /// Where a port of a node leads: the neighbour, the link and its weight. Condition: `node` is below `nodes()`, and `port`
-    /// below its degree.
+    /// Where a port of a node leads: the neighbour, the link and its weight. Condition: `node` is below `nodes()`, and
+    /// `port` below its degree.
     pub fn port(&self, node: u16, port: u16) -> Hop
         requires node { node < node_count self.now }
         requires port { port < length (ports_of self.now node) }
@@ -103,8 +103,8 @@ impl Topology {
         self.ports.row(node)
     }
 
-    /// The first port of a node that leads to another one. Condition: `node` is below `nodes()`. Takes O(d), for d ports
-    /// of `node`.
+    /// The first port of a node that leads to another one. Condition: `node` is below `nodes()`. Takes O(d), for d
+    /// ports of `node`.
     pub fn hop_to(&self, node: u16, neighbor: u16) -> Option<Hop>
         requires { node < node_count self.now }
         ensures first { result ≡ find (λ hop. hop.node == neighbor) (ports_of self.now node) }

@@ -1,6 +1,6 @@
-//! Tests without a handle, through the public calls of the crates below: worked examples of graphs, tables, plans, prefixes
-//! and runs; errors as texts and numbers; traces that are read, written and checked; words that are refused; what a world
-//! hands out; and runs of the program. No test here starts a thread or waits for one.
+//! Tests without a handle, through the public calls of the crates below: worked examples of graphs, tables, plans,
+//! prefixes and runs; errors as texts and numbers; traces that are read, written and checked; words that are refused;
+//! what a world hands out; and runs of the program. No test here starts a thread or waits for one.
 #![tactic(auto)]
 
 #[cfg(test)]

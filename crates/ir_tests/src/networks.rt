@@ -14,8 +14,8 @@ pub(crate) const PATH: [Edge; 2] = [("a", "b", 1), ("b", "c", 1)];
 /// A ring of a, b, c and d, which is named third.
 pub(crate) const RING: [Edge; 4] = [("a", "b", 1), ("a", "d", 1), ("b", "c", 1), ("c", "d", 1)];
 
-/// Six nodes u, p, q, r, t, s, numbered from 0, of which the tree from u goes by a heavy link. The links u-p, u-q, p-q, p-t,
-/// q-r, q-t, q-s are 0 to 6.
+/// Six nodes u, p, q, r, t, s, numbered from 0, of which the tree from u goes by a heavy link. The links u-p, u-q, p-q,
+/// p-t, q-r, q-t, q-s are 0 to 6.
 pub(crate) const HEAVY: [Edge; 7] = [
     ("u", "p", 1),
     ("u", "q", 1),

@@ -59,7 +59,8 @@ fn run_alone(
     }
 }
 
-/// Whether a line of words behind the program's name, over a text on standard input, prints this and ends with this status.
+/// Whether a line of words behind the program's name, over a text on standard input, prints this and ends with this
+/// status.
 fn prints(alloc: Global, line: &str, text: &str, wanted: (u8, &str, &str)) -> bool {
     let Ok(words) = asked_by(alloc, Called::Route, line) else {
         return false;

@@ -89,8 +89,8 @@ static RUNS: [Run; 3] = [
             Fate::Delivered,
         )],
     },
-    // From a to b the far way round, and from c, the last node before b, all the way back: no packet of four nodes that may
-    // be restamped once has more hops.
+    // From a to b the far way round, and from c, the last node before b, all the way back: no packet of four nodes that
+    // may be restamped once has more hops.
     Run {
         name: "the longest journey round a ring",
         over: (&RING, 0, 1, 1, 1),

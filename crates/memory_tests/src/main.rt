@@ -1,6 +1,6 @@
 //! `memory_tests`: each call that may answer that there is no memory is made once more where it does. Before that it is
-//! seen that the refusal left all as it was. So the program prints `ok` whichever one of its allocations is refused, and
-//! else what was wrong first.
+//! seen that the refusal left all as it was. So the program prints `ok` whichever one of its allocations is refused,
+//! and else what was wrong first.
 #![tactic(auto)]
 
 mod channels;

@@ -41,8 +41,8 @@ pub(crate) fn path(alloc: Global) -> Result<Topology, &'static str> {
     topology(alloc, &graph)
 }
 
-/// What is opened over the path: along its tree from b, each channel of this capacity, with at most four packets and one
-/// restamp of each. Later plans are labelled by a tour.
+/// What is opened over the path: along its tree from b, each channel of this capacity, with at most four packets and
+/// one restamp of each. Later plans are labelled by a tour.
 pub(crate) fn opening(alloc: Global, capacity: usize) -> Result<Opening, &'static str> {
     Ok(Opening {
         topology: path(alloc)?,

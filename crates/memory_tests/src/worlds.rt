@@ -96,8 +96,8 @@ pub struct Run {
     seen: Sight,
 }
 
-/// Packets over three epochs, one of them after a link was down and up again; a full inbox, which refuses a packet and takes
-/// it when it is empty again; and a full channel, which drops one.
+/// Packets over three epochs, one of them after a link was down and up again; a full inbox, which refuses a packet and
+/// takes it when it is empty again; and a full channel, which drops one.
 pub static RUNS: [Run; 3] = [
     Run {
         capacity: 2,
