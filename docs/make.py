@@ -122,14 +122,14 @@ def believed():
     start = place_of(call, crate)
     seen = specs.reached([start])
     order = specs.in_order(seen)
-    types = sorted({it[1:] for it in seen if it[0] == "type"})
+    types = sorted({it[1:] for it in seen if it[0] == "type" and specs.declared_in(*it[1:])})
     rows, later, known = [(f"`{call}` of `{crate}`", headline, order, len(types))], [], set(seen)
     for call, crate, what in FURTHER:
         place = place_of(call, crate)
         more = specs.reached([place]) - known
         known |= more
         added = specs.in_order(more)
-        rows.append((f"`{call}` of `{crate}`", what, added, len({it for it in more if it[0] == "type"})))
+        rows.append((f"`{call}` of `{crate}`", what, added, len({it for it in more if it[0] == "type" and specs.declared_in(*it[1:])})))
         later.append((f"`{call}` of `{crate}`", crate, place, added))
     out = ["# What must be believed", ""]
     out += [wrapped("This page is for those who want to read the headline and not trust a word around it. A "
@@ -148,8 +148,7 @@ def believed():
     out += ["## Types of the code", "", wrapped("What the definitions below call by a type's name or by its variants."), ""]
     for crate, kind in types:
         path = specs.declared_in(crate, kind)
-        if path:
-            out += [f"`{kind}` of `{crate}`, in [{os.path.basename(path)}](../{path}):", ""] + code(declaration(path, kind)) + [""]
+        out += [f"`{kind}` of `{crate}`, in [{os.path.basename(path)}](../{path}):", ""] + code(declaration(path, kind)) + [""]
     constants = sorted(it[1:] for it in seen if it[0] == "constant")
     out += [wrapped("Constants: " + "; ".join(f"`{name}` of `{crate}` is {value_of(crate, name)}" for crate, name in constants) + "."), ""]
     out += [wrapped("What contracts see of a value of a type with a `Model`: " + "; ".join(

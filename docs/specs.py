@@ -235,6 +235,6 @@ def lines_of(definitions):
 def declared_in(crate, name):
     """The file of a crate that declares a type or a constant."""
     for path in sorted(glob.glob(f"crates/{crate}/src/**/*.rt", recursive=True)):
-        if re.search(rf"^(?:pub )?(?:struct|enum|trait|const|static) {name}\b", text_of(path), flags=re.M):
+        if re.search(rf"^(?:pub(?:\(crate\))? )?(?:struct|enum|trait|const|static) {name}\b", text_of(path), flags=re.M):
             return path
     return None
