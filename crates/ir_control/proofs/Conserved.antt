@@ -1,5 +1,6 @@
 -- What was injected is what was settled or is left, each head as often.
-use Rattle.std.specs.Prelude.{◌≡◌, ℕ, zero, suc, ◌+◌, ◌<◌, Bool, true, false, not, ◌&&◌, ◌==◌, eqb, cond, List, [], ◌∷◌, All, Option, Some, None, length, map, sum_by, slice_get, slice_index_or}
+use Rattle.std.specs.Prelude.{◌≡◌, ℕ, zero, suc, ◌+◌, ◌<◌, Bool, true, false, not, ◌&&◌, ◌==◌, eqb, cond, List, [], ◌∷◌, All, Option, Some, None, Vec, length, map, sum_by, slice_get, slice_index_or}
+use Rattle.std.specs.Global.{Global}
 use Rattle.std.proofs.Common.{refl, arith, sym, ap, ◌∙◌, subst, get_or, eq-eqb}
 use Rattle.std.proofs.lemmas.Bool.{eqb-true, lt-ltb}
 use Rattle.std.proofs.lemmas.Option.{same_Some, none-some, slice_get-get_or, get_or_from_slice_get, slice_get_within}
@@ -17,7 +18,7 @@ use Rattle.ir_control.specs.Reported.{IsGathered}
 use Rattle.ir_control.specs.Reports.{IsSoundOutcome}
 use Rattle.ir_control.specs.Rowed.{node_settled, node_taken, node_sent}
 use Rattle.ir_control.specs.Slots.{slot_weight, hit, once, IsAt, AllAt, AllIn}
-use Rattle.ir_control.specs.Told.{outcome_number}
+use Rattle.ir_control.specs.Told.{outcome_number, weight_settled}
 use Rattle.ir_control.proofs.Once.{injected_once}
 use Rattle.ir_control.proofs.Slotted.{full_at}
 use Rattle.ir_control.proofs.Wiring.{sum_nothing, map_eq}
@@ -35,8 +36,8 @@ nodes_balanced p (n ∷ ns) =
     let rest = nodes_balanced p ns in
     omega (arith, here, rest, sum_by-cons (node_taken (head_weight p)) n ns, sum_by-cons (node_sent (head_weight p)) n ns, sum_by-cons (node_settled (outcome_weight p)) n ns)
 
-module _ (nodes : List Node) (injector : Injector) (outs : List Out) (outs_are : outs ≡ injector.outs.items) (settled : (Outcome → ℕ) → ℕ) (left : List Parcel) (gathered : IsGathered nodes outs settled left) where
-  pub conserved : (p : Head → Bool) → settled (outcome_weight p) + sum_by (head_weight p) left ≡ times_injected p injector.accepted.items
+module _ (nodes : List Node) (injector : Injector) (outs : List Out) (outs_are : outs ≡ injector.outs.items) (settled : List (Vec Outcome Global)) (left : List Parcel) (gathered : IsGathered nodes outs settled left) where
+  pub conserved : (p : Head → Bool) → weight_settled (outcome_weight p) settled + sum_by (head_weight p) left ≡ times_injected p injector.accepted.items
   conserved p =
       let a = gathered.settlings (outcome_weight p) in
       let b = gathered.leavings (head_weight p) in
@@ -45,7 +46,7 @@ module _ (nodes : List Node) (injector : Injector) (outs : List Out) (outs_are :
       omega (arith, a, b, balanced, sent)
 
   -- each number below the count was settled once or is left once
-  pub once_each : (i : ℕ) → settled (hit outcome_number i) + sum_by (hit (λ (x : Parcel). x.packet.id) i) left ≡ once (length injector.accepted.items) i
+  pub once_each : (i : ℕ) → weight_settled (hit outcome_number i) settled + sum_by (hit (λ (x : Parcel). x.packet.id) i) left ≡ once (length injector.accepted.items) i
   once_each i = conserved (λ h. h.id == i) ∙ injected_once injector.accepted.items injector.numbered i
 
 module _ (accepted : List Accepted) (numbered : AreNumbered accepted) (os : List Outcome) (counts : (p : Head → Bool) → sum_by (outcome_weight p) os ≡ times_injected p accepted) where

@@ -10,6 +10,7 @@ use Rattle.ir_worker.specs.declared.node.Node.{Node}
 use Rattle.ir_worker.specs.declared.parcel.Place.{Place}
 use Rattle.ir_worker.specs.Account.{lines_out}
 use Rattle.ir_worker.specs.Wires.{In, Out}
+use Rattle.ir_control.specs.declared.leaving.EndRows.{EndRows}
 use Rattle.ir_control.specs.declared.net.Net.{Net}
 use Rattle.ir_control.specs.Pairs.{ArePeers, ArePaired, slot_line, line_at}
 use Rattle.ir_control.specs.Parts.{IsNodeOf, AreNodesOf, node_number}
@@ -100,26 +101,25 @@ lines_there inboxes outs e = λ k slot got.
       there (x ∷ xs) zero s got = ap (λ (slot : Option Out). slot_line slot) got
       there (x ∷ xs) (suc k) s got = there xs k s got
 
-pub inboxes_paired : (net : Net) (outs : List Out) (inboxes takers : List In) (senders : List (Option Out)) → lines_out outs ≡ net.inboxes.items → AreEndRows net (node_count net.topology) inboxes takers senders
-    → ArePaired net.entries.items (map (λ s. Some s) outs) inboxes
-inboxes_paired net outs inboxes takers senders lines rows =
+pub inboxes_paired : (net : Net) (outs : List Out) (rows : EndRows) → lines_out outs ≡ net.inboxes.items → AreEndRows net (node_count net.topology) rows → ArePaired net.entries.items (map (λ s. Some s) outs) rows.inboxes.items
+inboxes_paired net outs rows lines are =
     let n = net.inboxes_are.count in
     let m = net.entries_are.count in
     let len = ap length lines in
     let a = length-map outs (λ (s : Out). s.channel) in
     let b = length-map outs (λ (s : Out). Some s) in
-    let q = rows.inbox_count in
-    paired_at net.entries.items net.inboxes.items (map (λ s. Some s) outs) inboxes (entries_paired (node_count net.topology) net.entries.items net.entries_are) (omega (arith, n, m, len, a, b)) (omega (arith, q, m))
+    let q = are.inbox_count in
+    paired_at net.entries.items net.inboxes.items (map (λ s. Some s) outs) rows.inboxes.items (entries_paired (node_count net.topology) net.entries.items net.entries_are) (omega (arith, n, m, len, a, b)) (omega (arith, q, m))
     (lines_there net.inboxes.items outs lines)
-    (λ k t got. (let lt = slice_get_within inboxes k t got in ap (slice_get net.inboxes.items) (net.entries_are.each k (omega (arith, lt, q))) ∙ rows.inbox_lines k t got))
+    (λ k t got. (let lt = slice_get_within rows.inboxes.items k t got in ap (slice_get net.inboxes.items) (net.entries_are.each k (omega (arith, lt, q))) ∙ are.inbox_lines k t got))
 
-pub ways_paired : (net : Net) (inboxes takers : List In) (senders : List (Option Out)) → AreEndRows net (node_count net.topology) inboxes takers senders → ArePaired net.peers.items senders takers
-ways_paired net inboxes takers senders rows =
+pub ways_paired : (net : Net) (rows : EndRows) → AreEndRows net (node_count net.topology) rows → ArePaired net.peers.items rows.senders.items rows.takers.items
+ways_paired net rows are =
     let all = offset_all net.topology in
     let n = net.ways_are.peer_count in
-    let a = rows.out_count in
-    let b = rows.in_count in
-    paired_at net.peers.items net.ways.items senders takers net.ways_are.peers_are (omega (arith, all, n, a)) (omega (arith, all, n, b)) rows.out_lines rows.in_lines
+    let a = are.out_count in
+    let b = are.in_count in
+    paired_at net.peers.items net.ways.items rows.senders.items rows.takers.items net.ways_are.peers_are (omega (arith, all, n, a)) (omega (arith, all, n, b)) are.out_lines are.in_lines
 
 -- a way of a net is of the net
 way_is : (net : Net) (k : ℕ) (channel : Channel Place) → slice_get net.ways.items k ≡ Some channel → (channel.place.opening ≡ net.opening) × (channel.place.restamps ≡ net.restamps)
@@ -130,21 +130,21 @@ way_is net k channel got =
     let is = net.ways_are.out at.0 at.1 at.2 channel at.3 (ap (slice_get net.ways.items) (sym at.4) ∙ got) in
     (ap (λ (p : Place). p.opening) is.place, ap (λ (p : Place). p.restamps) is.place)
 
-module _ (net : Net) (n : ℕ) (inboxes takers : List In) (senders : List (Option Out)) (rows : AreEndRows net n inboxes takers senders) where
-  pub inboxes_of_net : AreTakersOf net.opening net.restamps inboxes
+module _ (net : Net) (n : ℕ) (rows : EndRows) (are : AreEndRows net n rows) where
+  pub inboxes_of_net : AreTakersOf net.opening net.restamps rows.inboxes.items
   inboxes_of_net = record {
-    places = all_of_get (λ (t : In). t.channel.place.opening ≡ net.opening) inboxes (λ k t got. ap (λ (p : Place). p.opening) (net.inboxes_are.each k t.channel (rows.inbox_lines k t got)).place);
-    limits = all_of_get (λ (t : In). t.channel.place.restamps ≡ net.restamps) inboxes (λ k t got. ap (λ (p : Place). p.restamps) (net.inboxes_are.each k t.channel (rows.inbox_lines k t got)).place);
+    places = all_of_get (λ (t : In). t.channel.place.opening ≡ net.opening) rows.inboxes.items (λ k t got. ap (λ (p : Place). p.opening) (net.inboxes_are.each k t.channel (are.inbox_lines k t got)).place);
+    limits = all_of_get (λ (t : In). t.channel.place.restamps ≡ net.restamps) rows.inboxes.items (λ k t got. ap (λ (p : Place). p.restamps) (net.inboxes_are.each k t.channel (are.inbox_lines k t got)).place);
   }
 
-  pub takers_of_net : AreTakersOf net.opening net.restamps takers
+  pub takers_of_net : AreTakersOf net.opening net.restamps rows.takers.items
   takers_of_net = record {
-    places = all_of_get (λ (t : In). t.channel.place.opening ≡ net.opening) takers (λ k t got. (way_is net (slice_index net.peers.items k) t.channel (rows.in_lines k t got)).0);
-    limits = all_of_get (λ (t : In). t.channel.place.restamps ≡ net.restamps) takers (λ k t got. (way_is net (slice_index net.peers.items k) t.channel (rows.in_lines k t got)).1);
+    places = all_of_get (λ (t : In). t.channel.place.opening ≡ net.opening) rows.takers.items (λ k t got. (way_is net (slice_index net.peers.items k) t.channel (are.in_lines k t got)).0);
+    limits = all_of_get (λ (t : In). t.channel.place.restamps ≡ net.restamps) rows.takers.items (λ k t got. (way_is net (slice_index net.peers.items k) t.channel (are.in_lines k t got)).1);
   }
 
-  pub rows_count : n ≡ node_count net.topology → length inboxes + length takers ≡ node_count net.topology + way_count net.topology
+  pub rows_count : n ≡ node_count net.topology → length rows.inboxes.items + length rows.takers.items ≡ node_count net.topology + way_count net.topology
   rows_count is =
-      let p : length inboxes ≡ node_count net.topology = rows.inbox_count ∙ is in
-      let q : length takers ≡ way_count net.topology = rows.in_count ∙ ap (offset net.topology) is ∙ offset_all net.topology in
+      let p : length rows.inboxes.items ≡ node_count net.topology = are.inbox_count ∙ is in
+      let q : length rows.takers.items ≡ way_count net.topology = are.in_count ∙ ap (offset net.topology) is ∙ offset_all net.topology in
       omega (arith, p, q)

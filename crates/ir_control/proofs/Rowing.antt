@@ -1,5 +1,6 @@
 -- Rows grow node by node.
-use Rattle.std.specs.Prelude.{◌≡◌, ℕ, zero, suc, ◌+◌, ◌<◌, ◌≤◌, Bool, true, false, eqb, List, [], ◌∷◌, ◌++◌, Option, Some, None, length, map, sum_by, slice_get, slice_index, slice_index_or, slice_set, All}
+use Rattle.std.specs.Prelude.{◌≡◌, ℕ, zero, suc, ◌+◌, ◌<◌, Bool, true, false, eqb, List, [], ◌∷◌, ◌++◌, Option, Some, None, length, map, sum_by, slice_get, slice_index, slice_index_or, slice_set, All, Vec}
+use Rattle.std.specs.Global.{Global}
 use Rattle.std.proofs.Common.{refl, arith, sym, ap, ◌∙◌, subst, get_or}
 use Rattle.std.proofs.lemmas.Bool.{eqb-true, eqb-false}
 use Rattle.std.proofs.lemmas.Option.{same_Some, none-some}
@@ -9,15 +10,16 @@ use Rattle.ir_model.specs.Topology.{node_count, ports_of}
 use Rattle.ir_worker.specs.declared.node.Node.{Node}
 use Rattle.ir_worker.specs.declared.parcel.Outcome.{Outcome}
 use Rattle.ir_worker.specs.Wires.{In, Out}
+use Rattle.ir_control.specs.declared.leaving.EndRows.{EndRows}
 use Rattle.ir_control.specs.declared.net.Net.{Net}
 use Rattle.ir_control.specs.Places.{offset, way_count}
 use Rattle.ir_control.specs.Pairs.{slot_line}
 use Rattle.ir_control.specs.Parts.{IsNodeOf}
 use Rattle.ir_control.specs.Slots.{slot_weight, slot_sent, times_in_slots, weight_taken}
-use Rattle.ir_control.specs.Rowed.{AllGet, node_settled, node_taken, node_sent, AreEndRows, AreSlotsFrom, AreWeighed}
+use Rattle.ir_control.specs.Rowed.{AllGet, node_settled, node_taken, node_sent, AppendsEnds, AreEmptyRows, AreEndRows, AreSlotsFrom, AreWeighed, HaveRoomFor, KeepRoom}
 use Rattle.std.proofs.Math.Logic.{∥∥₁_elim, ∥∥₁_prop}
 use Rattle.ir_epochs.specs.declared.registry.Stamp.{Stamp}
-use Rattle.ir_control.specs.Told.{IsOutcomeIn}
+use Rattle.ir_control.specs.Told.{IsOutcomeIn, weight_settled}
 use Rattle.ir_control.proofs.Rows.{offset_next, offset_le, offset_zero}
 use Rattle.ir_control.proofs.Sums.{sum_of_none}
 
@@ -56,49 +58,61 @@ slots_weigh {A} g (x ∷ xs) =
     let rest = slots_weigh g xs in
     omega (arith, rest, sum_by-cons g (Some x) (map (λ (x : A). Some x) xs), sum_by-cons (λ (x : A). g (Some x)) x xs)
 
-pub rows_none : (net : Net) (inboxes takers : List In) (senders : List (Option Out)) → inboxes ≡ [] → takers ≡ [] → senders ≡ [] → AreEndRows net 0 inboxes takers senders
-rows_none net inboxes takers senders a b c = record {
-  inbox_count = ap length a;
-  inbox_lines = all_get_none _ inboxes a;
-  in_count = (let n = ap length b in let z = offset_zero net.topology in omega (arith, n, z));
-  in_lines = all_get_none _ takers b;
-  out_count = (let n = ap length c in let z = offset_zero net.topology in omega (arith, n, z));
-  out_lines = all_get_none _ senders c;
+pub rows_none : (net : Net) (n ways : ℕ) (rows : EndRows) → AreEmptyRows n ways rows → AreEndRows net 0 rows
+rows_none net n ways rows none = record {
+  inbox_count = ap length none.inboxes.0;
+  inbox_lines = all_get_none _ rows.inboxes.items none.inboxes.0;
+  in_count = (let len = ap length none.takers.0 in let z = offset_zero net.topology in omega (arith, len, z));
+  in_lines = all_get_none _ rows.takers.items none.takers.0;
+  out_count = (let len = ap length none.senders.0 in let z = offset_zero net.topology in omega (arith, len, z));
+  out_lines = all_get_none _ rows.senders.items none.senders.0;
 }
 
-pub rows_more : (net : Net) (u : ℕ) (n : Node) (inboxes inboxes_1 takers takers_1 : List In) (senders senders_1 : List (Option Out)) → AreEndRows net u inboxes takers senders → n.index ≡ u → IsNodeOf net n
-    → inboxes_1 ≡ inboxes ++ n.entrances.inbox ∷ [] → takers_1 ≡ takers ++ n.entrances.ports.items → senders_1 ≡ senders ++ map (λ s. Some s) n.outs.items → AreEndRows net (u + 1) inboxes_1 takers_1 senders_1
-rows_more net u n inboxes inboxes_1 takers takers_1 senders senders_1 rows at is a b c =
+pub rows_more : (net : Net) (u : ℕ) (n : Node) (rows rows_1 : EndRows) → AreEndRows net u rows → n.index ≡ u → IsNodeOf net n → AppendsEnds rows n rows_1 → AreEndRows net (u + 1) rows_1
+rows_more net u n rows rows_1 are at is more =
     let here : u < node_count net.topology = (let lt = is.index_in in omega (arith, lt, at)) in
     let next = offset_next net.topology u here in
     let degree : length (ports_of net.topology n.index) ≡ length (ports_of net.topology u) = ap (λ v. length (ports_of net.topology v)) at in
     record {
-      inbox_count = (let e = ap length a in let p = length_push inboxes n.entrances.inbox in let q = rows.inbox_count in omega (arith, e, p, q));
-      inbox_lines = subst (AllGet (λ k (t : In). slice_get net.inboxes.items k ≡ Some t.channel)) (sym a)
-          (all_get_push (λ k t. slice_get net.inboxes.items k ≡ Some t.channel) inboxes n.entrances.inbox rows.inbox_lines (ap (slice_get net.inboxes.items) (rows.inbox_count ∙ sym at) ∙ is.inbox));
-      in_count = (let e = ap length b in let p = length-append takers n.entrances.ports.items in let q = rows.in_count in let d = is.ins_count in omega (arith, e, p, q, d, degree, next));
-      in_lines = subst (AllGet (λ k (t : In). slice_get net.ways.items (slice_index net.peers.items k) ≡ Some t.channel)) (sym b)
-          (all_get_append (λ k t. slice_get net.ways.items (slice_index net.peers.items k) ≡ Some t.channel) takers n.entrances.ports.items rows.in_lines
-          (λ p t got. ap (λ k. slice_get net.ways.items (slice_index net.peers.items (k + p))) (rows.in_count ∙ ap (offset net.topology) (sym at)) ∙ is.ins p t got));
-      out_count = (let e = ap length c in let p = length-append senders (map (λ (s : Out). Some s) n.outs.items) in let m = length-map n.outs.items (λ (s : Out). Some s) in let q = rows.out_count in let d = is.outs_count in omega (arith, e, p, m, q, d, degree, next));
-      out_lines = subst (AllGet (λ k (slot : Option Out). slice_get net.ways.items k ≡ slot_line slot)) (sym c)
-          (all_get_append (λ k slot. slice_get net.ways.items k ≡ slot_line slot) senders (map (λ (s : Out). Some s) n.outs.items) rows.out_lines
+      inbox_count = (let e = ap length more.inboxes in let p = length_push rows.inboxes.items n.entrances.inbox in let q = are.inbox_count in omega (arith, e, p, q));
+      inbox_lines = subst (AllGet (λ k (t : In). slice_get net.inboxes.items k ≡ Some t.channel)) (sym more.inboxes)
+          (all_get_push (λ k t. slice_get net.inboxes.items k ≡ Some t.channel) rows.inboxes.items n.entrances.inbox are.inbox_lines (ap (slice_get net.inboxes.items) (are.inbox_count ∙ sym at) ∙ is.inbox));
+      in_count = (let e = ap length more.takers in let p = length-append rows.takers.items n.entrances.ports.items in let q = are.in_count in let d = is.ins_count in omega (arith, e, p, q, d, degree, next));
+      in_lines = subst (AllGet (λ k (t : In). slice_get net.ways.items (slice_index net.peers.items k) ≡ Some t.channel)) (sym more.takers)
+          (all_get_append (λ k t. slice_get net.ways.items (slice_index net.peers.items k) ≡ Some t.channel) rows.takers.items n.entrances.ports.items are.in_lines
+          (λ p t got. ap (λ k. slice_get net.ways.items (slice_index net.peers.items (k + p))) (are.in_count ∙ ap (offset net.topology) (sym at)) ∙ is.ins p t got));
+      out_count = (let e = ap length more.senders in let p = length-append rows.senders.items (map (λ (s : Out). Some s) n.outs.items) in let m = length-map n.outs.items (λ (s : Out). Some s) in let q = are.out_count in let d = is.outs_count in omega (arith, e, p, m, q, d, degree, next));
+      out_lines = subst (AllGet (λ k (slot : Option Out). slice_get net.ways.items k ≡ slot_line slot)) (sym more.senders)
+          (all_get_append (λ k slot. slice_get net.ways.items k ≡ slot_line slot) rows.senders.items (map (λ (s : Out). Some s) n.outs.items) are.out_lines
           (λ p slot got. (let s = slot_get (λ (s : Out). Some s) n.outs.items p slot got in
-          ap (λ k. slice_get net.ways.items (k + p)) (rows.out_count ∙ ap (offset net.topology) (sym at)) ∙ is.outs p s.0 s.1 ∙ ap slot_line s.2)));
+          ap (λ k. slice_get net.ways.items (k + p)) (are.out_count ∙ ap (offset net.topology) (sym at)) ∙ is.outs p s.0 s.1 ∙ ap slot_line s.2)));
     }
 
-pub room_here : (net : Net) (u : ℕ) (n : Node) → n.index ≡ u → IsNodeOf net n → (u < node_count net.topology) × (offset net.topology u + length n.entrances.ports.items ≤ way_count net.topology) × (offset net.topology u + length n.outs.items ≤ way_count net.topology)
-room_here net u n at is =
+-- Rows that began with room for all ends, and have those of the nodes before this one, have room for its ends.
+pub room_here : (net : Net) (u : ℕ) (n : Node) (start rows : EndRows) → n.index ≡ u → IsNodeOf net n → AreEmptyRows (node_count net.topology) (way_count net.topology) start → KeepRoom start rows
+    → AreEndRows net u rows → length rows.settled.items ≡ u → HaveRoomFor rows n
+room_here net u n start rows at is empty kept are settled =
     let here : u < node_count net.topology = (let lt = is.index_in in omega (arith, lt, at)) in
     let next = offset_next net.topology u here in
     let most = offset_le net.topology (u + 1) in
     let degree : length (ports_of net.topology n.index) ≡ length (ports_of net.topology u) = ap (λ v. length (ports_of net.topology v)) at in
-    let a = is.ins_count in
-    let b = is.outs_count in (
-      here,
-      (let z : offset net.topology u + length n.entrances.ports.items ≤ way_count net.topology = omega (arith, next, most, degree, a) in z),
-      (let z : offset net.topology u + length n.outs.items ≤ way_count net.topology = omega (arith, next, most, degree, b) in z),
-    )
+    record {
+      inboxes = (let room = empty.inboxes.1 in let same = kept.inboxes in let count = are.inbox_count in let len = rows.inboxes.ok in omega (arith, here, room, same, count, len));
+      takers = (let room = empty.takers.1 in let same = kept.takers in let count = are.in_count in let len = rows.takers.ok in let d = is.ins_count in omega (arith, next, most, degree, room, same, count, len, d));
+      senders = (let room = empty.senders.1 in let same = kept.senders in let count = are.out_count in let len = rows.senders.ok in let d = is.outs_count in omega (arith, next, most, degree, room, same, count, len, d));
+      settled = (let room = empty.settled.1 in let same = kept.settled in let len = rows.settled.ok in omega (arith, here, room, same, settled, len));
+    }
+
+pub room_same : (rows : EndRows) → KeepRoom rows rows
+room_same rows = record { inboxes = omega arith; takers = omega arith; senders = omega arith; settled = omega arith }
+
+pub room_kept : (start rows rows_1 : EndRows) → KeepRoom start rows → KeepRoom rows rows_1 → KeepRoom start rows_1
+room_kept start rows rows_1 was kept = record {
+  inboxes = (let a = was.inboxes in let b = kept.inboxes in omega (arith, a, b));
+  takers = (let a = was.takers in let b = kept.takers in omega (arith, a, b));
+  senders = (let a = was.senders in let b = kept.senders in omega (arith, a, b));
+  settled = (let a = was.settled in let b = kept.settled in omega (arith, a, b));
+}
 
 pub node_here : (net : Net) (u : ℕ) (slots : List (Option Node)) (x : Option Node) (n : Node) → AreSlotsFrom net u slots → u < node_count net.topology → x ≡ get_or slots u x → Some n ≡ x
     → (slice_index_or slots u None ≡ Some n) × (n.index ≡ u) × IsNodeOf net n
@@ -134,26 +148,25 @@ moved_out f slots u new n lt got none =
     let now : slot_weight f new ≡ 0 = ap (slot_weight f) none in
     omega (arith, put, was, now)
 
-pub weighed_none : (slots : List (Option Node)) (inboxes takers : List In) (senders : List (Option Out)) (settled : List (List Outcome)) → inboxes ≡ [] → takers ≡ [] → senders ≡ [] → (f : (Outcome → ℕ) → ℕ) → ((w : Outcome → ℕ) → f w ≡ 0)
-    → AreWeighed slots slots inboxes takers senders f
-weighed_none slots inboxes takers senders settled a b c f zeros = record {
-  settlings = λ w. (let z = zeros w in omega (arith, z));
-  takings = λ w. (let p = ap (weight_taken w) a in let q = ap (weight_taken w) b in omega (arith, p, q));
-  sendings = λ w. (let p = ap (times_in_slots w) c in omega (arith, p));
+pub weighed_none : (slots : List (Option Node)) (n ways : ℕ) (rows : EndRows) → AreEmptyRows n ways rows → AreWeighed slots slots rows
+weighed_none slots n ways rows none = record {
+  settlings = λ w. (let p = ap (weight_settled w) none.settled.0 in omega (arith, p));
+  takings = λ w. (let p = ap (weight_taken w) none.inboxes.0 in let q = ap (weight_taken w) none.takers.0 in omega (arith, p, q));
+  sendings = λ w. (let p = ap (times_in_slots w) none.senders.0 in omega (arith, p));
 }
 
-pub weighed_more : (all slots : List (Option Node)) (u : ℕ) (new : Option Node) (n : Node) (inboxes inboxes_1 takers takers_1 : List In) (senders senders_1 : List (Option Out)) (f f_1 : (Outcome → ℕ) → ℕ)
-    → u < length slots → slice_index_or slots u None ≡ Some n → new ≡ None → AreWeighed all slots inboxes takers senders f
-    → inboxes_1 ≡ inboxes ++ n.entrances.inbox ∷ [] → takers_1 ≡ takers ++ n.entrances.ports.items → senders_1 ≡ senders ++ map (λ s. Some s) n.outs.items → ((w : Outcome → ℕ) → f_1 w ≡ f w + sum_by w n.outcomes.items)
-    → AreWeighed all (slice_set slots u new) inboxes_1 takers_1 senders_1 f_1
-weighed_more all slots u new n inboxes inboxes_1 takers takers_1 senders senders_1 f f_1 lt got none was a b c d = record {
-  settlings = λ w. (let out = moved_out (node_settled w) slots u new n lt got none in let before = was.settlings w in let more = d w in omega (arith, out, before, more));
+pub weighed_more : (all slots : List (Option Node)) (u : ℕ) (new : Option Node) (n : Node) (rows rows_1 : EndRows) → u < length slots → slice_index_or slots u None ≡ Some n → new ≡ None → AreWeighed all slots rows → AppendsEnds rows n rows_1
+    → AreWeighed all (slice_set slots u new) rows_1
+weighed_more all slots u new n rows rows_1 lt got none was more = record {
+  settlings = λ w. (let out = moved_out (node_settled w) slots u new n lt got none in let before = was.settlings w in
+      let p = ap (weight_settled w) more.settled ∙ sum_by_push (λ (row : Vec Outcome Global). sum_by w row.items) rows.settled.items n.outcomes in
+      omega (arith, out, before, p));
   takings = λ w. (let out = moved_out (node_taken w) slots u new n lt got none in let before = was.takings w in
-      let p = ap (weight_taken w) a ∙ sum_by_push (λ (t : In). sum_by w t.taken) inboxes n.entrances.inbox in
-      let q = ap (weight_taken w) b ∙ sum_by-append (λ (t : In). sum_by w t.taken) takers n.entrances.ports.items in
+      let p = ap (weight_taken w) more.inboxes ∙ sum_by_push (λ (t : In). sum_by w t.taken) rows.inboxes.items n.entrances.inbox in
+      let q = ap (weight_taken w) more.takers ∙ sum_by-append (λ (t : In). sum_by w t.taken) rows.takers.items n.entrances.ports.items in
       omega (arith, out, before, p, q));
   sendings = λ w. (let out = moved_out (node_sent w) slots u new n lt got none in let before = was.sendings w in
-      let p = ap (times_in_slots w) c ∙ sum_by-append (slot_sent w) senders (map (λ (s : Out). Some s) n.outs.items) in
+      let p = ap (times_in_slots w) more.senders ∙ sum_by-append (slot_sent w) rows.senders.items (map (λ (s : Out). Some s) n.outs.items) in
       let q = slots_weigh (slot_sent w) n.outs.items in
       omega (arith, out, before, p, q));
 }
@@ -162,9 +175,8 @@ weighed_more all slots u new n inboxes inboxes_1 takers takers_1 senders senders
 pub emptied_all : (f : Node → ℕ) (net : Net) (u : ℕ) (slots : List (Option Node)) → u ≡ node_count net.topology → AreSlotsFrom net u slots → sum_by (slot_weight f) slots ≡ 0
 emptied_all f net u slots at from = sum_of_none (slot_weight f) slots None (λ k lt. ap (slot_weight f) (from.emptied k (let c = from.count in omega (arith, lt, c, at))))
 
-pub weighed_all : (net : Net) (u : ℕ) (all slots : List (Option Node)) (inboxes takers : List In) (senders : List (Option Out)) (f : (Outcome → ℕ) → ℕ) → u ≡ node_count net.topology → AreSlotsFrom net u slots
-    → AreWeighed all slots inboxes takers senders f → AreWeighed all [] inboxes takers senders f
-weighed_all net u all slots inboxes takers senders f at from was = record {
+pub weighed_all : (net : Net) (u : ℕ) (all slots : List (Option Node)) (rows : EndRows) → u ≡ node_count net.topology → AreSlotsFrom net u slots → AreWeighed all slots rows → AreWeighed all [] rows
+weighed_all net u all slots rows at from was = record {
   settlings = λ w. (let z = emptied_all (node_settled w) net u slots at from in let e = was.settlings w in omega (arith, z, e));
   takings = λ w. (let z = emptied_all (node_taken w) net u slots at from in let e = was.takings w in omega (arith, z, e));
   sendings = λ w. (let z = emptied_all (node_sent w) net u slots at from in let e = was.sendings w in omega (arith, z, e));

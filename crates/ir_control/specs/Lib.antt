@@ -11,8 +11,8 @@ pub mod Refusals
 pub mod Changes
 pub mod Slots
 pub mod Parts
-pub mod Rowed
 pub mod Told
+pub mod Rowed
 pub mod Reported
 pub mod Reports
 pub mod Codes

@@ -14,7 +14,7 @@ use Rattle.ir_control.specs.declared.injector.Injector.{Injector}
 use Rattle.ir_control.specs.declared.net.Net.{Net}
 use Rattle.ir_control.specs.Heads.{head_at}
 use Rattle.ir_control.specs.Parts.{node_number}
-use Rattle.ir_control.specs.Reported.{AreEmptyRows, AreAllThere}
+use Rattle.ir_control.specs.Reported.{AreEmptyPartRows, AreAllThere}
 use Rattle.ir_control.specs.Rowed.{node_settled, node_taken, node_sent}
 use Rattle.ir_control.specs.Slots.{hit}
 use Rattle.ir_control.specs.Told.{Told, outcome_told, told_left, IsOutcomeIn}
@@ -27,7 +27,7 @@ pub record IsEmptyReport (m : ℕ) (report : Report) : Type 0 where
 
 -- room for a report of so many packets
 pub record HasReportRoom (n ways m : ℕ) (room : Room) : Type 0 where
-  pub rows : AreEmptyRows n ways room.rows
+  pub rows : AreEmptyPartRows n ways room.rows
   pub channels : (room.channels.items ≡ []) × (n + ways ≤ vec_capacity room.channels)
   pub slots_count : length room.slots.items ≡ m
   pub slots_empty : (k : ℕ) → slice_index_or room.slots.items k None ≡ None

@@ -1,5 +1,6 @@
 -- What a report tells of a packet.
-use Rattle.std.specs.Prelude.{◌≡◌, ℕ, ◌+◌, List, All, Option, Some, length, map, sum_by}
+use Rattle.std.specs.Prelude.{◌≡◌, ℕ, ◌+◌, List, All, Option, Some, Vec, length, map, sum_by}
+use Rattle.std.specs.Global.{Global}
 use Rattle.ir_core.specs.declared.packet.Fate.TheVariants.{Left}
 use Rattle.ir_core.specs.Record.{Record}
 use Rattle.ir_epochs.specs.declared.registry.Stamp.{Stamp}
@@ -26,6 +27,14 @@ outcome_number o = o.packet.id
 -- all stamps of an outcome are of the net
 abbrev pub IsOutcomeIn : Stamp → Outcome → Type 0
 IsOutcomeIn opening o = ∥ All (λ s. IsOfNet opening s) (stamps_of o.stamp o.later.items) ∥₁
+
+-- rows of outcomes, all of which are of the net
+abbrev pub AreSettledIn : Stamp → List (Vec Outcome Global) → Type 0
+AreSettledIn opening rows = All (λ row. All (λ o. IsOutcomeIn opening o) row.items) rows
+
+-- what the outcomes of rows weigh
+abbrev pub weight_settled : (Outcome → ℕ) → List (Vec Outcome Global) → ℕ
+weight_settled w rows = sum_by (λ row. sum_by w row.items) rows
 
 -- What is left of these parcels came into the slots of their packets, and has the fate Left.
 pub record AreLeftPlaced (before after : List (Option Outcome)) (left : List Parcel) : Type 0 where

@@ -1,10 +1,13 @@
 //! What the nodes settled and what is left in the channels.
-ghost use Rattle.std.specs.Prelude.{◌≡◌, ◌≤◌, ◌<◌, ◌+◌, ◌++◌, ◌∷◌, [], ℕ, All, Some, IfOk, length, map, sum_by, vec_len, vec_capacity};
+ghost use Rattle.std.specs.Prelude.{◌≡◌, ◌≤◌, ◌+◌, ◌++◌, [], ℕ, Some, IfOk, length, map, sum_by, vec_len, vec_capacity};
 ghost use Rattle.ir_model.specs.Topology.{node_count};
 ghost use Rattle.ir_worker.specs.{Seen.Parcel, Account.lines_out};
-ghost use Rattle.ir_control.specs.{Parts.AreNodesOf, Pairs.ArePaired, Places.way_count, Told.IsOutcomeIn};
-ghost use Rattle.ir_control.specs.{Whole.{AreOfNet, AreTakersOf, StayOfNet}, Slots.{times_in_slots, weight_taken, left_in}};
-ghost use Rattle.ir_control.specs.{Reported.{AreEmptyRows, AreAllThere, IsGathered}, Rowed.{AreEndRows, AreSlotsFrom, AreWeighed}};
+ghost use Rattle.ir_control.specs.{Parts.AreNodesOf, Pairs.ArePaired, Places.way_count, Told.AreSettledIn};
+ghost use Rattle.ir_control.specs.Whole.{AreOfNet, AreTakersOf, StayOfNet};
+ghost use Rattle.ir_control.specs.Slots.{times_in_slots, weight_taken, left_in};
+ghost use Rattle.ir_control.specs.Reported.{AreEmptyPartRows, AreAllThere, IsGathered};
+ghost use Rattle.ir_control.specs.Rowed.{AreEmptyRows, AreEndRows, AreSlotsFrom, AreWeighed};
+ghost use Rattle.ir_control.specs.Rowed.{AppendsEnds, HaveRoomFor, LeavesAccount};
 
 use crate::net::Net;
 use crate::outcomes::empty_slots;
@@ -38,28 +41,27 @@ fn join_all(
 }
 
 // Brings the ends of the inboxes together, whose senders are the injector's, and then those of the
-// ways. What was sent is what was taken and what is left, whatever each parcel weighs.
+// ways. Returns what the nodes settled.
 fn gather(
     net: &Net,
     injected: Vec<Option<Sender<Parcel>>>,
-    inboxes: Vec<Taker<Parcel>>,
-    senders: Vec<Option<Sender<Parcel>>>,
-    takers: Vec<Taker<Parcel>>,
+    rows: EndRows,
     channels: &mut Vec<Remains<Parcel>>,
-)
-    requires entries { ArePaired net.now.entries.items injected.items inboxes.items }
-    requires ways { ArePaired net.now.peers.items senders.items takers.items }
-    requires inboxes { AreTakersOf net.now.opening net.now.restamps inboxes.items }
-    requires takers { AreTakersOf net.now.opening net.now.restamps takers.items }
+) -> Vec<Vec<Outcome>>
+    requires entries { ArePaired net.now.entries.items injected.items rows.inboxes.items }
+    requires ways { ArePaired net.now.peers.items rows.senders.items rows.takers.items }
+    requires inboxes { AreTakersOf net.now.opening net.now.restamps rows.inboxes.items }
+    requires takers { AreTakersOf net.now.opening net.now.restamps rows.takers.items }
     requires of_net { AreOfNet net.now.opening net.now.restamps (left_in channels.old.items) }
-    requires room { vec_len channels.old + (length inboxes.items + length takers.items) ≤ vec_capacity channels.old }
-    ensures account { (w : Parcel → ℕ)
-        → (times_in_slots w injected.items + times_in_slots w senders.items) + sum_by w (left_in channels.old.items)
-        ≡ (weight_taken w inboxes.items + weight_taken w takers.items) + sum_by w (left_in channels.new.items) }
+    requires room { vec_len channels.old + (length rows.inboxes.items + length rows.takers.items)
+        ≤ vec_capacity channels.old }
+    ensures account { LeavesAccount injected.items rows (left_in channels.old.items) (left_in channels.new.items) }
     ensures of_net { AreOfNet net.now.opening net.now.restamps (left_in channels.new.items) }
+    ensures settled { result ≡ rows.settled }
 {
-    join_all(net.entries.as_slice(), injected, inboxes, channels);
-    join_all(net.peers.as_slice(), senders, takers, channels);
+    join_all(net.entries.as_slice(), injected, rows.inboxes, channels);
+    join_all(net.peers.as_slice(), rows.senders, rows.takers, channels);
+    rows.settled
 }
 
 // Moves all of a row to the end of another, which has room.
@@ -84,26 +86,19 @@ fn append_slots<T: Drop>(into: &mut Vec<Option<T>>, from: Vec<T>)
     }
 }
 
+/// Rows for the ends of all nodes, and for what they settled.
+#[derive(Drop)]
+pub(crate) struct EndRows {
+    pub(crate) inboxes: Vec<Taker<Parcel>>,
+    pub(crate) takers: Vec<Taker<Parcel>>,
+    pub(crate) senders: Vec<Option<Sender<Parcel>>>,
+    pub(crate) settled: Vec<Vec<Outcome>>,
+}
+
 // A node's ends come to the ends of the rows, which have room.
-fn append_ends(
-    node: Node,
-    inboxes: &mut Vec<Taker<Parcel>>,
-    takers: &mut Vec<Taker<Parcel>>,
-    senders: &mut Vec<Option<Sender<Parcel>>>,
-    settled: &mut Vec<Vec<Outcome>>,
-)
-    requires inboxes { vec_len inboxes.old < vec_capacity inboxes.old }
-    requires takers { vec_len takers.old + length node.entrances.ports.items ≤ vec_capacity takers.old }
-    requires senders { vec_len senders.old + length node.outs.items ≤ vec_capacity senders.old }
-    requires settled { vec_len settled.old < vec_capacity settled.old }
-    ensures inboxes { inboxes.new.items ≡ inboxes.old.items ++ node.entrances.inbox ∷ [] }
-    ensures takers { takers.new.items ≡ takers.old.items ++ node.entrances.ports.items }
-    ensures senders { senders.new.items ≡ senders.old.items ++ map (λ s. Some s) node.outs.items }
-    ensures settled { settled.new.items ≡ settled.old.items ++ node.outcomes ∷ [] }
-    ensures room { (vec_capacity inboxes.old ≤ vec_capacity inboxes.new)
-        × (vec_capacity takers.old ≤ vec_capacity takers.new)
-        × (vec_capacity senders.old ≤ vec_capacity senders.new)
-        × (vec_capacity settled.old ≤ vec_capacity settled.new) }
+fn append_ends(node: Node, rows: &mut EndRows)
+    requires { HaveRoomFor rows.old node }
+    ensures { AppendsEnds rows.old node rows.new }
 {
     let Ends {
         inbox,
@@ -111,64 +106,49 @@ fn append_ends(
         outs,
         outcomes,
     } = node.into_ends();
-    inboxes.push_reserved(inbox);
-    append(takers, ins);
-    append_slots(senders, outs);
-    settled.push_reserved(outcomes);
+    rows.inboxes.push_reserved(inbox);
+    append(&mut rows.takers, ins);
+    append_slots(&mut rows.senders, outs);
+    rows.settled.push_reserved(outcomes);
 }
 
 // Takes all nodes of a net apart, by number: their ends come into rows, each at the place of its channel.
-fn take_apart(
-    net: &Net,
-    mut slots: Vec<Option<Node>>,
-    inboxes: &mut Vec<Taker<Parcel>>,
-    takers: &mut Vec<Taker<Parcel>>,
-    senders: &mut Vec<Option<Sender<Parcel>>>,
-    settled: &mut Vec<Vec<Outcome>>,
-)
+fn take_apart(net: &Net, mut slots: Vec<Option<Node>>, rows: &mut EndRows)
     requires slots { AreSlotsFrom net.now 0 slots.items }
-    requires start { (inboxes.old.items ≡ []) × (takers.old.items ≡ []) × (senders.old.items ≡ [])
-        × (settled.old.items ≡ []) }
-    requires room { (node_count net.now.topology ≤ vec_capacity inboxes.old)
-        × (way_count net.now.topology ≤ vec_capacity takers.old)
-        × (way_count net.now.topology ≤ vec_capacity senders.old)
-        × (node_count net.now.topology ≤ vec_capacity settled.old) }
-    ensures rows { AreEndRows net.now (node_count net.now.topology)
-        inboxes.new.items takers.new.items senders.new.items }
-    ensures weighed { AreWeighed slots.items [] inboxes.new.items takers.new.items senders.new.items
-        (λ w. sum_by (λ row. sum_by w row.items) settled.new.items) }
-    ensures of_net { All (λ row. All (λ o. IsOutcomeIn net.now.opening o) row.items) settled.new.items }
+    requires start { AreEmptyRows (node_count net.now.topology) (way_count net.now.topology) rows.old }
+    ensures rows { AreEndRows net.now (node_count net.now.topology) rows.new }
+    ensures weighed { AreWeighed slots.items [] rows.new }
+    ensures of_net { AreSettledIn net.now.opening rows.new.settled.items }
 {
     for u in 0..net.inboxes.len() {
         let Some(node) = slots[u].take() else {
             unreachable!();
         };
-        append_ends(node, inboxes, takers, senders, settled);
+        append_ends(node, rows);
     }
 }
 
-/// A slot for each node, and rows for all ends.
+/// A slot for each node, one for each end of the injector, and rows for the ends of all nodes.
 #[derive(Drop)]
-pub(crate) struct EndRows {
+pub(crate) struct PartRows {
     pub(crate) slots: Vec<Option<Node>>,
     pub(crate) outs: Vec<Option<Sender<Parcel>>>,
-    pub(crate) inboxes: Vec<Taker<Parcel>>,
-    pub(crate) takers: Vec<Taker<Parcel>>,
-    pub(crate) senders: Vec<Option<Sender<Parcel>>>,
-    pub(crate) settled: Vec<Vec<Outcome>>,
+    pub(crate) ends: EndRows,
 }
 
 /// Empty rows for so many nodes and ways.
-pub(crate) fn empty_rows(alloc: Global, nodes: usize, ways: usize) -> Result<EndRows, AllocError>
-    ensures { IfOk result (λ rows. AreEmptyRows nodes ways rows) }
+pub(crate) fn empty_rows(alloc: Global, nodes: usize, ways: usize) -> Result<PartRows, AllocError>
+    ensures { IfOk result (λ rows. AreEmptyPartRows nodes ways rows) }
 {
-    Ok(EndRows {
+    Ok(PartRows {
         slots: empty_slots(alloc, nodes)?,
         outs: Vec::with_capacity(alloc, nodes)?,
-        inboxes: Vec::with_capacity(alloc, nodes)?,
-        takers: Vec::with_capacity(alloc, ways)?,
-        senders: Vec::with_capacity(alloc, ways)?,
-        settled: Vec::with_capacity(alloc, nodes)?,
+        ends: EndRows {
+            inboxes: Vec::with_capacity(alloc, nodes)?,
+            takers: Vec::with_capacity(alloc, ways)?,
+            senders: Vec::with_capacity(alloc, ways)?,
+            settled: Vec::with_capacity(alloc, nodes)?,
+        },
     })
 }
 
@@ -177,38 +157,26 @@ pub(crate) fn left_over(
     net: &Net,
     nodes: Vec<Node>,
     injected: Vec<Sender<Parcel>>,
-    rows: EndRows,
+    rows: PartRows,
     channels: &mut Vec<Remains<Parcel>>,
 ) -> Vec<Vec<Outcome>>
     requires nodes { AreNodesOf net.now nodes.items }
     requires all { AreAllThere net.now nodes.items }
     requires injected { lines_out injected.items ≡ net.now.inboxes.items }
-    requires rows { AreEmptyRows (node_count net.now.topology) (way_count net.now.topology) rows }
+    requires rows { AreEmptyPartRows (node_count net.now.topology) (way_count net.now.topology) rows }
     requires empty { channels.old.items ≡ [] }
     requires room { node_count net.now.topology + way_count net.now.topology ≤ vec_capacity channels.old }
-    ensures gathered { IsGathered nodes.items injected.items (λ w. sum_by (λ row. sum_by w row.items) result.items)
-        (left_in channels.new.items) }
-    ensures settled { All (λ row. All (λ o. IsOutcomeIn net.now.opening o) row.items) result.items }
+    ensures gathered { IsGathered nodes.items injected.items result.items (left_in channels.new.items) }
+    ensures settled { AreSettledIn net.now.opening result.items }
     ensures left { AreOfNet net.now.opening net.now.restamps (left_in channels.new.items) }
 {
-    let EndRows {
+    let PartRows {
         mut slots,
         mut outs,
-        mut inboxes,
-        mut takers,
-        mut senders,
-        mut settled,
+        mut ends,
     } = rows;
     place_all(nodes, &mut slots);
     append_slots(&mut outs, injected);
-    take_apart(
-        net,
-        slots,
-        &mut inboxes,
-        &mut takers,
-        &mut senders,
-        &mut settled,
-    );
-    gather(net, outs, inboxes, senders, takers, channels);
-    settled
+    take_apart(net, slots, &mut ends);
+    gather(net, outs, ends, channels)
 }

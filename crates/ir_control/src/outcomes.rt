@@ -2,8 +2,8 @@
 ghost use Rattle.std.specs.Prelude.{◌≡◌, ◌<◌, ℕ, All, None, Some, IfOk, length, slice_index_or, sum_by};
 ghost use Rattle.ir_worker.specs.declared.parcel.Outcome.{Outcome};
 ghost use Rattle.ir_control.specs.{Slots.{hit, AllIn, CameIntoSlots, MayPlace, left_in}, Whole.IsParcelOf};
-ghost use Rattle.ir_control.specs.{Parts.{node_number, IsNodeOf}, Reports.IsEmptyReport};
-ghost use Rattle.ir_control.specs.Told.{outcome_number, AreLeftPlaced, IsOutcomeIn, TellsOf};
+ghost use Rattle.ir_control.specs.{Parts.{node_number, IsNodeOf}, Reports.IsEmptyReport, Told.TellsOf};
+ghost use Rattle.ir_control.specs.Told.{outcome_number, weight_settled, AreLeftPlaced, AreSettledIn, IsOutcomeIn};
 ghost use Rattle.ir_epochs.specs.declared.registry.Stamp.{Stamp};
 
 use crate::net::Net;
@@ -57,12 +57,11 @@ pub(crate) fn empty_slots<T: Drop>(
 /// Puts the outcomes of each row into the slots of their packets.
 pub(crate) fn place_rows(mut rows: Vec<Vec<Outcome>>, slots: &mut Vec<Option<Outcome>>)
     requires { MayPlace outcome_number slots.old.items
-        (λ i. sum_by (λ row. sum_by (hit outcome_number i) row.items) rows.items) }
+        (λ i. weight_settled (hit outcome_number i) rows.items) }
     ensures placed { CameIntoSlots outcome_number slots.old.items slots.new.items
-        (λ w. sum_by (λ row. sum_by w row.items) rows.items) }
+        (λ w. weight_settled w rows.items) }
     ensures all { (opening : Stamp) → AllIn (λ o. IsOutcomeIn opening o) slots.old.items
-        → All (λ row. All (λ o. IsOutcomeIn opening o) row.items) rows.items
-        → AllIn (λ o. IsOutcomeIn opening o) slots.new.items }
+        → AreSettledIn opening rows.items → AllIn (λ o. IsOutcomeIn opening o) slots.new.items }
 {
     while let Some(row) = rows.pop() {
         place_all(row, slots);

@@ -3,7 +3,7 @@ ghost use Rattle.std.specs.Prelude.{◌≡◌, ◌≤◌, ◌<◌, true, false, 
 ghost use Rattle.ir_control.specs.{Parts.node_number, Slots.hit};
 ghost use Rattle.ir_control.specs.Reports.{AreThereBelow, finish_code};
 
-use crate::leaving::EndRows;
+use crate::leaving::PartRows;
 use ir_core::Record;
 use ir_epochs::Stamp;
 use ir_links::Remains;
@@ -33,7 +33,7 @@ pub struct Report {
 // All the memory that a report takes.
 #[derive(Drop)]
 pub(crate) struct Room {
-    pub(crate) rows: EndRows,
+    pub(crate) rows: PartRows,
     pub(crate) channels: Vec<Remains<Parcel>>,
     pub(crate) slots: Vec<Option<Outcome>>,
     pub(crate) report: Report,

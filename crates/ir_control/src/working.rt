@@ -66,9 +66,9 @@ pub(crate) fn run_nodes<
         rt,
         move |scope| -> Result<LiveRun<B>, LiveError>
             requires { parts.controller.opening ≡ parts.injector.opening }
-            ensures run { IfOk result (λ run. IsNetRun R.was_full R.was_empty
+            ensures run { IfOk result (IsNetRun R.was_full R.was_empty
                 (MayEnd F.seen G.barred stop.entry.now gate.entry.now) net.entry.now.opening parts.nodes.items
-                (desk_of parts) commands.entry.now run) }
+                (desk_of parts) commands.entry.now) }
             ensures closed { IfOk result (λ run. S.was_closed starter.entry.now run.parts.injector) }
             ensures stopped { IfErr result
                 (λ error. IsStopped (S.unstarted starter.entry.now) parts.nodes.items error) }
