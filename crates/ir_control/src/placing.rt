@@ -10,7 +10,7 @@ pub trait Member: Drop {
 
     ghost belongs: { Self → Self.Whole → Type 0 };
 
-    /// Its number.
+    /// The number of the slot that it belongs into.
     fn key(&self) -> usize
         ensures { result ≡ key_of self.now };
 }

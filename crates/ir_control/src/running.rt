@@ -49,7 +49,7 @@ fn agree(stamp: &Stamp, plans: &Vec<Stamp>)
     }
 }
 
-// Sees it of each of these stamps.
+// Sees that each of these stamps knows the plan of each that is of its epoch. It changes nothing: the proof learns it.
 fn agree_all(stamps: &Vec<Stamp>, plans: &Vec<Stamp>)
     requires { All (λ s. AreOfOne s plans.now.items) stamps.now.items }
     ensures { All (λ s. Agrees plans.now.items s) stamps.now.items }
@@ -59,7 +59,7 @@ fn agree_all(stamps: &Vec<Stamp>, plans: &Vec<Stamp>)
     }
 }
 
-// And of each of these rows.
+// Sees it of the stamps of each row.
 fn agree_rows(rows: &Vec<Vec<Stamp>>, plans: &Vec<Stamp>)
     requires { All (λ row. All (λ s. AreOfOne s plans.now.items) row.items) rows.now.items }
     ensures { All (λ row. All (λ s. Agrees plans.now.items s) row.items) rows.now.items }
