@@ -124,6 +124,22 @@ fn end_output(output: &mut Piped<'_, Output>, faults: &mut Piped<'_, Stderr>, st
     true
 }
 
+/// Does what the words ask for, by a crew and the runtime that it starts its threads by.
+fn follow_with_crew<T: Threads + Wait + Sync, W: Write, F: Write>(
+    crew: &Shown<'_, T>,
+    alloc: Global,
+    words: &Words,
+    inputs: &mut [Input],
+    output: &mut W,
+    faults: &mut F,
+) -> RunOutcome
+    requires kind { FitsItsKind words.now }
+    requires inputs { length inputs.old ≡ length (sources_of words.now) }
+{
+    let team = Team { rt: crew.rt, crew };
+    follow(&team, alloc, words, inputs, output, faults)
+}
+
 /// Does what the words ask for over the inputs, and writes to this output.
 fn run_over<T: Threads + Wait + Sync>(
     rt: &HostRuntime,
@@ -146,12 +162,8 @@ fn run_over<T: Threads + Wait + Sync>(
         rt: threads,
         progress: &progress,
     };
-    let team = Team {
-        rt: threads,
-        crew: &crew,
-    };
     let alloc = rt.alloc();
-    let outcome = follow(&team, alloc, words, inputs, &mut output, &mut faults);
+    let outcome = follow_with_crew(&crew, alloc, words, inputs, &mut output, &mut faults);
     progress.clear();
     let status = status_of(outcome.ending);
     let is_kept = end_output(&mut output, &mut faults, status);
