@@ -1,5 +1,5 @@
 -- How a run of the program ends: its status, what was read, and what it wrote.
-use Rattle.std.specs.Prelude.{◌≡◌, ◌⊎◌, ℕ, Bool, true, false, List, [], Some}
+use Rattle.std.specs.Prelude.{◌≡◌, ◌⊎◌, ◌==◌, ◌||◌, ◌&&◌, ℕ, Bool, true, false, not, List, [], Some}
 use Rattle.ir_streams.specs.declared.reading.NoInput.{NoInput}
 use Rattle.ir_streams.specs.declared.reading.NoInput.TheVariants as unread
 use Rattle.ir_cli.specs.declared.ending.Ending.{Ending}
@@ -18,6 +18,10 @@ status_of endings.Found = 1
 status_of endings.Unwritable = 1
 status_of endings.NoMemory = 3
 status_of endings.NoThread = 3
+
+-- the run ended with status 0, or with status 1 and nothing told on standard error: a finding stands in its output
+abbrev pub is_whole : ℕ → Bool → Bool
+is_whole status is_told = status == 0 || status == 1 && not is_told
 
 -- What a run comes to by the answers to its texts. `read` says that these are the texts of all inputs, and `stops` that the
 -- reading stopped at this source, and why. `out` says what the writer of the output was given, and whether it took all of it,

@@ -1,6 +1,6 @@
 //! How a run ends.
 ghost use Rattle.std.specs.Prelude.{◌≡◌};
-ghost use Rattle.ir_cli.specs.Ending.{status_of};
+ghost use Rattle.ir_cli.specs.Ending.{status_of, is_whole};
 
 /// How a run ends.
 #[derive(Clone, Copy, Debug, PartialEq, Eq)]
@@ -32,4 +32,12 @@ pub fn status_of(ending: Ending) -> u8
         | Ending::Unwritable => 1,
         Ending::NoMemory | Ending::NoThread => 3,
     }
+}
+
+/// Whether all of the output was written by a run that ended with this status: done, or with a finding, of which
+/// nothing is told on standard error.
+pub fn is_whole(status: u8, is_told: bool) -> bool
+    ensures { result ≡ is_whole status is_told }
+{
+    status == 0 || (status == 1 && !is_told)
 }

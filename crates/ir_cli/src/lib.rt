@@ -17,7 +17,7 @@ mod typed;
 mod words;
 mod write;
 
-pub use ending::{Ending, status_of};
+pub use ending::{Ending, is_whole, status_of};
 pub use help::Called;
 pub use lines::{notice_line, steps_text};
 pub use notice::Notice;

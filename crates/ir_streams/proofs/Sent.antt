@@ -24,6 +24,9 @@ appends_kept (Some a) None c xs h k = absurd h
 appends_kept (Some a) (Some b) None xs h k = absurd k
 appends_kept (Some a) (Some b) (Some c) xs h k = k ∙ h
 
+pub appends_nothing : (a b : Option (List ℕ)) → Keeps a b → Appends a b []
+appends_nothing a b kept = appends_kept a a b [] (appends_none a) kept
+
 pub but_for_some : (old new : Option (List ℕ)) (text rest : List ℕ) → AppendsAllBut old new text rest → AppendsFront old new text
 but_for_some old new text rest is =
     let front : is.0 ≡ take (length is.0) text = sym (ap (take (length is.0)) is.1 ∙ take_at is.0 rest (length is.0) refl) in

@@ -1,4 +1,3 @@
 -- what contracts promise
 pub mod Naming
 pub mod Sentences
-pub mod Outputs

@@ -22,12 +22,12 @@ mod terminal;
 
 use crew::Shown;
 use input::{Input, open};
-use ir_cli::{Called, read_words_as, status_of};
+use ir_cli::{Called, is_whole, read_words_as, status_of};
 use ir_explain::explanation_by;
 use ir_plan::Several;
 use ir_shell::{RunOutcome, Source, Sub, Team, Words, WordsError, follow, sources_of};
 use naming::{called_by, said_by};
-use output::{Output, is_whole};
+use output::Output;
 use piped::Piped;
 use progress::Progress;
 use std::alloc::{AllocError, Global};

@@ -1,7 +1,5 @@
 //! Where the output of the program goes.
-ghost use Rattle.std.specs.Prelude.{◌≡◌};
 ghost use Rattle.std.specs.Io.{WritesAtMost};
-ghost use Rattle.route.specs.Outputs.{is_whole};
 
 use std::alloc::AllocError;
 use std::fs::{File, OpenOptions};
@@ -10,14 +8,6 @@ use std::{fs, io};
 
 /// The most names of files beside one that are tried.
 const MOST_PARTS: usize = 1_000;
-
-/// Whether all of the output was written by a run that ended with this status: done, or with a finding, of which
-/// nothing is told on standard error.
-pub fn is_whole(status: u8, is_told: bool) -> bool
-    ensures { result ≡ is_whole status is_told }
-{
-    status == 0 || (status == 1 && !is_told)
-}
 
 /// A new file beside one whose place it takes once it is whole.
 #[derive(Drop)]
