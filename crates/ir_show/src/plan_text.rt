@@ -256,6 +256,21 @@ fn pour_plan_by<C: TextCrew, W: Writer>(
     }
 }
 
+/// What the writing of a plan's text wants beside graph and plan: a space and a number, a space and
+/// a name, for each node, and the parts of a text of which nothing has come yet.
+fn wanted_texts(
+    alloc: Global,
+    graph: &Graph,
+    plan: &Plan,
+) -> Result<(Texts, Texts, TextParts), AllocError>
+    ensures { IfOk result (λ made. AreSpaced decimal (node_count plan.now.topology) made.0
+        × AreSpaced (name_at (names graph.now)) (length graph.now) made.1 × (made.2 ≡ Some [])) }
+{
+    let numbers = spaced_numbers(alloc, plan.nodes())?;
+    let names = spaced_names(alloc, graph)?;
+    Ok((numbers, names, TextParts::new(alloc)?))
+}
+
 /// The text of a plan over a graph's network. It is not built: beside the graph and the plan it
 /// holds the memory that its writing wants.
 #[derive(Drop)]
@@ -279,9 +294,7 @@ impl PlanText {
         requires { node_count plan.topology ≡ length graph }
         ensures { IfOk result (λ text. text ≡ plan_text (names graph) plan) }
     {
-        let parts = TextParts::new(alloc)?;
-        let numbers = spaced_numbers(alloc, plan.nodes())?;
-        let names = spaced_names(alloc, &graph)?;
+        let (numbers, names, parts) = wanted_texts(alloc, &graph, &plan)?;
         let pieces = Pieces {
             graph,
             plan,
