@@ -32,7 +32,10 @@ impl TracedWalk<'_> {
 
     /// The epoch of the segment at a place, from 0; 0 where there is none.
     fn epoch(&self, place: usize) -> u32 {
-        self.segments.get(place).map_or(0, |segment| segment.epoch)
+        match self.segments.get(place) {
+            Some(segment) => segment.epoch,
+            None => 0,
+        }
     }
 
     /// The hops of the segment at a place, from 0; none where there is none.

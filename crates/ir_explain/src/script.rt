@@ -95,12 +95,15 @@ pub fn push_no_node(text: &mut String, run: &RunTexts<'_>, word: &[u8]) -> Pushe
     push_near(text, nearest_node(run.alloc, run.graph, word)?)
 }
 
-/// Says what is wrong with a line of a script.
-pub fn push_script(text: &mut String, run: &RunTexts<'_>, error: ScriptError) -> Pushed {
-    let line = begin_line(run.alloc, text, &run.texts.script, error.line)?;
-    let words = line.as_slice();
+/// Says what is wrong with the words of a line of a script.
+fn push_script_fault(
+    text: &mut String,
+    run: &RunTexts<'_>,
+    fault: ScriptFault,
+    words: &[&[u8]],
+) -> Pushed {
     let command = text_of(word_at(words, 0));
-    match error.kind {
+    match fault {
         ScriptFault::BadByte => push_bad_byte(text, words, "scripts are"),
         ScriptFault::BadCommand => push_bad_command(text, run, words),
         ScriptFault::BadNumber => {
@@ -121,4 +124,10 @@ pub fn push_script(text: &mut String, run: &RunTexts<'_>, error: ScriptError) ->
         }
         ScriptFault::NoMemory => text.push_str("memory was refused while the script was read"),
     }
+}
+
+/// Says what is wrong with a line of a script.
+pub fn push_script(text: &mut String, run: &RunTexts<'_>, error: ScriptError) -> Pushed {
+    let words = begin_line(run.alloc, text, &run.texts.script, error.line)?;
+    push_script_fault(text, run, error.kind, words.as_slice())
 }
