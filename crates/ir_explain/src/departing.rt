@@ -58,7 +58,7 @@ impl TracedWalk<'_> {
 /// Says that a hop of a segment is not the node that the plan goes on to.
 fn push_stray(
     text: &mut String,
-    walk: TracedWalk<'_>,
+    walk: &TracedWalk<'_>,
     place: usize,
     hop: usize,
     next: Option<u16>,
@@ -86,7 +86,7 @@ fn push_stray(
 }
 
 /// Says that the plan of the last segment does not go on as the fate says.
-fn push_unsaid(text: &mut String, walk: TracedWalk<'_>, next: Option<u16>) -> Pushed {
+fn push_unsaid(text: &mut String, walk: &TracedWalk<'_>, next: Option<u16>) -> Pushed {
     let place = walk.segments.len().saturating_sub(1);
     let end = walk.hop(place, walk.hops(place).len().saturating_sub(1));
     match next {
@@ -105,7 +105,7 @@ fn push_unsaid(text: &mut String, walk: TracedWalk<'_>, next: Option<u16>) -> Pu
 }
 
 /// Says where segments leave the walks of their epochs.
-fn push_found(text: &mut String, walk: TracedWalk<'_>, found: Departure) -> Pushed {
+fn push_found(text: &mut String, walk: &TracedWalk<'_>, found: Departure) -> Pushed {
     match found {
         Departure::Epoch { segment } => {
             let (epoch, before) = (walk.epoch(segment), walk.epoch(segment.saturating_sub(1)));
@@ -172,7 +172,7 @@ fn push_row(
         return Ok(false);
     };
     let (graph, segments) = (run.graph, row.segments.as_slice());
-    push_found(text, TracedWalk { graph, segments }, found)?;
+    push_found(text, &TracedWalk { graph, segments }, found)?;
     Ok(true)
 }
 

@@ -45,7 +45,7 @@ fn unseen(words: &Words) -> &'static str {
     }
 }
 
-/// Says something of a file.
+/// Says this of a file.
 fn push_on(text: &mut String, file: &str, said: &str) -> Pushed {
     begin(text, file)?;
     text.push_str(said)

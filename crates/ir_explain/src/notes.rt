@@ -92,7 +92,7 @@ fn likeness(seen: Seen, format: Format) -> (&'static str, Option<&'static str>) 
     }
 }
 
-/// Says what a topology looks like, and by which word it is converted, or else only what it looks like.
+/// Says what a topology looks like, and how it is converted where there is a word for that.
 fn push_likeness(text: &mut String, file: &str, name: &str, word: Option<&str>) -> Pushed {
     begin(text, file)?;
     match word {
