@@ -8,7 +8,7 @@ use crate::opening::push_opening;
 use crate::refusal::push_refusal;
 use crate::script::push_script;
 use crate::sentence::{Pushed, begin};
-use crate::texts::{Given, RunTexts, Trouble, graph_of, texts_of};
+use crate::texts::{Given, GivenTexts, RunTexts, Trouble, graph_of, texts_of};
 use crate::topology::push_topology;
 use crate::unlearnt::push_unlearnt;
 use ir_cli::{Notice, RunOutcome, Sub, Told, Words};
@@ -45,35 +45,43 @@ fn unseen(words: &Words) -> &'static str {
     }
 }
 
-/// Explains a notice.
-fn push_notice(crew: &impl Crew, text: &mut String, run: &RunTexts<'_>, notice: Notice) -> Pushed {
+/// Says this of a file.
+fn push_on(text: &mut String, file: &str, said: &str) -> Pushed {
+    begin(text, file)?;
+    text.push_str(said)
+}
+
+/// Says what a notice means.
+fn push_noticed(crew: &impl Crew, text: &mut String, run: &RunTexts<'_>, notice: Notice) -> Pushed {
     let texts = &run.texts;
     match notice {
         Notice::Unreadable(source) => {
-            begin(text, texts.of(source).file)?;
-            text.push_str(unread(texts.of(source).trouble))?;
+            let part = texts.of(source);
+            push_on(text, part.file, unread(part.trouble))
         }
         Notice::TooLarge(source) => {
             begin(text, texts.of(source).file)?;
             write!(
                 text,
                 "more than {MAX_INPUT_BYTES} bytes, the most of an input"
-            )?;
+            )
         }
-        Notice::Topology(error) => push_topology(text, run, error)?,
-        Notice::Script(error) => push_script(text, run, error)?,
-        Notice::Numbering(fault) => push_numbering(text, run, fault)?,
-        Notice::Opening(error) => push_opening(text, run, error)?,
-        Notice::Finding(finding) => push_finding(crew, text, run, finding)?,
-        Notice::Beside(finding) => push_beside(text, run, finding)?,
-        Notice::Sound(_) => {
-            begin(text, texts.trace.file)?;
-            text.push_str(unseen(run.words))?;
-        }
-        Notice::Unwritable => push_unwritten(text, run.words)?,
-        Notice::NoThread => text.push_str("route: no further thread was started")?,
-        Notice::NoMemory => text.push_str("route: memory was refused")?,
+        Notice::Topology(error) => push_topology(text, run, error),
+        Notice::Script(error) => push_script(text, run, error),
+        Notice::Numbering(fault) => push_numbering(text, run, fault),
+        Notice::Opening(error) => push_opening(text, run, error),
+        Notice::Finding(finding) => push_finding(crew, text, run, finding),
+        Notice::Beside(finding) => push_beside(text, run, finding),
+        Notice::Sound(_) => push_on(text, texts.trace.file, unseen(run.words)),
+        Notice::Unwritable => push_unwritten(text, run.words),
+        Notice::NoThread => text.push_str("route: no further thread was started"),
+        Notice::NoMemory => text.push_str("route: memory was refused"),
     }
+}
+
+/// Explains a notice.
+fn push_notice(crew: &impl Crew, text: &mut String, run: &RunTexts<'_>, notice: Notice) -> Pushed {
+    push_noticed(crew, text, run, notice)?;
     text.push_str("\n")
 }
 
@@ -121,6 +129,50 @@ fn explain_outcome(
     }
 }
 
+/// Explains what a run of these texts came to.
+fn explain_over(
+    crew: &impl Crew,
+    text: &mut String,
+    words: &Words,
+    texts: &GivenTexts<'_>,
+    outcome: &RunOutcome,
+    is_kept: bool,
+) -> Pushed {
+    let alloc = *text.allocator();
+    let graph = graph_of(alloc, words, &texts.topology)?;
+    let run = RunTexts {
+        alloc,
+        graph: &graph,
+        words,
+        texts: *texts,
+    };
+    explain_outcome(crew, text, &run, outcome, is_kept)
+}
+
+/// Writes the explanation of a run of these texts.
+fn push_explanation(
+    crew: &impl Crew,
+    text: &mut String,
+    words: &Words,
+    texts: &GivenTexts<'_>,
+    outcome: &RunOutcome,
+    is_kept: bool,
+) -> Pushed {
+    let alloc = *text.allocator();
+    let (has_steps, has_fault) = match &outcome.told {
+        Told::Steps(steps) => (!steps.is_empty(), false),
+        Told::Fault(_) => (false, true),
+    };
+    if has_steps || has_fault || !is_kept || outcome.found.is_some() {
+        explain_over(crew, text, words, texts, outcome, is_kept)?;
+    }
+    push_note(alloc, text, words, &texts.topology)?;
+    if words.sub == Sub::Sim && !has_fault && (is_kept || has_steps) {
+        return push_unlearnt(alloc, text, &texts.script);
+    }
+    Ok(())
+}
+
 /// The explanation of a run: a line `route: ..` for each refused step, for why it ended and for what
 /// a check found, for a topology that looks like another format, and for a packet of a simulation
 /// whose install was not learnt. `given` has what was read of the inputs, in their order. Refused
@@ -145,23 +197,6 @@ pub fn explanation_by(
 ) -> Result<String, AllocError> {
     let texts = texts_of(words, given);
     let mut text = String::new(alloc);
-    let (has_steps, has_fault) = match &outcome.told {
-        Told::Steps(steps) => (!steps.is_empty(), false),
-        Told::Fault(_) => (false, true),
-    };
-    if has_steps || has_fault || !is_kept || outcome.found.is_some() {
-        let graph = &graph_of(alloc, words, &texts.topology)?;
-        let run = RunTexts {
-            alloc,
-            graph,
-            words,
-            texts,
-        };
-        explain_outcome(crew, &mut text, &run, outcome, is_kept)?;
-    }
-    push_note(alloc, &mut text, words, &texts.topology)?;
-    if words.sub == Sub::Sim && !has_fault && (is_kept || has_steps) {
-        push_unlearnt(alloc, &mut text, &texts.script)?;
-    }
+    push_explanation(crew, &mut text, words, &texts, outcome, is_kept)?;
     Ok(text)
 }

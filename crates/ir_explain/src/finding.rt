@@ -66,6 +66,42 @@ pub fn push_beside(text: &mut String, run: &RunTexts<'_>, finding: WholeFinding)
     }
 }
 
+/// Says what a finding means on a row of these words.
+fn push_meaning(
+    crew: &impl Crew,
+    text: &mut String,
+    run: &RunTexts<'_>,
+    finding: Finding,
+    words: &[&[u8]],
+) -> Pushed {
+    let trace = &run.texts.trace;
+    let said = match finding.kind {
+        FindingKind::NotTrace => "a trace begins with the line 'trace 1' or 'trace 2'",
+        FindingKind::BadRow => "this is no row of a trace, or it lacks its line feed",
+        FindingKind::UnknownNode => return push_unknown_node(text, run, words),
+        FindingKind::UnknownEpoch if has_segments(trace) => "the run has not all of its epochs",
+        FindingKind::UnknownEpoch => {
+            return write!(text, "the run has no epoch {}", Quoted(word_at(words, 1)));
+        }
+        FindingKind::NotAPrefix if push_departure_by(crew, text, run, finding.line)? => "",
+        FindingKind::NotAPrefix => UNFOLLOWED,
+        FindingKind::NotAtDestination => {
+            "it says delivered, and the walk goes on behind its last hop"
+        }
+        FindingKind::BadWeight => {
+            let weight = Quoted(word_at(words, source_place(trace) + 2));
+            return write!(text, "{weight} is not the weight of its hops");
+        }
+        FindingKind::Repeated => {
+            let id = word_at(words, 0);
+            let line = line_with(run.alloc, trace.bytes, id, 1)?.saturating_add(trace.above);
+            return write!(text, "the id {} stands on line {line} already", Quoted(id));
+        }
+        FindingKind::NoMemory => MEMORY,
+    };
+    text.push_str(said)
+}
+
 /// Says what a finding means.
 pub fn push_finding(
     crew: &impl Crew,
@@ -73,38 +109,7 @@ pub fn push_finding(
     run: &RunTexts<'_>,
     finding: Finding,
 ) -> Pushed {
-    let trace = &run.texts.trace;
-    let found = words_of(run.alloc, line_at(trace.bytes, finding.line))?;
-    let words = found.as_slice();
     begin_row(text, run, finding.line)?;
-    match finding.kind {
-        FindingKind::NotTrace => text.push_str(
-            "a trace begins with the line 'trace 1' or 'trace 2'",
-        ),
-        FindingKind::BadRow => text.push_str(
-            "this is no row of a trace, or it lacks its line feed",
-        ),
-        FindingKind::UnknownNode => push_unknown_node(text, run, words),
-        FindingKind::UnknownEpoch if has_segments(trace) => {
-            text.push_str("the run has not all of its epochs")
-        }
-        FindingKind::UnknownEpoch => {
-            write!(text, "the run has no epoch {}", Quoted(word_at(words, 1)))
-        }
-        FindingKind::NotAPrefix if push_departure_by(crew, text, run, finding.line)? => Ok(()),
-        FindingKind::NotAPrefix => text.push_str(UNFOLLOWED),
-        FindingKind::NotAtDestination => {
-            text.push_str("it says delivered, and the walk goes on behind its last hop")
-        }
-        FindingKind::BadWeight => {
-            let weight = Quoted(word_at(words, source_place(trace) + 2));
-            write!(text, "{weight} is not the weight of its hops")
-        }
-        FindingKind::Repeated => {
-            let id = word_at(words, 0);
-            let line = line_with(run.alloc, trace.bytes, id, 1)?.saturating_add(trace.above);
-            write!(text, "the id {} stands on line {line} already", Quoted(id))
-        }
-        FindingKind::NoMemory => text.push_str(MEMORY),
-    }
+    let words = words_of(run.alloc, line_at(run.texts.trace.bytes, finding.line))?;
+    push_meaning(crew, text, run, finding, words.as_slice())
 }

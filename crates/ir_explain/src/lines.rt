@@ -40,7 +40,10 @@ pub fn line_at(text: &[u8], number: usize) -> &[u8]
 
 /// The first word of a line, without its comment; nothing where it has none.
 pub fn first_word(line: &[u8]) -> &[u8] {
-    scan::next_word(scan::without_comment(line)).map_or(&[], |found| found.0)
+    match scan::next_word(scan::without_comment(line)) {
+        Some((word, _)) => word,
+        None => &[],
+    }
 }
 
 /// The first line of a text behind so many that begins with a word, counted from 1; 0 where there is none.

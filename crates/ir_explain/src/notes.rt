@@ -43,13 +43,12 @@ static DOCUMENTS: [(&str, &str, &str); 13] = [
 
 /// What follows the blanks at the front of a text, and the blank lines.
 fn from_first_word(text: &[u8]) -> &[u8] {
-    match text
-        .iter()
-        .position(|byte| !matches!(*byte, b' ' | b'\t' | b'\r' | b'\n'))
-    {
-        Some(place) => &text[place..],
-        None => &[],
+    for place in 0..text.len() {
+        if !matches!(text[place], b' ' | b'\t' | b'\r' | b'\n') {
+            return &text[place..];
+        }
     }
+    &[]
 }
 
 /// Whether the front of a text has a word in it.
@@ -93,6 +92,31 @@ fn likeness(seen: Seen, format: Format) -> (&'static str, Option<&'static str>) 
     }
 }
 
+/// Says what a topology looks like, and how it is converted where there is a word for that.
+fn push_likeness(text: &mut String, file: &str, name: &str, word: Option<&str>) -> Pushed {
+    begin(text, file)?;
+    match word {
+        Some(word) => {
+            let file = FileName(if file == "-" { "FILE" } else { file });
+            write!(
+                text,
+                "this looks like {name}; python3 -m bentzolu convert {file}{word} makes an edge list of it"
+            )
+        }
+        None => text.push_str(name),
+    }
+}
+
+/// How many nodes and links are read of a topology; none where the text has a fault.
+fn counts_of(
+    alloc: Global,
+    words: &Words,
+    part: &GivenText<'_>,
+) -> Result<(usize, usize), AllocError> {
+    let graph = graph_of(alloc, words, part)?;
+    Ok((graph.number_of_nodes(), graph.number_of_edges()))
+}
+
 /// Says so where a topology looks like one of another format, and how many nodes and links were read.
 pub fn push_note(alloc: Global, text: &mut String, words: &Words, part: &GivenText<'_>) -> Pushed {
     let (name, word) = match convertible(part.bytes) {
@@ -102,21 +126,10 @@ pub fn push_note(alloc: Global, text: &mut String, words: &Words, part: &GivenTe
     if name.is_empty() {
         return Ok(());
     }
-    begin(text, part.file)?;
-    match word {
-        Some(word) => {
-            let file = FileName(if part.file == "-" { "FILE" } else { part.file });
-            write!(
-                text,
-                "this looks like {name}; python3 -m bentzolu convert {file}{word} makes an edge list of it"
-            )?;
-        }
-        None => text.push_str(name)?,
+    push_likeness(text, part.file, name, word)?;
+    let (nodes, links) = counts_of(alloc, words, part)?;
+    if nodes == 0 {
+        return text.push_str("\n");
     }
-    let graph = graph_of(alloc, words, part)?;
-    let (nodes, links) = (graph.number_of_nodes(), graph.number_of_edges());
-    if nodes > 0 {
-        write!(text, "; nodes read: {nodes}, links: {links}")?;
-    }
-    text.push_str("\n")
+    write!(text, "; nodes read: {nodes}, links: {links}\n")
 }

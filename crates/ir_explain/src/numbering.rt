@@ -6,6 +6,16 @@ use crate::sentence::{Pushed, Quoted, begin_line, push_bad_byte, push_count};
 use crate::texts::RunTexts;
 use ir_script::{OrderFault, OrderFaultKind};
 
+/// The place of the first node that is not named; the number of nodes where each is.
+fn first_missing(named: &[bool]) -> usize {
+    for place in 0..named.len() {
+        if !named[place] {
+            return place;
+        }
+    }
+    named.len()
+}
+
 /// Says which node the lines of an order do not name.
 fn push_missing(text: &mut String, run: &RunTexts<'_>) -> Pushed {
     let order = run.texts.numbering.bytes;
@@ -15,10 +25,7 @@ fn push_missing(text: &mut String, run: &RunTexts<'_>) -> Pushed {
             named[node as usize] = true;
         }
     }
-    let missing = named
-        .iter()
-        .position(|is_named| !*is_named)
-        .unwrap_or(named.len());
+    let missing = first_missing(named.as_slice());
     let name = run.graph.node(missing).unwrap_or("");
     let nodes = named.len();
     write!(
@@ -27,18 +34,15 @@ fn push_missing(text: &mut String, run: &RunTexts<'_>) -> Pushed {
     )
 }
 
-/// Says what is wrong with a line of an order.
-pub fn push_numbering(text: &mut String, run: &RunTexts<'_>, fault: OrderFault) -> Pushed {
-    let order = &run.texts.numbering;
-    let place = if fault.kind == OrderFaultKind::Missing {
-        0
-    } else {
-        fault.line
-    };
-    let line = begin_line(run.alloc, text, order, place)?;
-    let words = line.as_slice();
+/// Says what is wrong with the words of a line of an order.
+fn push_order_fault(
+    text: &mut String,
+    run: &RunTexts<'_>,
+    fault: OrderFaultKind,
+    words: &[&[u8]],
+) -> Pushed {
     let word = word_at(words, 0);
-    match fault.kind {
+    match fault {
         OrderFaultKind::BadByte => push_bad_byte(text, words, "names are"),
         OrderFaultKind::BadRow => {
             push_count(text, words.len())?;
@@ -46,10 +50,21 @@ pub fn push_numbering(text: &mut String, run: &RunTexts<'_>, fault: OrderFault) 
         }
         OrderFaultKind::UnknownNode => push_no_node(text, run, word),
         OrderFaultKind::Twice => {
-            let first = line_with(run.alloc, order.bytes, word, 0)?;
+            let first = line_with(run.alloc, run.texts.numbering.bytes, word, 0)?;
             write!(text, "{} stands on line {first} already", Quoted(word))
         }
         OrderFaultKind::Missing => push_missing(text, run),
         OrderFaultKind::NoMemory => text.push_str("memory was refused while the order was read"),
     }
+}
+
+/// Says what is wrong with a line of an order.
+pub fn push_numbering(text: &mut String, run: &RunTexts<'_>, fault: OrderFault) -> Pushed {
+    let place = if fault.kind == OrderFaultKind::Missing {
+        0
+    } else {
+        fault.line
+    };
+    let words = begin_line(run.alloc, text, &run.texts.numbering, place)?;
+    push_order_fault(text, run, fault.kind, words.as_slice())
 }

@@ -23,10 +23,10 @@ fn unknown_option<'a>(graph: &Graph, words: &'a Words) -> (&'static str, &'a str
         }
     }
     match &words.second {
-        Some(second) => (
-            "--with",
-            second.root.as_ref().map_or("", |name| name.as_str()),
-        ),
+        Some(second) => match &second.root {
+            Some(name) => ("--with", name.as_str()),
+            None => ("--with", ""),
+        },
         None => ("--root", ""),
     }
 }

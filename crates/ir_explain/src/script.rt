@@ -7,6 +7,7 @@ use crate::texts::RunTexts;
 use ir_cli::Sub;
 use ir_graph::Graph;
 use ir_script::{ScriptError, ScriptFault};
+use std::alloc::Global;
 
 /// The first words of the lines of a live run's script, and behind them those of a simulation alone.
 static COMMANDS: [&str; 10] = [
@@ -18,6 +19,8 @@ const LIVE_COMMANDS: usize = 6;
 
 /// The kinds of plans.
 static KINDS: [&str; 3] = ["tree", "shortest", "compact"];
+
+static NO_KIND: &str = " is no kind of plan: tree, shortest or compact is wanted";
 
 /// How the line of a command looks; nothing where the word is none.
 fn form_of(command: &str) -> &'static str {
@@ -36,6 +39,29 @@ fn form_of(command: &str) -> &'static str {
     }
 }
 
+/// Says that a word, between two texts, is none of these names, and which of them may be meant.
+fn push_unknown(
+    text: &mut String,
+    alloc: Global,
+    names: &[&str],
+    before: &str,
+    word: &[u8],
+    behind: &str,
+) -> Pushed {
+    write!(text, "{before}{}{behind}", Quoted(word))?;
+    push_near(text, nearest_of(alloc, names, word)?)
+}
+
+/// Says that words are not of the form of their command.
+fn push_form(text: &mut String, alloc: Global, words: &[&[u8]], form: &str) -> Pushed {
+    let line = joined(alloc, words)?;
+    write!(
+        text,
+        "{} is not of the form '{form}'",
+        Quoted(line.as_slice())
+    )
+}
+
 /// Says why the words of a line are no command.
 fn push_bad_command(text: &mut String, run: &RunTexts<'_>, words: &[&[u8]]) -> Pushed {
     let command = word_at(words, 0);
@@ -47,24 +73,17 @@ fn push_bad_command(text: &mut String, run: &RunTexts<'_>, words: &[&[u8]]) -> P
         } else {
             COMMANDS.len()
         };
-        write!(text, "unknown command {}", Quoted(command))?;
-        return push_near(text, nearest_of(run.alloc, &COMMANDS[..known], command)?);
+        let names = &COMMANDS[..known];
+        return push_unknown(text, run.alloc, names, "unknown command ", command, "");
     }
     if is_live && matches!(name, "learn" | "take" | "read" | "act") {
         return write!(text, "'{name}' is a command of 'route sim' alone");
     }
     if name == "install" && words.len() == 3 {
-        let kind = word_at(words, 1);
-        let quoted = Quoted(kind);
-        write!(
-            text,
-            "{quoted} is no kind of plan: tree, shortest or compact is wanted"
-        )?;
-        return push_near(text, nearest_of(run.alloc, KINDS.as_slice(), kind)?);
+        let (names, kind) = (KINDS.as_slice(), word_at(words, 1));
+        return push_unknown(text, run.alloc, names, "", kind, NO_KIND);
     }
-    let line = joined(run.alloc, words)?;
-    let line = Quoted(line.as_slice());
-    write!(text, "{line} is not of the form '{form}'")
+    push_form(text, run.alloc, words, form)
 }
 
 /// The places of the words of a line that are to name nodes.
@@ -95,12 +114,15 @@ pub fn push_no_node(text: &mut String, run: &RunTexts<'_>, word: &[u8]) -> Pushe
     push_near(text, nearest_node(run.alloc, run.graph, word)?)
 }
 
-/// Says what is wrong with a line of a script.
-pub fn push_script(text: &mut String, run: &RunTexts<'_>, error: ScriptError) -> Pushed {
-    let line = begin_line(run.alloc, text, &run.texts.script, error.line)?;
-    let words = line.as_slice();
+/// Says what is wrong with the words of a line of a script.
+fn push_script_fault(
+    text: &mut String,
+    run: &RunTexts<'_>,
+    fault: ScriptFault,
+    words: &[&[u8]],
+) -> Pushed {
     let command = text_of(word_at(words, 0));
-    match error.kind {
+    match fault {
         ScriptFault::BadByte => push_bad_byte(text, words, "scripts are"),
         ScriptFault::BadCommand => push_bad_command(text, run, words),
         ScriptFault::BadNumber => {
@@ -121,4 +143,10 @@ pub fn push_script(text: &mut String, run: &RunTexts<'_>, error: ScriptError) ->
         }
         ScriptFault::NoMemory => text.push_str("memory was refused while the script was read"),
     }
+}
+
+/// Says what is wrong with a line of a script.
+pub fn push_script(text: &mut String, run: &RunTexts<'_>, error: ScriptError) -> Pushed {
+    let words = begin_line(run.alloc, text, &run.texts.script, error.line)?;
+    push_script_fault(text, run, error.kind, words.as_slice())
 }

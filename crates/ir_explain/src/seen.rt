@@ -48,11 +48,13 @@ fn is_half(word: &[u8]) -> bool {
 }
 
 /// Whether a word has a comma that is not its last byte.
-fn has_comma(word: &[u8]) -> bool {
-    match word.iter().position(|byte| *byte == b',') {
-        Some(place) => place + 1 < word.len(),
-        None => false,
+fn has_comma_inside(word: &[u8]) -> bool {
+    for place in 1..word.len() {
+        if word[place - 1] == b',' {
+            return true;
+        }
     }
+    false
 }
 
 /// The number that a word spells, up to 65,535; 0 where it spells none.
@@ -76,6 +78,13 @@ fn seen_with(seen: Seen, words: &[&[u8]]) -> Seen {
     if words.is_empty() {
         return seen;
     }
+    let (mut has_cut, mut has_arrow, mut has_half, mut has_comma) = (false, false, false, false);
+    for word in words {
+        has_cut |= is_cut(word);
+        has_arrow |= *word == b"->".as_slice();
+        has_half |= is_half(word);
+        has_comma |= has_comma_inside(word);
+    }
     let third = word_at(words, 2);
     let is_graph = word_at(words, 0) == b"graph".as_slice() && word_at(words, 1).starts_with(b"[");
     Seen {
@@ -83,10 +92,10 @@ fn seen_with(seen: Seen, words: &[&[u8]]) -> Seen {
         has_weights: seen.has_weights && words.len() == 3 && is_number(third),
         has_braces: seen.has_braces && third.starts_with(b"{"),
         is_gml: seen.is_gml || is_graph,
-        has_cut_name: seen.has_cut_name || words.iter().any(|word| is_cut(word)),
-        has_arrow: seen.has_arrow || words.iter().any(|word| *word == b"->".as_slice()),
-        has_tuple: seen.has_tuple || words.iter().any(|word| is_half(word)),
-        has_commas: seen.has_commas && words.iter().any(|word| has_comma(word)),
+        has_cut_name: seen.has_cut_name || has_cut,
+        has_arrow: seen.has_arrow || has_arrow,
+        has_tuple: seen.has_tuple || has_half,
+        has_commas: seen.has_commas && has_comma,
         is_multiline: seen.is_multiline && goes_on(seen, words),
         left: if seen.left > 0 {
             seen.left - 1

@@ -113,15 +113,33 @@ pub fn joined(alloc: Global, words: &[&[u8]]) -> Result<Vec<u8>, AllocError> {
     Ok(all)
 }
 
+/// The first word that is not printable ASCII; nothing where each is.
+fn strange_word<'a>(words: &[&'a [u8]]) -> &'a [u8] {
+    for word in words {
+        if !all_plain(word) {
+            return word;
+        }
+    }
+    &[]
+}
+
+/// The first byte of a word that is not printable ASCII; 0 where each is.
+fn strange_byte(word: &[u8]) -> u8 {
+    for byte in word {
+        if *byte < b'!' || *byte > b'~' {
+            return *byte;
+        }
+    }
+    0
+}
+
 /// Says which byte of a line may not stand there: the first that is not printable ASCII.
 pub fn push_bad_byte(text: &mut String, words: &[&[u8]], wanted: &str) -> Pushed {
-    let strange = words.iter().find(|word| !all_plain(word));
-    let word = strange.copied().unwrap_or(&[]);
+    let word = strange_word(words);
     if word.starts_with(b"\xEF\xBB\xBF") {
         return text.push_str("a byte order mark stands before the text: save it without one");
     }
-    let byte = word.iter().find(|byte| **byte < b'!' || **byte > b'~');
-    let byte = byte.copied().unwrap_or(0);
+    let byte = strange_byte(word);
     if byte == 0 || word.starts_with(b"\xFF\xFE") || word.starts_with(b"\xFE\xFF") {
         return text.push_str("this looks like UTF-16: save the text as ASCII");
     }

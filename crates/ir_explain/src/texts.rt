@@ -60,12 +60,15 @@ impl<'a> GivenTexts<'a> {
 
 /// All of the input at a place, as a text of this file.
 fn whole<'a>(given: &[Given<'a>], place: usize, file: &'a str) -> GivenText<'a> {
-    let given = given.get(place).copied();
+    let (bytes, trouble): (&[u8], Trouble) = match given.get(place) {
+        Some(input) => (input.bytes, input.trouble),
+        None => (&[], Trouble::Unknown),
+    };
     GivenText {
         file,
         above: 0,
-        bytes: given.map_or(&[], |input| input.bytes),
-        trouble: given.map_or(Trouble::Unknown, |input| input.trouble),
+        bytes,
+        trouble,
     }
 }
 

@@ -6,10 +6,19 @@ use crate::texts::RunTexts;
 use ir_adjlist::TextError;
 use ir_model::{Fault, MAX_EDGES, MAX_NAME_BYTES, MAX_NODES, MAX_WEIGHT};
 
+/// How many bytes the first word has that is too long for a name; 0 where none is.
+fn long_name(words: &[&[u8]]) -> usize {
+    for word in words {
+        if word.len() > MAX_NAME_BYTES {
+            return word.len();
+        }
+    }
+    0
+}
+
 /// Says that a name is too long: the first such word.
 fn push_long_name(text: &mut String, words: &[&[u8]]) -> Pushed {
-    let long = words.iter().find(|word| word.len() > MAX_NAME_BYTES);
-    let bytes = long.map_or(0, |word| word.len());
+    let bytes = long_name(words);
     write!(
         text,
         "a name of {bytes} bytes; at most {MAX_NAME_BYTES} are taken"
