@@ -127,7 +127,10 @@ fn with_args<'a>(
 {
     let mut command = command;
     for taken in all {
-        command = command.arg(arg_of(alloc, choices, *taken))?;
+        command = match command.arg(arg_of(alloc, choices, *taken)) {
+            Ok(command) => command,
+            Err(error) => return Err(error),
+        };
     }
     Ok(command)
 }
@@ -200,7 +203,14 @@ fn with_subcommands<'a>(
 {
     let mut command = command;
     for sub in all {
-        command = command.subcommand(subcommand_of(alloc, called, choices, *sub)?)?;
+        let made = match subcommand_of(alloc, called, choices, *sub) {
+            Ok(made) => made,
+            Err(error) => return Err(error),
+        };
+        command = match command.subcommand(made) {
+            Ok(command) => command,
+            Err(error) => return Err(error),
+        };
     }
     Ok(command)
 }

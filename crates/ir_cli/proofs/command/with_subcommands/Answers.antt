@@ -9,5 +9,5 @@ pub loop-sub-preserved : goal.loop-sub-preserved
 loop-sub-preserved c =
     let step : App → Sub → App = λ a sub. with_subcommand a (subcommand c.args.choices sub) in
     fold_next step (app_of c.loop-sub.command) _ c.args.all.now c.loop-sub.sub-index _ _ (omega (arith, c.loop-sub-test.true)) refl
-    (c.in_ok-command.ensures.shape c.in_ok-subcommand_of.ensures.local ∙ ap (with_subcommand (app_of c.loop-sub.command)) c.in_ok-subcommand_of.ensures.shape)
+    (c.in-Ok-subcommand.ensures.shape c.in-Ok.ensures.local ∙ ap (with_subcommand (app_of c.loop-sub.command)) c.in-Ok.ensures.shape)
     ∙ c.loop-sub.invariant
