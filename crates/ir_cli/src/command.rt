@@ -91,8 +91,8 @@ fn parser_of<'a>(choices: Choices<'a>, takes: Accepts) -> Option<ValueParser<'a>
 
 /// The same with what its values are checked to be, if they are not any texts.
 fn valued<'a>(arg: Arg<'a>, parser: Option<ValueParser<'a>>) -> Arg<'a>
-    ensures rule { rule_of result
-        ≡ option_map_or (λ parser. record (rule_of arg.entry) { parser = Some parser }) parser.entry (rule_of arg.entry) }
+    ensures rule { rule_of result ≡ option_map_or
+        (λ parser. record (rule_of arg.entry) { parser = Some parser }) parser.entry (rule_of arg.entry) }
     ensures local { result.global ≡ arg.entry.global }
 {
     match parser {

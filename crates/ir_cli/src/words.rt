@@ -230,17 +230,20 @@ fn ends_of(
     alloc: Global,
     found: &ArgMatches<'_>,
 ) -> Result<(Option<String>, Option<String>, Option<String>), AllocError>
-    ensures from { IfOk result (λ ends. option_map string_bytes ends.0 ≡ first_of (codes "from") (rows_of (found_of found.now))) }
-    ensures to { IfOk result (λ ends. option_map string_bytes ends.1 ≡ first_of (codes "to") (rows_of (found_of found.now))) }
-    ensures node { IfOk result (λ ends. option_map string_bytes ends.2 ≡ first_of (codes "node") (rows_of (found_of found.now))) }
+    ensures from { IfOk result (λ ends.
+        option_map string_bytes ends.0 ≡ first_of (codes "from") (rows_of (found_of found.now))) }
+    ensures to { IfOk result (λ ends.
+        option_map string_bytes ends.1 ≡ first_of (codes "to") (rows_of (found_of found.now))) }
+    ensures node { IfOk result (λ ends.
+        option_map string_bytes ends.2 ≡ first_of (codes "node") (rows_of (found_of found.now))) }
 {
     let from = word_of(alloc, found, "from")?;
     let to = word_of(alloc, found, "to")?;
     Ok((from, to, word_of(alloc, found, "node")?))
 }
 
-/// The words of a subcommand, of which this is what is chosen or counted.
-fn words_with(alloc: Global, all: Chosen, found: &ArgMatches<'_>) -> Result<Words, AllocError>
+/// The words of a subcommand with what is chosen or counted by them.
+fn words_of(alloc: Global, all: Chosen, found: &ArgMatches<'_>) -> Result<Words, AllocError>
     ensures { IfOk result (λ words. (name : Text) → AreTyped name (rows_of (found_of found.now)) all
         → Means name (rows_of (found_of found.now)) words) }
 {
@@ -277,7 +280,7 @@ fn words_with(alloc: Global, all: Chosen, found: &ArgMatches<'_>) -> Result<Word
 }
 
 /// The words of a subcommand of this name. All words that the parser takes are taken here.
-fn words_of(alloc: Global, name: &str, found: &ArgMatches<'_>) -> Result<Words, WordsError>
+fn words_named(alloc: Global, name: &str, found: &ArgMatches<'_>) -> Result<Words, WordsError>
     ensures means { IfOk result (λ words. Means name.now (rows_of (found_of found.now)) words) }
     ensures refused { IfErr result (FailsOn
         ((words : Words) → Means name.now (rows_of (found_of found.now)) words → ⊥) ⊥) }
@@ -285,7 +288,7 @@ fn words_of(alloc: Global, name: &str, found: &ArgMatches<'_>) -> Result<Words, 
     let Some(all) = choose(name, found) else {
         return Err(usage(String::from_str(alloc, UNREAD)));
     };
-    match words_with(alloc, all, found) {
+    match words_of(alloc, all, found) {
         Ok(words) => Ok(words),
         Err(_) => Err(WordsError::NoMemory),
     }
@@ -313,7 +316,7 @@ fn words_met(alloc: Global, called: Called, found: &ArgMatches<'_>) -> Result<Wo
     let Some((name, inner)) = found.subcommand() else {
         return Err(usage(String::from_str(alloc, UNREAD)));
     };
-    let words = words_of(alloc, name, inner)?;
+    let words = words_named(alloc, name, inner)?;
     match fault_met(called, inner, &words) {
         None => Ok(words),
         Some(fault) => Err(usage(fault_text(alloc, called, &words, name, fault))),

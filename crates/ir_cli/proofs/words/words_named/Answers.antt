@@ -1,5 +1,5 @@
 use Rattle.ir_cli.proofs.Failing.{fails_wider}
-use Rattle.ir_cli.proofs.words.words_of.Goals as goal
+use Rattle.ir_cli.proofs.words.words_named.Goals as goal
 
 pub returns-in_default-clause-refused : goal.returns-in_default-clause-refused
 returns-in_default-clause-refused c = fails_wider _ _ _ _ c.usage.result (λ _ words means. c.in_default.ensures (record {
