@@ -1,6 +1,7 @@
 //! The command line: its subcommands, each with what it takes.
-ghost use Rattle.std.specs.Prelude.{◌≡◌, IfOk, false};
-ghost use Rattle.clap.specs.Words.{app_of, new_app, rule_of, with_subcommand};
+ghost use Rattle.std.specs.Prelude.{◌≡◌, IfOk, Some, false, fold};
+ghost use Rattle.std.specs.Option.{option_map_or};
+ghost use Rattle.clap.specs.Words.{Rule, app_of, new_app, rule_of, with_subcommand};
 ghost use Rattle.clap.specs.declared.builder.command.Command.TheViews.{out-Command};
 ghost use Rattle.ir_cli.specs.CommandLine.{AreTheirWords, program, sub_word, subcommand};
 ghost use Rattle.ir_cli.specs.declared.options.Choices.{Choices};
@@ -11,6 +12,7 @@ use crate::help::{
 };
 use crate::options::{Accepts, Choice, Choices, Need, Taken, taken_by};
 use crate::words::Sub;
+use clap::builder::ValueParser;
 use clap::{Arg, ArgAction, Command};
 use std::alloc::{AllocError, Global};
 
@@ -20,11 +22,25 @@ static KINDS: [&str; 3] = ["tree", "shortest", "compact"];
 
 static NUMBERINGS: [&str; 2] = ["depth-first", "tour"];
 
+/// The subcommands, as help lists them.
+static SUBCOMMANDS: [Sub; 10] = [
+    Sub::Plan,
+    Sub::Walk,
+    Sub::Stats,
+    Sub::Compare,
+    Sub::Draw,
+    Sub::Prefixes,
+    Sub::Ranges,
+    Sub::Sim,
+    Sub::Live,
+    Sub::Check,
+];
+
 static VERSION: &str = "2.0.0";
 
 /// An argument by its name.
-fn named<'a>(alloc: Global, taken: &Taken) -> Arg<'a>
-    ensures rule { rule_of result ≡ rule_named taken.now.name.now taken.now.takes }
+fn named<'a>(alloc: Global, taken: Taken) -> Arg<'a>
+    ensures rule { rule_of result ≡ rule_named taken.name.now taken.takes }
     ensures local { result.global ≡ false }
 {
     let arg = Arg::new(alloc, taken.name).help(taken.help);
@@ -59,26 +75,39 @@ fn lettered<'a>(arg: Arg<'a>, letter: Option<char>) -> Arg<'a>
     }
 }
 
-/// The same with the values that it takes.
-fn valued<'a>(arg: Arg<'a>, choices: Choices<'a>, taken: &Taken) -> Arg<'a>
-    ensures rule { rule_of result ≡ rule_valued choices.entry taken.now.takes (rule_of arg.entry) }
-    ensures local { result.global ≡ arg.entry.global }
+/// What the values of an argument are checked to be, if they are not any texts.
+fn parser_of<'a>(choices: Choices<'a>, takes: Accepts) -> Option<ValueParser<'a>>
+    ensures { (rule : Rule) → rule_valued choices.entry takes rule
+        ≡ option_map_or (λ parser. record rule { parser = Some parser }) result rule }
 {
-    match taken.takes {
-        Accepts::WordOf(_, choice) => arg.value_parser(words_of(choices, choice)),
-        Accepts::Number(_, least, most) => arg.value_parser(clap::value_parser!(u16).range(
+    match takes {
+        Accepts::WordOf(_, choice) => Some(ValueParser::Names(words_of(choices, choice))),
+        Accepts::Number(_, least, most) => Some(clap::value_parser!(u16).range(
             least as i64..=most as i64,
         )),
-        Accepts::Nothing | Accepts::Word(_) | Accepts::File(_) => arg,
+        Accepts::Nothing | Accepts::Word(_) | Accepts::File(_) => None,
+    }
+}
+
+/// The same with what its values are checked to be, if they are not any texts.
+fn valued<'a>(arg: Arg<'a>, parser: Option<ValueParser<'a>>) -> Arg<'a>
+    ensures rule { rule_of result ≡ option_map_or
+        (λ parser. record (rule_of arg.entry) { parser = Some parser }) parser.entry (rule_of arg.entry) }
+    ensures local { result.global ≡ arg.entry.global }
+{
+    match parser {
+        Some(parser) => arg.value_parser(parser),
+        None => arg,
     }
 }
 
 /// An argument.
-fn arg_of<'a>(alloc: Global, choices: Choices<'a>, taken: &Taken) -> Arg<'a>
-    ensures rule { rule_of result ≡ rule_taken choices.entry taken.now }
+fn arg_of<'a>(alloc: Global, choices: Choices<'a>, taken: Taken) -> Arg<'a>
+    ensures rule { rule_of result ≡ rule_taken choices.entry taken }
     ensures local { result.global ≡ false }
 {
-    let arg = lettered(valued(named(alloc, taken), choices, taken), taken.letter);
+    let arg = valued(named(alloc, taken), parser_of(choices, taken.takes));
+    let arg = lettered(arg, taken.letter);
     match taken.need {
         Need::Free => arg,
         Need::Must => arg.required(true),
@@ -98,7 +127,10 @@ fn with_args<'a>(
 {
     let mut command = command;
     for taken in all {
-        command = command.arg(arg_of(alloc, choices, taken))?;
+        command = match command.arg(arg_of(alloc, choices, *taken)) {
+            Ok(command) => command,
+            Err(error) => return Err(error),
+        };
     }
     Ok(command)
 }
@@ -121,19 +153,18 @@ fn named_command<'a>(alloc: Global, called: Called, sub: Sub) -> Command<'a>
     }
 }
 
-/// A command with one more subcommand, and all that it takes.
-fn with_subcommand<'a>(
+/// A subcommand, with all that it takes.
+fn subcommand_of<'a>(
     alloc: Global,
     called: Called,
     choices: Choices<'a>,
-    command: Command<'a>,
     sub: Sub,
 ) -> Result<Command<'a>, AllocError>
-    ensures { IfOk result
-        (λ both. app_of both ≡ with_subcommand (app_of command.entry) (subcommand choices.entry sub)) }
+    ensures shape { IfOk result (λ made. (app_of made).top ≡ subcommand choices.entry sub) }
+    ensures local { IfOk result (λ made. (out-Command made).has_globals ≡ false) }
 {
     let bare = named_command(alloc, called, sub);
-    command.subcommand(with_args(alloc, bare, choices, taken_by(sub))?)
+    with_args(alloc, bare, choices, taken_by(sub))
 }
 
 /// The program's command, before its subcommands.
@@ -159,21 +190,42 @@ fn choices_told<'a>() -> Choices<'a>
     }
 }
 
+/// A command with further subcommands, and all that they take.
+fn with_subcommands<'a>(
+    alloc: Global,
+    called: Called,
+    choices: Choices<'a>,
+    command: Command<'a>,
+    all: &[Sub],
+) -> Result<Command<'a>, AllocError>
+    ensures { IfOk result (λ made. app_of made
+        ≡ fold (λ a sub. with_subcommand a (subcommand choices.entry sub)) (app_of command.entry) all.now) }
+{
+    let mut command = command;
+    for sub in all {
+        let made = match subcommand_of(alloc, called, choices, *sub) {
+            Ok(made) => made,
+            Err(error) => return Err(error),
+        };
+        command = match command.subcommand(made) {
+            Ok(command) => command,
+            Err(error) => return Err(error),
+        };
+    }
+    Ok(command)
+}
+
 /// The command of the program.
 pub(crate) fn route_command<'a>(alloc: Global, called: Called) -> Result<Command<'a>, AllocError>
     ensures { IfOk result (λ made. (choices : Choices) × AreTheirWords choices
         × (app_of made ≡ program choices called)) }
 {
-    let choices = choices_told();
     let command = program(alloc, texts_of(called));
-    let command = with_subcommand(alloc, called, choices, command, Sub::Plan)?;
-    let command = with_subcommand(alloc, called, choices, command, Sub::Walk)?;
-    let command = with_subcommand(alloc, called, choices, command, Sub::Stats)?;
-    let command = with_subcommand(alloc, called, choices, command, Sub::Compare)?;
-    let command = with_subcommand(alloc, called, choices, command, Sub::Draw)?;
-    let command = with_subcommand(alloc, called, choices, command, Sub::Prefixes)?;
-    let command = with_subcommand(alloc, called, choices, command, Sub::Ranges)?;
-    let command = with_subcommand(alloc, called, choices, command, Sub::Sim)?;
-    let command = with_subcommand(alloc, called, choices, command, Sub::Live)?;
-    with_subcommand(alloc, called, choices, command, Sub::Check)
+    with_subcommands(
+        alloc,
+        called,
+        choices_told(),
+        command,
+        SUBCOMMANDS.as_slice(),
+    )
 }

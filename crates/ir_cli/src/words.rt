@@ -1,20 +1,21 @@
 //! The words of the command line.
 
-ghost use Rattle.std.specs.Prelude.{◌≡◌, ◌≢◌, ◌⊎◌, ◌∷◌, Some, IfOk, IfErr, map, string_bytes};
-ghost use Rattle.clap.specs.Words.{found_of, kind_of, rows_of, subcommand_rows_of};
+ghost use Rattle.std.specs.Prelude.{◌≡◌, ◌≢◌, ◌⊎◌, ◌∷◌, Some, IfOk, IfErr, MatchOption, codes, map, option_map, string_bytes, ⊤};
+ghost use Rattle.clap.specs.Words.{Text, first_of, found_of, kind_of, rows_of, subcommand_rows_of};
 ghost use Rattle.clap.specs.Walk.{texts};
 ghost use Rattle.clap.specs.declared.error.kind.ErrorKind.TheVariants.{DisplayHelp, DisplayVersion, OutOfMemory};
 ghost use Rattle.ir_cli.specs.Words.{AreTaken, FitsItsKind, file_at, format_of_name, order_name, is_one_input, has_order, words_code};
-ghost use Rattle.ir_cli.specs.Meaning.{Asks, AsksAs, Means, MeansMet};
+ghost use Rattle.ir_cli.specs.Meaning.{Asks, AsksAs, HasItsSecond, Means, MeansMet};
 ghost use Rattle.ir_cli.specs.Refusals.{AsksForHelp, AsksForHelpAs, FailsOn, IsMistake, NoneAsked, RefusesAs, RefusesWords};
 ghost use Rattle.ir_cli.specs.CommandLine.{name_of};
+ghost use Rattle.ir_cli.specs.Typed.{AreTyped};
 ghost use Rattle.ir_cli.specs.declared.words.Words.{Words};
 ghost use Rattle.ir_cli.specs.declared.words.WordsError.TheVariants.{NoMemory};
 
 use crate::command::route_command;
 use crate::faults::{fault_of, fault_text, second_fault};
 use crate::help::Called;
-use crate::typed::{choose, files_of, is_set, numbering_of, second_of, word_of};
+use crate::typed::{Chosen, choose, files_of, is_set, numbering_of, second_of, word_of};
 use clap::ArgMatches;
 use clap::error::ErrorKind;
 use ir_model::Kind;
@@ -214,39 +215,95 @@ pub(crate) fn format_of_file(name: &str) -> Format
 /// What stands for words that the parser took and that are not read, of which there are none.
 static UNREAD: &str = "error: the words are not read\n";
 
-/// The words of a subcommand of this name. All words that the parser takes are taken here.
-fn words_of(alloc: Global, name: &str, found: &ArgMatches<'_>) -> Result<Words, WordsError>
-    ensures means { IfOk result (λ words. Means name.now (rows_of (found_of found.now)) words) }
-    ensures refused { IfErr result (FailsOn
-        ((words : Words) → Means name.now (rows_of (found_of found.now)) words → ⊥) ⊥) }
+/// The refusal by a text for standard error, or want of memory where the text was not made.
+fn usage(text: Result<String, AllocError>) -> WordsError
+    ensures { FailsOn ⊤ ⊥ result }
 {
-    let Some(all) = choose(name, found) else {
-        return Err(WordsError::Usage(String::from_str(alloc, UNREAD)?));
-    };
+    match text {
+        Ok(text) => WordsError::Usage(text),
+        Err(_) => WordsError::NoMemory,
+    }
+}
+
+/// The names of a walk's ends, and of the node that is drawn, where they are given.
+fn ends_of(
+    alloc: Global,
+    found: &ArgMatches<'_>,
+) -> Result<(Option<String>, Option<String>, Option<String>), AllocError>
+    ensures from { IfOk result (λ ends.
+        option_map string_bytes ends.0 ≡ first_of (codes "from") (rows_of (found_of found.now))) }
+    ensures to { IfOk result (λ ends.
+        option_map string_bytes ends.1 ≡ first_of (codes "to") (rows_of (found_of found.now))) }
+    ensures node { IfOk result (λ ends.
+        option_map string_bytes ends.2 ≡ first_of (codes "node") (rows_of (found_of found.now))) }
+{
+    let from = word_of(alloc, found, "from")?;
+    let to = word_of(alloc, found, "to")?;
+    Ok((from, to, word_of(alloc, found, "node")?))
+}
+
+/// The words of a subcommand with what is chosen or counted by them.
+fn words_of(alloc: Global, all: Chosen, found: &ArgMatches<'_>) -> Result<Words, AllocError>
+    ensures { IfOk result (λ words. (name : Text) → AreTyped name (rows_of (found_of found.now)) all
+        → Means name (rows_of (found_of found.now)) words) }
+{
+    let root = word_of(alloc, found, "root")?;
+    let output = word_of(alloc, found, "output")?;
+    let numbering = numbering_of(alloc, found)?;
+    let second = second_of(alloc, found)?;
+    let files = files_of(alloc, found)?;
+    let (from, to, node) = ends_of(alloc, found)?;
     Ok(Words {
         sub: all.sub,
         format: all.format,
         kind: all.kind,
-        second: second_of(alloc, found)?,
-        root: word_of(alloc, found, "root")?,
-        numbering: numbering_of(alloc, found)?,
+        root,
+        numbering,
         capacity: all.capacity,
         packets: all.packets,
         restamps: all.restamps,
         threads: all.threads,
-        from: word_of(alloc, found, "from")?,
-        to: word_of(alloc, found, "to")?,
-        node: word_of(alloc, found, "node")?,
+        from,
+        to,
+        node,
         svg: is_set(found, "svg"),
+        second,
         disjoint: is_set(found, "disjoint"),
         order_alone: is_set(found, "order"),
         whole: is_set(found, "whole"),
         explain: is_set(found, "explain") && !is_set(found, "no-explain"),
         json: is_set(found, "json"),
-        output: word_of(alloc, found, "output")?,
+        output,
         quiet: is_set(found, "quiet"),
-        files: files_of(alloc, found)?,
+        files,
     })
+}
+
+/// The words of a subcommand of this name. All words that the parser takes are taken here.
+fn words_named(alloc: Global, name: &str, found: &ArgMatches<'_>) -> Result<Words, WordsError>
+    ensures means { IfOk result (λ words. Means name.now (rows_of (found_of found.now)) words) }
+    ensures refused { IfErr result (FailsOn
+        ((words : Words) → Means name.now (rows_of (found_of found.now)) words → ⊥) ⊥) }
+{
+    let Some(all) = choose(name, found) else {
+        return Err(usage(String::from_str(alloc, UNREAD)));
+    };
+    match words_of(alloc, all, found) {
+        Ok(words) => Ok(words),
+        Err(_) => Err(WordsError::NoMemory),
+    }
+}
+
+/// What is wrong with the words that were read of a subcommand's options, flags and files, if anything is.
+fn fault_met(called: Called, found: &ArgMatches<'_>, words: &Words) -> Option<&'static str>
+    ensures { MatchOption result
+        (HasItsSecond (rows_of (found_of found.now)) words.now × AreTaken words.now × FitsItsKind words.now)
+        (λ _. HasItsSecond (rows_of (found_of found.now)) words.now → AreTaken words.now → FitsItsKind words.now → ⊥) }
+{
+    match second_fault(found, words) {
+        Some(fault) => Some(fault),
+        None => fault_of(called, words),
+    }
 }
 
 /// The words of the subcommand that was met, if nothing is wrong with them.
@@ -257,15 +314,12 @@ fn words_met(alloc: Global, called: Called, found: &ArgMatches<'_>) -> Result<Wo
     ensures refused { IfErr result (FailsOn (NoneAsked (subcommand_rows_of found.now)) ⊥) }
 {
     let Some((name, inner)) = found.subcommand() else {
-        return Err(WordsError::Usage(String::from_str(alloc, UNREAD)?));
+        return Err(usage(String::from_str(alloc, UNREAD)));
     };
-    let words = words_of(alloc, name, inner)?;
-    if let Some(fault) = second_fault(inner, &words) {
-        return Err(WordsError::Usage(fault_text(alloc, called, &words, name, fault)?));
-    }
-    match fault_of(called, &words) {
+    let words = words_named(alloc, name, inner)?;
+    match fault_met(called, inner, &words) {
         None => Ok(words),
-        Some(fault) => Err(WordsError::Usage(fault_text(alloc, called, &words, name, fault)?)),
+        Some(fault) => Err(usage(fault_text(alloc, called, &words, name, fault))),
     }
 }
 

@@ -16,8 +16,8 @@ loop-taken-preserved c =
     let step : App → Taken → App = λ a t. with_rule a (rule_taken choices t) in
     let local = c.arg_of.ensures.local in (
       fold_next step (app_of c.loop-taken.command) _ c.args.all.now c.loop-taken.taken-index _ _ (omega (arith, c.loop-taken-test.true)) refl
-          (c.in_ok-command.ensures.shape local ∙ ap (with_rule (app_of c.loop-taken.command)) c.arg_of.ensures.rule)
+          (c.in-Ok.ensures.shape local ∙ ap (with_rule (app_of c.loop-taken.command)) c.arg_of.ensures.rule)
           ∙ c.loop-taken.invariant.0,
-      c.in_ok-command.ensures.globals ∙ ap (λ g. (out-Command c.loop-taken.command).has_globals || g) local
+      c.in-Ok.ensures.globals ∙ ap (λ g. (out-Command c.loop-taken.command).has_globals || g) local
           ∙ or_false (out-Command c.loop-taken.command).has_globals ∙ c.loop-taken.invariant.1,
     )

@@ -1,7 +1,8 @@
-use Rattle.ir_cli.proofs.words.words_of.Goals as goal
+use Rattle.ir_cli.proofs.Failing.{fails_wider}
+use Rattle.ir_cli.proofs.words.words_named.Goals as goal
 
 pub returns-in_default-clause-refused : goal.returns-in_default-clause-refused
-returns-in_default-clause-refused c = λ words means. c.in_default.ensures (record {
+returns-in_default-clause-refused c = fails_wider _ _ _ _ c.usage.result (λ _ words means. c.in_default.ensures (record {
   sub = words.sub;
   format = words.format;
   kind = words.kind;
@@ -17,4 +18,4 @@ returns-in_default-clause-refused c = λ words means. c.in_default.ensures (reco
   packets = means.packets;
   restamps = means.restamps;
   threads = means.threads;
-})
+})) (λ never. never) c.usage.ensures
