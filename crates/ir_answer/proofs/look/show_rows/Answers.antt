@@ -1,0 +1,15 @@
+use Rattle.ir_model.specs.Graph.{names}
+use Rattle.ir_plan.specs.Building.{labelling_of}
+use Rattle.ir_answer.specs.declared.look.Show.TheVariants.{Rows}
+use Rattle.ir_answer.specs.Looks.{AnswerShows, AnswersShow}
+use Rattle.ir_answer.proofs.Answering.{gives_more}
+use Rattle.ir_answer.proofs.Looking.{shown_plan}
+use Rattle.ir_answer.proofs.look.show_rows.Goals as goal
+
+pub returns-in-Ok : goal.returns-in-Ok
+returns-in-Ok g c =
+    let graph = c.args.graph in
+    let words = c.args.words.now in
+    let labels = labelling_of c.args.labels in
+    gives_more (AnswerShows Rows (names graph) c.in-Ok.plan) (AnswersShow words graph labels Rows)
+    (shown_plan graph words.kind labels Rows c.in-Ok.plan c.in-Ok.ensures.plan) c.rows_reply.result c.rows_reply.ensures
