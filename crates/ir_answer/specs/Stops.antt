@@ -1,5 +1,5 @@
 -- What the texts of a topology and of a script, and the name of a root, come to before a run is opened over them.
-use Rattle.std.specs.Prelude.{◌≡◌, ℕ, List, Option, None, Some, Result, Ok, MatchResult}
+use Rattle.std.specs.Prelude.{◌≡◌, ℕ, List, Option, None, Some, Result, Ok, Err, MatchResult}
 use Rattle.ir_model.specs.Graph.{Name, Adjacency, names}
 use Rattle.ir_model.specs.Topology.{Topology}
 use Rattle.ir_model.specs.OfGraph.{topology_of_graph}
