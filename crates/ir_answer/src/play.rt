@@ -89,11 +89,11 @@ fn run_texts(
     ensures told { IfOk result (λ texts. steps_text texts.1.items ≡ refused_text lines.now played.replies.items) }
 {
     let Played { world, replies } = played;
+    world.invariant();
+    let records = world.into_records();
     if wants_memory(replies.as_slice()) {
         return Err(AllocError);
     }
-    world.invariant();
-    let records = world.into_records();
     let trace = run_text(alloc, graph, topology, restamps, records.as_slice())?;
     let refused = refused_steps(alloc, lines, replies.as_slice())?;
     Ok((trace, refused))
