@@ -26,7 +26,7 @@ use ir_tables::Topology;
 use std::alloc::{AllocError, Global};
 
 /// What of a plan is shown, with the numbers of the nodes that the words name.
-#[derive(Clone, Copy, Debug, PartialEq, Eq)]
+#[derive(Clone, Copy)]
 pub enum Show {
     Rows,
     /// The walk from a node to another.
@@ -396,10 +396,9 @@ fn show_plan(
     requires ends { 0 < length graph → AreAmong (length graph) show }
     ensures { Gives (AnswersShow words.now graph (labelling_of labels) show) result }
 {
-    if show == Show::Rows {
-        show_rows(crew, alloc, words, graph, labels)
-    } else {
-        show_text(crew, alloc, words, &graph, labels, show)
+    match show {
+        Show::Rows => show_rows(crew, alloc, words, graph, labels),
+        _ => show_text(crew, alloc, words, &graph, labels, show),
     }
 }
 
