@@ -1,5 +1,5 @@
 -- The answers that show a plan, by what was read before it is built.
-use Rattle.std.proofs.Common.{◌≡◌, ◌<◌, ℕ, Bool, List, Option, Some, None, MatchOption, string_bytes, refl, sym, subst, arith}
+use Rattle.std.proofs.Common.{◌≡◌, ◌≢◌, ◌∙◌, ◌<◌, ℕ, Bool, List, Option, Some, None, MatchOption, string_bytes, refl, sym, ap, subst, arith}
 use Rattle.std.specs.Option.{option_map}
 use Rattle.ir_model.specs.declared.Kind.{Kind}
 use Rattle.ir_model.specs.Graph.{Name, Adjacency, names}
@@ -15,7 +15,10 @@ use Rattle.ir_script.specs.declared.order_fault.OrderFaultKind.{OrderFaultKind}
 use Rattle.ir_cli.specs.declared.words.Words.{Words}
 use Rattle.ir_cli.specs.declared.words.Second.{Second}
 use Rattle.ir_cli.specs.Answer.{Answer, Ran, Found, Refused, NoThread}
-use Rattle.ir_cli.specs.Lines.{numbering_line}
+use Rattle.ir_core.specs.declared.event.OpenError.{OpenError}
+use Rattle.ir_core.specs.declared.event.OpenError.TheVariants as errors
+use Rattle.ir_core.specs.Codes.{open_error_of}
+use Rattle.ir_cli.specs.Lines.{numbering_line, opening_line}
 use Rattle.ir_cli.specs.Openings.{topology_fault, topology_graph, root_name, root_in, label_order, AnswersRoot, AnswersOrder}
 use Rattle.ir_cli.specs.declared.words.Sub.{Sub}
 use Rattle.ir_cli.specs.declared.words.Sub.TheVariants.{Plan as Planning, Walk, Stats, Compare, Draw, Prefixes, Ranges as Ranging, Sim, Live, Check}
@@ -25,7 +28,9 @@ use Rattle.ir_answer.specs.Looks.{from_name, to_name, drawn_name, Says, AnswerSh
 use Rattle.ir_plan.specs.Building.{Labelling, FromRoot, ByList, IsPlanBy, RefusesPlan}
 use Rattle.ir_show.specs.Alone.{IsWalkOfPlan}
 use Rattle.ir_answer.specs.Plans.{AnswersText, IsTextOfPlan}
-use Rattle.ir_answer.proofs.Answering.{option_more, of_graph, of_root}
+use Rattle.ir_answer.specs.declared.asking.AnswerStop.{AnswerStop}
+use Rattle.ir_answer.specs.Stops.{StopsAs}
+use Rattle.ir_answer.proofs.Answering.{stops_more, option_more, of_graph, of_root}
 
 -- over the network of a plan, memory alone refuses a second one from a node
 pub second_refused : (s : Plan) → IsPlan s → (root : ℕ) → root < node_count s.topology → (e : PlanError) → RefusesPlan s.topology (FromRoot orders.DepthFirst root) e → e ≡ plans.NoMemory
@@ -168,3 +173,11 @@ shown_plan g kind labels show plan built NoThread shows = absurd shows
 pub walk_says : (g : Adjacency) (kind : Kind) (labels : Labelling) (a b : ℕ) (text : List ℕ) → IsWalkOfPlan (names g) (topology_of_graph g) kind labels a b text
     → IsTextOfPlan g kind labels (Says (Between a b) (names g)) text
 walk_says g kind labels a b text is = record { plan = is.plan; built = is.built; said = is.walks }
+
+-- what tells the refusal of a plan is an answer
+pub told_refusal : (g : Adjacency) (kind : Kind) (labels : Labelling) (says : Plan → List ℕ → Type 0) (error : PlanError) (told : OpenError) → told ≡ open_error_of error
+    → RefusesPlan (topology_of_graph g) labels error → (stop : AnswerStop) → StopsAs stop (λ line. (told ≢ errors.NoMemory) × (line ≡ opening_line told))
+    → StopsAs stop (λ line. AnswersText g kind labels says (Refused line))
+told_refusal g kind labels says error told from refuses stop stops =
+    stops_more (λ (line : List ℕ). (told ≢ errors.NoMemory) × (line ≡ opening_line told)) (λ (line : List ℕ). AnswersText g kind labels says (Refused line))
+    (λ line is. (error, (λ same. is.0 (from ∙ ap open_error_of same)), refuses, is.1 ∙ ap opening_line from)) stop stops

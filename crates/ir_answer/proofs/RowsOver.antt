@@ -17,7 +17,8 @@ use Rattle.ir_trace.specs.Checked.{is_part_over, IsRowOver, AreRowsOver}
 use Rattle.ir_trace.proofs.ReadSpellings.{part_is}
 
 module _ (g : Adjacency) where
-  count : node_count (topology_of_graph g) ≡ length g
+  -- the network of a graph has its nodes
+  pub count : node_count (topology_of_graph g) ≡ length g
   count = simp length-map
 
   named_within : (w : Name) (u : ℕ) → node_named (names g) w ≡ Some u → u < node_count (topology_of_graph g)

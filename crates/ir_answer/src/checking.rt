@@ -4,7 +4,7 @@ ghost use Rattle.ir_model.specs.{OfGraph.topology_of_graph, Text.lines, Topology
 ghost use Rattle.ir_trace.specs.Checked.{AreInstalls, AreRowsOver};
 ghost use Rattle.ir_whole.specs.Whole.{run_of, HaveOwnIds, AreWhole, FindsWhole};
 ghost use Rattle.ir_cli.specs.Openings.{AnswersTopology};
-ghost use Rattle.ir_answer.specs.Checks.{IsCleanTrace, IsFound, AnswersRows, AnswersTraceAsked, AnswersChecked, run_with};
+ghost use Rattle.ir_answer.specs.{Checks.{IsCleanTrace, IsFound, AnswersCheck, AnswersRows, AnswersTraceAsked, AnswersChecked, run_with}, Plays.listing_in};
 ghost use Rattle.ir_answer.specs.Stops.{Gives};
 
 use crate::asking::{AnswerStop, Asked, opening_stop, read_asked};
@@ -102,6 +102,28 @@ fn answer_trace(
     }
 }
 
+/// The answer to what is asked for and to a trace: that of the trace by the script's installs, or what refuses the
+/// opening of its run.
+fn check_asked(
+    crew: &impl Crew,
+    alloc: Global,
+    words: &Words,
+    asked: &Asked<Step>,
+    trace: &[u8],
+) -> Result<RunReply, AnswerStop>
+    requires { asked.now.topology ≡ topology_of_graph asked.now.graph }
+    ensures { Gives (AnswersCheck asked.now.graph words.now (listing_in asked.now.script) trace.now asked.now.root)
+        result }
+{
+    let Ok(opening) = opening_of(alloc, words, &asked.topology, asked.root) else {
+        return Err(AnswerStop::NoMemory);
+    };
+    match installs_by(crew, alloc, &opening, asked.script.steps()) {
+        Ok(built) => answer_trace(crew, alloc, words, asked, built.as_slice(), trace),
+        Err(error) => Err(opening_stop(error)),
+    }
+}
+
 /// The answer of `check` to the texts of a topology, of a script and of a trace: `ok N` for a sound trace of N rows,
 /// or the first finding; where the words ask for it, the rows are judged beside the script too, behind that. Plans are
 /// made by a crew.
@@ -116,10 +138,8 @@ pub fn check(
     ensures { Gives (AnswersTopology words.now.format (lines topology.now)
         (AnswersChecked words.now (lines script.now) trace.now)) result }
 {
-    let asked = read_asked::<Step>(alloc, words, topology, script)?;
-    let opening = opening_of(alloc, words, &asked.topology, asked.root)?;
-    match installs_by(crew, alloc, &opening, asked.script.steps()) {
-        Ok(built) => answer_trace(crew, alloc, words, &asked, built.as_slice(), trace),
-        Err(error) => Err(opening_stop(error)),
+    match read_asked::<Step>(alloc, words, topology, script) {
+        Ok(asked) => check_asked(crew, alloc, words, &asked, trace),
+        Err(stop) => Err(stop),
     }
 }

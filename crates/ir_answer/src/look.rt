@@ -4,11 +4,12 @@ ghost use Rattle.ir_model.specs.{Graph.names, Topology.node_count};
 ghost use Rattle.ir_answer.specs.Asked.{look_sources};
 ghost use Rattle.ir_answer.specs.Looks.{from_name, to_name, circle_text, AnswersShow, AreAmong, AreTexts, Says, AnswerShows, order_in, IsNode, IsLabelling, AreShown, IsDrawn, IsShow, RefusesLabels, RefusesEnds, RefusesFigures, RefusesDrawn, RefusesShow, ShowsPlan, LookAnswers, IsFiguresBeside};
 ghost use Rattle.ir_answer.specs.Stops.{StopsAs, Gives};
+ghost use Rattle.ir_cli.specs.Answer.{Refused};
 ghost use Rattle.ir_model.specs.OfGraph.{topology_of_graph};
-ghost use Rattle.ir_plan.specs.Building.{MayLabel, labelling_of};
+ghost use Rattle.ir_plan.specs.Building.{FromRoot, IsPlanBy, MayLabel, labelling_of};
 ghost use Rattle.ir_show.specs.Plans.{NeedsNoTour};
 ghost use Rattle.ir_answer.specs.Plans.{AnswersText};
-ghost use Rattle.ir_cli.specs.{Reading.texts_of, Replies.answer_of, Words.FitsItsKind};
+ghost use Rattle.ir_cli.specs.{Reading.texts_of, Words.FitsItsKind};
 
 use crate::asking::{AnswerStop, opening_stop, read_graph, read_node};
 use ir_cli::{Notice, RunReply, Sub, Words, label_order};
@@ -25,7 +26,7 @@ use ir_tables::Topology;
 use std::alloc::{AllocError, Global};
 
 /// What of a plan is shown, with the numbers of the nodes that the words name.
-#[derive(Clone, Copy, Debug, PartialEq, Eq)]
+#[derive(Clone, Copy)]
 pub enum Show {
     Rows,
     /// The walk from a node to another.
@@ -46,6 +47,33 @@ pub enum Show {
     Order,
 }
 
+/// The plan of this kind, numbered depth first from this root, over the network of another plan: memory alone refuses
+/// it.
+fn second_plan(
+    crew: &impl LineCrew,
+    alloc: Global,
+    plan: &Plan,
+    second: (Kind, u16),
+    most: Option<usize>,
+) -> Result<Plan, AllocError>
+    requires root { second.1 < node_count plan.now.topology }
+    ensures { IfOk result (IsPlanBy plan.now.topology second.0 (FromRoot LabelOrder.DepthFirst second.1)) }
+{
+    plan.invariant();
+    let topology = plan.topology().try_clone(alloc)?;
+    let (kind, root) = second;
+    let labels = Labels::FromRoot(LabelOrder::DepthFirst, root);
+    match Plan::build_by(crew, alloc, topology, kind, labels, most) {
+        Ok(second) => Ok(second),
+        Err((error, _topology)) => {
+            if error != PlanError::NoMemory {
+                unreachable!()
+            }
+            Err(AllocError)
+        }
+    }
+}
+
 /// The figures of a plan, and the links that wait for each other in it and in a second one of this kind, numbered depth
 /// first from this root. The second is over the same network, so that memory alone refuses it.
 fn beside_text(
@@ -60,19 +88,8 @@ fn beside_text(
     requires root { second.1 < length graph.now }
     ensures { IfOk result (λ text. IsFiguresBeside second.0 second.1 (names graph.now) plan.now (string_bytes text)) }
 {
-    plan.invariant();
-    let topology = plan.topology().try_clone(alloc)?;
-    let (kind, root) = second;
-    let labels = Labels::FromRoot(LabelOrder::DepthFirst, root);
-    match Plan::build_by(crew, alloc, topology, kind, labels, most) {
-        Ok(second) => Ok(figures_text_beside(alloc, graph, plan, &second)?),
-        Err((error, _topology)) => {
-            if error != PlanError::NoMemory {
-                unreachable!()
-            }
-            Err(AllocError)
-        }
-    }
+    let second = second_plan(crew, alloc, plan, second, most)?;
+    figures_text_beside(alloc, graph, plan, &second)
 }
 
 /// The circle of labels with the intervals of a node: as SVG, or for Graphviz.
@@ -121,23 +138,34 @@ fn text_of(
     }
 }
 
-/// What is shown of a plan. The text of its rows is written as it is made, and each other text is made whole.
-fn reply_of(
+/// The answer that shows the rows of a plan, whose text is written as it is made.
+fn rows_reply(alloc: Global, graph: Graph, plan: Plan) -> Result<RunReply, AnswerStop>
+    requires { node_count plan.topology ≡ length graph }
+    ensures { Gives (AnswerShows Show.Rows (names graph) plan) result }
+{
+    let Ok(text) = PlanText::new(alloc, graph, plan) else {
+        return Err(AnswerStop::NoMemory);
+    };
+    Ok(RunReply::Plan(text))
+}
+
+/// The answer that shows something other than the rows of a plan, as a text that is made whole.
+fn text_reply(
     crew: &impl LineCrew,
     alloc: Global,
-    graph: Graph,
-    plan: Plan,
+    graph: &Graph,
+    plan: &Plan,
     show: Show,
     most: Option<usize>,
-) -> Result<RunReply, AllocError>
-    requires nodes { node_count plan.topology ≡ length graph }
-    requires ends { AreAmong (length graph) show }
-    ensures { IfOk result (λ reply. AnswerShows show (names graph) plan (answer_of reply)) }
+) -> Result<RunReply, AnswerStop>
+    requires nodes { node_count plan.now.topology ≡ length graph.now }
+    requires ends { AreAmong (length graph.now) show }
+    requires no_rows { show ≢ Show.Rows }
+    ensures { Gives (AnswerShows show (names graph.now) plan.now) result }
 {
-    if show == Show::Rows {
-        return Ok(RunReply::Plan(PlanText::new(alloc, graph, plan)?));
-    }
-    let text = text_of(crew, alloc, &graph, &plan, show, most)?;
+    let Ok(text) = text_of(crew, alloc, graph, plan, show, most) else {
+        return Err(AnswerStop::NoMemory);
+    };
     Ok(RunReply::Ran(text, Vec::new(alloc)))
 }
 
@@ -268,27 +296,94 @@ fn ends_alone(show: Show, kind: Kind, nodes: usize, labels: &Labels) -> Option<(
 fn show_walk(
     alloc: Global,
     graph: &Graph,
-    topology: &Topology,
     kind: Kind,
     labels: Labels,
     ends: (u16, u16),
 ) -> Result<RunReply, AnswerStop>
     requires kind { kind ≢ Kind.Tree }
-    requires topology { topology.now ≡ topology_of_graph graph.now }
     requires ends { 0 < length graph.now → (ends.0 < length graph.now) × (ends.1 < length graph.now) }
-    requires labels { MayLabel topology.now kind (labelling_of labels) }
-    requires alone { NeedsNoTour (node_count topology.now) (labelling_of labels) }
+    requires labels { MayLabel (topology_of_graph graph.now) kind (labelling_of labels) }
+    requires alone { NeedsNoTour (length graph.now) (labelling_of labels) }
     ensures { Gives (AnswersText graph.now kind (labelling_of labels)
         (Says (Show.Between ends.0 ends.1) (names graph.now))) result }
 {
-    match walk_text_alone(alloc, graph, topology, kind, labels, ends) {
+    let Ok(topology) = Topology::of(alloc, graph) else {
+        return Err(AnswerStop::NoMemory);
+    };
+    match walk_text_alone(alloc, graph, &topology, kind, labels, ends) {
         Ok(text) => Ok(RunReply::Ran(text, Vec::new(alloc))),
         Err(error) => Err(opening_stop(OpenError::from(error))),
     }
 }
 
-/// The answer that shows a plan, or tells what refuses it. A walk is told without its plan where that need not be
-/// built.
+/// The plan over the network of a graph by these labels, of the kind that the words name, or what refuses it.
+fn plan_of(
+    crew: &impl LineCrew,
+    alloc: Global,
+    words: &Words,
+    graph: &Graph,
+    labels: Labels,
+) -> Result<Plan, AnswerStop>
+    requires { MayLabel (topology_of_graph graph.now) words.now.kind (labelling_of labels) }
+    ensures plan { IfOk result (IsPlanBy (topology_of_graph graph.now) words.now.kind (labelling_of labels)) }
+    ensures stop { IfErr result (λ s. StopsAs s (λ line.
+        AnswersText graph.now words.now.kind (labelling_of labels) (λ plan text. ⊥) (Refused line))) }
+{
+    let Ok(topology) = Topology::of(alloc, graph) else {
+        return Err(AnswerStop::NoMemory);
+    };
+    match Plan::build_by(crew, alloc, topology, words.kind, labels, words.threads) {
+        Ok(plan) => Ok(plan),
+        Err((error, _topology)) => Err(opening_stop(OpenError::from(error))),
+    }
+}
+
+/// The answer that shows the rows of a plan, or tells what refuses it.
+fn show_rows(
+    crew: &impl LineCrew,
+    alloc: Global,
+    words: &Words,
+    graph: Graph,
+    labels: Labels,
+) -> Result<RunReply, AnswerStop>
+    requires { MayLabel (topology_of_graph graph) words.now.kind (labelling_of labels) }
+    ensures { Gives (AnswersShow words.now graph (labelling_of labels) Show.Rows) result }
+{
+    match plan_of(crew, alloc, words, &graph, labels) {
+        Ok(plan) => rows_reply(alloc, graph, plan),
+        Err(stop) => Err(stop),
+    }
+}
+
+/// The answer that shows something other than the rows of a plan, or tells what refuses it. A walk is told without its
+/// plan where that need not be built.
+fn show_text(
+    crew: &impl LineCrew,
+    alloc: Global,
+    words: &Words,
+    graph: &Graph,
+    labels: Labels,
+    show: Show,
+) -> Result<RunReply, AnswerStop>
+    requires labels { MayLabel (topology_of_graph graph.now) words.now.kind (labelling_of labels) }
+    requires ends { 0 < length graph.now → AreAmong (length graph.now) show }
+    requires no_rows { show ≢ Show.Rows }
+    ensures { Gives (AnswersShow words.now graph.now (labelling_of labels) show) result }
+{
+    if let Some(ends) = ends_alone(show, words.kind, graph.number_of_nodes(), &labels) {
+        return show_walk(alloc, graph, words.kind, labels, ends);
+    }
+    match plan_of(crew, alloc, words, graph, labels) {
+        Ok(plan) => {
+            plan.invariant();
+            text_reply(crew, alloc, graph, &plan, show, words.threads)
+        }
+        Err(stop) => Err(stop),
+    }
+}
+
+/// The answer that shows a plan, or tells what refuses it. The text of its rows is written as it is made, and each
+/// other text is made whole.
 fn show_plan(
     crew: &impl LineCrew,
     alloc: Global,
@@ -301,16 +396,9 @@ fn show_plan(
     requires ends { 0 < length graph → AreAmong (length graph) show }
     ensures { Gives (AnswersShow words.now graph (labelling_of labels) show) result }
 {
-    let topology = Topology::of(alloc, &graph)?;
-    if let Some(ends) = ends_alone(show, words.kind, topology.nodes(), &labels) {
-        return show_walk(alloc, &graph, &topology, words.kind, labels, ends);
-    }
-    match Plan::build_by(crew, alloc, topology, words.kind, labels, words.threads) {
-        Ok(plan) => {
-            plan.invariant();
-            Ok(reply_of(crew, alloc, graph, plan, show, words.threads)?)
-        }
-        Err((error, _topology)) => Err(opening_stop(OpenError::from(error))),
+    match show {
+        Show::Rows => show_rows(crew, alloc, words, graph, labels),
+        _ => show_text(crew, alloc, words, &graph, labels, show),
     }
 }
 

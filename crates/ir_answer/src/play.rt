@@ -3,9 +3,9 @@ ghost use Rattle.std.specs.{Prelude.{◌≡◌, ◌++◌, false, IfOk, OnOk, str
 ghost use Rattle.ir_model.specs.{Graph.names, OfGraph.topology_of_graph, Text.lines};
 ghost use Rattle.ir_trace.specs.Written.{HaveSegments};
 ghost use Rattle.ir_cli.specs.{Lines.{reply_line, steps_text}, Openings.{AnswersTopology}};
-ghost use Rattle.ir_answer.specs.{Plays.{wants_memory, refused_text, run_text, AnswersScript}, Stops.Gives};
+ghost use Rattle.ir_answer.specs.{Plays.{wants_memory, refused_text, run_text, listing_in, AnswersRun, AnswersScript}, Stops.Gives};
 
-use crate::asking::{AnswerStop, opening_stop, read_asked};
+use crate::asking::{AnswerStop, Asked, opening_stop, read_asked};
 use ir_cli::{RunReply, Words, opening_of};
 use ir_core::{Played, Record, Refused, Reply, Step, play_by};
 use ir_graph::Graph;
@@ -89,14 +89,40 @@ fn run_texts(
     ensures told { IfOk result (λ texts. steps_text texts.1.items ≡ refused_text lines.now played.replies.items) }
 {
     let Played { world, replies } = played;
+    world.invariant();
+    let records = world.into_records();
     if wants_memory(replies.as_slice()) {
         return Err(AllocError);
     }
-    world.invariant();
-    let records = world.into_records();
     let trace = run_text(alloc, graph, topology, restamps, records.as_slice())?;
     let refused = refused_steps(alloc, lines, replies.as_slice())?;
     Ok((trace, refused))
+}
+
+/// The answer to what is asked for: the run of the script, or what refuses its opening.
+fn play_asked(
+    crew: &impl Crew,
+    alloc: Global,
+    words: &Words,
+    asked: &Asked<Step>,
+) -> Result<RunReply, AnswerStop>
+    requires { asked.now.topology ≡ topology_of_graph asked.now.graph }
+    ensures { Gives (AnswersRun asked.now.graph words.now (listing_in asked.now.script) asked.now.root) result }
+{
+    let topology = &asked.topology;
+    let Ok(opening) = opening_of(alloc, words, topology, asked.root) else {
+        return Err(AnswerStop::NoMemory);
+    };
+    match play_by(crew, alloc, opening, asked.script.steps()) {
+        Ok(played) => {
+            let lines = asked.script.lines();
+            match run_texts(alloc, &asked.graph, topology, words.restamps, lines, played) {
+                Ok((trace, refused)) => Ok(RunReply::Ran(trace, refused)),
+                Err(_) => Err(AnswerStop::NoMemory),
+            }
+        }
+        Err(error) => Err(opening_stop(error)),
+    }
 }
 
 /// The answer of `sim` to the texts of a topology and of a script: the trace of the packets, and a line for each step
@@ -111,20 +137,8 @@ pub fn simulate(
     ensures { Gives (AnswersTopology words.now.format (lines topology.now)
         (AnswersScript words.now (lines script.now))) result }
 {
-    let asked = read_asked::<Step>(alloc, words, topology, script)?;
-    let opening = opening_of(alloc, words, &asked.topology, asked.root)?;
-    match play_by(crew, alloc, opening, asked.script.steps()) {
-        Ok(played) => {
-            let (trace, refused) = run_texts(
-                alloc,
-                &asked.graph,
-                &asked.topology,
-                words.restamps,
-                asked.script.lines(),
-                played,
-            )?;
-            Ok(RunReply::Ran(trace, refused))
-        }
-        Err(error) => Err(opening_stop(error)),
+    match read_asked::<Step>(alloc, words, topology, script) {
+        Ok(asked) => play_asked(crew, alloc, words, &asked),
+        Err(stop) => Err(stop),
     }
 }

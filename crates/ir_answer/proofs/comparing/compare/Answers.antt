@@ -1,35 +1,28 @@
-use Rattle.std.proofs.Common.{◌≡◌, ◌≢◌, ◌∙◌, ℕ, List, ap, subst}
-use Rattle.ir_model.specs.OfGraph.{topology_of_graph}
-use Rattle.ir_model.specs.Topology.{Topology}
-use Rattle.ir_plan.specs.declared.error.PlanError.{PlanError}
-use Rattle.ir_plan.specs.declared.error.PlanError.TheVariants as plans
-use Rattle.ir_plan.specs.declared.tour.LabelOrder.TheVariants.{DepthFirst}
-use Rattle.ir_plan.specs.Building.{FromRoot, RefusesPlan}
-use Rattle.ir_core.specs.declared.event.OpenError.{OpenError}
-use Rattle.ir_core.specs.declared.event.OpenError.TheVariants as errors
-use Rattle.ir_core.specs.Codes.{open_error_of}
+use Rattle.std.proofs.Common.{◌≡◌, ℕ, List, Some}
+use Rattle.ir_model.specs.declared.Fault.{Fault}
+use Rattle.ir_model.specs.Text.{lines}
 use Rattle.ir_cli.specs.Answer.{Refused}
-use Rattle.ir_cli.specs.Lines.{opening_line}
+use Rattle.ir_cli.specs.Lines.{topology_line}
+use Rattle.ir_cli.specs.Openings.{topology_fault, root_name, AnswersRoot}
 use Rattle.ir_cli.specs.Reading.{texts_of}
-use Rattle.ir_answer.specs.Compares.{CompareAnswers}
-use Rattle.ir_answer.proofs.Answering.{stops_more}
-use Rattle.ir_answer.proofs.Comparisons.{compared}
+use Rattle.ir_answer.specs.Compares.{AnswersComparison, CompareAnswers}
+use Rattle.ir_answer.proofs.Answering.{stops_more, gives_more}
+use Rattle.ir_answer.proofs.Comparisons.{by_graph, faulty}
 use Rattle.ir_answer.proofs.comparing.compare.Goals as goal
 
-pub returns : goal.returns
-returns g c =
+pub returns-in-Ok : goal.returns-in-Ok
+returns-in-Ok g c =
     let w = c.args.words.now in
     let texts : List (List ℕ) = texts_of c.args.texts.now in
-    let graph = c.in_ok-graph.graph in
-    let root = c.in_ok-root.root in
-    let error : PlanError = c.in-Err.error in
-    let told : OpenError = c.from.result in
-    let from : told ≡ open_error_of error = c.from.ensures in
-    let refuses : error ≢ plans.NoMemory → RefusesPlan (topology_of_graph graph) (FromRoot DepthFirst root) error =
-    subst (λ (t : Topology). error ≢ plans.NoMemory → RefusesPlan t (FromRoot DepthFirst root) error) c.in_ok-topology.ensures c.in-Err.ensures.refused in
-    stops_more (λ (line : List ℕ). (told ≢ errors.NoMemory) × (line ≡ opening_line told)) (λ (line : List ℕ). CompareAnswers w texts (Refused line))
-    (λ line is.
-    let other : error ≢ plans.NoMemory = λ same. is.0 (from ∙ ap open_error_of same) in
-    compared w texts c.one_text-text.result.now c.one_text-text.ensures graph c.in_ok-graph.ensures.sound c.in_ok-graph.ensures.graph root c.in_ok-root.ensures.number (Refused line)
-    (error, other, refuses other, is.1 ∙ ap opening_line from))
-    c.opening_stop.result c.opening_stop.ensures
+    let graph = c.in-Ok.graph in
+    gives_more (AnswersRoot graph (root_name w) (AnswersComparison graph)) (CompareAnswers w texts)
+    (by_graph w texts c.one_text-text.result.now c.one_text-text.ensures graph c.in-Ok.ensures.sound c.in-Ok.ensures.graph)
+    c.compare_graph.result c.compare_graph.ensures
+
+pub returns-in-Err : goal.returns-in-Err
+returns-in-Err g c =
+    let w = c.args.words.now in
+    let texts : List (List ℕ) = texts_of c.args.texts.now in
+    let topology = c.one_text-text.result.now in
+    stops_more (λ (line : List ℕ). (f : ℕ × Fault) × (topology_fault w.format (lines topology) ≡ Some f) × (line ≡ topology_line f)) (λ (line : List ℕ). CompareAnswers w texts (Refused line))
+    (faulty w texts topology c.one_text-text.ensures) c.in-Err.stop c.in-Err.ensures.stop
