@@ -19,13 +19,16 @@ returns-clause-answer g c = (
       (λ (t : Receipt). (published c.change.new.self ≡ published c.args.self.now.writer ++ Changed c.args.change ∷ []) × (told t ≡ published c.change.new.self))
       (λ (t : Receipt). receipt_board t ≡ writer_board c.args.self.now.writer) _ _ _
       c.change.ensures.succeeds c.map_err.ensures.cases c.change.ensures.change c.change.ensures.receipt
-      (λ t made at. (refl, record {
-        published_is = made.0;
-        told_is = made.1;
-        receipt = at;
-        board = c.change.ensures.board;
-        opening = refl;
-        registry = refl;
-        labels = refl;
-      })),
+      (λ t made at. (
+        refl,
+        record {
+          published_is = made.0;
+          told_is = made.1;
+          receipt = at;
+          board = c.change.ensures.board;
+          opening = refl;
+          registry = refl;
+          labels = refl;
+        },
+      )),
 )

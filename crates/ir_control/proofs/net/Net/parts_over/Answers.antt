@@ -1,9 +1,6 @@
-use Rattle.std.specs.Prelude.{◌≡◌, ◌≤◌, ℕ, List, [], All, length}
-use Rattle.ir_links.specs.Ends.{Sender}
-use Rattle.ir_worker.specs.declared.parcel.Place.{Place}
-use Rattle.ir_worker.specs.Seen.{Parcel}
+use Rattle.std.specs.Prelude.{◌≡◌, ◌≤◌, List, [], length}
 use Rattle.ir_epochs.specs.declared.handles.BoardReader.{BoardReader}
-use Rattle.ir_epochs.specs.Handles.{published, reader_board, writer_board}
+use Rattle.ir_epochs.specs.Handles.{reader_board, writer_board}
 use Rattle.std.proofs.lemmas.Option.{get_or_from_slice_get, slice_get_within}
 use Rattle.std.proofs.Common.{arith, refl, sym, ap, ◌∙◌, subst}
 use Rattle.std.specs.Arc.{arc_value}
