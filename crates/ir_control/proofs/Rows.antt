@@ -1,9 +1,9 @@
 -- Rows of all ports.
-use Rattle.std.specs.Prelude.{◌≡◌, ℕ, zero, suc, ◌+◌, ◌-◌, ◌<◌, ◌≤◌, Bool, true, false, ltb, Some, List, [], ◌∷◌, ◌++◌, length, slice_get, slice_index, slice_index_or, sum_by, take}
+use Rattle.std.specs.Prelude.{◌≡◌, ℕ, zero, suc, ◌+◌, ◌-◌, ◌<◌, ◌≤◌, Bool, true, false, eqb, ltb, Some, List, [], ◌∷◌, ◌++◌, length, slice_get, slice_index, slice_index_or, sum_by, take}
 use Rattle.std.proofs.Common.{refl, arith, sym, ap, ◌∙◌, subst, inl, inr, get_or}
 use Rattle.std.proofs.lemmas.Option.{slice_get_within, slice_get-get_or, same_Some, none-some}
-use Rattle.std.proofs.lemmas.Bool.{ltb-true, ltb-false}
-use Rattle.std.proofs.lemmas.List.{length_push}
+use Rattle.std.proofs.lemmas.Bool.{eqb-true, eqb-false, ltb-true, ltb-false}
+use Rattle.std.proofs.lemmas.List.{get_or_append_left, get_or_push, length_push}
 use Rattle.std.proofs.lemmas.List.Sums.{sum_by-cons, sum_by_more, sum_by-take-le}
 use Rattle.ir_model.specs.declared.Hop.{Hop}
 use Rattle.ir_model.specs.Topology.{Topology, node_count, port_at, port_back, ports_of, IsTopology}
@@ -14,6 +14,17 @@ use Rattle.ir_links.specs.Ends.{Channel}
 use Rattle.ir_epochs.specs.declared.registry.Stamp.{Stamp}
 use Rattle.ir_worker.specs.declared.parcel.Place.{Place}
 use Rattle.ir_control.specs.Wired.{IsNetChannel, AreWiredWays}
+
+-- each place has its number in the row with one number more
+pub place_more : (f : ℕ → ℕ) (xs after : List ℕ) (u x : ℕ) → length xs ≡ u → x ≡ f u → after ≡ xs ++ x ∷ [] → ((v : ℕ) → v < u → slice_index xs v ≡ f v)
+    → (v : ℕ) → v < u + 1 → slice_index after v ≡ f v
+place_more f xs after u x len here e had v lt = ap (λ (ys : List ℕ). slice_index ys v) e ∙ go (eqb v u) refl where
+  go : (b : Bool) → eqb v u ≡ b → slice_index (xs ++ x ∷ []) v ≡ f v
+  go true same = get_or_push xs x 0 v (len ∙ sym (eqb-true v u same)) ∙ here ∙ ap f (sym (eqb-true v u same))
+  go false other =
+      let apart = eqb-false v u other in
+      let less : v < u = omega (arith, lt, apart) in
+      get_or_append_left xs (x ∷ []) 0 v (omega (arith, len, less)) ∙ had v less
 
 pub offset_zero : (net : Topology) → offset net 0 ≡ 0
 unfolding offset

@@ -100,6 +100,42 @@ fn entries_of(alloc: Global, nodes: usize) -> Result<Vec<usize>, AllocError>
     Ok(entries)
 }
 
+// The channels of a net, and how they are wired.
+struct Wires {
+    inboxes: Vec<Channel<Parcel>>,
+    entries: Vec<usize>,
+    ways: Vec<Channel<Parcel>>,
+    peers: Vec<usize>,
+    offsets: Vec<usize>,
+}
+
+// The channels of a net over a network.
+fn wires_of(
+    alloc: Global,
+    topology: &Topology,
+    terms: &ChannelTerms<'_>,
+) -> Result<Wires, AllocError>
+    requires { 0 < terms.now.capacity }
+    ensures inboxes { IfOk result (λ wires. AreInboxes topology.now terms.now.opening.now terms.now.restamps
+        terms.now.capacity wires.inboxes.items) }
+    ensures entries { IfOk result (λ wires. AreEntries (node_count topology.now) wires.entries.items) }
+    ensures ways { IfOk result (λ wires. AreWiredWays topology.now terms.now.opening.now terms.now.restamps
+        terms.now.capacity wires.ways.items wires.peers.items) }
+    ensures offsets { IfOk result (λ wires. AreOffsets topology.now wires.offsets.items) }
+{
+    let entries = entries_of(alloc, topology.nodes())?;
+    let (ways, offsets) = ways_of(alloc, topology, terms)?;
+    let peers = peers_of(alloc, topology, offsets.as_slice())?;
+    let inboxes = inboxes_of(alloc, topology, terms)?;
+    Ok(Wires {
+        inboxes,
+        entries,
+        ways,
+        peers,
+        offsets,
+    })
+}
+
 impl Net {
     ghost use Rattle.ir_control.specs.Nets.{IsNetFor};
 
@@ -150,22 +186,20 @@ impl Net {
             restamps,
             ..
         } = opening;
-        let Ok(registry) = Arc::new(alloc, registry) else {
-            return Err(AllocError);
-        };
-        let nodes = topology.nodes();
         let terms = ChannelTerms {
             opening: &first,
             restamps,
             capacity,
         };
-        let inboxes = inboxes_of(alloc, &topology, &terms)?;
-        let entries = entries_of(alloc, nodes)?;
-        let (ways, offsets) = ways_of(alloc, &topology, &terms)?;
-        let peers = peers_of(alloc, &topology, offsets.as_slice())?;
-        let Ok(settled) = Arc::new(alloc, AtomicU32::new(0)) else {
-            return Err(AllocError);
-        };
+        let registry = Arc::new(alloc, registry)?;
+        let settled = Arc::new(alloc, AtomicU32::new(0))?;
+        let Wires {
+            inboxes,
+            entries,
+            ways,
+            peers,
+            offsets,
+        } = wires_of(alloc, &topology, &terms)?;
         Ok(Net {
             alloc,
             registry,

@@ -1,9 +1,30 @@
-use Rattle.std.proofs.Common.{ap, ◌∙◌, subst, length, get_or}
-use Rattle.std.specs.Prelude.{◌<◌, List}
-use Rattle.ir_links.specs.Ends.{Channel}
+use Rattle.std.proofs.Common.{arith, refl, ap, sym, ◌∙◌, subst, length, get_or}
+use Rattle.std.specs.Prelude.{◌≡◌, ◌<◌, ◌≤◌, ℕ, zero, suc, List, [], ◌∷◌, Option, Some, take}
+use Rattle.std.proofs.lemmas.Option.{slice_get_within}
+use Rattle.ir_links.specs.Ends.{Channel, Sender, Taker}
 use Rattle.ir_worker.specs.declared.parcel.Place.{Place}
+use Rattle.ir_control.specs.Fresh.{AreFreshOuts, AreFreshIns}
 use Rattle.ir_control.proofs.Handed.{outs_more, ins_more}
 use Rattle.ir_control.proofs.channels.all_ends.Goals as goal
+
+-- no slots are those of no channels
+outs_none : {P T : Type 0} (slots : List (Option (Sender P T))) → slots ≡ [] → AreFreshOuts {P = P} {T = T} [] slots
+outs_none slots e = subst (λ (xs : List (Option (Sender _ _))). AreFreshOuts [] xs) (sym e) (record {
+  count = refl;
+  each = λ k s got. absurd (let within = slice_get_within [] k (Some s) got in omega (arith, within));
+})
+
+ins_none : {P T : Type 0} (slots : List (Option (Taker P T))) → slots ≡ [] → AreFreshIns {P = P} {T = T} [] slots
+ins_none slots e = subst (λ (xs : List (Option (Taker _ _))). AreFreshIns [] xs) (sym e) (record {
+  count = refl;
+  each = λ k t got. absurd (let within = slice_get_within [] k (Some t) got in omega (arith, within));
+})
+
+take_all : {A : Type 0} (xs : List A) (n : ℕ) → length xs ≤ n → take n xs ≡ xs
+take_all [] zero h = refl
+take_all [] (suc n) h = refl
+take_all (x ∷ xs) zero h = absurd (omega (arith, h))
+take_all (x ∷ xs) (suc n) h = ap (λ ys. x ∷ ys) (take_all xs n (omega (arith, h)))
 
 pub loop-channel-preserved : goal.loop-channel-preserved
 loop-channel-preserved c =
@@ -12,4 +33,17 @@ loop-channel-preserved c =
     let read = c.channel-item.is ∙ ap (λ (xs : List (Channel Place)). get_or xs c.loop-channel.channel-index c.channel-item.result) c.deref-channel-items.ensures.value in (
       outs_more c.args.channels.now.items c.loop-channel.channel-index c.channel-item.result c.loop-channel.senders.items c.push.new.self.items c.in-Some.sender c.loop-channel.invariant.0 lt read ends.0 c.in_ok-push.ensures.items,
       ins_more c.args.channels.now.items c.loop-channel.channel-index c.channel-item.result c.loop-channel.takers.items c.push-in-loop-channel.new.self.items c.in-Some.taker c.loop-channel.invariant.1 lt read ends.1 c.in_ok-push-2.ensures.items,
+    )
+
+pub loop-channel-init : goal.loop-channel-init
+loop-channel-init c =
+    (outs_none c.in_ok-senders.senders.items c.in_ok-senders.ensures.items, ins_none c.in_ok-takers.takers.items c.in_ok-takers.ensures.items)
+
+pub returns : goal.returns
+returns c =
+    let least = c.loop-channel-test.false in
+    let all = ap (λ (xs : List (Channel Place)). take c.loop-channel.channel-index xs) c.deref-channel-items.ensures.value in
+    let at : take c.loop-channel.channel-index c.args.channels.now.items ≡ c.args.channels.now.items = sym all ∙ take_all c.deref-channel-items.result.now c.loop-channel.channel-index least ∙ c.deref-channel-items.ensures.value in (
+      subst (λ (xs : List (Channel Place)). AreFreshOuts xs c.loop-channel.senders.items) at c.loop-channel.invariant.0,
+      subst (λ (xs : List (Channel Place)). AreFreshIns xs c.loop-channel.takers.items) at c.loop-channel.invariant.1,
     )

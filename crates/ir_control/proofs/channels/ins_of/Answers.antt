@@ -1,7 +1,26 @@
-use Rattle.std.specs.Prelude.{◌+◌, ◌<◌, ℕ, length, slice_index}
-use Rattle.std.proofs.Common.{arith, refl}
+use Rattle.std.specs.Prelude.{◌≡◌, ◌+◌, ◌<◌, ℕ, List, [], length, slice_index}
+use Rattle.std.proofs.Common.{arith, refl, sym, subst}
+use Rattle.std.proofs.lemmas.Option.{slice_get_within}
+use Rattle.ir_links.specs.Ends.{Channel, Taker}
+use Rattle.ir_control.specs.Fresh.{AreInsAt}
 use Rattle.ir_control.proofs.Handed.{ins_taken, ins_at_more}
 use Rattle.ir_control.proofs.channels.ins_of.Goals as goal
+
+-- no takers are those of no channels
+ins_at_none : {P T : Type 0} (lines : List (Channel P)) (peers : List ℕ) (first : ℕ) (ins : List (Taker P T)) → ins ≡ [] → AreInsAt lines peers first 0 ins
+ins_at_none lines peers first ins e = subst (λ (ins : List (Taker _ _)). AreInsAt lines peers first 0 ins) (sym e) (record {
+  count = refl;
+  each = λ p t got. absurd (let within = slice_get_within [] p t got in omega (arith, within));
+})
+
+pub loop-p-init : goal.loop-p-init
+loop-p-init c = (c.requires.fresh, ins_at_none c.args.channels.now.items c.args.peers.now c.args.first c.in_ok-ins.ins.items c.in_ok-ins.ensures.items)
+
+pub returns-clause-ins : goal.returns-clause-ins
+returns-clause-ins c =
+    let test = c.loop-p-test.false in
+    let end = c.loop-p.auto.p-end in
+    subst (λ (n : ℕ). AreInsAt c.args.channels.now.items c.args.peers.now c.args.first n c.loop-p.ins.items) (omega (arith, test, end)) c.loop-p.invariant.1
 
 pub loop-p-preserved : goal.loop-p-preserved
 loop-p-preserved c =

@@ -1,7 +1,40 @@
-use Rattle.std.specs.Prelude.{◌+◌, ◌<◌, length}
-use Rattle.std.proofs.Common.{arith, refl}
+use Rattle.std.specs.Prelude.{◌≡◌, ◌+◌, ◌<◌, ℕ, List, [], length}
+use Rattle.std.proofs.Common.{arith, refl, sym, subst}
+use Rattle.std.proofs.lemmas.Option.{slice_get_within}
+use Rattle.ir_links.specs.Ends.{Channel, Sender}
+use Rattle.ir_control.specs.Fresh.{AreOutsAt}
 use Rattle.ir_control.proofs.Handed.{outs_taken, outs_at_more}
 use Rattle.ir_control.proofs.channels.outs_of.Goals as goal
+
+-- no senders are those of no channels
+outs_at_none : {P T : Type 0} (lines : List (Channel P)) (first : ℕ) (outs : List (Sender P T)) → outs ≡ [] → AreOutsAt lines first 0 outs
+outs_at_none lines first outs e = subst (λ (outs : List (Sender _ _)). AreOutsAt lines first 0 outs) (sym e) (record {
+  count = refl;
+  each = λ p s got. absurd (let within = slice_get_within [] p s got in omega (arith, within));
+})
+
+pub loop-p-init : goal.loop-p-init
+loop-p-init c = (c.requires.fresh, outs_at_none c.args.channels.now.items c.args.first c.in_ok-outs.outs.items c.in_ok-outs.ensures.items)
+
+pub overflow_add-first : goal.overflow_add-first
+overflow_add-first c =
+    let most = c.requires.within in
+    let test = c.loop-p-test.true in
+    let fits = c.args.channels.now.ok.0 in
+    omega (arith, most, test, fits)
+
+pub index_mut-requires : goal.index_mut-requires
+index_mut-requires c =
+    let n = c.loop-p.invariant.0.count in
+    let most = c.requires.within in
+    let test = c.loop-p-test.true in
+    omega (arith, n, most, test)
+
+pub returns-clause-outs : goal.returns-clause-outs
+returns-clause-outs c =
+    let test = c.loop-p-test.false in
+    let end = c.loop-p.auto.p-end in
+    subst (λ (n : ℕ). AreOutsAt c.args.channels.now.items c.args.first n c.loop-p.outs.items) (omega (arith, test, end)) c.loop-p.invariant.1
 
 pub loop-p-preserved : goal.loop-p-preserved
 loop-p-preserved c =

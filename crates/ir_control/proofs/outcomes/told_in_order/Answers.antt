@@ -1,5 +1,5 @@
 use Rattle.std.specs.Prelude.{◌≡◌, ◌<◌, ◌++◌, ◌∷◌, [], Some, None, length, map, slice_index_or}
-use Rattle.std.proofs.Common.{arith, refl, sym, ◌∙◌}
+use Rattle.std.proofs.Common.{arith, refl, ap, sym, ◌∙◌}
 use Rattle.std.proofs.lemmas.Option.{none-some}
 use Rattle.std.proofs.lemmas.List.{get_or_default, length_push, length-set, length-map, get_or-set_other}
 use Rattle.ir_worker.specs.declared.parcel.Outcome.{Outcome}
@@ -60,3 +60,45 @@ returns c =
     let len = was.1 in
     let m = length-map was.0 (λ (o : Outcome). Some o) in
     (was.0, sym (same_list (map (λ (o : Outcome). Some o) was.0) c.args.slots.items None (omega (arith, m, len, at)) (λ k lt. was.2 k (omega (arith, lt, m, len)))), was.3, was.4, was.5)
+
+pub push_reserved-requires : goal.push_reserved-requires
+push_reserved-requires c =
+    let was = c.loop-i.invariant.told in
+    let len = was.1 in
+    let told = ap length was.3 in
+    let m = length-map was.0 (λ (o : Outcome). o.packet) in
+    let room = c.loop-i.invariant.room.0 in
+    let kept = c.loop-i.report.records.ok in
+    let n = c.loop-i.invariant.count in
+    let e = c.len-i-end.ensures in
+    let ok = c.args.slots.ok in
+    let test = c.loop-i-test.true in
+    omega (arith, len, told, m, room, kept, n, e, ok, test)
+
+pub push_reserved-requires-in-loop-i : goal.push_reserved-requires-in-loop-i
+push_reserved-requires-in-loop-i c =
+    let was = c.loop-i.invariant.told in
+    let len = was.1 in
+    let told = ap length was.4 in
+    let m = length-map was.0 (λ (o : Outcome). o.stamp) in
+    let room = c.loop-i.invariant.room.1 in
+    let kept = c.loop-i.report.stamps.ok in
+    let n = c.loop-i.invariant.count in
+    let e = c.len-i-end.ensures in
+    let ok = c.args.slots.ok in
+    let test = c.loop-i-test.true in
+    omega (arith, len, told, m, room, kept, n, e, ok, test)
+
+pub push_reserved-requires-in-loop-i-2 : goal.push_reserved-requires-in-loop-i-2
+push_reserved-requires-in-loop-i-2 c =
+    let was = c.loop-i.invariant.told in
+    let len = was.1 in
+    let told = ap length was.5 in
+    let m = length-map was.0 (λ (o : Outcome). o.later) in
+    let room = c.loop-i.invariant.room.2 in
+    let kept = c.loop-i.report.later.ok in
+    let n = c.loop-i.invariant.count in
+    let e = c.len-i-end.ensures in
+    let ok = c.args.slots.ok in
+    let test = c.loop-i-test.true in
+    omega (arith, len, told, m, room, kept, n, e, ok, test)

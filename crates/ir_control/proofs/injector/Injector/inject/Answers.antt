@@ -1,5 +1,6 @@
-use Rattle.std.specs.Prelude.{◌≡◌, ◌∷◌, [], ◌++◌, List, ℕ, length}
-use Rattle.std.proofs.Common.{subst, sym, ap, ◌∙◌, arith}
+use Rattle.std.specs.Prelude.{◌≡◌, ◌<◌, ◌≤◌, ◌∷◌, [], ◌++◌, List, ℕ, Option, Some, length}
+use Rattle.std.proofs.Common.{refl, subst, sym, ap, ◌∙◌, inl, arith}
+use Rattle.std.proofs.lemmas.Bool.Decides.{nat_tests}
 use Rattle.ir_epochs.specs.declared.registry.Stamp.{Stamp}
 use Rattle.std.proofs.lemmas.List.{length-map}
 use Rattle.ir_model.specs.Topology.{node_count}
@@ -7,14 +8,20 @@ use Rattle.ir_epochs.specs.Stamps.{knows}
 use Rattle.ir_epochs.proofs.Overs.{over_nodes}
 use Rattle.ir_core.specs.Record.{hop_room}
 use Rattle.ir_core.specs.Entry.{fresh}
+use Rattle.ir_core.specs.declared.event.Refused.{Refused}
+use Rattle.ir_core.specs.declared.event.Refused.TheVariants.{NoNode, TooManyPackets, NoMemory}
+use Rattle.ir_core.specs.Refusals.{inject_refused}
 use Rattle.ir_worker.specs.Seen.{Parcel}
 use Rattle.ir_worker.specs.Account.{head_of, times_sent, weigh_sent, restamps_with}
 use Rattle.ir_control.specs.declared.injector.Accepted.{Accepted}
 use Rattle.ir_control.specs.Heads.{head_at, times_injected, AreNumbered}
+use Rattle.ir_control.specs.declared.injector.Injector.{Injector}
 use Rattle.ir_control.specs.Outs.{SentTo}
+use Rattle.ir_control.specs.Refusals.{IsInjectRefusedAs}
 use Rattle.ir_control.proofs.Nets.{goes_in, parcel_of_net, place_of_end}
 use Rattle.ir_control.proofs.Injecting.{numbered_more, account_more, fresh_more, not_refused}
 use Rattle.ir_control.proofs.injector.Injector.inject.Goals as goal
+use Rattle.ir_control.proofs.injector.Injector.inject.Goals.{then-source-nodes-via-then-source-nodes, then-source-nodes-via-else-source-nodes+then-dest-nodes}
 
 abbrev entry : ℕ → ℕ → ℕ → ℕ → Accepted
 entry id epoch source dest = record { id = id; epoch = epoch; source = source; dest = dest }
@@ -78,4 +85,51 @@ returns-clause-answer g c =
             ∙ ap (λ (k : ℕ). parcel_of k c.args.self.now.restamps c.len-count.result c.args.self.now.newest c.args.source c.args.dest)
             (over_nodes (knows c.args.self.now.opening).topology (knows c.args.self.now.newest).topology c.args.self.now.newest_of.1)) c.if-not-send_to.ensures.sent;
       },
+    )
+
+-- why it refuses, as it is asked in turn
+no_source : (nodes most count source dest : ℕ) → nodes ≤ source → inject_refused nodes most count source dest ≡ Some NoNode
+no_source nodes most count source dest h = grind (arith, nat_tests)
+
+no_dest : (nodes most count source dest : ℕ) → nodes ≤ dest → inject_refused nodes most count source dest ≡ Some NoNode
+no_dest nodes most count source dest h = grind (arith, nat_tests)
+
+too_many : (nodes most count source dest : ℕ) → source < nodes → dest < nodes → most ≤ count → inject_refused nodes most count source dest ≡ Some TooManyPackets
+too_many nodes most count source dest a b d = grind (arith, nat_tests)
+
+pub returns-then-source-nodes-clause-answer : goal.returns-then-source-nodes-clause-answer
+returns-then-source-nodes-clause-answer g c =
+    let self = c.args.self.now in
+    let nodes : length c.args.self.now.outs.items ≡ node_count (knows c.args.self.now.opening).topology = sym (length-map c.args.self.now.outs.items _) ∙ c.args.self.now.ends.count in
+    elim c.then-source-nodes.branch [
+      | then-source-nodes-via-then-source-nodes w ↦
+          (let test = w.if-source-nodes.true in (
+            subst (λ (o : Option Refused). IsInjectRefusedAs g.R.Moments.was_full c.args.self.now c.args.source NoNode o)
+                (sym (no_source (node_count (knows self.opening).topology) self.max_packets (length self.accepted.items) c.args.source c.args.dest (omega (arith, nodes, test)))) refl,
+            record { outs = ap (λ (s : Injector). s.outs.items) w.self-is; accepted = ap (λ (s : Injector). s.accepted.items) w.self-is },
+          ))
+      | then-source-nodes-via-else-source-nodes+then-dest-nodes w ↦
+          (let test = w.if-dest-nodes.true in (
+            subst (λ (o : Option Refused). IsInjectRefusedAs g.R.Moments.was_full c.args.self.now c.args.source NoNode o)
+                (sym (no_dest (node_count (knows self.opening).topology) self.max_packets (length self.accepted.items) c.args.source c.args.dest (omega (arith, nodes, test)))) refl,
+            record { outs = ap (λ (s : Injector). s.outs.items) w.self-is; accepted = ap (λ (s : Injector). s.accepted.items) w.self-is },
+          ))
+    ]
+
+pub returns-then-count-self-clause-answer : goal.returns-then-count-self-clause-answer
+returns-then-count-self-clause-answer g c =
+    let self = c.args.self.now in
+    let nodes : length c.args.self.now.outs.items ≡ node_count (knows c.args.self.now.opening).topology = sym (length-map c.args.self.now.outs.items _) ∙ c.args.self.now.ends.count in (
+      subst (λ (o : Option Refused). IsInjectRefusedAs g.R.Moments.was_full c.args.self.now c.args.source TooManyPackets o)
+          (sym (too_many (node_count (knows self.opening).topology) self.max_packets (length self.accepted.items) c.args.source c.args.dest (omega (arith, nodes)) (omega (arith, nodes)) (omega arith))) refl,
+      record { outs = refl; accepted = refl },
+    )
+
+pub returns-in_default-clause-answer : goal.returns-in_default-clause-answer
+returns-in_default-clause-answer g c =
+    let self = c.args.self.now in
+    let nodes : length c.args.self.now.outs.items ≡ node_count (knows c.args.self.now.opening).topology = sym (length-map c.args.self.now.outs.items _) ∙ c.args.self.now.ends.count in (
+      subst (λ (o : Option Refused). IsInjectRefusedAs g.R.Moments.was_full c.args.self.now c.args.source NoMemory o)
+          (sym (not_refused (node_count (knows self.opening).topology) self.max_packets (length self.accepted.items) c.args.source c.args.dest (omega (arith, nodes)) (omega (arith, nodes)) (omega arith))) (inl refl),
+      record { outs = refl; accepted = refl },
     )

@@ -7,7 +7,7 @@ use Rattle.ir_epochs.specs.Entries.{registry_of, topology_of}
 use Rattle.ir_epochs.specs.Handles.{known}
 use Rattle.ir_worker.specs.declared.node.Node.{Node}
 use Rattle.ir_epochs.specs.declared.entry.Entry.{Entry}
-use Rattle.ir_control.specs.Parts.{opening_entries, IsFreshNode, ReadsAsOneOf}
+use Rattle.ir_control.specs.Parts.{opening_entries, AreFirstNodes, IsFreshNode, ReadsAsOneOf}
 use Rattle.ir_control.proofs.Handed.{in_there, ins_taken}
 use Rattle.ir_control.proofs.OfNet.{all_front, all_last}
 use Rattle.ir_control.proofs.Wiring.{first_more}
@@ -40,8 +40,8 @@ node-requires-clause-reader c =
 
 pub loop-u-init : goal.loop-u-init
 loop-u-init c = record {
-  inboxes = search rules;
-  readers = search rules;
+  inboxes = c.requires.inboxes;
+  readers = c.requires.readers;
   given = all_in c.args.readers.items;
   senders = search rules;
   takers = search rules;
@@ -73,3 +73,21 @@ loop-u-preserved c =
       fresh = subst (λ (xs : List Node). All (IsFreshNode entries) xs) (sym c.in_ok-push.ensures.items)
           (All-push (IsFreshNode entries) c.loop-u.nodes.items c.in-Some-2.node c.loop-u.invariant.fresh (subst (λ (es : List Entry). IsFreshNode es c.in-Some-2.node) last fresh));
     }
+
+pub index_mut-requires : goal.index_mut-requires
+index_mut-requires c =
+    let n = c.loop-u.invariant.inboxes.count in
+    let e = c.len-u-end.ensures in
+    let ok = c.loop-u.inboxes.ok in
+    let all = c.args.self.now.inboxes.ok in
+    let test = c.loop-u-test.true in
+    omega (arith, n, e, ok, all, test)
+
+pub returns-clause-nodes : goal.returns-clause-nodes
+returns-clause-nodes c =
+    let n = c.args.self.now.inboxes_are.count in
+    let e = c.len-u-end.ensures in
+    let all = c.args.self.now.inboxes.ok in
+    let least = c.loop-u-test.false in
+    let most = c.loop-u.auto.u-end in
+    subst (λ (u : ℕ). AreFirstNodes c.args.self.now u c.loop-u.nodes.items) (omega (arith, n, e, all, least, most)) c.loop-u.invariant.nodes

@@ -1,10 +1,17 @@
-use Rattle.ir_control.proofs.Rows.{wired}
+use Rattle.std.proofs.Common.{subst, sym}
+use Rattle.ir_epochs.specs.declared.registry.Registry.{Registry}
+use Rattle.ir_control.specs.Wired.{IsOpening}
 use Rattle.ir_control.proofs.net.Net.wired.Goals as goal
 
-pub invariant_of-result-clause-ways_are : goal.invariant_of-result-clause-ways_are
-invariant_of-result-clause-ways_are c =
-    wired c.args.opening.topology c.args.first c.args.opening.restamps c.args.opening.capacity c.in_ok-ways.ways.items c.in_ok-peers.peers.items
-    c.nodes-nodes.ensures.topology c.in_ok-ways.ensures.ways c.in_ok-peers.ensures
-
-pub invariant_of-result-clause-offsets_are : goal.invariant_of-result-clause-offsets_are
-invariant_of-result-clause-offsets_are c = c.in_ok-ways.ensures.offsets
+pub invariant_of-result : goal.invariant_of-result
+invariant_of-result c =
+    let wires = c.in_ok-inboxes.ensures in
+    record {
+      opened = subst (λ (r : Registry). IsOpening r c.args.opening.topology c.args.first) (sym c.in_ok-registry.ensures.ok) c.requires.first;
+      inboxes_are = wires.inboxes;
+      entries_are = wires.entries;
+      ways_are = wires.ways;
+      offsets_are = wires.offsets;
+      few_packets = c.requires.packets;
+      few_restamps = c.requires.restamps;
+    }
