@@ -1,4 +1,4 @@
-use Rattle.std.proofs.Common.{◌∙◌, ℕ, length, refl, sym, ap, subst}
+use Rattle.std.proofs.Common.{◌≡◌, ◌∙◌, ℕ, length, refl, sym, ap, subst, arith}
 use Rattle.ir_model.specs.Topology.{node_count}
 use Rattle.ir_answer.specs.declared.look.Show.{Show}
 use Rattle.ir_show.specs.Plans.{NeedsNoTour}
@@ -31,3 +31,11 @@ show_walk-requires-clause-alone g c = subst (λ (nodes : ℕ). NeedsNoTour nodes
 
 pub text_reply-requires-clause-nodes : goal.text_reply-requires-clause-nodes
 text_reply-requires-clause-nodes g c κs within = ap node_count c.in-Ok.ensures.plan.over ∙ count c.args.graph.now
+
+pub text_reply-requires-clause-ends : goal.text_reply-requires-clause-ends
+text_reply-requires-clause-ends g c κs within =
+    let nodes : node_count c.in-Ok.plan.topology ≡ length c.args.graph.now = ap node_count c.in-Ok.ensures.plan.over ∙ count c.args.graph.now in
+    c.requires.ends (omega (arith, c.in-Ok.ensures.plan.valid.root_in, nodes))
+
+pub returns-in-Err : goal.returns-in-Err
+returns-in-Err g c = c.in-Err.ensures.stop
