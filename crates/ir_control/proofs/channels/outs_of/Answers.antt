@@ -46,3 +46,17 @@ loop-p-preserved c =
       outs_at_more c.args.channels.now.items c.loop-p.senders.items (c.args.first + c.loop-p.p) c.index_mut.result.now c.in-Some.sender c.loop-p.invariant.0 lt c.index_mut.ensures.value c.in-Some.ensures.value
           c.args.first c.loop-p.p c.loop-p.outs.items c.push.new.self.items refl c.loop-p.invariant.1 c.in_ok-push.ensures.items,
     )
+
+pub returns-in_default-clause-fresh : goal.returns-in_default-clause-fresh
+returns-in_default-clause-fresh c =
+    let n = c.loop-p.invariant.0.count in
+    let most = c.requires.within in
+    let test = c.loop-p-test.true in
+    outs_taken c.args.channels.now.items c.loop-p.senders.items (c.args.first + c.loop-p.p) c.take.new.self (omega (arith, n, most, test)) c.take.ensures.after c.loop-p.invariant.0
+
+pub returns-in_err-push-clause-fresh : goal.returns-in_err-push-clause-fresh
+returns-in_err-push-clause-fresh c =
+    let n = c.loop-p.invariant.0.count in
+    let most = c.requires.within in
+    let test = c.loop-p-test.true in
+    outs_taken c.args.channels.now.items c.loop-p.senders.items (c.args.first + c.loop-p.p) c.take.new.self (omega (arith, n, most, test)) c.take.ensures.after c.loop-p.invariant.0
