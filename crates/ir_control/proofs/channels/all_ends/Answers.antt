@@ -1,5 +1,6 @@
 use Rattle.std.proofs.Common.{arith, refl, ap, sym, ◌∙◌, subst, length, get_or}
-use Rattle.std.specs.Prelude.{◌≡◌, ◌<◌, ◌≤◌, ℕ, zero, suc, List, [], ◌∷◌, Option, Some, take}
+use Rattle.std.specs.Prelude.{◌≡◌, ◌<◌, ℕ, List, [], Option, Some, take}
+use Rattle.std.proofs.lemmas.List.{take_all}
 use Rattle.std.proofs.lemmas.Option.{slice_get_within}
 use Rattle.ir_links.specs.Ends.{Channel, Sender, Taker}
 use Rattle.ir_worker.specs.declared.parcel.Place.{Place}
@@ -20,12 +21,6 @@ ins_none slots e = subst (λ (xs : List (Option (Taker _ _))). AreFreshIns [] xs
   each = λ k t got. absurd (let within = slice_get_within [] k (Some t) got in omega (arith, within));
 })
 
-take_all : {A : Type 0} (xs : List A) (n : ℕ) → length xs ≤ n → take n xs ≡ xs
-take_all [] zero h = refl
-take_all [] (suc n) h = refl
-take_all (x ∷ xs) zero h = absurd (omega (arith, h))
-take_all (x ∷ xs) (suc n) h = ap (λ ys. x ∷ ys) (take_all xs n (omega (arith, h)))
-
 pub loop-channel-preserved : goal.loop-channel-preserved
 loop-channel-preserved c =
     let ends = rw c.in-Some.is at c.in_ok-sender.ensures in
@@ -43,7 +38,7 @@ pub returns : goal.returns
 returns c =
     let least = c.loop-channel-test.false in
     let all = ap (λ (xs : List (Channel Place)). take c.loop-channel.channel-index xs) c.deref-channel-items.ensures.value in
-    let at : take c.loop-channel.channel-index c.args.channels.now.items ≡ c.args.channels.now.items = sym all ∙ take_all c.deref-channel-items.result.now c.loop-channel.channel-index least ∙ c.deref-channel-items.ensures.value in (
+    let at : take c.loop-channel.channel-index c.args.channels.now.items ≡ c.args.channels.now.items = sym all ∙ take_all c.loop-channel.channel-index c.deref-channel-items.result.now least ∙ c.deref-channel-items.ensures.value in (
       subst (λ (xs : List (Channel Place)). AreFreshOuts xs c.loop-channel.senders.items) at c.loop-channel.invariant.0,
       subst (λ (xs : List (Channel Place)). AreFreshIns xs c.loop-channel.takers.items) at c.loop-channel.invariant.1,
     )

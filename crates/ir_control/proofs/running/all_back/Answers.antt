@@ -1,5 +1,5 @@
 use Rattle.std.specs.Prelude.{◌≡◌, ◌∷◌, [], ◌++◌, List, All, Option, None, map}
-use Rattle.std.proofs.Common.{arith, sym, ap, ◌∙◌, subst, rules}
+use Rattle.std.proofs.Common.{sym, ap, ◌∙◌, subst, rules}
 use Rattle.std.proofs.lemmas.List.Elements.{All-push}
 use Rattle.std.proofs.lemmas.List.{map-append}
 use Rattle.ir_worker.specs.declared.node.Node.{Node}
@@ -11,14 +11,6 @@ one_more : (back : List (Node × Option NoMemory)) (node : Node) (short : Option
     before ≡ map (λ b. b.0) back → after ≡ before ++ node ∷ [] → after ≡ map (λ b. b.0) (back ++ (node, short) ∷ [])
 one_more back node short before after same more =
     more ∙ ap (λ (ns : List Node). ns ++ node ∷ []) same ∙ sym (map-append (λ (b : Node × Option NoMemory). b.0) back ((node, short) ∷ []))
-
-pub loop-node-init : goal.loop-node-init
-loop-node-init g c =
-    let none = c.in_ok-nodes.ensures.items in (
-      none,
-      λ k d lt. absurd (omega (arith, lt)),
-      subst (All (g.S.Starter.came_back c.args.starter.now)) (sym none) (λ k d lt. absurd (omega (arith, lt))),
-    )
 
 pub loop-node-preserved : goal.loop-node-preserved
 loop-node-preserved g c = (

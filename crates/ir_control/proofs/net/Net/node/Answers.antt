@@ -1,9 +1,8 @@
-use Rattle.std.specs.Prelude.{◌≡◌, ◌<◌, ℕ, List, [], All, length, slice_index}
+use Rattle.std.specs.Prelude.{◌≡◌, ℕ, List, [], All, length}
 use Rattle.std.proofs.Common.{arith, sym, ap, ◌∙◌, subst, refl}
 use Rattle.std.specs.Arc.{arc_value}
 use Rattle.ir_model.specs.declared.Hop.{Hop}
 use Rattle.ir_epochs.specs.Handles.{known, reader_board}
-use Rattle.ir_epochs.specs.Stamps.{knows, registry_name}
 use Rattle.ir_control.specs.Fresh.{AreInsAt}
 use Rattle.ir_epochs.specs.declared.registry.Stamp.{Stamp}
 use Rattle.ir_worker.specs.Wires.{AreEndsOf}
@@ -79,16 +78,3 @@ returns-clause-fresh c =
       inbox_first = start.0;
       has_read = ap known c.new.ensures.node.5;
     }
-
-pub ins_of-requires-clause-peers : goal.ins_of-requires-clause-peers
-ins_of-requires-clause-peers c =
-    let ways = c.args.self.now.ways_are in
-    let same = c.as_slice.ensures.value in
-    subst (λ (ps : List ℕ). (length ps ≡ length c.args.self.now.ways.items) × ((k : ℕ) → k < length ps → slice_index ps k < length ps)) (sym same)
-    (ways.peer_count ∙ sym ways.count, ways.peers_are.within)
-
-pub new-requires-clause-board : goal.new-requires-clause-board
-new-requires-clause-board c =
-    let same = sym c.again.ensures in
-    let board = c.requires.reader in
-    (board.0 ∙ ap registry_name same, board.1 ∙ ap (λ (s : Stamp). (knows s).topology) same)

@@ -63,8 +63,3 @@ returns g c =
       closed = c.closes.ensures;
       stopped = tt;
     }
-
-pub loop-node-init : goal.loop-node-init
-loop-node-init g c =
-    let none = ap length c.in-Ok.ensures.items in
-    (none, λ k d e lt. absurd (omega (arith, lt)), λ k d lt. absurd (omega (arith, lt, none)))
