@@ -1,11 +1,11 @@
 -- The first link between two nodes is found by the keys of all links.
-use Rattle.std.proofs.Common.{◌≡◌, ◌≢◌, ℕ, ◌+◌, ◌*◌, ◌/◌, ◌%◌, ◌<◌, ◌≤◌, min, max, true, false, List, Some, length, ap, sym, ◌∙◌, arith, get_or, slice_get, ltb, ⊎_elim, inl, inr}
+use Rattle.std.proofs.Common.{◌≡◌, ◌≢◌, ℕ, ◌+◌, ◌*◌, ◌/◌, ◌%◌, ◌<◌, ◌≤◌, min, max, true, false, List, [], ◌∷◌, ◌++◌, Some, length, refl, ap, sym, subst, ◌∙◌, arith, get_or, slice_get, ltb, ⊎_elim, inl, inr}
 use Rattle.std.specs.List.{Contains}
 use Rattle.std.specs.List.Sorted.{IsPermutation, IsPartitionPoint}
 use Rattle.std.proofs.lemmas.Bool.{cases_Bool, cases_lt, ltb-true, ltb-false}
 use Rattle.std.proofs.lemmas.Bool.Decides.{nat_tests}
 use Rattle.std.proofs.lemmas.List.{get_or_default}
-use Rattle.std.proofs.lemmas.List.Elements.{All-get_or}
+use Rattle.std.proofs.lemmas.List.Elements.{All-get_or, All-push, Contains-append_left, Contains-append_right}
 use Rattle.std.proofs.lemmas.List.Sorted.{All-permutation, Contains-permutation}
 use Rattle.std.proofs.lemmas.List.Sums.{position_or_len_is}
 use Rattle.std.proofs.lemmas.Option.{slice_get_within, slice_get-get_or, get_or_from_slice_get}
@@ -20,6 +20,23 @@ keys_moved links n before after moved h = record {
   each = λ l link lt at. Contains-permutation before after (link_key link l) moved (h.each l link lt at);
   only = All-permutation (IsLinkKey links) before after moved h.only;
 }
+
+-- the key of one link more
+pub keys_more : (links : List Link) (n ends : ℕ) (keys : List ℕ) → n < length links → ends ≡ ends_key (get_or links n past_link).low (get_or links n past_link).high
+    → AreKeysOf links n keys → AreKeysOf links (n + 1) (keys ++ (ends * 65536 + n) ∷ [])
+keys_more links n ends keys lt is h =
+    let link : Link = get_or links n past_link in
+    let key : ℕ = link_key link n in
+    let at : slice_get links n ≡ Some link = slice_get-get_or links n past_link lt in
+    subst (λ (k : ℕ). AreKeysOf links (n + 1) (keys ++ k ∷ [])) (sym (ap (λ (e : ℕ). e * 65536 + n) is)) (record {
+      each = λ l other less at_l.
+          ⊎_elim (λ (before : l < n). Contains-append_left keys (key ∷ []) (link_key other l) (h.each l other before at_l))
+          (λ (here : n ≤ l). let same : l ≡ n = omega (arith, less, here) in
+          let links_same : link ≡ other = cc (at, subst (λ (k : ℕ). slice_get links k ≡ Some other) same at_l) in
+          Contains-append_right keys (key ∷ []) (link_key other l) (0, omega arith, ap (λ (z : Link). link_key z n) links_same ∙ ap (λ (k : ℕ). link_key other k) (sym same)))
+          (cases_lt l n);
+      only = All-push (IsLinkKey links) keys key h.only (record { l = n; link = link; at = at; is = refl });
+    })
 
 -- ---- a link by its ends
 

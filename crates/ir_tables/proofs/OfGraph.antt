@@ -1,13 +1,13 @@
 -- The network of a graph is that of its neighbours by number.
 use Rattle.std.proofs.Common.{◌≡◌, ◌≢◌, ℕ, zero, suc, ◌+◌, ◌<◌, ◌≤◌, ◌==◌, ◌||◌, ◌&&◌, min, max, Bool, true, false, not, cond, List, [], ◌∷◌, ◌++◌, length, map, filter, Option, Some, None, option_map, refl, ap, sym, subst, ◌∙◌, arith, get_or, slice_get, slice_index_or, take, append-nil, ltb, nat_lt, leb, ⊎_elim, bytes_eq}
-use Rattle.std.specs.Option.{option_map_or}
+use Rattle.std.specs.Option.{option_map_or, IsSome}
 use Rattle.std.specs.List.{position_or_len, list_all, IsDistinct}
 use Rattle.std.specs.Map.{keys_of}
 use Rattle.std.proofs.lemmas.Bool.{cases_Bool, cases_lt, cases_order, eq-eqb, ne_eqb, and_parts, ltb-true, lt-ltb, le-ltb, leb-true, both_ways}
 use Rattle.std.proofs.lemmas.List.{length-map, map-append, take_more, take_all}
 use Rattle.std.proofs.lemmas.List.Elements.{filter-append, filter_more}
 use Rattle.std.proofs.lemmas.List.Sums.{passes_at_first, length-filter, count_by-le-length}
-use Rattle.std.proofs.lemmas.Option.{slice_get-map, slice_get_within, get_or_from_slice_get}
+use Rattle.std.proofs.lemmas.Option.{slice_get-map, slice_get_within, slice_get-get_or, get_or_from_slice_get}
 use Rattle.std.proofs.Math.Bool.{and_comm, or_comm}
 use Rattle.ir_model.specs.declared.TheConstants.{MAX_EDGES, MAX_WEIGHT}
 use Rattle.ir_model.specs.declared.Link.{Link}
@@ -245,6 +245,17 @@ module _ (g : Adjacency) (graph : IsGraph g) where
 -- the next neighbour of a row, by number
 pub next_entry : (g : Adjacency) (u i : ℕ) (e : ℕ × ℕ) → neighbor_at g u i ≡ Some e → slice_get (row_numbers g (neighbors_at g u)) i ≡ Some e
 next_entry g u i e at = slice_get-map {B = ℕ × ℕ} (λ (e : Name × ℕ). (place_of g e.0, e.1)) (neighbors_at g u) i ∙ at
+
+-- each place of a row has a neighbour
+pub next_there : (g : Adjacency) (u i : ℕ) → i < length (neighbors_at g u) → IsSome (neighbor_at g u i)
+next_there g u i lt =
+    subst (λ (o : Option (Name × ℕ)). IsSome (option_map {U = ℕ × ℕ} (λ x. (place_of g x.0, x.1)) o)) (sym (slice_get-get_or (neighbors_at g u) i ([], 0) lt)) refl
+
+-- so many places are the whole row
+pub row_whole : (g : Adjacency) (u i : ℕ) → length (neighbors_at g u) ≤ i → take i (row_numbers g (neighbors_at g u)) ≡ row_numbers g (neighbors_at g u)
+row_whole g u i most =
+    let long = length-map {B = ℕ × ℕ} (neighbors_at g u) (λ (e : Name × ℕ). (place_of g e.0, e.1)) in
+    take_all i (row_numbers g (neighbors_at g u)) (omega (arith, long, most))
 
 kept_more : {B : Type 0} (f : ℕ × ℕ → B) (t : ℕ × ℕ → Bool) (row : Numbers) (i : ℕ) (e : ℕ × ℕ) → slice_get row i ≡ Some e
     → map f (filter t (take (i + 1) row)) ≡ map f (filter t (take i row)) ++ map f (cond (t e) (e ∷ []) [])

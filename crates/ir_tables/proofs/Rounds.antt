@@ -1,9 +1,9 @@
 -- What the ports of a node offer.
-use Rattle.std.proofs.Common.{◌≡◌, ◌≢◌, ℕ, ◌+◌, ◌<◌, min, List, ◌∷◌, length, refl, sym, subst, ◌∙◌, arith, get_or, set, sum, get_or-set_same, get_or-set_other, ⊎_elim}
-use Rattle.std.proofs.lemmas.Option.{get_or_from_slice_get}
+use Rattle.std.proofs.Common.{◌≡◌, ◌≢◌, ℕ, ◌+◌, ◌<◌, min, List, Some, slice_get, ◌∷◌, length, refl, sym, subst, ◌∙◌, arith, get_or, set, sum, get_or-set_same, get_or-set_other, ⊎_elim}
+use Rattle.std.proofs.lemmas.Option.{get_or_from_slice_get, slice_get-get_or}
 use Rattle.std.proofs.lemmas.Bool.{cases_eq, cases_lt}
 use Rattle.ir_model.specs.declared.Hop.{Hop}
-use Rattle.ir_model.specs.Topology.{Topology, node_count, ports_of, IsTopology}
+use Rattle.ir_model.specs.Topology.{Topology, node_count, ports_of, port_at, IsTopology}
 use Rattle.ir_model.specs.Walk.{link_weight}
 use Rattle.ir_model.proofs.Walks.{link_weight_at, port_facts, PortFacts}
 use Rattle.ir_tables.specs.Relaxation.{IsReached, unreached, at, AllReached, Offers}
@@ -11,6 +11,14 @@ use Rattle.ir_tables.specs.Relaxation.{IsReached, unreached, at, AllReached, Off
 -- what stands for a port past the end of a list
 abbrev pub past : Hop
 past = record { node = 0; link = 0; weight = 0 }
+
+-- the port that a walk over the ports of u is at
+pub port_next : (net : Topology) (u i : ℕ) (ports : List Hop) → ports ≡ ports_of net u → i < length ports → port_at net u i ≡ Some (get_or ports i past)
+port_next net u i ports is lt = subst (λ (xs : List Hop). slice_get xs i ≡ Some (get_or ports i past)) is (slice_get-get_or ports i past lt)
+
+-- and what it leads to is a node
+pub node_next : (net : Topology) → IsTopology net → (u i : ℕ) (ports : List Hop) → ports ≡ ports_of net u → i < length ports → (get_or ports i past).node < node_count net
+node_next net ok u i ports is lt = (port_facts net ok u i (get_or ports i past) (port_next net u i ports is lt)).to
 
 -- what the port at p offers
 pub offers_is : (ports : List Hop) (weights : List ℕ) (p offer : ℕ) → Offers ports weights p offer → offer ≡ at weights (get_or ports p past).node + (get_or ports p past).weight

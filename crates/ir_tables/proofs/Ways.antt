@@ -1,7 +1,8 @@
 -- The walks that a list of ports prescribes.
-use Rattle.std.proofs.Common.{◌≡◌, ◌≢◌, ℕ, suc, ◌+◌, ◌-◌, ◌*◌, ◌<◌, ◌≤◌, true, false, List, [], ◌∷◌, length, Option, Some, None, refl, ap, sym, subst, ◌∙◌, arith, eqb, set, length-set, get_or-set_same, get_or-set_other, ⊎_elim}
+use Rattle.std.proofs.Common.{◌≡◌, ◌≢◌, ℕ, suc, ◌+◌, ◌-◌, ◌*◌, ◌<◌, ◌≤◌, true, false, List, [], ◌∷◌, length, Option, Some, None, refl, ap, sym, subst, ◌∙◌, arith, eqb, replicate, set, length-set, get_or-set_same, get_or-set_other, ⊎_elim}
 use Rattle.std.specs.Prelude.{option_map, option_and_then}
 use Rattle.std.specs.List.{AllByRecursion, IsDistinct, list_any}
+use Rattle.std.proofs.lemmas.List.{length-replicate, get_or-replicate}
 use Rattle.std.proofs.lemmas.Bool.{cases_eq, eqb-true, ne_eqb, or_cases}
 use Rattle.std.proofs.lemmas.Map.Steps.{length-le_from_distinct_below}
 use Rattle.ir_model.specs.declared.TheConstants.{MAX_NODES, MAX_WEIGHT}
@@ -255,4 +256,21 @@ written_step net ok table d u x left step old weights hop d_in so_far new other 
       known = λ _. ⊎_elim (λ (none : step ≡ 0). let P : ℕ → Type 0 = λ k. at (set weights x left) k < unreached in subst P (so_far.first none) below)
           (λ (some : step ≢ 0). still u (so_far.known (omega arith))) (cases_eq step 0);
       keeps = λ v lt. still v (so_far.keeps v lt);
+    }
+
+-- ---- weights by node
+
+-- where d alone has a weight
+pub filled_start : (net : Topology) (table : ℕ → ℕ → Option ℕ) (d : ℕ) (none : List ℕ) → d < node_count net → none ≡ replicate (node_count net) unreached → IsFilled net table d (set none d 0)
+filled_start net table d none d_in is =
+    let n : ℕ = node_count net in
+    let len : length none ≡ n = ap length is ∙ length-replicate n unreached in
+    let here : at (set none d 0) d ≡ 0 = get_or-set_same none d 0 0 (omega (arith, len, d_in)) in
+    record {
+      len = length-set none d 0 ∙ len;
+      end = here;
+      ways = λ x x_in less.
+          ⊎_elim (λ (e : x ≡ d). record { rest = []; continues = e; weighs = sym (ap (at (set none d 0)) e ∙ here) })
+          (λ (ne : x ≢ d). let w : at (set none d 0) x ≡ unreached = get_or-set_other none d x 0 0 ne ∙ ap (λ (ws : List ℕ). at ws x) is ∙ get_or-replicate n x unreached 0 x_in in absurd (omega (arith, w, less)))
+          (cases_eq x d);
     }

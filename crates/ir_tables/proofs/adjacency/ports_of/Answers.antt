@@ -1,14 +1,20 @@
-use Rattle.std.proofs.Common.{◌≡◌, ◌<◌, ◌++◌, ◌∷◌, [], ℕ, List, Some, length, subst, sym, ap, ◌∙◌, arith, take, slice_get}
+use Rattle.std.proofs.Common.{◌≡◌, ◌<◌, ◌≤◌, ◌++◌, ◌∷◌, [], ℕ, List, Option, Some, length, subst, sym, ap, ◌∙◌, arith, take, slice_get}
+use Rattle.std.specs.Option.{IsSome}
 use Rattle.std.proofs.lemmas.Option.{slice_get_within}
 use Rattle.ir_model.specs.declared.Link.{Link}
 use Rattle.ir_model.specs.declared.Hop.{Hop}
 use Rattle.ir_model.specs.Places.{neighbors_at}
 use Rattle.ir_tables.specs.Numbered.{AreOrdered, Numbers, link_between, links_from, ports_at}
 use Rattle.ir_tables.specs.ByPlace.{row_numbers, neighbor_rows}
-use Rattle.ir_tables.proofs.OfGraph.{next_entry, ports_more, ports_same, row_of_node, graph_numbered}
+use Rattle.ir_tables.proofs.OfGraph.{next_entry, next_there, row_whole, ports_more, ports_same, row_of_node, graph_numbered}
 use Rattle.ir_tables.proofs.Numbered.{links_ordered, port_link}
 use Rattle.ir_tables.proofs.adjacency.ports_of.Goals as goal
 use Rattle.ir_tables.proofs.adjacency.ports_of.Goals.{then-v-u+in_ok-push, else-v-u}
+
+pub unwrap-v-requires : goal.unwrap-v-requires
+unwrap-v-requires c =
+    let there = next_there c.args.graph.now c.args.u c.loop-place.place (subst (λ (n : ℕ). c.loop-place.place < n) c.neighbor_count-place-end.ensures c.loop-place-test.true) in
+    subst (λ (o : Option (ℕ × ℕ)). IsSome o) (sym c.neighbor_at.ensures.at) there
 
 pub overflow_cast-link : goal.overflow_cast-link
 overflow_cast-link c =
@@ -43,3 +49,6 @@ loop-place-preserved c =
           let same = ports_same c.args.links.now u row c.loop-place.place c.unwrap-v.result entry w.if-v-u.false in
           ap (λ v. v.items) w.ports-is ∙ c.loop-place.invariant ∙ sym same
     ]
+
+pub returns : goal.returns
+returns c = c.loop-place.invariant ∙ ap (λ (row : Numbers). ports_at c.args.links.now c.args.u row) (row_whole c.args.graph.now c.args.u c.loop-place.place (subst (λ (n : ℕ). n ≤ c.loop-place.place) c.neighbor_count-place-end.ensures c.loop-place-test.false))

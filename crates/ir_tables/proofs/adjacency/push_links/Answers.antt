@@ -1,11 +1,17 @@
-use Rattle.std.proofs.Common.{◌≡◌, ◌++◌, ◌∷◌, [], ℕ, List, Some, sym, ap, ◌∙◌, take, append_assoc, slice_get}
+use Rattle.std.specs.Option.{IsSome}
+use Rattle.std.proofs.Common.{◌≡◌, ◌<◌, ◌≤◌, ◌++◌, ◌∷◌, [], ℕ, List, Option, Some, subst, sym, ap, ◌∙◌, take, append_assoc, slice_get}
 use Rattle.ir_model.specs.declared.Link.{Link}
 use Rattle.ir_model.specs.Places.{neighbors_at}
 use Rattle.ir_tables.specs.Numbered.{Numbers, links_at}
 use Rattle.ir_tables.specs.ByPlace.{row_numbers}
-use Rattle.ir_tables.proofs.OfGraph.{next_entry, links_more, links_same}
+use Rattle.ir_tables.proofs.OfGraph.{next_entry, next_there, row_whole, links_more, links_same}
 use Rattle.ir_tables.proofs.adjacency.push_links.Goals as goal
 use Rattle.ir_tables.proofs.adjacency.push_links.Goals.{then-u-v+in_ok-push, else-u-v}
+
+pub unwrap-v-requires : goal.unwrap-v-requires
+unwrap-v-requires c =
+    let there = next_there c.args.graph.now c.args.u c.loop-place.place (subst (λ (n : ℕ). c.loop-place.place < n) c.neighbor_count-place-end.ensures c.loop-place-test.true) in
+    subst (λ (o : Option (ℕ × ℕ)). IsSome o) (sym c.neighbor_at.ensures.at) there
 
 pub loop-place-preserved : goal.loop-place-preserved
 loop-place-preserved c =
@@ -22,3 +28,6 @@ loop-place-preserved c =
           let same = links_same u row c.loop-place.place c.unwrap-v.result entry w.if-u-v.false in
           ap (λ v. v.items) w.links-is ∙ c.loop-place.invariant ∙ ap (λ xs. old ++ xs) (sym same)
     ]
+
+pub returns : goal.returns
+returns c = c.loop-place.invariant ∙ ap (λ (row : Numbers). c.args.links.now.items ++ links_at c.args.u row) (row_whole c.args.graph.now c.args.u c.loop-place.place (subst (λ (n : ℕ). n ≤ c.loop-place.place) c.neighbor_count-place-end.ensures c.loop-place-test.false))

@@ -1,5 +1,6 @@
-use Rattle.std.proofs.Common.{◌≡◌, ℕ, List, length, drop, replicate, arith, subst, sym, ap, ◌∙◌}
+use Rattle.std.proofs.Common.{◌≡◌, ℕ, List, ◌∷◌, length, sum, drop, replicate, arith, subst, sym, ap, ◌∙◌}
 use Rattle.std.proofs.lemmas.List.{take_at, get_or_read}
+use Rattle.std.proofs.lemmas.List.Sorted.{length_permutation}
 use Rattle.std.specs.BinaryHeap.{heap_items}
 use Rattle.ir_model.specs.Topology.{node_count}
 use Rattle.ir_tables.specs.Relaxation.{at}
@@ -32,6 +33,16 @@ loop-weight-preserved-in-Continue-branch-3 c =
     popped_fresh c.args.topology.now c.args.d ws (heap_items c.loop-weight.frontier) (heap_items c.pop.new.self) e c.in-Some.ensures.permutation c.loop-weight.invariant in
     let P : List ℕ → Type 0 = λ xs. IsFrontier c.args.topology.now c.args.d (Only e.0.1) xs (heap_items c.pop.new.self) in
     rw back (c.in_ok-offer.ensures.offered c.args.d (subst P (sym c.as_mut_slice.ensures.value) but))
+
+pub loop-weight-smaller-in-Continue-branch-3 : goal.loop-weight-smaller-in-Continue-branch-3
+loop-weight-smaller-in-Continue-branch-3 c =
+    let ws : List ℕ = c.loop-weight.weights.items in
+    let len : length c.offer.new.weights ≡ length ws = c.offer.auto.weights ∙ ap length c.as_mut_slice.ensures.value in
+    let back = ap sum (take_at c.offer.new.weights (drop (length c.offer.new.weights) ws) c.loop-weight.weights.len (omega (arith, len, c.loop-weight.weights.ok.0))) in
+    let given = ap sum c.as_mut_slice.ensures.value in
+    let gone = length_permutation (heap_items c.loop-weight.frontier) (c.in-Some.field-0 ∷ heap_items c.pop.new.self) c.in-Some.ensures.permutation in
+    let falls = c.in_ok-offer.ensures.falls in
+    omega (arith, back, given, gone, falls)
 
 pub returns : goal.returns
 returns c =

@@ -1,6 +1,8 @@
-use Rattle.std.proofs.Common.{◌≡◌, ◌∷◌, ◌++◌, ◌%◌, ℕ, List, replicate, arith, subst, sym, ap, ◌∙◌}
+use Rattle.std.proofs.Common.{◌≡◌, ◌<◌, ◌≤◌, ◌∷◌, ◌++◌, ◌%◌, ℕ, Bool, true, false, List, length, sum, drop, replicate, ⊎_elim, arith, subst, sym, ap, ◌∙◌}
 use Rattle.std.specs.Prelude.{IsPermutation}
-use Rattle.std.proofs.lemmas.List.{get_or_read}
+use Rattle.std.proofs.lemmas.Bool.{cases_lt}
+use Rattle.std.proofs.lemmas.List.{get_or_read, length-append, take_at}
+use Rattle.std.proofs.lemmas.List.Sorted.{length_permutation}
 use Rattle.std.specs.BinaryHeap.{heap_items}
 use Rattle.ir_model.specs.Topology.{node_count}
 use Rattle.ir_tables.specs.Relaxation.{at}
@@ -24,6 +26,21 @@ loop-frontier-preserved-in_default c =
     let Q : List ℕ → Type 0 = λ keys. KeepsFresh keys (heap_items c.pop.new.self ++ c.loop-frontier.frontier.far.items) (keys_waiting c.bring_near.new.self) in
     keying_kept c.args.topology.now c.nodes.ensures.topology c.args.u ks (keys_waiting c.loop-frontier.frontier) (keys_waiting c.bring_near.new.self)
     (subst P c.in_default.ensures.unchanged.0 (subst Q c.as_slice.ensures.value c.in_ok-bring_near.ensures.fresh)) c.loop-frontier.invariant
+
+apart : (b : Bool) → b ≡ true → b ≡ false → ⊥
+apart b t f = cc (t, f)
+
+pub bring_near-requires : goal.bring_near-requires
+bring_near-requires c =
+    let far : List KeyEntry = c.loop-frontier.frontier.far.items in
+    let near : List KeyEntry = heap_items c.loop-frontier.frontier.near in
+    let none = c.in_default.ensures.none in
+    let held = c.loop-frontier.frontier.near.data.ok.0 in
+    record {
+      far = ⊎_elim (λ (some : 0 < length far). some)
+          (λ (empty : length far ≤ 0). absurd (apart c.is_empty.result (c.is_empty.ensures.1 (length-append near far ∙ omega (arith, none, held, empty))) c.loop-frontier-test.true))
+          (cases_lt 0 (length far));
+    }
 
 pub index-requires : goal.index-requires
 index-requires c =
@@ -64,6 +81,16 @@ loop-frontier-preserved c =
     let read : c.index.result.now ≡ at ks (e.0 % 65536) = get_or_read ks (e.0 % 65536) c.index.result.now (omega (arith, is.node_in, c.loop-frontier.invariant.ways.every)) c.index.ensures 0 in
     keying_kept c.args.topology.now c.nodes.ensures.topology c.args.u ks (keys_waiting c.loop-frontier.frontier) (near ++ far)
     (gone ks e (keys_waiting c.loop-frontier.frontier) (near ++ far) moved (stale_key ks e (λ same. c.if-waiting-index.false (same ∙ sym read)))) c.loop-frontier.invariant
+
+pub loop-frontier-smaller-in-Continue-branch-4 : goal.loop-frontier-smaller-in-Continue-branch-4
+loop-frontier-smaller-in-Continue-branch-4 c =
+    let ks : List ℕ = c.loop-frontier.keys.items in
+    let len : length c.offer.new.keys ≡ length ks = c.offer.auto.keys ∙ ap length c.as_mut_slice.ensures.value in
+    let back = ap sum (take_at c.offer.new.keys (drop (length c.offer.new.keys) ks) c.loop-frontier.keys.len (omega (arith, len, c.loop-frontier.keys.ok.0))) in
+    let given = ap sum c.as_mut_slice.ensures.value in
+    let gone = length_permutation (heap_items c.loop-frontier.frontier.near) (c.in-Some.field-0 ∷ heap_items c.pop.new.self) c.in-Some.ensures.permutation in
+    let falls = c.in_ok-offer.ensures.falls in
+    omega (arith, back, given, gone, falls)
 
 pub returns : goal.returns
 returns c =

@@ -1,8 +1,13 @@
-use Rattle.std.proofs.Common.{ℕ, arith, subst}
+use Rattle.std.proofs.Common.{ℕ, ◌+◌, List, sym, arith, subst}
 use Rattle.std.proofs.lemmas.List.Sorted.{IsNonDecreasingBy-from_sort}
 use Rattle.ir_tables.specs.Numbered.{AreKeysOf}
-use Rattle.ir_tables.proofs.LinkKeys.{keys_moved}
+use Rattle.ir_tables.proofs.LinkKeys.{keys_moved, keys_more}
 use Rattle.ir_tables.proofs.link_keys.link_keys.Goals as goal
+
+pub loop-l-preserved : goal.loop-l-preserved
+loop-l-preserved c =
+    subst (λ (keys : List ℕ). AreKeysOf c.args.links.now (c.loop-l.l + 1) keys) (sym c.in_ok-push.ensures.items)
+    (keys_more c.args.links.now c.loop-l.l c.ends_key.result c.loop-l.keys.items c.loop-l-test.true c.ends_key.ensures c.loop-l.invariant)
 
 pub returns : goal.returns
 returns c =

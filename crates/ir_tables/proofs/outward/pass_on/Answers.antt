@@ -1,11 +1,9 @@
-use Rattle.std.proofs.Common.{◌≡◌, ◌<◌, ℕ, List, Some, length, arith, subst, sym, ◌∙◌, false, slice_get, get_or}
+use Rattle.std.proofs.Common.{◌≡◌, ◌<◌, ℕ, List, length, arith, subst, sym, ◌∙◌, false, get_or}
 use Rattle.std.proofs.lemmas.List.{get_or_read}
-use Rattle.std.proofs.lemmas.Option.{slice_get-get_or}
 use Rattle.ir_model.specs.declared.Hop.{Hop}
-use Rattle.ir_model.specs.Topology.{Topology, ports_of, port_at}
-use Rattle.ir_model.proofs.Walks.{PortFacts, port_facts}
+use Rattle.ir_model.specs.Topology.{Topology, ports_of}
 use Rattle.ir_tables.specs.FromNode.{IsPassing}
-use Rattle.ir_tables.proofs.Rounds.{past}
+use Rattle.ir_tables.proofs.Rounds.{past, port_next, node_next}
 use Rattle.ir_tables.proofs.Flooding.{passing_start, passing_keep, passing_write}
 use Rattle.ir_tables.proofs.outward.pass_on.Goals as goal
 use Rattle.ir_tables.proofs.outward.pass_on.Goals.{then-is_tight+then-not-index+in_ok-push, else-is_tight, else-is_tight-via-then-is_tight+else-not-index, else-is_tight-via-else-is_tight}
@@ -18,10 +16,9 @@ loop-hop-preserved c =
     let net : Topology = c.args.topology.now in
     let i : ℕ = c.loop-hop.hop-index in
     let hop : Hop = get_or c.ports-hop-items.result.now i past in
-    let P : List Hop → Type 0 = λ xs. slice_get xs i ≡ Some hop in
-    let port : port_at net c.args.x i ≡ Some hop = subst P c.ports-hop-items.ensures (slice_get-get_or c.ports-hop-items.result.now i past c.loop-hop-test.true) in
-    let facts : PortFacts net c.args.x hop = port_facts net c.invariant.ensures.topology c.args.x i hop port in
-    let y_in : hop.node < length c.loop-hop.marks.items = let e = c.loop-hop.invariant.every in omega (arith, facts.to, c.requires.marks, e) in
+    let port = port_next net c.args.x i c.ports-hop-items.result.now c.ports-hop-items.ensures c.loop-hop-test.true in
+    let node = node_next net c.invariant.ensures.topology c.args.x i c.ports-hop-items.result.now c.ports-hop-items.ensures c.loop-hop-test.true in
+    let y_in : hop.node < length c.loop-hop.marks.items = let e = c.loop-hop.invariant.every in omega (arith, node, c.requires.marks, e) in
     elim c.if-is_tight.branch [
       | then-is_tight+then-not-index+in_ok-push w ↦
           rw (w.marks-is, w.led-is, w.in_ok-push.ensures.items)
@@ -35,6 +32,28 @@ loop-hop-preserved c =
             | else-is_tight-via-else-is_tight w' ↦ let t = c.is_tight.ensures.1 tight in absurd (cc (t, w'.if-is_tight.false))
           ]))
     ]
+
+pub is_tight-requires : goal.is_tight-requires
+is_tight-requires c =
+    let node = node_next c.args.topology.now c.invariant.ensures.topology c.args.x c.loop-hop.hop-index c.ports-hop-items.result.now c.ports-hop-items.ensures c.loop-hop-test.true in
+    let same = c.requires.weights in
+    omega (arith, node, same)
+
+pub index-requires : goal.index-requires
+index-requires c =
+    let node = node_next c.args.topology.now c.invariant.ensures.topology c.args.x c.loop-hop.hop-index c.ports-hop-items.result.now c.ports-hop-items.ensures c.loop-hop-test.true in
+    let same = c.requires.marks in
+    let every = c.loop-hop.invariant.every in
+    let len = c.loop-hop.marks.ok.0 in
+    omega (arith, node, same, every, len)
+
+pub index_mut-requires : goal.index_mut-requires
+index_mut-requires c =
+    let node = node_next c.args.topology.now c.invariant.ensures.topology c.args.x c.loop-hop.hop-index c.ports-hop-items.result.now c.ports-hop-items.ensures c.loop-hop-test.true in
+    let same = c.requires.marks in
+    let every = c.loop-hop.invariant.every in
+    let len = c.loop-hop.marks.ok.0 in
+    omega (arith, node, same, every, len)
 
 pub returns : goal.returns
 returns c =
