@@ -1,10 +1,10 @@
-use Rattle.std.proofs.Common.{◌↔◌, ◌<◌, ◌+◌, ◌*◌, ℕ, List, arith, sym, subst, slice_index, get_or}
+use Rattle.std.proofs.Common.{◌≡◌, ◌↔◌, ◌<◌, ◌+◌, ◌*◌, ℕ, List, length, arith, ap, sym, subst, slice_index, get_or}
 use Rattle.ir_model.specs.declared.Hop.{Hop}
 use Rattle.ir_model.specs.Topology.{Topology, ports_of}
 use Rattle.ir_model.proofs.Walks.{port_facts}
 use Rattle.ir_tables.proofs.Rounds.{past}
 use Rattle.ir_lanes.specs.Inward.{IsPushing, IsSet, IsTightIn}
-use Rattle.ir_lanes.specs.Lanes.{HasLanes}
+use Rattle.ir_lanes.specs.Lanes.{HasLanes, AreLeastOffers}
 use Rattle.ir_lanes.proofs.LaneLemmas.{next_port, least_none, least_next}
 use Rattle.ir_lanes.proofs.Words.{pushing_none, pushing_more}
 use Rattle.ir_lanes.proofs.inward.push_words.Goals as goal
@@ -55,3 +55,16 @@ loop-hop-preserved c =
       least = least_next (ports_of net u) 1 i lanes c.loop-hop.least c.load-there.result c.farther-through.result c.lesser-least.result hop
           port there added c.lesser-least.ensures c.loop-hop.invariant.least;
     }
+
+pub is_least-requires-clause-offered : goal.is_least-requires-clause-offered
+is_least-requires-clause-offered c =
+    let ports : List Hop = ports_of c.args.topology.now c.args.u in
+    let long = ap length c.ports-hop-items.ensures in
+    let whole : c.loop-hop.hop-index ≡ length ports = omega (arith, long, c.loop-hop-test.false, c.loop-hop.auto.hop-index-end) in
+    subst (λ (i : ℕ). AreLeastOffers ports 1 i c.args.lanes.now c.loop-hop.least) whole c.loop-hop.invariant.least
+
+pub returns-clause-pushed : goal.returns-clause-pushed
+returns-clause-pushed c =
+    let long = ap length c.ports-hop-items.ensures in
+    let whole : c.loop-hop.hop-index ≡ length (ports_of c.args.topology.now c.args.u) = omega (arith, long, c.loop-hop-test.false, c.loop-hop.auto.hop-index-end) in
+    subst (λ (i : ℕ). IsPushing c.args.topology.now c.args.lanes.now c.args.u i c.args.words.now.items c.loop-hop.words.items) whole c.loop-hop.invariant.pushing
