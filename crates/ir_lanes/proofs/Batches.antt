@@ -1,5 +1,5 @@
 -- Marks of ports, for the nodes of a list.
-use Rattle.std.proofs.Common.{◌≡◌, ◌≢◌, ◌↔◌, ℕ, zero, suc, w16, ◌+◌, ◌-◌, ◌*◌, ◌/◌, ◌%◌, ◌<◌, ◌≤◌, ◌^◌, ◌⊎◌, inl, inr, Bool, true, false, min, List, [], ◌∷◌, ◌++◌, length, get_or, set, slice_index, slice_index_or, refl, sym, ap, subst, ◌∙◌, arith, ⊎_elim, length-set, get_or-set_same, get_or-set_other}
+use Rattle.std.proofs.Common.{◌≡◌, ◌≢◌, ◌↔◌, ℕ, zero, suc, w16, ◌+◌, ◌-◌, ◌*◌, ◌/◌, ◌%◌, ◌<◌, ◌≤◌, ◌^◌, ◌⊎◌, inl, inr, Bool, true, false, min, List, [], ◌∷◌, ◌++◌, length, replicate, get_or, set, slice_index, slice_index_or, refl, sym, ap, subst, ◌∙◌, arith, ⊎_elim, length-set, get_or-set_same, get_or-set_other}
 use Rattle.std.specs.Prelude.{Contains}
 use Rattle.std.specs.Global.{Vec}
 use Rattle.std.proofs.lemmas.Bool.{cases_eq, cases_lt}
@@ -8,7 +8,7 @@ use Rattle.std.proofs.Math.Nat.{div-div-eq-div-mul, div-mul-le_self, zero-div}
 use Rattle.std.proofs.Math.Pow.{pow_mono}
 use Rattle.std.proofs.lemmas.Nat.{shr_le, mul-le, pow-add}
 use Rattle.std.proofs.lemmas.Nat.Bits.{bit_at-trailing_zeros}
-use Rattle.std.proofs.lemmas.List.{get_or_append_left, get_or_push, get_or_read, get_or-map, length_push, length-map, map-append}
+use Rattle.std.proofs.lemmas.List.{length-replicate, get_or_append_left, get_or_push, get_or_read, get_or-map, length_push, length-map, map-append}
 use Rattle.std.proofs.lemmas.List.Elements.{Contains-append_left}
 use Rattle.ir_model.specs.Topology.{Topology, node_count, ports_of}
 use Rattle.ir_model.specs.Table.{LeadsNearer}
@@ -258,6 +258,20 @@ pub record IsMarkedTo (net : Topology) (nodes : List ℕ) (u p i : ℕ) (row : L
   pub behind : (d : ℕ) → i ≤ d → slice_index_or row d false ≡ false
   pub place : (d : ℕ) → Contains marked d → d < length nodes
   pub each : (d : ℕ) → d < length nodes → slice_index_or row d false ≡ true → Contains marked d
+
+unset : (n d : ℕ) → slice_index_or (replicate n false) d false ≡ false
+unset zero d = refl
+unset (suc n) zero = refl
+unset (suc n) (suc d) = unset n d
+
+pub marked_none : (net : Topology) (nodes : List ℕ) (u p : ℕ) → IsMarkedTo net nodes u p 0 (replicate (length nodes) false) []
+marked_none net nodes u p = record {
+  every = length-replicate (length nodes) false;
+  below = λ d d_in less. absurd (omega (arith, less));
+  behind = λ d from. unset (length nodes) d;
+  place = λ d has. absurd (omega (arith, has.1));
+  each = λ d d_in yes. absurd (let no = unset (length nodes) d in cc (no, yes));
+}
 
 pub marked_more : (net : Topology) (nodes : List ℕ) (u p i word : ℕ) (row : List Bool) (marked : List ℕ) (row' : List Bool) (marked' : List ℕ)
     → ((k : ℕ) → k < 16 → i + k < length nodes → IsSet word k ↔ LeadsNearer net u (slice_index nodes (i + k)) p)

@@ -14,3 +14,6 @@ loop-u-preserved c = record {
       let P : ℕ → Type 0 = λ x. IsMet c.args.topology.now 1 c.args.starts.now c.args.lanes.now x in
       subst P (sym same) (c.in_ok-push_words.ensures.met c.if-not-branch.false)) (cases_lt v c.loop-u.u);
 }
+
+pub returns-clause-met : goal.returns-clause-met
+returns-clause-met c = λ k k_in u u_in. c.loop-u.invariant.met u (omega (arith, u_in, c.loop-u-test.false, c.nodes-nodes.ensures.count)) k k_in

@@ -1,11 +1,11 @@
-use Rattle.std.proofs.Common.{◌≡◌, ◌↔◌, ◌<◌, ◌+◌, ◌*◌, ℕ, List, Some, arith, sym, subst, slice_get, slice_index, get_or}
-use Rattle.std.proofs.lemmas.Option.{slice_get-get_or}
+use Rattle.std.proofs.Common.{◌≡◌, ◌↔◌, ◌<◌, ◌+◌, ◌*◌, ℕ, List, length, arith, ap, sym, subst, slice_index, get_or}
 use Rattle.ir_model.specs.declared.Hop.{Hop}
-use Rattle.ir_model.specs.Topology.{Topology, ports_of, port_at}
+use Rattle.ir_model.specs.Topology.{Topology, ports_of}
+use Rattle.ir_model.proofs.Walks.{port_facts}
 use Rattle.ir_tables.proofs.Rounds.{past}
 use Rattle.ir_lanes.specs.Inward.{IsPushing, IsSet, IsTightIn}
-use Rattle.ir_lanes.specs.Lanes.{HasLanes}
-use Rattle.ir_lanes.proofs.LaneLemmas.{least_none, least_next}
+use Rattle.ir_lanes.specs.Lanes.{HasLanes, AreLeastOffers}
+use Rattle.ir_lanes.proofs.LaneLemmas.{next_port, least_none, least_next}
 use Rattle.ir_lanes.proofs.Words.{pushing_none, pushing_more}
 use Rattle.ir_lanes.proofs.inward.push_words.Goals as goal
 
@@ -15,6 +15,21 @@ loop-hop-init c = record {
   least = least_none (ports_of c.args.topology.now c.args.u) 1 c.args.lanes.now;
 }
 
+pub load-there-requires : goal.load-there-requires
+load-there-requires c =
+    let i : ℕ = c.loop-hop.hop-index in
+    let hops : List Hop = c.ports-hop-items.result.now in
+    let facts = port_facts c.args.topology.now c.invariant.ensures.topology c.args.u i (get_or hops i past) (next_port c.args.topology.now c.args.u i hops c.ports-hop-items.ensures c.loop-hop-test.true) in
+    let every = c.requires.near.every in
+    omega (arith, facts.to, every)
+
+pub farther-through-requires-clause-light : goal.farther-through-requires-clause-light
+farther-through-requires-clause-light c =
+    let i : ℕ = c.loop-hop.hop-index in
+    let hops : List Hop = c.ports-hop-items.result.now in
+    let facts = port_facts c.args.topology.now c.invariant.ensures.topology c.args.u i (get_or hops i past) (next_port c.args.topology.now c.args.u i hops c.ports-hop-items.ensures c.loop-hop-test.true) in
+    omega (arith, facts.bounded)
+
 pub loop-hop-preserved : goal.loop-hop-preserved
 loop-hop-preserved c =
     let net : Topology = c.args.topology.now in
@@ -23,8 +38,7 @@ loop-hop-preserved c =
     let i : ℕ = c.loop-hop.hop-index in
     let hops : List Hop = c.ports-hop-items.result.now in
     let hop : Hop = get_or hops i past in
-    let P : List Hop → Type 0 = λ xs. slice_get xs i ≡ Some hop in
-    let port : port_at net u i ≡ Some hop = subst P c.ports-hop-items.ensures (slice_get-get_or hops i past c.loop-hop-test.true) in
+    let port = next_port net u i hops c.ports-hop-items.ensures c.loop-hop-test.true in
     let own = c.load-own.ensures in
     let there = c.load-there.ensures in
     let through = c.farther-through.ensures in
@@ -41,3 +55,16 @@ loop-hop-preserved c =
       least = least_next (ports_of net u) 1 i lanes c.loop-hop.least c.load-there.result c.farther-through.result c.lesser-least.result hop
           port there added c.lesser-least.ensures c.loop-hop.invariant.least;
     }
+
+pub is_least-requires-clause-offered : goal.is_least-requires-clause-offered
+is_least-requires-clause-offered c =
+    let ports : List Hop = ports_of c.args.topology.now c.args.u in
+    let long = ap length c.ports-hop-items.ensures in
+    let whole : c.loop-hop.hop-index ≡ length ports = omega (arith, long, c.loop-hop-test.false, c.loop-hop.auto.hop-index-end) in
+    subst (λ (i : ℕ). AreLeastOffers ports 1 i c.args.lanes.now c.loop-hop.least) whole c.loop-hop.invariant.least
+
+pub returns-clause-pushed : goal.returns-clause-pushed
+returns-clause-pushed c =
+    let long = ap length c.ports-hop-items.ensures in
+    let whole : c.loop-hop.hop-index ≡ length (ports_of c.args.topology.now c.args.u) = omega (arith, long, c.loop-hop-test.false, c.loop-hop.auto.hop-index-end) in
+    subst (λ (i : ℕ). IsPushing c.args.topology.now c.args.lanes.now c.args.u i c.args.words.now.items c.loop-hop.words.items) whole c.loop-hop.invariant.pushing

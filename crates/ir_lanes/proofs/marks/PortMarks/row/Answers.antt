@@ -6,7 +6,7 @@ use Rattle.ir_model.proofs.Walks.{degree_bound}
 use Rattle.ir_lanes.specs.Inward.{IsSet, ports_before}
 use Rattle.ir_lanes.specs.Marks.{PortMarks}
 use Rattle.ir_lanes.proofs.Words.{before_few}
-use Rattle.ir_lanes.proofs.Batches.{begin_read, has_place, marked_here, IsMarkedTo, marked_more}
+use Rattle.ir_lanes.proofs.Batches.{begin_read, has_place, marked_here, IsMarkedTo, marked_none, marked_more}
 use Rattle.ir_lanes.proofs.marks.PortMarks.row.Goals as goal
 
 pub overflow_add-place : goal.overflow_add-place
@@ -30,6 +30,11 @@ word-requires-clause-place c =
     let b_in : c.loop-batch.batch * 16 < length nodes = omega (arith, c.loop-batch-test.true, c.div_ceil-batch-end.ensures) in
     omega (arith, read, has_place net nodes c.args.self.now c.requires.marks u c.args.port c.loop-batch.batch c.requires.node c.requires.port b_in)
 
+pub loop-batch-init : goal.loop-batch-init
+loop-batch-init c =
+    let none = c.in_ok-row.ensures.items_if_clones_equal (λ y e. e) in
+    rw (none, c.new-marked.ensures.items) (marked_none c.args.topology.now c.args.order.now c.args.node c.args.port)
+
 pub loop-batch-preserved : goal.loop-batch-preserved
 loop-batch-preserved c =
     let net = c.args.topology.now in
@@ -48,6 +53,11 @@ loop-batch-preserved c =
     let next : b * 16 + 16 ≡ (b + 1) * 16 = omega arith in
     subst (λ (i : ℕ). IsMarkedTo net nodes u p i c.put_word.new.row.items c.put_word.new.marked.items) next
     (marked_more net nodes u p (b * 16) c.word.result c.loop-batch.row.items c.loop-batch.marked.items c.put_word.new.row.items c.put_word.new.marked.items bits c.loop-batch.invariant c.in_ok-put_word.ensures)
+
+pub returns-clause-marks : goal.returns-clause-marks
+returns-clause-marks c =
+    let i = c.loop-batch.invariant in
+    record { every = i.every; marks = λ d d_in. i.below d d_in (omega (arith, d_in, c.loop-batch-test.false, c.div_ceil-batch-end.ensures)) }
 
 pub returns-clause-marked : goal.returns-clause-marked
 returns-clause-marked c =

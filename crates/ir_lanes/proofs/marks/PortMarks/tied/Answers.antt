@@ -1,12 +1,23 @@
 use Rattle.std.proofs.Common.{◌≡◌, ◌*◌, ◌<◌, ◌∙◌, [], ℕ, List, length, ap, subst, arith}
 use Rattle.std.specs.Prelude.{slice_index_or}
+use Rattle.std.specs.Global.{Vec}
+use Rattle.std.proofs.lemmas.List.{length-map}
 use Rattle.ir_model.specs.declared.Hop.{Hop}
 use Rattle.ir_model.specs.Topology.{ports_of}
 use Rattle.ir_lanes.specs.Inward.{ports_before}
-use Rattle.ir_lanes.specs.Marks.{PortMarks, ArePushedTied}
+use Rattle.ir_lanes.specs.Marks.{PortMarks, ArePushedTied, word_lists}
 use Rattle.ir_lanes.proofs.Batches.{begin_read, words_read}
 use Rattle.ir_lanes.proofs.PortLanes.{ports_place, tied_more}
 use Rattle.ir_lanes.proofs.marks.PortMarks.tied.Goals as goal
+
+pub index-requires : goal.index-requires
+index-requires c =
+    let marks = c.args.self.now in
+    let items = c.self.inside.batches.items in
+    let b_in : c.loop-batch.batch * 16 < length c.args.order.now = omega (arith, c.loop-batch-test.true, c.div_ceil-batches.ensures) in
+    let lists : length (word_lists items) ≡ length marks.batches = ap (λ (m : PortMarks). length m.batches) c.self.view_is in
+    let long : length (word_lists items) ≡ length items = length-map items (λ (w : Vec ℕ). w.items) in
+    omega (arith, b_in, c.requires.marks.enough, lists, long, c.self.inside.batches.ok.0)
 
 pub push_tied-requires-clause-words : goal.push_tied-requires-clause-words
 push_tied-requires-clause-words c =
