@@ -1,4 +1,4 @@
-use Rattle.std.proofs.Common.{◌<◌, ◌+◌, ℕ, subst, sym, ◌∙◌, inl, inr, arith}
+use Rattle.std.proofs.Common.{◌≡◌, ◌<◌, ◌+◌, ℕ, subst, sym, ◌∙◌, inl, inr, arith}
 use Rattle.std.proofs.lemmas.Bool.{cases_eq}
 use Rattle.ir_model.specs.Choices.{label_from}
 use Rattle.ir_model.proofs.Going.{from_differs}
@@ -6,6 +6,18 @@ use Rattle.ir_model.proofs.Steps.{Steps}
 use Rattle.ir_compile.proofs.Rounds.{steps_of}
 use Rattle.ir_compile.proofs.round.first_to.Goals as goal
 use Rattle.ir_compile.proofs.round.first_to.Goals.{then-steps-fewest, else-steps-fewest}
+
+pub loop-t-init : goal.loop-t-init
+loop-t-init c = record {
+  off_own = omega arith;
+  earlier = omega arith;
+  in_round = c.requires.two;
+  few = omega arith;
+  from = c.requires.first;
+  before = λ i some l. absurd (omega (arith, some, l));
+  near = λ i some l.
+      let e : 1 ≡ i = omega (arith, some, l) in (c.args.first, subst (λ (x : ℕ). Steps c.args.n c.args.counts.now (label_from c.args.n c.args.own x) 0 c.args.first) e c.requires.first, omega arith);
+}
 
 pub round_from-steps-requires-clause-off : goal.round_from-steps-requires-clause-off
 round_from-steps-requires-clause-off c = λ e.

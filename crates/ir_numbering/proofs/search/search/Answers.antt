@@ -1,10 +1,10 @@
-use Rattle.std.proofs.Common.{◌≡◌, ◌<◌, ◌++◌, ℕ, [], ◌∷◌, length, arith, rules, ap, ◌∙◌, replicate, true, false}
+use Rattle.std.proofs.Common.{◌≡◌, ◌<◌, ◌++◌, ℕ, List, [], ◌∷◌, length, arith, rules, ap, ◌∙◌, replicate, true, false}
 use Rattle.std.specs.Prelude.{slice_set}
 use Rattle.std.proofs.lemmas.List.{length_push, nil_from_length}
 use Rattle.ir_model.specs.Topology.{node_count}
 use Rattle.ir_model.specs.Numbering.{neighbors_of}
 use Rattle.ir_numbering.specs.Search.{AllMarked, IsFirstUnmarked}
-use Rattle.ir_numbering.proofs.Traversal.{begun, passed_none, goes_back, goes_on, marks_one, marks_more, walk_is_seen, some_unseen}
+use Rattle.ir_numbering.proofs.Traversal.{top_below, begun, passed_none, goes_back, goes_on, marks_one, marks_more, walk_is_seen, some_unseen}
 use Rattle.ir_numbering.proofs.search.search.Goals as goal
 use Rattle.ir_numbering.proofs.search.search.Goals.{else-search-test, then-search-test+in_default}
 
@@ -24,6 +24,38 @@ search-init c =
       passed = rw none (passed_none c.args.topology.now _);
       within = let r = c.requires in rw nodes (omega arith);
     }
+
+pub index-requires : goal.index-requires
+index-requires c =
+    let t = rw c.in-Some.ensures.items at c.search.invariant.traversal in
+    let top : c.in-Some.top < length c.search.nodes.items = top_below _ _ _ _ _ _ _ t in
+    let ok = c.search.nodes.ok in
+    omega (arith, top, ok)
+
+pub mark_next-requires-clause-node : goal.mark_next-requires-clause-node
+mark_next-requires-clause-node c =
+    let t = rw c.in-Some.ensures.items at c.search.invariant.traversal in
+    let top : c.in-Some.top < length c.search.nodes.items = top_below _ _ _ _ _ _ _ t in
+    let node = t.nodes c.in-Some.top c.index.result.now top in
+    let at = c.index.ensures in
+    omega (arith, node, at)
+
+pub search-smaller : goal.search-smaller
+search-smaller c =
+    let more = length_push c.pop.new.self.items c.in-Some.top in
+    let long = ap (λ (xs : List ℕ). length xs) c.in-Some.ensures.items in
+    omega (arith, more, long)
+
+pub search-smaller-in-Continue-branch-9 : goal.search-smaller-in-Continue-branch-9
+search-smaller-in-Continue-branch-9 c =
+    let few = c.search-test.true in
+    let len = c.len.ensures in
+    let ok = c.search.nodes.ok in
+    let stack0 = ap (λ (xs : List ℕ). length xs) c.in-Some.ensures.items ∙ length_push c.pop.new.self.items c.in-Some.top in
+    let stack1 = ap (λ (xs : List ℕ). length xs) c.in_ok-push-4.ensures.items ∙ length_push c.pop.new.self.items c.in-Some.top in
+    let stack2 = ap (λ (xs : List ℕ). length xs) c.in_ok-push-5.ensures.items ∙ length_push c.push-in-Some-mark_next.new.self.items c.len-in-Some-mark_next.result in
+    let nodes = ap (λ (xs : List ℕ). length xs) c.in_ok-push-7.ensures.items ∙ length_push c.search.nodes.items c.in-Some-mark_next.next in
+    omega (arith, few, len, ok, stack0, stack1, stack2, nodes)
 
 pub search-preserved : goal.search-preserved
 search-preserved c =

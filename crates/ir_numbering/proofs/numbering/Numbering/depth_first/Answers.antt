@@ -1,6 +1,6 @@
-use Rattle.std.proofs.Common.{ℕ, arith, subst, sym}
+use Rattle.std.proofs.Common.{ℕ, arith, refl, subst, sym}
 use Rattle.ir_model.specs.Topology.{node_count}
-use Rattle.ir_model.specs.Numbering.{neighbors_of}
+use Rattle.ir_model.specs.Numbering.{neighbors_of, IsDepthFirst}
 use Rattle.ir_model.specs.Subtree.{IsNested}
 use Rattle.ir_model.specs.Plan.{AreLabels}
 use Rattle.ir_numbering.proofs.Nested.{depth_first_nests}
@@ -42,3 +42,42 @@ returns-clause-connected c =
     let labels = rw c.as_slice.ensures.value at c.in_ok-labels.ensures in
     let there = subst (λ (k : ℕ). AreLabels k c.in_ok-order.field-0.nodes.items c.in_ok-labels.labels.items) is.every labels in
     tree_connects c.args.topology.now c.nodes-2.ensures.topology c.args.root c.in_ok-order.field-0.nodes.items c.in_ok-order.field-0.parents.items is c.in_ok-labels.labels.items there
+
+pub labels_of-requires-clause-listing : goal.labels_of-requires-clause-listing
+labels_of-requires-clause-listing c =
+    let n = c.nodes-2.ensures.count in
+    let is = c.in_ok-order.ensures.all (omega (arith, n)) in
+    let every = is.every in
+    rw c.as_slice.ensures.value (record { every = refl; nodes = λ k d l. let v = is.nodes k d l in omega (arith, v, every); once = is.once })
+
+pub parent_ports-requires-clause-order : goal.parent_ports-requires-clause-order
+parent_ports-requires-clause-order c =
+    let n = c.nodes-2.ensures.count in
+    let net = c.args.topology.now in
+    let is = c.in_ok-order.ensures.all (omega (arith, n)) in
+    rw (c.as_slice-2.ensures.value, c.as_slice-3.ensures.value)
+    (subst (λ (root : ℕ). IsDepthFirst (neighbors_of net) (node_count net) root c.in_ok-order.field-0.nodes.items c.in_ok-order.field-0.parents.items) (sym is.root_first) is)
+
+pub parent_ports-requires-clause-labels : goal.parent_ports-requires-clause-labels
+parent_ports-requires-clause-labels c =
+    let n = c.nodes-2.ensures.count in
+    let is = c.in_ok-order.ensures.all (omega (arith, n)) in
+    let labels = rw c.as_slice.ensures.value at c.in_ok-labels.ensures in
+    rw (c.as_slice-2.ensures.value, c.as_slice-4.ensures.value) (subst (λ (k : ℕ). AreLabels k c.in_ok-order.field-0.nodes.items c.in_ok-labels.labels.items) is.every labels)
+
+pub returns-clause-depth_first : goal.returns-clause-depth_first
+returns-clause-depth_first c =
+    let n = c.nodes-2.ensures.count in
+    c.in_ok-order.ensures.all (omega (arith, n))
+
+pub returns-clause-numbering : goal.returns-clause-numbering
+returns-clause-numbering c =
+    let n = c.nodes-2.ensures.count in
+    let net = c.args.topology.now in
+    let is = c.in_ok-order.ensures.all (omega (arith, n)) in
+    let labels = rw c.as_slice.ensures.value at c.in_ok-labels.ensures in
+    record {
+      order = subst (λ (root : ℕ). IsDepthFirst (neighbors_of net) (node_count net) root c.in_ok-order.field-0.nodes.items c.in_ok-order.field-0.parents.items) (sym is.root_first) is;
+      labels = subst (λ (k : ℕ). AreLabels k c.in_ok-order.field-0.nodes.items c.in_ok-labels.labels.items) is.every labels;
+      ports = rw (c.as_slice-2.ensures.value, c.as_slice-3.ensures.value) at c.in_ok-ports.ensures;
+    }
