@@ -3,15 +3,8 @@ use Rattle.std.proofs.Common.{◌≡◌, ℕ, zero, suc, ◌-◌, ◌/◌, ◌%�
 use Rattle.std.specs.Simd.Lanes.{zip2, sel_l, mask_l, top, put_chunk, Each2}
 use Rattle.std.proofs.lemmas.Simd.{length-zip2, get_or-zip2, get_or-replicate, length-sel_l, get_or-sel_l, tops_compared, Each2-splat, Each1-from_get_or, mask_l-mod, bit_mask_l, get_or-put_chunk_below, get_or-put_chunk_at, get_or-put_chunk_above}
 use Rattle.std.proofs.lemmas.Bool.{ltb-true, ltb-false, cases_lt, eqb-true}
-use Rattle.std.proofs.lemmas.Option.{slice_get-get_or}
 use Rattle.ir_model.specs.declared.Hop.{Hop}
-use Rattle.ir_model.specs.Topology.{Topology, ports_of, port_at}
-use Rattle.ir_tables.proofs.Rounds.{past}
 use Rattle.ir_lanes.specs.Lanes.{HasLanes, in_lane, AreLeastOffers, far, most_added}
-
--- the port that a walk over the ports of u is at
-pub next_port : (net : Topology) (u i : ℕ) (hops : List Hop) → hops ≡ ports_of net u → i < length hops → port_at net u i ≡ Some (get_or hops i past)
-next_port net u i hops is lt = subst (λ (xs : List Hop). slice_get xs i ≡ Some (get_or hops i past)) is (slice_get-get_or hops i past lt)
 
 -- the lesser one, as the comparison chooses it
 lesser_is : (x y : ℕ) (b : Bool) → ltb x y ≡ b → cond b x y ≡ min x y

@@ -2,10 +2,10 @@ use Rattle.std.proofs.Common.{◌≡◌, ◌↔◌, ◌<◌, ◌+◌, ◌*◌, �
 use Rattle.ir_model.specs.declared.Hop.{Hop}
 use Rattle.ir_model.specs.Topology.{Topology, ports_of}
 use Rattle.ir_model.proofs.Walks.{port_facts}
-use Rattle.ir_tables.proofs.Rounds.{past}
+use Rattle.ir_tables.proofs.Rounds.{past, port_next}
 use Rattle.ir_lanes.specs.Inward.{IsPushing, IsSet, IsTightIn}
 use Rattle.ir_lanes.specs.Lanes.{HasLanes, AreLeastOffers}
-use Rattle.ir_lanes.proofs.LaneLemmas.{next_port, least_none, least_next}
+use Rattle.ir_lanes.proofs.LaneLemmas.{least_none, least_next}
 use Rattle.ir_lanes.proofs.Words.{pushing_none, pushing_more}
 use Rattle.ir_lanes.proofs.inward.push_words.Goals as goal
 
@@ -19,7 +19,7 @@ pub load-there-requires : goal.load-there-requires
 load-there-requires c =
     let i : ℕ = c.loop-hop.hop-index in
     let hops : List Hop = c.ports-hop-items.result.now in
-    let facts = port_facts c.args.topology.now c.invariant.ensures.topology c.args.u i (get_or hops i past) (next_port c.args.topology.now c.args.u i hops c.ports-hop-items.ensures c.loop-hop-test.true) in
+    let facts = port_facts c.args.topology.now c.invariant.ensures.topology c.args.u i (get_or hops i past) (port_next c.args.topology.now c.args.u i hops c.ports-hop-items.ensures c.loop-hop-test.true) in
     let every = c.requires.near.every in
     omega (arith, facts.to, every)
 
@@ -27,7 +27,7 @@ pub farther-through-requires-clause-light : goal.farther-through-requires-clause
 farther-through-requires-clause-light c =
     let i : ℕ = c.loop-hop.hop-index in
     let hops : List Hop = c.ports-hop-items.result.now in
-    let facts = port_facts c.args.topology.now c.invariant.ensures.topology c.args.u i (get_or hops i past) (next_port c.args.topology.now c.args.u i hops c.ports-hop-items.ensures c.loop-hop-test.true) in
+    let facts = port_facts c.args.topology.now c.invariant.ensures.topology c.args.u i (get_or hops i past) (port_next c.args.topology.now c.args.u i hops c.ports-hop-items.ensures c.loop-hop-test.true) in
     omega (arith, facts.bounded)
 
 pub loop-hop-preserved : goal.loop-hop-preserved
@@ -38,7 +38,7 @@ loop-hop-preserved c =
     let i : ℕ = c.loop-hop.hop-index in
     let hops : List Hop = c.ports-hop-items.result.now in
     let hop : Hop = get_or hops i past in
-    let port = next_port net u i hops c.ports-hop-items.ensures c.loop-hop-test.true in
+    let port = port_next net u i hops c.ports-hop-items.ensures c.loop-hop-test.true in
     let own = c.load-own.ensures in
     let there = c.load-there.ensures in
     let through = c.farther-through.ensures in

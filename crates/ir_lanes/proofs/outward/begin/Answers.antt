@@ -3,8 +3,7 @@ use Rattle.std.proofs.lemmas.Option.{slice_get_within}
 use Rattle.ir_model.specs.declared.Hop.{Hop}
 use Rattle.ir_model.specs.Topology.{Topology, ports_of}
 use Rattle.ir_model.proofs.Walks.{port_facts}
-use Rattle.ir_tables.proofs.Rounds.{past}
-use Rattle.ir_lanes.proofs.LaneLemmas.{next_port}
+use Rattle.ir_tables.proofs.Rounds.{past, port_next}
 use Rattle.ir_lanes.proofs.Starts.{added_small, beginning_more, beginning_done}
 use Rattle.ir_lanes.proofs.outward.begin.Goals as goal
 
@@ -12,7 +11,7 @@ pub overflow_mul-starts : goal.overflow_mul-starts
 overflow_mul-starts c =
     let i : ℕ = c.loop-p.p in
     let hops : List Hop = c.ports-hop-items.result.now in
-    let port = next_port c.args.topology.now c.args.source i hops c.ports-hop-items.ensures c.loop-p-test.true in
+    let port = port_next c.args.topology.now c.args.source i hops c.ports-hop-items.ensures c.loop-p-test.true in
     let small = added_small c.args.topology.now c.invariant.ensures.topology c.args.unit c.requires.unit c.args.source i (get_or hops i past) port in
     record { fits = omega (arith, small) }
 
@@ -20,7 +19,7 @@ pub overflow_add-starts : goal.overflow_add-starts
 overflow_add-starts c =
     let i : ℕ = c.loop-p.p in
     let hops : List Hop = c.ports-hop-items.result.now in
-    let port = next_port c.args.topology.now c.args.source i hops c.ports-hop-items.ensures c.loop-p-test.true in
+    let port = port_next c.args.topology.now c.args.source i hops c.ports-hop-items.ensures c.loop-p-test.true in
     let small = added_small c.args.topology.now c.invariant.ensures.topology c.args.unit c.requires.unit c.args.source i (get_or hops i past) port in
     record { fits = omega (arith, small, c.loop-p-test.true, ap length c.ports-hop-items.ensures, c.requires.ports, c.requires.unit) }
 
@@ -28,7 +27,7 @@ pub bounds-starts-hop : goal.bounds-starts-hop
 bounds-starts-hop c =
     let i : ℕ = c.loop-p.p in
     let hops : List Hop = c.ports-hop-items.result.now in
-    let facts = port_facts c.args.topology.now c.invariant.ensures.topology c.args.source i (get_or hops i past) (next_port c.args.topology.now c.args.source i hops c.ports-hop-items.ensures c.loop-p-test.true) in
+    let facts = port_facts c.args.topology.now c.invariant.ensures.topology c.args.source i (get_or hops i past) (port_next c.args.topology.now c.args.source i hops c.ports-hop-items.ensures c.loop-p-test.true) in
     let every = c.loop-p.invariant.near.every in
     omega (arith, facts.to, every, c.requires.lane)
 
@@ -38,7 +37,7 @@ loop-p-preserved c =
     let i : ℕ = c.loop-p.p in
     let hops : List Hop = c.ports-hop-items.result.now in
     let hop : Hop = get_or hops i past in
-    let port = next_port net c.args.source i hops c.ports-hop-items.ensures c.loop-p-test.true in
+    let port = port_next net c.args.source i hops c.ports-hop-items.ensures c.loop-p-test.true in
     let few = c.requires.ports in
     beginning_more net c.invariant.ensures.topology c.args.unit c.args.source c.args.lane i hop c.args.starts.now c.loop-p.starts c.requires.unit
     (omega (arith, c.loop-p-test.true, ap length c.ports-hop-items.ensures, few)) c.requires.lane port c.loop-p.invariant
