@@ -24,7 +24,8 @@ use Rattle.ir_core.specs.Entry.{Entry, DidInject, DidAct, DidTake, ruled, restam
 use Rattle.ir_core.specs.declared.event.Reply.{Reply}
 use Rattle.ir_core.specs.declared.event.Reply.TheVariants.{Injected, Settled, Taken}
 use Rattle.ir_core.specs.declared.event.Refused.{Refused}
-use Rattle.std.specs.Prelude.{Result, Ok, nat_le, is_some}
+use Rattle.ir_core.specs.declared.event.Refused.TheVariants.{HandFull, Empty, InboxFull}
+use Rattle.std.specs.Prelude.{Result, Ok, Err, nat_le, is_some}
 use Rattle.ir_core.specs.Meaning.{plan_of, newest_of, record_at, board_at, verdict_on, ruling_by, ruling_on, is_full_towards, acts, takes, injects}
 use Rattle.ir_core.specs.World.{World, IsWorld, IsBoard, ArePlaced, IsPacket, IsRoutedRecord, IsStretch, IsNew, Place, Waits, InHand, put_into, taken_from, sent_on, sight_in, open_verdict_on, LeadsIn, IsBeginning, IsDue, FitsPlace, IsAnswer, after}
 use Rattle.ir_core.proofs.Channels.{channel_within, into_is, hop_leads}
@@ -172,6 +173,30 @@ take_done s now e ok u way c id seen was left u_in there read first read_again i
     subst (λ (x : World). IsAnswer x new (takes x.opening (sight_in x) u way) (Ok (Taken id))) e
     (subst (λ (w : Result Entry Refused). IsAnswer s new w (Ok (Taken id))) (sym comes) (refl, to))
 
+-- a Take by a node that holds a packet, from what the code read
+pub take_held : (s now : World) → s ≡ now → IsWorld s → (u : ℕ) (way : Way) (c : ℕ) → u < nodes_of s.opening → Some c ≡ channel_of s.opening u way → (hand : Option Held) → hand ≡ slice_index_or s.hands u hand → is_some hand ≡ true →
+    IsAnswer now now (takes now.opening (sight_in now) u way) (Err HandFull)
+take_held s now e ok u way c u_in there hand hand_is some =
+    let held : is_some (slice_index_or s.hands u None) ≡ true = ap (λ (h : Option Held). is_some h) (sym (get_or_read s.hands u hand (omega (arith, ok.hands)) hand_is None)) ∙ some in
+    let within : nat_lt u (nodes_of s.opening) ≡ true = grind (arith, common_steps) in
+    let comes : takes s.opening (sight_in s) u way ≡ Err HandFull = rw (within, ← there, held) refl in
+    subst (λ (x : World). IsAnswer x x (takes x.opening (sight_in x) u way) (Err HandFull)) e
+    (subst (λ (w : Result Entry Refused). IsAnswer s s w (Err HandFull)) (sym comes) (refl, refl))
+
+-- a Take of an empty channel, from what the code read
+pub take_empty : (s now : World) → s ≡ now → IsWorld s → (u : ℕ) (way : Way) (c : ℕ) (seen : List ℕ) → u < nodes_of s.opening → Some c ≡ channel_of s.opening u way →
+    seen ≡ slice_index_or s.channels c seen → None ≡ slice_get seen 0 → (hand : Option Held) → hand ≡ slice_index_or s.hands u hand → is_some hand ≡ false →
+    IsAnswer now now (takes now.opening (sight_in now) u way) (Err Empty)
+take_empty s now e ok u way c seen u_in there read first hand hand_is none =
+    let c_in = channel_within s.opening u way c u_in (sym there) in
+    let lt : c < length s.channels = omega (arith, ok.channels) in
+    let waits : slice_get (slice_index_or s.channels c []) 0 ≡ None = ap (λ (l : List ℕ). slice_get l 0) (sym (get_or_read s.channels c seen lt read [])) ∙ sym first in
+    let empty : slice_index_or s.hands u None ≡ None = sym (get_or_read s.hands u hand (omega (arith, ok.hands)) hand_is None) ∙ none_from_is_some hand none in
+    let within : nat_lt u (nodes_of s.opening) ≡ true = grind (arith, common_steps) in
+    let comes : takes s.opening (sight_in s) u way ≡ Err Empty = rw (within, ← there, empty, waits) refl in
+    subst (λ (x : World). IsAnswer x x (takes x.opening (sight_in x) u way) (Err Empty)) e
+    (subst (λ (w : Result Entry Refused). IsAnswer s s w (Err Empty)) (sym comes) (refl, refl))
+
 -- a new record of this world, from what the code read
 pub fresh_in : (s : World) (id source dest : ℕ) (new : Record) (room nodes : ℕ) → new ≡ fresh id s.learnt source dest room → room ≡ hop_room s.opening.restamps nodes → nodes ≡ nodes_of s.opening →
     new ≡ fresh id s.learnt source dest (hop_room s.opening.restamps (nodes_of s.opening))
@@ -204,6 +229,21 @@ inject_done s now e ok source dest id new was left mid records s_in d_in room sp
     let to : after_it ≡ after s (DidInject (length s.records) s.learnt source dest (hop_room s.opening.restamps (nodes_of s.opening))) = rw (pushed, put, again, same, one, is_id) refl in
     subst (λ (x : World). IsAnswer x after_it (injects x.opening (sight_in x) source dest) (Ok (Injected id))) e
     (subst (λ (w : Result Entry Refused). IsAnswer s after_it w (Ok (Injected id))) (sym comes) (ap (λ (n : ℕ). Ok (Injected n)) is_id, to))
+
+-- an Inject where the inbox is full, from what the code read
+pub inject_full : (s now : World) → s ≡ now → IsWorld s → (source dest : ℕ) (was : List ℕ) (mid : List Record) → source < nodes_of s.opening → dest < nodes_of s.opening →
+    length s.records < s.opening.max_packets → s.opening.capacity ≤ length was → was ≡ slice_index_or s.channels source was → mid ≡ s.records →
+    IsAnswer now (record s { records = mid }) (injects now.opening (sight_in now) source dest) (Err InboxFull)
+inject_full s now e ok source dest was mid s_in d_in room full read same =
+    let lt : source < length s.channels = omega (arith, ok.channels) in
+    let count = ap (λ (l : List ℕ). length l) (get_or_read s.channels source was lt read []) in
+    let known : nat_lt source (nodes_of s.opening) ≡ true = grind (arith, common_steps) in
+    let known_too : nat_lt dest (nodes_of s.opening) ≡ true = grind (arith, common_steps) in
+    let few : nat_le s.opening.max_packets (length s.records) ≡ false = grind (arith, common_steps) in
+    let filled : nat_le s.opening.capacity (length (slice_index_or s.channels source [])) ≡ true = grind (arith, common_steps) in
+    let comes : injects s.opening (sight_in s) source dest ≡ Err InboxFull = rw (known, known_too, few, filled) refl in
+    subst (λ (x : World). IsAnswer x (record s { records = mid }) (injects x.opening (sight_in x) source dest) (Err InboxFull)) e
+    (subst (λ (w : Result Entry Refused). IsAnswer s (record s { records = mid }) w (Err InboxFull)) (sym comes) (refl, rw same refl))
 
 -- what is known of the packet in a node's hand
 pub record InHandOf (s : World) (u : ℕ) (held : Held) (r : Record) : Type 0 where
@@ -472,6 +512,15 @@ acting_now s now e ok u held r x holds read u_in is =
     is ∙ ap (λ (y : World). ruling_on y.opening (sight_in y) u held.way (record_at (sight_in y) held.id)) (sym e) in
     let known : x ≡ ruling_on s.opening (sight_in s) u held.way r = here ∙ ap (λ (y : Record). ruling_on s.opening (sight_in s) u held.way y) (record_read s held.id r p.is_record) in
     acting_of s ok u held r x p u_in known
+
+-- the channel that a packet is sent into
+pub sent_within : (s : World) → IsWorld s → (u : ℕ) (held : Held) (r : Record) (b : Board) (restamp : Option ℕ) (v : Verdict) (h : Hop) (c : ℕ) → Acting s u held r (is_full_towards s.opening (sight_in s)) b restamp v → v ≡ GoesOn h →
+    c ≡ into s.opening h.node (Link h.link) → c < length s.channels
+sent_within s ok u held r b restamp v h c acting goes is =
+    let to = leads_to s ok u held r (is_full_towards s.opening (sight_in s)) b restamp (GoesOn h) (subst (λ (w : Verdict). Acting s u held r (is_full_towards s.opening (sight_in s)) b restamp w) goes acting) in
+    let number : c ≡ to.1.0 = is ∙ into_is s.opening h.node (Link h.link) to.1.0 to.1.1 in
+    let within = to.1.2 in
+    omega arith
 
 pub room_for : (s : World) → IsWorld s → (u : ℕ) (held : Held) (r : Record) (b : Board) (restamp : Option ℕ) (v : Verdict) (h : Hop) (c : ℕ) (q : List ℕ) → Acting s u held r (is_full_towards s.opening (sight_in s)) b restamp v → v ≡ GoesOn h →
     c ≡ into s.opening h.node (Link h.link) → q ≡ slice_index_or s.channels c q → (c < length s.channels) × (length q < s.opening.capacity) × (q ≡ slice_index_or s.channels c [])

@@ -21,6 +21,10 @@ pub read_twice : (queues : List Queue) (c : ℕ) (p q : Queue) → c < length (m
 read_twice queues c p q lt first second =
     get_or_read queues c p (subst (λ (n : ℕ). c < n) (length-map queues ids_of) lt) first q ∙ sym second
 
+-- a channel is one of the queues
+pub is_queue : (queues : List Queue) (c : ℕ) → c < length (map ids_of queues) → c < length queues
+is_queue queues c lt = subst (λ (n : ℕ). c < n) (length-map queues ids_of) lt
+
 abbrev pub HaveRoom : ℕ → List Queue → Type 0
 HaveRoom capacity queues = All (λ q. capacity ≤ room_of q) queues
 

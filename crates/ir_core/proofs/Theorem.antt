@@ -24,7 +24,7 @@ use Rattle.ir_core.specs.History as history
 use Rattle.ir_core.specs.Sound.{IsSoundBy, IsPlanAmong, IsSoundRecord, AllSound, AllOfOneEpoch, FateFits, WeighsTheDistance, GoesOnAlong, LeadsOn, last_of}
 use Rattle.ir_core.specs.World.{World, IsWorld, IsStretch, sight_in, after, IsAnswer, IsBeginning, Place, Waits, InHand, Ended, FitsPlace, EndFits}
 use Rattle.ir_core.specs.Shows.{Shows, AnswersAfter, MayWantMemory, reply_to}
-use Rattle.ir_core.specs.Handled.{IsAnswerTo}
+use Rattle.ir_core.specs.Handled.{IsAnswerTo, IsAnswerOr}
 use Rattle.ir_core.proofs.Walks.{walk_of, prefix, whole, next_hop-away, IsBeginning-push, first-push}
 use Rattle.ir_core.proofs.Segments.{joined_in, linked_in}
 use Rattle.ir_core.proofs.Shown.{same_sight, show_after, concerns_left, concerns_under_way}
@@ -200,3 +200,7 @@ after_setting s (DidInstall e t b) = refl
 pub same_setting : (s new : World) (wanted : Result Entry Refused) (r : Result Reply Refused) → IsAnswer s new wanted r → new.opening ≡ s.opening
 same_setting s new (Ok entry) r a = ap (λ (x : World). x.opening) a.1 ∙ after_setting s entry
 same_setting s new (Err e) r a = ap (λ (x : World). x.opening) a.1
+
+pub same_setting_or : (s new : World) (wanted : Result Entry Refused) (r : Result Reply Refused) → IsAnswerOr wanted s new r → new.opening ≡ s.opening
+same_setting_or s new wanted r (inl a) = same_setting s new wanted r a
+same_setting_or s new wanted r (inr a) = ap (λ (x : World). x.opening) a.2

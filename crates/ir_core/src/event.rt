@@ -4,6 +4,7 @@ ghost use Rattle.ir_core.specs.Codes.{open_code, open_error_of};
 
 use ir_model::{Hop, Kind};
 use ir_plan::PlanError;
+use std::fmt;
 use thiserror::Error;
 
 /// Where a node takes a packet from: its inbox, or a link by number.
@@ -61,7 +62,6 @@ pub enum Reply {
 
 /// Why an event was refused.
 #[derive(Clone, Copy, Debug, PartialEq, Eq, Error)]
-#[error("{:?}", self)]
 pub enum Refused {
     NoNode = 1,
     NoLink = 2,
@@ -137,6 +137,12 @@ impl Refused {
     }
 }
 
+impl fmt::Display for Refused {
+    fn fmt<W: fmt::Write>(&self, f: &mut fmt::Formatter<W>) -> fmt::Result {
+        write!(f, "{:?}", self)
+    }
+}
+
 impl From<PlanError> for Refused {
     ghost from_gives = { λ p e. e ≡ refused_of p };
 
@@ -151,7 +157,6 @@ impl From<PlanError> for Refused {
 
 /// Why no world or net was opened.
 #[derive(Clone, Copy, Debug, PartialEq, Eq, Error)]
-#[error("{:?}", self)]
 pub enum OpenError {
     /// The root is no node.
     NoNode = 1,
@@ -175,6 +180,12 @@ impl OpenError {
         ensures { result ≡ open_code self }
     {
         self as u8
+    }
+}
+
+impl fmt::Display for OpenError {
+    fn fmt<W: fmt::Write>(&self, f: &mut fmt::Formatter<W>) -> fmt::Result {
+        write!(f, "{:?}", self)
     }
 }
 

@@ -8,7 +8,7 @@ ghost use Rattle.ir_core.specs.Meaning.{newest, learns, reads, takes, acts, reti
 ghost use Rattle.ir_core.specs.{Record.stamp_of, Entry.Entry, History.boards, Shows.{Shows, AnswersAfter}};
 ghost use Rattle.ir_core.specs.{Run.StepsAfter, Sound.AllSound, Handled.{IsAnswerOr, IsAnswerTo, IsInstallAnswer}};
 ghost use Rattle.ir_core.specs.{declared.event.Way.TheVariants.{Link as WayLink}, Opened.open_refused};
-ghost use Rattle.ir_core.specs.{Setting.{channel_in, channel_of}, Queue.{ids_of, room_of}};
+ghost use Rattle.ir_core.specs.{Setting.{channel_in, channel_of}, Queue.{ids_of, room_of}, Board.opening_board};
 
 use crate::board::{Board, KeptBoard};
 use crate::event::{Event, OpenError, Refused, Reply, Ruling, Step, Verdict, Way};
@@ -128,6 +128,10 @@ impl World {
         ensures opening { IfOk result (λ w. w.opening ≡ setting_of opening plan) }
         ensures history { IfOk result (λ w. Shows [] w) }
     {
+        let nodes = opening.topology.nodes();
+        let count = nodes + 2 * opening.topology.links();
+        let (boards, plans) = first_epoch(alloc, plan)?;
+        let (views, hands, channels) = empty_places(alloc, nodes, count, opening.capacity)?;
         let Opening {
             topology,
             labels,
@@ -137,15 +141,6 @@ impl World {
             max_packets,
             restamps,
         } = opening;
-        let nodes = topology.nodes();
-        let links = topology.links();
-        let mut boards = Vec::with_capacity(alloc, 1)?;
-        keep(alloc, &mut boards, &Board::opening())?;
-        let mut plans = Vec::with_capacity(alloc, 1)?;
-        plans.push(plan)?;
-        let views = vec![in alloc; 0usize; nodes]?;
-        let hands = vec![in alloc; None; nodes]?;
-        let channels = empty_channels(alloc, nodes + 2 * links, capacity)?;
         Ok(World {
             alloc,
             topology,
@@ -238,19 +233,10 @@ impl World {
         let draft = Draft { labels, kind, root };
         let plan = plan_up_by(crew, self.alloc, &self.topology, &newest, draft)?;
         let epoch = epochs as u32 + 1;
-        let Ok(board) = KeptBoard::new(self.alloc, &newest.installed(epoch)) else {
+        let board = newest.installed(epoch);
+        let Ok(()) = keep_epoch(self.alloc, &mut self.boards, &mut self.plans, &board, plan) else {
             return Err(Refused::NoMemory);
         };
-        let Ok(()) = self.boards.reserve(1) else {
-            return Err(Refused::NoMemory);
-        };
-        let Ok(()) = self.plans.push(plan) else {
-            return Err(Refused::NoMemory);
-        };
-        match self.boards.push(board) {
-            Ok(()) => {}
-            Err(_) => unreachable!(),
-        }
         Ok(Reply::Installed(epoch))
     }
 
@@ -619,6 +605,57 @@ fn keep(alloc: Global, boards: &mut Vec<KeptBoard>, board: &Board) -> Result<(),
 {
     boards.push(KeptBoard::new(alloc, board)?)?;
     Ok(())
+}
+
+/// One version more and one epoch more. All memory is taken before anything changes.
+fn keep_epoch(
+    alloc: Global,
+    boards: &mut Vec<KeptBoard>,
+    plans: &mut Vec<Plan>,
+    board: &Board,
+    plan: Plan,
+) -> Result<(), AllocError>
+    ensures board { IfOk result (λ _. boards.new.items ≡ boards.old.items ++ board.now ∷ []) }
+    ensures plan { IfOk result (λ _. plans.new.items ≡ plans.old.items ++ plan ∷ []) }
+    ensures same_boards { IfErr result (λ _. boards.new.items ≡ boards.old.items) }
+    ensures same_plans { IfErr result (λ _. plans.new.items ≡ plans.old.items) }
+{
+    plans.reserve(1)?;
+    keep(alloc, boards, board)?;
+    match plans.push(plan) {
+        Ok(()) => Ok(()),
+        Err(_) => unreachable!(),
+    }
+}
+
+/// The boards and the plans of a world in which no event has come, of this plan.
+fn first_epoch(alloc: Global, plan: Plan) -> Result<(Vec<KeptBoard>, Vec<Plan>), AllocError>
+    ensures boards { IfOk result (λ made. made.0.items ≡ opening_board ∷ []) }
+    ensures plans { IfOk result (λ made. made.1.items ≡ plan ∷ []) }
+{
+    let mut plans = Vec::with_capacity(alloc, 1)?;
+    plans.push(plan)?;
+    let mut boards = Vec::with_capacity(alloc, 1)?;
+    keep(alloc, &mut boards, &Board::opening())?;
+    Ok((boards, plans))
+}
+
+/// The views and the hands of so many nodes, and so many channels, where no packet is.
+fn empty_places(
+    alloc: Global,
+    nodes: usize,
+    count: usize,
+    room: usize,
+) -> Result<(Vec<usize>, Vec<Option<Held>>, Vec<Queue>), AllocError>
+    ensures views { IfOk result (λ made. made.0.items ≡ replicate nodes 0) }
+    ensures hands { IfOk result (λ made. made.1.items ≡ replicate nodes None) }
+    ensures empty { IfOk result (λ made. map ids_of made.2.items ≡ replicate count []) }
+    ensures room { IfOk result (λ made. All (λ q. room ≤ room_of q) made.2.items) }
+{
+    let views = vec![in alloc; 0usize; nodes]?;
+    let hands = vec![in alloc; None; nodes]?;
+    let channels = empty_channels(alloc, count, room)?;
+    Ok((views, hands, channels))
 }
 
 fn empty_channels(alloc: Global, count: usize, room: usize) -> Result<Vec<Queue>, AllocError>

@@ -4,8 +4,8 @@ use Rattle.ir_core.specs.Queue.{ids_of}
 use Rattle.ir_core.specs.Entry.{reply_after}
 use Rattle.ir_core.specs.declared.event.Reply.TheVariants.{Sent, Settled}
 use Rattle.ir_core.specs.declared.event.Verdict.{Verdict}
-use Rattle.ir_core.proofs.Keeps.{in_hand_of, held_in, hand_read, short, restamps_short, act_done, acting_now, not_sent, room_for, put_read}
-use Rattle.ir_core.proofs.Rooms.{ids_read, ids_set, room_read, room_set}
+use Rattle.ir_core.proofs.Keeps.{in_hand_of, held_in, hand_read, short, restamps_short, act_done, acting_now, not_sent, room_for, sent_within, put_read}
+use Rattle.ir_core.proofs.Rooms.{ids_read, ids_set, room_read, room_set, is_queue}
 use Rattle.ir_core.proofs.world.World.act.Goals as goal
 
 pub index_mut-record-requires : goal.index_mut-record-requires
@@ -79,3 +79,13 @@ returns c =
     let n = not_sent (world_of c.self.inside) c.args.node c.in-Some.held c.ruling-ruling.result.verdict c.in_default-verdict.not-GoesOn in
     (act_done (world_of c.self.inside) _ c.self.view_is c.self.invariant.world c.args.node c.in-Some.held c.index_mut-record.result.now c.ruling-ruling.result c.act.new.self (map ids_of c.self.inside.channels.items) (Settled c.in-Some.held.id)
     holds c.index_mut-record.ensures.value (omega arith) c.ruling-ruling.ensures c.act.ensures n.0 n.1).1
+
+pub ruling-ruling-requires-clause-in_hand : goal.ruling-ruling-requires-clause-in_hand
+ruling-ruling-requires-clause-in_hand c = hand_read _ _ c.self.view_is c.self.invariant.world c.args.node _ c.in-Some.held (omega arith) c.index.ensures c.in-Some.is
+
+pub index_mut-requires-in-GoesOn : goal.index_mut-requires-in-GoesOn
+index_mut-requires-in-GoesOn c =
+    let holds = hand_read _ _ c.self.view_is c.self.invariant.world c.args.node _ c.in-Some.held (omega arith) c.index.ensures c.in-Some.is in
+    let a = acting_now (world_of c.self.inside) _ c.self.view_is c.self.invariant.world c.args.node c.in-Some.held c.index_mut-record.result.now c.ruling-ruling.result holds c.index_mut-record.ensures.value (omega arith) c.ruling-ruling.ensures in
+    omega (arith, c.self.inside.channels.ok.0, is_queue c.self.inside.channels.items c.channel_into-channel.result
+    (sent_within (world_of c.self.inside) c.self.invariant.world c.args.node c.in-Some.held c.index_mut-record.result.now _ c.ruling-ruling.result.restamp c.ruling-ruling.result.verdict c.in-GoesOn.hop c.channel_into-channel.result a c.in-GoesOn.is c.channel_into-channel.ensures))

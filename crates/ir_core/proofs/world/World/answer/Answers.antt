@@ -1,5 +1,6 @@
-use Rattle.std.proofs.Common.{inl, inr, refl}
-use Rattle.ir_core.proofs.Theorem.{same_setting}
+use Rattle.std.proofs.Common.{ap, inl, inr, refl}
+use Rattle.ir_core.specs.World.{World}
+use Rattle.ir_core.proofs.Theorem.{same_setting, same_setting_or}
 use Rattle.ir_core.proofs.world.World.answer.Goals as goal
 
 pub returns-in-Inject-clause-answer : goal.returns-in-Inject-clause-answer
@@ -16,3 +17,42 @@ returns-in-Up-clause-answer g c = rw c.in-Up.is (elim c.mark-in-Up.ensures [ inl
 
 pub returns-in-Take-clause-same_opening : goal.returns-in-Take-clause-same_opening
 returns-in-Take-clause-same_opening g c = same_setting c.args.self.now c.take.new.self _ c.take.result c.take.ensures
+
+pub returns-in-Learn-clause-answer : goal.returns-in-Learn-clause-answer
+returns-in-Learn-clause-answer g c = rw c.in-Learn.is (inl (_, refl, c.learn.ensures))
+
+pub returns-in-Learn-clause-same_opening : goal.returns-in-Learn-clause-same_opening
+returns-in-Learn-clause-same_opening g c = same_setting c.args.self.now c.learn.new.self _ c.learn.result c.learn.ensures
+
+pub returns-in-Take-clause-answer : goal.returns-in-Take-clause-answer
+returns-in-Take-clause-answer g c = rw c.in-Take.is (inl (_, refl, c.take.ensures))
+
+pub returns-in-Read-clause-answer : goal.returns-in-Read-clause-answer
+returns-in-Read-clause-answer g c = rw c.in-Read.is (inl (_, refl, c.read.ensures))
+
+pub returns-in-Read-clause-same_opening : goal.returns-in-Read-clause-same_opening
+returns-in-Read-clause-same_opening g c = same_setting c.args.self.now c.read.new.self _ c.read.result c.read.ensures
+
+pub returns-in-Act-clause-answer : goal.returns-in-Act-clause-answer
+returns-in-Act-clause-answer g c = rw c.in-Act.is (inl (_, refl, c.act.ensures))
+
+pub returns-in-Act-clause-same_opening : goal.returns-in-Act-clause-same_opening
+returns-in-Act-clause-same_opening g c = same_setting c.args.self.now c.act.new.self _ c.act.result c.act.ensures
+
+pub returns-in-Inject-clause-same_opening : goal.returns-in-Inject-clause-same_opening
+returns-in-Inject-clause-same_opening g c = same_setting_or c.args.self.now c.inject.new.self _ c.inject.result c.inject.ensures
+
+pub returns-in-Retire-clause-same_opening : goal.returns-in-Retire-clause-same_opening
+returns-in-Retire-clause-same_opening g c = same_setting_or c.args.self.now c.retire.new.self _ c.retire.result c.retire.ensures
+
+pub returns-in-Down-clause-same_opening : goal.returns-in-Down-clause-same_opening
+returns-in-Down-clause-same_opening g c = same_setting_or c.args.self.now c.mark.new.self _ c.mark.result c.mark.ensures
+
+pub returns-in-Up-clause-same_opening : goal.returns-in-Up-clause-same_opening
+returns-in-Up-clause-same_opening g c = same_setting_or c.args.self.now c.mark-in-Up.new.self _ c.mark-in-Up.result c.mark-in-Up.ensures
+
+pub returns-in-Install-clause-answer : goal.returns-in-Install-clause-answer
+returns-in-Install-clause-answer g c = rw c.in-Install.is c.install.ensures
+
+pub returns-in-Install-clause-same_opening : goal.returns-in-Install-clause-same_opening
+returns-in-Install-clause-same_opening g c = elim c.install.ensures [ inl a ↦ same_setting c.args.self.now c.install.new.self a.0 c.install.result a.2 | inr a ↦ ap (λ (x : World). x.opening) a.2 ]

@@ -1,5 +1,4 @@
-use Rattle.std.proofs.Common.{arith, refl, sym, ap, length, take, [], ◌∷◌, ◌++◌, ◌+◌, ◌∙◌}
-use Rattle.ir_core.specs.declared.board.Board.{Board}
+use Rattle.std.proofs.Common.{arith, refl, sym, length, take, ◌+◌, ◌∙◌}
 use Rattle.ir_core.specs.Inside.{world_of}
 use Rattle.ir_core.proofs.Keeps.{newest_known, installed_at}
 use Rattle.ir_core.proofs.Refusals.{none_there, install_free}
@@ -28,9 +27,9 @@ invariant_of-self-2 g c =
     let n = newest_known _ _ c.self.view_is c.newest-newest.result c.newest-newest.ensures.value in
     let free = install_free c.nodes.result c.len-epochs.result c.newest-newest.result c.args.root (sym c.install_refusal.ensures ∙ none_there c.install_refusal.result c.in_default.not-Some) in
     record {
-      world = installed_at (world_of c.self.inside) c.self.invariant.world refl (c.len-epochs.result + 1) c.newest-newest.result c.installed.result c.in_ok-plan.plan c.reserve.new.self.items c.push-2.new.self.items c.push.new.self.items
+      world = installed_at (world_of c.self.inside) c.self.invariant.world refl (c.len-epochs.result + 1) c.newest-newest.result c.installed-board.result c.in_ok-plan.plan c.self.inside.boards.items c.keep_epoch.new.boards.items c.keep_epoch.new.plans.items
           n (omega (arith, c.self.inside.plans.ok.0, c.len-epochs.ensures, free.1)) free.2 (omega (arith, c.self.inside.plans.ok.0, c.len-epochs.ensures))
-          (made_plan _ c.args.kind c.args.root (take (length c.self.inside.topology.links) c.newest-newest.result.up) c.in_ok-plan.plan c.in_ok-plan.ensures.made) c.installed.ensures c.reserve.ensures.items (c.in-Ok-push-2.ensures.items ∙ ap (λ (b : Board). c.reserve.new.self.items ++ b ∷ []) c.in-Ok.ensures) c.in-Ok-push.ensures.items;
+          (made_plan _ c.args.kind c.args.root (take (length c.self.inside.topology.links) c.newest-newest.result.up) c.in_ok-plan.plan c.in_ok-plan.ensures.made) c.installed-board.ensures refl c.in-Ok.ensures.board c.in-Ok.ensures.plan;
       room = c.self.invariant.room;
     }
 
@@ -41,5 +40,5 @@ returns g c =
     installed_here (world_of c.self.inside) _ c.self.view_is c.args.kind c.args.root (c.len-epochs.result + 1) c.newest-newest.result c.in_ok-plan.plan _ n
     (asked ∙ none_there c.install_refusal.result c.in_default.not-Some)
     c.in_ok-plan.ensures.made (omega (arith, c.self.inside.plans.ok.0, c.len-epochs.ensures))
-    (installed_world (world_of c.self.inside) c.self.invariant.world.plans.some refl (c.len-epochs.result + 1) c.newest-newest.result c.installed.result c.in_ok-plan.plan c.reserve.new.self.items c.push-2.new.self.items c.push.new.self.items
-    c.installed.ensures c.reserve.ensures.items (c.in-Ok-push-2.ensures.items ∙ ap (λ (b : Board). c.reserve.new.self.items ++ b ∷ []) c.in-Ok.ensures) c.in-Ok-push.ensures.items)
+    (installed_world (world_of c.self.inside) c.self.invariant.world.plans.some refl (c.len-epochs.result + 1) c.newest-newest.result c.installed-board.result c.in_ok-plan.plan c.self.inside.boards.items c.keep_epoch.new.boards.items c.keep_epoch.new.plans.items
+    c.installed-board.ensures refl c.in-Ok.ensures.board c.in-Ok.ensures.plan)
