@@ -1,6 +1,7 @@
 -- Pieces of a text, and what loops over intervals have written.
-use Rattle.std.proofs.Common.{◌≡◌, ℕ, ◌+◌, ◌<◌, ◌≤◌, ⊎_elim, Bool, true, false, List, [], ◌∷◌, ◌++◌, length, filter, take, get_or, flat_map, refl, sym, ap, ◌∙◌, arith, append_assoc}
-use Rattle.std.specs.Prelude.{if◌then◌else◌, nat_lt}
+use Rattle.std.proofs.Common.{◌≡◌, ℕ, ◌+◌, ◌<◌, ◌≤◌, ⊎_elim, Ok, Err, Bool, true, false, List, [], ◌∷◌, ◌++◌, length, filter, take, get_or, flat_map, refl, sym, ap, ◌∙◌, arith, append_assoc}
+use Rattle.std.specs.Prelude.{if◌then◌else◌, nat_lt, is_ok, OnOk}
+use Rattle.std.specs.declared.result.Result.{Result}
 use Rattle.std.proofs.lemmas.List.{append-nil, length-append, take_all, take-append-le, take_more, flat_map_more}
 use Rattle.std.proofs.lemmas.List.Elements.{filter_more}
 use Rattle.std.proofs.lemmas.Grind.{flat_map-append}
@@ -18,6 +19,23 @@ two x a b = sym (append_assoc x a b)
 
 pub three : (x a b c : List ℕ) → x ++ (a ++ b ++ c) ≡ x ++ a ++ b ++ c
 three x a b c = two x (a ++ b) c ∙ ap (λ (t : List ℕ). t ++ c) (two x a b)
+
+-- pieces that are written one after the other, behind those before
+pub six : (t0 t1 t2 t3 t4 t5 a b c d e f : List ℕ) → t1 ≡ t0 ++ a → t2 ≡ t1 ++ b → t3 ≡ t2 ++ c → t4 ≡ t3 ++ d → t5 ≡ t4 ++ e → t5 ++ f ≡ t0 ++ (a ++ b ++ c ++ d ++ e ++ f)
+six t0 t1 t2 t3 t4 t5 a b c d e f is_a is_b is_c is_d is_e =
+    let two = followed t0 a b t1 t2 is_a is_b in
+    let four = followed t0 (a ++ b ++ c) d t3 t4 (followed t0 (a ++ b) c t2 t3 two is_c) is_d in
+    followed t0 (a ++ b ++ c ++ d ++ e) f t5 (t5 ++ f) (followed t0 (a ++ b ++ c ++ d) e t4 t5 four is_e) refl
+
+pub seven : (t0 t1 t2 t3 t4 t5 t6 a b c d e f g : List ℕ) → t1 ≡ t0 ++ a → t2 ≡ t1 ++ b → t3 ≡ t2 ++ c → t4 ≡ t3 ++ d → t5 ≡ t4 ++ e → t6 ≡ t5 ++ f
+    → t6 ++ g ≡ t0 ++ (a ++ b ++ c ++ d ++ e ++ f ++ g)
+seven t0 t1 t2 t3 t4 t5 t6 a b c d e f g is_a is_b is_c is_d is_e is_f =
+    followed t0 (a ++ b ++ c ++ d ++ e ++ f) g t6 (t6 ++ g) (is_f ∙ six t0 t1 t2 t3 t4 t5 a b c d e f is_a is_b is_c is_d is_e) refl
+
+-- a piece that the last call writes, if it can
+pub ended : {T E : Type 0} (r : Result T E) (t0 t1 piece whole : List ℕ) → t1 ≡ (if is_ok r then t0 ++ piece else t0) → t0 ++ piece ≡ whole → OnOk r (t1 ≡ whole)
+ended (Ok v) t0 t1 piece whole written is = written ∙ is
+ended (Err y) t0 t1 piece whole written is = tt
 
 -- one more interval of a row
 pub intervals_more : (line : PortInterval → List ℕ) (ms : List PortInterval) (i : ℕ) → i < length ms

@@ -1,10 +1,12 @@
 use Rattle.std.proofs.Common.{◌<◌, ◌∙◌, sym, subst, arith}
+use Rattle.std.proofs.lemmas.List.{take_all}
 use Rattle.ir_model.specs.Compiled.{Fits}
 use Rattle.ir_model.specs.Topology.{node_count}
 use Rattle.ir_model.specs.Row.{intervals_of}
 use Rattle.ir_model.specs.Plan.{by_label, label_in}
 use Rattle.ir_plan.proofs.Standing.{row_destinations}
 use Rattle.ir_exports.proofs.NodeTables.{ports_more}
+use Rattle.ir_exports.proofs.RangeTexts.{ports_many}
 use Rattle.ir_exports.proofs.RowStarts.{filled, port_is}
 use Rattle.ir_exports.proofs.table.ports_by_label.Goals as goal
 
@@ -26,3 +28,9 @@ loop-label-preserved c =
       ports = ports_more s is c.args.u c.loop-label.label c.port_behind.result c.loop-label.ports.items c.push.new.self.items inside c.loop-label.invariant.ports port c.in_ok-push.ensures.items;
       below = c.starts_to-below.ensures;
     }
+
+pub returns : goal.returns
+returns c =
+    let s = c.args.plan.now in
+    let long = ports_many s c.nodes.ensures.plan c.args.u in
+    c.loop-label.invariant.ports ∙ take_all c.loop-label.label (by_label s c.args.u) (omega (arith, c.loop-label-test.false, c.nodes-label-end.ensures.count, long))
