@@ -1,65 +1,64 @@
-use Rattle.std.proofs.Common.{subst, ◌∙◌, ap, refl, rules, arith, get_or}
-use Rattle.std.proofs.lemmas.Iterator.Adapters.{YieldsList-from_vec}
-use Rattle.std.proofs.lemmas.Iterator.Consumers.{YieldsList-turn, YieldsList-end}
-use Rattle.std.proofs.lemmas.Option.{slice_get_read}
-use Rattle.std.specs.Prelude.{◌≡◌, ℕ, ◌<◌, List, Some, length, slice_get, slice_index_or}
+use Rattle.std.proofs.Common.{subst, sym, ap, ◌∙◌}
+use Rattle.std.specs.Prelude.{◌≡◌, ℕ, List, Result, Ok, Err, IfOk, IfErr}
+use Rattle.ir_core.specs.declared.command.Command.{Command}
+use Rattle.ir_core.specs.declared.event.Refused.{Refused}
+use Rattle.ir_epochs.specs.declared.registry.Stamp.{Stamp}
+use Rattle.ir_links.specs.Ends.{Word}
 use Rattle.ir_worker.specs.declared.node.Node.{Node}
-use Rattle.ir_worker.specs.declared.serving.ComesBack.{ComesBack}
+use Rattle.ir_worker.specs.Seen.{Parcel}
 use Rattle.ir_worker.specs.Turns.{MayEnd}
-use Rattle.ir_control.proofs.Kept.{one_more, as_promised, kept_back}
-use Rattle.ir_control.proofs.Promised.{promised_push}
+use Rattle.ir_control.specs.Carried.{AreTold, AreCarriedOut}
+use Rattle.ir_control.specs.Desks.{Desk, desk_of}
+use Rattle.ir_control.specs.Runs.{CameBack, IsNetRun, IsStopped}
+use Rattle.ir_control.specs.declared.live.LiveError.{LiveError}
+use Rattle.ir_control.specs.declared.live.LiveError.TheVariants.{NoMemory}
+use Rattle.ir_control.specs.declared.net.Parts.{Parts}
+use Rattle.ir_control.specs.declared.working.LiveRun.{LiveRun}
 use Rattle.ir_control.proofs.working.fn.run_nodes.scope.Goals as goal
 
-pub loop-node-preserved : goal.loop-node-preserved
-loop-node-preserved g c =
-    let promised = promised_push (λ h. h.promise.node.value) c.loop-node.running.items c.push.new.self.items c.loop-node.yielded c.in-Ok-spawn_with.handle c.in-Some.node c.loop-node.invariant.0 c.loop-node.invariant.1 c.in-Ok-push.ensures.items
-    (ap (λ (p : ComesBack _ _ _). p.node.value) c.in-Ok-spawn_with.ensures.ok ∙ c.of-promise.ensures.node) in (
-      promised.0,
-      promised.1,
-      one_more (λ h. (h.promise.stop.value ≡ c.captures.stop.now) × (h.promise.gate.value ≡ c.captures.gate.now)) c.loop-node.running.items c.push.new.self.items c.in-Ok-spawn_with.handle c.loop-node.invariant.2 c.in-Ok-push.ensures.items
-          (ap (λ (p : ComesBack _ _ _). p.stop.value) c.in-Ok-spawn_with.ensures.ok ∙ c.of-promise.ensures.stop, ap (λ (p : ComesBack _ _ _). p.gate.value) c.in-Ok-spawn_with.ensures.ok ∙ c.of-promise.ensures.gate),
-    )
-
--- the node of this turn is one of the nodes
-taken : (nodes : List Node) (k : ℕ) (n : Node) → (k < length nodes) × (n ≡ get_or nodes k n) → slice_get nodes k ≡ Some n
-taken nodes k n turn = slice_get_read nodes (length nodes) k n refl turn.0 turn.1
-
-pub returns-then-not-starts : goal.returns-then-not-starts
-returns-then-not-starts g c =
-    let turn = YieldsList-turn (YieldsList-from_vec {s = c.into_iter-node-iterator.result} c.captures.parts.nodes.items (search rules) (search rules))
-    c.loop-node.yielded c.loop-node.node-iterator c.loop-node.yielded_by c.next.result c.next.new.self c.in-Some.node c.in-Some.is c.next.ensures.steps in
-    record { run = tt; closed = tt; stopped = (length c.loop-node.yielded, c.in-Some.node, taken c.captures.parts.nodes.items (length c.loop-node.yielded) c.in-Some.node turn, subst (λ (u : ℕ). g.S.Starter.unstarted c.captures.starter.now u) c.index-index.ensures (c.if-not-starts.ensures refl)) }
-
 pub returns-in-Err : goal.returns-in-Err
-returns-in-Err g c =
-    let turn = YieldsList-turn (YieldsList-from_vec {s = c.into_iter-node-iterator.result} c.captures.parts.nodes.items (search rules) (search rules))
-    c.loop-node.yielded c.loop-node.node-iterator c.loop-node.yielded_by c.next.result c.next.new.self c.in-Some.node c.in-Some.is c.next.ensures.steps in
-    record { run = tt; closed = tt; stopped = (length c.loop-node.yielded, c.in-Some.node, taken c.captures.parts.nodes.items (length c.loop-node.yielded) c.in-Some.node turn, subst (λ (u : ℕ). g.S.Starter.unstarted c.captures.starter.now u) c.index-index.ensures c.refused.ensures) }
+returns-in-Err g c = record {
+  run = tt;
+  closed = tt;
+  stopped = subst (λ (ns : List Node). IsStopped (g.S.Starter.unstarted c.captures.by.now.starter.now) ns c.in-Err.error) (ap (λ v. v.items) c.replace-nodes.ensures.value) c.in-Err.ensures.stopped;
+}
+
+-- what is told of the commands, and what came back, make a run
+a_run : (was_full was_empty : Word Parcel) (may_end : ℕ → ℕ → Type 0) {B : Type 0} {Q : LiveRun B → Type 0} (opening : Stamp) (nodes : List Node) (before : Desk B) (commands : List Command)
+    (parts : Parts B) (refused : List (ℕ × Refused)) (stamped : List Stamp) (result : Result (LiveRun B) LiveError) → AreTold was_full commands before (desk_of parts) opening refused stamped →
+    ((run : LiveRun B) → Q run → CameBack was_full was_empty may_end nodes run.back.items) → IfOk result Q → IfOk result (λ run. run.parts ≡ parts) →
+    IfOk result (λ run. run.refusals.items ≡ refused) → IfOk result (λ run. run.stamps.items ≡ stamped) →
+    IfOk result (IsNetRun was_full was_empty may_end opening nodes before commands)
+a_run was_full was_empty may_end {B = B} opening nodes before commands parts refused stamped (Ok run) told came back same refusals stamps = record {
+  came_back = came run back;
+  answers = told.0;
+  carried_out = subst (λ (p : Parts B). AreCarriedOut was_full commands before told.0 (desk_of p)) (sym same) told.1;
+  refusals = refusals ∙ told.2;
+  stamps = stamps ∙ told.3;
+}
+a_run was_full was_empty may_end opening nodes before commands parts refused stamped (Err why) told came back same refusals stamps = tt
+
+-- the starter was shown the injector of these parts
+shown : {B : Type 0} (closed : _ → Type 0) (parts : Parts B) (result : Result (LiveRun B) LiveError) → closed parts.injector → IfOk result (λ run. run.parts ≡ parts) →
+    IfOk result (λ run. closed run.parts.injector)
+shown {B = B} closed parts (Ok run) was same = subst (λ (p : Parts B). closed p.injector) (sym same) was
+shown closed parts (Err why) was same = tt
+
+-- a growth was refused
+short : {T : Type 0} (unstarted : ℕ → Type 0) (nodes : List Node) (result : Result T LiveError) → IfErr result (λ error. error ≡ NoMemory) →
+    IfErr result (λ error. IsStopped unstarted nodes error)
+short unstarted nodes (Ok run) why = tt
+short unstarted nodes (Err error) why = subst (IsStopped unstarted nodes) (sym why) tt
 
 pub returns : goal.returns
 returns g c =
-    let end = YieldsList-end (YieldsList-from_vec {s = c.into_iter-node-iterator.result} c.captures.parts.nodes.items (search rules) (search rules))
-    c.loop-node.yielded c.loop-node.node-iterator c.loop-node.yielded_by c.next.result c.next.new.self c.in-None.is c.next.ensures.steps in
-    let running = c.loop-node.running.ok.0 in
-    let back = c.in-Ok-join_promised.back.ok.0 in
-    let many = c.in-Ok-join_promised.ensures.len in
-    record {
-      run = record {
-        came_back = kept_back g.R.Moments.was_full g.R.Moments.was_empty (MayEnd g.F.Flag.seen g.G.Gate.barred c.captures.stop.now c.captures.gate.now)
-            (λ h. h.promise.node.value) c.loop-node.running.items c.loop-node.yielded c.captures.parts.nodes.items c.in-Ok-join_promised.back.items
-            end.0 c.loop-node.invariant.0 (omega (arith, running, back, many)) c.loop-node.invariant.1
-            (λ k b lt. (let kept = (c.in-Ok-join_promised.ensures.each k b (omega (arith, running, lt))).1 in
-            let same = c.loop-node.invariant.2 k kept.handle lt in (
-              kept.handle,
-              kept.handle_is,
-              as_promised g.R.Moments.was_full g.R.Moments.was_empty g.F.Flag.seen g.G.Gate.barred kept.handle.promise.stop.value c.captures.stop.now kept.handle.promise.gate.value c.captures.gate.now kept.handle.promise.node.value (slice_index_or c.in-Ok-join_promised.back.items k b)
-                  (ap (λ h. h.promise.stop.value) kept.handle_is ∙ same.0) (ap (λ h. h.promise.gate.value) kept.handle_is ∙ same.1) kept.kept,
-            )));
-        answers = c.in-Ok-told.ensures.0;
-        carried_out = c.in-Ok-told.ensures.1;
-        refusals = c.in-Ok-told.ensures.2;
-        stamps = c.in-Ok-told.ensures.3;
-      };
-      closed = c.closes.ensures;
-      stopped = tt;
+    let may_end = MayEnd g.F.Flag.seen g.G.Gate.barred c.captures.by.now.stop.now c.captures.by.now.gate.now in
+    let told = c.in-Ok-carry_and_close.told in record {
+      run = a_run g.R.Moments.was_full g.R.Moments.was_empty may_end c.captures.net.now.opening c.captures.parts.nodes.items (desk_of c.captures.parts) c.captures.commands.now
+          c.carry_and_close.new.parts told.0.items told.1.items c.join_all.result c.in-Ok-carry_and_close.ensures.told
+          (λ run back. subst (λ (ns : List Node). CameBack g.R.Moments.was_full g.R.Moments.was_empty may_end ns run.back.items)
+          (c.in-Ok.ensures.nodes ∙ ap (λ v. v.items) c.replace-nodes.ensures.value) (back c.captures.by.now.stop.now c.captures.by.now.gate.now c.in-Ok.ensures.by))
+          c.join_all.ensures.back c.join_all.ensures.parts c.join_all.ensures.refusals c.join_all.ensures.stamps;
+      closed = shown (g.S.Starter.was_closed c.captures.by.now.starter.now) c.carry_and_close.new.parts c.join_all.result c.in-Ok-carry_and_close.ensures.closed c.join_all.ensures.parts;
+      stopped = short (g.S.Starter.unstarted c.captures.by.now.starter.now) c.captures.parts.nodes.items c.join_all.result c.join_all.ensures.error;
     }
