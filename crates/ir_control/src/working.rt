@@ -1,5 +1,5 @@
 //! Nodes that turn on threads of their own while commands are carried out.
-ghost use Rattle.std.specs.Prelude.{◌≡◌, ◌⊎◌, ◌++◌, ◌∷◌, [], IfOk, IfErr, OnOk, All, map};
+ghost use Rattle.std.specs.Prelude.{◌≡◌, ◌⊎◌, ◌++◌, ◌∷◌, [], Ok, IfOk, IfErr, OnOk, All, map};
 ghost use Rattle.ir_worker.specs.Turns.{MayEnd};
 ghost use Rattle.ir_control.specs.{Carried.AreTold, Desks.desk_of, Runs.{CameBack, IsNetRun, IsStopped}};
 ghost use Rattle.ir_control.specs.declared.live.LiveError.TheVariants as live;
@@ -129,32 +129,26 @@ fn carry_and_close<
     told
 }
 
-// Waits until each node has come back, and answers what came of the run.
-fn join_all<R: Threads + Moments<Parcel> + Sync, G: Gate, F: Flag, B: Wait + Drop>(
+// Waits until each node has come back, where the commands were carried out.
+fn join_all<R: Threads + Moments<Parcel> + Sync, G: Gate, F: Flag, T: Drop>(
     rt: &R,
-    parts: Parts<B>,
-    told: (Vec<(usize, Refused)>, Vec<Stamp>),
+    told: Result<T, AllocError>,
     running: Vec<Running<R, G, F>>,
-) -> Result<LiveRun<B>, LiveError>
-    ensures back { IfOk result (λ run. (stop : _) (gate : _) →
+) -> Result<(Vec<(Node, Option<NoMemory>)>, T), LiveError>
+    ensures back { IfOk result (λ ended. (stop : _) (gate : _) →
         All (λ h. (h.promise.stop.value ≡ stop) × (h.promise.gate.value ≡ gate)) running.items →
         CameBack R.was_full R.was_empty (MayEnd F.seen G.barred stop gate)
-        (map (λ h. h.promise.node.value) running.items) run.back.items) }
-    ensures parts { IfOk result (λ run. run.parts ≡ parts) }
-    ensures refusals { IfOk result (λ run. run.refusals.items ≡ told.0.items) }
-    ensures stamps { IfOk result (λ run. run.stamps.items ≡ told.1.items) }
+        (map (λ h. h.promise.node.value) running.items) ended.0.items) }
+    ensures told { IfOk result (λ ended. told ≡ Ok ended.1) }
     ensures error { IfErr result (λ error. error ≡ live.NoMemory) }
 {
+    let Ok(told) = told else {
+        return Err(LiveError::NoMemory);
+    };
     let Ok(back) = thread::join_promised(rt, running) else {
         return Err(LiveError::NoMemory);
     };
-    let (refusals, stamps) = told;
-    Ok(LiveRun {
-        back,
-        parts,
-        refusals,
-        stamps,
-    })
+    Ok((back, told))
 }
 
 /// Starts a thread for each node, carries out the commands, shows the starter the injector, sets the flag that lets the
@@ -202,10 +196,17 @@ pub(crate) fn run_nodes<
                 Ok(running) => running,
                 Err(error) => return Err(error),
             };
-            let Ok(told) = carry_and_close(rt, net, bells, &mut parts, commands, by) else {
-                return Err(LiveError::NoMemory);
+            let told = carry_and_close(rt, net, bells, &mut parts, commands, by);
+            let (back, (refusals, stamps)) = match join_all(rt, told, running) {
+                Ok(ended) => ended,
+                Err(error) => return Err(error),
             };
-            join_all(rt, parts, told, running)
+            Ok(LiveRun {
+                back,
+                parts,
+                refusals,
+                stamps,
+            })
         },
     )
 }
