@@ -38,7 +38,7 @@ pub(crate) struct LiveRun<B: Wait + Drop> {
 // The thread of a node, which has promised to give the node back.
 type Running<R, G, F> = PromisedHandle<(Node, Option<NoMemory>), ComesBack<R, G, F>>;
 
-// Starts the thread of a node, and adds it to those that run.
+// Starts the thread of a node, and adds it to those that run. Where it is not started, these are let end.
 fn start<'s, E, R: Threads + Moments<Parcel> + Sync, G: Gate, F: Flag, S: Starter>(
     scope: &Scope<'s, E>,
     rt: &'s R,
@@ -56,6 +56,8 @@ fn start<'s, E, R: Threads + Moments<Parcel> + Sync, G: Gate, F: Flag, S: Starte
     let (gate, stop, starter) = (by.gate, by.stop, by.starter);
     let index = node.index();
     if !starter.starts(index) {
+        stop.set();
+        bells.ring_all();
         return Err(LiveError::NoThread);
     }
     let promise = ComesBack::of(rt, &node, gate, stop);
@@ -65,17 +67,21 @@ fn start<'s, E, R: Threads + Moments<Parcel> + Sync, G: Gate, F: Flag, S: Starte
     ) {
         Ok(handle) => handle,
         Err(error) => {
+            stop.set();
+            bells.ring_all();
             starter.refused(index, error);
             return Err(LiveError::NoThread);
         }
     };
     let Ok(()) = running.push(handle) else {
+        stop.set();
+        bells.ring_all();
         return Err(LiveError::NoMemory);
     };
     Ok(())
 }
 
-// Starts a thread for each node. Where one is not started, the nodes whose threads run are let end.
+// Starts a thread for each node, and answers all.
 fn start_all<'s, E, R: Threads + Moments<Parcel> + Sync, G: Gate, F: Flag, S: Starter>(
     scope: &Scope<'s, E>,
     rt: &'s R,
@@ -94,8 +100,6 @@ fn start_all<'s, E, R: Threads + Moments<Parcel> + Sync, G: Gate, F: Flag, S: St
     };
     for node in nodes {
         if let Err(error) = start(scope, rt, node, by, bells, &mut running) {
-            by.stop.set();
-            bells.ring_all();
             return Err(error);
         }
     }
