@@ -1,7 +1,7 @@
 -- Nodes that came back as their threads promised.
 use Rattle.std.specs.Prelude.{◌≡◌, ℕ, ◌<◌, List, [], ◌∷◌, ◌++◌, Option, length, map, slice_index_or}
-use Rattle.std.proofs.Common.{sym, ap, ◌∙◌, subst, arith, map-id, ◌⊎◌, inl, inr}
-use Rattle.std.proofs.lemmas.List.{length_push, get_or_append_left, get_or_push}
+use Rattle.std.proofs.Common.{sym, ap, ◌∙◌, subst, arith, ◌⊎◌, inl, inr}
+use Rattle.std.proofs.lemmas.List.{length_push, length-map, get_or_append_left, get_or_push, get_or-map}
 use Rattle.std.proofs.lemmas.Bool.{cases_eq}
 use Rattle.ir_links.specs.Ends.{Word}
 use Rattle.ir_worker.specs.declared.node.Node.{Node}
@@ -28,16 +28,15 @@ as_promised was_full was_empty {F = F} {G = G} seen barred s s' q q' n back flag
     subst (λ (t : G). ComesAs was_full was_empty (MayEnd seen barred s' t) n back) gates (subst (λ (t : F). ComesAs was_full was_empty (MayEnd seen barred t q) n back) flags kept)
 
 module _ (was_full was_empty : Word Parcel) (may_end : ℕ → ℕ → Type 0) where
-  -- each handle promises a node, in order, and each result keeps the promise of the handle at its place
-  pub kept_back : {H : Type 0} (f : H → Node) (hs : List H) (yielded nodes : List Node) (back : List (Node × Option NoMemory)) →
-      map (λ x. x) yielded ≡ nodes → length hs ≡ length yielded → length back ≡ length hs →
-      ((k : ℕ) (h : H) (n : Node) → k < length yielded → f (slice_index_or hs k h) ≡ slice_index_or yielded k n) →
+  -- each result keeps the promise of the handle at its place
+  pub kept_back : {H : Type 0} (f : H → Node) (hs : List H) (back : List (Node × Option NoMemory)) → length back ≡ length hs →
       ((k : ℕ) (b : Node × Option NoMemory) → k < length hs → (h : H) × (h ≡ slice_index_or hs k h) × ComesAs was_full was_empty may_end (f h) (slice_index_or back k b)) →
-      CameBack was_full was_empty may_end nodes back
-  kept_back {H} f hs yielded nodes back all many came promised kept =
-      subst (λ (ns : List Node). CameBack was_full was_empty may_end ns back) (sym (map-id yielded) ∙ all) (record {
+      CameBack was_full was_empty may_end (map f hs) back
+  kept_back {H} f hs back came kept =
+      let many = length-map hs f in record {
         count = omega (arith, many, came);
         each = λ k d e lt.
-            (let it = kept k e (omega (arith, many, lt)) in
-            subst (λ (n : Node). ComesAs was_full was_empty may_end n (slice_index_or back k e)) (ap f it.1 ∙ promised k it.0 d lt) it.2);
-      })
+            (let below : k < length hs = omega (arith, many, lt) in
+            let it = kept k e below in
+            subst (λ (n : Node). ComesAs was_full was_empty may_end n (slice_index_or back k e)) (ap f it.1 ∙ sym (get_or-map f hs k it.0 d below)) it.2);
+      }

@@ -1,5 +1,5 @@
 use Rattle.std.proofs.Common.{arith, refl, ap, sym, ◌∙◌, subst, length, get_or}
-use Rattle.std.specs.Prelude.{◌≡◌, ◌<◌, ℕ, List, [], Option, Some, take}
+use Rattle.std.specs.Prelude.{◌≡◌, ◌<◌, List, [], Option, Some, take}
 use Rattle.std.proofs.lemmas.List.{take_all}
 use Rattle.std.proofs.lemmas.Option.{slice_get_within}
 use Rattle.ir_links.specs.Ends.{Channel, Sender, Taker}
