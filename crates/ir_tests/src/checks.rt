@@ -102,12 +102,22 @@ fn a_run_and_the_check_of_its_trace(rt: HostRuntime) {
     assert!(rt; (sound, wrong) == (Some(true), Some(false)));
 }
 
-/// How many commands a script of a live run over the path has.
+/// How many commands a script of a live run over a graph has.
+fn commands_over(alloc: Global, graph: &Graph, topology: &Topology) -> Option<usize>
+    requires { topology.now ≡ topology_of_graph graph.now }
+{
+    let text = b"inject a c\ndrain\n".as_slice();
+    match parse_live(alloc, text, graph, topology) {
+        Ok(script) => Some(script.commands().len()),
+        Err(_) => None,
+    }
+}
+
+/// How many it has over the path.
 fn commands(alloc: Global) -> Option<usize> {
     let graph = graph_of(alloc, &PATH)?;
-    let topology = Topology::of(alloc, &graph).ok()?;
-    match parse_live(alloc, b"inject a c\ndrain\n".as_slice(), &graph, &topology) {
-        Ok(script) => Some(script.commands().len()),
+    match Topology::of(alloc, &graph) {
+        Ok(topology) => commands_over(alloc, &graph, &topology),
         Err(_) => None,
     }
 }
