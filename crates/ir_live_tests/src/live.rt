@@ -258,11 +258,12 @@ fn nodes_meet(rt: HostRuntime) -> Result<(), Fail> {
 // Whether the example in the doc comment of a net is so.
 fn net_example<R: Threads + Wait + Sync>(rt: &R, alloc: Global) -> Option<bool> {
     let topology = network(alloc, &[("a", "b"), ("b", "c")])?;
+    let net = Net::new(rt, alloc, topology, Kind::Tree, 0, 16, 64, 0).ok()?;
     let commands = [Command::Inject(1, 2), Command::Drain];
-    match Net::new(rt, alloc, topology, Kind::Tree, 0, 16, 64, 0) {
-        Ok(net) => Some(ends(rt, &net, &commands, &Open, &[OVER])),
-        Err(_) => None,
-    }
+    let stop = AtomicBool::new(false);
+    let live = run_live(rt, &net, &commands, &Open, &stop, rt).ok()?;
+    let is_so = tells_all(&live.report, &[OVER]);
+    Some(is_so)
 }
 
 #[test]
