@@ -23,15 +23,35 @@ pub struct ByHand<R: Wait + Drop> {
     ghost kept: { ArePartsOf net parts },
 }
 
+/// Links two nodes by their numbers, and answers whether it could.
+pub(crate) fn link(graph: &mut Graph, alloc: Global, u: u32, v: u32, weight: u32) -> bool {
+    let Ok(from) = format!(in alloc; "n{u}") else {
+        return false;
+    };
+    let Ok(to) = format!(in alloc; "n{v}") else {
+        return false;
+    };
+    graph.add_edge(from.as_str(), to.as_str(), weight).is_ok()
+}
+
+/// Adds edges of weight 1, and answers whether it could.
+fn add_edges(graph: &mut Graph, edges: &[(&str, &str)]) -> bool {
+    for (u, v) in edges {
+        if graph.add_edge(u, v, 1).is_err() {
+            return false;
+        }
+    }
+    true
+}
+
 /// The network of a list of edges of weight 1.
 pub(crate) fn network(alloc: Global, edges: &[(&str, &str)]) -> Option<Topology> {
     let mut graph = Graph::new(alloc);
-    for (u, v) in edges {
-        let Ok(_) = graph.add_edge(u, v, 1) else {
-            return None;
-        };
+    if add_edges(&mut graph, edges) {
+        Topology::of(alloc, &graph).ok()
+    } else {
+        None
     }
-    Topology::of(alloc, &graph).ok()
 }
 
 /// A net over a topology in depth-first numbers: a kind and a root, and a capacity, a number of packets and one of
@@ -60,6 +80,17 @@ pub(crate) fn path(
     let topology = network(alloc, &[("a", "b"), ("b", "c")])?;
     let limits = (capacity, 4_096, restamps);
     opened(rt, alloc, topology, (Kind::Tree, 1), limits).ok()
+}
+
+/// The parts of such a net.
+pub(crate) fn parts_of_path<R: Threads + Wait + Sync>(
+    rt: &R,
+    alloc: Global,
+    capacity: usize,
+    restamps: u8,
+) -> Option<ByHand<&R>> {
+    let net = path(rt, alloc, capacity, restamps)?;
+    ByHand::of(rt, net)
 }
 
 /// What became of a packet, and the epoch that it was first stamped with.
@@ -92,6 +123,14 @@ pub(crate) fn tells_all(report: &Report, packets: &[Became<'_>]) -> bool {
         }
     }
     report.records.len() == packets.len()
+}
+
+/// The epoch that a receipt tells of, where it is that of an install.
+pub(crate) fn installed_by(receipt: &Receipt) -> Option<u32> {
+    match receipt.stamp() {
+        None => None,
+        Some(stamp) => Some(stamp.epoch()),
+    }
 }
 
 /// One turn of a node.
@@ -173,14 +212,12 @@ impl<R: Wait + Drop> ByHand<R> {
         kind: Kind,
         root: u16,
     ) -> Result<Option<u32>, Refused> {
-        let receipt = match self.parts.controller.install(rt, kind, root) {
-            Ok(receipt) => receipt,
-            Err(error) => return Err(error),
-        };
-        self.parts.injector.learn(&receipt);
-        match receipt.stamp() {
-            None => Ok(None),
-            Some(stamp) => Ok(Some(stamp.epoch())),
+        match self.parts.controller.install(rt, kind, root) {
+            Ok(receipt) => {
+                self.parts.injector.learn(&receipt);
+                Ok(installed_by(&receipt))
+            }
+            Err(error) => Err(error),
         }
     }
 
@@ -224,6 +261,14 @@ impl<R: Wait + Drop> ByHand<R> {
         match finish(rt, &net, parts) {
             Ok(report) => Ok(report),
             Err((error, parts)) => Err((error, ByHand { net, parts })),
+        }
+    }
+
+    /// Whether there is a report, and that became of all packets.
+    pub(crate) fn reports<B: Wait>(self, rt: &B, packets: &[Became<'_>]) -> bool {
+        match self.finish(rt) {
+            Ok(report) => tells_all(&report, packets),
+            Err(_) => false,
         }
     }
 }

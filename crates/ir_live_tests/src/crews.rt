@@ -1,7 +1,9 @@
 //! Runs over the path a, b, c whose plans a crew makes: several threads, or the one that calls.
 
 use crate::epochs::path;
-use ir_core::{Event, Kind, Opening, Refused, Reply, Step, World, installs_by, play_by};
+use ir_core::{
+    Event, Install, Kind, Opening, Played, Refused, Reply, Step, World, installs_by, play_by,
+};
 use ir_plan::{Alone, Crew, Several};
 use std::alloc::Global;
 
@@ -27,43 +29,78 @@ fn opening(alloc: Global) -> Option<Opening> {
 }
 
 /// Whether the steps are told so, and the packet goes all the way.
-fn is_played(crew: &impl Crew, alloc: Global) -> Option<bool> {
-    let played = play_by(crew, alloc, opening(alloc)?, &STEPS).ok()?;
-    let record = played.world.packet(0)?;
-    let went = record.hops.as_slice() == [0, 1, 2].as_slice();
-    Some(went && played.replies.as_slice() == REPLIES.as_slice())
+fn is_run(played: &Played) -> bool {
+    match played.world.packet(0) {
+        Some(record) => {
+            record.hops.as_slice() == [0, 1, 2].as_slice()
+                && played.replies.as_slice() == REPLIES.as_slice()
+        }
+        None => false,
+    }
 }
 
-/// Whether two epochs are built, the second of kind Shortest.
+/// Whether the run of the steps is so.
+fn is_played(crew: &impl Crew, alloc: Global) -> Option<bool> {
+    let opening = opening(alloc)?;
+    match play_by(crew, alloc, opening, &STEPS) {
+        Ok(played) => Some(is_run(&played)),
+        Err(_) => None,
+    }
+}
+
+/// Whether there are two epochs, the second of kind Shortest.
+fn are_two(built: &[Install]) -> bool {
+    match built {
+        [_, second] => (second.kind, second.root) == (Kind::Shortest, 0),
+        _ => false,
+    }
+}
+
+/// Whether two such epochs are built.
 fn is_built(crew: &impl Crew, alloc: Global) -> Option<bool> {
-    let built = installs_by(crew, alloc, &opening(alloc)?, &STEPS).ok()?;
-    match built.as_slice() {
-        [_, second] => Some((second.kind, second.root) == (Kind::Shortest, 0)),
-        _ => Some(false),
+    let opening = opening(alloc)?;
+    match installs_by(crew, alloc, &opening, &STEPS) {
+        Ok(built) => Some(are_two(built.as_slice())),
+        Err(_) => None,
     }
 }
 
 /// Whether an install is answered, and the board of a change kept.
-fn is_applied(crew: &impl Crew, alloc: Global) -> Option<bool> {
-    let mut world = World::open_by(crew, alloc, opening(alloc)?).ok()?;
+fn is_kept(crew: &impl Crew, world: &mut World) -> bool {
     let install = world.apply_by(crew, Event::Install(Kind::Compact, 2));
     let down = world.apply_by(crew, Event::Down(1));
-    let board = world.board_versions().get(2)?.board();
     let answers = (Ok(Reply::Installed(2)), Ok(Reply::Changed));
-    Some((install, down) == answers && board.is_up(0) && !board.is_up(1))
+    match world.board_versions().get(2) {
+        Some(version) => {
+            let board = version.board();
+            (install, down) == answers && board.is_up(0) && !board.is_up(1)
+        }
+        None => false,
+    }
+}
+
+/// Whether both are so in the world of the opening.
+fn is_applied(crew: &impl Crew, alloc: Global) -> Option<bool> {
+    let opening = opening(alloc)?;
+    match World::open_by(crew, alloc, opening) {
+        Ok(mut world) => Some(is_kept(crew, &mut world)),
+        Err(_) => None,
+    }
+}
+
+/// Whether all three are so by a crew.
+fn are_so(crew: &impl Crew, alloc: Global) -> bool {
+    is_played(crew, alloc) == Some(true)
+        && is_built(crew, alloc) == Some(true)
+        && is_applied(crew, alloc) == Some(true)
 }
 
 #[test]
 fn runs_by_several_threads(rt: HostRuntime) {
-    let crew = Several { rt: &rt };
-    assert!(rt; is_played(&crew, rt.alloc()) == Some(true));
-    assert!(rt; is_built(&crew, rt.alloc()) == Some(true));
-    assert!(rt; is_applied(&crew, rt.alloc()) == Some(true));
+    assert!(rt; are_so(&Several { rt: &rt }, rt.alloc()));
 }
 
 #[test]
 fn runs_by_the_thread_that_calls(rt: HostRuntime) {
-    assert!(rt; is_played(&Alone, rt.alloc()) == Some(true));
-    assert!(rt; is_built(&Alone, rt.alloc()) == Some(true));
-    assert!(rt; is_applied(&Alone, rt.alloc()) == Some(true));
+    assert!(rt; are_so(&Alone, rt.alloc()));
 }

@@ -4,9 +4,9 @@ ghost use Rattle.ir_epochs.specs.Entries.{opening_links, topology_of, registry_o
 ghost use Rattle.ir_epochs.specs.Stamps.{IsOf, knows, registry_name};
 ghost use Rattle.ir_epochs.specs.{Handles.{published, writer_board, reader_board, receipt_board}, Over.IsOver};
 
+use crate::by_hand::{installed_by, network};
 use ir_core::Board;
 use ir_epochs::{BoardReader, BoardWriter, Change, Receipt, RegisterError, Registry, Stamp, board};
-use ir_graph::Graph;
 use ir_model::Kind;
 use ir_plan::Plan;
 use ir_tables::Topology;
@@ -17,14 +17,7 @@ use std::thread::Threads;
 
 /// The path.
 pub(crate) fn path(alloc: Global) -> Option<Topology> {
-    let mut graph = Graph::new(alloc);
-    let Ok(_) = graph.add_edge("a", "b", 1) else {
-        return None;
-    };
-    let Ok(_) = graph.add_edge("b", "c", 1) else {
-        return None;
-    };
-    Topology::of(alloc, &graph).ok()
+    network(alloc, &[("a", "b"), ("b", "c")])
 }
 
 fn plan(alloc: Global, kind: Kind, root: u16) -> Option<Plan> {
@@ -48,15 +41,21 @@ fn first(registry: &Registry, alloc: Global) -> Option<Stamp>
     registered(registry, 1, plan(alloc, Kind::Tree, 1)?)
 }
 
-// The root of the plan that comes back, where the epoch's cell is used.
+// The root of the plan that an answer brings back, where the epoch's cell is used.
+fn root_that_came_back(answer: &Result<Stamp, (RegisterError, Plan)>) -> Option<u16> {
+    match answer {
+        Err((RegisterError::Used, back)) => Some(back.root()),
+        _ => None,
+    }
+}
+
+// That of a plan which is to be registered for an epoch.
 fn register_again(registry: &Registry, alloc: Global, epoch: u32, root: u16) -> Option<u16>
     requires { (1 ≤ epoch) × (epoch ≤ 64) }
 {
-    match registry.register(epoch, plan(alloc, Kind::Shortest, root)?) {
-        Ok(_) => None,
-        Err((RegisterError::Used, back)) => Some(back.root()),
-        Err((RegisterError::NoMemory, _)) => None,
-    }
+    let plan = plan(alloc, Kind::Shortest, root)?;
+    let answer = registry.register(epoch, plan);
+    root_that_came_back(&answer)
 }
 
 fn last(registry: &Registry, alloc: Global) -> Option<Stamp>
@@ -65,16 +64,31 @@ fn last(registry: &Registry, alloc: Global) -> Option<Stamp>
     registered(registry, 64, plan(alloc, Kind::Shortest, 0)?)
 }
 
+// Whether the first plan of epoch 1 stays where another one is to be registered.
+fn plan_stays(registry: &Registry, alloc: Global, stamp: &Stamp) -> bool
+    requires { IsOf registry.now stamp.now }
+{
+    let back = register_again(registry, alloc, 1, 2);
+    let plan = registry.plan(stamp);
+    back == Some(2) && (plan.root(), plan.kind()) == (1, Kind::Tree)
+}
+
+// Whether a stamp is like itself, and not like the last one.
+fn is_like_itself(stamp: &Stamp, last: &Stamp) -> bool
+    requires { registry_name stamp.now ≡ registry_name last.now }
+{
+    let again = stamp.again();
+    stamp.same(&again) && !stamp.same(last) && last.epoch() == 64
+}
+
 // Whether the first plan of an epoch stays, and its stamp is like itself alone.
 fn first_stays(alloc: Global) -> Option<bool> {
     let registry = Registry::new(alloc);
     let stamp = first(&registry, alloc)?;
     let other = last(&registry, alloc)?;
-    let back = register_again(&registry, alloc, 1, 2);
-    let plan = registry.plan(&stamp);
-    let stays = back == Some(2) && (plan.root(), plan.kind()) == (1, Kind::Tree);
-    let same = stamp.same(&stamp.again()) && !stamp.same(&other) && other.epoch() == 64;
-    Some(stays && same)
+    let stays = plan_stays(&registry, alloc, &stamp);
+    let is_like_itself = is_like_itself(&stamp, &other);
+    Some(stays && is_like_itself)
 }
 
 #[test]
@@ -191,25 +205,32 @@ fn learn_there(mut reader: BoardReader, receipt: Receipt) -> (u32, u32)
     (reader.read().version(), reader.stamp().epoch())
 }
 
-// A board over the path, with two readers.
-fn opened_for_two<R: Wait + Drop>(
-    rt: R,
+// A board over the path with so many readers, in a registry of its own.
+fn fresh<'a, R: Wait>(
+    rt: &'a R,
     alloc: Global,
-    registry: &Registry,
-    opening: &Stamp,
-) -> Option<(BoardWriter<R>, BoardReader, BoardReader)>
-    requires of { IsOf registry.now opening.now }
-    requires epoch { opening.now.epoch ≡ 1 }
+    readers: u16,
+) -> Option<(BoardWriter<&'a R>, Vec<BoardReader>)>
     ensures links { IfSome result (λ b. opening_links (published b.0) ≡ 2) }
-    ensures topology { IfSome result (λ b. topology_of (published b.0) ≡ (knows opening.now).topology) }
-    ensures registry { IfSome result (λ b. registry_of (published b.0) ≡ registry_name opening.now) }
-    ensures board { IfSome result (λ b. reader_board b.1 ≡ writer_board b.0) }
+    ensures boards { IfSome result (λ b. All (λ x. reader_board x ≡ writer_board b.0) b.1.items) }
 {
-    let (writer, mut readers) = opened_for(rt, alloc, registry, opening, 2)?;
+    let registry = Registry::new(alloc);
+    let stamp = first(&registry, alloc)?;
+    opened_for(rt, alloc, &registry, &stamp, readers)
+}
+
+// The two readers of a board.
+fn two_of<R: Wait + Drop>(
+    writer: &BoardWriter<R>,
+    mut readers: Vec<BoardReader>,
+) -> Option<(BoardReader, BoardReader)>
+    requires { All (λ x. reader_board x ≡ writer_board writer.now) readers.items }
+    ensures { IfSome result (λ r. reader_board r.0 ≡ writer_board writer.now) }
+{
     let one = readers.pop()?;
     let other = readers.pop()?;
     if readers.is_empty() {
-        Some((writer, one, other))
+        Some((one, other))
     } else {
         None
     }
@@ -263,23 +284,86 @@ fn reads_each<R: Wait + Drop>(
     true
 }
 
-// Whether two readers read a thousand changes, the first read of one of them being after a change, and still the last
-// of them when the writer is gone.
-fn a_thousand_read<R: Wait>(rt: &R, alloc: Global) -> Option<bool> {
-    let registry = Registry::new(alloc);
-    let stamp = first(&registry, alloc)?;
-    let (mut writer, mut told, mut untold) = opened_for_two(rt, alloc, &registry, &stamp)?;
+// Whether a board and its reader have no change, and two readers then read a thousand.
+fn are_read<R: Wait + Drop>(
+    writer: &mut BoardWriter<R>,
+    told: &mut BoardReader,
+    untold: &mut BoardReader,
+) -> bool
+    requires links { opening_links (published writer.old) ≡ 2 }
+    requires told { reader_board told.old ≡ writer_board writer.old }
+{
     let opening = told.read();
-    let are_read = opening.version() == 0
-        && opening == writer.board()
-        && reads_each(&mut writer, &mut told, &mut untold, 1_000);
+    opening.version() == 0 && opening == writer.board() && reads_each(writer, told, untold, 1_000)
+}
+
+// Whether a reader reads the last of a thousand changes, of which none is an install.
+fn reads_the_last(reader: &mut BoardReader) -> bool {
+    reader.read().version() == 1_000 && reader.stamp().epoch() == 1
+}
+
+// Whether two readers read a thousand changes, and one of them still the last when the writer is gone.
+fn are_read_and_kept<R: Wait + Drop>(
+    mut writer: BoardWriter<R>,
+    mut told: BoardReader,
+    mut untold: BoardReader,
+) -> bool
+    requires links { opening_links (published writer) ≡ 2 }
+    requires told { reader_board told ≡ writer_board writer }
+{
+    let are_read = are_read(&mut writer, &mut told, &mut untold);
     drop(writer);
-    Some(are_read && told.read().version() == 1_000 && told.stamp().epoch() == 1)
+    let is_kept = reads_the_last(&mut told);
+    are_read && is_kept
+}
+
+// Whether they do so on a board of their own. The first read of one of them is after a change.
+fn a_thousand_read<R: Wait>(rt: &R, alloc: Global) -> Option<bool> {
+    let (writer, readers) = fresh(rt, alloc, 2)?;
+    let (told, untold) = two_of(&writer, readers)?;
+    Some(are_read_and_kept(writer, told, untold))
 }
 
 #[test]
 fn two_readers_read_each_of_a_thousand_changes(rt: HostRuntime) {
     assert!(rt; a_thousand_read(&rt, rt.alloc()) == Some(true));
+}
+
+// A board over the path with so many readers, and a stamp of epoch 2 over all links of its network.
+fn with_next<R: Wait + Drop>(
+    rt: R,
+    alloc: Global,
+    registry: &Registry,
+    opening: &Stamp,
+    readers: u16,
+) -> Option<(BoardWriter<R>, Vec<BoardReader>, Stamp)>
+    requires of { IsOf registry.now opening.now }
+    requires epoch { opening.now.epoch ≡ 1 }
+    ensures links { IfSome result (λ b. opening_links (published b.0) ≡ 2) }
+    ensures registry { IfSome result (λ b. registry_name b.2 ≡ registry_of (published b.0)) }
+    ensures over { IfSome result (λ b. IsOver (topology_of (published b.0)) (knows b.2).topology) }
+    ensures boards { IfSome result (λ b. All (λ x. reader_board x ≡ writer_board b.0) b.1.items) }
+{
+    let next = later(registry, alloc, opening, 2)?;
+    let (writer, readers) = opened_for(rt, alloc, registry, opening, readers)?;
+    over_board(&writer, opening, &next);
+    Some((writer, readers, next))
+}
+
+// Such a board, in a registry of its own, with that stamp.
+fn opened_with_next<'a, R: Wait>(
+    rt: &'a R,
+    alloc: Global,
+    readers: u16,
+) -> Option<(BoardWriter<&'a R>, Vec<BoardReader>, Stamp)>
+    ensures links { IfSome result (λ b. opening_links (published b.0) ≡ 2) }
+    ensures registry { IfSome result (λ b. registry_name b.2 ≡ registry_of (published b.0)) }
+    ensures over { IfSome result (λ b. IsOver (topology_of (published b.0)) (knows b.2).topology) }
+    ensures boards { IfSome result (λ b. All (λ x. reader_board x ≡ writer_board b.0) b.1.items) }
+{
+    let registry = Registry::new(alloc);
+    let stamp = first(&registry, alloc)?;
+    with_next(rt, alloc, &registry, &stamp, readers)
 }
 
 // A board and the receipt of an install there, and two readers.
@@ -289,12 +373,9 @@ fn installed_for_two<'a, R: Wait>(
 ) -> Option<(BoardWriter<&'a R>, Receipt, BoardReader, BoardReader)>
     ensures { IfSome result (λ b. receipt_board b.1 ≡ reader_board b.2) }
 {
-    let registry = Registry::new(alloc);
-    let stamp = first(&registry, alloc)?;
-    let next = later(&registry, alloc, &stamp, 2)?;
-    let (mut writer, told, untold) = opened_for_two(rt, alloc, &registry, &stamp)?;
-    over_board(&writer, &stamp, &next);
+    let (mut writer, readers, next) = opened_with_next(rt, alloc, 2)?;
     let receipt = install(&mut writer, next)?;
+    let (told, untold) = two_of(&writer, readers)?;
     Some((writer, receipt, told, untold))
 }
 
@@ -310,9 +391,9 @@ fn read_untold(mut reader: BoardReader) -> (u32, u32, u32) {
 fn learnt_by_one<R: Threads + Wait + Sync>(
     rt: &R,
     alloc: Global,
-) -> Option<(u32, (u32, u32), (u32, u32, u32))> {
+) -> Option<(Option<u32>, (u32, u32), (u32, u32, u32))> {
     let (_writer, receipt, told, untold) = installed_for_two(rt, alloc)?;
-    let epoch = receipt.stamp()?.epoch();
+    let epoch = installed_by(&receipt);
     let there = move || -> (u32, u32)
         requires { receipt_board receipt ≡ reader_board told }
     { learn_there(told, receipt) };
@@ -322,7 +403,7 @@ fn learnt_by_one<R: Threads + Wait + Sync>(
 
 #[test]
 fn an_install_is_learnt_on_another_thread_or_read(rt: HostRuntime) {
-    assert!(rt; learnt_by_one(&rt, rt.alloc()) == Some((2, (1, 2), (1, 2, 2))));
+    assert!(rt; learnt_by_one(&rt, rt.alloc()) == Some((Some(2), (1, 2), (1, 2, 2))));
 }
 
 // Retires the epochs below one, if it is a live one that is not the least.
@@ -340,47 +421,37 @@ type Told = (u32, Option<u32>, u32, u32, bool);
 
 fn told_by(receipt: &Receipt) -> Told {
     let board = receipt.board();
-    let epoch = match receipt.stamp() {
-        None => None,
-        Some(stamp) => Some(stamp.epoch()),
-    };
     (
         receipt.version(),
-        epoch,
+        installed_by(receipt),
         board.current(),
         board.floor(),
         board.is_up(0),
     )
 }
 
-// A board that nobody reads, a stamp of epoch 2, and what the receipt tells of the first link's mark as down.
-fn marked_unread<'a, R: Wait>(rt: &'a R, alloc: Global) -> Option<(BoardWriter<&'a R>, Stamp, Told)>
-    ensures registry { IfSome result (λ b. registry_name b.1 ≡ registry_of (published b.0)) }
-    ensures over { IfSome result (λ b. IsOver (topology_of (published b.0)) (knows b.1).topology) }
+// What the receipts of a mark, an install and a retirement tell.
+fn changes_told<R: Wait + Drop>(writer: &mut BoardWriter<R>, next: Stamp) -> Option<[Told; 3]>
+    requires links { opening_links (published writer.old) ≡ 2 }
+    requires registry { registry_name next ≡ registry_of (published writer.old) }
+    requires over { IsOver (topology_of (published writer.old)) (knows next).topology }
 {
-    let registry = Registry::new(alloc);
-    let stamp = first(&registry, alloc)?;
-    let next = later(&registry, alloc, &stamp, 2)?;
-    let (mut writer, readers) = opened_for(rt, alloc, &registry, &stamp, 0)?;
-    let down = told_by(&mark(&mut writer, 0, false)?);
-    over_board(&writer, &stamp, &next);
-    if readers.is_empty() {
-        Some((writer, next, down))
-    } else {
-        None
-    }
-}
-
-// What the receipts tell of a mark, an install and a retirement, on a board that nobody reads.
-fn changed_unread<R: Wait>(rt: &R, alloc: Global) -> Option<[Told; 3]> {
-    let (mut writer, next, down) = marked_unread(rt, alloc)?;
-    let installed = told_by(&install(&mut writer, next)?);
-    let retired = retire(&mut writer, 2)?;
+    let down = told_by(&mark(writer, 0, false)?);
+    let installed = told_by(&install(writer, next)?);
+    let retired = retire(writer, 2)?;
     if writer.board() == retired.board() {
         Some([down, installed, told_by(&retired)])
     } else {
         None
     }
+}
+
+// The same on a board that nobody reads.
+fn changed_unread<R: Wait>(rt: &R, alloc: Global) -> Option<[Told; 3]> {
+    let (mut writer, readers, next) = opened_with_next(rt, alloc, 0)?;
+    let is_unread = readers.is_empty();
+    let told = changes_told(&mut writer, next);
+    if is_unread { told } else { None }
 }
 
 #[test]
@@ -393,12 +464,12 @@ fn a_board_that_nobody_reads_is_changed(rt: HostRuntime) {
     assert!(rt; changed_unread(&rt, rt.alloc()) == Some(wanted));
 }
 
-// The first link goes down.
-fn cut<R: Wait + Drop>(mut writer: BoardWriter<R>) -> (BoardWriter<R>, Option<Receipt>)
+// The first link goes down: the writer, and whether it did.
+fn cut<R: Wait + Drop>(mut writer: BoardWriter<R>) -> (BoardWriter<R>, bool)
     requires { opening_links (published writer) ≡ 2 }
 {
-    let receipt = mark(&mut writer, 0, false);
-    (writer, receipt)
+    let is_cut = mark(&mut writer, 0, false).is_some();
+    (writer, is_cut)
 }
 
 fn read_twice(mut reader: BoardReader) -> (BoardReader, Board, Board) {
@@ -408,18 +479,32 @@ fn read_twice(mut reader: BoardReader) -> (BoardReader, Board, Board) {
 }
 
 // The boards that a reader on another thread, who learns of nothing, reads beside a change, and one after it.
-fn read_beside_a_change<R: Threads + Wait + Sync>(rt: &R, alloc: Global) -> Option<[Board; 3]> {
-    let registry = Registry::new(alloc);
-    let stamp = first(&registry, alloc)?;
-    let (writer, mut readers) = opened_for(rt, alloc, &registry, &stamp, 1)?;
-    let reader = readers.pop()?;
+fn read_beside<R: Threads + Wait + Sync>(
+    rt: &R,
+    writer: BoardWriter<&R>,
+    reader: BoardReader,
+) -> Option<[Board; 3]>
+    requires { opening_links (published writer) ≡ 2 }
+{
     let there = move || read_twice(reader);
-    let here = move || -> (BoardWriter<&R>, Option<Receipt>)
+    let here = move || -> (BoardWriter<&R>, bool)
         requires { opening_links (published writer) ≡ 2 }
     { cut(writer) };
-    let ((mut reader, one, two), (_writer, receipt)) = thread::join(rt, there, here);
-    let _changed = receipt?;
-    Some([one, two, reader.read()])
+    let ((mut reader, one, two), (_writer, is_cut)) = thread::join(rt, there, here);
+    let last = reader.read();
+    if is_cut { Some([one, two, last]) } else { None }
+}
+
+// The last of some readers.
+fn last_of(mut readers: Vec<BoardReader>) -> Option<BoardReader> {
+    readers.pop()
+}
+
+// Such boards, read of a board of their own.
+fn read_beside_a_change<R: Threads + Wait + Sync>(rt: &R, alloc: Global) -> Option<[Board; 3]> {
+    let (writer, readers) = fresh(rt, alloc, 1)?;
+    let reader = last_of(readers)?;
+    read_beside(rt, writer, reader)
 }
 
 // Whether such boards never go back, and the last is after the change.

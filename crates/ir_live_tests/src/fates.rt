@@ -109,8 +109,13 @@ static FIRST_DROPPED: [Became<'static>; 3] = [
 
 // Whether one of two packets is dropped.
 fn is_one_dropped<R: Threads + Wait + Sync>(rt: &R, alloc: Global) -> Option<bool> {
-    let report = run_held(rt, alloc, (1, 0), 2, &MEETING)?.report;
-    Some(tells_all(&report, &SECOND_DROPPED) || tells_all(&report, &FIRST_DROPPED))
+    match run_held(rt, alloc, (1, 0), 2, &MEETING) {
+        Some(live) => {
+            let report = &live.report;
+            Some(tells_all(report, &SECOND_DROPPED) || tells_all(report, &FIRST_DROPPED))
+        }
+        None => None,
+    }
 }
 
 #[test]
@@ -179,8 +184,10 @@ fn waits<R: Threads + Wait + Sync>(
     restamps: u8,
     packets: &[Became<'_>],
 ) -> Option<bool> {
-    let report = run_held(rt, alloc, (16, restamps), 0, &WAITING)?.report;
-    Some(tells_all(&report, packets))
+    match run_held(rt, alloc, (16, restamps), 0, &WAITING) {
+        Some(live) => Some(tells_all(&live.report, packets)),
+        None => None,
+    }
 }
 
 #[test]
@@ -247,6 +254,19 @@ fn all_inwards(records: &[Record]) -> bool {
     records.len() == 4_096
 }
 
+// Whether all are delivered over a net.
+fn settles_over<R: Threads + Wait + Sync, C: Clock + Sync>(
+    rt: &R,
+    clock: &C,
+    net: &Net,
+    commands: &[Command],
+) -> bool {
+    match run_all(rt, net, commands, &Late { clock }) {
+        Some(live) => all_inwards(live.report.records.as_slice()),
+        None => false,
+    }
+}
+
 // Whether all are delivered where the inboxes have room for all packets together: by the time that the node in the
 // middle makes its first turn they wait for it, and it settles them all.
 fn settles_all<R: Threads + Wait + Sync, C: Clock + Sync>(
@@ -254,10 +274,11 @@ fn settles_all<R: Threads + Wait + Sync, C: Clock + Sync>(
     clock: &C,
     alloc: Global,
 ) -> Option<bool> {
-    let net = over_star(rt, alloc)?;
     let commands = inwards(alloc)?;
-    let live = run_all(rt, &net, commands.as_slice(), &Late { clock })?;
-    Some(all_inwards(live.report.records.as_slice()))
+    match over_star(rt, alloc) {
+        Some(net) => Some(settles_over(rt, clock, &net, commands.as_slice())),
+        None => None,
+    }
 }
 
 #[test]

@@ -1,6 +1,6 @@
 //! Live runs whose nodes a gate stops early.
 
-use crate::by_hand::{ByHand, opened, path};
+use crate::by_hand::{link, opened, parts_of_path};
 use crate::live;
 use ir_control::{Command, Live, Net};
 use ir_core::{Fate, Kind, Record};
@@ -25,21 +25,29 @@ impl Gate for AtMost {
     }
 }
 
-// Links two nodes by their numbers.
-fn link(graph: &mut Graph, alloc: Global, u: u16, v: u16) -> Option<()> {
-    let from = format!(in alloc; "n{u}").ok()?;
-    let to = format!(in alloc; "n{v}").ok()?;
-    graph.add_edge(from.as_str(), to.as_str(), 1).ok()?;
-    Some(())
+// Links 64 nodes, n0 to the last, to a ring, and answers whether it could.
+fn link_ring(graph: &mut Graph, alloc: Global) -> bool {
+    for u in 0..64 {
+        if !link(graph, alloc, u, (u + 1) % 64, 1) {
+            return false;
+        }
+    }
+    true
 }
 
-// A net of the shortest ways over a ring of 64 nodes, n0 to the last, of the greatest capacity.
-fn over_ring(rt: &(impl Threads + Sync), alloc: Global) -> Option<Net> {
+// The ring.
+fn ring(alloc: Global) -> Option<Topology> {
     let mut graph = Graph::new(alloc);
-    for u in 0..64 {
-        link(&mut graph, alloc, u, (u + 1) % 64)?;
+    if link_ring(&mut graph, alloc) {
+        Topology::of(alloc, &graph).ok()
+    } else {
+        None
     }
-    let ring = Topology::of(alloc, &graph).ok()?;
+}
+
+// A net of the shortest ways over it, of the greatest capacity.
+fn over_ring(rt: &(impl Threads + Sync), alloc: Global) -> Option<Net> {
+    let ring = ring(alloc)?;
     opened(rt, alloc, ring, (Kind::Shortest, 0), (1_024, 4_096, 0)).ok()
 }
 
@@ -115,12 +123,24 @@ fn is_stopped(live: &Live, turns: u64) -> bool {
     live.refusals.is_empty() && all_sound(records) && delivered(records) <= turns.saturating_mul(2)
 }
 
-// Whether a live run is stopped so.
+// Whether a live run over a net is stopped so.
+fn stops_over<R: Threads + Wait + Sync>(
+    rt: &R,
+    net: &Net,
+    commands: &[Command],
+    turns: u64,
+) -> bool {
+    match live::run(rt, net, commands, &AtMost(turns)) {
+        Some(live) => is_stopped(&live, turns),
+        None => false,
+    }
+}
+
+// Whether one over the ring is.
 fn stops<R: Threads + Wait + Sync>(rt: &R, alloc: Global, turns: u64) -> Option<bool> {
-    let net = over_ring(rt, alloc)?;
     let commands = around(alloc)?;
-    match live::run(rt, &net, commands.as_slice(), &AtMost(turns)) {
-        Some(live) => Some(is_stopped(&live, turns)),
+    match over_ring(rt, alloc) {
+        Some(net) => Some(stops_over(rt, &net, commands.as_slice(), turns)),
         None => None,
     }
 }
@@ -156,8 +176,10 @@ impl Gate for UpTo {
 
 // The first node of a path.
 fn first_node<R: Threads + Wait + Sync>(rt: &R, alloc: Global) -> Option<Node> {
-    let mut hands = ByHand::of(rt, path(rt, alloc, 16, 0)?)?;
-    hands.take_away(0)
+    match parts_of_path(rt, alloc, 16, 0) {
+        Some(mut hands) => hands.take_away(0),
+        None => None,
+    }
 }
 
 // Whether a node makes as many turns as it may, and asks for one more.

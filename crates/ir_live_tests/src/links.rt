@@ -1,5 +1,5 @@
 //! Channels: three items over two slots by hand, and ten thousand over four slots between two threads.
-ghost use Rattle.std.specs.Prelude.{◌≡◌, IfOk};
+ghost use Rattle.std.specs.Prelude.{◌≡◌, ◌≤◌, IfOk};
 
 use ir_links::{Bound, Channel, Sender, Taker, settle, settle_into};
 use std::alloc::{AllocError, Global};
@@ -154,17 +154,21 @@ fn take_ids<R: Wait>(rt: &R, mut taker: Taker<Letter>, count: u32) -> (Taker<Let
     (taker, in_order)
 }
 
-fn through<R: Threads + Wait + Sync>(
+// Whether so many letters go through a channel of at most four slots in order, and none is left there.
+fn pass<R: Threads + Wait + Sync>(
     rt: &R,
     alloc: Global,
+    sender: Sender<Letter>,
+    taker: Taker<Letter>,
     count: u32,
-) -> Result<Option<bool>, AllocError> {
-    let channel: Channel<Letter> = Channel::new(alloc, 4, Way { to: 7 })?;
-    let mut rest = Vec::with_capacity(alloc, 4)?;
-    let Some((sender, taker)) = channel.ends()? else {
-        return Ok(None);
+) -> bool
+    requires one { sender.channel ≡ taker.channel }
+    requires few { taker.channel.capacity ≤ 4 }
+{
+    let Ok(mut rest) = Vec::with_capacity(alloc, 4) else {
+        return false;
     };
-    let (sender, (taker, in_order)) = thread::join(
+    let (sent, (taker, in_order)) = thread::join(
         rt,
         move || -> Result<Sender<Letter>, AllocError>
             ensures { IfOk result (λ s. s.channel ≡ sender.channel) }
@@ -173,13 +177,25 @@ fn through<R: Threads + Wait + Sync>(
             ensures { result.0.channel ≡ taker.channel }
         { take_ids(rt, taker, count) },
     );
-    settle_into(rt, sender?, taker, &mut rest);
-    Ok(Some(in_order && rest.is_empty()))
+    let Ok(sender) = sent else {
+        return false;
+    };
+    settle_into(rt, sender, taker, &mut rest);
+    in_order && rest.is_empty()
+}
+
+// Whether they go so through a channel of four slots.
+fn through<R: Threads + Wait + Sync>(rt: &R, alloc: Global, count: u32) -> Option<bool> {
+    let channel: Channel<Letter> = Channel::new(alloc, 4, Way { to: 7 }).ok()?;
+    match channel.ends() {
+        Ok(Some((sender, taker))) => Some(pass(rt, alloc, sender, taker, count)),
+        _ => None,
+    }
 }
 
 #[test]
 fn ten_thousand_in_order_between_two_threads(rt: HostRuntime) {
-    assert!(rt; through(&rt, rt.alloc(), 10_000) == Ok(Some(true)));
+    assert!(rt; through(&rt, rt.alloc(), 10_000) == Some(true));
 }
 
 // Whether the example in the doc comment of a channel is so.

@@ -146,9 +146,10 @@ fn are_run<R: Threads + Wait + Sync>(rt: &R, net: &Net) -> bool {
 
 // Whether they are run so, and the net is then spent.
 fn runs_once<R: Threads + Wait + Sync>(rt: &R, alloc: Global) -> Option<bool> {
-    let net = path(rt, alloc, 16, 0)?;
-    let is_spent = are_run(rt, &net) && error(rt, &net, rt) == Some(LiveError::Spent);
-    Some(is_spent)
+    match path(rt, alloc, 16, 0) {
+        Some(net) => Some(are_run(rt, &net) && error(rt, &net, rt) == Some(LiveError::Spent)),
+        None => None,
+    }
 }
 
 #[test]
@@ -156,12 +157,27 @@ fn refusals_with_their_places_and_then_spent(rt: HostRuntime) {
     assert!(rt; runs_once(&rt, rt.alloc()) == Some(true));
 }
 
+// Whether that becomes of the packets of a live run.
+fn ends<R: Threads + Wait + Sync, G: Gate>(
+    rt: &R,
+    net: &Net,
+    commands: &[Command],
+    gate: &G,
+    packets: &[Became<'_>],
+) -> bool {
+    match run(rt, net, commands, gate) {
+        Some(live) => tells_all(&live.report, packets),
+        None => false,
+    }
+}
+
 // Whether a packet is left where no node may pass.
 fn is_left<R: Threads + Wait + Sync>(rt: &R, alloc: Global) -> Option<bool> {
-    let net = path(rt, alloc, 16, 0)?;
     let commands = [Command::Inject(0, 2), Command::Drain];
-    let live = run(rt, &net, &commands, &Shut)?;
-    Some(tells_all(&live.report, &[LEFT]))
+    match path(rt, alloc, 16, 0) {
+        Some(net) => Some(ends(rt, &net, &commands, &Shut, &[LEFT])),
+        None => None,
+    }
 }
 
 #[test]
@@ -205,21 +221,28 @@ fn over_edges(rt: &(impl Threads + Sync), alloc: Global, edges: &[(&str, &str)])
     opened(rt, alloc, topology, (Kind::Tree, 0), (16, 64, 0)).ok()
 }
 
-// Whether all nodes meet, and a packet is delivered over the first link.
+// Whether all nodes of a net meet, and a packet is delivered over the first link.
+fn meet_over<R: Threads + Wait + Sync>(rt: &R, net: &Net, nodes: u32) -> bool {
+    let gate = Meeting {
+        nodes,
+        come: AtomicU32::new(0),
+        met: AtomicU32::new(0),
+    };
+    let is_over = ends(rt, net, &FIRST, &gate, &FIRST_BECAME);
+    is_over && gate.met.load(Ordering::SeqCst) == nodes
+}
+
+// Whether they do in a net over these edges.
 fn meet<R: Threads + Wait + Sync>(
     rt: &R,
     alloc: Global,
     edges: &[(&str, &str)],
     nodes: u32,
 ) -> Option<bool> {
-    let net = over_edges(rt, alloc, edges)?;
-    let gate = Meeting {
-        nodes,
-        come: AtomicU32::new(0),
-        met: AtomicU32::new(0),
-    };
-    let live = run(rt, &net, &FIRST, &gate)?;
-    Some(gate.met.load(Ordering::SeqCst) == nodes && tells_all(&live.report, &FIRST_BECAME))
+    match over_edges(rt, alloc, edges) {
+        Some(net) => Some(meet_over(rt, &net, nodes)),
+        None => None,
+    }
 }
 
 #[test]

@@ -4,6 +4,7 @@
 ghost use Rattle.std.specs.Prelude.{◌≢◌, ◌<◌};
 ghost use Rattle.ir_model.specs.{Topology.node_count, declared.Kind.TheVariants.Tree};
 
+use crate::by_hand::link;
 use crate::epochs::path;
 use ir_graph::Graph;
 use ir_model::Kind;
@@ -17,23 +18,28 @@ use std::alloc::Global;
 use std::test::Fail;
 use std::thread::Threads;
 
-// Links two nodes by their numbers, with a weight from 1 to 7.
-fn link(graph: &mut Graph, alloc: Global, u: u32, v: u32) -> Option<()> {
-    let from = format!(in alloc; "n{u}").ok()?;
-    let to = format!(in alloc; "n{v}").ok()?;
-    graph.add_edge(from.as_str(), to.as_str(), v % 7 + 1).ok()?;
-    Some(())
-}
-
-/// So many nodes, n0 to the last, of which each is linked to the next one and to the third one behind it.
-fn chain(alloc: Global, nodes: u16) -> Option<Topology> {
-    let mut graph = Graph::new(alloc);
+// Links each of so many nodes, n0 to the last, to the next one and to the third one behind it, with weights from 1 to
+// 7, and answers whether it could.
+fn link_chain(graph: &mut Graph, alloc: Global, nodes: u16) -> bool {
     for u in 0..nodes {
         let u = u as u32;
-        link(&mut graph, alloc, u, u + 1)?;
-        link(&mut graph, alloc, u, u + 3)?;
+        let is_linked = link(graph, alloc, u, u + 1, (u + 1) % 7 + 1)
+            && link(graph, alloc, u, u + 3, (u + 3) % 7 + 1);
+        if !is_linked {
+            return false;
+        }
     }
-    Topology::of(alloc, &graph).ok()
+    true
+}
+
+/// So many nodes that are linked so.
+fn chain(alloc: Global, nodes: u16) -> Option<Topology> {
+    let mut graph = Graph::new(alloc);
+    if link_chain(&mut graph, alloc, nodes) {
+        Topology::of(alloc, &graph).ok()
+    } else {
+        None
+    }
 }
 
 /// The plan of shortest ways that is labelled from a root, depth first or by a tour.
@@ -169,12 +175,27 @@ fn are_one(one: &Plan, other: &Plan) -> bool {
     links && (one.kind(), one.root()) == (other.kind(), other.root())
 }
 
-// Whether there are two plans of a chain of 80 links, and they are one.
-fn are_both(one: Option<Plan>, other: Option<Plan>) -> bool {
+// Whether there are two plans, and they are one.
+fn are_both_one(one: &Option<Plan>, other: &Option<Plan>) -> bool {
     match (one, other) {
-        (Some(one), Some(other)) => are_one(&one, &other) && one.into_topology().links() == 80,
+        (Some(one), Some(other)) => are_one(one, other),
         _ => false,
     }
+}
+
+// Whether there is a plan of a chain of 80 links.
+fn is_of_chain(plan: Option<Plan>) -> bool {
+    match plan {
+        Some(plan) => plan.into_topology().links() == 80,
+        None => false,
+    }
+}
+
+// Whether there are two plans of a chain of 80 links, and they are one.
+fn are_both(one: Option<Plan>, other: Option<Plan>) -> bool {
+    let are_one = are_both_one(&one, &other);
+    let is_of_chain = is_of_chain(one);
+    are_one && is_of_chain
 }
 
 /// The kinds and orders of plans from a root.
@@ -206,17 +227,31 @@ fn one_plan_of_each_kind_and_labels(rt: HostRuntime) -> Result<(), Fail> {
 /// The ports of a, b and c of the path to each of them; 65,535 stands for that of a node to itself.
 static COLUMNS: [[u16; 3]; 3] = [[65_535, 0, 0], [0, 65_535, 0], [0, 1, 65_535]];
 
-// Whether the ports of a plan of the path are these.
-fn are_columns(rt: &(impl Threads + Sync), alloc: Global) -> Option<bool> {
-    let crew = Several { rt };
-    let plan = labelled(&crew, alloc, path(alloc)?, LabelOrder::DepthFirst, 0, None).ok()?;
-    let columns = columns_in_threads(rt, alloc, &plan, Some(2)).ok()?;
-    for (d, column) in COLUMNS.iter().enumerate() {
-        if columns.get(d)?.as_slice() != column.as_slice() {
-            return Some(false);
+// Whether lists are these.
+fn are_lists(lists: &[Vec<u16>], wanted: &[[u16; 3]]) -> bool {
+    for (k, numbers) in wanted.iter().enumerate() {
+        match lists.get(k) {
+            Some(list) if list.as_slice() == numbers.as_slice() => {}
+            _ => return false,
         }
     }
-    Some(columns.len() == 3)
+    lists.len() == wanted.len()
+}
+
+// The plan of the path in depth-first numbers from a.
+fn plan_of_path(rt: &(impl Threads + Sync), alloc: Global) -> Option<Plan> {
+    let crew = Several { rt };
+    let path = path(alloc)?;
+    labelled(&crew, alloc, path, LabelOrder::DepthFirst, 0, None).ok()
+}
+
+// Whether the ports of a plan of the path are these.
+fn are_columns(rt: &(impl Threads + Sync), alloc: Global) -> Option<bool> {
+    let plan = plan_of_path(rt, alloc)?;
+    match columns_in_threads(rt, alloc, &plan, Some(2)) {
+        Ok(columns) => Some(are_lists(columns.as_slice(), &COLUMNS)),
+        Err(_) => None,
+    }
 }
 
 #[test]
@@ -234,13 +269,10 @@ fn are_distances(rt: &(impl Threads + Sync), alloc: Global) -> Option<bool> {
         Vec::from_slice(alloc, &COLUMNS[1]).ok()?,
         Vec::from_slice(alloc, &COLUMNS[2]).ok()?,
     ];
-    let rows = distances_in_threads(rt, alloc, &columns, Some(2)).ok()?;
-    for (a, row) in DISTANCES.iter().enumerate() {
-        if rows.get(a)?.as_slice() != row.as_slice() {
-            return Some(false);
-        }
+    match distances_in_threads(rt, alloc, &columns, Some(2)) {
+        Ok(rows) => Some(are_lists(rows.as_slice(), &DISTANCES)),
+        Err(_) => None,
     }
-    Some(rows.len() == 3)
 }
 
 #[test]
@@ -248,21 +280,30 @@ fn distances_of_each_two_nodes(rt: HostRuntime) {
     assert!(rt; are_distances(&rt, rt.alloc()) == Some(true));
 }
 
-// How many starts the rows of a chain have by depth-first numbers, made in at most two threads.
-fn starts_of_rows(rt: &(impl Threads + Sync), alloc: Global, nodes: u16) -> Option<usize> {
-    let topology = chain(alloc, nodes)?;
-    let numbers = Numbering::depth_first(alloc, &topology, 5).ok()?;
+// How many starts the rows of a network have by depth-first numbers, made in at most two threads.
+fn starts_over(rt: &(impl Threads + Sync), alloc: Global, topology: &Topology) -> Option<usize> {
+    let numbers = Numbering::depth_first(alloc, topology, 5).ok()?;
     let makers = Makers {
         rt,
         most: Some(2),
         watch: &Unwatched,
     };
-    let rows = rows_in_threads(makers, alloc, &topology, &numbers, Kind::Shortest).ok()?;
+    let Ok(rows) = rows_in_threads(makers, alloc, topology, &numbers, Kind::Shortest) else {
+        return None;
+    };
     let mut starts = 0usize;
     for row in &rows {
         starts = starts.saturating_add(row.len());
     }
     Some(starts)
+}
+
+// How many the rows of a chain have.
+fn starts_of_rows(rt: &(impl Threads + Sync), alloc: Global, nodes: u16) -> Option<usize> {
+    match chain(alloc, nodes) {
+        Some(topology) => starts_over(rt, alloc, &topology),
+        None => None,
+    }
 }
 
 #[test]

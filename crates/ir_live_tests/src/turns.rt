@@ -3,8 +3,9 @@
 ghost use Rattle.std.specs.Prelude.{◌≡◌, IfSome};
 ghost use Rattle.ir_epochs.specs.Handles.{receipt_board, reader_board, writer_board};
 ghost use Rattle.ir_worker.specs.Same.{IsSameNode};
+ghost use Rattle.ir_live_tests.specs.ByHand.{IsAway};
 
-use crate::by_hand::{Became, ByHand, path, tells_all, turned};
+use crate::by_hand::{Became, ByHand, installed_by, parts_of_path, turned};
 use ir_control::FinishError;
 use ir_core::{Fate, Kind, Refused, Restamp};
 use ir_epochs::Receipt;
@@ -48,6 +49,12 @@ const LEFT: Became<'static> = Became {
     hops: &[0],
     restamps: &[],
     fate: Fate::Left,
+};
+
+/// A packet that is dropped at node 0, since its epoch is retired.
+const RETIRED: Became<'static> = Became {
+    fate: Fate::Retired,
+    ..LEFT
 };
 
 static CASES: [Case; 9] = [
@@ -101,10 +108,7 @@ static CASES: [Case; 9] = [
             Move::Turn(1, Turn::Idle),
             Move::Turn(1, Turn::Settled(0)),
         ],
-        packets: &[Became {
-            fate: Fate::Retired,
-            ..LEFT
-        }],
+        packets: &[RETIRED],
     },
     Case {
         name: "restamped on its way",
@@ -211,14 +215,28 @@ static CASES: [Case; 9] = [
     },
 ];
 
-// Installs epoch 2 and retires epoch 1, of which a node learns.
-fn renewed<R: Threads + Wait + Sync>(rt: &R, hands: &mut ByHand<&R>, at: usize) -> Option<()> {
-    let installed = hands.install(rt, Kind::Tree, 1).ok()?;
-    if installed.version() != 1 || installed.stamp()?.epoch() != 2 {
-        return None;
+// Whether a receipt is that of epoch 2, the first change of a board.
+fn is_second(receipt: &Receipt) -> bool {
+    receipt.version() == 1 && installed_by(receipt) == Some(2)
+}
+
+// Whether epoch 2 is installed.
+fn is_installed<R: Threads + Wait + Sync>(rt: &R, hands: &mut ByHand<&R>) -> bool {
+    match hands.install(rt, Kind::Tree, 1) {
+        Ok(receipt) => is_second(&receipt),
+        Err(_) => false,
     }
-    let receipt = hands.retire(2).ok()?;
-    hands.learn(at, &receipt)
+}
+
+// Installs epoch 2 and retires epoch 1, of which a node learns.
+fn renewed<R: Threads + Wait + Sync>(rt: &R, hands: &mut ByHand<&R>, at: usize) -> bool {
+    if !is_installed(rt, hands) {
+        return false;
+    }
+    match hands.retire(2) {
+        Ok(receipt) => hands.learn(at, &receipt).is_some(),
+        Err(_) => false,
+    }
 }
 
 // Whether a move answers as is said.
@@ -232,7 +250,7 @@ fn moved<R: Threads + Wait + Sync>(rt: &R, hands: &mut ByHand<&R>, step: Move) -
             hands.install_and_learn(rt, kind, root) == Ok(Some(epoch))
         }
         Move::Retire(floor, why) => hands.retire(floor).err() == why,
-        Move::Renew(at) => renewed(rt, hands, at).is_some(),
+        Move::Renew(at) => renewed(rt, hands, at),
     }
 }
 
@@ -247,10 +265,10 @@ fn all_moved<R: Threads + Wait + Sync>(rt: &R, hands: &mut ByHand<&R>, moves: &[
 }
 
 fn is_so<R: Threads + Wait + Sync>(rt: &R, alloc: Global, case: &Case) -> Option<bool> {
-    let mut hands = ByHand::of(rt, path(rt, alloc, case.capacity, case.restamps)?)?;
+    let mut hands = parts_of_path(rt, alloc, case.capacity, case.restamps)?;
     let is_moved = all_moved(rt, &mut hands, case.moves);
-    let report = hands.finish(rt).ok()?;
-    Some(is_moved && tells_all(&report, case.packets))
+    let is_told = hands.reports(rt, case.packets);
+    Some(is_moved && is_told)
 }
 
 #[test]
@@ -263,27 +281,52 @@ fn moves_by_hand(rt: HostRuntime) -> Result<(), Fail> {
     Ok(())
 }
 
-// Why there is no report without the node at this place, which is then brought back.
-fn refused_without<R: Wait, B: Wait + Drop>(
+// Whether a node is brought back, and that became of all packets.
+fn reports_with<R: Wait, B: Wait + Drop>(
     rt: &R,
     mut hands: ByHand<B>,
-    at: usize,
-) -> Option<(FinishError, ByHand<B>)> {
-    let node = hands.take_away(at)?;
-    let Err((error, mut hands)) = hands.finish(rt) else {
-        return None;
-    };
-    hands.bring_back(node)?;
-    Some((error, hands))
+    node: Node,
+    packets: &[Became<'_>],
+) -> bool
+    requires { IsAway hands.net hands.parts node }
+{
+    let is_back = hands.bring_back(node).is_some();
+    let is_told = hands.reports(rt, packets);
+    is_back && is_told
+}
+
+// Whether there is no report without node 1, and one with it.
+fn reports_then<R: Wait, B: Wait + Drop>(
+    rt: &R,
+    hands: ByHand<B>,
+    node: Node,
+    packets: &[Became<'_>],
+) -> bool
+    requires { IsAway hands.net hands.parts node }
+{
+    match hands.finish(rt) {
+        Ok(_) => false,
+        Err((error, hands)) => {
+            let is_told = reports_with(rt, hands, node, packets);
+            is_told && error == FinishError::Missing(1)
+        }
+    }
+}
+
+// Whether that is so once it was taken away.
+fn wants_it<R: Wait, B: Wait + Drop>(rt: &R, mut hands: ByHand<B>, packets: &[Became<'_>]) -> bool {
+    match hands.take_away(1) {
+        Some(node) => reports_then(rt, hands, node, packets),
+        None => false,
+    }
 }
 
 // Whether a net gives its parts once, and a report wants all three nodes.
 fn wants_all<R: Threads + Wait + Sync>(rt: &R, alloc: Global) -> Option<bool> {
-    let mut hands = ByHand::of(rt, path(rt, alloc, 16, 0)?)?;
+    let mut hands = parts_of_path(rt, alloc, 16, 0)?;
     let once = hands.handed_out(rt) == (3, true) && hands.inject(rt, 0, 2) == Ok(0);
-    let (error, hands) = refused_without(rt, hands, 1)?;
-    let report = hands.finish(rt).ok()?;
-    Some(once && error == FinishError::Missing(1) && tells_all(&report, &[LEFT]))
+    let is_wanted = wants_it(rt, hands, &[LEFT]);
+    Some(once && is_wanted)
 }
 
 #[test]
@@ -295,10 +338,10 @@ fn a_report_wants_all_nodes(rt: HostRuntime) {
 fn sent_and_retired<R: Threads + Wait + Sync>(rt: &R, hands: &mut ByHand<&R>) -> Option<Receipt>
     ensures { IfSome result (λ t. receipt_board t ≡ writer_board hands.new.parts.controller.writer) }
 {
-    if hands.inject(rt, 0, 2) != Ok(0) || hands.turn(rt, 0) != Some(Turn::Sent(0, 1)) {
+    let is_sent = hands.inject(rt, 0, 2) == Ok(0) && hands.turn(rt, 0) == Some(Turn::Sent(0, 1));
+    if !is_sent || !is_installed(rt, hands) {
         return None;
     }
-    let _installed = hands.install(rt, Kind::Tree, 1).ok()?;
     hands.retire(2).ok()
 }
 
@@ -348,15 +391,11 @@ fn turned_away<R: Threads + Wait + Sync>(
 
 // Whether it drops the packet there.
 fn is_retired_there<R: Threads + Wait + Sync>(rt: &R, alloc: Global) -> Option<bool> {
-    let mut hands = ByHand::of(rt, path(rt, alloc, 16, 0)?)?;
+    let mut hands = parts_of_path(rt, alloc, 16, 0)?;
     let turns = turned_away(rt, &mut hands);
-    let report = hands.finish(rt).ok()?;
     let is_dropped = turns == Some((Some(Turn::Idle), Some(Turn::Settled(0))));
-    let retired = Became {
-        fate: Fate::Retired,
-        ..LEFT
-    };
-    Some(is_dropped && tells_all(&report, &[retired]))
+    let is_told = hands.reports(rt, &[RETIRED]);
+    Some(is_dropped && is_told)
 }
 
 #[test]

@@ -3,6 +3,7 @@ ghost use Rattle.std.specs.Prelude.{◌≡◌};
 ghost use Rattle.ir_model.specs.OfGraph.{topology_of_graph};
 ghost use Rattle.ir_trace.specs.Checked.{AreInstalls};
 
+use crate::networks::{PATH, graph_of, topology_of};
 use ir_core::{Event, Install, Kind, Opening, Played, Record, Refused, Step, installs, play};
 use ir_graph::Graph;
 use ir_plan::{Alone, Plan};
@@ -19,14 +20,6 @@ static STEPS: [Step; 5] = [
     Step::Event(Event::Retire(1)),
     Step::Event(Event::Up(0)),
 ];
-
-/// The path from a to b to c.
-fn path(alloc: Global) -> Option<Graph> {
-    let mut graph = Graph::new(alloc);
-    graph.add_edge("a", "b", 1).ok()?;
-    graph.add_edge("b", "c", 1).ok()?;
-    Some(graph)
-}
 
 /// Whether a packet went from a to c over b.
 fn went(record: &Record) -> bool {
@@ -66,30 +59,39 @@ fn is_clean(
     }
 }
 
-/// Whether a trace is sound by the installs of the steps over the path, opened with the kind Tree.
-fn is_checked(alloc: Global, text: &str) -> Option<bool> {
-    let graph = path(alloc)?;
-    let Ok(topology) = Topology::of(alloc, &graph) else {
-        return None;
-    };
+/// Whether a trace is sound by the installs of the steps over a graph, opened with the kind Tree.
+fn is_checked_over(alloc: Global, graph: &Graph, topology: &Topology, text: &str) -> Option<bool>
+    requires { topology.now ≡ topology_of_graph graph.now }
+{
     let Ok(over) = topology.try_clone(alloc) else {
         return None;
     };
     let opening = Opening::of(over, Kind::Tree, 0, 16, 16, 0);
-    let Ok(built) = installs(alloc, &opening, &STEPS) else {
-        return None;
-    };
-    let is_clean = is_clean(alloc, &graph, &topology, built.as_slice(), text)?;
-    Some(built.len() == 2 && is_clean)
+    match installs(alloc, &opening, &STEPS) {
+        Ok(built) if built.len() == 2 => {
+            is_clean(alloc, graph, topology, built.as_slice(), text)
+        }
+        _ => None,
+    }
+}
+
+/// Whether it is over the path.
+fn is_checked(alloc: Global, text: &str) -> Option<bool> {
+    let graph = graph_of(alloc, &PATH)?;
+    match Topology::of(alloc, &graph) {
+        Ok(topology) => is_checked_over(alloc, &graph, &topology, text),
+        Err(_) => None,
+    }
 }
 
 /// Whether the steps are played over the path.
 fn is_played(alloc: Global) -> Option<bool> {
-    let graph = path(alloc)?;
-    let topology = Topology::of(alloc, &graph).ok()?;
+    let topology = topology_of(alloc, &PATH)?;
     let opening = Opening::of(topology, Kind::Tree, 0, 16, 16, 0);
-    let played = play(alloc, opening, &STEPS).ok()?;
-    Some(is_run(played))
+    match play(alloc, opening, &STEPS) {
+        Ok(played) => Some(is_run(played)),
+        Err(_) => None,
+    }
 }
 
 #[test]
@@ -100,18 +102,36 @@ fn a_run_and_the_check_of_its_trace(rt: HostRuntime) {
     assert!(rt; (sound, wrong) == (Some(true), Some(false)));
 }
 
-/// How many labels the plan of the path has, and how many commands a script of a live run over it.
-fn counts(alloc: Global) -> Option<(usize, usize)> {
-    let graph = path(alloc)?;
-    let topology = Topology::of(alloc, &graph).ok()?;
-    let script = parse_live(alloc, b"inject a c\ndrain\n".as_slice(), &graph, &topology).ok()?;
+/// How many commands a script of a live run over a graph has.
+fn commands_over(alloc: Global, graph: &Graph, topology: &Topology) -> Option<usize>
+    requires { topology.now ≡ topology_of_graph graph.now }
+{
+    let text = b"inject a c\ndrain\n".as_slice();
+    match parse_live(alloc, text, graph, topology) {
+        Ok(script) => Some(script.commands().len()),
+        Err(_) => None,
+    }
+}
+
+/// How many it has over the path.
+fn commands(alloc: Global) -> Option<usize> {
+    let graph = graph_of(alloc, &PATH)?;
+    match Topology::of(alloc, &graph) {
+        Ok(topology) => commands_over(alloc, &graph, &topology),
+        Err(_) => None,
+    }
+}
+
+/// How many labels the plan of the path has.
+fn labels(alloc: Global) -> Option<usize> {
+    let topology = topology_of(alloc, &PATH)?;
     match Plan::build(alloc, topology, Kind::Shortest, 0) {
-        Ok(plan) => Some((plan.labels(), script.commands().len())),
+        Ok(plan) => Some(plan.labels()),
         Err(_) => None,
     }
 }
 
 #[test]
 fn a_plan_and_a_script(rt: HostRuntime) {
-    assert!(rt; counts(rt.alloc()) == Some((4, 2)));
+    assert!(rt; (labels(rt.alloc()), commands(rt.alloc())) == (Some(4), Some(2)));
 }

@@ -3,7 +3,6 @@
 use ir_graph::Graph;
 use ir_tables::Topology;
 use std::alloc::Global;
-use std::test::Fail;
 
 /// Two nodes, and the weight of the edge between them.
 pub(crate) type Edge = (&'static str, &'static str, u32);
@@ -26,19 +25,31 @@ pub(crate) const HEAVY: [Edge; 7] = [
     ("q", "s", 1),
 ];
 
-/// The graph of these edges, nodes in order of appearance.
-pub(crate) fn graph_of(alloc: Global, edges: &[Edge]) -> Result<Graph, Fail> {
-    let mut graph = Graph::new(alloc);
+/// Adds edges, and answers whether it could.
+fn add_edges(graph: &mut Graph, edges: &[Edge]) -> bool {
     for edge in edges {
         let (u, v, weight) = *edge;
-        let Ok(_) = graph.add_edge(u, v, weight) else {
-            return Err("the edge is refused".into());
-        };
+        if graph.add_edge(u, v, weight).is_err() {
+            return false;
+        }
     }
-    Ok(graph)
+    true
+}
+
+/// The graph of these edges, nodes in order of appearance.
+pub(crate) fn graph_of(alloc: Global, edges: &[Edge]) -> Option<Graph> {
+    let mut graph = Graph::new(alloc);
+    if add_edges(&mut graph, edges) {
+        Some(graph)
+    } else {
+        None
+    }
 }
 
 /// The topology of these edges.
-pub(crate) fn topology_of(alloc: Global, edges: &[Edge]) -> Result<Topology, Fail> {
-    Ok(Topology::of(alloc, &graph_of(alloc, edges)?)?)
+pub(crate) fn topology_of(alloc: Global, edges: &[Edge]) -> Option<Topology> {
+    match graph_of(alloc, edges) {
+        Some(graph) => Topology::of(alloc, &graph).ok(),
+        None => None,
+    }
 }

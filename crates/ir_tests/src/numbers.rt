@@ -63,19 +63,31 @@ fn places(alloc: Global, topology: &Topology, root: u16) -> Result<Vec<Place>, N
 }
 
 /// Whether a network is numbered so.
-fn is_numbered(alloc: Global, topology: &Topology, case: &Case) -> bool {
-    match (places(alloc, topology, case.1), case.2) {
-        (Ok(places), Ok(wanted)) => places.as_slice() == wanted,
-        (Err(error), Err(why)) => error == why,
-        _ => false,
+fn is_numbered_so(alloc: Global, topology: &Topology, case: &Case) -> bool {
+    match places(alloc, topology, case.1) {
+        Ok(places) => match case.2 {
+            Ok(wanted) => places.as_slice() == wanted,
+            Err(_) => false,
+        },
+        Err(error) => match case.2 {
+            Ok(_) => false,
+            Err(why) => error == why,
+        },
+    }
+}
+
+/// Whether the network of a case is.
+fn is_numbered(alloc: Global, case: &Case) -> bool {
+    match topology_of(alloc, case.0) {
+        Some(topology) => is_numbered_so(alloc, &topology, case),
+        None => false,
     }
 }
 
 #[test]
 fn numbers_depth_first(rt: HostRuntime) -> Result<(), Fail> {
     for case in &CASES {
-        let topology = topology_of(rt.alloc(), case.0)?;
-        if !is_numbered(rt.alloc(), &topology, case) {
+        if !is_numbered(rt.alloc(), case) {
             return Err("another numbering".into());
         }
     }
@@ -93,10 +105,12 @@ fn way_along_tree(alloc: Global, topology: &Topology) -> Option<(Option<u16>, u3
 }
 
 #[test]
-fn routes_a_ring_along_its_tree(rt: HostRuntime) -> Result<(), Fail> {
-    let topology = topology_of(rt.alloc(), &RING)?;
-    assert!(rt; way_along_tree(rt.alloc(), &topology) == Some((Some(0), 3)));
-    Ok(())
+fn routes_a_ring_along_its_tree(rt: HostRuntime) {
+    let way = match topology_of(rt.alloc(), &RING) {
+        Some(topology) => way_along_tree(rt.alloc(), &topology),
+        None => None,
+    };
+    assert!(rt; way == Some((Some(0), 3)));
 }
 
 /// Lists of some of four nodes, and whether each is an order of them.

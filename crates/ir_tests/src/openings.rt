@@ -10,10 +10,19 @@ use std::test::Fail;
 pub(crate) type Setting = (&'static [Edge], u16, usize, usize, u8);
 
 /// The opening of a world along the tree, in depth-first numbers.
-pub(crate) fn along_tree(alloc: Global, setting: &Setting) -> Result<Opening, Fail> {
+pub(crate) fn along_tree(alloc: Global, setting: &Setting) -> Option<Opening> {
     let (edges, root, capacity, max_packets, restamps) = *setting;
-    let topology = topology_of(alloc, edges)?;
-    Ok(Opening::of(topology, Kind::Tree, root, capacity, max_packets, restamps))
+    match topology_of(alloc, edges) {
+        Some(topology) => Some(Opening::of(
+            topology,
+            Kind::Tree,
+            root,
+            capacity,
+            max_packets,
+            restamps,
+        )),
+        None => None,
+    }
 }
 
 /// Settings, and why there is no such world.
@@ -31,11 +40,19 @@ static OPENINGS: [(Setting, Option<OpenError>); 8] = [
     ((&PATH, 1, 16, 4096, 3), None),
 ];
 
+/// Why there is no world of a setting, where there is none.
+fn refusal(alloc: Global, setting: &Setting) -> Option<Option<OpenError>> {
+    let opening = along_tree(alloc, setting)?;
+    match World::open(alloc, opening) {
+        Ok(_) => Some(None),
+        Err(error) => Some(Some(error)),
+    }
+}
+
 #[test]
 fn openings_refused(rt: HostRuntime) -> Result<(), Fail> {
     for (setting, why) in &OPENINGS {
-        let opening = along_tree(rt.alloc(), setting)?;
-        if World::open(rt.alloc(), opening).err() != *why {
+        if refusal(rt.alloc(), setting) != Some(*why) {
             return Err("another refusal".into());
         }
     }
@@ -100,20 +117,37 @@ fn are_built(list: &[Install], epochs: &[Built]) -> bool {
     true
 }
 
+/// Whether these are the epochs of a case.
+fn are_wanted(list: &[Install], case: &Case) -> bool {
+    match case.2 {
+        Ok(epochs) => are_built(list, epochs),
+        Err(_) => false,
+    }
+}
+
 /// Whether steps install these epochs and no other, in depth-first numbers.
-fn is_installed(alloc: Global, opening: &Opening, case: &Case) -> bool {
-    match (installs(alloc, opening, case.1), case.2) {
-        (Ok(list), Ok(epochs)) => are_built(list.as_slice(), epochs),
-        (Err(error), Err(why)) => error == why,
-        _ => false,
+fn is_installed_over(alloc: Global, opening: &Opening, case: &Case) -> bool {
+    match installs(alloc, opening, case.1) {
+        Ok(list) => are_wanted(list.as_slice(), case),
+        Err(error) => match case.2 {
+            Ok(_) => false,
+            Err(why) => error == why,
+        },
+    }
+}
+
+/// Whether they do in the setting of a case.
+fn is_installed(alloc: Global, case: &Case) -> bool {
+    match along_tree(alloc, &case.0) {
+        Some(opening) => is_installed_over(alloc, &opening, case),
+        None => false,
     }
 }
 
 #[test]
 fn installs_of_a_list(rt: HostRuntime) -> Result<(), Fail> {
     for case in &CASES {
-        let opening = along_tree(rt.alloc(), &case.0)?;
-        if !is_installed(rt.alloc(), &opening, case) {
+        if !is_installed(rt.alloc(), case) {
             return Err("other epochs".into());
         }
     }
@@ -127,12 +161,13 @@ fn install(alloc: Global, kind: Kind, root: u16) -> Option<Install> {
 
 #[test]
 fn an_install_of_its_fields(rt: HostRuntime) {
-    let made = install(rt.alloc(), Kind::Shortest, 2);
     let both: [bool; 2] = [true, true];
-    assert!(rt;
-        made.is_some_and(|made| {
+    let is_so = match install(rt.alloc(), Kind::Shortest, 2) {
+        Some(made) => {
             (made.kind, made.root, made.labels) == (Kind::Shortest, 2, LabelOrder::DepthFirst)
                 && made.up.as_slice() == both.as_slice()
-        })
-    );
+        }
+        None => false,
+    };
+    assert!(rt; is_so);
 }

@@ -132,21 +132,29 @@ fn has_rows(plan: &Plan, rows: &[(u16, &[(u16, u16)])]) -> bool {
     plan.nodes() == rows.len() && plan.labels() == starts
 }
 
-/// Whether the plan of a case over its topology is as it is to be.
-fn is_planned(alloc: Global, topology: Topology, case: &Case) -> bool {
+/// The plan of a case.
+fn plan_of(alloc: Global, case: &Case) -> Option<Plan> {
+    let topology = topology_of(alloc, case.edges)?;
     match Plan::build(alloc, topology, case.kind, case.root) {
-        Ok(plan) => {
+        Ok(plan) => Some(plan),
+        Err(_) => None,
+    }
+}
+
+/// Whether the plan of a case is as it is to be.
+fn is_planned(alloc: Global, case: &Case) -> bool {
+    match plan_of(alloc, case) {
+        Some(plan) => {
             has_rows(&plan, case.rows) && plan.kind() == case.kind && plan.root() == case.root
         }
-        Err(_) => false,
+        None => false,
     }
 }
 
 #[test]
 fn plans_by_hand(rt: HostRuntime) -> Result<(), Fail> {
     for case in &PLANS {
-        let topology = topology_of(rt.alloc(), case.edges)?;
-        if !is_planned(rt.alloc(), topology, case) {
+        if !is_planned(rt.alloc(), case) {
             return Err(case.name.into());
         }
     }
@@ -165,10 +173,12 @@ fn goes_around(alloc: Global, ring: Topology) -> bool {
 }
 
 #[test]
-fn ports_by_address(rt: HostRuntime) -> Result<(), Fail> {
-    let ring = topology_of(rt.alloc(), &RING)?;
-    assert!(rt; goes_around(rt.alloc(), ring));
-    Ok(())
+fn ports_by_address(rt: HostRuntime) {
+    let goes_around = match topology_of(rt.alloc(), &RING) {
+        Some(ring) => goes_around(rt.alloc(), ring),
+        None => false,
+    };
+    assert!(rt; goes_around);
 }
 
 /// The edges of a network, a root, why no plan of it is built, and how many nodes come back.
@@ -184,7 +194,8 @@ static NO_PLANS: [(&'static [Edge], u16, PlanError, usize); 3] = [
 ];
 
 /// Why no tree plan is built, and how many nodes come back.
-fn refusal(alloc: Global, topology: Topology, root: u16) -> Option<(PlanError, usize)> {
+fn refusal(alloc: Global, edges: &[Edge], root: u16) -> Option<(PlanError, usize)> {
+    let topology = topology_of(alloc, edges)?;
     match Plan::build(alloc, topology, Kind::Tree, root) {
         Ok(_plan) => None,
         Err((error, back)) => Some((error, back.nodes())),
@@ -194,8 +205,7 @@ fn refusal(alloc: Global, topology: Topology, root: u16) -> Option<(PlanError, u
 #[test]
 fn plans_refused(rt: HostRuntime) -> Result<(), Fail> {
     for (edges, root, why, nodes) in &NO_PLANS {
-        let topology = topology_of(rt.alloc(), edges)?;
-        if refusal(rt.alloc(), topology, *root) != Some((*why, *nodes)) {
+        if refusal(rt.alloc(), edges, *root) != Some((*why, *nodes)) {
             return Err("another refusal".into());
         }
     }

@@ -9,35 +9,64 @@ use ir_cli::{Called, Notice, Sub, Told, Words, WordsError, read_words_as, status
 use ir_core::OpenError;
 use std::alloc::Global;
 
+/// The words of a line.
+fn split(alloc: Global, line: &str) -> Option<Vec<String>> {
+    let mut words: Vec<String> = Vec::new(alloc);
+    for word in line.split_whitespace() {
+        let Ok(word) = String::from_str(alloc, word) else {
+            return None;
+        };
+        if words.push(word).is_err() {
+            return None;
+        }
+    }
+    Some(words)
+}
+
 /// What a line of words behind this name of the program asks for, or why it is refused.
 fn asked_by(alloc: Global, called: Called, line: &str) -> Result<Words, WordsError>
     ensures { IfOk result (λ words. FitsItsKind words) }
 {
-    let mut all: Vec<String> = Vec::new(alloc);
-    for word in line.split_whitespace() {
-        all.push(String::from_str(alloc, word)?)?;
+    match split(alloc, line) {
+        Some(words) => read_words_as(alloc, called, words.as_slice()),
+        None => Err(WordsError::NoMemory),
     }
-    read_words_as(alloc, called, all.as_slice())
 }
 
-/// The number of the refusal of a line, and its text.
-fn refusal(alloc: Global, called: Called, line: &str) -> Option<(u8, String)> {
-    let error = asked_by(alloc, called, line).err()?;
-    let code = error.code();
-    match error {
-        WordsError::Usage(text) | WordsError::Help(text) => Some((code, text)),
-        WordsError::NoMemory => None,
+/// Whether an error has this number and a text: this one, if one is given.
+fn is_error(error: &WordsError, number: u8, wanted: Option<&str>) -> bool {
+    let is_told = match error {
+        WordsError::Usage(text) | WordsError::Help(text) => match wanted {
+            Some(wanted) => text.as_str() == wanted,
+            None => true,
+        },
+        WordsError::NoMemory => false,
+    };
+    is_told && error.code() == number
+}
+
+/// Whether a line is refused with such an error.
+fn is_refused(alloc: Global, called: Called, line: &str, number: u8, wanted: Option<&str>) -> bool {
+    match asked_by(alloc, called, line) {
+        Ok(_) => false,
+        Err(error) => is_error(&error, number, wanted),
     }
 }
 
 #[test]
 fn words_that_are_refused(rt: HostRuntime) {
-    let none = refusal(rt.alloc(), Called::Route, "");
-    assert!(rt; none.is_some_and(|told| told.0 == 1));
-    let version = refusal(rt.alloc(), Called::Route, "--version");
-    assert!(rt; version.is_some_and(|told| told.0 == 2 && told.1.as_str() == "route 2.0.0\n"));
-    let other = refusal(rt.alloc(), Called::Bentzolu, "--version");
-    assert!(rt; other.is_some_and(|told| told.0 == 2 && told.1.as_str() == "bentzolu 2.0.0\n"));
+    let alloc = rt.alloc();
+    assert!(rt; is_refused(alloc, Called::Route, "", 1, None));
+    assert!(rt; is_refused(alloc, Called::Route, "--version", 2, Some("route 2.0.0\n")));
+    assert!(rt;
+        is_refused(
+            alloc,
+            Called::Bentzolu,
+            "--version",
+            2,
+            Some("bentzolu 2.0.0\n")
+        )
+    );
 }
 
 /// What the words ask for over the texts of their inputs, by the run of their subcommand.
@@ -59,23 +88,29 @@ fn run_alone(
     }
 }
 
-/// Whether a line of words behind the program's name, over a text on standard input, prints this and ends with this
-/// status.
-fn prints(alloc: Global, line: &str, text: &str, wanted: (u8, &str, &str)) -> bool {
-    let Ok(words) = asked_by(alloc, Called::Route, line) else {
+/// Whether words over a text on standard input print this and end with this status.
+fn prints_of(alloc: Global, words: &Words, text: &str, wanted: (u8, &str, &str)) -> bool
+    requires { FitsItsKind words.now }
+{
+    if sources_of(words).len() != 1 {
         return false;
-    };
+    }
     let mut inputs = [text.as_bytes()];
     let mut output: Vec<u8> = Vec::new(alloc);
     let mut faults: Vec<u8> = Vec::new(alloc);
-    if sources_of(&words).len() != 1 {
-        return false;
-    }
-    let status = run_alone(alloc, &words, &mut inputs, &mut output, &mut faults);
+    let status = run_alone(alloc, words, &mut inputs, &mut output, &mut faults);
     let (ends_with, out, told) = wanted;
     status == ends_with
         && output.as_slice() == out.as_bytes()
         && faults.as_slice() == told.as_bytes()
+}
+
+/// Whether a line of words behind the program's name does.
+fn prints(alloc: Global, line: &str, text: &str, wanted: (u8, &str, &str)) -> bool {
+    match asked_by(alloc, Called::Route, line) {
+        Ok(words) => prints_of(alloc, &words, text, wanted),
+        Err(_) => false,
+    }
 }
 
 #[test]
@@ -99,19 +134,26 @@ fn a_plan_a_run_and_a_check(rt: HostRuntime) {
     assert!(rt; prints(rt.alloc(), "check -", text, (0, "ok 1\n", "")));
 }
 
-/// What is told, as a value, of words over a text on standard input; none where the words are refused.
-fn told_of(alloc: Global, line: &str, text: &str) -> Option<Told> {
-    let Ok(words) = asked_by(alloc, Called::Route, line) else {
+/// What is told, as a value, of words over a text on standard input.
+fn told_of_words(alloc: Global, words: &Words, text: &str) -> Option<Told>
+    requires { FitsItsKind words.now }
+{
+    if sources_of(words).len() != 1 {
         return None;
-    };
+    }
     let mut inputs = [text.as_bytes()];
     let mut output: Vec<u8> = Vec::new(alloc);
     let mut faults: Vec<u8> = Vec::new(alloc);
-    if sources_of(&words).len() != 1 {
-        return None;
-    }
-    let outcome = follow_by(&Alone, alloc, &words, &mut inputs, &mut output, &mut faults);
+    let outcome = follow_by(&Alone, alloc, words, &mut inputs, &mut output, &mut faults);
     Some(outcome.told)
+}
+
+/// The same of a line of words; none where they are refused.
+fn told_of(alloc: Global, line: &str, text: &str) -> Option<Told> {
+    match asked_by(alloc, Called::Route, line) {
+        Ok(words) => told_of_words(alloc, &words, text),
+        Err(_) => None,
+    }
 }
 
 #[test]

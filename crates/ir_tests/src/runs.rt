@@ -4,7 +4,7 @@ use crate::networks::{HEAVY, PATH, RING};
 use crate::openings::{Setting, along_tree};
 use ir_core::Event::{Act, Down, Inject, Install, Learn, Read, Retire, Take, Up};
 use ir_core::Step::{Drain, Event};
-use ir_core::{Fate, Kind, Opening, Played, Record, Refused, Reply, Restamp, Step, Way, play};
+use ir_core::{Fate, Kind, Played, Record, Refused, Reply, Restamp, Step, Way, play};
 use std::alloc::Global;
 use std::test::Fail;
 
@@ -157,7 +157,10 @@ fn have_ended(played: &Played, packets: &[Ended]) -> bool {
 }
 
 /// Whether a run comes out as it is to.
-fn is_played(alloc: Global, opening: Opening, run: &Run) -> bool {
+fn is_played(alloc: Global, run: &Run) -> bool {
+    let Some(opening) = along_tree(alloc, &run.over) else {
+        return false;
+    };
     match play(alloc, opening, run.steps) {
         Ok(played) => is_told(&played, run.told) && have_ended(&played, run.packets),
         Err(_) => false,
@@ -166,12 +169,8 @@ fn is_played(alloc: Global, opening: Opening, run: &Run) -> bool {
 
 /// The record of a packet that was restamped once and delivered.
 fn record(alloc: Global) -> Option<Record> {
-    let mut hops = Vec::new(alloc);
-    for u in 0..3 {
-        hops.push(u).ok()?;
-    }
-    let mut restamps = Vec::new(alloc);
-    restamps.push(Restamp { epoch: 2, from: 1 }).ok()?;
+    let hops = Vec::from_slice(alloc, &[0, 1, 2]).ok()?;
+    let restamps = Vec::from_slice(alloc, &[Restamp { epoch: 2, from: 1 }]).ok()?;
     Record::of(7, 1, 0, 2, hops, Fate::Delivered, restamps).ok()
 }
 
@@ -183,18 +182,17 @@ fn a_record_of_its_fields(rt: HostRuntime) {
         &[Restamp { epoch: 2, from: 1 }],
         Fate::Delivered,
     );
-    assert!(rt;
-        record(rt.alloc()).is_some_and(|made| {
-            (made.id, made.source, made.dest) == (7, 0, 2) && is_ended(&made, &ended)
-        })
-    );
+    let is_so = match record(rt.alloc()) {
+        Some(made) => { (made.id, made.source, made.dest) == (7, 0, 2) && is_ended(&made, &ended) }
+        None => false,
+    };
+    assert!(rt; is_so);
 }
 
 #[test]
 fn runs_by_hand(rt: HostRuntime) -> Result<(), Fail> {
     for run in &RUNS {
-        let opening = along_tree(rt.alloc(), &run.over)?;
-        if !is_played(rt.alloc(), opening, run) {
+        if !is_played(rt.alloc(), run) {
             return Err(run.name.into());
         }
     }

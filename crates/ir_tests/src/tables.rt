@@ -1,7 +1,8 @@
 //! Topologies and tables of graphs that were worked out by hand.
 
-ghost use Rattle.std.specs.Prelude.{◌≡◌, ◌<◌};
-ghost use Rattle.ir_model.specs.{Topology.node_count, Table.table_size};
+ghost use Rattle.std.specs.Prelude.{◌≡◌, ◌<◌, length};
+ghost use Rattle.ir_model.specs.{Topology.{node_count, ports_of}, Table.table_size, Walk.IsConnected};
+ghost use Rattle.ir_tables.specs.FromNode.{AreFrom};
 
 use crate::networks::{Edge, HEAVY, topology_of};
 use ir_tables::{Hop, Outward, Table, TableError, Topology, UNREACHED};
@@ -155,22 +156,29 @@ fn relaxed(alloc: Global, topology: &Topology, d: usize) -> Option<Vec<u32>> {
     Some(weights)
 }
 
-/// Whether the distances to a node are those that plain relaxation finds.
-fn agrees(alloc: Global, topology: &Topology, table: &Table, d: u16) -> bool
+/// Whether the distances to a node are these.
+fn has_distances(topology: &Topology, table: &Table, d: u16, weights: &[u32]) -> bool
     requires { table_size table.now ≡ node_count topology.now }
 {
     if d as usize >= topology.nodes() {
         return false;
     }
-    let Some(weights) = relaxed(alloc, topology, d as usize) else {
-        return false;
-    };
     for (u, weight) in weights.iter().enumerate() {
         if u >= topology.nodes() || table.distance(u as u16, d) != *weight {
             return false;
         }
     }
     true
+}
+
+/// Whether the distances to a node are those that plain relaxation finds.
+fn agrees(alloc: Global, topology: &Topology, table: &Table, d: u16) -> bool
+    requires { table_size table.now ≡ node_count topology.now }
+{
+    match relaxed(alloc, topology, d as usize) {
+        Some(weights) => has_distances(topology, table, d, weights.as_slice()),
+        None => false,
+    }
 }
 
 /// Whether all of a topology's distances are those that plain relaxation finds.
@@ -185,27 +193,36 @@ fn all_agree(alloc: Global, topology: &Topology, table: &Table) -> bool
     true
 }
 
-/// Whether a topology's table of shortest ways is as a case has it.
-fn is_routed(alloc: Global, topology: &Topology, case: &Case) -> bool {
-    let table = match Table::shortest(alloc, topology) {
-        Ok(table) => table,
-        Err(error) => return case.ways == Err(error),
-    };
+/// Whether a table is as a case has it.
+fn has_table(alloc: Global, topology: &Topology, table: &Table, case: &Case) -> bool
+    requires { table_size table.now ≡ node_count topology.now }
+{
     match case.ways {
-        Ok(ways) => has_ways(topology, &table, ways) && all_agree(alloc, topology, &table),
+        Ok(ways) => has_ways(topology, table, ways) && all_agree(alloc, topology, table),
         Err(_) => false,
     }
 }
 
+/// Whether a topology's table of shortest ways is as a case has it.
+fn is_routed(alloc: Global, topology: &Topology, case: &Case) -> bool {
+    match Table::shortest(alloc, topology) {
+        Ok(table) => has_table(alloc, topology, &table, case),
+        Err(error) => match case.ways {
+            Ok(_) => false,
+            Err(why) => error == why,
+        },
+    }
+}
+
 /// The network of a case over the links that are up, if a mark stands for each.
-fn marked(alloc: Global, case: &Case) -> Result<Option<Topology>, Fail> {
+fn marked(alloc: Global, case: &Case) -> Option<Topology> {
     let whole = topology_of(alloc, case.edges)?;
     if case.up.len() != whole.links() {
-        return Ok(None);
+        return None;
     }
     match whole.only(alloc, case.up) {
-        Ok(topology) => Ok(topology.try_clone(alloc).ok()),
-        Err(_) => Ok(None),
+        Ok(topology) => topology.try_clone(alloc).ok(),
+        Err(_) => None,
     }
 }
 
@@ -227,12 +244,19 @@ fn is_so(alloc: Global, topology: &Topology, case: &Case) -> bool {
         && is_routed(alloc, topology, case)
 }
 
+/// Whether the network of a case is as the case has it.
+fn is_case(alloc: Global, case: &Case) -> bool {
+    match marked(alloc, case) {
+        Some(topology) => is_so(alloc, &topology, case),
+        None => false,
+    }
+}
+
 #[test]
 fn tables_by_hand(rt: HostRuntime) -> Result<(), Fail> {
     for case in &CASES {
-        match marked(rt.alloc(), case)? {
-            Some(topology) if is_so(rt.alloc(), &topology, case) => {}
-            _ => return Err(case.name.into()),
+        if !is_case(rt.alloc(), case) {
+            return Err(case.name.into());
         }
     }
     Ok(())
@@ -247,26 +271,43 @@ static JOINED: [Edge; 5] = [
     ("y", "w", 1),
 ];
 
-/// The nodes to which the first port of the first node leads nearer, by number; none where there is no such port.
-fn led_by_first(alloc: Global, topology: &Topology) -> Option<Vec<u16>> {
-    let Ok(_table) = Table::shortest(alloc, topology) else {
-        return None;
-    };
-    if topology.nodes() == 0 || topology.degree(0) == 0 {
-        return None;
+/// Whether the nodes to which the first port of the first node leads nearer are these, by number.
+fn are_led_by_first(alloc: Global, topology: &Topology, ways: &Outward, wanted: &[u16]) -> bool
+    requires distances { AreFrom topology.now ways.now.source ways.now.weights }
+    requires port { 0 < length (ports_of topology.now ways.now.source) }
+{
+    match ways.nodes_by(alloc, topology, 0) {
+        Ok(mut nodes) => nodes.sort().is_ok() && nodes.as_slice() == wanted,
+        Err(_) => false,
     }
-    let ways = Outward::from(alloc, topology, 0).ok()?;
-    let mut nodes = ways.nodes_by(alloc, topology, 0).ok()?;
-    nodes.sort().ok()?;
-    Some(nodes)
+}
+
+/// Whether there are ways from the first node, and these are the nodes.
+fn leads_to(alloc: Global, topology: &Topology, wanted: &[u16]) -> bool
+    requires { IsConnected topology.now }
+{
+    if topology.nodes() == 0 || topology.degree(0) == 0 {
+        return false;
+    }
+    match Outward::from(alloc, topology, 0) {
+        Ok(ways) => are_led_by_first(alloc, topology, &ways, wanted),
+        Err(_) => false,
+    }
+}
+
+/// Whether there is a table, and these are the nodes.
+fn leads_once(alloc: Global, topology: &Topology, wanted: &[u16]) -> bool {
+    match Table::shortest(alloc, topology) {
+        Ok(_) => leads_to(alloc, topology, wanted),
+        Err(_) => false,
+    }
 }
 
 #[test]
-fn a_port_leads_to_no_node_twice(rt: HostRuntime) -> Result<(), Fail> {
-    let topology = topology_of(rt.alloc(), &JOINED)?;
-    let Some(nodes) = led_by_first(rt.alloc(), &topology) else {
-        return Err("no nodes".into());
+fn a_port_leads_to_no_node_twice(rt: HostRuntime) {
+    let leads = match topology_of(rt.alloc(), &JOINED) {
+        Some(topology) => leads_once(rt.alloc(), &topology, &[1, 2, 3, 4]),
+        None => false,
     };
-    assert!(rt; nodes.as_slice() == [1, 2, 3, 4].as_slice());
-    Ok(())
+    assert!(rt; leads);
 }

@@ -2,6 +2,7 @@
 
 ghost use Rattle.std.specs.Prelude.{◌≡◌, false};
 
+use crate::networks::{PATH, graph_of};
 use ir_core::Record;
 use ir_graph::Graph;
 use ir_script::{ScriptError, ScriptFault};
@@ -14,10 +15,10 @@ use std::io::Write;
 
 /// What a text is read as over the path from a to b to c.
 fn read(alloc: Global, text: &str) -> Option<Trace> {
-    let mut graph = Graph::new(alloc);
-    graph.add_edge("a", "b", 1).ok()?;
-    graph.add_edge("b", "c", 1).ok()?;
-    read_trace(alloc, text.as_bytes(), &graph).ok()
+    match graph_of(alloc, &PATH) {
+        Some(graph) => read_trace(alloc, text.as_bytes(), &graph).ok(),
+        None => None,
+    }
 }
 
 /// Whether this is the row of packet 7, which went from a to b in epoch 2.
@@ -41,8 +42,11 @@ fn are_rows(trace: &Trace) -> bool {
 #[test]
 fn rows_are_read(rt: HostRuntime) {
     let text = "trace 1\n7 2 a c 1 down b c a b\n0 1 c a 0 full c b c\n";
-    let trace = read(rt.alloc(), text);
-    assert!(rt; trace.is_some_and(|trace| are_rows(&trace)));
+    let are_rows = match read(rt.alloc(), text) {
+        Some(trace) => are_rows(&trace),
+        None => false,
+    };
+    assert!(rt; are_rows);
 }
 
 /// Writes the trace of one packet that is at its source, the first node.
@@ -121,6 +125,9 @@ fn errors_as_texts_and_numbers(rt: HostRuntime) {
     );
     assert!(rt; codes == (3, 5, 1));
     let wanted = "line 3: UnknownNode; line 1: UnknownLink; Unwritable";
-    let text = told(rt.alloc(), finding, refused);
-    assert!(rt; text.is_some_and(|text| text.as_str() == wanted));
+    let is_told = match told(rt.alloc(), finding, refused) {
+        Some(text) => text.as_str() == wanted,
+        None => false,
+    };
+    assert!(rt; is_told);
 }

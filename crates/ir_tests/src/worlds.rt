@@ -1,17 +1,12 @@
 //! What a world hands out.
 
+use crate::networks::{PATH, topology_of};
 use ir_core::{Event, Fate, Kind, Refused, Reply, World};
-use ir_graph::Graph;
-use ir_tables::Topology;
 use std::alloc::Global;
 
 /// The world of a run along a tree of three nodes, each linked to each.
 fn opened(alloc: Global) -> Option<World> {
-    let mut graph = Graph::new(alloc);
-    for (u, v) in [("a", "b"), ("b", "c"), ("c", "a")] {
-        graph.add_edge(u, v, 1).ok()?;
-    }
-    let topology = Topology::of(alloc, &graph).ok()?;
+    let topology = topology_of(alloc, &[("a", "b", 1), ("b", "c", 1), ("c", "a", 1)])?;
     World::new(alloc, topology, Kind::Tree, 0, 1, 1, 0).ok()
 }
 
@@ -50,10 +45,11 @@ fn is_first(world: World) -> bool {
 /// Whether both are so of a packet that a drain delivers before a link goes down.
 fn is_handed_out(alloc: Global) -> Option<bool> {
     let mut world = opened(alloc)?;
-    world.apply(Event::Inject(0, 2)).ok()?;
+    let is_injected = world.apply(Event::Inject(0, 2)).is_ok();
     world.drain();
     let is_seen = is_seen(&mut world);
-    Some(is_seen && is_first(world))
+    let is_first = is_first(world);
+    Some(is_injected && is_seen && is_first)
 }
 
 #[test]
@@ -63,10 +59,7 @@ fn views_and_records_are_handed_out(rt: HostRuntime) {
 
 /// The world of a run along the path of three nodes, with a plan of kind Tree.
 fn path_opened(alloc: Global) -> Option<World> {
-    let mut graph = Graph::new(alloc);
-    graph.add_edge("a", "b", 1).ok()?;
-    graph.add_edge("b", "c", 1).ok()?;
-    let topology = Topology::of(alloc, &graph).ok()?;
+    let topology = topology_of(alloc, &PATH)?;
     World::new(alloc, topology, Kind::Tree, 0, 16, 16, 0).ok()
 }
 
@@ -133,12 +126,18 @@ fn is_full_of_all(world: &mut World) -> bool {
 
 #[test]
 fn a_board_has_so_many_changes(rt: HostRuntime) {
-    let world = path_opened(rt.alloc());
-    assert!(rt; world.is_some_and(|mut world| changes(&mut world, 32_767) && is_full(&mut world)));
+    let is_so = match path_opened(rt.alloc()) {
+        Some(mut world) => changes(&mut world, 32_767) && is_full(&mut world),
+        None => false,
+    };
+    assert!(rt; is_so);
 }
 
 #[test]
 fn what_a_full_board_refuses(rt: HostRuntime) {
-    let world = path_opened(rt.alloc());
-    assert!(rt; world.is_some_and(|mut world| is_full_of_all(&mut world)));
+    let is_so = match path_opened(rt.alloc()) {
+        Some(mut world) => is_full_of_all(&mut world),
+        None => false,
+    };
+    assert!(rt; is_so);
 }
