@@ -87,5 +87,9 @@ pub index_mut-requires-in-GoesOn : goal.index_mut-requires-in-GoesOn
 index_mut-requires-in-GoesOn c =
     let holds = hand_read _ _ c.self.view_is c.self.invariant.world c.args.node _ c.in-Some.held (omega arith) c.index.ensures c.in-Some.is in
     let a = acting_now (world_of c.self.inside) _ c.self.view_is c.self.invariant.world c.args.node c.in-Some.held c.index_mut-record.result.now c.ruling-ruling.result holds c.index_mut-record.ensures.value (omega arith) c.ruling-ruling.ensures in
-    omega (arith, c.self.inside.channels.ok.0, is_queue c.self.inside.channels.items c.channel_into-channel.result
-    (sent_within (world_of c.self.inside) c.self.invariant.world c.args.node c.in-Some.held c.index_mut-record.result.now _ c.ruling-ruling.result.restamp c.ruling-ruling.result.verdict c.in-GoesOn.hop c.channel_into-channel.result a c.in-GoesOn.is c.channel_into-channel.ensures))
+    omega (
+      arith,
+      c.self.inside.channels.ok.0,
+      is_queue c.self.inside.channels.items c.channel_into-channel.result
+          (sent_within (world_of c.self.inside) c.self.invariant.world c.args.node c.in-Some.held c.index_mut-record.result.now _ c.ruling-ruling.result.restamp c.ruling-ruling.result.verdict c.in-GoesOn.hop c.channel_into-channel.result a c.in-GoesOn.is c.channel_into-channel.ensures),
+    )
