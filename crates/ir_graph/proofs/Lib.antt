@@ -1,3 +1,4 @@
+pub mod Longer
 pub mod Views
 pub mod Joined
 pub mod Keeping

@@ -2,11 +2,11 @@
 ghost use Rattle.std.specs.Prelude.{◌≡◌};
 ghost use Rattle.ir_graph.specs.Faults.{graph_code};
 
+use std::fmt;
 use thiserror::Error;
 
 /// Why a call on a graph is refused.
 #[derive(Clone, Copy, Debug, PartialEq, Eq, Error)]
-#[error("{:?}", self)]
 pub enum GraphError {
     BadName = 1,
     BadWeight = 2,
@@ -24,5 +24,11 @@ impl GraphError {
         ensures { result ≡ graph_code self }
     {
         self as u8
+    }
+}
+
+impl fmt::Display for GraphError {
+    fn fmt<W: fmt::Write>(&self, f: &mut fmt::Formatter<W>) -> fmt::Result {
+        write!(f, "{:?}", self)
     }
 }

@@ -24,7 +24,9 @@ fn reach_neighbors(rows: &Rows, node: usize, reached: &mut Places) -> Result<(),
 {
     for place in 0..neighbor_count(rows, node) {
         if let Some((neighbor, _)) = neighbor_at(rows, node, place) {
-            reached.insert(neighbor)?;
+            let Ok(_) = reached.insert(neighbor) else {
+                return Err(AllocError);
+            };
         }
     }
     Ok(())
@@ -39,7 +41,9 @@ pub fn reached_from_first(alloc: Global, rows: &Rows) -> Result<Places, AllocErr
     ensures first { IfOk result (λ places. HasPlace places.keys 0) }
 {
     let mut reached = IndexSet::new(alloc);
-    reached.insert(0)?;
+    let Ok(_) = reached.insert(0) else {
+        return Err(AllocError);
+    };
     for turn in 0..rows.len() {
         if let Some(node) = reached.get_index(turn) {
             let node = *node;

@@ -137,8 +137,7 @@ fn extend_link(
 {
     let i = place(alloc, rows, u)?;
     let j = place(alloc, rows, v)?;
-    join_rows(alloc, rows, (i, j), u, v, weight)?;
-    Ok(())
+    join_rows(alloc, rows, (i, j), u, v, weight)
 }
 
 /// Links two nodes that are not linked. Missing ends are added.

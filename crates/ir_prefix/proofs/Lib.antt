@@ -1,3 +1,4 @@
+pub mod Results
 pub mod AmongLemmas
 pub mod BlockLemmas
 pub mod BitLemmas

@@ -216,10 +216,10 @@ pair_ends (Fork names l r) m p q rest more all front (inr are) e f =
     )
 
 -- the prefixes of a node, and then those of its halves
-pub fork_covered : (bits h i m : ℕ) (above below : Option ℕ) (l r : Trie) (before own half after : List Prefix) → below ≡ taken (ports_in m) above → own ≡ before ++ cover_told bits h i (ports_in m) above → half ≡ own ++ cover_of bits l (h - 1) (2 * i) below
-    → after ≡ half ++ cover_of bits r (h - 1) (2 * i + 1) below → after ≡ before ++ cover_of bits (Fork (ports_in m) l r) h i above
-fork_covered bits h i m above below l r before own half after b e f g =
-    let ts = cover_told bits h i (ports_in m) above in
+pub fork_covered : (bits h i : ℕ) (names : List ℕ) (above below : Option ℕ) (l r : Trie) (before own half after : List Prefix) → below ≡ taken names above → own ≡ before ++ cover_told bits h i names above → half ≡ own ++ cover_of bits l (h - 1) (2 * i) below
+    → after ≡ half ++ cover_of bits r (h - 1) (2 * i + 1) below → after ≡ before ++ cover_of bits (Fork names l r) h i above
+fork_covered bits h i names above below l r before own half after b e f g =
+    let ts = cover_told bits h i names above in
     let cl = cover_of bits l (h - 1) (2 * i) below in
     let cr = cover_of bits r (h - 1) (2 * i + 1) below in
     let whole : after ≡ before ++ (ts ++ (cl ++ cr)) =

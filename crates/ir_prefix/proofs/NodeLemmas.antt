@@ -2,7 +2,7 @@
 use Rattle.std.proofs.Common.{◌≡◌, ℕ, ◌+◌, ◌-◌, ◌<◌, ◌≤◌, List, [], ◌++◌, length, get_or, take, drop, refl, ap, sym, ◌∙◌, subst, inl, inr, arith}
 use Rattle.std.proofs.Math.ListN.{get_or-append}
 use Rattle.std.proofs.Math.Seq.{drop-append_seam, take-append_seam}
-use Rattle.std.proofs.lemmas.List.{drop-append-le, take-append-le, length-append, length-drop, append-nil}
+use Rattle.std.proofs.lemmas.List.{append_assoc, drop-append-le, take-append-le, length-append, length-drop, append-nil}
 use Rattle.std.specs.List.{slice_range}
 use Rattle.ir_prefix.specs.Described.{IsFree, IsAlike, IsNodeOfHalves, Trie, Free, Alike, Fork}
 use Rattle.ir_prefix.specs.Nodes.{HoldsNode, IsMerged, Stands, Grows}
@@ -42,6 +42,12 @@ stands_on before after grows place t s =
     subst (λ (xs : List TrieNode). Stands xs after.names.items place t) (sym grows.nodes.1)
     (subst (λ (ys : List ℕ). Stands (before.list.items ++ grows.nodes.0) ys place t) (sym grows.names.1)
     (stands_later before.list.items grows.nodes.0 before.names.items grows.names.0 place t s))
+
+pub grows_twice : (a b c : Nodes) → Grows a b → Grows b c → Grows a c
+grows_twice a b c g h = record {
+  nodes = (g.nodes.0 ++ h.nodes.0, h.nodes.1 ∙ ap (λ (xs : List TrieNode). xs ++ h.nodes.0) g.nodes.1 ∙ append_assoc a.list.items g.nodes.0 h.nodes.0);
+  names = (g.names.0 ++ h.names.0, h.names.1 ∙ ap (λ (xs : List ℕ). xs ++ h.names.0) g.names.1 ∙ append_assoc a.names.items g.names.0 h.names.0);
+}
 
 -- a place that a trie stands at is one of the list
 pub stands_inside : (list : List TrieNode) (names : List ℕ) (place : ℕ) (t : Trie) → Stands list names place t → place < length list

@@ -1,6 +1,6 @@
 //! The prefixes of a trie.
 
-ghost use Rattle.std.specs.Prelude.{◌≡◌, ◌<◌, ◌≤◌, ◌+◌, ◌*◌, ◌^◌, ◌++◌, length, IfOk, OnOk};
+ghost use Rattle.std.specs.Prelude.{◌≡◌, ◌<◌, ◌≤◌, ◌+◌, ◌*◌, ◌^◌, ◌++◌, [], ◌∷◌, length, IfOk, OnOk};
 ghost use Rattle.std.specs.List.Sorted.{IsNonDecreasing};
 ghost use Rattle.ir_prefix.specs.{Cover.{IsCover, IsTrie, cover_of, prefix_at, taken, cover_told}, Described.Trie};
 ghost use Rattle.ir_prefix.specs.{Nodes.StandsIn, Runs.AreRuns};
@@ -11,7 +11,7 @@ use crate::trie::{Nodes, TrieNode, names_at, push_trie};
 use std::alloc::{AllocError, Global};
 
 /// The numbers whose first `length` bits are those of `value`, and their port.
-#[derive(Clone, Copy, Debug, PartialEq, Eq)]
+#[derive(Clone, Copy)]
 pub struct Prefix {
     pub value: u16,
     pub length: u8,
@@ -113,8 +113,26 @@ fn tell(
     Ok(Some(names[0]))
 }
 
-/// The prefix of a node so high, the index-th of its height.
-pub fn node_prefix(bits: u8, height: u8, index: u32, port: u16) -> Prefix
+/// Adds the prefix of a node so high, the index-th of its height.
+pub fn push_prefix(
+    bits: u8,
+    height: u8,
+    index: u32,
+    port: u16,
+    prefixes: &mut Vec<Prefix>,
+) -> Result<(), AllocError>
+    requires height { height ≤ bits }
+    requires inside { (index + 1) * 2 ^ height ≤ 2 ^ 16 }
+    ensures { OnOk result (prefixes.new.items ≡ prefixes.old.items ++ prefix_at bits height index port ∷ []) }
+{
+    let Ok(()) = prefixes.push(node_prefix(bits, height, index, port)) else {
+        return Err(AllocError);
+    };
+    Ok(())
+}
+
+// The prefix of a node so high, the index-th of its height.
+fn node_prefix(bits: u8, height: u8, index: u32, port: u16) -> Prefix
     requires height { height ≤ bits }
     requires inside { (index + 1) * 2 ^ height ≤ 2 ^ 16 }
     ensures { result ≡ prefix_at bits height index port }

@@ -8,7 +8,7 @@ ghost use Rattle.ir_prefix.specs.{Cover.{IsCover, IsTrie, cover_of, taken, cover
 ghost use Rattle.ir_prefix.specs.{Joined.is_named, Marks.{AreLow, EndsIn, IsNodeMarked, joined_bits, ports_in}};
 ghost use Rattle.ir_prefix.specs.{Runs.AreRuns, declared.marks.Mark.TheVariants.{NoPort, OnePort, Pair, Several}};
 
-use crate::cover::{Prefix, node_prefix};
+use crate::cover::{Prefix, push_prefix};
 use crate::runs::{LabelRun, PrefixBlock, block_of};
 use std::alloc::{AllocError, Global};
 
@@ -66,8 +66,8 @@ fn push_marks(
     ensures { IfOk result (λ names. IsNodeMarked ports.now height index names marks.old.items marks.new.items) }
 {
     match block_of(ports, runs, height, index) {
-        PrefixBlock::Beyond => push_free(marks),
-        PrefixBlock::Unsent => push_free(marks),
+        PrefixBlock::Beyond => push_mark(marks, Mark::NoPort, u64::MAX),
+        PrefixBlock::Unsent => push_mark(marks, Mark::NoPort, u64::MAX),
         PrefixBlock::OnePort(port) => push_one(marks, port),
         PrefixBlock::Mixed => {
             if let Some((left, right)) = pair_at(ports, height, index) {
@@ -76,18 +76,19 @@ fn push_marks(
             let before = marks.len();
             let right = push_marks(ports, runs, height - 1, 2 * index + 1, marks)?;
             let left = push_marks(ports, runs, height - 1, 2 * index, marks)?;
-            let names = push_parent(marks, before, left, right)?;
-            Ok(names)
+            push_parent(marks, before, left, right)
         }
     }
 }
 
-// Adds the mark of a node with no port, which has every name.
-fn push_free(marks: &mut Vec<Mark>) -> Result<u64, AllocError>
-    ensures { IfOk result (λ names. (names ≡ 2 ^ 64 - 1) × (marks.new.items ≡ marks.old.items ++ NoPort ∷ [])) }
+// Adds the mark of a node, and answers its names, which are given. A node with no port has every name.
+fn push_mark(marks: &mut Vec<Mark>, mark: Mark, names: u64) -> Result<u64, AllocError>
+    ensures { IfOk result (λ told. (told ≡ names) × (marks.new.items ≡ marks.old.items ++ mark ∷ [])) }
 {
-    marks.push(Mark::NoPort)?;
-    Ok(u64::MAX)
+    let Ok(()) = marks.push(mark) else {
+        return Err(AllocError);
+    };
+    Ok(names)
 }
 
 // Adds the mark of a node with one port.
@@ -96,8 +97,7 @@ fn push_one(marks: &mut Vec<Mark>, port: u16) -> Result<u64, AllocError>
     ensures { IfOk result (λ names. (names ≡ 2 ^ port)
         × (marks.new.items ≡ marks.old.items ++ OnePort port ∷ [])) }
 {
-    marks.push(Mark::OnePort(port))?;
-    Ok(1u64 << port)
+    push_mark(marks, Mark::OnePort(port), 1u64 << port)
 }
 
 // The ports of the two numbers of such a block, if it has two and each has a port.
@@ -123,8 +123,7 @@ fn push_pair(marks: &mut Vec<Mark>, left: u16, right: u16) -> Result<u64, AllocE
         × (marks.new.items ≡ marks.old.items ++ Pair names left right ∷ [])) }
 {
     let names = joined(1u64 << left, 1u64 << right);
-    marks.push(Mark::Pair(names, left, right))?;
-    Ok(names)
+    push_mark(marks, Mark::Pair(names, left, right), names)
 }
 
 // The names that two nodes share, or those of both where they share none.
@@ -143,22 +142,18 @@ fn push_parent(
     left: u64,
     right: u64,
 ) -> Result<u64, AllocError>
-    ensures free { bit_at (bit_and left right) 63 ≡ 1
-        → OnOk result (marks.new.items ≡ take before marks.old.items ++ NoPort ∷ []) }
-    ensures shared { bit_at (bit_and left right) 63 ≡ 1 → IfOk result (λ names. names ≡ bit_and left right) }
-    ensures several { bit_at (bit_and left right) 63 ≢ 1
-        → OnOk result (marks.new.items ≡ marks.old.items ++ Several (joined_bits left right) ∷ []) }
-    ensures joined { bit_at (bit_and left right) 63 ≢ 1 → IfOk result (λ names. names ≡ joined_bits left right) }
+    ensures free { bit_at (bit_and left right) 63 ≡ 1 → IfOk result (λ names. (names ≡ bit_and left right)
+        × (marks.new.items ≡ take before marks.old.items ++ NoPort ∷ [])) }
+    ensures several { bit_at (bit_and left right) 63 ≢ 1 → IfOk result (λ names. (names ≡ joined_bits left right)
+        × (marks.new.items ≡ marks.old.items ++ Several names ∷ [])) }
 {
     let shared = left & right;
     if has_bit(shared, 63) {
         marks.truncate(before);
-        marks.push(Mark::NoPort)?;
-        return Ok(shared);
+        return push_mark(marks, Mark::NoPort, shared);
     }
     let names = joined(left, right);
-    marks.push(Mark::Several(names))?;
-    Ok(names)
+    push_mark(marks, Mark::Several(names), names)
 }
 
 // Whether a bit of a number is set.
@@ -189,21 +184,16 @@ fn take_marks(
 {
     match marks.pop().unwrap() {
         Mark::NoPort => Ok(()),
-        Mark::OnePort(port) => {
-            tell_port(port, bits, height, index, above, prefixes)?;
-            Ok(())
-        }
+        Mark::OnePort(port) => tell_port(port, bits, height, index, above, prefixes),
         Mark::Pair(names, left, right) => {
             let below = tell_bits(names, bits, height, index, above, prefixes)?;
             tell_port(left, bits, height - 1, 2 * index, below, prefixes)?;
-            tell_port(right, bits, height - 1, 2 * index + 1, below, prefixes)?;
-            Ok(())
+            tell_port(right, bits, height - 1, 2 * index + 1, below, prefixes)
         }
         Mark::Several(names) => {
             let below = tell_bits(names, bits, height, index, above, prefixes)?;
             take_marks(marks, bits, height - 1, 2 * index, below, prefixes)?;
-            take_marks(marks, bits, height - 1, 2 * index + 1, below, prefixes)?;
-            Ok(())
+            take_marks(marks, bits, height - 1, 2 * index + 1, below, prefixes)
         }
     }
 }
@@ -222,10 +212,10 @@ fn tell_port(
     ensures { OnOk result (prefixes.new.items
         ≡ prefixes.old.items ++ cover_told bits height index (port ∷ []) above) }
 {
-    if above != Some(port) {
-        prefixes.push(node_prefix(bits, height, index, port))?;
+    if above == Some(port) {
+        return Ok(());
     }
-    Ok(())
+    push_prefix(bits, height, index, port, prefixes)
 }
 
 // Adds the prefix of a node with several ports unless what is above it names one of its names, and answers what is
@@ -249,7 +239,7 @@ fn tell_bits(
         return Ok(above);
     }
     let port = least(names);
-    prefixes.push(node_prefix(bits, height, index, port))?;
+    push_prefix(bits, height, index, port, prefixes)?;
     Ok(Some(port))
 }
 

@@ -49,7 +49,9 @@ fn share(room: &mut Vec<u16>, left: &[u16], right: &[u16]) -> Result<(), AllocEr
     room.clear();
     for port in right {
         if has_port(left, *port) {
-            room.push(*port)?;
+            let Ok(()) = room.push(*port) else {
+                return Err(AllocError);
+            };
         }
     }
     Ok(())

@@ -3,7 +3,7 @@
 ghost use Rattle.std.specs.Prelude.{◌≡◌, ◌≤◌, ◌+◌, ◌*◌, ◌^◌, ◌++◌, OnOk};
 ghost use Rattle.ir_prefix.specs.{Parts.{Divides, Part, pieces_of}, Runs.AreRuns};
 
-use crate::cover::{Prefix, node_prefix};
+use crate::cover::{Prefix, push_prefix};
 use crate::runs::{LabelRun, PrefixBlock, block_of};
 use std::alloc::AllocError;
 
@@ -24,10 +24,7 @@ pub fn push_pieces(
 {
     match block_of(ports, runs, height, index) {
         PrefixBlock::Beyond | PrefixBlock::Unsent => Ok(()),
-        PrefixBlock::OnePort(port) => {
-            prefixes.push(node_prefix(bits, height, index, port))?;
-            Ok(())
-        }
+        PrefixBlock::OnePort(port) => push_prefix(bits, height, index, port, prefixes),
         PrefixBlock::Mixed => {
             push_pieces(ports, runs, bits, height - 1, 2 * index, prefixes)?;
             push_pieces(ports, runs, bits, height - 1, 2 * index + 1, prefixes)

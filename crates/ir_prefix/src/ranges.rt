@@ -33,11 +33,14 @@ pub fn label_ranges(alloc: Global, ports: &[Option<u16>]) -> Result<Vec<LabelRan
             None => label += 1,
             Some(port) => {
                 let end = run_end(ports, label, port);
-                set.push(LabelRange {
+                let range = LabelRange {
                     from: label as u16,
                     to: (end - 1) as u16,
                     port,
-                })?;
+                };
+                let Ok(()) = set.push(range) else {
+                    return Err(AllocError);
+                };
                 label = end;
             }
         }

@@ -45,7 +45,7 @@ pub fn forwarding_lines(
     let unreachable = unused_port(ports);
     let row = extended(alloc, n, bits, ports, unreachable)?;
     let set = table(alloc, bits, row.as_slice())?;
-    Ok(lines_of(alloc, set.as_slice(), unreachable)?)
+    lines_of(alloc, set.as_slice(), unreachable)
 }
 
 /// The forwarding table of the node with the label `own` among `n` nodes, given its port to each
@@ -75,7 +75,7 @@ pub fn disjoint_lines(
     let mut set = Vec::new(alloc);
     push_pieces(ports, runs.as_slice(), bits, bits, 0, &mut set)?;
     sort_longest_first(&mut set)?;
-    Ok(lines_of(alloc, set.as_slice(), unused_port(ports))?)
+    lines_of(alloc, set.as_slice(), unused_port(ports))
 }
 
 // A port that the row does not name.
@@ -96,7 +96,7 @@ fn unused_port(ports: &[Option<u16>]) -> u16
 fn is_named(ports: &[Option<u16>], port: u16) -> bool
     ensures { IsTrue result ↔ Any (λ o. o ≡ Some port) ports.now }
 {
-    ports.iter().any(|named| *named == Some(port))
+    ports.contains(&Some(port))
 }
 
 // The ports of all numbers of so many bits.

@@ -57,8 +57,7 @@ pub fn push_trie(
         PrefixBlock::Mixed => {
             let left = push_trie(ports, runs, height - 1, 2 * index, nodes, room)?;
             let right = push_trie(ports, runs, height - 1, 2 * index + 1, nodes, room)?;
-            let place = push_parent(nodes, room, left, right)?;
-            Ok(place)
+            push_parent(nodes, room, left, right)
         }
     }
 }
@@ -70,7 +69,9 @@ fn push_node(nodes: &mut Nodes, node: TrieNode) -> Result<usize, AllocError>
     ensures names { OnOk result (nodes.new.names.items ≡ nodes.old.names.items) }
 {
     let place = nodes.list.len();
-    nodes.list.push(node)?;
+    let Ok(()) = nodes.list.push(node) else {
+        return Err(AllocError);
+    };
     Ok(place)
 }
 
@@ -126,7 +127,7 @@ fn push_fork(
     let first = nodes.names.len();
     nodes.names.extend_from_slice(room.as_slice())?;
     let end = nodes.names.len();
-    let place = push_node(
+    push_node(
         nodes,
         TrieNode::Several(Places {
             first,
@@ -134,8 +135,7 @@ fn push_fork(
             left,
             right,
         }),
-    )?;
-    Ok(place)
+    )
 }
 
 /// The names of a node.

@@ -6,13 +6,13 @@ use Rattle.ir_model.specs.Places.{neighbors_at}
 use Rattle.ir_graph.proofs.Views.{length-rows_view}
 use Rattle.ir_graph.proofs.Reaching.{ClosedBefore, place_there, kept_place, reached_first, closed_more, closed_past, closed_all}
 use Rattle.ir_graph.proofs.reach.reached_from_first.Goals as goal
-use Rattle.ir_graph.proofs.reach.reached_from_first.Goals.{in-Some+in_ok-reach_neighbors, in_default}
+use Rattle.ir_graph.proofs.reach.reached_from_first.Goals.{in-Some+in_ok-reach_neighbors, in_default-get_index}
 
 pub loop-turn-init : goal.loop-turn-init
 loop-turn-init c =
-    let only : c.insert.new.self.keys ≡ 0 ∷ [] = c.in_ok-insert.ensures.keys ∙ ap (λ ks. insert_key nat_eq ks 0) c.new-reached.ensures.empty in
+    let only : c.insert.new.self.keys ≡ 0 ∷ [] = c.in-Ok.ensures.keys ∙ ap (λ ks. insert_key nat_eq ks 0) c.new-reached.ensures.empty in
     record {
-      reached = reached_first (rows_view c.args.rows.now) c.requires.graph c.insert.new.self.keys c.requires.some only c.in_ok-insert.ensures.unique;
+      reached = reached_first (rows_view c.args.rows.now) c.requires.graph c.insert.new.self.keys c.requires.some only c.in-Ok.ensures.unique;
       closed = λ k i h e. absurd (omega (arith, h));
       first = place_there c.insert.new.self.keys 0 0 (ap (λ ks. slice_get ks 0) only);
       end = c.len-turn-end.ensures.len ∙ sym (length-rows_view c.args.rows.now);
@@ -37,11 +37,11 @@ loop-turn-preserved c =
             first = kept_place before after on 0 c.loop-turn.invariant.first;
             end = c.loop-turn.invariant.end;
           })
-      | in_default w ↦
+      | in_default-get_index w ↦
           (let keys : after ≡ before = ap (λ s. s.keys) w.reached-is in
           record {
             reached = subst (AreReached g) (sym keys) c.loop-turn.invariant.reached;
-            closed = subst (λ ks. ClosedBefore g c.requires.graph ks (c.loop-turn.turn + 1)) (sym keys) (closed_past g c.requires.graph before c.loop-turn.turn c.loop-turn.invariant.closed (sym w.in_default.ensures.key));
+            closed = subst (λ ks. ClosedBefore g c.requires.graph ks (c.loop-turn.turn + 1)) (sym keys) (closed_past g c.requires.graph before c.loop-turn.turn c.loop-turn.invariant.closed (sym w.in_default-get_index.ensures.key));
             first = subst (λ ks. HasPlace ks 0) (sym keys) c.loop-turn.invariant.first;
             end = c.loop-turn.invariant.end;
           })

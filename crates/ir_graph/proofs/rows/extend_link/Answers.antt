@@ -1,9 +1,11 @@
-use Rattle.std.proofs.Common.{◌≡◌, ◌∙◌, sym, ap, subst, slice_get, Some, bytes_eq}
+use Rattle.std.proofs.Common.{◌≡◌, ◌∙◌, sym, ap, subst, slice_get, Some, bytes_eq, length, take}
 use Rattle.std.specs.Map.{lookup}
 use Rattle.ir_model.specs.Graph.{names, weight_of, with_node, linked}
 use Rattle.ir_model.proofs.Graphs.{each_row, neighbors-with_node}
 use Rattle.ir_graph.specs.View.{rows_view}
 use Rattle.ir_graph.proofs.Joined.{apart_at, joined-linked, place-with_node}
+use Rattle.std.proofs.lemmas.Result.{on_err_weaker, on_ok_weaker}
+use Rattle.ir_graph.proofs.Longer.{take-with_two}
 use Rattle.ir_graph.proofs.rows.extend_link.Goals as goal
 
 pub join_rows-requires-clause-apart : goal.join_rows-requires-clause-apart
@@ -21,6 +23,11 @@ returns-clause-ok c =
     let u = c.args.u.now in
     let v = c.args.v.now in
     let at_u = subst (λ g. slice_get (names g) c.in_ok-i.i ≡ Some u) (sym c.in_ok-j.ensures.ok) (place-with_node (rows_view c.place.new.rows) v u c.in_ok-i.i c.in_ok-i.ensures.found) in
-    c.in_ok-join_rows.ensures.ok
-    ∙ joined-linked u v c.args.weight (rows_view c.place-2.new.rows) c.in_ok-i.i c.in_ok-j.j c.in_ok-j.ensures.differ at_u c.in_ok-j.ensures.found
-    ∙ ap (each_row (linked u v c.args.weight)) (c.in_ok-j.ensures.ok ∙ ap (λ g. with_node g v) c.in_ok-i.ensures.ok)
+    let whole = joined-linked u v c.args.weight (rows_view c.place-2.new.rows) c.in_ok-i.i c.in_ok-j.j c.in_ok-j.ensures.differ at_u c.in_ok-j.ensures.found
+    ∙ ap (each_row (linked u v c.args.weight)) (c.in_ok-j.ensures.ok ∙ ap (λ g. with_node g v) c.in_ok-i.ensures.ok) in
+    on_ok_weaker c.join_rows.result (λ e. e ∙ whole) c.join_rows.ensures.ok
+
+pub returns-clause-err : goal.returns-clause-err
+returns-clause-err c =
+    let g = rows_view c.args.rows.now in
+    on_err_weaker c.join_rows.result (λ e. ap (take (length g)) (e ∙ c.in_ok-j.ensures.ok ∙ ap (λ h. with_node h c.args.v.now) c.in_ok-i.ensures.ok) ∙ take-with_two g c.args.u.now c.args.v.now) c.join_rows.ensures.err

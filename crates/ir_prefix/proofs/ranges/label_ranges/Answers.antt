@@ -1,8 +1,9 @@
-use Rattle.std.proofs.Common.{◌-◌, ◌≤◌, List, length, refl, sym, subst}
+use Rattle.std.proofs.Common.{◌≡◌, ◌-◌, ◌≤◌, ◌++◌, ◌∙◌, None, List, length, refl, ap, sym, subst, arith, rules}
+use Rattle.ir_model.specs.Compiled.{port_to}
 use Rattle.ir_prefix.specs.Ranges.{range, ranges_of, TellsPorts, AreRangesApart, IsFewestRanges}
 use Rattle.ir_prefix.specs.declared.ranges.LabelRange.{LabelRange}
 use Rattle.ir_prefix.proofs.Fewest.{they_are_fewest}
-use Rattle.ir_prefix.proofs.Joins.{all_told, loop_more}
+use Rattle.ir_prefix.proofs.Joins.{all_told, loop_more, none_more}
 use Rattle.ir_prefix.proofs.RangeLemmas.{they_are_apart, they_are_few, they_tell}
 use Rattle.ir_prefix.proofs.ranges.label_ranges.Goals as goal
 
@@ -13,8 +14,20 @@ loop-label-preserved c =
     record {
       inside = c.run_end-end.ensures.within;
       told = loop_more ports c.loop-label.set.items c.push.new.self.items c.loop-label.label c.in-Some.port end (range c.loop-label.label (end - 1) c.in-Some.port) (ranges_of ports)
-          c.run_end-end.ensures refl c.in_ok-push-in-Some.ensures.items c.loop-label.invariant.told;
+          c.run_end-end.ensures refl c.in-Ok.ensures.items c.loop-label.invariant.told;
     }
+
+pub loop-label-preserved-in-None : goal.loop-label-preserved-in-None
+loop-label-preserved-in-None c =
+    let ports = c.args.ports.now in
+    let none : port_to ports c.loop-label.label ≡ None = search rules in
+    record {
+      inside = omega arith;
+      told = ap (λ (more : List LabelRange). c.loop-label.set.items ++ more) (sym (none_more ports c.loop-label.label c.loop-label-test.true none)) ∙ c.loop-label.invariant.told;
+    }
+
+pub returns-clause-ranges : goal.returns-clause-ranges
+returns-clause-ranges c = all_told c.args.ports.now c.loop-label.set.items c.loop-label.label c.loop-label-test.false c.loop-label.invariant.told
 
 pub returns-clause-tells : goal.returns-clause-tells
 returns-clause-tells c =

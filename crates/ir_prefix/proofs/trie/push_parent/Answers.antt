@@ -2,7 +2,7 @@ use Rattle.std.proofs.Common.{◌∙◌, sym, arith}
 use Rattle.std.proofs.lemmas.List.{get_or_default}
 use Rattle.std.proofs.lemmas.Result.{IfOk-weaker}
 use Rattle.ir_prefix.specs.declared.trie.TrieNode.TheVariants.{NoPort}
-use Rattle.ir_prefix.proofs.NodeLemmas.{stands_inside, merged_stands}
+use Rattle.ir_prefix.proofs.NodeLemmas.{free_stands, stands_inside, merged_stands}
 use Rattle.ir_prefix.proofs.trie.push_parent.Goals as goal
 
 pub index-requires-2 : goal.index-requires-2
@@ -21,3 +21,15 @@ returns-in-Some-clause-stands c =
     (get_or_default before.list.items c.args.right NoPort c.index-2.result.now (stands_inside before.list.items before.names.items c.args.right r sr) ∙ sym c.index-2.ensures)
     c.in-Some.ensures.merged sl sr holds)
     c.push_node.ensures.holds
+
+pub returns-clause-stands : goal.returns-clause-stands
+returns-clause-stands c =
+    let list = c.args.nodes.now.list.items in
+    let names = c.args.nodes.now.names.items in
+    IfOk-weaker c.push_fork.result _ _
+    (λ place over. λ l r sl sr.
+    over l r sl sr (λ fl fr.
+    c.merged.ensures.free c.in_default.is
+    (c.index.ensures ∙ sym (get_or_default list c.args.left NoPort c.index.result.now (stands_inside list names c.args.left l sl)) ∙ free_stands list names c.args.left l fl sl)
+    (c.index-2.ensures ∙ sym (get_or_default list c.args.right NoPort c.index-2.result.now (stands_inside list names c.args.right r sr)) ∙ free_stands list names c.args.right r fr sr)))
+    c.push_fork.ensures.stands
