@@ -1,8 +1,8 @@
 //! Calls for users of the library: the texts that a graph is written as, and numbers of faults.
-ghost use Rattle.std.specs.Prelude.{◌≡◌, ◌≤◌, ◌++◌, ◌∷◌, length, flat_map, slice_get, take, bytes_eq, OnOk, IfOk};
+ghost use Rattle.std.specs.Prelude.{◌≡◌, ◌≤◌, ◌++◌, [], ◌∷◌, length, flat_map, slice_get, take, bytes_eq, OnOk, IfOk};
 ghost use Rattle.std.specs.{List.IsDistinct, Map.keys_of, Option.option_to_list};
 ghost use Rattle.ir_model.specs.Graph.{Name, among, names, neighbors};
-ghost use Rattle.ir_adjlist.specs.{Written.{edge_text, adjlist_text, edgelist_text}, Told.text_code};
+ghost use Rattle.ir_adjlist.specs.{Written.{row_text, edge_text, adjlist_text, edgelist_text}, Told.text_code};
 ghost use Rattle.ir_adjlist.specs.Writing.{spaced_words, unwritten, node_row, node_edges};
 ghost use Rattle.ir_adjlist.specs.RoundTrip.{IsReadAsAdjlist, IsReadAsEdgelist};
 
@@ -36,11 +36,21 @@ fn most_neighbors(graph: &Graph, name: &str) -> usize
     graph.degree(name).unwrap_or(0)
 }
 
+/// Puts a byte behind the text.
+fn put_byte(text: &mut Vec<u8>, byte: u8) -> Result<(), AllocError>
+    ensures { OnOk result (text.new.items ≡ text.old.items ++ byte ∷ []) }
+{
+    match text.push(byte) {
+        Ok(()) => Ok(()),
+        Err(_) => Err(AllocError),
+    }
+}
+
 /// Puts a space and a word behind the text.
 fn put_word(text: &mut Vec<u8>, word: &[u8]) -> Result<(), AllocError>
     ensures { OnOk result (text.new.items ≡ text.old.items ++ 32 ∷ word.now) }
 {
-    text.push(b' ')?;
+    put_byte(text, b' ')?;
     text.extend_from_slice(word)
 }
 
@@ -91,8 +101,7 @@ fn put_row_at(text: &mut Vec<u8>, graph: &Graph, place: usize) -> Result<(), All
     };
     text.extend_from_slice(source.as_bytes())?;
     put_targets(text, graph, place, source)?;
-    text.push(b'\n')?;
-    Ok(())
+    put_byte(text, b'\n')
 }
 
 /// Puts the line of an edge behind the text.
@@ -106,11 +115,17 @@ fn put_edge(
     ensures { OnOk result (text.new.items ≡ text.old.items ++ edge_text (u.now, v.now, weight)) }
 {
     let digits = format!(in alloc; "{weight}")?;
+    put_words(text, u, v, digits.as_bytes())
+}
+
+/// Puts a line of three words behind the text.
+fn put_words(text: &mut Vec<u8>, u: &str, v: &str, last: &[u8]) -> Result<(), AllocError>
+    ensures { OnOk result (text.new.items ≡ text.old.items ++ row_text u.now (v.now ∷ last.now ∷ [])) }
+{
     text.extend_from_slice(u.as_bytes())?;
     put_word(text, v.as_bytes())?;
-    put_word(text, digits.as_bytes())?;
-    text.push(b'\n')?;
-    Ok(())
+    put_word(text, last)?;
+    put_byte(text, b'\n')
 }
 
 /// Puts the line of the edge to the neighbour at a place behind the text, unless that is one of the first nodes.

@@ -1,4 +1,4 @@
-use Rattle.std.proofs.Common.{◌≤◌, ◌+◌, length, sym, subst, arith}
+use Rattle.std.proofs.Common.{◌≤◌, ◌+◌, ◌++◌, ap, length, sym, subst, arith}
 use Rattle.ir_adjlist.specs.RoundTrip.{IsReadAsAdjlist}
 use Rattle.ir_adjlist.specs.Written.{adjlist_text}
 use Rattle.ir_adjlist.proofs.AdjlistRead.{adjlist_read}
@@ -17,3 +17,9 @@ returns-clause-read c =
     let g = c.args.graph.now in
     let all : length g ≤ c.loop-place.place = omega arith in
     subst (IsReadAsAdjlist g) (sym (rows_written g c.loop-place.place c.loop-place.text.items (adjlist_text g) all c.loop-place.invariant)) (adjlist_read g c.number_of_nodes-place-end.ensures.graph)
+
+pub loop-place-init : goal.loop-place-init
+loop-place-init c = ap (λ t. t ++ rows_text c.args.graph.now 0) c.new-text.ensures.items
+
+pub returns-clause-text : goal.returns-clause-text
+returns-clause-text c = let all : length c.args.graph.now ≤ c.loop-place.place = omega arith in rows_written c.args.graph.now c.loop-place.place c.loop-place.text.items (adjlist_text c.args.graph.now) all c.loop-place.invariant

@@ -1,4 +1,4 @@
-use Rattle.std.proofs.Common.{◌≤◌, ◌+◌, length, sym, subst, arith}
+use Rattle.std.proofs.Common.{◌≤◌, ◌+◌, ◌++◌, ap, length, sym, subst, arith}
 use Rattle.ir_adjlist.specs.RoundTrip.{IsReadAsEdgelist}
 use Rattle.ir_adjlist.specs.Written.{edgelist_text}
 use Rattle.ir_adjlist.proofs.EdgelistRead.{edgelist_read}
@@ -17,3 +17,9 @@ returns-clause-read c =
     let g = c.args.graph.now in
     let all : length g ≤ c.loop-place.place = omega arith in
     subst (IsReadAsEdgelist g) (sym (edges_written g c.loop-place.place c.loop-place.text.items (edgelist_text g) all c.loop-place.invariant)) (edgelist_read g c.number_of_nodes-place-end.ensures.graph)
+
+pub loop-place-init : goal.loop-place-init
+loop-place-init c = ap (λ t. t ++ edges_text c.args.graph.now 0) c.new-text.ensures.items
+
+pub returns-clause-text : goal.returns-clause-text
+returns-clause-text c = let all : length c.args.graph.now ≤ c.loop-place.place = omega arith in edges_written c.args.graph.now c.loop-place.place c.loop-place.text.items (edgelist_text c.args.graph.now) all c.loop-place.invariant
