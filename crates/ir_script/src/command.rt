@@ -1,7 +1,7 @@
 //! One line of a script.
 ghost use Rattle.std.specs.Prelude.{◌≡◌, bytes_eq};
 ghost use Rattle.ir_model.specs.{Graph.names, OfGraph.topology_of_graph, Text.words_of};
-ghost use Rattle.ir_script.specs.Command.{event_of_one, event_of_two, event_of_three, as_step, step_of, is_of_simulation, command_of};
+ghost use Rattle.ir_script.specs.Command.{event_of_one, event_of_two, event_of_three, step_of, is_of_simulation, command_of};
 
 use crate::fault::ScriptFault;
 use crate::word::{link_between, link_of, node_of, number_of};
@@ -22,22 +22,13 @@ fn event_of_one(graph: &Graph, command: &[u8], first: &[u8]) -> Result<Event, Sc
     ensures { result ≡ event_of_one (names graph.now) command.now first.now }
 {
     if is_word(command, b"act") {
-        return match node_of(graph, first) {
-            Ok(u) => Ok(Event::Act(u)),
-            Err(fault) => Err(fault),
-        };
+        return Ok(Event::Act(node_of(graph, first)?));
     }
     if is_word(command, b"learn") {
-        return match number_of(first) {
-            Ok(epoch) => Ok(Event::Learn(epoch)),
-            Err(fault) => Err(fault),
-        };
+        return Ok(Event::Learn(number_of(first)?));
     }
     if is_word(command, b"retire") {
-        return match number_of(first) {
-            Ok(floor) => Ok(Event::Retire(floor)),
-            Err(fault) => Err(fault),
-        };
+        return Ok(Event::Retire(number_of(first)?));
     }
     Err(ScriptFault::BadCommand)
 }
@@ -100,16 +91,6 @@ fn event_of_three(
     Err(ScriptFault::BadCommand)
 }
 
-/// An event as the step of a line.
-fn as_step(event: Result<Event, ScriptFault>) -> Result<Option<Step>, ScriptFault>
-    ensures { result ≡ as_step event }
-{
-    match event {
-        Ok(event) => Ok(Some(Step::Event(event))),
-        Err(fault) => Err(fault),
-    }
-}
-
 /// The step that the words of a line name; none where it has no word.
 pub fn step_of(
     graph: &Graph,
@@ -129,15 +110,15 @@ pub fn step_of(
         return Err(ScriptFault::BadCommand);
     };
     let Some((second, rest)) = scan::next_word(rest) else {
-        return as_step(event_of_one(graph, command, first));
+        return Ok(Some(Step::Event(event_of_one(graph, command, first)?)));
     };
     let Some((third, rest)) = scan::next_word(rest) else {
-        return as_step(event_of_two(graph, topology, command, first, second));
+        return Ok(Some(Step::Event(event_of_two(graph, topology, command, first, second)?)));
     };
     if scan::next_word(rest).is_some() {
         return Err(ScriptFault::BadCommand);
     }
-    as_step(event_of_three(graph, topology, command, first, second, third))
+    Ok(Some(Step::Event(event_of_three(graph, topology, command, first, second, third)?)))
 }
 
 /// Whether a first word begins a line of a simulation alone.

@@ -1,5 +1,5 @@
 //! Orders of nodes, line by line: each line has the name of a node, and the labels of a numbering are the places in it.
-ghost use Rattle.std.specs.Prelude.{◌≡◌, ◌≢◌, ◌<◌, ◌++◌, [], false, true, length, replicate, option_to_list, IfOk, IfErr, IfSome, OnOk};
+ghost use Rattle.std.specs.Prelude.{◌≡◌, ◌≢◌, ◌<◌, ◌++◌, false, true, length, option_to_list, IfOk, IfErr, IfSome, OnOk};
 ghost use Rattle.ir_model.specs.{Graph.names, Text.lines};
 ghost use Rattle.ir_numbering.specs.Numbering.{IsListing};
 ghost use Rattle.ir_script.specs.Order.{order_fault, IsOrder, OrderTold, told_order};
@@ -75,25 +75,8 @@ pub fn read_order(alloc: Global, graph: &Graph, text: &[u8]) -> Result<Vec<u16>,
     ensures listing { IfOk result (λ order. IsListing (length graph.now) order.items) }
     ensures fault { IfErr result (λ e. OrderTold e (order_fault (names graph.now) (lines text.now))) }
 {
-    let mut placed = vec![in alloc; false; graph.number_of_nodes()]?;
     let mut order = Vec::new(alloc);
-    place_lines(graph, text, &mut order, &mut placed)?;
-    Ok(order)
-}
-
-/// Puts the nodes that the lines of a text name into an empty order, and marks them as placed, as none is before.
-fn place_lines(
-    graph: &Graph,
-    text: &[u8],
-    order: &mut Vec<u16>,
-    placed: &mut Vec<bool>,
-) -> Result<(), OrderFault>
-    requires order { order.old.items ≡ [] }
-    requires placed { placed.old.items ≡ replicate (length graph.now) false }
-    ensures order { OnOk result (IsOrder (names graph.now) (lines text.now) order.new.items) }
-    ensures listing { OnOk result (IsListing (length graph.now) order.new.items) }
-    ensures fault { IfErr result (λ e. OrderTold e (order_fault (names graph.now) (lines text.now))) }
-{
+    let mut placed = vec![in alloc; false; graph.number_of_nodes()]?;
     let mut rest = text;
     let mut line = 0;
     while !rest.is_empty() {
@@ -103,7 +86,7 @@ fn place_lines(
             Ok(node) => node,
             Err(kind) => return Err(fault_at(line, kind)),
         };
-        if let Err(kind) = place(order, placed, node) {
+        if let Err(kind) = place(&mut order, &mut placed, node) {
             return Err(fault_at(line, kind));
         }
         rest = after;
@@ -111,5 +94,5 @@ fn place_lines(
     if order.len() < graph.number_of_nodes() {
         return Err(fault_at(line, OrderFaultKind::Missing));
     }
-    Ok(())
+    Ok(order)
 }

@@ -1,5 +1,5 @@
 //! Scripts, line by line.
-ghost use Rattle.std.specs.{Prelude.{◌≡◌, ℕ, List, [], Option, Result, Ok, true, length, vec_len, IfOk, IfErr, OnOk}, List.list_all};
+ghost use Rattle.std.specs.{Prelude.{◌≡◌, ℕ, List, Option, Result, Ok, true, length, vec_len, IfOk, IfErr}, List.list_all};
 ghost use Rattle.ir_model.specs.{Graph.{Name, names}, Topology.Topology, OfGraph.topology_of_graph, Text.lines};
 ghost use Rattle.ir_script.specs.{declared.fault.ScriptFault.ScriptFault, Command.{line_step, line_command}};
 ghost use Rattle.ir_script.specs.Script.{listing_from, listing_of, ScriptTold, told_script};
@@ -81,13 +81,9 @@ impl ScriptItem for Command {
         if is_of_simulation(word) {
             return Err(ScriptFault::BadCommand);
         }
-        match step_of(graph, topology, words) {
-            Ok(Some(step)) => match command_of(step) {
-                Ok(command) => Ok(Some(command)),
-                Err(fault) => Err(fault),
-            },
-            Ok(None) => Ok(None),
-            Err(fault) => Err(fault),
+        match step_of(graph, topology, words)? {
+            Some(step) => Ok(Some(command_of(step)?)),
+            None => Ok(None),
         }
     }
 }
@@ -119,31 +115,6 @@ pub fn parse<T: ScriptItem>(
 {
     let mut steps = Vec::new(alloc);
     let mut numbers = Vec::new(alloc);
-    read_lines(text, graph, topology, &mut steps, &mut numbers)?;
-    Ok(Script {
-        steps,
-        lines: numbers,
-    })
-}
-
-/// Puts what the lines of a script name into the first list, and the numbers of these lines into the second one. Both
-/// are empty before.
-fn read_lines<T: ScriptItem>(
-    text: &[u8],
-    graph: &Graph,
-    topology: &Topology,
-    steps: &mut Vec<T>,
-    numbers: &mut Vec<usize>,
-) -> Result<(), ScriptError>
-    requires topology { topology.now ≡ topology_of_graph graph.now }
-    requires steps { steps.old.items ≡ [] }
-    requires numbers { numbers.old.items ≡ [] }
-    ensures read { OnOk result (listing_from T.says (names graph.now) topology.now 1 (lines text.now)
-        ≡ Ok (record { steps = steps.new.items; lines = numbers.new.items })) }
-    ensures paired { OnOk result (vec_len steps.new ≡ vec_len numbers.new) }
-    ensures fault { IfErr result (λ e. ScriptTold e
-        (listing_from T.says (names graph.now) topology.now 1 (lines text.now))) }
-{
     let mut rest = text;
     let mut line = 0;
     while !rest.is_empty() {
@@ -160,7 +131,10 @@ fn read_lines<T: ScriptItem>(
         }
         rest = after;
     }
-    Ok(())
+    Ok(Script {
+        steps,
+        lines: numbers,
+    })
 }
 
 /// The steps that a script names, each with the number of its line, or the script's first faulty line. A line is one of

@@ -1,7 +1,7 @@
 use Rattle.std.proofs.Common.{length}
 use Rattle.ir_model.specs.Graph.{names}
 use Rattle.ir_script.proofs.Scripts.{IsRead}
-use Rattle.ir_script.proofs.script.read_lines.Given as goal
+use Rattle.ir_script.proofs.script.parse.Given as goal
 
 abbrev pub invariant-loop-rest : goal.invariant-loop-rest
 invariant-loop-rest g l = IsRead g.T.ScriptItem.says (names l.graph) l.topology l.text l.steps.items l.numbers.items l.line l.rest
