@@ -1,5 +1,5 @@
 //! One line of a script.
-ghost use Rattle.std.specs.Prelude.{◌≡◌};
+ghost use Rattle.std.specs.Prelude.{◌≡◌, bytes_eq};
 ghost use Rattle.ir_model.specs.{Graph.names, OfGraph.topology_of_graph, Text.words_of};
 ghost use Rattle.ir_script.specs.Command.{event_of_one, event_of_two, event_of_three, step_of, is_of_simulation, command_of};
 
@@ -10,17 +10,24 @@ use ir_core::{Command, Event, Kind, Step, Way};
 use ir_graph::Graph;
 use ir_tables::Topology;
 
+/// Whether two words are the same.
+fn is_word(word: &[u8], wanted: &[u8]) -> bool
+    ensures { result ≡ bytes_eq word.now wanted.now }
+{
+    word == wanted
+}
+
 /// The event of a first word that one follows.
 fn event_of_one(graph: &Graph, command: &[u8], first: &[u8]) -> Result<Event, ScriptFault>
     ensures { result ≡ event_of_one (names graph.now) command.now first.now }
 {
-    if command == b"act".as_slice() {
+    if is_word(command, b"act") {
         return Ok(Event::Act(node_of(graph, first)?));
     }
-    if command == b"learn".as_slice() {
+    if is_word(command, b"learn") {
         return Ok(Event::Learn(number_of(first)?));
     }
-    if command == b"retire".as_slice() {
+    if is_word(command, b"retire") {
         return Ok(Event::Retire(number_of(first)?));
     }
     Err(ScriptFault::BadCommand)
@@ -37,28 +44,28 @@ fn event_of_two(
     requires { topology.now ≡ topology_of_graph graph.now }
     ensures { result ≡ event_of_two (names graph.now) topology.now command.now first.now second.now }
 {
-    if command == b"inject".as_slice() {
+    if is_word(command, b"inject") {
         return Ok(Event::Inject(node_of(graph, first)?, node_of(graph, second)?));
     }
-    if command == b"down".as_slice() {
+    if is_word(command, b"down") {
         return Ok(Event::Down(link_of(graph, topology, first, second)?));
     }
-    if command == b"up".as_slice() {
+    if is_word(command, b"up") {
         return Ok(Event::Up(link_of(graph, topology, first, second)?));
     }
-    if command == b"read".as_slice() {
+    if is_word(command, b"read") {
         return Ok(Event::Read(node_of(graph, first)?, number_of(second)? as usize));
     }
-    if command == b"take".as_slice() && second == b"inbox".as_slice() {
+    if is_word(command, b"take") && is_word(second, b"inbox") {
         return Ok(Event::Take(node_of(graph, first)?, Way::Inbox));
     }
-    if command == b"install".as_slice() && first == b"tree".as_slice() {
+    if is_word(command, b"install") && is_word(first, b"tree") {
         return Ok(Event::Install(Kind::Tree, node_of(graph, second)?));
     }
-    if command == b"install".as_slice() && first == b"shortest".as_slice() {
+    if is_word(command, b"install") && is_word(first, b"shortest") {
         return Ok(Event::Install(Kind::Shortest, node_of(graph, second)?));
     }
-    if command == b"install".as_slice() && first == b"compact".as_slice() {
+    if is_word(command, b"install") && is_word(first, b"compact") {
         return Ok(Event::Install(Kind::Compact, node_of(graph, second)?));
     }
     Err(ScriptFault::BadCommand)
@@ -76,7 +83,7 @@ fn event_of_three(
     requires { topology.now ≡ topology_of_graph graph.now }
     ensures { result ≡ event_of_three (names graph.now) topology.now command.now first.now second.now third.now }
 {
-    if command == b"take".as_slice() && second == b"from".as_slice() {
+    if is_word(command, b"take") && is_word(second, b"from") {
         let node = node_of(graph, first)?;
         let link = link_between(topology, node, node_of(graph, third)?)?;
         return Ok(Event::Take(node, Way::Link(link)));
@@ -97,7 +104,7 @@ pub fn step_of(
         return Ok(None);
     };
     let Some((first, rest)) = scan::next_word(rest) else {
-        if command == b"drain".as_slice() {
+        if is_word(command, b"drain") {
             return Ok(Some(Step::Drain));
         }
         return Err(ScriptFault::BadCommand);
