@@ -65,13 +65,12 @@ module _ (kind : Kind) (net : Topology) (order parents labels : List ℕ) where
       (rows_behind (b * 16) 16 (k * 16) x.items (flat_map items xs) zipped.0 later))
 
   -- the rows of enough batches, one behind the other, are those of all nodes
-  pub made_in_batches : (count : ℕ) (results : List (Result (Vec (List Start)) AllocError)) (made : List (Vec (List Start))) → node_count net ≤ count * 16
-      → AllZip (λ (i : ℕ) (one : Result (Vec (List Start)) AllocError). IfOk one (λ (v : Vec (List Start)). AreRowsFrom kind net order parents labels (i * 16) 16 v.items)) (range_with_len 0 count) results
-      → results ≡ map Ok made → AreNodeRows kind net order parents labels (node_count net) (flat_map (λ (v : Vec (List Start)). v.items) made)
-  made_in_batches count results made enough zipped is =
+  pub made_in_batches : (count : ℕ) (made : List (Vec (List Start))) → node_count net ≤ count * 16
+      → AllZip (λ (i : ℕ) (one : Result (Vec (List Start)) AllocError). IfOk one (λ (v : Vec (List Start)). AreRowsFrom kind net order parents labels (i * 16) 16 v.items)) (range_with_len 0 count) (map Ok made)
+      → AreNodeRows kind net order parents labels (node_count net) (flat_map (λ (v : Vec (List Start)). v.items) made)
+  made_in_batches count made enough zipped =
       rows_of_all (count * 16) (flat_map (λ (v : Vec (List Start)). v.items) made) enough
-      (rows_in_batches 0 count made
-      (subst (λ (rs : List (Result (Vec (List Start)) AllocError)). AllZip (λ (i : ℕ) (one : Result (Vec (List Start)) AllocError). IfOk one (λ (v : Vec (List Start)). AreRowsFrom kind net order parents labels (i * 16) 16 v.items)) (range_with_len 0 count) rs) is zipped))
+      (rows_in_batches 0 count made zipped)
 
 -- one more row behind those of the first nodes
 pub read_more : (P : ℕ → List Start → Type 0) (k : ℕ) (rows more : List (List Start)) (row : List Start) → length rows ≡ k → ((i : ℕ) → i < k → P i (slice_index_or rows i [])) → more ≡ rows ++ row ∷ [] → P k row

@@ -249,6 +249,20 @@ best_same n own may m a c p off none best =
       low = omega (arith, low);
     }
 
+-- before the first port nothing is best
+pub best_none : (n own : ℕ) (may : ℕ → ℕ → Type 0) (a : ℕ) (counts ports : List ℕ) → counts ≡ replicate n 0 → ports ≡ replicate n 0 → a < n → IsBestBelow n own may 0 a (slice_index counts a) (slice_index ports a)
+best_none n own may a counts ports none first l =
+    let count : slice_index counts a ≡ 0 = ap (λ (xs : List ℕ). slice_index xs a) none ∙ get_or-replicate n a 0 0 l in
+    let port : slice_index ports a ≡ 0 = ap (λ (xs : List ℕ). slice_index xs a) first ∙ get_or-replicate n a 0 0 l in
+    rw (count, port)
+    (record {
+      within = omega arith;
+      serves = λ i lt off. absurd (omega (arith, lt));
+      longest = λ q t lt h s. absurd (omega (arith, lt));
+      least = λ q lt s. absurd (omega (arith, lt));
+      low = omega arith;
+    })
+
 -- one label alone chooses nothing
 pub one_label : (n own : ℕ) (may : ℕ → ℕ → Type 0) (ports : List (Option ℕ)) → n ≡ 1 → own < n → ports ≡ None ∷ [] → AreChosen n own may ports
 one_label n own may ports one l is = record {

@@ -1,6 +1,7 @@
 -- Which plans are labelled by an order, and that the labels are determined by it, the kind, the root and the network.
-use Rattle.std.proofs.Common.{◌≡◌, ◌≢◌, ℕ, ◌<◌, ◌≤◌, ◌⊎◌, List, length, refl, ap, sym, ◌∙◌, subst, inl, inr, arith}
-use Rattle.std.specs.Prelude.{slice_index, sum_by}
+use Rattle.std.proofs.Common.{◌≡◌, ◌≢◌, ℕ, ◌<◌, ◌≤◌, ◌⊎◌, List, length, Ok, Err, refl, ap, sym, ◌∙◌, subst, inl, inr, arith}
+use Rattle.std.specs.Prelude.{IfOk, slice_index, sum_by}
+use Rattle.std.specs.declared.result.Result.{Result}
 use Rattle.std.proofs.lemmas.Bool.{cases_lt}
 use Rattle.ir_model.specs.declared.Kind.{Kind}
 use Rattle.ir_model.specs.declared.Kind.TheVariants.{Tree, Shortest, Compact}
@@ -13,6 +14,7 @@ use Rattle.std.specs.List.Sorted.{IsPermutation}
 use Rattle.ir_numbering.specs.Numbering.{IsListing}
 use Rattle.ir_plan.specs.Distances.{AreShortestDistances}
 use Rattle.ir_plan.specs.Tour.{IsTour, IsNearestOrder, difference, shortened}
+use Rattle.ir_plan.specs.Building.{ByList, IsPlanBy}
 use Rattle.ir_plan.specs.Starts.{IsLabelledBy, start_count, IsPlanAs, HasFewerOfTwo, IsToured}
 use Rattle.ir_plan.proofs.DepthFirst.{depth_first_order, rows_same, shortest_same}
 use Rattle.ir_plan.proofs.Tours.{nearest_moved, nearest_same, shortened_agrees, shortened_first, shortened_permutes, listing_permuted}
@@ -54,6 +56,12 @@ tour_made net root far start tour are in_net nearest short =
       listing_permuted n start tour nearest.listing (subst (IsPermutation start) (sym short) (shortened_permutes far 16 start)),
       ap (λ (xs : List ℕ). slice_index xs 0) short ∙ shortened_first far 16 start ∙ nearest.first,
     )
+
+-- a plan of these numbers is one by the list that they came from
+pub built_by_list : {E : Type 0} (r : Result Plan E) (net : Topology) (kind : Kind) (order list : List ℕ) → order ≡ list
+    → IfOk r (λ p. p.kind ≡ kind) → IfOk r (λ p. p.topology ≡ net) → IfOk r (λ p. p.order ≡ order) → IfOk r IsPlan → IfOk r (IsPlanBy net kind (ByList list))
+built_by_list (Ok p) net kind order list same of_kind over by valid = record { valid = valid; over = over; of_kind = of_kind; labelled = by ∙ same }
+built_by_list (Err e) net kind order list same of_kind over by valid = tt
 
 -- ---- what a plan has to be
 

@@ -1,5 +1,5 @@
 -- Lists that threads made.
-use Rattle.std.proofs.Common.{◌≡◌, ℕ, zero, suc, ◌+◌, ◌<◌, List, [], ◌∷◌, length, map, ◌++◌, Ok, Err, Option, Some, None, refl, ap, sym, ◌∙◌, subst, inl, inr, arith}
+use Rattle.std.proofs.Common.{◌≡◌, ℕ, zero, suc, ◌+◌, ◌-◌, ◌<◌, List, [], ◌∷◌, length, map, ◌++◌, Ok, Err, Option, Some, None, refl, ap, sym, ◌∙◌, subst, inl, inr, arith}
 use Rattle.std.specs.Prelude.{IfOk, IfSome, OnOk, MatchResult, slice_index, slice_index_or}
 use Rattle.std.specs.Global.{Vec}
 use Rattle.std.specs.List.{AllZip, range_with_len}
@@ -7,6 +7,7 @@ use Rattle.std.specs.declared.result.Result.{Result}
 use Rattle.std.specs.declared.alloc.AllocError.{AllocError}
 use Rattle.std.proofs.lemmas.Bool.{cases_eq}
 use Rattle.std.proofs.lemmas.List.{get_or-map, length-map, length_push, get_or_push, get_or_append_left, map-append}
+use Rattle.rayon.specs.Numbers.{nat_range}
 use Rattle.ir_plan.specs.Distances.{lists_of}
 
 -- lists of vectors that were made for the numbers of a range, where P holds of each and its number
@@ -23,11 +24,10 @@ zipped_lists P a (suc k) (x ∷ xs) zipped =
     at later zero lt = let e : a ≡ a + 0 = omega arith in subst (λ (u : ℕ). P u x.items) e zipped.0
     at later (suc i) lt = let e : a + 1 + i ≡ a + suc i = omega arith in subst (λ (u : ℕ). P u (slice_index_or (lists_of xs) i [])) e (later i (omega (arith, lt)))
 
-pub lists_for_range : (P : ℕ → List ℕ → Type 0) (k : ℕ) (results : List (Result (Vec ℕ) AllocError)) (made : List (Vec ℕ))
-    → AllZip (λ (u : ℕ) (one : Result (Vec ℕ) AllocError). IfOk one (λ (v : Vec ℕ). P u v.items)) (range_with_len 0 k) results → results ≡ map Ok made
+pub lists_for_range : (P : ℕ → List ℕ → Type 0) (k : ℕ) (made : List (Vec ℕ)) → AllZip (λ (u : ℕ) (one : Result (Vec ℕ) AllocError). IfOk one (λ (v : Vec ℕ). P u v.items)) (range_with_len 0 k) (map Ok made)
     → (length (lists_of made) ≡ k) × ((i : ℕ) → i < k → P i (slice_index_or (lists_of made) i []))
-lists_for_range P k results made h is =
-    let all = zipped_lists P 0 k made (subst (λ (rs : List (Result (Vec ℕ) AllocError)). AllZip (λ (u : ℕ) (one : Result (Vec ℕ) AllocError). IfOk one (λ (v : Vec ℕ). P u v.items)) (range_with_len 0 k) rs) is h) in
+lists_for_range P k made zipped =
+    let all = zipped_lists P 0 k made zipped in
     (all.0, λ i lt. let e : 0 + i ≡ i = omega arith in subst (λ (u : ℕ). P u (slice_index_or (lists_of made) i [])) e (all.1 i lt))
 
 -- the list of the vector at a place
@@ -76,11 +76,11 @@ made_for_range {T} P a (suc k) (x ∷ xs) zipped =
     at later zero d lt = let e : a ≡ a + 0 = omega arith in subst (λ (u : ℕ). P u x) e zipped.0
     at later (suc i) d lt = let e : a + 1 + i ≡ a + suc i = omega arith in subst (λ (u : ℕ). P u (slice_index_or xs i d)) e (later i d (omega (arith, lt)))
 
-pub words_made : (P : ℕ → Option (Vec ℕ) → Type 0) (k : ℕ) (results : List (Result (Option (Vec ℕ)) AllocError)) (made : List (Option (Vec ℕ)))
-    → AllZip (λ (u : ℕ) (one : Result (Option (Vec ℕ)) AllocError). IfOk one (P u)) (range_with_len 0 k) results → results ≡ map Ok made
+pub words_made : (P : ℕ → Option (Vec ℕ) → Type 0) (k : ℕ) (made : List (Option (Vec ℕ)))
+    → AllZip (λ (u : ℕ) (one : Result (Option (Vec ℕ)) AllocError). IfOk one (P u)) (range_with_len 0 k) (map Ok made)
     → (length made ≡ k) × ((i : ℕ) → i < length made → P i (slice_index_or made i None))
-words_made P k results made h is =
-    let all = made_for_range P 0 k made (subst (λ (rs : List (Result (Option (Vec ℕ)) AllocError)). AllZip (λ (u : ℕ) (one : Result (Option (Vec ℕ)) AllocError). IfOk one (P u)) (range_with_len 0 k) rs) is h) in
+words_made P k made zipped =
+    let all = made_for_range P 0 k made zipped in
     (all.0, λ i lt. let e : 0 + i ≡ i = omega arith in subst (λ (u : ℕ). P u (slice_index_or made i None)) e (all.1 i None (omega (arith, lt, all.0))))
 
 -- what was found for each number, where something was found for all
@@ -90,10 +90,23 @@ found_each P [] all i lt = absurd (omega (arith, lt))
 found_each P (x ∷ xs) all zero lt = all 0 lt
 found_each P (x ∷ xs) all (suc i) lt = found_each (λ j list. P (suc j) list) xs (λ j l. all (suc j) (omega (arith, l))) i (omega (arith, lt))
 
+-- what a chain over a range gave, where each was made
+pub made_of_chain : {T : Type 0} (R : ℕ → Result T AllocError → Type 0) (places : List ℕ) (a b n : ℕ) (results : List (Result T AllocError)) (made items : List T)
+    → places ≡ nat_range a b → a ≡ 0 → b ≡ n → AllZip R places results → results ≡ map Ok made → items ≡ made → AllZip R (range_with_len 0 n) (map Ok items)
+made_of_chain {T} R places a b n results made items whole low high zipped is same =
+    let count : n - 0 ≡ n = omega arith in
+    let of_n : places ≡ range_with_len 0 n = whole ∙ ap (λ (x : ℕ). nat_range x b) low ∙ ap (nat_range 0) high ∙ ap (range_with_len 0) count in
+    let oks : results ≡ map Ok items = is ∙ ap (λ (xs : List T). map Ok xs) (sym same) in
+    subst (λ (us : List ℕ). AllZip R us (map Ok items)) of_n (subst (λ (rs : List (Result T AllocError)). AllZip R places rs) oks zipped)
+
 -- what holds of the value in an `Ok`
 pub of_match : {T E : Type 0} (r : Result T E) (P R : T → Type 0) (Q : E → Type 0) → MatchResult r P Q → ((v : T) → P v → R v) → IfOk r R
 of_match (Ok v) P R Q h f = f v h
 of_match (Err e) P R Q h f = tt
+
+pub of_some : {T : Type 0} (o : Option T) (P R : T → Type 0) → IfSome o P → ((v : T) → P v → R v) → IfSome o R
+of_some (Some v) P R h f = f v h
+of_some None P R h f = tt
 
 pub of_ok : {T E : Type 0} (r : Result T E) (P R : T → Type 0) → IfOk r P → ((v : T) → P v → R v) → IfOk r R
 of_ok (Ok v) P R h f = f v h

@@ -228,13 +228,12 @@ zipped_rows P a (suc k) (row ∷ rows) zipped =
     at later (suc i) lt = let e : a + 1 + i ≡ a + suc i = omega arith in subst (λ (u : ℕ). P u (slice_index_or rows i [])) e (later i (omega (arith, lt)))
 
 -- rows that were made for the numbers of a range are the rows of all nodes
-pub rows_of_range : (kind : Kind) (net : Topology) (order parents labels : List ℕ) (made : List (Result (List Start) AllocError)) (rows : List (List Start))
-    → AllZip (λ (u : ℕ) (one : Result (List Start) AllocError). IfOk one (λ (row : List Start). IsNodeRow kind net order parents (slice_index labels u) row)) (range_with_len 0 (node_count net)) made
-    → made ≡ map Ok rows → AreNodeRows kind net order parents labels (node_count net) rows
-rows_of_range kind net order parents labels made rows zipped is =
+pub rows_of_range : (kind : Kind) (net : Topology) (order parents labels : List ℕ) (rows : List (List Start))
+    → AllZip (λ (u : ℕ) (one : Result (List Start) AllocError). IfOk one (λ (row : List Start). IsNodeRow kind net order parents (slice_index labels u) row)) (range_with_len 0 (node_count net)) (map Ok rows)
+    → AreNodeRows kind net order parents labels (node_count net) rows
+rows_of_range kind net order parents labels rows zipped =
     let P : ℕ → List Start → Type 0 = λ u row. IsNodeRow kind net order parents (slice_index labels u) row in
-    let Q : List (Result (List Start) AllocError) → Type 0 = λ rs. AllZip (λ (u : ℕ) (one : Result (List Start) AllocError). IfOk one (P u)) (range_with_len 0 (node_count net)) rs in
-    let all = zipped_rows P 0 (node_count net) rows (subst Q is zipped) in
+    let all = zipped_rows P 0 (node_count net) rows zipped in
     record {
       every = all.0;
       each = λ u hu. let e : 0 + u ≡ u = omega arith in subst (λ (v : ℕ). P v (slice_index_or rows u [])) e (all.1 u hu);

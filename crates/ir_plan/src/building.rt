@@ -1,10 +1,12 @@
 //! The building of plans: by whom, by what labels, and why there is none.
 
 ghost use Rattle.std.specs.Prelude.{◌≡◌, ◌≢◌, ◌↔◌, ◌<◌, ◌≤◌, slice_index, IfOk, IfErr, OnOk};
-ghost use Rattle.ir_model.specs.{Numbering.{IsDepthFirst, neighbors_of}, Topology.node_count, Plan.AreLabels};
+ghost use Rattle.ir_model.specs.{Numbering.{IsDepthFirst, neighbors_of}, Topology.node_count};
+ghost use Rattle.ir_model.specs.Plan.{AreLabels, HasDepthFirst};
 ghost use Rattle.ir_model.specs.Walk.{IsConnected, IsDisconnected};
 ghost use Rattle.ir_numbering.specs.Numbering.{IsListing, IsNumberingOf};
 ghost use Rattle.ir_plan.specs.declared.tour.LabelOrder.TheVariants.{DepthFirst};
+ghost use Rattle.ir_plan.specs.Starts.{IsLabelledBy, IsPlanAs};
 ghost use Rattle.ir_plan.specs.Building.{ByList, FromRoot, IsPlanBy, MayLabel, RefusesPlan, labelling_of};
 
 use crate::crew::{Alone, Crew};
@@ -72,18 +74,31 @@ impl Plan {
     {
         match labels {
             Labels::FromRoot(order, root) => {
-                let plan = match depth_first_plan(crew, alloc, topology, kind, root, most) {
-                    Ok(plan) => plan,
-                    Err(refusal) => return Err(refusal),
-                };
-                match plan_with_fewer(crew, alloc, &plan, order, most) {
-                    Ok(Some(tour)) => Ok(tour),
-                    Ok(None) => Ok(plan),
-                    Err(_) => Err((PlanError::NoMemory, plan.into_topology())),
-                }
+                let plan = depth_first_plan(crew, alloc, topology, kind, root, most)?;
+                plan_in_order(crew, alloc, plan, order, most)
             }
             Labels::Listed(list) => listed_plan(crew, alloc, topology, kind, list, most),
         }
+    }
+}
+
+// The plan in an order, of the depth-first one: that itself, or the one over the tour.
+fn plan_in_order(
+    crew: &impl Crew,
+    alloc: Global,
+    plan: Plan,
+    order: LabelOrder,
+    most: Option<usize>,
+) -> Result<Plan, (PlanError, Topology)>
+    requires { HasDepthFirst plan }
+    ensures made { IfOk result (λ p. IsPlanAs plan p × IsLabelledBy order p) }
+    ensures refused { IfErr result (λ e. e.0 ≡ PlanError.NoMemory) }
+    ensures back { IfErr result (λ e. e.1 ≡ plan.topology) }
+{
+    match plan_with_fewer(crew, alloc, &plan, order, most) {
+        Ok(Some(tour)) => Ok(tour),
+        Ok(None) => Ok(plan),
+        Err(_) => Err((PlanError::NoMemory, plan.into_topology())),
     }
 }
 

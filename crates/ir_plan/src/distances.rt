@@ -6,10 +6,10 @@ ghost use Rattle.ir_plan.specs.Distances.{AreColumns, AreDistances, AreShortestD
 ghost use Rattle.ir_plan.specs.Distances.{far_between, far_from, lists_of, unlike};
 
 use crate::crew::Crew;
+use crate::making::made_in_threads;
 use crate::plan::Plan;
 use crate::threads::rows_of_a_thread;
 use ir_model::Kind;
-use rayon::prelude::*;
 use std::alloc::{AllocError, Global};
 use std::thread::Threads;
 
@@ -98,17 +98,17 @@ pub fn columns_in_threads(
         (lists_of columns.items)) }
 {
     let nodes = plan.nodes();
-    (0..nodes)
-        .into_par_iter()
-        .with_min_len(rows_of_a_thread(nodes, most))
-        .map(
-            |d: usize| -> Result<Vec<u16>, AllocError>
-                requires { d < node_count plan.now.topology }
-                ensures { IfOk result (λ column. IsPortColumn (node_count plan.entry.now.topology)
-                    (table_port plan.entry.now) d column.items) }
-            { column(alloc, plan, d) },
-        )
-        .collect::<Result<Vec<Vec<u16>>, AllocError>>(rt, alloc)?
+    made_in_threads(
+        rt,
+        alloc,
+        nodes,
+        rows_of_a_thread(nodes, most),
+        |d: usize| -> Result<Vec<u16>, AllocError>
+            requires { d < node_count plan.now.topology }
+            ensures { IfOk result (λ column. IsPortColumn (node_count plan.entry.now.topology)
+                (table_port plan.entry.now) d column.items) }
+        { column(alloc, plan, d) },
+    )
 }
 
 // The ports of all nodes to one, by their numbers.
@@ -151,18 +151,18 @@ pub fn distances_in_threads(
     ensures { IfOk result (λ rows. AreDistances (lists_of columns.now) (lists_of rows.items)) }
 {
     let nodes = columns.len();
-    (0..nodes)
-        .into_par_iter()
-        .with_min_len(rows_of_a_thread(nodes, most))
-        .map(
-            |a: usize| -> Result<Vec<u16>, AllocError>
-                requires { (a < length columns.now) × (length columns.now ≤ MOST_TOUR_NODES)
-                    × All (λ column. length column.items ≡ length columns.now) columns.now }
-                ensures { IfOk result (λ row. IsRow (lists_of columns.entry.now)
-                    (slice_index_or (lists_of columns.entry.now) a []) row.items) }
-            { row(alloc, columns, columns[a].as_slice()) },
-        )
-        .collect::<Result<Vec<Vec<u16>>, AllocError>>(rt, alloc)?
+    made_in_threads(
+        rt,
+        alloc,
+        nodes,
+        rows_of_a_thread(nodes, most),
+        |a: usize| -> Result<Vec<u16>, AllocError>
+            requires { (a < length columns.now) × (length columns.now ≤ MOST_TOUR_NODES)
+                × All (λ column. length column.items ≡ length columns.now) columns.now }
+            ensures { IfOk result (λ row. IsRow (lists_of columns.entry.now)
+                (slice_index_or (lists_of columns.entry.now) a []) row.items) }
+        { row(alloc, columns, columns[a].as_slice()) },
+    )
 }
 
 // The distances of one node to each, by its column of ports and those of all.

@@ -4,22 +4,19 @@ ghost use Rattle.ir_plan.specs.declared.error.PlanError.TheVariants.{NoMemory};
 
 use ir_numbering::NumberError;
 use std::alloc::AllocError;
+use std::fmt;
 use thiserror::Error;
 
 /// Why there is no plan.
 #[derive(Clone, Copy, Debug, PartialEq, Eq, Error)]
 pub enum PlanError {
     /// The root is no node of the topology.
-    #[error("the root is no node")]
     NoNode,
     /// The topology has no node.
-    #[error("the topology has no node")]
     Empty,
     /// Some node has no walk to some node.
-    #[error("some node has no walk to some node")]
     Disconnected,
     /// A growth was refused.
-    #[error("out of memory")]
     NoMemory,
 }
 
@@ -34,6 +31,17 @@ impl PlanError {
             PlanError::Disconnected => 3,
             PlanError::NoMemory => 4,
         }
+    }
+}
+
+impl fmt::Display for PlanError {
+    fn fmt<W: fmt::Write>(&self, f: &mut fmt::Formatter<W>) -> fmt::Result {
+        f.write_str(match self {
+            PlanError::NoNode => "the root is no node",
+            PlanError::Empty => "the topology has no node",
+            PlanError::Disconnected => "some node has no walk to some node",
+            PlanError::NoMemory => "out of memory",
+        })
     }
 }
 

@@ -10,6 +10,7 @@ mod crew;
 mod distances;
 mod error;
 mod laws;
+mod making;
 mod nearest;
 mod patience;
 mod plan;

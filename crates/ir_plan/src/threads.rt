@@ -9,6 +9,7 @@ ghost use Rattle.ir_plan.specs.{Shown.StandForTable, NodeRows.{AreRowsFrom, AreS
 ghost use Rattle.ir_plan.specs.Ties.{AreTies, MayHaveRow};
 
 use crate::batches::{BATCH, LEAST_BATCHED, batch_rows, joined};
+use crate::making::made_in_threads;
 use crate::patience::Patience;
 use crate::rows::row_at;
 use crate::ties::{Ties, all_found, are_held};
@@ -18,7 +19,6 @@ use ir_lookup::Row;
 use ir_model::Kind;
 use ir_numbering::Numbering;
 use ir_tables::Topology;
-use rayon::prelude::*;
 use std::alloc::{AllocError, Global};
 use std::thread::Threads;
 
@@ -101,19 +101,19 @@ fn batches_in_threads<R: Threads + Sync, W: Watch + Sync>(
     let nodes = topology.nodes();
     let patience = &Patience::new();
     let watch = makers.watch;
-    (0..nodes.div_ceil(BATCH))
-        .into_par_iter()
-        .with_min_len(rows_of_a_thread(nodes, makers.most).div_ceil(BATCH))
-        .map(
-            |batch: usize| -> Result<Vec<Row>, AllocError>
-                requires { (batch * 16 < node_count topology.now)
-                    × AreLabels (node_count topology.now) numbering.now.order numbering.now.labels
-                    × IsConnected topology.now }
-                ensures { IfOk result (λ rows. AreRowsFrom Shortest topology.entry.now numbering.entry.now.order
-                    numbering.entry.now.parents numbering.entry.now.labels (batch * 16) 16 rows.items) }
-            { batch_rows(alloc, topology, numbering, batch, patience, watch) },
-        )
-        .collect::<Result<Vec<Vec<Row>>, AllocError>>(makers.rt, alloc)?
+    made_in_threads(
+        makers.rt,
+        alloc,
+        nodes.div_ceil(BATCH),
+        rows_of_a_thread(nodes, makers.most).div_ceil(BATCH),
+        |batch: usize| -> Result<Vec<Row>, AllocError>
+            requires { (batch * 16 < node_count topology.now)
+                × AreLabels (node_count topology.now) numbering.now.order numbering.now.labels
+                × IsConnected topology.now }
+            ensures { IfOk result (λ rows. AreRowsFrom Shortest topology.entry.now numbering.entry.now.order
+                numbering.entry.now.parents numbering.entry.now.labels (batch * 16) 16 rows.items) }
+        { batch_rows(alloc, topology, numbering, batch, patience, watch) },
+    )
 }
 
 // The ties of a network, where there are any, found in batches.
@@ -154,18 +154,18 @@ fn words_in_threads(
 {
     let nodes = order.len();
     let patience = &Patience::new();
-    (0..nodes.div_ceil(BATCH))
-        .into_par_iter()
-        .with_min_len(rows_of_a_thread(nodes, most).div_ceil(BATCH))
-        .map(
-            |batch: usize| -> Result<Option<Vec<u16>>, AllocError>
-                requires { (batch * 16 < length order.now)
-                    × ((d : ℕ) → d < length order.now → slice_index order.now d < node_count topology.now) }
-                ensures { IfOk result (λ found. IfSome found (λ words. AreBatchWords topology.entry.now
-                    order.entry.now batch words.items)) }
-            { words_by(alloc, topology, order, batch, patience) },
-        )
-        .collect::<Result<Vec<Option<Vec<u16>>>, AllocError>>(rt, alloc)?
+    made_in_threads(
+        rt,
+        alloc,
+        nodes.div_ceil(BATCH),
+        rows_of_a_thread(nodes, most).div_ceil(BATCH),
+        |batch: usize| -> Result<Option<Vec<u16>>, AllocError>
+            requires { (batch * 16 < length order.now)
+                × ((d : ℕ) → d < length order.now → slice_index order.now d < node_count topology.now) }
+            ensures { IfOk result (λ found. IfSome found (λ words. AreBatchWords topology.entry.now
+                order.entry.now batch words.items)) }
+        { words_by(alloc, topology, order, batch, patience) },
+    )
 }
 
 // The words of all ports for a batch of nodes of a list, where the lanes are tried and find them.
@@ -206,20 +206,20 @@ fn nodes_in_threads<R: Threads + Sync, W: Watch + Sync>(
 {
     let nodes = topology.nodes();
     let watch = makers.watch;
-    (0..nodes)
-        .into_par_iter()
-        .with_min_len(rows_of_a_thread(nodes, makers.most))
-        .map(
-            |u: usize| -> Result<Row, AllocError>
-                requires { MayHaveRow kind topology.now numbering.now ties.now u }
-                ensures { IfOk result (λ row. IsNodeRow kind topology.entry.now numbering.entry.now.order
-                    numbering.entry.now.parents (slice_index numbering.entry.now.labels u) row) }
-            {
-                let nodes = topology.nodes();
-                let row = row_at(alloc, topology, numbering, kind, ties, u as u16)?;
-                watch.row_made(nodes);
-                Ok(row)
-            },
-        )
-        .collect::<Result<Vec<Row>, AllocError>>(makers.rt, alloc)?
+    made_in_threads(
+        makers.rt,
+        alloc,
+        nodes,
+        rows_of_a_thread(nodes, makers.most),
+        |u: usize| -> Result<Row, AllocError>
+            requires { MayHaveRow kind topology.now numbering.now ties.now u }
+            ensures { IfOk result (λ row. IsNodeRow kind topology.entry.now numbering.entry.now.order
+                numbering.entry.now.parents (slice_index numbering.entry.now.labels u) row) }
+        {
+            let nodes = topology.nodes();
+            let row = row_at(alloc, topology, numbering, kind, ties, u as u16)?;
+            watch.row_made(nodes);
+            Ok(row)
+        },
+    )
 }

@@ -1,8 +1,8 @@
 //! The plan over the order of a tour, where it has fewer starts than the depth-first plan.
-ghost use Rattle.std.specs.Prelude.{◌≡◌, ◌≢◌, ◌≤◌, IfOk, IfSome, None, slice_index};
+ghost use Rattle.std.specs.Prelude.{◌≡◌, ◌≢◌, ◌<◌, ◌≤◌, IfOk, IfSome, None, slice_index};
 ghost use Rattle.ir_model.specs.{Topology.node_count, Plan.HasDepthFirst};
 ghost use Rattle.ir_numbering.specs.Numbering.{IsListing};
-ghost use Rattle.ir_plan.specs.{Starts.{IsLabelledBy, IsPlanAs}, Tour.IsTour};
+ghost use Rattle.ir_plan.specs.{Starts.{IsLabelledBy, IsPlanAs, start_count}, Tour.IsTour};
 ghost use Rattle.ir_plan.specs.Distances.{AreShortestDistances, far_between};
 
 use crate::MOST_TOUR_NODES;
@@ -51,13 +51,36 @@ pub fn plan_with_fewer(
     if plan.kind() == Kind::Tree || plan.nodes() > MOST_TOUR_NODES {
         return Ok(None);
     }
-    let order = tour(crew, alloc, plan, most)?;
-    let found = plan_over(crew, alloc, plan, order, most)?;
+    let found = plan_over_tour(crew, alloc, plan, most)?;
+    Ok(if_fewer(found, plan))
+}
+
+// A plan, where it has fewer starts than another.
+fn if_fewer(found: Plan, plan: &Plan) -> Option<Plan>
+    ensures fewer { IfSome result (λ p. (p ≡ found) × (start_count found < start_count plan.now)) }
+    ensures others { result ≡ None → start_count plan.now ≤ start_count found }
+{
     if found.labels() < plan.labels() {
-        Ok(Some(found))
+        Some(found)
     } else {
-        Ok(None)
+        None
     }
+}
+
+// The plan of the kind and network of another over the order of the tour from its root.
+fn plan_over_tour(
+    crew: &impl Crew,
+    alloc: Global,
+    plan: &Plan,
+    most: Option<usize>,
+) -> Result<Plan, AllocError>
+    requires kind { plan.now.kind ≢ Kind.Tree }
+    requires few { node_count plan.now.topology ≤ MOST_TOUR_NODES }
+    ensures like { IfOk result (IsPlanAs plan.now) }
+    ensures tour { IfOk result (λ p. IsTour plan.now.topology plan.now.root p.order) }
+{
+    let order = tour(crew, alloc, plan, most)?;
+    plan_over(crew, alloc, plan, order, most)
 }
 
 // The plan of the kind and network of another over an order of all nodes.
@@ -114,9 +137,23 @@ fn distances(
     if plan.kind() == Kind::Shortest {
         return Distances::of(crew, alloc, plan, most);
     }
+    let shortest = shortest_plan(crew, alloc, plan, most)?;
+    Distances::of(crew, alloc, &shortest, most)
+}
+
+// The depth-first plan of kind Shortest of the root and network of another.
+fn shortest_plan(
+    crew: &impl Crew,
+    alloc: Global,
+    plan: &Plan,
+    most: Option<usize>,
+) -> Result<Plan, AllocError>
+    ensures shortest { IfOk result (λ p. p.kind ≡ Kind.Shortest) }
+    ensures topology { IfOk result (λ p. p.topology ≡ plan.now.topology) }
+{
     let topology = plan.topology().try_clone(alloc)?;
     match depth_first_plan(crew, alloc, topology, Kind::Shortest, plan.root(), most) {
-        Ok(shortest) => Distances::of(crew, alloc, &shortest, most),
+        Ok(shortest) => Ok(shortest),
         Err(_) => Err(AllocError),
     }
 }

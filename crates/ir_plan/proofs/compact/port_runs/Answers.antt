@@ -1,13 +1,13 @@
-use Rattle.std.proofs.Common.{◌≡◌, ◌∙◌, ℕ, Bool, List, length, drop, subst, sym, arith}
+use Rattle.std.proofs.Common.{◌≡◌, ◌∙◌, ℕ, Bool, List, length, replicate, drop, refl, ap, subst, sym, arith}
 use Rattle.std.proofs.lemmas.Bool.{eqb-true}
-use Rattle.std.proofs.lemmas.List.{take_at}
+use Rattle.std.proofs.lemmas.List.{length-replicate, take_at}
 use Rattle.std.specs.Prelude.{slice_index}
 use Rattle.ir_model.specs.Topology.{node_count, ports_of}
 use Rattle.ir_model.proofs.Walks.{degree_bound}
 use Rattle.ir_model.proofs.Best.{IsBestBelow, best_more, best_all}
 use Rattle.ir_compile.specs.Runs.{HasMarked}
 use Rattle.ir_plan.specs.CompactRows.{AreTiedMarks, MayTake}
-use Rattle.ir_plan.proofs.CompactRows.{best_same, marks_may, no_port_past, unmarked_may}
+use Rattle.ir_plan.proofs.CompactRows.{best_none, best_same, marks_may, no_port_past, unmarked_may}
 use Rattle.ir_plan.proofs.compact.port_runs.Goals as goal
 use Rattle.ir_plan.proofs.compact.port_runs.Goals.{then-not-is_empty, else-not-is_empty}
 
@@ -18,6 +18,41 @@ overflow_cast-p c =
     let ports = c.degree-p-end.ensures in
     let below = c.loop-p-test.true in
     omega arith
+
+pub loop-p-init : goal.loop-p-init
+loop-p-init c =
+    let net = c.args.topology.now in
+    let numbers = c.args.numbering.now in
+    let n = node_count net in
+    let own = slice_index numbers.labels c.args.u in
+    let counts : c.in_ok-counts.counts.items ≡ replicate n 0 = c.in_ok-counts.ensures.items_if_clones_equal (λ y e. e) ∙ ap (λ (k : ℕ). replicate k 0) c.nodes-nodes.ensures.count in
+    let ports : c.in_ok-ports.ports.items ≡ replicate n 0 = c.in_ok-ports.ensures.items_if_clones_equal (λ y e. e) ∙ ap (λ (k : ℕ). replicate k 0) c.nodes-nodes.ensures.count in
+    record {
+      counts_len = ap (λ (xs : List ℕ). length xs) counts ∙ length-replicate n 0;
+      ports_len = ap (λ (xs : List ℕ). length xs) ports ∙ length-replicate n 0;
+      best = λ a l off. best_none n own (MayTake net numbers.order own) a c.in_ok-counts.counts.items c.in_ok-ports.ports.items counts ports l;
+    }
+
+pub row-requires-clause-ties : goal.row-requires-clause-ties
+row-requires-clause-ties c = record { same = refl; marks = rw c.requires.ties.same c.requires.ties.marks }
+
+pub row-requires-clause-every : goal.row-requires-clause-every
+row-requires-clause-every c = ap (λ (nodes : List ℕ). length nodes) c.requires.ties.same ∙ c.requires.labels.every_label
+
+pub keep_longer-requires-clause-every : goal.keep_longer-requires-clause-every
+keep_longer-requires-clause-every c = rw (c.nodes-nodes.ensures.count, c.as_slice.ensures.value) c.in_ok-row.ensures.marks.every
+
+pub keep_longer-requires-clause-own : goal.keep_longer-requires-clause-own
+keep_longer-requires-clause-own c = rw (c.nodes-nodes.ensures.count, c.label_of-own.ensures) (c.requires.labels.label c.args.u c.requires.node)
+
+pub keep_longer-requires-clause-marked : goal.keep_longer-requires-clause-marked
+keep_longer-requires-clause-marked c = rw (c.nodes-nodes.ensures.count, c.as_slice.ensures.value, c.as_slice-then-not-is_empty.ensures.value) c.in_ok-row.ensures.marked
+
+pub keep_longer-requires-clause-counts : goal.keep_longer-requires-clause-counts
+keep_longer-requires-clause-counts c = rw (c.nodes-nodes.ensures.count, c.as_mut_slice.ensures.value) c.loop-p.invariant.counts_len
+
+pub keep_longer-requires-clause-ports : goal.keep_longer-requires-clause-ports
+keep_longer-requires-clause-ports c = rw (c.nodes-nodes.ensures.count, c.as_mut_slice-then-not-is_empty.ensures.value) c.loop-p.invariant.ports_len
 
 pub loop-p-preserved : goal.loop-p-preserved
 loop-p-preserved c =

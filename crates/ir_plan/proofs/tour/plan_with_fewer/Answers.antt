@@ -1,26 +1,29 @@
 use Rattle.std.proofs.Common.{rules, ◌≢◌, sym, subst, arith}
 use Rattle.ir_model.specs.declared.Kind.TheVariants.{Tree}
 use Rattle.ir_plan.specs.declared.tour.LabelOrder.TheVariants.{DepthFirst}
-use Rattle.ir_plan.specs.Tour.{IsTour}
-use Rattle.ir_plan.specs.Starts.{IsToured}
+use Rattle.ir_plan.specs.Starts.{IsLabelledBy, IsPlanAs, IsToured}
 use Rattle.ir_plan.proofs.Labelled.{first_labelled, over_labelled}
+use Rattle.ir_plan.proofs.Lists.{of_some}
 use Rattle.ir_plan.proofs.tour.plan_with_fewer.Goals as goal
 
-pub returns-then-labels-clause-found : goal.returns-then-labels-clause-found
-returns-then-labels-clause-found g c =
+pub returns-clause-like : goal.returns-clause-like
+returns-clause-like g c =
+    of_some c.if_fewer.result _ (IsPlanAs c.args.plan.now) c.if_fewer.ensures.fewer
+    (λ p fewer. subst (IsPlanAs c.args.plan.now) (sym fewer.0) c.in_ok-found.ensures.like)
+
+pub returns-clause-found : goal.returns-clause-found
+returns-clause-found g c =
     let plan = c.args.plan.now in
-    let found = c.in_ok-found.found in
     let told = c.in_ok-found.ensures in
-    let tour : IsTour plan.topology plan.root found.order = subst (IsTour plan.topology plan.root) (sym told.order) c.in_ok-order.ensures.tour in
     let by : c.args.labels ≢ DepthFirst = search rules in
     let kind : plan.kind ≢ Tree = search rules in
     let sought : IsToured plan = (kind, omega (arith, c.nodes.ensures.count, c.if-nodes-gt-MOST_TOUR_NODES.false)) in
-    over_labelled plan found c.nodes.ensures.plan c.requires told.like tour c.args.labels by sought (omega (arith, c.if-labels.true, c.labels.ensures.starts, c.labels-2.ensures.starts))
+    of_some c.if_fewer.result _ (IsLabelledBy c.args.labels) c.if_fewer.ensures.fewer
+    (λ p fewer.
+    subst (IsLabelledBy c.args.labels) (sym fewer.0)
+    (over_labelled plan c.in_ok-found.found c.nodes.ensures.plan c.requires told.like told.tour c.args.labels by sought fewer.1))
 
-pub returns-else-labels-clause-kept : goal.returns-else-labels-clause-kept
-returns-else-labels-clause-kept g c _ =
-    let plan = c.args.plan.now in
-    let found = c.in_ok-found.found in
+pub returns-clause-kept : goal.returns-clause-kept
+returns-clause-kept g c none =
     let told = c.in_ok-found.ensures in
-    let tour : IsTour plan.topology plan.root found.order = subst (IsTour plan.topology plan.root) (sym told.order) c.in_ok-order.ensures.tour in
-    first_labelled plan found c.nodes.ensures.plan c.requires told.like tour c.args.labels (omega (arith, c.if-labels.false, c.labels.ensures.starts, c.labels-2.ensures.starts))
+    first_labelled c.args.plan.now c.in_ok-found.found c.nodes.ensures.plan c.requires told.like told.tour c.args.labels (c.if_fewer.ensures.others none)
