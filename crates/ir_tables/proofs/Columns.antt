@@ -1,6 +1,6 @@
 -- A table made of columns.
-use Rattle.std.proofs.Common.{◌≡◌, ℕ, ◌+◌, ◌<◌, ◌≤◌, List, [], ◌∷◌, ◌++◌, length, map, Option, refl, sym, subst, ◌∙◌, arith, ⊎_elim, slice_index_or}
-use Rattle.std.proofs.lemmas.List.{get_or-map, length-map, get_or_append_left, get_or_push}
+use Rattle.std.proofs.Common.{◌≡◌, ℕ, ◌+◌, ◌<◌, ◌≤◌, List, [], ◌∷◌, ◌++◌, length, map, Option, None, refl, ap, sym, subst, ◌∙◌, arith, ⊎_elim, slice_index_or}
+use Rattle.std.proofs.lemmas.List.{get_or-map, length-map, length_push, get_or_append_left, get_or_push}
 use Rattle.std.proofs.lemmas.Bool.{cases_lt}
 use Rattle.ir_model.specs.Topology.{Topology, node_count, IsTopology}
 use Rattle.ir_model.specs.Walk.{IsConnected}
@@ -79,6 +79,17 @@ columns_push P cols d column len before here k e lt =
     subst (Q k) (sym right) (subst R (sym same) here)) (cases_lt k d)
 
 -- ---- columns of listed ports
+
+-- one more port behind those of the first nodes
+pub read_next : (f : ℕ → Option ℕ) (k : ℕ) (held more : List (Option ℕ)) (x : Option ℕ) → length held ≡ k → ((v : ℕ) → v < k → slice_index_or held v None ≡ f v) → more ≡ held ++ x ∷ [] → x ≡ f k
+    → (length more ≡ k + 1) × ((v : ℕ) → v < k + 1 → slice_index_or more v None ≡ f v)
+read_next f k held more x len before is own = (ap (λ (xs : List (Option ℕ)). length xs) is ∙ length_push held x ∙ ap (λ (j : ℕ). j + 1) len, at)
+  where
+    at : (v : ℕ) → v < k + 1 → slice_index_or more v None ≡ f v
+    at v lt =
+        ap (λ (xs : List (Option ℕ)). slice_index_or xs v None) is
+        ∙ ⊎_elim (λ (less : v < k). get_or_append_left held (x ∷ []) None v (omega (arith, less, len)) ∙ before v less)
+        (λ (ge : k ≤ v). let same : v ≡ k = omega (arith, lt, ge) in get_or_push held x None v (len ∙ sym same) ∙ own ∙ ap f (sym same)) (cases_lt v k)
 
 -- each column is that of the listed ports
 pub record AreListed (net : Topology) (list : List (Option ℕ)) (cols : List Column) : Type 0 where

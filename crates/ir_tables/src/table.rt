@@ -9,12 +9,12 @@ use crate::listed::walk_weights;
 use crate::relaxation::{UNREACHED, first_port};
 use crate::topology::Topology;
 use std::alloc::{AllocError, AllocFailed, Global};
+use std::fmt;
 use std::marker::Model;
 use thiserror::Error;
 
 /// Why there is no table.
 #[derive(Clone, Copy, Debug, PartialEq, Eq, Error)]
-#[error("{:?}", self)]
 pub enum TableError {
     /// The topology has no node.
     Empty = 1,
@@ -30,6 +30,12 @@ impl TableError {
         ensures { result ≡ table_code self }
     {
         self as u8
+    }
+}
+
+impl fmt::Display for TableError {
+    fn fmt<W: fmt::Write>(&self, f: &mut fmt::Formatter<W>) -> fmt::Result {
+        write!(f, "{:?}", self)
     }
 }
 
