@@ -1,5 +1,5 @@
 //! The board: one thread changes it, and readers read it with no lock and no wait.
-ghost use Rattle.std.specs.Prelude.{◌≡◌, ◌+◌, ◌<◌, ◌≤◌, [], ◌∷◌, ◌++◌, ◌⊎◌, length, drop, option_map, Some, None, IsTrue, ◌↔◌, IfOk, IsOk, IfSome, MatchOption, MatchResult, if◌then◌else◌};
+ghost use Rattle.std.specs.Prelude.{◌≡◌, ◌+◌, ◌<◌, ◌≤◌, [], ◌∷◌, ◌++◌, ◌⊎◌, length, drop, option_map, Some, None, IsTrue, ◌↔◌, IfOk, IsOk, IfSome, MatchOption, if◌then◌else◌};
 ghost use Rattle.std.specs.Option.{ForSome};
 ghost use mathlib.Core.List.{IsPrefix};
 ghost use Rattle.left_right.specs.Sides.{view};
@@ -47,21 +47,44 @@ fn show<R: Wait>(rt: &R, writer: Desk, _next: &Published) -> Desk
     writer
 }
 
-// Shows readers one more value. At `Err` the list of operations has no room, and no memory for more.
-fn publish<R: Wait>(rt: &R, mut writer: Desk, next: Published) -> (Desk, Result<(), AllocError>)
+// Shows readers one more value. At `Err` the list of operations has no room, and no memory for more, and nobody has the
+// desk from then on.
+fn publish<R: Wait>(rt: &R, mut writer: Desk, next: &Published) -> Result<Desk, AllocError>
     requires pending { drop writer.behind writer.log.items ≡ [] }
-    requires board { next.front.book ≡ writer.desk.shown.value.front.book }
-    requires later { IsPrefix writer.desk.shown.value.front.log next.front.log }
-    ensures shown { MatchResult result.1 (λ _. result.0.desk.shown.value ≡ next)
-        (λ _. result.0.desk.shown.value ≡ writer.desk.shown.value) }
-    ensures pending { drop result.0.behind result.0.log.items ≡ [] }
-    ensures known { MatchResult result.1 (λ _. (view result.0.desk.place).known ≡ Some next.front)
-        (λ _. (view result.0.desk.place).known ≡ (view writer.desk.place).known) }
+    requires board { next.now.front.book ≡ writer.desk.shown.value.front.book }
+    requires later { IsPrefix writer.desk.shown.value.front.log next.now.front.log }
+    ensures shown { IfOk result (λ w. w.desk.shown.value ≡ next.now) }
+    ensures pending { IfOk result (λ w. drop w.behind w.log.items ≡ []) }
+    ensures known { IfOk result (λ w. (view w.desk.place).known ≡ Some next.now.front) }
 {
     match writer.append(next.again()) {
-        Ok(()) => (show(rt, writer, &next), Ok(())),
-        Err(_) => (writer, Err(AllocError)),
+        Ok(()) => Ok(show(rt, writer, next)),
+        Err(_) => {
+            writer.take(rt);
+            Err(AllocError)
+        }
     }
+}
+
+// A desk that has shown this value twice, with places for so many readers, of which there is one at least.
+fn desk_over<R: Wait>(
+    rt: &R,
+    alloc: Global,
+    first: &Published,
+    readers: u16,
+) -> Result<Desk, AllocError>
+    ensures shown { IfOk result (λ w. w.desk.shown.value ≡ first.now) }
+    ensures pending { IfOk result (λ w. drop w.behind w.log.items ≡ []) }
+    ensures known { IfOk result (λ w. (view w.desk.place).known ≡ Some first.now.front) }
+{
+    let readers = usize::from(readers.max(1));
+    let Ok(writer) = Desk::new(alloc, first.again(), first.again(), readers) else {
+        return Err(AllocError);
+    };
+    let Ok(writer) = publish(rt, writer, first) else {
+        return Err(AllocError);
+    };
+    publish(rt, writer, first)
 }
 
 // Shows readers one more value, where the list of operations has room for it.
@@ -184,20 +207,15 @@ impl<R: Wait + Drop> BoardWriter<R> {
             stamp: opening.again(),
             front,
         };
-        let readers = usize::from(readers.max(1));
-        let writer = Desk::new(alloc, first.again(), first.again(), readers)?;
-        let (writer, made) = publish(&rt, writer, first.again());
-        let (writer, done) = publish(&rt, writer, first);
-        match made.and(done) {
-            Ok(()) => Ok(BoardWriter {
+        let made = desk_over(&rt, alloc, &first, readers);
+        drop(first);
+        match made {
+            Ok(writer) => Ok(BoardWriter {
                 writer,
                 chronicle,
                 rt,
             }),
-            Err(error) => {
-                writer.take(&rt);
-                Err(error)
-            }
+            Err(error) => Err(error),
         }
     }
 

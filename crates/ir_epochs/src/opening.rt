@@ -22,14 +22,14 @@ fn seats<R: Wait + Drop>(
     ensures each { IfOk result (λ r. All
         (λ x. (known x ≡ published writer.old) × (reader_board x ≡ writer_board writer.old)) r.items) }
 {
-    let mut seats = Vec::new(alloc);
+    let Ok(mut seats) = Vec::with_capacity(alloc, usize::from(readers)) else {
+        return Err(BoardError::NoMemory);
+    };
     for _ in 0..readers {
         let Ok(reader) = writer.reader() else {
             return Err(BoardError::TooManyReaders);
         };
-        let Ok(()) = seats.push(reader) else {
-            return Err(BoardError::NoMemory);
-        };
+        seats.push_reserved(reader);
     }
     Ok(seats)
 }
@@ -52,9 +52,11 @@ pub fn board<R: Wait + Drop>(
     ensures each { IfOk result (λ r. All
         (λ x. (known x ≡ published r.0) × (reader_board x ≡ writer_board r.0)) r.1.items) }
 {
-    let mut writer = BoardWriter::open(rt, alloc, opening, links, readers).map_err(
-        |_| BoardError::NoMemory,
-    )?;
-    let seats = seats(alloc, &mut writer, readers)?;
-    Ok((writer, seats))
+    let Ok(mut writer) = BoardWriter::open(rt, alloc, opening, links, readers) else {
+        return Err(BoardError::NoMemory);
+    };
+    match seats(alloc, &mut writer, readers) {
+        Ok(seats) => Ok((writer, seats)),
+        Err(error) => Err(error),
+    }
 }

@@ -5,7 +5,7 @@ use Rattle.ir_epochs.specs.Handles.{published, known, writer_board, reader_board
 use Rattle.ir_epochs.proofs.opening.seats.Goals as goal
 
 pub loop-preserved : goal.loop-preserved
-loop-preserved g c = let kept = c.loop.invariant in let same = c.reader.ensures.same in let told = c.in-Ok.ensures.reader in
+loop-preserved g c = let kept = c.loop.invariant in let same = c.reader.ensures.same in let told = c.in-Ok-reader.ensures.reader in
     let P : BoardReader → Type 0 = λ x. (known x ≡ published c.args.writer.now) × (reader_board x ≡ writer_board c.args.writer.now) in
-    let all : All P (c.loop.seats.items ++ c.in-Ok.reader ∷ []) = All-push P c.loop.seats.items c.in-Ok.reader kept.3 (told.0 ∙ kept.0, told.1 ∙ kept.1) in
-    (same.0 ∙ kept.0, same.1 ∙ kept.1, omega (arith, kept.2, c.in-Ok-push.ensures.len), subst (λ (xs : List BoardReader). All P xs) (sym c.in-Ok-push.ensures.items) all)
+    let all : All P (c.loop.seats.items ++ c.in-Ok-reader.reader ∷ []) = All-push P c.loop.seats.items c.in-Ok-reader.reader kept.4 (told.0 ∙ kept.0, told.1 ∙ kept.1) in
+    (same.0 ∙ kept.0, same.1 ∙ kept.1, omega (arith, kept.2, c.push_reserved.ensures.len), omega (arith, kept.3, c.push_reserved.ensures.capacity), subst (λ (xs : List BoardReader). All P xs) (sym c.push_reserved.ensures.items) all)
