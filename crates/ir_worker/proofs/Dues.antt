@@ -116,7 +116,7 @@ pub same_nodes : (opening s p : Stamp) → IsOfNet opening s → IsOfNet opening
 same_nodes opening s p a b = over_nodes (knows opening).topology (knows s).topology a.1 ∙ sym (over_nodes (knows opening).topology (knows p).topology b.1)
 
 -- where there is a restamp, one was left
-some_left : (left current e : ℕ) (v : Verdict) → restamp_by left current v ≡ Some e → 0 < left
+pub some_left : (left current e : ℕ) (v : Verdict) → restamp_by left current v ≡ Some e → 0 < left
 some_left left current e BelowFloor is = by_test (nat_lt 0 left) refl is
   where
     by_test : (b : Bool) → nat_lt 0 left ≡ b → cond b (Some current) None ≡ Some e → 0 < left

@@ -7,4 +7,5 @@ pub mod Restamps
 pub mod Routes
 pub mod Serves
 pub mod Settlings
+pub mod Verdicts
 pub mod Ways

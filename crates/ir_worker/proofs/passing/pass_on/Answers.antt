@@ -1,4 +1,4 @@
-use Rattle.std.proofs.Common.{◌≡◌, ℕ, ap, sym, ◌∙◌, subst, refl, arith, length, List, slice_get, Some, true}
+use Rattle.std.proofs.Common.{◌≡◌, ℕ, ap, sym, ◌∙◌, subst, refl, arith, length, List, slice_get, Some, true, false}
 use Rattle.std.proofs.lemmas.Option.{slice_get_within, slice_get_read}
 use Rattle.ir_model.specs.declared.Hop.{Hop}
 use Rattle.ir_core.specs.declared.event.Verdict.TheVariants.{NoRoom}
@@ -8,6 +8,7 @@ use Rattle.ir_worker.specs.Seen.{present_stamp, net_place}
 use Rattle.ir_worker.specs.Wires.{Out}
 use Rattle.ir_worker.proofs.Acts.{settles_full}
 use Rattle.ir_worker.proofs.Dues.{due_at, port_there, now_of_net, elsewhere, leads_same}
+use Rattle.ir_worker.proofs.Verdicts.{none_was_full}
 use Rattle.ir_worker.proofs.Ways.{as_many, sent_over, set_kept, lines_out_kept, goes_out}
 use Rattle.ir_worker.proofs.passing.pass_on.Goals as goal
 
@@ -74,4 +75,14 @@ returns-in-Err-send-clause-acts g c =
         slice_get_read c.args.outs.now.items (length c.args.outs.now.items) c.port_of_hop-port.result c.index_mut-out.result.now refl (omega arith) c.index_mut-out.ensures.value,
         c.in-Err-send.ensures.moment,
       ),
+    )
+
+pub returns-in-Err-clause-acts : goal.returns-in-Err-clause-acts
+returns-in-Err-clause-acts g c =
+    let a = c.in-Err.ensures.acts in (
+      false,
+      a.0,
+      a.1,
+      refl,
+      none_was_full g.R.Moments.was_full c.args.turning.now.ports.now c.args.outs.now.items c.args.judged.parcel c.args.turning.now.board.now c.args.judged.way c.args.turning.now.at a.0 a.1.verdict,
     )

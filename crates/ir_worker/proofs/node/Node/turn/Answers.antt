@@ -41,6 +41,9 @@ ready-judged-requires-clause-current g c =
     let n = c.args.self.now in
     current_of_net n.opening (known c.look.new.self) c.stamp.result c.stamp.ensures (c.look.ensures.opening.registry ∙ n.of_board.0) (c.look.ensures.opening.topology ∙ n.of_board.1)
 
+pub ready-judged-requires-clause-epoch : goal.ready-judged-requires-clause-epoch
+ready-judged-requires-clause-epoch g c = c.stamp.ensures.epoch ∙ sym (ap (λ (b : Board). b.current) c.board.ensures.board)
+
 pub ready-judged-requires-clause-is_new : goal.ready-judged-requires-clause-is_new
 ready-judged-requires-clause-is_new g c =
     let n = c.args.self.now in
