@@ -14,7 +14,7 @@ use Rattle.ir_core.specs.Refusals.{inject_refused}
 use Rattle.ir_links.specs.Ends.{Channel}
 use Rattle.ir_worker.specs.declared.parcel.Place.{Place}
 use Rattle.ir_worker.specs.Seen.{Parcel}
-use Rattle.ir_worker.specs.Account.{head_of, times_sent, weigh_sent, restamps_with}
+use Rattle.ir_worker.specs.Account.{head_of, lines_out, times_sent, weigh_sent, restamps_with}
 use Rattle.ir_control.specs.declared.injector.Accepted.{Accepted}
 use Rattle.ir_control.specs.Heads.{head_at, times_injected, AreNumbered}
 use Rattle.ir_control.specs.declared.injector.Injector.{Injector}
@@ -183,3 +183,15 @@ start-requires-clause-few g c =
     let nodes : length c.args.self.now.outs.items ≡ node_count (knows c.args.self.now.opening).topology = sym (length-map c.args.self.now.outs.items _) ∙ c.args.self.now.ends.count in
     let few = c.args.self.now.few_nodes in
     omega (arith, n, nodes, few)
+
+pub returns-then-source-nodes-clause-same : goal.returns-then-source-nodes-clause-same
+returns-then-source-nodes-clause-same g c = elim c.then-source-nodes.branch [
+  | then-source-nodes-via-then-source-nodes w ↦ (ap (λ (s : Injector). s.opening) w.self-is, ap (λ (s : Injector). s.newest) w.self-is, ap (λ (s : Injector). s.max_packets) w.self-is)
+  | then-source-nodes-via-else-source-nodes+then-dest-nodes w ↦ (ap (λ (s : Injector). s.opening) w.self-is, ap (λ (s : Injector). s.newest) w.self-is, ap (λ (s : Injector). s.max_packets) w.self-is)
+]
+
+pub returns-then-source-nodes-clause-lines : goal.returns-then-source-nodes-clause-lines
+returns-then-source-nodes-clause-lines g c = elim c.then-source-nodes.branch [
+  | then-source-nodes-via-then-source-nodes w ↦ ap (λ (s : Injector). lines_out s.outs.items) w.self-is
+  | then-source-nodes-via-else-source-nodes+then-dest-nodes w ↦ ap (λ (s : Injector). lines_out s.outs.items) w.self-is
+]
