@@ -162,14 +162,15 @@ pub(crate) fn all_ends(
     ensures { IfOk result (λ given. IfSome given
         (λ ends. AreFreshOuts channels.now.items ends.0.items × AreFreshIns channels.now.items ends.1.items)) }
 {
-    let mut senders = Vec::with_capacity(alloc, channels.len())?;
-    let mut takers = Vec::with_capacity(alloc, channels.len())?;
+    let count = channels.len();
+    let mut senders = Vec::with_capacity(alloc, count)?;
+    let mut takers = Vec::with_capacity(alloc, count)?;
     for channel in channels {
         let Some((sender, taker)) = channel.ends()? else {
             return Ok(None);
         };
-        senders.push(Some(sender))?;
-        takers.push(Some(taker))?;
+        senders.push_reserved(Some(sender));
+        takers.push_reserved(Some(taker));
     }
     Ok(Some((senders, takers)))
 }
@@ -192,7 +193,7 @@ pub(crate) fn outs_of(
         let Some(sender) = senders[first + p].take() else {
             return Ok(None);
         };
-        outs.push(sender)?;
+        outs.push_reserved(sender);
     }
     Ok(Some(outs))
 }
@@ -219,7 +220,7 @@ pub(crate) fn ins_of(
         let Some(taker) = takers[peers[first + p]].take() else {
             return Ok(None);
         };
-        ins.push(taker)?;
+        ins.push_reserved(taker);
     }
     Ok(Some(ins))
 }

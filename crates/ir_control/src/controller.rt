@@ -183,7 +183,7 @@ impl<R: Wait + Drop> Controller<R> {
 }
 
 // Sets the cell of an epoch.
-fn register(registry: &Registry, epoch: u32, plan: Plan) -> Result<Stamp, Refused>
+pub(crate) fn register(registry: &Registry, epoch: u32, plan: Plan) -> Result<Stamp, Refused>
     requires { (1 ≤ epoch) × (epoch ≤ MAX_EPOCHS) }
     ensures answer { MatchResult result
         (λ s. IsOf registry.now s × (s.epoch ≡ epoch) × (knows s ≡ plan))

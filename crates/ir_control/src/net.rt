@@ -7,13 +7,15 @@ ghost use Rattle.ir_control.specs.Wired.{AreInboxes, AreWiredWays, AreEntries, A
 ghost use Rattle.ir_epochs.specs.Stamps.{IsOf, knows};
 
 use crate::channels::{ChannelTerms, all_ends, inboxes_of, ins_of, outs_of, peers_of, ways_of};
-use crate::controller::Controller;
+use crate::controller::{Controller, register};
 use crate::injector::Injector;
-use ir_core::{Draft, MAX_PACKETS, MAX_RESTAMPS, OpenError, Opening, open_refusal, plan_over_by};
-use ir_epochs::{BoardError, BoardReader, BoardWriter, RegisterError, Registry, Stamp, board};
+use ir_core::{
+    Draft, MAX_PACKETS, MAX_RESTAMPS, OpenError, Opening, Refused, open_refusal, plan_over_by,
+};
+use ir_epochs::{BoardError, BoardReader, BoardWriter, Registry, Stamp, board};
 use ir_links::{Channel, Sender, Taker};
-use ir_plan::{LabelOrder, Several};
-use ir_tables::Topology;
+use ir_plan::{LabelOrder, Plan, Several};
+use ir_tables::{Hop, Topology};
 use ir_worker::{Common, Ends, Node, Parcel};
 use std::alloc::{AllocError, Global};
 use std::sync::atomic::{AtomicBool, AtomicU32, Ordering};
@@ -58,15 +60,15 @@ pub struct Net {
     ghost few_restamps: { restamps ≤ MAX_RESTAMPS },
 }
 
-// A registry whose cell 1 has a plan of the opening's kind and root over all links.
-fn registered(
+// The plan of the opening's kind and root over all links.
+fn opening_plan(
     rt: &(impl Threads + Sync),
     alloc: Global,
     opening: &Opening,
-) -> Result<(Registry, Stamp), OpenError>
+) -> Result<Plan, OpenError>
     requires { opening.now.root < node_count opening.now.topology }
-    ensures made { IfOk result (λ r. IsOf r.0 r.1 × (r.1.epoch ≡ 1)
-        × IsMade opening.now.labels opening.now.kind opening.now.root opening.now.topology (Some (knows r.1))) }
+    ensures made { IfOk result (λ plan. IsMade opening.now.labels opening.now.kind opening.now.root
+        opening.now.topology (Some plan)) }
     ensures refused { IfErr result
         (λ e. ((e ≡ OpenError.Disconnected) × IsDisconnected opening.now.topology)
         ⊎ ((e ≡ OpenError.NoMemory) ⊎ (e ≡ OpenError.Used))) }
@@ -81,11 +83,28 @@ fn registered(
         root: opening.root,
     };
     let plan = plan_over_by(&crew, alloc, over, draft)?;
+    Ok(plan)
+}
+
+// A registry whose cell 1 has a plan of the opening's kind and root over all links.
+fn registered(
+    rt: &(impl Threads + Sync),
+    alloc: Global,
+    opening: &Opening,
+) -> Result<(Registry, Stamp), OpenError>
+    requires { opening.now.root < node_count opening.now.topology }
+    ensures made { IfOk result (λ r. IsOf r.0 r.1 × (r.1.epoch ≡ 1)
+        × IsMade opening.now.labels opening.now.kind opening.now.root opening.now.topology (Some (knows r.1))) }
+    ensures refused { IfErr result
+        (λ e. ((e ≡ OpenError.Disconnected) × IsDisconnected opening.now.topology)
+        ⊎ ((e ≡ OpenError.NoMemory) ⊎ (e ≡ OpenError.Used))) }
+{
+    let plan = opening_plan(rt, alloc, opening)?;
     let registry = Registry::new(alloc);
-    match registry.register(1, plan) {
+    match register(&registry, 1, plan) {
         Ok(stamp) => Ok((registry, stamp)),
-        Err((RegisterError::Used, _)) => Err(OpenError::Used),
-        Err((RegisterError::NoMemory, _)) => Err(OpenError::NoMemory),
+        Err(Refused::Used) => Err(OpenError::Used),
+        Err(_) => Err(OpenError::NoMemory),
     }
 }
 
@@ -136,6 +155,18 @@ fn wires_of(
     })
 }
 
+// What the parts of a net share: its registry, and how many packets were settled, 0 at first.
+fn shared(
+    alloc: Global,
+    registry: Registry,
+) -> Result<(Arc<Registry, Global>, Arc<AtomicU32, Global>), AllocError>
+    ensures { IfOk result (λ made. arc_value made.0 ≡ registry) }
+{
+    let settled = Arc::new(alloc, AtomicU32::new(0))?;
+    let registry = Arc::new(alloc, registry)?;
+    Ok((registry, settled))
+}
+
 impl Net {
     ghost use Rattle.ir_control.specs.Nets.{IsNetFor};
 
@@ -178,36 +209,27 @@ impl Net {
         ensures numbers { IfOk result (λ net. (net.capacity ≡ opening.capacity)
             × (net.max_packets ≡ opening.max_packets) × (net.restamps ≡ opening.restamps)) }
     {
-        let Opening {
-            topology,
-            labels,
-            capacity,
-            max_packets,
-            restamps,
-            ..
-        } = opening;
         let terms = ChannelTerms {
             opening: &first,
-            restamps,
-            capacity,
+            restamps: opening.restamps,
+            capacity: opening.capacity,
         };
-        let registry = Arc::new(alloc, registry)?;
-        let settled = Arc::new(alloc, AtomicU32::new(0))?;
+        let (registry, settled) = shared(alloc, registry)?;
         let Wires {
             inboxes,
             entries,
             ways,
             peers,
             offsets,
-        } = wires_of(alloc, &topology, &terms)?;
+        } = wires_of(alloc, &opening.topology, &terms)?;
         Ok(Net {
             alloc,
             registry,
-            topology,
-            labels,
-            capacity,
-            max_packets,
-            restamps,
+            topology: opening.topology,
+            labels: opening.labels,
+            capacity: opening.capacity,
+            max_packets: opening.max_packets,
+            restamps: opening.restamps,
             opening: first,
             inboxes,
             entries,
@@ -222,10 +244,12 @@ impl Net {
 
 impl Net {
     ghost use Rattle.std.specs.Prelude.{IfSome, slice_get, []};
+    ghost use Rattle.ir_model.specs.Topology.{ports_of};
     ghost use Rattle.ir_control.specs.Nets.{registry_in, first_stamp};
     ghost use Rattle.ir_epochs.specs.{Stamps.registry_name, Entries.{registry_of, topology_of}};
     ghost use Rattle.ir_epochs.specs.Handles.{known, reader_board};
-    ghost use Rattle.ir_control.specs.{Fresh.{AreFreshOuts, AreFreshIns}, Parts.{IsNodeOf, IsFreshNode}};
+    ghost use Rattle.ir_control.specs.Fresh.{AreFreshOuts, AreFreshIns, AreOutsAt, AreInsAt};
+    ghost use Rattle.ir_control.specs.Parts.{IsNodeOf, IsFreshNode};
 
     /// Where its memory comes from.
     pub fn alloc(&self) -> Global {
@@ -251,6 +275,54 @@ impl Net {
         self.settled.load(Ordering::SeqCst)
     }
 
+    // The ends of a node's ports, those in and those out, unless one of them is gone.
+    fn port_ends(
+        &self,
+        u: usize,
+        senders: &mut Vec<Option<Sender<Parcel>>>,
+        takers: &mut Vec<Option<Taker<Parcel>>>,
+    ) -> Result<Option<(Vec<Taker<Parcel>>, Vec<Sender<Parcel>>)>, AllocError>
+        requires node { u < node_count self.now.topology }
+        requires senders { AreFreshOuts self.now.ways.items senders.old.items }
+        requires takers { AreFreshIns self.now.ways.items takers.old.items }
+        ensures senders { AreFreshOuts self.now.ways.items senders.new.items }
+        ensures takers { AreFreshIns self.now.ways.items takers.new.items }
+        ensures ins { IfOk result (λ given. IfSome given (λ ends. AreInsAt self.now.ways.items self.now.peers.items
+            (offset self.now.topology u) (length (ports_of self.now.topology u)) ends.0.items)) }
+        ensures outs { IfOk result (λ given. IfSome given (λ ends. AreOutsAt self.now.ways.items
+            (offset self.now.topology u) (length (ports_of self.now.topology u)) ends.1.items)) }
+    {
+        let first = self.first_port(u);
+        let degree = self.topology.ports(u).len();
+        let Some(outs) = outs_of(self.alloc, &self.ways, first, degree, senders)? else {
+            return Ok(None);
+        };
+        let peers = self.peers.as_slice();
+        let Some(ins) = ins_of(self.alloc, &self.ways, peers, first, degree, takers)? else {
+            return Ok(None);
+        };
+        Ok(Some((ins, outs)))
+    }
+
+    // What a node shares with the net, and its ports.
+    fn common(&self, u: usize) -> Result<(Common, Vec<Hop>), AllocError>
+        requires { u < node_count self.now.topology }
+        ensures shared { IfOk result (λ made. (made.0.opening ≡ self.now.opening)
+            × (made.0.restamps ≡ self.now.restamps)) }
+        ensures ports { IfOk result (λ made. made.1.items ≡ ports_of self.now.topology u) }
+    {
+        let registry = Arc::try_clone(&self.registry)?;
+        let settled = Arc::try_clone(&self.settled)?;
+        let ports = Vec::from_slice(self.alloc, self.topology.ports(u))?;
+        let common = Common {
+            registry,
+            opening: self.opening.again(),
+            restamps: self.restamps,
+            settled,
+        };
+        Ok((common, ports))
+    }
+
     // One node with its ends, unless one of them is gone.
     fn node(
         &self,
@@ -273,29 +345,10 @@ impl Net {
             (λ n. IsNodeOf self.now n × (n.index ≡ u) × (reader_board n.reader ≡ reader_board reader))) }
         ensures fresh { IfOk result (λ given. IfSome given (λ n. IsFreshNode (known reader) n)) }
     {
-        let first = self.first_port(u);
-        let degree = self.topology.ports(u).len();
-        let Some(outs) = outs_of(self.alloc, &self.ways, first, degree, senders)? else {
+        let Some((ins, outs)) = self.port_ends(u, senders, takers)? else {
             return Ok(None);
         };
-        let Some(ins) = ins_of(
-            self.alloc,
-            &self.ways,
-            self.peers.as_slice(),
-            first,
-            degree,
-            takers,
-        )?
-        else {
-            return Ok(None);
-        };
-        let ports = Vec::from_slice(self.alloc, self.topology.ports(u))?;
-        let common = Common {
-            registry: Arc::try_clone(&self.registry)?,
-            opening: self.opening.again(),
-            restamps: self.restamps,
-            settled: Arc::try_clone(&self.settled)?,
-        };
+        let (common, ports) = self.common(u)?;
         let outcomes = Vec::new(self.alloc);
         let ends = Ends {
             inbox,
@@ -316,10 +369,11 @@ pub struct Parts<R: Wait + Drop> {
 }
 
 impl Net {
-    ghost use Rattle.std.specs.Prelude.{All, IfSome};
+    ghost use Rattle.std.specs.Prelude.{All, IfSome, []};
     ghost use Rattle.ir_epochs.specs.Handles.{known, published, reader_board, writer_board};
-    ghost use Rattle.ir_control.specs.Fresh.{AreFreshIns};
+    ghost use Rattle.ir_control.specs.Fresh.{AreFreshIns, AreFreshOuts};
     ghost use Rattle.ir_control.specs.Parts.{opening_entries, AreFirstNodes, AreFreshParts, IsFreshNode, ReadsAsOneOf};
+    ghost use Rattle.ir_control.specs.Parts.{IsInjectorOf};
 
     // All nodes, by number.
     fn nodes(
@@ -339,6 +393,28 @@ impl Net {
         let Some((mut senders, mut takers)) = all_ends(self.alloc, &self.ways)? else {
             return Ok(None);
         };
+        self.nodes_with(&mut inboxes, &mut readers, &mut senders, &mut takers)
+    }
+
+    // All nodes, by number, with these ends and readers, unless one of them is gone.
+    fn nodes_with(
+        &self,
+        inboxes: &mut Vec<Option<Taker<Parcel>>>,
+        readers: &mut Vec<BoardReader>,
+        senders: &mut Vec<Option<Sender<Parcel>>>,
+        takers: &mut Vec<Option<Taker<Parcel>>>,
+    ) -> Result<Option<Vec<Node>>, AllocError>
+        requires inboxes { AreFreshIns self.now.inboxes.items inboxes.old.items }
+        requires readers { All (λ x. known x ≡ opening_entries self.now) readers.old.items }
+        requires senders { AreFreshOuts self.now.ways.items senders.old.items }
+        requires takers { AreFreshIns self.now.ways.items takers.old.items }
+        ensures nodes { IfOk result (λ given. IfSome given
+            (λ nodes. AreFirstNodes self.now (node_count self.now.topology) nodes.items)) }
+        ensures boards { IfOk result (λ given. IfSome given
+            (λ nodes. All (ReadsAsOneOf readers.old.items) nodes.items)) }
+        ensures fresh { IfOk result (λ given. IfSome given
+            (λ nodes. All (IsFreshNode (opening_entries self.now)) nodes.items)) }
+    {
         let mut nodes = Vec::with_capacity(self.alloc, self.inboxes.len())?;
         for u in 0..self.inboxes.len() {
             let Some(inbox) = inboxes[u].take() else {
@@ -347,10 +423,10 @@ impl Net {
             let Some(reader) = readers.pop() else {
                 return Ok(None);
             };
-            let Some(node) = self.node(u, inbox, reader, &mut senders, &mut takers)? else {
+            let Some(node) = self.node(u, inbox, reader, senders, takers)? else {
                 return Ok(None);
             };
-            nodes.push(node)?;
+            nodes.push_reserved(node);
         }
         Ok(Some(nodes))
     }
@@ -381,26 +457,19 @@ impl Net {
             .map_err(|_| BoardError::NoMemory)
     }
 
-    // The parts over a board that was just opened, with a reader of it for each node.
-    fn parts_over<R: Wait + Drop>(
-        &self,
-        writer: BoardWriter<R>,
-        readers: Vec<BoardReader>,
-    ) -> Result<Option<Parts<R>>, AllocError>
-        requires opening { published writer ≡ opening_entries self.now }
-        requires readers { All (λ x. (known x ≡ published writer) × (reader_board x ≡ writer_board writer))
-            readers.items }
-        ensures { IfOk result (λ given. IfSome given
-            (λ parts. AreFreshParts self.now parts.nodes.items parts.injector parts.controller)) }
+    // The injector, and the other ends of the inboxes, unless one of them is gone.
+    fn injector(&self) -> Result<Option<(Injector, Vec<Option<Taker<Parcel>>>)>, AllocError>
+        ensures injector { IfOk result (λ given. IfSome given (λ made. IsInjectorOf self.now made.0)) }
+        ensures fresh { IfOk result (λ given. IfSome given (λ made. (made.0.accepted.items ≡ [])
+            × All (λ s. s.sent ≡ []) made.0.outs.items × (made.0.newest ≡ self.now.opening))) }
+        ensures inboxes { IfOk result (λ given. IfSome given
+            (λ made. AreFreshIns self.now.inboxes.items made.1.items)) }
     {
         let nodes = self.topology.nodes();
         let Some((mut entries, inboxes)) = all_ends(self.alloc, &self.inboxes)? else {
             return Ok(None);
         };
         let Some(outs) = outs_of(self.alloc, &self.inboxes, 0, nodes, &mut entries)? else {
-            return Ok(None);
-        };
-        let Some(nodes) = self.nodes(inboxes, readers)? else {
             return Ok(None);
         };
         let injector = Injector {
@@ -413,14 +482,51 @@ impl Net {
             outs,
             accepted: Vec::new(self.alloc),
         };
-        let controller = Controller {
+        Ok(Some((injector, inboxes)))
+    }
+
+    // The controller, with the writer of a board that was just opened.
+    fn controller<R: Wait + Drop>(
+        &self,
+        writer: BoardWriter<R>,
+    ) -> Result<Controller<R>, AllocError>
+        requires { published writer ≡ opening_entries self.now }
+        ensures opening { IfOk result (λ made. made.opening ≡ self.now.opening) }
+        ensures labels { IfOk result (λ made. made.labels ≡ self.now.labels) }
+        ensures registry { IfOk result (λ made. arc_value made.registry ≡ arc_value self.now.registry) }
+        ensures used { IfOk result (λ made. made.used ≡ 1) }
+        ensures writer { IfOk result (λ made. made.writer ≡ writer) }
+    {
+        let registry = Arc::try_clone(&self.registry)?;
+        Ok(Controller {
             alloc: self.alloc,
-            registry: Arc::try_clone(&self.registry)?,
+            registry,
             opening: self.opening.again(),
             labels: self.labels,
             writer,
             used: 1,
+        })
+    }
+
+    // The parts over a board that was just opened, with a reader of it for each node.
+    fn parts_over<R: Wait + Drop>(
+        &self,
+        writer: BoardWriter<R>,
+        readers: Vec<BoardReader>,
+    ) -> Result<Option<Parts<R>>, AllocError>
+        requires opening { published writer ≡ opening_entries self.now }
+        requires readers { All (λ x. (known x ≡ published writer) × (reader_board x ≡ writer_board writer))
+            readers.items }
+        ensures { IfOk result (λ given. IfSome given
+            (λ parts. AreFreshParts self.now parts.nodes.items parts.injector parts.controller)) }
+    {
+        let Some((injector, inboxes)) = self.injector()? else {
+            return Ok(None);
         };
+        let Some(nodes) = self.nodes(inboxes, readers)? else {
+            return Ok(None);
+        };
+        let controller = self.controller(writer)?;
         Ok(Some(Parts {
             nodes,
             injector,

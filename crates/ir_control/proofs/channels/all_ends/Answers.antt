@@ -1,4 +1,4 @@
-use Rattle.std.proofs.Common.{arith, refl, ap, sym, ◌∙◌, subst, length, get_or}
+use Rattle.std.proofs.Common.{arith, refl, ap, sym, ◌∙◌, subst, length, get_or, length-take-le}
 use Rattle.std.specs.Prelude.{◌≡◌, ◌<◌, List, [], Option, Some, take}
 use Rattle.std.proofs.lemmas.List.{take_all}
 use Rattle.std.proofs.lemmas.Option.{slice_get_within}
@@ -26,13 +26,15 @@ loop-channel-preserved c =
     let ends = rw c.in-Some.is at c.in_ok-sender.ensures in
     let lt : c.loop-channel.channel-index < length c.args.channels.now.items = subst (λ (xs : List (Channel Place)). c.loop-channel.channel-index < length xs) c.deref-channel-items.ensures.value c.loop-channel-test.true in
     let read = c.channel-item.is ∙ ap (λ (xs : List (Channel Place)). get_or xs c.loop-channel.channel-index c.channel-item.result) c.deref-channel-items.ensures.value in (
-      outs_more c.args.channels.now.items c.loop-channel.channel-index c.channel-item.result c.loop-channel.senders.items c.push.new.self.items c.in-Some.sender c.loop-channel.invariant.0 lt read ends.0 c.in_ok-push.ensures.items,
-      ins_more c.args.channels.now.items c.loop-channel.channel-index c.channel-item.result c.loop-channel.takers.items c.push-in-loop-channel.new.self.items c.in-Some.taker c.loop-channel.invariant.1 lt read ends.1 c.in_ok-push-2.ensures.items,
+      outs_more c.args.channels.now.items c.loop-channel.channel-index c.channel-item.result c.loop-channel.senders.items c.push_reserved.new.self.items c.in-Some.sender c.loop-channel.invariant.0 lt read ends.0 c.push_reserved.ensures.items,
+      ins_more c.args.channels.now.items c.loop-channel.channel-index c.channel-item.result c.loop-channel.takers.items c.push_reserved-in-loop-channel.new.self.items c.in-Some.taker c.loop-channel.invariant.1 lt read ends.1 c.push_reserved-in-loop-channel.ensures.items,
+      c.push_reserved.ensures.capacity ∙ c.loop-channel.invariant.2,
+      c.push_reserved-in-loop-channel.ensures.capacity ∙ c.loop-channel.invariant.3,
     )
 
 pub loop-channel-init : goal.loop-channel-init
 loop-channel-init c =
-    (outs_none c.in_ok-senders.senders.items c.in_ok-senders.ensures.items, ins_none c.in_ok-takers.takers.items c.in_ok-takers.ensures.items)
+    (outs_none c.in_ok-senders.senders.items c.in_ok-senders.ensures.items, ins_none c.in_ok-takers.takers.items c.in_ok-takers.ensures.items, c.in_ok-senders.ensures.exact ∙ c.len-count.ensures, c.in_ok-takers.ensures.exact ∙ c.len-count.ensures)
 
 pub returns : goal.returns
 returns c =
@@ -42,3 +44,23 @@ returns c =
       subst (λ (xs : List (Channel Place)). AreFreshOuts xs c.loop-channel.senders.items) at c.loop-channel.invariant.0,
       subst (λ (xs : List (Channel Place)). AreFreshIns xs c.loop-channel.takers.items) at c.loop-channel.invariant.1,
     )
+
+pub push_reserved-requires : goal.push_reserved-requires
+push_reserved-requires c =
+    let lt : c.loop-channel.channel-index < length c.args.channels.now.items = subst (λ (xs : List (Channel Place)). c.loop-channel.channel-index < length xs) c.deref-channel-items.ensures.value c.loop-channel-test.true in
+    let t : length (take c.loop-channel.channel-index c.args.channels.now.items) ≡ c.loop-channel.channel-index = length-take-le c.loop-channel.channel-index c.args.channels.now.items (omega (arith, lt)) in
+    let n = c.loop-channel.invariant.0.count in
+    let room = c.loop-channel.invariant.2 in
+    let ok = c.loop-channel.senders.ok in
+    let all = c.args.channels.now.ok in
+    omega (arith, lt, t, n, room, ok, all)
+
+pub push_reserved-requires-in-loop-channel : goal.push_reserved-requires-in-loop-channel
+push_reserved-requires-in-loop-channel c =
+    let lt : c.loop-channel.channel-index < length c.args.channels.now.items = subst (λ (xs : List (Channel Place)). c.loop-channel.channel-index < length xs) c.deref-channel-items.ensures.value c.loop-channel-test.true in
+    let t : length (take c.loop-channel.channel-index c.args.channels.now.items) ≡ c.loop-channel.channel-index = length-take-le c.loop-channel.channel-index c.args.channels.now.items (omega (arith, lt)) in
+    let n = c.loop-channel.invariant.1.count in
+    let room = c.loop-channel.invariant.3 in
+    let ok = c.loop-channel.takers.ok in
+    let all = c.args.channels.now.ok in
+    omega (arith, lt, t, n, room, ok, all)

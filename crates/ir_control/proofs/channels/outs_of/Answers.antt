@@ -1,5 +1,5 @@
 use Rattle.std.specs.Prelude.{◌≡◌, ◌+◌, ◌<◌, ℕ, List, [], length}
-use Rattle.std.proofs.Common.{arith, refl, sym, subst}
+use Rattle.std.proofs.Common.{arith, refl, sym, subst, ◌∙◌}
 use Rattle.std.proofs.lemmas.Option.{slice_get_within}
 use Rattle.ir_links.specs.Ends.{Channel, Sender}
 use Rattle.ir_control.specs.Fresh.{AreOutsAt}
@@ -14,7 +14,7 @@ outs_at_none lines first outs e = subst (λ (outs : List (Sender _ _)). AreOutsA
 })
 
 pub loop-p-init : goal.loop-p-init
-loop-p-init c = (c.requires.fresh, outs_at_none c.args.channels.now.items c.args.first c.in_ok-outs.outs.items c.in_ok-outs.ensures.items)
+loop-p-init c = (c.requires.fresh, outs_at_none c.args.channels.now.items c.args.first c.in_ok-outs.outs.items c.in_ok-outs.ensures.items, c.in_ok-outs.ensures.exact)
 
 pub overflow_add-first : goal.overflow_add-first
 overflow_add-first c =
@@ -44,7 +44,8 @@ loop-p-preserved c =
     let lt : c.args.first + c.loop-p.p < length c.loop-p.senders.items = omega (arith, n, most, test) in (
       outs_taken c.args.channels.now.items c.loop-p.senders.items (c.args.first + c.loop-p.p) c.take.new.self lt c.take.ensures.after c.loop-p.invariant.0,
       outs_at_more c.args.channels.now.items c.loop-p.senders.items (c.args.first + c.loop-p.p) c.index_mut.result.now c.in-Some.sender c.loop-p.invariant.0 lt c.index_mut.ensures.value c.in-Some.ensures.value
-          c.args.first c.loop-p.p c.loop-p.outs.items c.push.new.self.items refl c.loop-p.invariant.1 c.in_ok-push.ensures.items,
+          c.args.first c.loop-p.p c.loop-p.outs.items c.push_reserved.new.self.items refl c.loop-p.invariant.1 c.push_reserved.ensures.items,
+      c.push_reserved.ensures.capacity ∙ c.loop-p.invariant.2,
     )
 
 pub returns-in_default-clause-fresh : goal.returns-in_default-clause-fresh
@@ -54,9 +55,10 @@ returns-in_default-clause-fresh c =
     let test = c.loop-p-test.true in
     outs_taken c.args.channels.now.items c.loop-p.senders.items (c.args.first + c.loop-p.p) c.take.new.self (omega (arith, n, most, test)) c.take.ensures.after c.loop-p.invariant.0
 
-pub returns-in_err-push-clause-fresh : goal.returns-in_err-push-clause-fresh
-returns-in_err-push-clause-fresh c =
-    let n = c.loop-p.invariant.0.count in
-    let most = c.requires.within in
+pub push_reserved-requires : goal.push_reserved-requires
+push_reserved-requires c =
+    let n = c.loop-p.invariant.1.count in
+    let room = c.loop-p.invariant.2 in
+    let ok = c.loop-p.outs.ok in
     let test = c.loop-p-test.true in
-    outs_taken c.args.channels.now.items c.loop-p.senders.items (c.args.first + c.loop-p.p) c.take.new.self (omega (arith, n, most, test)) c.take.ensures.after c.loop-p.invariant.0
+    omega (arith, n, room, ok, test)

@@ -1,22 +1,24 @@
 use Rattle.std.specs.Prelude.{◌≡◌, ◌<◌, ◌≤◌, ◌∷◌, [], ◌++◌, List, ℕ, Option, Some, length}
-use Rattle.std.proofs.Common.{refl, subst, sym, ap, ◌∙◌, inl, arith}
+use Rattle.std.proofs.Common.{refl, subst, sym, ap, ◌∙◌, inl, inr, arith}
 use Rattle.std.proofs.lemmas.Bool.Decides.{nat_tests}
 use Rattle.ir_epochs.specs.declared.registry.Stamp.{Stamp}
-use Rattle.std.proofs.lemmas.List.{length-map}
+use Rattle.std.proofs.lemmas.List.{length-map, length_push}
 use Rattle.ir_model.specs.Topology.{node_count}
 use Rattle.ir_epochs.specs.Stamps.{knows}
 use Rattle.ir_epochs.proofs.Overs.{over_nodes}
 use Rattle.ir_core.specs.Record.{hop_room}
 use Rattle.ir_core.specs.Entry.{fresh}
 use Rattle.ir_core.specs.declared.event.Refused.{Refused}
-use Rattle.ir_core.specs.declared.event.Refused.TheVariants.{NoNode, TooManyPackets, NoMemory}
+use Rattle.ir_core.specs.declared.event.Refused.TheVariants.{NoNode, TooManyPackets, NoMemory, InboxFull}
 use Rattle.ir_core.specs.Refusals.{inject_refused}
+use Rattle.ir_links.specs.Ends.{Channel}
+use Rattle.ir_worker.specs.declared.parcel.Place.{Place}
 use Rattle.ir_worker.specs.Seen.{Parcel}
-use Rattle.ir_worker.specs.Account.{head_of, times_sent, weigh_sent, restamps_with}
+use Rattle.ir_worker.specs.Account.{head_of, lines_out, times_sent, weigh_sent, restamps_with}
 use Rattle.ir_control.specs.declared.injector.Accepted.{Accepted}
 use Rattle.ir_control.specs.Heads.{head_at, times_injected, AreNumbered}
 use Rattle.ir_control.specs.declared.injector.Injector.{Injector}
-use Rattle.ir_control.specs.Outs.{SentTo}
+use Rattle.ir_control.specs.Outs.{AreEntryEnds, SentTo}
 use Rattle.ir_control.specs.Refusals.{IsInjectRefusedAs}
 use Rattle.ir_control.proofs.Nets.{goes_in, parcel_of_net, place_of_end}
 use Rattle.ir_control.proofs.Injecting.{numbered_more, account_more, fresh_more, not_refused}
@@ -133,3 +135,63 @@ returns-in_default-clause-answer g c =
           (sym (not_refused (node_count (knows self.opening).topology) self.max_packets (length self.accepted.items) c.args.source c.args.dest (omega (arith, nodes)) (omega (arith, nodes)) (omega arith))) (inl refl),
       record { outs = refl; accepted = refl },
     )
+
+pub returns-then-not-send_to-clause-answer : goal.returns-then-not-send_to-clause-answer
+returns-then-not-send_to-clause-answer g c =
+    let self = c.args.self.now in
+    let nodes : length c.args.self.now.outs.items ≡ node_count (knows c.args.self.now.opening).topology = sym (length-map c.args.self.now.outs.items _) ∙ c.args.self.now.ends.count in (
+      subst (λ (o : Option Refused). IsInjectRefusedAs g.R.Moments.was_full c.args.self.now c.args.source InboxFull o)
+          (sym (not_refused (node_count (knows self.opening).topology) self.max_packets (length self.accepted.items) c.args.source c.args.dest (omega (arith, nodes)) (omega (arith, nodes)) (omega arith)))
+          (inr (refl, c.if-not-send_to.ensures.sent.1)),
+      record { outs = c.if-not-send_to.ensures.sent.0; accepted = c.reserve.ensures.items },
+    )
+
+pub invariant_of-self-2-clause-ends : goal.invariant_of-self-2-clause-ends
+invariant_of-self-2-clause-ends g c =
+    subst (λ (ls : List (Channel Place)). AreEntryEnds c.args.self.now.opening c.args.self.now.restamps ls) (sym c.if-not-send_to.ensures.lines) c.args.self.now.ends
+
+pub invariant_of-self-then-not-send_to-clause-ends : goal.invariant_of-self-then-not-send_to-clause-ends
+invariant_of-self-then-not-send_to-clause-ends g c =
+    subst (λ (ls : List (Channel Place)). AreEntryEnds c.args.self.now.opening c.args.self.now.restamps ls) (sym c.if-not-send_to.ensures.lines) c.args.self.now.ends
+
+pub invariant_of-self-2-clause-counted : goal.invariant_of-self-2-clause-counted
+invariant_of-self-2-clause-counted g c =
+    let a : Accepted = entry c.len-count.result c.epoch-epoch.result c.args.source c.args.dest in
+    let more : length c.push_reserved.new.self.items ≡ length (c.args.self.now.accepted.items ++ a ∷ []) =
+    ap (λ (xs : List Accepted). length xs) (c.push_reserved.ensures.items ∙ ap (λ (xs : List Accepted). xs ++ a ∷ []) c.reserve.ensures.items) in
+    let n = length_push c.args.self.now.accepted.items a in
+    omega (arith, more, n)
+
+pub invariant_of-self-then-not-send_to-clause-counted : goal.invariant_of-self-then-not-send_to-clause-counted
+invariant_of-self-then-not-send_to-clause-counted g c = subst (λ (xs : List Accepted). length xs ≤ c.args.self.now.max_packets) (sym c.reserve.ensures.items) c.args.self.now.counted
+
+-- the newest stamp's network has as many nodes as the opening's
+many : (self : Injector) (s : Stamp) → s ≡ self.newest → node_count (knows s).topology ≡ length self.outs.items
+many self s is =
+    ap (λ (s : Stamp). node_count (knows s).topology) is ∙ over_nodes (knows self.opening).topology (knows self.newest).topology self.newest_of.1
+    ∙ sym (sym (length-map self.outs.items _) ∙ self.ends.count)
+
+pub start-requires-clause-source : goal.start-requires-clause-source
+start-requires-clause-source g c = let n = many c.args.self.now c.again.result c.again.ensures in omega (arith, n)
+
+pub start-requires-clause-dest : goal.start-requires-clause-dest
+start-requires-clause-dest g c = let n = many c.args.self.now c.again.result c.again.ensures in omega (arith, n)
+
+pub start-requires-clause-few : goal.start-requires-clause-few
+start-requires-clause-few g c =
+    let n = many c.args.self.now c.again.result c.again.ensures in
+    let nodes : length c.args.self.now.outs.items ≡ node_count (knows c.args.self.now.opening).topology = sym (length-map c.args.self.now.outs.items _) ∙ c.args.self.now.ends.count in
+    let few = c.args.self.now.few_nodes in
+    omega (arith, n, nodes, few)
+
+pub returns-then-source-nodes-clause-same : goal.returns-then-source-nodes-clause-same
+returns-then-source-nodes-clause-same g c = elim c.then-source-nodes.branch [
+  | then-source-nodes-via-then-source-nodes w ↦ (ap (λ (s : Injector). s.opening) w.self-is, ap (λ (s : Injector). s.newest) w.self-is, ap (λ (s : Injector). s.max_packets) w.self-is)
+  | then-source-nodes-via-else-source-nodes+then-dest-nodes w ↦ (ap (λ (s : Injector). s.opening) w.self-is, ap (λ (s : Injector). s.newest) w.self-is, ap (λ (s : Injector). s.max_packets) w.self-is)
+]
+
+pub returns-then-source-nodes-clause-lines : goal.returns-then-source-nodes-clause-lines
+returns-then-source-nodes-clause-lines g c = elim c.then-source-nodes.branch [
+  | then-source-nodes-via-then-source-nodes w ↦ ap (λ (s : Injector). lines_out s.outs.items) w.self-is
+  | then-source-nodes-via-else-source-nodes+then-dest-nodes w ↦ ap (λ (s : Injector). lines_out s.outs.items) w.self-is
+]

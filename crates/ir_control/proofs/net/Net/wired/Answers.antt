@@ -7,7 +7,7 @@ pub invariant_of-result : goal.invariant_of-result
 invariant_of-result c =
     let wires = c.in_ok-inboxes.ensures in
     record {
-      opened = subst (λ (r : Registry). IsOpening r c.args.opening.topology c.args.first) (sym c.in_ok-registry.ensures.ok) c.requires.first;
+      opened = subst (λ (r : Registry). IsOpening r c.args.opening.topology c.args.first) (sym c.in_ok-registry.ensures) c.requires.first;
       inboxes_are = wires.inboxes;
       entries_are = wires.entries;
       ways_are = wires.ways;

@@ -1,11 +1,11 @@
-use Rattle.std.specs.Prelude.{◌≡◌, ℕ, Some, All, slice_get}
+use Rattle.std.specs.Prelude.{◌≡◌, ℕ, Some, All, slice_get, vec_len, vec_capacity}
 use Rattle.ir_epochs.specs.Handles.{known}
 use Rattle.ir_epochs.specs.declared.handles.BoardReader.{BoardReader}
 use Rattle.ir_control.specs.Fresh.{AreFreshOuts, AreFreshIns}
 use Rattle.ir_control.specs.Parts.{opening_entries, AreFirstNodes, IsFreshNode, ReadsAsOneOf}
-use Rattle.ir_control.proofs.net.Net.nodes.Given as goal
+use Rattle.ir_control.proofs.net.Net.nodes_with.Given as goal
 
-pub record IsBuilding (Inboxes Readers Given Senders Takers Nodes Boards Fresh : Type 0) : Type 0 where
+pub record IsBuilding (Inboxes Readers Given Senders Takers Nodes Boards Fresh Room : Type 0) : Type 0 where
   pub inboxes : Inboxes
   pub readers : Readers
   pub given : Given
@@ -14,6 +14,7 @@ pub record IsBuilding (Inboxes Readers Given Senders Takers Nodes Boards Fresh :
   pub nodes : Nodes
   pub boards : Boards
   pub fresh : Fresh
+  pub room : Room
 
 abbrev pub invariant-loop-u : goal.invariant-loop-u
 invariant-loop-u l = IsBuilding
@@ -25,3 +26,4 @@ invariant-loop-u l = IsBuilding
     (AreFirstNodes l.self l.u l.nodes.items)
     (All (ReadsAsOneOf l.fn.readers.items) l.nodes.items)
     (All (IsFreshNode (opening_entries l.self)) l.nodes.items)
+    (vec_capacity l.nodes ≡ vec_len l.self.inboxes)
