@@ -131,7 +131,8 @@ fn spelled_fate<'a>(word: &str, rest: &'a [&'a str]) -> Option<(FateSpelling<'a>
     }
 }
 
-/// The row that the words of a line of the first version spell.
+/// The row that the words of a line of the first version spell. Behind the id stands a head as one of the second version
+/// begins, with the epoch in the place of its id.
 fn spelled_one<'a>(words: &'a [&'a str]) -> Option<(Head<'a>, SegmentSpelling<'a>)>
     requires { list_all is_word (texts words.now) ≡ true }
     ensures { MatchOption result (SpellsNothing Version.One (texts words.now))
