@@ -1,13 +1,14 @@
 -- The rows of a trace that are checked so far.
-use Rattle.std.proofs.Common.{◌≡◌, ◌<◌, ◌≤◌, ◌+◌, ◌-◌, ◌==◌, ◌||◌, ℕ, zero, suc, Bool, true, false, not, List, [], ◌∷◌, ◌++◌, length, take, drop, get_or, slice_get, Some, None, Result, Ok, Err, IfOk, IfErr, refl, sym, ap, subst, ◌∙◌, arith, ⊎_elim}
+use Rattle.std.proofs.Common.{◌≡◌, ◌<◌, ◌≤◌, ◌+◌, ◌-◌, ◌==◌, ◌||◌, ℕ, zero, suc, Bool, true, false, not, List, [], ◌∷◌, ◌++◌, length, take, drop, get_or, slice_get, slice_index_or, Some, None, Result, Ok, Err, IfOk, IfErr, refl, sym, ap, subst, ◌∙◌, arith, ⊎_elim}
 use Rattle.std.specs.List.{list_any}
 use Rattle.std.proofs.lemmas.Bool.{both_ways, or_cases, eqb-true, eq-eqb}
 use Rattle.std.proofs.lemmas.List.{take_more, drop_more, length-take-le, take-append-drop}
 use Rattle.std.proofs.lemmas.List.Folds.{list_any_more}
 use Rattle.ir_model.specs.Topology.{Topology, node_count}
-use Rattle.ir_model.specs.Plan.{Plan}
+use Rattle.ir_model.specs.Plan.{Plan, IsPlan}
 use Rattle.ir_model.proofs.Restrict.{node_count-restrict}
 use Rattle.ir_core.specs.declared.built.Install.{Install}
+use Rattle.ir_core.specs.Setting.{no_plan}
 use Rattle.ir_trace.specs.declared.finding.Finding.{Finding}
 use Rattle.ir_trace.specs.declared.finding.FindingKind.{FindingKind}
 use Rattle.ir_trace.specs.declared.finding.FindingKind.TheVariants.{NotTrace, BadRow, UnknownNode, UnknownEpoch, NotAPrefix, NotAtDestination, BadWeight, Repeated, NoMemory}
@@ -123,31 +124,44 @@ there_more rows i row q lt at = list_any_more (λ (r : TraceRow). r.id == q) row
 
 -- ---- the plans of the epochs
 
+minus_one : (e : ℕ) → suc e - 1 ≡ e
+minus_one e = omega arith
+
+within_behind : (e n : ℕ) → suc (suc e) ≤ suc n → suc e ≤ n
+within_behind e n le = omega arith
+
+some_behind : (e : ℕ) → 0 < suc e
+some_behind e = omega arith
+
+-- behind the first plan
+plan_behind : (t : Plan) (plans : List Plan) (e : ℕ) → plan_at plans (suc e) ≡ plan_at (t ∷ plans) (suc (suc e))
+plan_behind t plans e = ap (λ (k : ℕ). slice_index_or plans k no_plan) (minus_one e) ∙ ap (λ (k : ℕ). slice_index_or (t ∷ plans) k no_plan) (sym (minus_one (suc e)))
+
+none_above : (A : Type 0) → 0 < 0 → A
+none_above A above = absurd (omega arith)
+
+none_within : (A : Type 0) (e : ℕ) → suc e ≤ 0 → A
+none_within A e le = absurd (omega arith)
+
 pub over_from : (net : Topology) (installs : List Install) (plans : List Plan) → ArePlansOf net installs plans → AreOver (node_count net) plans
-over_from net installs plans are zero above le = absurd (omega arith)
-over_from net [] [] are (suc e) above le = absurd (omega arith)
+over_from net installs plans are zero above le = none_above _ above
+over_from net [] [] are (suc e) above le = none_within _ e le
 over_from net [] (t ∷ plans) are (suc e) above le = absurd are
 over_from net (i ∷ installs) [] are (suc e) above le = absurd are
 over_from net (i ∷ installs) (t ∷ plans) are (suc zero) above le =
     (are.0.valid, ap (λ (n : Topology). node_count n) are.0.over ∙ node_count-restrict i.up.items net)
 over_from net (i ∷ installs) (t ∷ plans) are (suc (suc e)) above le =
-    let back : suc (suc e) - 1 ≡ suc e = omega arith in
-    let before : suc e - 1 ≡ e = omega arith in
-    let later = over_from net installs plans are.1 (suc e) (omega arith) (omega arith) in
-    rw back (rw before at later)
+    subst (λ (p : Plan). IsPlan p × (node_count p.topology ≡ node_count net)) (plan_behind t plans e) (over_from net installs plans are.1 (suc e) (some_behind e) (within_behind e (length plans) le))
 
 -- the links of each are those of the network
 links_from : (net : Topology) (installs : List Install) (plans : List Plan) → ArePlansOf net installs plans → (e : ℕ) → 0 < e → e ≤ length plans → (plan_at plans e).topology.links ≡ net.links
-links_from net installs plans are zero above le = absurd (omega arith)
-links_from net [] [] are (suc e) above le = absurd (omega arith)
+links_from net installs plans are zero above le = none_above _ above
+links_from net [] [] are (suc e) above le = none_within _ e le
 links_from net [] (t ∷ plans) are (suc e) above le = absurd are
 links_from net (i ∷ installs) [] are (suc e) above le = absurd are
 links_from net (i ∷ installs) (t ∷ plans) are (suc zero) above le = ap (λ (n : Topology). n.links) are.0.over
 links_from net (i ∷ installs) (t ∷ plans) are (suc (suc e)) above le =
-    let back : suc (suc e) - 1 ≡ suc e = omega arith in
-    let before : suc e - 1 ≡ e = omega arith in
-    let later = links_from net installs plans are.1 (suc e) (omega arith) (omega arith) in
-    rw back (rw before at later)
+    subst (λ (p : Plan). p.topology.links ≡ net.links) (plan_behind t plans e) (links_from net installs plans are.1 (suc e) (some_behind e) (within_behind e (length plans) le))
 
 module _ (net : Topology) (installs : List Install) (plans : List Plan) (are : ArePlansOf net installs plans) (rows : List TraceRow) where
   pub sound_from : {U : Type 0} (r : Result U Finding) → AreRowsOver (node_count net) rows → IfOk r (λ _. AreFine net plans rows) → IfOk r (λ _. IsSoundTrace net installs rows)

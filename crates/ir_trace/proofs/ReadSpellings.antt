@@ -3,13 +3,13 @@ use Rattle.std.proofs.Common.{◌≡◌, ◌<◌, ◌≤◌, ◌-◌, ◌&&◌, 
 use Rattle.std.specs.Borrow.{Bor}
 use Rattle.std.specs.List.{list_all}
 use Rattle.std.proofs.lemmas.Bool.{and_parts, and_from, eqb-true, leb-true, ltb-true, le-leb, lt-ltb}
-use Rattle.std.proofs.lemmas.List.{take_rest, length-map, append-nil}
+use Rattle.std.proofs.lemmas.List.{take_rest, append-nil}
 use Rattle.std.proofs.lemmas.List.Folds.{list_all-append}
 use Rattle.ir_model.specs.Graph.{Name}
 use Rattle.ir_trace.specs.declared.TheConstants.{MAX_NUMBER}
 use Rattle.ir_trace.specs.declared.row.Version.TheVariants.{One, Two}
 use Rattle.ir_trace.specs.Rows.{FateText, Delivered, Retired, Down, Full, Left, PartText, RowText, IsRowText, row_words, part_words, first_part, mark, fate_words, fate_names, hop_names, is_word, is_part_text, fits_version}
-use Rattle.ir_trace.specs.Spelled.{texts, Spells, SpellsNothing, IsNoNumber, row_head, HasHead, HasNoHead, AreParts, AreNoParts}
+use Rattle.ir_trace.specs.Spelled.{texts, Spells, SpellsNothing, IsNoNumber, IsNoFate, row_head, HasHead, HasNoHead, AreParts, AreNoParts}
 
 -- ---- the words of a fate tell it
 
@@ -40,6 +40,29 @@ fate_words-same f g h k e =
     let same : Some (f, h) ≡ Some (g, k) = sym (told-fate f h) ∙ ap told e ∙ told-fate g k in
     let pair : ◌≡◌ {A = FateText × List Name} (f, h) (g, k) = cc same in
     (ap (λ p. p.0) pair, ap (λ p. p.1) pair)
+
+-- a word that names no fate
+pub no_fate : (w : Name) (ws : List Name) → (w ≡ codes "delivered" → ⊥) → (w ≡ codes "retired" → ⊥) → (w ≡ codes "left" → ⊥) → (w ≡ codes "down" → ⊥) → (w ≡ codes "full" → ⊥) → IsNoFate (w ∷ ws)
+no_fate w ws delivered retired left down full Delivered hops e = delivered (cc (sym e))
+no_fate w ws delivered retired left down full Retired hops e = retired (cc (sym e))
+no_fate w ws delivered retired left down full (Down x y) hops e = down (cc (sym e))
+no_fate w ws delivered retired left down full (Full x y) hops e = full (cc (sym e))
+no_fate w ws delivered retired left down full Left hops e = left (cc (sym e))
+
+-- too few words behind the word of a fate with two names
+short_two : (make : Name → Name → FateText) (ws : List (Bor (List ℕ))) → length ws < 2 → two make (texts ws) ≡ None
+short_two make [] short = refl
+short_two make (w ∷ []) short = refl
+short_two make (w ∷ v ∷ ws) short = absurd (omega arith)
+
+short_fate : (w : Name) (ws : List Name) → told (w ∷ ws) ≡ None → IsNoFate (w ∷ ws)
+short_fate w ws none fate hops e = let same : Some (fate, hops) ≡ None = sym (told-fate fate hops) ∙ ap told e ∙ none in absurd (cc same)
+
+pub no_down : (w : Name) (ws : List (Bor (List ℕ))) → w ≡ codes "down" → length ws < 2 → IsNoFate (w ∷ texts ws)
+no_down w ws is short = subst (λ v. IsNoFate (v ∷ texts ws)) (sym is) (short_fate (codes "down") (texts ws) (short_two Down ws short))
+
+pub no_full : (w : Name) (ws : List (Bor (List ℕ))) → w ≡ codes "full" → length ws < 2 → IsNoFate (w ∷ texts ws)
+no_full w ws is short = subst (λ v. IsNoFate (v ∷ texts ws)) (sym is) (short_fate (codes "full") (texts ws) (short_two Full ws short))
 
 -- ---- the names of a row
 
@@ -81,68 +104,56 @@ first_is text is =
     let P : List PartText → Type 0 = λ parts. list_all is_part_text parts ≡ true in
     part_is (first_part text.parts) (and_parts (is_part_text (first_part text.parts)) true (subst P (one_part text.parts is.version) is.parts)).0
 
--- ---- six words, and the words behind them
+-- ---- a word, and those of a head behind it
 
-abbrev at : List (Bor (List ℕ)) → ℕ → Name
-at words k = (get_or words k (record { ref_ptr = (0, 0); now = [] })).now
+module _ (words : List Name) (first : Name) (tail : List Name) (words_are : words ≡ first ∷ tail) where
+  pub no_id : IsNoNumber first → SpellsNothing One words
+  no_id other text is = let same : row_words One text ≡ first ∷ tail = is.words_are ∙ words_are in other text.id is.text_is.id (cc same)
 
-abbrev behind : List (Bor (List ℕ)) → List Name
-behind words = texts (take (length words - 6) (drop 6 words))
+  -- behind the id of a row stands a head with the epoch for its number
+  pub behind_id : (text : RowText) → Spells One words text
+      → HasHead tail (record { id = (first_part text.parts).epoch; source = text.source; dest = text.dest; weight = text.weight; fate = text.fate; parts = [] }) (first_part text.parts).hops
+  behind_id text is = let same : row_words One text ≡ first ∷ tail = is.words_are ∙ words_are in record { id = (first_is text is.text_is).epoch; weight = is.text_is.weight; whole = cc same }
 
-pub six_words : (words : List (Bor (List ℕ))) → 6 ≤ length words → texts words ≡ at words 0 ∷ at words 1 ∷ at words 2 ∷ at words 3 ∷ at words 4 ∷ at words 5 ∷ behind words
-six_words [] h = absurd (omega arith)
-six_words (a ∷ []) h = absurd (omega arith)
-six_words (a ∷ b ∷ []) h = absurd (omega arith)
-six_words (a ∷ b ∷ c ∷ []) h = absurd (omega arith)
-six_words (a ∷ b ∷ c ∷ d ∷ []) h = absurd (omega arith)
-six_words (a ∷ b ∷ c ∷ d ∷ e ∷ []) h = absurd (omega arith)
-six_words (a ∷ b ∷ c ∷ d ∷ e ∷ f ∷ rest) h = ap (λ t. a.now ∷ b.now ∷ c.now ∷ d.now ∷ e.now ∷ f.now ∷ texts t) (sym (take_rest (a ∷ b ∷ c ∷ d ∷ e ∷ f ∷ rest) 6))
+  pub no_head_behind : HasNoHead tail → SpellsNothing One words
+  no_head_behind other text is = other _ _ (behind_id text is)
 
-module _ (words : List (Bor (List ℕ))) (long : 6 ≤ length words) where
-  -- what the words of a row say one by one
-  pub each_word : (text : RowText) → Spells One (texts words) text
-      → (decimal (first_part text.parts).epoch ≡ at words 1) × (decimal text.weight ≡ at words 4) × (fate_words text.fate ++ (first_part text.parts).hops ≡ at words 5 ∷ behind words)
-  each_word text is = let same : row_words One text ≡ at words 0 ∷ at words 1 ∷ at words 2 ∷ at words 3 ∷ at words 4 ∷ at words 5 ∷ behind words = is.words_are ∙ six_words words long in (cc same, cc same, cc same)
+  module _ (head : RowText) (hops : List Name) (has : HasHead tail head hops) where
+    pub no_hops : length hops ≡ 0 → SpellsNothing One words
+    no_hops none text is =
+        let same = (behind_id text is).whole ∙ sym has.whole in
+        let tails = fate_words-same text.fate head.fate (first_part text.parts).hops hops (cc same) in
+        absurd (omega (arith, ap length tails.1, (first_is text is.text_is).some))
 
-  pub no_weight : IsNoNumber (at words 4) → SpellsNothing One (texts words)
-  no_weight other text is = other text.weight is.text_is.weight (each_word text is).1
-
-  pub no_epoch : IsNoNumber (at words 1) → SpellsNothing One (texts words)
-  no_epoch other text is = other (first_part text.parts).epoch (first_is text is.text_is).epoch (each_word text is).0
-
-  module _ (fate : FateText) (held : List (Bor (List ℕ))) (tail : fate_words fate ++ texts held ≡ at words 5 ∷ behind words) where
-    pub no_hops : length held ≡ 0 → SpellsNothing One (texts words)
-    no_hops none text is = let same = fate_words-same text.fate fate (first_part text.parts).hops (texts held) ((each_word text is).2 ∙ sym tail) in
-        let none_left : length (first_part text.parts).hops ≡ length held = ap length same.1 ∙ length-map held (λ w. w.now) in
-        absurd (omega (arith, (first_is text is.text_is).some))
-
-    pub spells : (id epoch weight : ℕ) → id ≤ MAX_NUMBER → epoch ≤ MAX_NUMBER → weight ≤ MAX_NUMBER → decimal id ≡ at words 0 → decimal epoch ≡ at words 1 → decimal weight ≡ at words 4
-        → 0 < length held → list_all is_word (texts words) ≡ true
-        → Spells One (texts words) (record { id = id; source = at words 2; dest = at words 3; weight = weight; fate = fate; parts = record { epoch = epoch; hops = texts held } ∷ [] })
-    spells id epoch weight small_id small_epoch small_weight is_id is_epoch is_weight some all = record {
+    pub spells : (id : ℕ) → id ≤ MAX_NUMBER → decimal id ≡ first → 0 < length hops → list_all is_word words ≡ true
+        → Spells One words (record { id = id; source = head.source; dest = head.dest; weight = head.weight; fate = head.fate; parts = record { epoch = head.id; hops = hops } ∷ [] })
+    spells id small is_id some all = record {
       text_is = record {
-        id = small_id;
-        weight = small_weight;
-        parts = and_from (is_part_text (record { epoch = epoch; hops = texts held })) true (is_part (record { epoch = epoch; hops = texts held }) small_epoch (omega (arith, length-map held (λ w. w.now)))) refl;
+        id = small;
+        weight = has.weight;
+        parts = and_from (is_part_text (record { epoch = head.id; hops = hops })) true (is_part (record { epoch = head.id; hops = hops }) has.id some) refl;
         version = refl;
         words = names;
       };
-      words_are = cc (sym (six_words words long));
+      words_are = ap (λ w. w ∷ row_head head ++ hops) is_id ∙ ap (λ t. first ∷ t) has.whole ∙ sym words_are;
     }
       where
-        all_words : list_all is_word (at words 0 ∷ at words 1 ∷ at words 2 ∷ at words 3 ∷ at words 4 ∷ (fate_words fate ++ texts held)) ≡ true
-        all_words = ap (λ t. list_all is_word (at words 0 ∷ at words 1 ∷ at words 2 ∷ at words 3 ∷ at words 4 ∷ t)) tail ∙ ap (list_all is_word) (sym (six_words words long)) ∙ all
+        all_words : list_all is_word (first ∷ row_head head ++ hops) ≡ true
+        all_words = ap (λ t. list_all is_word (first ∷ t)) has.whole ∙ ap (list_all is_word) (sym words_are) ∙ all
 
-        names : list_all is_word (at words 2 ∷ at words 3 ∷ (fate_names fate ++ (texts held ++ []))) ≡ true
+        names : list_all is_word (head.source ∷ head.dest ∷ (fate_names head.fate ++ (hops ++ []))) ≡ true
         names =
-            let rest = fate_words fate ++ texts held in
-            let from_source = words_behind (at words 1) (at words 2 ∷ at words 3 ∷ at words 4 ∷ rest) (words_behind (at words 0) (at words 1 ∷ at words 2 ∷ at words 3 ∷ at words 4 ∷ rest) all_words) in
-            let from_dest = words_behind (at words 2) (at words 3 ∷ at words 4 ∷ rest) from_source in
-            let end : texts held ++ [] ≡ texts held = append-nil (texts held) in
-            and_from (is_word (at words 2)) _ (first_word (at words 2) (at words 3 ∷ at words 4 ∷ rest) from_source)
-            (and_from (is_word (at words 3)) _ (first_word (at words 3) (at words 4 ∷ rest) from_dest) (ap (λ t. list_all is_word (fate_names fate ++ t)) end ∙ tail_words fate (texts held) (words_behind (at words 4) rest (words_behind (at words 3) (at words 4 ∷ rest) from_dest))))
+            let rest = fate_words head.fate ++ hops in
+            let from_source = words_behind (decimal head.id) (head.source ∷ head.dest ∷ decimal head.weight ∷ rest) (words_behind first (row_head head ++ hops) all_words) in
+            let from_dest = words_behind head.source (head.dest ∷ decimal head.weight ∷ rest) from_source in
+            and_from (is_word head.source) _ (first_word head.source (head.dest ∷ decimal head.weight ∷ rest) from_source)
+            (and_from (is_word head.dest) _ (first_word head.dest (decimal head.weight ∷ rest) from_dest)
+            (ap (λ t. list_all is_word (fate_names head.fate ++ t)) (append-nil hops) ∙ tail_words head.fate hops (words_behind (decimal head.weight) rest (words_behind head.dest (decimal head.weight ∷ rest) from_dest))))
 
 -- ---- five words, and the words behind them
+
+abbrev at : List (Bor (List ℕ)) → ℕ → Name
+at words k = (get_or words k (record { ref_ptr = (0, 0); now = [] })).now
 
 abbrev after : List (Bor (List ℕ)) → List Name
 after words = texts (take (length words - 5) (drop 5 words))
@@ -156,8 +167,17 @@ five_words (a ∷ b ∷ c ∷ d ∷ []) h = absurd (omega arith)
 five_words (a ∷ b ∷ c ∷ d ∷ e ∷ rest) h = ap (λ t. a.now ∷ b.now ∷ c.now ∷ d.now ∷ e.now ∷ texts t) (sym (take_rest (a ∷ b ∷ c ∷ d ∷ e ∷ rest) 5))
 
 module _ (words : List (Bor (List ℕ))) (long : 5 ≤ length words) where
+  same_head : (text : RowText) (rest : List Name) → HasHead (texts words) text rest → row_head text ++ rest ≡ at words 0 ∷ at words 1 ∷ at words 2 ∷ at words 3 ∷ at words 4 ∷ after words
+  same_head text rest is = is.whole ∙ five_words words long
+
+  pub no_head_fate : IsNoFate (at words 4 ∷ after words) → HasNoHead (texts words)
+  no_head_fate other text rest is = other text.fate rest (cc (same_head text rest is))
+
+  pub no_head_id : IsNoNumber (at words 0) → HasNoHead (texts words)
+  no_head_id other text rest is = other text.id is.id (cc (same_head text rest is))
+
   pub no_head_weight : IsNoNumber (at words 3) → HasNoHead (texts words)
-  no_head_weight other text rest is = let same : row_head text ++ rest ≡ at words 0 ∷ at words 1 ∷ at words 2 ∷ at words 3 ∷ at words 4 ∷ after words = is.whole ∙ five_words words long in other text.weight is.weight (cc same)
+  no_head_weight other text rest is = other text.weight is.weight (cc (same_head text rest is))
 
   pub has_head : (fate : FateText) (held : List (Bor (List ℕ))) (id weight : ℕ) → fate_words fate ++ texts held ≡ at words 4 ∷ after words → id ≤ MAX_NUMBER → weight ≤ MAX_NUMBER → decimal id ≡ at words 0 → decimal weight ≡ at words 3
       → HasHead (texts words) (record { id = id; source = at words 1; dest = at words 2; weight = weight; fate = fate; parts = [] }) (texts held)

@@ -1,13 +1,16 @@
 -- The text of rows.
-use Rattle.std.proofs.Common.{◌≡◌, ℕ, ◌<◌, ◌≤◌, true, List, [], ◌∷◌, ◌++◌, length, flat_map, nat_lt, arith, ap, sym, subst, ◌∙◌, refl, append_assoc, ⊎_elim}
+use Rattle.std.proofs.Common.{◌≡◌, ℕ, ◌<◌, ◌≤◌, true, List, [], ◌∷◌, ◌++◌, length, flat_map, decimal, nat_lt, Result, Ok, Err, OnOk, is_ok, if◌then◌else◌, arith, ap, sym, subst, ◌∙◌, refl, append_assoc, ⊎_elim}
 use Rattle.std.specs.List.{list_all, join_with_byte}
 use Rattle.std.proofs.lemmas.Bool.{lt-ltb, cases_lt}
 use Rattle.std.proofs.lemmas.List.{append-nil, get_or_past}
 use Rattle.std.proofs.lemmas.Option.{slice_get_within}
 use Rattle.std.proofs.lemmas.Grind.{flat_map-append}
 use Rattle.ir_model.specs.Topology.{Topology, node_count, ports_of}
-use Rattle.ir_model.specs.Walk.{Linked, LeadsTo, IsWalk}
-use Rattle.ir_trace.specs.Rows.{spaced}
+use Rattle.ir_model.specs.Graph.{Name}
+use Rattle.ir_model.specs.Walk.{Linked, LeadsTo, IsWalk, walk_weight}
+use Rattle.ir_core.specs.Record.{Record}
+use Rattle.ir_trace.specs.Rows.{spaced, fate_words}
+use Rattle.ir_trace.specs.Written.{name_at, fate_text}
 
 -- a node with a port is a node
 linked_within : (net : Topology) (u v : ℕ) → Linked net u v → u < node_count net
@@ -35,26 +38,40 @@ pub join_spaced : (w : List ℕ) (ws : List (List ℕ)) → join_with_byte 32 (w
 join_spaced w [] = sym (append-nil w)
 join_spaced w (v ∷ vs) = ap (λ t. w ++ 32 ∷ t) (join_spaced v vs)
 
-pieces : (old a b c d e f g h : List ℕ) → (((((((old ++ a) ++ b) ++ c) ++ d) ++ e) ++ f) ++ g) ++ h ≡ old ++ ((a ++ (b ++ (c ++ (d ++ (e ++ (f ++ g)))))) ++ h)
-pieces old a b c d e f g h = simp append_assoc
+-- what is written last ends the whole
+pub ended : {T E : Type 0} (r : Result T E) (t0 t1 piece whole : List ℕ) → t1 ≡ (if is_ok r then t0 ++ piece else t0) → t0 ++ piece ≡ whole → OnOk r (t1 ≡ whole)
+ended (Ok v) t0 t1 piece whole e same = e ∙ same
+ended (Err x) t0 t1 piece whole e same = tt
+
+pieces_of_way : (old a b c d : List ℕ) → (((old ++ a) ++ b) ++ c) ++ d ≡ old ++ (a ++ (b ++ (c ++ d)))
+pieces_of_way old a b c d = simp append_assoc
+
+-- the words of a way, put one after another
+pub way_pieces : (old a b c : List ℕ) (fate : List (List ℕ)) → (((old ++ spaced a) ++ spaced b) ++ spaced c) ++ flat_map spaced fate ≡ old ++ flat_map spaced (a ∷ b ∷ c ∷ fate)
+way_pieces old a b c fate = pieces_of_way old (spaced a) (spaced b) (spaced c) (flat_map spaced fate)
+
+pieces : (old a b c d e : List ℕ) → ((((old ++ a) ++ b) ++ c) ++ d) ++ e ≡ old ++ ((a ++ (b ++ (c ++ d))) ++ e)
+pieces old a b c d e = simp append_assoc
 
 -- the words of a row, put one after another
-pub row_pieces : (old a b c d e : List ℕ) (fate hops : List (List ℕ)) (h : List ℕ)
-    → (((((((old ++ a) ++ spaced b) ++ spaced c) ++ spaced d) ++ spaced e) ++ flat_map spaced fate) ++ flat_map spaced hops) ++ h
-    ≡ old ++ (join_with_byte 32 (a ∷ b ∷ c ∷ d ∷ e ∷ fate ++ hops) ++ h)
-row_pieces old a b c d e fate hops h =
-    pieces old a (spaced b) (spaced c) (spaced d) (spaced e) (flat_map spaced fate) (flat_map spaced hops) h
-    ∙ ap (λ t. old ++ ((a ++ (spaced b ++ (spaced c ++ (spaced d ++ (spaced e ++ t))))) ++ h)) (sym (flat_map-append spaced fate hops))
-    ∙ ap (λ t. old ++ (t ++ h)) (sym (join_spaced a (b ∷ c ∷ d ∷ e ∷ fate ++ hops)))
+pub row_pieces : (old a b : List ℕ) (way hops : List (List ℕ)) (h : List ℕ)
+    → ((((old ++ a) ++ spaced b) ++ flat_map spaced way) ++ flat_map spaced hops) ++ h ≡ old ++ (join_with_byte 32 (a ∷ b ∷ way ++ hops) ++ h)
+row_pieces old a b way hops h =
+    pieces old a (spaced b) (flat_map spaced way) (flat_map spaced hops) h
+    ∙ ap (λ t. old ++ ((a ++ (spaced b ++ t)) ++ h)) (sym (flat_map-append spaced way hops))
+    ∙ ap (λ t. old ++ (t ++ h)) (sym (join_spaced a (b ∷ way ++ hops)))
 
-pieces_2 : (old a b c d e f g : List ℕ) → ((((((old ++ a) ++ b) ++ c) ++ d) ++ e) ++ f) ++ g ≡ old ++ ((a ++ (b ++ (c ++ (d ++ (e ++ f))))) ++ g)
-pieces_2 old a b c d e f g = simp append_assoc
+pieces_2 : (old a b c d : List ℕ) → (((old ++ a) ++ b) ++ c) ++ d ≡ old ++ ((a ++ (b ++ c)) ++ d)
+pieces_2 old a b c d = simp append_assoc
 
 -- the words of a row of the second version, put one after another
-pub segments_pieces : (old a b c d : List ℕ) (fate parts : List (List ℕ)) (h : List ℕ)
-    → ((((((old ++ a) ++ spaced b) ++ spaced c) ++ spaced d) ++ flat_map spaced fate) ++ flat_map spaced parts) ++ h
-    ≡ old ++ (join_with_byte 32 (a ∷ b ∷ c ∷ d ∷ fate ++ parts) ++ h)
-segments_pieces old a b c d fate parts h =
-    pieces_2 old a (spaced b) (spaced c) (spaced d) (flat_map spaced fate) (flat_map spaced parts) h
-    ∙ ap (λ t. old ++ ((a ++ (spaced b ++ (spaced c ++ (spaced d ++ t)))) ++ h)) (sym (flat_map-append spaced fate parts))
-    ∙ ap (λ t. old ++ (t ++ h)) (sym (join_spaced a (b ∷ c ∷ d ∷ fate ++ parts)))
+pub segments_pieces : (old a : List ℕ) (way parts : List (List ℕ)) (h : List ℕ)
+    → (((old ++ a) ++ flat_map spaced way) ++ flat_map spaced parts) ++ h ≡ old ++ (join_with_byte 32 (a ∷ way ++ parts) ++ h)
+segments_pieces old a way parts h =
+    pieces_2 old a (flat_map spaced way) (flat_map spaced parts) h
+    ∙ ap (λ t. old ++ ((a ++ t) ++ h)) (sym (flat_map-append spaced way parts))
+    ∙ ap (λ t. old ++ (t ++ h)) (sym (join_spaced a (way ++ parts)))
+
+-- the words of the ends, the weight and the fate of a record
+abbrev pub way_words : List Name → Topology → Record → List (List ℕ)
+way_words nodes net r = name_at nodes r.source ∷ name_at nodes r.dest ∷ decimal (walk_weight net r.hops) ∷ fate_words (fate_text nodes net r.fate)

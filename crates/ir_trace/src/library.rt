@@ -17,12 +17,12 @@ use ir_plan::Alone;
 use ir_streams::{Writer, write_text};
 use ir_tables::Topology;
 use std::alloc::{AllocError, Global};
+use std::fmt;
 use std::marker::Model;
 use thiserror::Error;
 
 /// Why a trace was not written.
 #[derive(Clone, Copy, Debug, PartialEq, Eq, Error)]
-#[error("{:?}", self)]
 pub enum TraceError {
     /// The writer gave an error, also as it was flushed, or took none of the bytes left.
     Unwritable = 1,
@@ -36,6 +36,12 @@ impl TraceError {
         ensures { result ≡ error_code self }
     {
         self as u8
+    }
+}
+
+impl fmt::Display for TraceError {
+    fn fmt<W: fmt::Write>(&self, f: &mut fmt::Formatter<W>) -> fmt::Result {
+        write!(f, "{:?}", self)
     }
 }
 

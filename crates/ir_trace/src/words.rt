@@ -111,38 +111,47 @@ fn spelled_fate<'a>(word: &str, rest: &'a [&'a str]) -> Option<(FateSpelling<'a>
     ensures { MatchOption result (IsNoFate (word.now ∷ texts rest.now))
         (λ p. fate_words (fate_held p.0) ++ texts p.1.now ≡ word.now ∷ texts rest.now) }
 {
-    match (word, rest) {
-        ("delivered", hops) => Some((FateSpelling::Delivered, hops)),
-        ("retired", hops) => Some((FateSpelling::Retired, hops)),
-        ("left", hops) => Some((FateSpelling::Left, hops)),
-        ("down", [x, y, hops @ ..]) => Some((FateSpelling::Down(x, y), hops)),
-        ("full", [x, y, hops @ ..]) => Some((FateSpelling::Full(x, y), hops)),
+    match word {
+        "delivered" => Some((FateSpelling::Delivered, rest)),
+        "retired" => Some((FateSpelling::Retired, rest)),
+        "left" => Some((FateSpelling::Left, rest)),
+        "down" => {
+            let [x, y, hops @ ..] = rest else {
+                return None;
+            };
+            Some((FateSpelling::Down(x, y), hops))
+        }
+        "full" => {
+            let [x, y, hops @ ..] = rest else {
+                return None;
+            };
+            Some((FateSpelling::Full(x, y), hops))
+        }
         _ => None,
     }
 }
 
-/// The row that the words of a line of the first version spell.
+/// The row that the words of a line of the first version spell. Behind the id stands a head as one of the second version
+/// begins, with the epoch in the place of its id.
 fn spelled_one<'a>(words: &'a [&'a str]) -> Option<(Head<'a>, SegmentSpelling<'a>)>
     requires { list_all is_word (texts words.now) ≡ true }
     ensures { MatchOption result (SpellsNothing Version.One (texts words.now))
         (λ s. Spells Version.One (texts words.now) (row_told s.0 (part_held s.1 ∷ []))) }
 {
-    let [id, epoch, source, dest, weight, fate, rest @ ..] = words else {
+    let [id, rest @ ..] = words else {
         return None;
     };
-    let (fate, hops) = spelled_fate(fate, rest)?;
+    let Some((behind, hops)) = spelled_head(rest) else {
+        return None;
+    };
     if hops.is_empty() {
         return None;
     }
-    let head = Head {
-        id: number(id)?,
-        source,
-        dest,
-        weight: number(weight)?,
-        fate,
+    let epoch = behind.id;
+    let Some(id) = number(id) else {
+        return None;
     };
-    let epoch = number(epoch)?;
-    Some((head, SegmentSpelling { epoch, hops }))
+    Some((Head { id, ..behind }, SegmentSpelling { epoch, hops }))
 }
 
 /// What the words of a line of the second version spell before the segments, and the words of those.
@@ -153,12 +162,20 @@ fn spelled_head<'a>(words: &'a [&'a str]) -> Option<(Head<'a>, &'a [&'a str])>
     let [id, source, dest, weight, fate, rest @ ..] = words else {
         return None;
     };
-    let (fate, rest) = spelled_fate(fate, rest)?;
+    let Some((fate, rest)) = spelled_fate(fate, rest) else {
+        return None;
+    };
+    let Some(id) = number(id) else {
+        return None;
+    };
+    let Some(weight) = number(weight) else {
+        return None;
+    };
     let head = Head {
-        id: number(id)?,
+        id,
         source,
         dest,
-        weight: number(weight)?,
+        weight,
         fate,
     };
     Some((head, rest))

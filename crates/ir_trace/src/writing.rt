@@ -1,7 +1,7 @@
 //! Traces as they are written.
-ghost use Rattle.std.specs.Prelude.{◌≡◌, ◌<◌, true, [], ◌∷◌, ◌++◌, IfOk, OnOk, length, nat_lt, string_bytes, flat_map, map};
+ghost use Rattle.std.specs.Prelude.{◌≡◌, ◌<◌, true, [], ◌∷◌, ◌++◌, IfOk, OnOk, length, nat_lt, string_bytes, decimal, flat_map, map};
 ghost use Rattle.std.specs.List.{list_all};
-ghost use Rattle.ir_model.specs.{Graph.names, Topology.node_count, OfGraph.topology_of_graph};
+ghost use Rattle.ir_model.specs.{Graph.names, Topology.node_count, OfGraph.topology_of_graph, Walk.walk_weight};
 ghost use Rattle.ir_trace.specs.{Rows.{spaced, fate_words, part_words, row_line}, Stretches.{parts_from, AreAscending}};
 ghost use Rattle.ir_trace.specs.Written.{name_at, link_at, other_end, fate_text, row_of, records_text, named, segments_row};
 ghost use Rattle.ir_trace.specs.Written.{segments_text, FateIsIn, IsWritable, AreWritable, HasSegments, HaveSegments};
@@ -76,6 +76,27 @@ fn push_fate(
     }
 }
 
+/// Writes the ends, the weight and the fate of a record, each word behind a space.
+fn push_way(
+    text: &mut String,
+    graph: &Graph,
+    topology: &Topology,
+    packet: &Record,
+) -> Result<(), AllocError>
+    requires nodes { node_count topology.now ≡ length graph.now }
+    requires packet { IsWritable topology.now packet.now }
+    ensures { OnOk result (string_bytes text.new ≡ string_bytes text.old
+        ++ flat_map spaced (name_at (names graph.now) packet.now.source ∷ name_at (names graph.now) packet.now.dest
+        ∷ decimal (walk_weight topology.now packet.now.hops)
+        ∷ fate_words (fate_text (names graph.now) topology.now packet.now.fate))) }
+{
+    let hops = packet.hops.as_slice();
+    push_name(text, graph, packet.source)?;
+    push_name(text, graph, packet.dest)?;
+    push_next_number(text, walk_weight(topology, hops) as usize)?;
+    push_fate(text, graph, topology, packet.fate)
+}
+
 /// Writes the row of a record.
 fn push_row(
     text: &mut String,
@@ -88,16 +109,11 @@ fn push_row(
     ensures { OnOk result (string_bytes text.new ≡ string_bytes text.old
         ++ row_line Version.One (row_of (names graph.now) topology.now packet.now)) }
 {
-    let hops = packet.hops.as_slice();
     push_number(text, packet.id as usize)?;
     push_next_number(text, packet.epoch as usize)?;
-    push_name(text, graph, packet.source)?;
-    push_name(text, graph, packet.dest)?;
-    push_next_number(text, walk_weight(topology, hops) as usize)?;
-    push_fate(text, graph, topology, packet.fate)?;
-    push_names(text, graph, hops)?;
-    text.push_str("\n")?;
-    Ok(())
+    push_way(text, graph, topology, packet)?;
+    push_names(text, graph, packet.hops.as_slice())?;
+    text.push_str("\n")
 }
 
 /// Writes `#EPOCH` and the names of hops, each behind a space.
@@ -155,13 +171,9 @@ fn push_segments_row(
 {
     let nodes = packet.hops.as_slice();
     push_number(text, packet.id as usize)?;
-    push_name(text, graph, packet.source)?;
-    push_name(text, graph, packet.dest)?;
-    push_next_number(text, walk_weight(topology, nodes) as usize)?;
-    push_fate(text, graph, topology, packet.fate)?;
+    push_way(text, graph, topology, packet)?;
     push_segments(text, graph, packet.epoch, nodes, packet.restamps.as_slice())?;
-    text.push_str("\n")?;
-    Ok(())
+    text.push_str("\n")
 }
 
 /// The trace of records over the topology of their graph: the line `trace 1`, and a row for each record
