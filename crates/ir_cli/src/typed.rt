@@ -206,35 +206,13 @@ pub fn choose(name: &str, found: &ArgMatches<'_>) -> Option<Chosen>
     ensures { MatchOption result ((all : Chosen) → AreTyped name.now (rows_of (found_of found.now)) all → ⊥)
         (λ all. AreTyped name.now (rows_of (found_of found.now)) all) }
 {
-    let Some(sub) = sub_of(name) else {
-        return None;
-    };
-    let Some(format) = format_of(found) else {
-        return None;
-    };
-    let Some(kind) = kind_in(typed(found, "kind").unwrap_or("shortest")) else {
-        return None;
-    };
-    let Some(capacity) = number_or(found, "capacity", 1, MAX_CAPACITY, 16) else {
-        return None;
-    };
-    let Some(packets) = number_or(found, "packets", 1, MAX_PACKETS, 4096) else {
-        return None;
-    };
-    let Some(restamps) = number_or(found, "restamps", 0, MAX_RESTAMPS, 0) else {
-        return None;
-    };
-    let Some(threads) = number_in(found, "threads", 1, MAX_THREADS as usize) else {
-        return None;
-    };
-    let restamps = restamps as u8;
     Some(Chosen {
-        sub,
-        format,
-        kind,
-        capacity,
-        packets,
-        restamps,
-        threads,
+        sub: sub_of(name)?,
+        format: format_of(found)?,
+        kind: kind_in(typed(found, "kind").unwrap_or("shortest"))?,
+        capacity: number_or(found, "capacity", 1, MAX_CAPACITY, 16)?,
+        packets: number_or(found, "packets", 1, MAX_PACKETS, 4096)?,
+        restamps: number_or(found, "restamps", 0, MAX_RESTAMPS, 0)? as u8,
+        threads: number_in(found, "threads", 1, MAX_THREADS as usize)?,
     })
 }

@@ -237,16 +237,9 @@ fn ends_of(
     ensures node { IfOk result (λ ends.
         option_map string_bytes ends.2 ≡ first_of (codes "node") (rows_of (found_of found.now))) }
 {
-    let Ok(from) = word_of(alloc, found, "from") else {
-        return Err(AllocError);
-    };
-    let Ok(to) = word_of(alloc, found, "to") else {
-        return Err(AllocError);
-    };
-    match word_of(alloc, found, "node") {
-        Ok(node) => Ok((from, to, node)),
-        Err(_) => Err(AllocError),
-    }
+    let from = word_of(alloc, found, "from")?;
+    let to = word_of(alloc, found, "to")?;
+    Ok((from, to, word_of(alloc, found, "node")?))
 }
 
 /// The words of a subcommand with what is chosen or counted by them.
@@ -286,6 +279,21 @@ fn words_of(alloc: Global, all: Chosen, found: &ArgMatches<'_>) -> Result<Words,
     })
 }
 
+/// The words of a subcommand of this name. All words that the parser takes are taken here.
+fn words_named(alloc: Global, name: &str, found: &ArgMatches<'_>) -> Result<Words, WordsError>
+    ensures means { IfOk result (λ words. Means name.now (rows_of (found_of found.now)) words) }
+    ensures refused { IfErr result (FailsOn
+        ((words : Words) → Means name.now (rows_of (found_of found.now)) words → ⊥) ⊥) }
+{
+    let Some(all) = choose(name, found) else {
+        return Err(usage(String::from_str(alloc, UNREAD)));
+    };
+    match words_of(alloc, all, found) {
+        Ok(words) => Ok(words),
+        Err(_) => Err(WordsError::NoMemory),
+    }
+}
+
 /// What is wrong with the words that were read of a subcommand's options, flags and files, if anything is.
 fn fault_met(called: Called, found: &ArgMatches<'_>, words: &Words) -> Option<&'static str>
     ensures { MatchOption result
@@ -298,8 +306,7 @@ fn fault_met(called: Called, found: &ArgMatches<'_>, words: &Words) -> Option<&'
     }
 }
 
-/// The words of the subcommand that was met, if nothing is wrong with them. All words that the parser takes are taken
-/// here.
+/// The words of the subcommand that was met, if nothing is wrong with them.
 fn words_met(alloc: Global, called: Called, found: &ArgMatches<'_>) -> Result<Words, WordsError>
     ensures kind { IfOk result (λ words. FitsItsKind words) }
     ensures taken { IfOk result (λ words. AreTaken words) }
@@ -309,12 +316,7 @@ fn words_met(alloc: Global, called: Called, found: &ArgMatches<'_>) -> Result<Wo
     let Some((name, inner)) = found.subcommand() else {
         return Err(usage(String::from_str(alloc, UNREAD)));
     };
-    let Some(all) = choose(name, inner) else {
-        return Err(usage(String::from_str(alloc, UNREAD)));
-    };
-    let Ok(words) = words_of(alloc, all, inner) else {
-        return Err(WordsError::NoMemory);
-    };
+    let words = words_named(alloc, name, inner)?;
     match fault_met(called, inner, &words) {
         None => Ok(words),
         Some(fault) => Err(usage(fault_text(alloc, called, &words, name, fault))),
@@ -330,13 +332,9 @@ fn all_words<'a>(
     ensures { IfOk result (λ all. texts all.items ≡ name_of called ∷ map string_bytes words.now) }
 {
     let mut all: Vec<&str> = Vec::with_capacity(alloc, words.len() + 1)?;
-    let Ok(()) = all.push(called.name()) else {
-        return Err(AllocError);
-    };
+    all.push(called.name())?;
     for word in words {
-        let Ok(()) = all.push(word.as_str()) else {
-            return Err(AllocError);
-        };
+        all.push(word.as_str())?;
     }
     Ok(all)
 }
@@ -353,13 +351,8 @@ pub fn read_words_as(alloc: Global, called: Called, words: &[String]) -> Result<
     ensures refused { IfErr result
         (FailsOn (RefusesAs called (map string_bytes words.now)) (AsksForHelpAs called (map string_bytes words.now))) }
 {
-    let Ok(all) = all_words(alloc, called, words) else {
-        return Err(WordsError::NoMemory);
-    };
-    let Ok(command) = route_command(alloc, called) else {
-        return Err(WordsError::NoMemory);
-    };
-    match command.try_get_matches_from(all.as_slice()) {
+    let all = all_words(alloc, called, words)?;
+    match route_command(alloc, called)?.try_get_matches_from(all.as_slice()) {
         Ok(found) => words_met(alloc, called, &found),
         Err(error) => Err(refused(alloc, &error)),
     }

@@ -1,10 +1,14 @@
+use Rattle.ir_cli.proofs.Given.{is_none_then}
 use Rattle.ir_cli.proofs.typed.choose.Goals as goal
 
-pub returns-in_default-number_or : goal.returns-in_default-number_or
-returns-in_default-number_or c = λ all are. c.in_default-number_or.ensures all.capacity are.capacity
+pub returns-in_err-number_or : goal.returns-in_err-number_or
+returns-in_err-number_or c =
+    is_none_then c.from_residual-in_err-number_or.result _ _ c.from_residual-in_err-number_or.ensures (λ all are. c.in_err-number_or.ensures all.capacity are.capacity)
 
-pub returns-in_default-number_or-2 : goal.returns-in_default-number_or-2
-returns-in_default-number_or-2 c = λ all are. c.in_default-number_or-2.ensures all.packets are.packets
+pub returns-in_err-number_or-2 : goal.returns-in_err-number_or-2
+returns-in_err-number_or-2 c =
+    is_none_then c.from_residual-in_err-number_or-2.result _ _ c.from_residual-in_err-number_or-2.ensures (λ all are. c.in_err-number_or-2.ensures all.packets are.packets)
 
-pub returns-in_default-number_or-3 : goal.returns-in_default-number_or-3
-returns-in_default-number_or-3 c = λ all are. c.in_default-number_or-3.ensures all.restamps are.restamps
+pub returns-in_err-number_or-3 : goal.returns-in_err-number_or-3
+returns-in_err-number_or-3 c =
+    is_none_then c.from_residual-in_err-number_or-3.result _ _ c.from_residual-in_err-number_or-3.ensures (λ all are. c.in_err-number_or-3.ensures all.restamps are.restamps)

@@ -1,0 +1,21 @@
+use Rattle.ir_cli.proofs.Failing.{fails_wider}
+use Rattle.ir_cli.proofs.words.words_named.Goals as goal
+
+pub returns-in_default-clause-refused : goal.returns-in_default-clause-refused
+returns-in_default-clause-refused c = fails_wider _ _ _ _ c.usage.result (λ _ words means. c.in_default.ensures (record {
+  sub = words.sub;
+  format = words.format;
+  kind = words.kind;
+  capacity = words.capacity;
+  packets = words.packets;
+  restamps = words.restamps;
+  threads = words.threads;
+}) (record {
+  sub = means.sub;
+  format = means.format;
+  kind = means.kind;
+  capacity = means.capacity;
+  packets = means.packets;
+  restamps = means.restamps;
+  threads = means.threads;
+})) (λ never. never) c.usage.ensures
