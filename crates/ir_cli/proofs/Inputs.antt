@@ -1,6 +1,6 @@
 -- Inputs that are read one after another.
-use Rattle.std.proofs.Common.{◌≡◌, ℕ, ◌+◌, ◌<◌, List, [], ◌∷◌, ◌++◌, length, take, drop, set, get_or, slice_get, Option, Some, Result, sym, ap, ◌∙◌, subst, arith}
-use Rattle.std.proofs.lemmas.List.{length-set, length_push, take_more, take_more_set, get_or-drop, drop-drop, drop-set-lt, take-set}
+use Rattle.std.proofs.Common.{◌≡◌, ℕ, ◌+◌, ◌<◌, ◌≤◌, List, [], ◌∷◌, ◌++◌, length, take, drop, set, get_or, slice_get, Option, Some, Result, sym, ap, ◌∙◌, subst, arith}
+use Rattle.std.proofs.lemmas.List.{length-set, length_push, take_all, take_more, take_more_set, get_or-drop, drop-drop, drop-set-lt, take-set}
 use Rattle.std.proofs.lemmas.Option.{slice_get-get_or}
 use Rattle.ir_core.proofs.Lists.{get_set_same}
 use Rattle.ir_streams.specs.declared.call.CallError.{CallError}
@@ -26,6 +26,13 @@ module _ {R : Type 0} (remaining : R → Option (List ℕ)) (gave : R → Result
     pub readers : length now ≡ length old
     pub before : AreRead remaining gave (take i old) read (take i now)
     pub rest : drop i now ≡ drop i old
+
+  -- all of them are read
+  pub all_read : (old now : List R) (read : List (List ℕ)) (i : ℕ) → IsReading old now read i → length old ≤ i → AreRead remaining gave old read now
+  all_read old now read i is end =
+      let behind : length now ≤ i = omega (arith, is.readers) in
+      subst (λ (xs : List R). AreRead remaining gave xs read now) (take_all i old end)
+      (subst (λ (xs : List R). AreRead remaining gave (take i old) read xs) (take_all i now behind) is.before)
 
   module _ (old now : List R) (read : List (List ℕ)) (i : ℕ) (d new : R) (is : IsReading old now read i) (within : i < length old) where
     in_now : i < length now

@@ -6,7 +6,7 @@ use Rattle.ir_cli.specs.declared.options.Choices.{Choices}
 use Rattle.ir_cli.specs.declared.options.Taken.{Taken}
 use Rattle.ir_cli.specs.Taking.{rule_taken, rules_taken, with_taken}
 
-abbrev with_rules : App → List Rule → App
+abbrev pub with_rules : App → List Rule → App
 with_rules app rules = record app { top = record app.top { rules = rules } }
 
 -- a table is read as its rules

@@ -10,7 +10,7 @@ ghost use Rattle.ir_cli.specs.Taking.{choice_words, program_app, rule_lettered, 
 use crate::help::{
     Called, HelpTexts, SCRIPT_LINES, about_of, lines_of, name_of, texts_of, usage_of,
 };
-use crate::options::{Accepts, Choice, Choices, Need, Taken, taken_by};
+use crate::options::{Accepts, Choice, Choices, Need, Taken, taken_by, telling};
 use crate::words::Sub;
 use clap::builder::ValueParser;
 use clap::{Arg, ArgAction, Command};
@@ -164,7 +164,10 @@ fn subcommand_of<'a>(
     ensures local { IfOk result (λ made. (out-Command made).has_globals ≡ false) }
 {
     let bare = named_command(alloc, called, sub);
-    with_args(alloc, bare, choices, taken_by(sub))
+    match with_args(alloc, bare, choices, taken_by(sub)) {
+        Ok(own) => with_args(alloc, own, choices, telling()),
+        Err(error) => Err(error),
+    }
 }
 
 /// The program's command, before its subcommands.

@@ -1,6 +1,6 @@
 //! What the subcommands take: tables of options, flags and files.
-ghost use Rattle.std.specs.Prelude.{◌≡◌};
-ghost use Rattle.ir_cli.specs.CommandLine.{rules_of};
+ghost use Rattle.std.specs.Prelude.{◌≡◌, ◌++◌};
+ghost use Rattle.ir_cli.specs.CommandLine.{rules_of, telling};
 ghost use Rattle.ir_cli.specs.declared.options.Choices.{Choices};
 ghost use Rattle.ir_cli.specs.Taking.{rules_taken};
 
@@ -175,50 +175,48 @@ const TRACE: Taken =
 const WHOLE: Taken = taken!("whole", None, Accepts::Nothing, Need::Free
     => "Whether rows can be those of a run of the script, too: injects, epochs above them and causes of drops");
 
-static PLAN: [Taken; 12] = [
-    FORMAT, KIND, ROOT, NUMBERING, THREADS, TOPOLOGY, ORDER, JSON, OUTPUT, QUIET, EXPLAIN, SILENT,
+static PLAN: [Taken; 8] = [
+    FORMAT, KIND, ROOT, NUMBERING, THREADS, TOPOLOGY, ORDER, JSON,
 ];
 
-static WALK: [Taken; 13] = [
-    FORMAT, KIND, ROOT, NUMBERING, THREADS, TOPOLOGY, FROM, TO, JSON, OUTPUT, QUIET, EXPLAIN,
-    SILENT,
+static WALK: [Taken; 9] = [
+    FORMAT, KIND, ROOT, NUMBERING, THREADS, TOPOLOGY, FROM, TO, JSON,
 ];
 
-static STATS: [Taken; 12] = [
-    FORMAT, KIND, ROOT, NUMBERING, THREADS, TOPOLOGY, WITH, JSON, OUTPUT, QUIET, EXPLAIN, SILENT,
+static STATS: [Taken; 8] = [FORMAT, KIND, ROOT, NUMBERING, THREADS, TOPOLOGY, WITH, JSON];
+
+static COMPARE: [Taken; 5] = [FORMAT, ROOTS, THREADS, TOPOLOGY, JSON];
+
+static DRAW: [Taken; 10] = [
+    FORMAT, KIND, ROOT, NUMBERING, THREADS, TOPOLOGY, DRAWN_FROM, DRAWN_TO, NODE, SVG,
 ];
 
-static COMPARE: [Taken; 9] = [
-    FORMAT, ROOTS, THREADS, TOPOLOGY, JSON, OUTPUT, QUIET, EXPLAIN, SILENT,
+static PREFIXES: [Taken; 8] = [
+    FORMAT, KIND, ROOT, NUMBERING, THREADS, TOPOLOGY, DISJOINT, JSON,
 ];
 
-static DRAW: [Taken; 14] = [
-    FORMAT, KIND, ROOT, NUMBERING, THREADS, TOPOLOGY, DRAWN_FROM, DRAWN_TO, NODE, SVG, OUTPUT,
-    QUIET, EXPLAIN, SILENT,
+static RANGES: [Taken; 7] = [FORMAT, KIND, ROOT, NUMBERING, THREADS, TOPOLOGY, JSON];
+
+static RUN: [Taken; 10] = [
+    FORMAT, KIND, ROOT, RUN_ORDER, CAPACITY, PACKETS, RESTAMPS, TWO_TEXTS, SCRIPT, JSON,
 ];
 
-static PREFIXES: [Taken; 12] = [
-    FORMAT, KIND, ROOT, NUMBERING, THREADS, TOPOLOGY, DISJOINT, JSON, OUTPUT, QUIET, EXPLAIN,
-    SILENT,
-];
-
-static RANGES: [Taken; 11] = [
-    FORMAT, KIND, ROOT, NUMBERING, THREADS, TOPOLOGY, JSON, OUTPUT, QUIET, EXPLAIN, SILENT,
-];
-
-static RUN: [Taken; 14] = [
-    FORMAT, KIND, ROOT, RUN_ORDER, CAPACITY, PACKETS, RESTAMPS, TWO_TEXTS, SCRIPT, JSON, OUTPUT,
-    QUIET, EXPLAIN, SILENT,
-];
-
-static CHECK: [Taken; 15] = [
+static CHECK: [Taken; 11] = [
     FORMAT, KIND, ROOT, RUN_ORDER, CAPACITY, PACKETS, ALL_TEXTS, SCRIPT, TRACE, WHOLE, JSON,
-    OUTPUT, QUIET, EXPLAIN, SILENT,
 ];
 
-/// The table of what a subcommand takes.
+static TELLING: [Taken; 4] = [OUTPUT, QUIET, EXPLAIN, SILENT];
+
+/// What every subcommand takes behind its own table.
+pub fn telling() -> &'static [Taken]
+    ensures { (choices : Choices) → rules_taken choices result.now ≡ telling }
+{
+    TELLING.as_slice()
+}
+
+/// The table of what a subcommand takes, before that by which each tells what it tells.
 pub fn taken_by(sub: Sub) -> &'static [Taken]
-    ensures { (choices : Choices) → rules_taken choices result.now ≡ rules_of choices sub }
+    ensures { (choices : Choices) → rules_taken choices result.now ++ telling ≡ rules_of choices sub }
 {
     match sub {
         Sub::Plan => PLAN.as_slice(),
