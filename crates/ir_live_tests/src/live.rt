@@ -1,5 +1,5 @@
 //! Live runs: over the path a, b, c, and of nodes that wait for one another.
-use crate::by_hand::{Became, network, opened, path, tells_all};
+use crate::by_hand::{Became, network, over_edges, path, tells_all};
 use ir_control::{Command, Injector, Live, LiveError, Net, Starter, run_live};
 use ir_core::{Fate, Kind, Refused};
 use ir_worker::{Gate, Node};
@@ -215,12 +215,6 @@ static MEETINGS: [(&'static [(&'static str, &'static str)], u32); 2] = [
     (&[("a", "b"), ("b", "c"), ("c", "d"), ("d", "a")], 4),
 ];
 
-// A net along the tree of a network.
-fn over_edges(rt: &(impl Threads + Sync), alloc: Global, edges: &[(&str, &str)]) -> Option<Net> {
-    let topology = network(alloc, edges)?;
-    opened(rt, alloc, topology, (Kind::Tree, 0), (16, 64, 0)).ok()
-}
-
 // Whether all nodes of a net meet, and a packet is delivered over the first link.
 fn meet_over<R: Threads + Wait + Sync>(rt: &R, net: &Net, nodes: u32) -> bool {
     let gate = Meeting {
@@ -232,14 +226,14 @@ fn meet_over<R: Threads + Wait + Sync>(rt: &R, net: &Net, nodes: u32) -> bool {
     is_over && gate.met.load(Ordering::SeqCst) == nodes
 }
 
-// Whether they do in a net over these edges.
+// Whether they do in a net along the tree over these edges.
 fn meet<R: Threads + Wait + Sync>(
     rt: &R,
     alloc: Global,
     edges: &[(&str, &str)],
     nodes: u32,
 ) -> Option<bool> {
-    match over_edges(rt, alloc, edges) {
+    match over_edges(rt, alloc, edges, (Kind::Tree, 0), (16, 64, 0)) {
         Some(net) => Some(meet_over(rt, &net, nodes)),
         None => None,
     }

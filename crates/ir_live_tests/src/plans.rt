@@ -4,7 +4,7 @@
 ghost use Rattle.std.specs.Prelude.{◌≢◌, ◌<◌};
 ghost use Rattle.ir_model.specs.{Topology.node_count, declared.Kind.TheVariants.Tree};
 
-use crate::by_hand::link;
+use crate::by_hand::{link, network_of};
 use crate::epochs::path;
 use ir_graph::Graph;
 use ir_model::Kind;
@@ -35,11 +35,8 @@ fn link_chain(graph: &mut Graph, alloc: Global, nodes: u16) -> bool {
 /// So many nodes that are linked so.
 fn chain(alloc: Global, nodes: u16) -> Option<Topology> {
     let mut graph = Graph::new(alloc);
-    if link_chain(&mut graph, alloc, nodes) {
-        Topology::of(alloc, &graph).ok()
-    } else {
-        None
-    }
+    let is_whole = link_chain(&mut graph, alloc, nodes);
+    network_of(alloc, &graph, is_whole)
 }
 
 /// The plan of shortest ways that is labelled from a root, depth first or by a tour.
@@ -229,13 +226,15 @@ static COLUMNS: [[u16; 3]; 3] = [[65_535, 0, 0], [0, 65_535, 0], [0, 1, 65_535]]
 
 // Whether lists are these.
 fn are_lists(lists: &[Vec<u16>], wanted: &[[u16; 3]]) -> bool {
-    for (k, numbers) in wanted.iter().enumerate() {
-        match lists.get(k) {
-            Some(list) if list.as_slice() == numbers.as_slice() => {}
-            _ => return false,
+    if lists.len() != wanted.len() {
+        return false;
+    }
+    for k in 0..lists.len() {
+        if lists[k].as_slice() != wanted[k].as_slice() {
+            return false;
         }
     }
-    lists.len() == wanted.len()
+    true
 }
 
 // The plan of the path in depth-first numbers from a.
