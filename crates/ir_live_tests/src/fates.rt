@@ -108,19 +108,19 @@ static FIRST_DROPPED: [Became<'static>; 3] = [
 ];
 
 // Whether one of two packets is dropped.
-fn is_one_dropped<R: Threads + Wait + Sync>(rt: &R, alloc: Global) -> Option<bool> {
+fn is_one_dropped<R: Threads + Wait + Sync>(rt: &R, alloc: Global) -> bool {
     match run_held(rt, alloc, (1, 0), 2, &MEETING) {
         Some(live) => {
             let report = &live.report;
-            Some(tells_all(report, &SECOND_DROPPED) || tells_all(report, &FIRST_DROPPED))
+            tells_all(report, &SECOND_DROPPED) || tells_all(report, &FIRST_DROPPED)
         }
-        None => None,
+        None => false,
     }
 }
 
 #[test]
 fn full_with_a_drain_behind_each(rt: HostRuntime) {
-    assert!(rt; is_one_dropped(&rt, rt.alloc()) == Some(true));
+    assert!(rt; is_one_dropped(&rt, rt.alloc()));
 }
 
 /// A packet that waits at a until its epoch is retired and the next packet has arrived; and a third behind a drain.
@@ -183,17 +183,17 @@ fn waits<R: Threads + Wait + Sync>(
     alloc: Global,
     restamps: u8,
     packets: &[Became<'_>],
-) -> Option<bool> {
+) -> bool {
     match run_held(rt, alloc, (16, restamps), 0, &WAITING) {
-        Some(live) => Some(tells_all(&live.report, packets)),
-        None => None,
+        Some(live) => tells_all(&live.report, packets),
+        None => false,
     }
 }
 
 #[test]
 fn retired_or_restamped_where_it_waits(rt: HostRuntime) -> Result<(), Fail> {
     for (restamps, packets) in &RETIRED {
-        if waits(&rt, rt.alloc(), *restamps, packets) != Some(true) {
+        if !waits(&rt, rt.alloc(), *restamps, packets) {
             return Err("other packets".into());
         }
     }

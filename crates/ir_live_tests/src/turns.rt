@@ -306,10 +306,11 @@ fn reports_then<R: Wait, B: Wait + Drop>(
 // Whether a net gives its parts once, and a report wants all three nodes.
 fn wants_all<R: Threads + Wait + Sync>(rt: &R, alloc: Global) -> Option<bool> {
     let mut hands = parts_of_path(rt, alloc, 16, 0)?;
-    let once = hands.handed_out(rt) == (3, true) && hands.inject(rt, 0, 2) == Ok(0);
+    let once = hands.handed_out(rt) == (3, true);
+    let is_sent = hands.inject(rt, 0, 2) == Ok(0);
     let node = hands.take_away(1)?;
     let is_wanted = reports_then(rt, hands, node, &[LEFT]);
-    Some(once && is_wanted)
+    Some(once && is_sent && is_wanted)
 }
 
 #[test]
