@@ -5,7 +5,7 @@ ghost use Rattle.ir_worker.specs.Same.{IsSameNode};
 ghost use Rattle.ir_live_tests.specs.ByHand.{ArePartsOf, IsAway};
 
 use ir_control::{FinishError, Net, Parts, Report, finish};
-use ir_core::{Fate, OpenError, Opening, Refused, Restamp};
+use ir_core::{Fate, Opening, Refused, Restamp};
 use ir_epochs::Receipt;
 use ir_graph::Graph;
 use ir_model::Kind;
@@ -44,14 +44,20 @@ fn add_edges(graph: &mut Graph, edges: &[(&str, &str)]) -> bool {
     true
 }
 
-/// The network of a list of edges of weight 1.
-pub(crate) fn network(alloc: Global, edges: &[(&str, &str)]) -> Option<Topology> {
-    let mut graph = Graph::new(alloc);
-    if add_edges(&mut graph, edges) {
-        Topology::of(alloc, &graph).ok()
+/// The network of a graph, where all its edges could be added.
+pub(crate) fn network_of(alloc: Global, graph: &Graph, is_whole: bool) -> Option<Topology> {
+    if is_whole {
+        Topology::of(alloc, graph).ok()
     } else {
         None
     }
+}
+
+/// The network of a list of edges of weight 1.
+pub(crate) fn network(alloc: Global, edges: &[(&str, &str)]) -> Option<Topology> {
+    let mut graph = Graph::new(alloc);
+    let is_whole = add_edges(&mut graph, edges);
+    network_of(alloc, &graph, is_whole)
 }
 
 /// A net over a topology in depth-first numbers: a kind and a root, and a capacity, a number of packets and one of
@@ -62,11 +68,22 @@ pub(crate) fn opened(
     topology: Topology,
     tree: (Kind, u16),
     limits: (usize, usize, u8),
-) -> Result<Net, OpenError> {
+) -> Option<Net> {
     let (kind, root) = tree;
     let (capacity, max_packets, restamps) = limits;
     let opening = Opening::of(topology, kind, root, capacity, max_packets, restamps);
-    Net::open(rt, alloc, opening)
+    Net::open(rt, alloc, opening).ok()
+}
+
+/// Such a net over the network of a list of edges of weight 1.
+pub(crate) fn over_edges(
+    rt: &(impl Threads + Sync),
+    alloc: Global,
+    edges: &[(&str, &str)],
+    tree: (Kind, u16),
+    limits: (usize, usize, u8),
+) -> Option<Net> {
+    opened(rt, alloc, network(alloc, edges)?, tree, limits)
 }
 
 /// A net over the path a, b, c, whose links are a-b and b-c: nodes 0, 1 and 2, links 0 and 1. Its plan is of the tree
@@ -77,9 +94,14 @@ pub(crate) fn path(
     capacity: usize,
     restamps: u8,
 ) -> Option<Net> {
-    let topology = network(alloc, &[("a", "b"), ("b", "c")])?;
     let limits = (capacity, 4_096, restamps);
-    opened(rt, alloc, topology, (Kind::Tree, 1), limits).ok()
+    over_edges(
+        rt,
+        alloc,
+        &[("a", "b"), ("b", "c")],
+        (Kind::Tree, 1),
+        limits,
+    )
 }
 
 /// The parts of such a net.
@@ -154,10 +176,11 @@ impl<R: Wait + Drop> ByHand<R> {
 
     /// How many nodes are there, and whether the net gives its parts once more.
     pub(crate) fn handed_out<B: Wait + Drop>(&self, rt: B) -> (usize, bool) {
-        (
-            self.parts.nodes.len(),
-            matches!(self.net.parts(rt), Ok(None)),
-        )
+        let is_spent = match self.net.parts(rt) {
+            Ok(again) => again.is_none(),
+            Err(_) => false,
+        };
+        (self.parts.nodes.len(), is_spent)
     }
 
     /// One turn of the node at this place.

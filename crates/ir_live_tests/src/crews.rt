@@ -40,11 +40,10 @@ fn is_run(played: &Played) -> bool {
 }
 
 /// Whether the run of the steps is so.
-fn is_played(crew: &impl Crew, alloc: Global) -> Option<bool> {
-    let opening = opening(alloc)?;
+fn is_played(crew: &impl Crew, alloc: Global, opening: Opening) -> bool {
     match play_by(crew, alloc, opening, &STEPS) {
-        Ok(played) => Some(is_run(&played)),
-        Err(_) => None,
+        Ok(played) => is_run(&played),
+        Err(_) => false,
     }
 }
 
@@ -57,11 +56,10 @@ fn are_two(built: &[Install]) -> bool {
 }
 
 /// Whether two such epochs are built.
-fn is_built(crew: &impl Crew, alloc: Global) -> Option<bool> {
-    let opening = opening(alloc)?;
-    match installs_by(crew, alloc, &opening, &STEPS) {
-        Ok(built) => Some(are_two(built.as_slice())),
-        Err(_) => None,
+fn is_built(crew: &impl Crew, alloc: Global, opening: &Opening) -> bool {
+    match installs_by(crew, alloc, opening, &STEPS) {
+        Ok(built) => are_two(built.as_slice()),
+        Err(_) => false,
     }
 }
 
@@ -80,27 +78,27 @@ fn is_kept(crew: &impl Crew, world: &mut World) -> bool {
 }
 
 /// Whether both are so in the world of the opening.
-fn is_applied(crew: &impl Crew, alloc: Global) -> Option<bool> {
-    let opening = opening(alloc)?;
+fn is_applied(crew: &impl Crew, alloc: Global, opening: Opening) -> bool {
     match World::open_by(crew, alloc, opening) {
-        Ok(mut world) => Some(is_kept(crew, &mut world)),
-        Err(_) => None,
+        Ok(mut world) => is_kept(crew, &mut world),
+        Err(_) => false,
     }
 }
 
 /// Whether all three are so by a crew.
-fn are_so(crew: &impl Crew, alloc: Global) -> bool {
-    is_played(crew, alloc) == Some(true)
-        && is_built(crew, alloc) == Some(true)
-        && is_applied(crew, alloc) == Some(true)
+fn are_so(crew: &impl Crew, alloc: Global) -> Option<bool> {
+    let is_played = is_played(crew, alloc, opening(alloc)?);
+    let is_built = is_built(crew, alloc, &opening(alloc)?);
+    let is_applied = is_applied(crew, alloc, opening(alloc)?);
+    Some(is_played && is_built && is_applied)
 }
 
 #[test]
 fn runs_by_several_threads(rt: HostRuntime) {
-    assert!(rt; are_so(&Several { rt: &rt }, rt.alloc()));
+    assert!(rt; are_so(&Several { rt: &rt }, rt.alloc()) == Some(true));
 }
 
 #[test]
 fn runs_by_the_thread_that_calls(rt: HostRuntime) {
-    assert!(rt; are_so(&Alone, rt.alloc()));
+    assert!(rt; are_so(&Alone, rt.alloc()) == Some(true));
 }

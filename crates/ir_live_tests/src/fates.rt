@@ -1,7 +1,7 @@
 //! Live runs by what becomes of their packets where a gate holds a node back: full, retired, restamped and delivered,
 //! with a drain behind each; and as many packets as there may be, to their ends.
 
-use crate::by_hand::{Became, network, opened, path, tells_all};
+use crate::by_hand::{Became, over_edges, path, tells_all};
 use crate::live;
 use ir_control::{Command, Live, Net};
 use ir_core::{Fate, Kind, Record, Restamp};
@@ -108,19 +108,19 @@ static FIRST_DROPPED: [Became<'static>; 3] = [
 ];
 
 // Whether one of two packets is dropped.
-fn is_one_dropped<R: Threads + Wait + Sync>(rt: &R, alloc: Global) -> Option<bool> {
+fn is_one_dropped<R: Threads + Wait + Sync>(rt: &R, alloc: Global) -> bool {
     match run_held(rt, alloc, (1, 0), 2, &MEETING) {
         Some(live) => {
             let report = &live.report;
-            Some(tells_all(report, &SECOND_DROPPED) || tells_all(report, &FIRST_DROPPED))
+            tells_all(report, &SECOND_DROPPED) || tells_all(report, &FIRST_DROPPED)
         }
-        None => None,
+        None => false,
     }
 }
 
 #[test]
 fn full_with_a_drain_behind_each(rt: HostRuntime) {
-    assert!(rt; is_one_dropped(&rt, rt.alloc()) == Some(true));
+    assert!(rt; is_one_dropped(&rt, rt.alloc()));
 }
 
 /// A packet that waits at a until its epoch is retired and the next packet has arrived; and a third behind a drain.
@@ -183,17 +183,17 @@ fn waits<R: Threads + Wait + Sync>(
     alloc: Global,
     restamps: u8,
     packets: &[Became<'_>],
-) -> Option<bool> {
+) -> bool {
     match run_held(rt, alloc, (16, restamps), 0, &WAITING) {
-        Some(live) => Some(tells_all(&live.report, packets)),
-        None => None,
+        Some(live) => tells_all(&live.report, packets),
+        None => false,
     }
 }
 
 #[test]
 fn retired_or_restamped_where_it_waits(rt: HostRuntime) -> Result<(), Fail> {
     for (restamps, packets) in &RETIRED {
-        if waits(&rt, rt.alloc(), *restamps, packets) != Some(true) {
+        if !waits(&rt, rt.alloc(), *restamps, packets) {
             return Err("other packets".into());
         }
     }
@@ -225,12 +225,6 @@ static STAR: [(&'static str, &'static str); 4] = [
     ("hub", "d"),
 ];
 
-// A net of the shortest ways over it, of the greatest capacity.
-fn over_star(rt: &(impl Threads + Sync), alloc: Global) -> Option<Net> {
-    let star = network(alloc, &STAR)?;
-    opened(rt, alloc, star, (Kind::Shortest, 0), (1_024, 4_096, 0)).ok()
-}
-
 // 1,024 packets from each of the four nodes to the one in their middle, and a drain.
 fn inwards(alloc: Global) -> Option<Vec<Command>> {
     let mut commands = Vec::new(alloc);
@@ -243,15 +237,17 @@ fn inwards(alloc: Global) -> Option<Vec<Command>> {
 
 // Whether all of them were delivered over one link.
 fn all_inwards(records: &[Record]) -> bool {
+    if records.len() != 4_096 {
+        return false;
+    }
     for id in 0..4_096u16 {
+        let record = &records[usize::from(id)];
         let hops = [id / 1_024 + 1, 0];
-        match records.get(usize::from(id)) {
-            Some(record)
-                if record.fate == Fate::Delivered && record.hops.as_slice() == hops.as_slice() => {}
-            _ => return false,
+        if record.fate != Fate::Delivered || record.hops.as_slice() != hops.as_slice() {
+            return false;
         }
     }
-    records.len() == 4_096
+    true
 }
 
 // Whether all are delivered over a net.
@@ -267,15 +263,15 @@ fn settles_over<R: Threads + Wait + Sync, C: Clock + Sync>(
     }
 }
 
-// Whether all are delivered where the inboxes have room for all packets together: by the time that the node in the
-// middle makes its first turn they wait for it, and it settles them all.
+// Whether all are delivered over the shortest ways where the inboxes have room for all packets together: by the time
+// that the node in the middle makes its first turn they wait for it, and it settles them all.
 fn settles_all<R: Threads + Wait + Sync, C: Clock + Sync>(
     rt: &R,
     clock: &C,
     alloc: Global,
 ) -> Option<bool> {
     let commands = inwards(alloc)?;
-    match over_star(rt, alloc) {
+    match over_edges(rt, alloc, &STAR, (Kind::Shortest, 0), (1_024, 4_096, 0)) {
         Some(net) => Some(settles_over(rt, clock, &net, commands.as_slice())),
         None => None,
     }

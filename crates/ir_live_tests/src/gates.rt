@@ -1,6 +1,6 @@
 //! Live runs whose nodes a gate stops early.
 
-use crate::by_hand::{link, opened, parts_of_path};
+use crate::by_hand::{link, network_of, opened, parts_of_path};
 use crate::live;
 use ir_control::{Command, Live, Net};
 use ir_core::{Fate, Kind, Record};
@@ -38,17 +38,14 @@ fn link_ring(graph: &mut Graph, alloc: Global) -> bool {
 // The ring.
 fn ring(alloc: Global) -> Option<Topology> {
     let mut graph = Graph::new(alloc);
-    if link_ring(&mut graph, alloc) {
-        Topology::of(alloc, &graph).ok()
-    } else {
-        None
-    }
+    let is_whole = link_ring(&mut graph, alloc);
+    network_of(alloc, &graph, is_whole)
 }
 
 // A net of the shortest ways over it, of the greatest capacity.
 fn over_ring(rt: &(impl Threads + Sync), alloc: Global) -> Option<Net> {
     let ring = ring(alloc)?;
-    opened(rt, alloc, ring, (Kind::Shortest, 0), (1_024, 4_096, 0)).ok()
+    opened(rt, alloc, ring, (Kind::Shortest, 0), (1_024, 4_096, 0))
 }
 
 // 64 packets from each of 64 nodes of a ring, each to the 31st node behind its source, and a drain.
@@ -97,13 +94,15 @@ fn is_sound(record: &Record, id: u16) -> bool {
 
 // Whether there is a sound record for each of the packets, in order, and none else.
 fn all_sound(records: &[Record]) -> bool {
+    if records.len() != 4_096 {
+        return false;
+    }
     for id in 0..4_096u16 {
-        match records.get(usize::from(id)) {
-            Some(record) if is_sound(record, id) => {}
-            _ => return false,
+        if !is_sound(&records[usize::from(id)], id) {
+            return false;
         }
     }
-    records.len() == 4_096
+    true
 }
 
 // How many packets were delivered.

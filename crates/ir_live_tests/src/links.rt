@@ -143,9 +143,9 @@ fn take_ids<R: Wait>(rt: &R, mut taker: Taker<Letter>, count: u32) -> (Taker<Let
         if next >= count {
             break;
         }
-        match taker.take(rt) {
-            Some(letter) => {
-                in_order = in_order && letter.id() == next;
+        match id_of(taker.take(rt)) {
+            Some(id) => {
+                in_order = in_order && id == next;
                 next += 1;
             }
             None => thread::yield_now(),

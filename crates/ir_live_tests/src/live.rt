@@ -1,5 +1,5 @@
 //! Live runs: over the path a, b, c, and of nodes that wait for one another.
-use crate::by_hand::{Became, network, opened, path, tells_all};
+use crate::by_hand::{Became, network, over_edges, path, tells_all};
 use ir_control::{Command, Injector, Live, LiveError, Net, Starter, run_live};
 use ir_core::{Fate, Kind, Refused};
 use ir_worker::{Gate, Node};
@@ -145,16 +145,16 @@ fn are_run<R: Threads + Wait + Sync>(rt: &R, net: &Net) -> bool {
 }
 
 // Whether they are run so, and the net is then spent.
-fn runs_once<R: Threads + Wait + Sync>(rt: &R, alloc: Global) -> Option<bool> {
+fn runs_once<R: Threads + Wait + Sync>(rt: &R, alloc: Global) -> bool {
     match path(rt, alloc, 16, 0) {
-        Some(net) => Some(are_run(rt, &net) && error(rt, &net, rt) == Some(LiveError::Spent)),
-        None => None,
+        Some(net) => are_run(rt, &net) && error(rt, &net, rt) == Some(LiveError::Spent),
+        None => false,
     }
 }
 
 #[test]
 fn refusals_with_their_places_and_then_spent(rt: HostRuntime) {
-    assert!(rt; runs_once(&rt, rt.alloc()) == Some(true));
+    assert!(rt; runs_once(&rt, rt.alloc()));
 }
 
 // Whether that becomes of the packets of a live run.
@@ -172,17 +172,17 @@ fn ends<R: Threads + Wait + Sync, G: Gate>(
 }
 
 // Whether a packet is left where no node may pass.
-fn is_left<R: Threads + Wait + Sync>(rt: &R, alloc: Global) -> Option<bool> {
+fn is_left<R: Threads + Wait + Sync>(rt: &R, alloc: Global) -> bool {
     let commands = [Command::Inject(0, 2), Command::Drain];
     match path(rt, alloc, 16, 0) {
-        Some(net) => Some(ends(rt, &net, &commands, &Shut, &[LEFT])),
-        None => None,
+        Some(net) => ends(rt, &net, &commands, &Shut, &[LEFT]),
+        None => false,
     }
 }
 
 #[test]
 fn left_at_the_source_where_no_node_may_pass(rt: HostRuntime) {
-    assert!(rt; is_left(&rt, rt.alloc()) == Some(true));
+    assert!(rt; is_left(&rt, rt.alloc()));
 }
 
 // Why a run is refused whose second thread is not started, and why the next one over its net.
@@ -215,12 +215,6 @@ static MEETINGS: [(&'static [(&'static str, &'static str)], u32); 2] = [
     (&[("a", "b"), ("b", "c"), ("c", "d"), ("d", "a")], 4),
 ];
 
-// A net along the tree of a network.
-fn over_edges(rt: &(impl Threads + Sync), alloc: Global, edges: &[(&str, &str)]) -> Option<Net> {
-    let topology = network(alloc, edges)?;
-    opened(rt, alloc, topology, (Kind::Tree, 0), (16, 64, 0)).ok()
-}
-
 // Whether all nodes of a net meet, and a packet is delivered over the first link.
 fn meet_over<R: Threads + Wait + Sync>(rt: &R, net: &Net, nodes: u32) -> bool {
     let gate = Meeting {
@@ -232,23 +226,23 @@ fn meet_over<R: Threads + Wait + Sync>(rt: &R, net: &Net, nodes: u32) -> bool {
     is_over && gate.met.load(Ordering::SeqCst) == nodes
 }
 
-// Whether they do in a net over these edges.
+// Whether they do in a net along the tree over these edges.
 fn meet<R: Threads + Wait + Sync>(
     rt: &R,
     alloc: Global,
     edges: &[(&str, &str)],
     nodes: u32,
-) -> Option<bool> {
-    match over_edges(rt, alloc, edges) {
-        Some(net) => Some(meet_over(rt, &net, nodes)),
-        None => None,
+) -> bool {
+    match over_edges(rt, alloc, edges, (Kind::Tree, 0), (16, 64, 0)) {
+        Some(net) => meet_over(rt, &net, nodes),
+        None => false,
     }
 }
 
 #[test]
 fn nodes_meet(rt: HostRuntime) -> Result<(), Fail> {
     for (edges, nodes) in &MEETINGS {
-        if meet(&rt, rt.alloc(), edges, *nodes) != Some(true) {
+        if !meet(&rt, rt.alloc(), edges, *nodes) {
             return Err("not all nodes met".into());
         }
     }

@@ -4,7 +4,7 @@
 ghost use Rattle.std.specs.Prelude.{◌≢◌, ◌<◌};
 ghost use Rattle.ir_model.specs.{Topology.node_count, declared.Kind.TheVariants.Tree};
 
-use crate::by_hand::link;
+use crate::by_hand::{link, network_of};
 use crate::epochs::path;
 use ir_graph::Graph;
 use ir_model::Kind;
@@ -35,11 +35,8 @@ fn link_chain(graph: &mut Graph, alloc: Global, nodes: u16) -> bool {
 /// So many nodes that are linked so.
 fn chain(alloc: Global, nodes: u16) -> Option<Topology> {
     let mut graph = Graph::new(alloc);
-    if link_chain(&mut graph, alloc, nodes) {
-        Topology::of(alloc, &graph).ok()
-    } else {
-        None
-    }
+    let is_whole = link_chain(&mut graph, alloc, nodes);
+    network_of(alloc, &graph, is_whole)
 }
 
 /// The plan of shortest ways that is labelled from a root, depth first or by a tour.
@@ -75,11 +72,14 @@ fn starts(
 fn tours_of_chains_have_fewer_starts(rt: HostRuntime) {
     let alloc = rt.alloc();
     let crew = Several { rt: &rt };
-    assert!(rt; starts(&Alone, alloc, 20, LabelOrder::DepthFirst, Some(1)) == Some(118));
-    assert!(rt; starts(&Alone, alloc, 20, LabelOrder::Tour, None) == Some(82));
-    assert!(rt; starts(&crew, alloc, 20, LabelOrder::Tour, Some(1)) == Some(82));
-    assert!(rt; starts(&crew, alloc, 60, LabelOrder::DepthFirst, Some(2)) == Some(354));
-    assert!(rt; starts(&crew, alloc, 60, LabelOrder::Tour, Some(2)) == Some(238));
+    let found = [
+        starts(&Alone, alloc, 20, LabelOrder::DepthFirst, Some(1)),
+        starts(&Alone, alloc, 20, LabelOrder::Tour, None),
+        starts(&crew, alloc, 20, LabelOrder::Tour, Some(1)),
+        starts(&crew, alloc, 60, LabelOrder::DepthFirst, Some(2)),
+        starts(&crew, alloc, 60, LabelOrder::Tour, Some(2)),
+    ];
+    assert!(rt; found == [Some(118), Some(82), Some(82), Some(354), Some(238)]);
 }
 
 /// Whether a plan is refused where the root is no node, and the topology comes back.
@@ -87,8 +87,8 @@ fn comes_back(crew: &impl Crew, alloc: Global, order: LabelOrder) -> Option<bool
     let topology = chain(alloc, 20)?;
     let nodes = topology.nodes();
     match labelled(crew, alloc, topology, order, nodes as u16, None) {
-        Err((PlanError::NoNode, back)) => Some(back.nodes() == nodes),
-        _ => None,
+        Err((why, back)) => Some(why == PlanError::NoNode && back.nodes() == nodes),
+        Ok(_) => None,
     }
 }
 
@@ -229,13 +229,15 @@ static COLUMNS: [[u16; 3]; 3] = [[65_535, 0, 0], [0, 65_535, 0], [0, 1, 65_535]]
 
 // Whether lists are these.
 fn are_lists(lists: &[Vec<u16>], wanted: &[[u16; 3]]) -> bool {
-    for (k, numbers) in wanted.iter().enumerate() {
-        match lists.get(k) {
-            Some(list) if list.as_slice() == numbers.as_slice() => {}
-            _ => return false,
+    if lists.len() != wanted.len() {
+        return false;
+    }
+    for k in 0..lists.len() {
+        if lists[k].as_slice() != wanted[k].as_slice() {
+            return false;
         }
     }
-    lists.len() == wanted.len()
+    true
 }
 
 // The plan of the path in depth-first numbers from a.
@@ -245,18 +247,25 @@ fn plan_of_path(rt: &(impl Threads + Sync), alloc: Global) -> Option<Plan> {
     labelled(&crew, alloc, path, LabelOrder::DepthFirst, 0, None).ok()
 }
 
-// Whether the ports of a plan of the path are these.
-fn are_columns(rt: &(impl Threads + Sync), alloc: Global) -> Option<bool> {
-    let plan = plan_of_path(rt, alloc)?;
-    match columns_in_threads(rt, alloc, &plan, Some(2)) {
-        Ok(columns) => Some(are_lists(columns.as_slice(), &COLUMNS)),
-        Err(_) => None,
+// Whether the ports of a plan are these.
+fn are_columns(rt: &(impl Threads + Sync), alloc: Global, plan: &Plan) -> bool {
+    match columns_in_threads(rt, alloc, plan, Some(2)) {
+        Ok(columns) => are_lists(columns.as_slice(), &COLUMNS),
+        Err(_) => false,
+    }
+}
+
+// Whether those of the plan of the path are.
+fn are_columns_of_path(rt: &(impl Threads + Sync), alloc: Global) -> bool {
+    match plan_of_path(rt, alloc) {
+        Some(plan) => are_columns(rt, alloc, &plan),
+        None => false,
     }
 }
 
 #[test]
 fn ports_to_each_node(rt: HostRuntime) {
-    assert!(rt; are_columns(&rt, rt.alloc()) == Some(true));
+    assert!(rt; are_columns_of_path(&rt, rt.alloc()));
 }
 
 /// At how many of a, b and c the ports to each two of them differ.

@@ -1,7 +1,7 @@
 //! Moves by hand over the path a, b, c: packets that are delivered, retired, restamped and dropped, and what is
 //! refused.
-ghost use Rattle.std.specs.Prelude.{◌≡◌, IfSome};
-ghost use Rattle.ir_epochs.specs.Handles.{receipt_board, reader_board, writer_board};
+ghost use Rattle.std.specs.Prelude.{◌≡◌};
+ghost use Rattle.ir_epochs.specs.Handles.{receipt_board, reader_board};
 ghost use Rattle.ir_worker.specs.Same.{IsSameNode};
 ghost use Rattle.ir_live_tests.specs.ByHand.{IsAway};
 
@@ -32,6 +32,8 @@ enum Move {
     Retire(u32, Option<Refused>),
     /// Epoch 2 is installed and epoch 1 retired, of which this node learns.
     Renew(usize),
+    /// The same, of which node b learns on another thread, where it turns twice; and what these turns do.
+    RenewAway(Option<Turn>, Option<Turn>),
 }
 
 /// Moves over the path, with this capacity and so many restamps, and what becomes of all packets.
@@ -251,6 +253,7 @@ fn moved<R: Threads + Wait + Sync>(rt: &R, hands: &mut ByHand<&R>, step: Move) -
         }
         Move::Retire(floor, why) => hands.retire(floor).err() == why,
         Move::Renew(at) => renewed(rt, hands, at),
+        Move::RenewAway(first, second) => turned_away(rt, hands) == Some((first, second)),
     }
 }
 
@@ -281,21 +284,7 @@ fn moves_by_hand(rt: HostRuntime) -> Result<(), Fail> {
     Ok(())
 }
 
-// Whether a node is brought back, and that became of all packets.
-fn reports_with<R: Wait, B: Wait + Drop>(
-    rt: &R,
-    mut hands: ByHand<B>,
-    node: Node,
-    packets: &[Became<'_>],
-) -> bool
-    requires { IsAway hands.net hands.parts node }
-{
-    let is_back = hands.bring_back(node).is_some();
-    let is_told = hands.reports(rt, packets);
-    is_back && is_told
-}
-
-// Whether there is no report without node 1, and one with it.
+// Whether there is no report without node 1, and that became of all packets once it is brought back.
 fn reports_then<R: Wait, B: Wait + Drop>(
     rt: &R,
     hands: ByHand<B>,
@@ -306,43 +295,27 @@ fn reports_then<R: Wait, B: Wait + Drop>(
 {
     match hands.finish(rt) {
         Ok(_) => false,
-        Err((error, hands)) => {
-            let is_told = reports_with(rt, hands, node, packets);
-            is_told && error == FinishError::Missing(1)
+        Err((error, mut hands)) => {
+            let is_back = hands.bring_back(node).is_some();
+            let is_told = hands.reports(rt, packets);
+            is_back && is_told && error == FinishError::Missing(1)
         }
-    }
-}
-
-// Whether that is so once it was taken away.
-fn wants_it<R: Wait, B: Wait + Drop>(rt: &R, mut hands: ByHand<B>, packets: &[Became<'_>]) -> bool {
-    match hands.take_away(1) {
-        Some(node) => reports_then(rt, hands, node, packets),
-        None => false,
     }
 }
 
 // Whether a net gives its parts once, and a report wants all three nodes.
 fn wants_all<R: Threads + Wait + Sync>(rt: &R, alloc: Global) -> Option<bool> {
     let mut hands = parts_of_path(rt, alloc, 16, 0)?;
-    let once = hands.handed_out(rt) == (3, true) && hands.inject(rt, 0, 2) == Ok(0);
-    let is_wanted = wants_it(rt, hands, &[LEFT]);
-    Some(once && is_wanted)
+    let once = hands.handed_out(rt) == (3, true);
+    let is_sent = hands.inject(rt, 0, 2) == Ok(0);
+    let node = hands.take_away(1)?;
+    let is_wanted = reports_then(rt, hands, node, &[LEFT]);
+    Some(once && is_sent && is_wanted)
 }
 
 #[test]
 fn a_report_wants_all_nodes(rt: HostRuntime) {
     assert!(rt; wants_all(&rt, rt.alloc()) == Some(true));
-}
-
-// A packet is sent from a to b before its epoch is retired: the receipt of that.
-fn sent_and_retired<R: Threads + Wait + Sync>(rt: &R, hands: &mut ByHand<&R>) -> Option<Receipt>
-    ensures { IfSome result (λ t. receipt_board t ≡ writer_board hands.new.parts.controller.writer) }
-{
-    let is_sent = hands.inject(rt, 0, 2) == Ok(0) && hands.turn(rt, 0) == Some(Turn::Sent(0, 1));
-    if !is_sent || !is_installed(rt, hands) {
-        return None;
-    }
-    hands.retire(2).ok()
 }
 
 // The node after it learnt a receipt and turned twice, and what it did.
@@ -376,29 +349,37 @@ fn turned_there<R: Threads + Wait + Sync>(
     thread::join(rt, there, || ()).0
 }
 
-// What node b does on another thread, where it learns that the epoch of a packet that is sent to it is retired, and
-// turns twice.
+// What node b does on another thread, where it learns that epoch 1 is retired, and turns twice.
 fn turned_away<R: Threads + Wait + Sync>(
     rt: &R,
     hands: &mut ByHand<&R>,
 ) -> Option<(Option<Turn>, Option<Turn>)> {
-    let receipt = sent_and_retired(rt, hands)?;
+    if !is_installed(rt, hands) {
+        return None;
+    }
+    let Ok(receipt) = hands.retire(2) else {
+        return None;
+    };
     let node = hands.take_away(1)?;
     let (node, turns) = turned_there(rt, node, receipt);
     hands.bring_back(node)?;
     Some(turns)
 }
 
-// Whether it drops the packet there.
-fn is_retired_there<R: Threads + Wait + Sync>(rt: &R, alloc: Global) -> Option<bool> {
-    let mut hands = parts_of_path(rt, alloc, 16, 0)?;
-    let turns = turned_away(rt, &mut hands);
-    let is_dropped = turns == Some((Some(Turn::Idle), Some(Turn::Settled(0))));
-    let is_told = hands.reports(rt, &[RETIRED]);
-    Some(is_dropped && is_told)
-}
+/// A packet is sent from a to b before its epoch is retired, and b drops it on another thread.
+static AWAY: Case = Case {
+    name: "retired on another thread",
+    capacity: 16,
+    restamps: 0,
+    moves: &[
+        Move::Inject(0, 2, Ok(0)),
+        Move::Turn(0, Turn::Sent(0, 1)),
+        Move::RenewAway(Some(Turn::Idle), Some(Turn::Settled(0))),
+    ],
+    packets: &[RETIRED],
+};
 
 #[test]
 fn receipt_goes_to_a_node_on_another_thread(rt: HostRuntime) {
-    assert!(rt; is_retired_there(&rt, rt.alloc()) == Some(true));
+    assert!(rt; is_so(&rt, rt.alloc(), &AWAY) == Some(true));
 }

@@ -50,16 +50,22 @@ fn given(channel: &Channel<Letter>) -> Result<Option<(Sender<Letter>, Taker<Lett
     }
 }
 
+/// The two ends of a channel of their own; none where there was no memory.
+fn ends_of_one(alloc: Global) -> Result<Option<(Sender<Letter>, Taker<Letter>)>, &'static str>
+    ensures { IfOk result (λ found. IfSome found (λ ends. ends.0.channel ≡ ends.1.channel)) }
+{
+    let channel = channel(alloc)?;
+    given(&channel)
+}
+
 /// The two ends of a channel; of another one, where there was no memory.
 fn ends(alloc: Global) -> Result<(Sender<Letter>, Taker<Letter>), &'static str>
     ensures { IfOk result (λ ends. ends.0.channel ≡ ends.1.channel) }
 {
-    let first = channel(alloc)?;
-    if let Some(ends) = given(&first)? {
+    if let Some(ends) = ends_of_one(alloc)? {
         return Ok(ends);
     }
-    let second = channel(alloc)?;
-    match given(&second)? {
+    match ends_of_one(alloc)? {
         Some(ends) => Ok(ends),
         None => Err("no other ends are given"),
     }

@@ -124,15 +124,33 @@ fn changed_and_read<R: Wait>(
     is_board(reader.read(), 2, true)
 }
 
-/// A plan of epoch 1, and a board whose changes are read.
-pub(crate) fn try_epochs<R: Wait>(rt: &R, alloc: Global) -> Result<(), &'static str> {
-    let registry = Registry::new(alloc);
-    let stamp = register(&registry, 1, plan(alloc, Kind::Shortest)?)?;
-    register_again(&registry, 1, plan(alloc, Kind::Tree)?)?;
-    let first = registry.plan(&stamp);
+/// With the stamp of the plan of epoch 1: the plan stays, and the changes of a board are read.
+fn try_stamp<R: Wait>(
+    rt: &R,
+    alloc: Global,
+    registry: &Registry,
+    stamp: &Stamp,
+) -> Result<(), &'static str>
+    requires of { IsOf registry.now stamp.now }
+    requires epoch { stamp.now.epoch ≡ 1 }
+{
+    register_again(registry, 1, plan(alloc, Kind::Tree)?)?;
+    let first = registry.plan(stamp);
     if first.kind() != Kind::Shortest || first.topology().links() != 2 {
         return Err("the plan is another one");
     }
-    let (mut writer, mut reader) = opened(rt, alloc, &stamp)?;
+    let (mut writer, mut reader) = opened(rt, alloc, stamp)?;
     changed_and_read(&mut writer, &mut reader)
+}
+
+/// The same with a registry, in which epoch 1 gets its plan.
+fn try_registry<R: Wait>(rt: &R, alloc: Global, registry: &Registry) -> Result<(), &'static str> {
+    let stamp = register(registry, 1, plan(alloc, Kind::Shortest)?)?;
+    try_stamp(rt, alloc, registry, &stamp)
+}
+
+/// A plan of epoch 1, and a board whose changes are read.
+pub(crate) fn try_epochs<R: Wait>(rt: &R, alloc: Global) -> Result<(), &'static str> {
+    let registry = Registry::new(alloc);
+    try_registry(rt, alloc, &registry)
 }

@@ -287,16 +287,26 @@ fn run_over<R: Threads + Wait + Sync>(
     }
 }
 
-/// A run over a net of its own; over another one, where there was no memory for the first one's parts.
+/// A run over a net of an opening; over another one, where there was no memory for the first one's parts.
+fn run_over_one<R: Threads + Wait + Sync>(
+    rt: &R,
+    alloc: Global,
+    opening: &Opening,
+    run: &Run,
+) -> Result<(), &'static str> {
+    if run_over(rt, alloc, opening, run)? || run_over(rt, alloc, opening, run)? {
+        Ok(())
+    } else {
+        Err("no other parts are given")
+    }
+}
+
+/// A run over a net of its own.
 pub(crate) fn try_net<R: Threads + Wait + Sync>(
     rt: &R,
     alloc: Global,
     run: &Run,
 ) -> Result<(), &'static str> {
     let opening = opening(alloc, run.capacity)?;
-    if run_over(rt, alloc, &opening, run)? || run_over(rt, alloc, &opening, run)? {
-        Ok(())
-    } else {
-        Err("no other parts are given")
-    }
+    run_over_one(rt, alloc, &opening, run)
 }

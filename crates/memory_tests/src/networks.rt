@@ -33,12 +33,19 @@ fn topology(alloc: Global, graph: &Graph) -> Result<Topology, &'static str> {
     }
 }
 
+/// Adds the two edges of the path.
+fn add_path(graph: &mut Graph) -> Result<(), &'static str> {
+    add_edge(graph, "a", "b")?;
+    add_edge(graph, "b", "c")
+}
+
 /// The network of the path.
 pub(crate) fn path(alloc: Global) -> Result<Topology, &'static str> {
     let mut graph = Graph::new(alloc);
-    add_edge(&mut graph, "a", "b")?;
-    add_edge(&mut graph, "b", "c")?;
-    topology(alloc, &graph)
+    match add_path(&mut graph) {
+        Ok(()) => topology(alloc, &graph),
+        Err(wrong) => Err(wrong),
+    }
 }
 
 /// What is opened over the path: along its tree from b, each channel of this capacity, with at most four packets and
