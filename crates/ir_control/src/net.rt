@@ -15,7 +15,7 @@ use ir_core::{
 use ir_epochs::{BoardError, BoardReader, BoardWriter, Registry, Stamp, board};
 use ir_links::{Channel, Sender, Taker};
 use ir_plan::{LabelOrder, Plan, Several};
-use ir_tables::{Hop, Topology};
+use ir_tables::Topology;
 use ir_worker::{Common, Ends, Node, Parcel};
 use std::alloc::{AllocError, Global};
 use std::sync::atomic::{AtomicBool, AtomicU32, Ordering};
@@ -244,12 +244,10 @@ impl Net {
 
 impl Net {
     ghost use Rattle.std.specs.Prelude.{IfSome, slice_get, []};
-    ghost use Rattle.ir_model.specs.Topology.{ports_of};
     ghost use Rattle.ir_control.specs.Nets.{registry_in, first_stamp};
     ghost use Rattle.ir_epochs.specs.{Stamps.registry_name, Entries.{registry_of, topology_of}};
     ghost use Rattle.ir_epochs.specs.Handles.{known, reader_board};
-    ghost use Rattle.ir_control.specs.Fresh.{AreFreshOuts, AreFreshIns, AreOutsAt, AreInsAt};
-    ghost use Rattle.ir_control.specs.Parts.{IsNodeOf, IsFreshNode};
+    ghost use Rattle.ir_control.specs.{Fresh.{AreFreshOuts, AreFreshIns}, Parts.{IsNodeOf, IsFreshNode}};
 
     /// Where its memory comes from.
     pub fn alloc(&self) -> Global {
@@ -275,54 +273,6 @@ impl Net {
         self.settled.load(Ordering::SeqCst)
     }
 
-    // The ends of a node's ports, those in and those out, unless one of them is gone.
-    fn port_ends(
-        &self,
-        u: usize,
-        senders: &mut Vec<Option<Sender<Parcel>>>,
-        takers: &mut Vec<Option<Taker<Parcel>>>,
-    ) -> Result<Option<(Vec<Taker<Parcel>>, Vec<Sender<Parcel>>)>, AllocError>
-        requires node { u < node_count self.now.topology }
-        requires senders { AreFreshOuts self.now.ways.items senders.old.items }
-        requires takers { AreFreshIns self.now.ways.items takers.old.items }
-        ensures senders { AreFreshOuts self.now.ways.items senders.new.items }
-        ensures takers { AreFreshIns self.now.ways.items takers.new.items }
-        ensures ins { IfOk result (λ given. IfSome given (λ ends. AreInsAt self.now.ways.items self.now.peers.items
-            (offset self.now.topology u) (length (ports_of self.now.topology u)) ends.0.items)) }
-        ensures outs { IfOk result (λ given. IfSome given (λ ends. AreOutsAt self.now.ways.items
-            (offset self.now.topology u) (length (ports_of self.now.topology u)) ends.1.items)) }
-    {
-        let first = self.first_port(u);
-        let degree = self.topology.ports(u).len();
-        let Some(outs) = outs_of(self.alloc, &self.ways, first, degree, senders)? else {
-            return Ok(None);
-        };
-        let peers = self.peers.as_slice();
-        let Some(ins) = ins_of(self.alloc, &self.ways, peers, first, degree, takers)? else {
-            return Ok(None);
-        };
-        Ok(Some((ins, outs)))
-    }
-
-    // What a node shares with the net, and its ports.
-    fn common(&self, u: usize) -> Result<(Common, Vec<Hop>), AllocError>
-        requires { u < node_count self.now.topology }
-        ensures shared { IfOk result (λ made. (made.0.opening ≡ self.now.opening)
-            × (made.0.restamps ≡ self.now.restamps)) }
-        ensures ports { IfOk result (λ made. made.1.items ≡ ports_of self.now.topology u) }
-    {
-        let registry = Arc::try_clone(&self.registry)?;
-        let settled = Arc::try_clone(&self.settled)?;
-        let ports = Vec::from_slice(self.alloc, self.topology.ports(u))?;
-        let common = Common {
-            registry,
-            opening: self.opening.again(),
-            restamps: self.restamps,
-            settled,
-        };
-        Ok((common, ports))
-    }
-
     // One node with its ends, unless one of them is gone.
     fn node(
         &self,
@@ -345,10 +295,29 @@ impl Net {
             (λ n. IsNodeOf self.now n × (n.index ≡ u) × (reader_board n.reader ≡ reader_board reader))) }
         ensures fresh { IfOk result (λ given. IfSome given (λ n. IsFreshNode (known reader) n)) }
     {
-        let Some((ins, outs)) = self.port_ends(u, senders, takers)? else {
+        let first = self.first_port(u);
+        let degree = self.topology.ports(u).len();
+        let Some(outs) = outs_of(self.alloc, &self.ways, first, degree, senders)? else {
             return Ok(None);
         };
-        let (common, ports) = self.common(u)?;
+        let Some(ins) = ins_of(
+            self.alloc,
+            &self.ways,
+            self.peers.as_slice(),
+            first,
+            degree,
+            takers,
+        )?
+        else {
+            return Ok(None);
+        };
+        let ports = Vec::from_slice(self.alloc, self.topology.ports(u))?;
+        let common = Common {
+            registry: Arc::try_clone(&self.registry)?,
+            opening: self.opening.again(),
+            restamps: self.restamps,
+            settled: Arc::try_clone(&self.settled)?,
+        };
         let outcomes = Vec::new(self.alloc);
         let ends = Ends {
             inbox,
@@ -369,11 +338,10 @@ pub struct Parts<R: Wait + Drop> {
 }
 
 impl Net {
-    ghost use Rattle.std.specs.Prelude.{All, IfSome, []};
+    ghost use Rattle.std.specs.Prelude.{All, IfSome};
     ghost use Rattle.ir_epochs.specs.Handles.{known, published, reader_board, writer_board};
     ghost use Rattle.ir_control.specs.Fresh.{AreFreshIns, AreFreshOuts};
     ghost use Rattle.ir_control.specs.Parts.{opening_entries, AreFirstNodes, AreFreshParts, IsFreshNode, ReadsAsOneOf};
-    ghost use Rattle.ir_control.specs.Parts.{IsInjectorOf};
 
     // All nodes, by number.
     fn nodes(
@@ -457,57 +425,6 @@ impl Net {
             .map_err(|_| BoardError::NoMemory)
     }
 
-    // The injector, and the other ends of the inboxes, unless one of them is gone.
-    fn injector(&self) -> Result<Option<(Injector, Vec<Option<Taker<Parcel>>>)>, AllocError>
-        ensures injector { IfOk result (λ given. IfSome given (λ made. IsInjectorOf self.now made.0)) }
-        ensures fresh { IfOk result (λ given. IfSome given (λ made. (made.0.accepted.items ≡ [])
-            × All (λ s. s.sent ≡ []) made.0.outs.items × (made.0.newest ≡ self.now.opening))) }
-        ensures inboxes { IfOk result (λ given. IfSome given
-            (λ made. AreFreshIns self.now.inboxes.items made.1.items)) }
-    {
-        let nodes = self.topology.nodes();
-        let Some((mut entries, inboxes)) = all_ends(self.alloc, &self.inboxes)? else {
-            return Ok(None);
-        };
-        let Some(outs) = outs_of(self.alloc, &self.inboxes, 0, nodes, &mut entries)? else {
-            return Ok(None);
-        };
-        let injector = Injector {
-            alloc: self.alloc,
-            registry: Arc::try_clone(&self.registry)?,
-            opening: self.opening.again(),
-            newest: self.opening.again(),
-            restamps: self.restamps,
-            max_packets: self.max_packets,
-            outs,
-            accepted: Vec::new(self.alloc),
-        };
-        Ok(Some((injector, inboxes)))
-    }
-
-    // The controller, with the writer of a board that was just opened.
-    fn controller<R: Wait + Drop>(
-        &self,
-        writer: BoardWriter<R>,
-    ) -> Result<Controller<R>, AllocError>
-        requires { published writer ≡ opening_entries self.now }
-        ensures opening { IfOk result (λ made. made.opening ≡ self.now.opening) }
-        ensures labels { IfOk result (λ made. made.labels ≡ self.now.labels) }
-        ensures registry { IfOk result (λ made. arc_value made.registry ≡ arc_value self.now.registry) }
-        ensures used { IfOk result (λ made. made.used ≡ 1) }
-        ensures writer { IfOk result (λ made. made.writer ≡ writer) }
-    {
-        let registry = Arc::try_clone(&self.registry)?;
-        Ok(Controller {
-            alloc: self.alloc,
-            registry,
-            opening: self.opening.again(),
-            labels: self.labels,
-            writer,
-            used: 1,
-        })
-    }
-
     // The parts over a board that was just opened, with a reader of it for each node.
     fn parts_over<R: Wait + Drop>(
         &self,
@@ -520,13 +437,34 @@ impl Net {
         ensures { IfOk result (λ given. IfSome given
             (λ parts. AreFreshParts self.now parts.nodes.items parts.injector parts.controller)) }
     {
-        let Some((injector, inboxes)) = self.injector()? else {
+        let nodes = self.topology.nodes();
+        let Some((mut entries, inboxes)) = all_ends(self.alloc, &self.inboxes)? else {
+            return Ok(None);
+        };
+        let Some(outs) = outs_of(self.alloc, &self.inboxes, 0, nodes, &mut entries)? else {
             return Ok(None);
         };
         let Some(nodes) = self.nodes(inboxes, readers)? else {
             return Ok(None);
         };
-        let controller = self.controller(writer)?;
+        let injector = Injector {
+            alloc: self.alloc,
+            registry: Arc::try_clone(&self.registry)?,
+            opening: self.opening.again(),
+            newest: self.opening.again(),
+            restamps: self.restamps,
+            max_packets: self.max_packets,
+            outs,
+            accepted: Vec::new(self.alloc),
+        };
+        let controller = Controller {
+            alloc: self.alloc,
+            registry: Arc::try_clone(&self.registry)?,
+            opening: self.opening.again(),
+            labels: self.labels,
+            writer,
+            used: 1,
+        };
         Ok(Some(Parts {
             nodes,
             injector,
