@@ -257,7 +257,7 @@ def calls_of(crate):
             call = re.match(r"( *)pub (?:unsafe )?(?:extern \"C\" )?fn (\w+)", line)
             if call and (owner in names if owner else call[2] in names):
                 end = at
-                while not re.match(rf"{call[1]}\{{|{call[1]}.*;$", lines[end]) and end + 1 < len(lines):
+                while not re.match(rf"{call[1]}\{{|{call[1]}\S.*[;{{]$", lines[end]) and end + 1 < len(lines):
                     end += 1
                 clauses = re.findall(r"^ *ensures (\w+) \{", "\n".join(lines[at:end]), flags=re.M)
                 calls.append((f"{owner}::{call[2]}" if owner else call[2], " ".join(comment), list(dict.fromkeys(clauses))))
