@@ -51,3 +51,6 @@ returns-in-Err-NoThread g c = (
   c.requires.opened,
   subst (λ (e : LiveError). IsRefusal _ g.T.Moments.was_full (g.T.Starter.unstarted c.args.rt.now) (g.T.Starter.came_back c.args.rt.now) c.args.net.now c.steps.result.now e) c.in-Err-NoThread.field-0-is c.in-Err-NoThread.ensures.refused,
 )
+
+pub returns-in-Err-Spent : goal.returns-in-Err-Spent
+returns-in-Err-Spent g c = tt
