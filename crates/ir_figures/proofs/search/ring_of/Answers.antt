@@ -24,3 +24,7 @@ returns-in-Some-clause-ring c =
     let from = c.in_ok-ring.ensures in
     ring_closes c.args.first.now (marks_of c.args.leads.now) s.due.items s.numbers.items s.path.items c.in_ok-ring.ring.items s.total c.in-Some.d from.0
     c.in_ok-d.ensures.search from.1 from.2 back.arc from.3
+
+-- a ring was found, so that nothing is said of numbers
+pub returns-in-Some-clause-acyclic : goal.returns-in-Some-clause-acyclic
+returns-in-Some-clause-acyclic c = tt
