@@ -42,6 +42,19 @@ pub record IsHalved (row : List Start) (d low high count : ℕ) : Type 0 where
   pub needed : length row + 2 ≤ (high - low + 2) * 2 ^ count
   pub compared : (n : ℕ) → Halves (labels row) d low high n → Halves (labels row) d 0 (length row) (n + count)
 
+-- before the first comparison all are left
+pub all_left : (row : List Start) (d : ℕ) → 0 < length row → IsHalved row d 0 (length row) 0
+all_left row d some = record {
+  ordered = omega arith;
+  within = omega arith;
+  below = λ k m. absurd (omega arith);
+  above = λ k m i. absurd (omega arith);
+  halved = omega arith;
+  counted = omega arith;
+  needed = omega arith;
+  compared = λ n rest. let same : n ≡ n + 0 = omega arith in subst (λ k. Halves (labels row) d 0 (length row) k) same rest;
+}
+
 module _ (row : List Start) (up : IsAscending row) (d low high count middle : ℕ) (h : IsHalved row d low high count) (open_still : low < high) (is : middle ≡ low + (high - low) / 2) where
   one_compared : (n : ℕ) → Halves (labels row) d 0 (length row) (suc n + count) → Halves (labels row) d 0 (length row) (n + (count + 1))
   one_compared n all = let same : suc n + count ≡ n + (count + 1) = omega arith in subst (λ k. Halves (labels row) d 0 (length row) k) same all
@@ -79,6 +92,13 @@ module _ (row : List Start) (up : IsAscending row) (d low high count middle : �
 -- where nothing is left, the comparisons are those of halving
 pub all_compared : (row : List Start) (d low high count : ℕ) → IsHalved row d low high count → high ≤ low → Halves (labels row) d 0 (length row) count
 all_compared row d low high count h done = let same : 0 + count ≡ count = omega arith in subst (λ k. Halves (labels row) d 0 (length row) k) same (h.compared 0 done)
+
+-- and they are as many as the length has binary digits, or one less
+pub count_told : (row : List Start) (d low high count : ℕ) → IsHalved row d low high count → high ≤ low → (2 ^ count ≤ 2 * length row) × (length row + 1 < 2 * 2 ^ count)
+count_told row d low high count h done =
+    let same : high - low + 2 ≡ 2 = omega arith in
+    let needed : length row + 2 ≤ 2 * 2 ^ count = subst (λ k. length row + 2 ≤ k * 2 ^ count) same h.needed in
+    (h.counted, omega arith)
 
 -- how many comparisons were made, of a length that fits
 pub few_compared : (row : List Start) (d low high count : ℕ) → IsHalved row d low high count → low < high → length row < 2 ^ 64 → count < 2 ^ 31

@@ -1,7 +1,7 @@
-use Rattle.std.proofs.Common.{◌≤◌, ◌+◌, ◌-◌, ◌/◌, slice_index, arith, refl}
+use Rattle.std.proofs.Common.{◌≤◌, ◌+◌, ◌-◌, ◌/◌, ℕ, slice_index, arith, refl, inl, inr, subst, sym}
 use Rattle.std.proofs.lemmas.Bool.{iff_false}
 use Rattle.ir_model.specs.Row.{labels}
-use Rattle.ir_lookup.proofs.HalvingLemmas.{lower_half, upper_half, few_compared, all_compared}
+use Rattle.ir_lookup.proofs.HalvingLemmas.{lower_half, upper_half, few_compared, all_compared, place_found, IsHalved, all_left, count_told}
 use Rattle.ir_lookup.proofs.halving.place_counted.Goals as goal
 
 pub is_above-requires-clause-room : goal.is_above-requires-clause-room
@@ -33,3 +33,40 @@ returns-then-low-eq0-clause-halves g c = all_compared c.args.starts.now c.args.d
 
 pub returns-else-low-eq0-clause-halves : goal.returns-else-low-eq0-clause-halves
 returns-else-low-eq0-clause-halves g c = all_compared c.args.starts.now c.args.d _ _ _ c.halves.invariant.halved (omega arith)
+
+pub returns-then-low-eq0-clause-place : goal.returns-then-low-eq0-clause-place
+returns-then-low-eq0-clause-place g c =
+    place_found c.args.starts.now c.requires c.args.d _ _ _ _ c.halves.invariant.halved c.halves-test.false (inl (c.if-low-eq0.true, omega arith))
+
+pub returns-else-low-eq0-clause-place : goal.returns-else-low-eq0-clause-place
+returns-else-low-eq0-clause-place g c =
+    place_found c.args.starts.now c.requires c.args.d _ _ _ _ c.halves.invariant.halved c.halves-test.false (inr (omega arith, refl))
+
+pub returns-then-low-eq0-clause-count : goal.returns-then-low-eq0-clause-count
+returns-then-low-eq0-clause-count g c = count_told c.args.starts.now c.args.d _ _ _ c.halves.invariant.halved c.halves-test.false
+
+pub returns-else-low-eq0-clause-count : goal.returns-else-low-eq0-clause-count
+returns-else-low-eq0-clause-count g c = count_told c.args.starts.now c.args.d _ _ _ c.halves.invariant.halved c.halves-test.false
+
+pub returns-then-low-eq0-clause-ticks : goal.returns-then-low-eq0-clause-ticks
+returns-then-low-eq0-clause-ticks g c = c.halves.invariant.ticks
+
+pub returns-else-low-eq0-clause-ticks : goal.returns-else-low-eq0-clause-ticks
+returns-else-low-eq0-clause-ticks g c = c.halves.invariant.ticks
+
+pub returns-then-low-eq0-clause-ascending : goal.returns-then-low-eq0-clause-ascending
+returns-then-low-eq0-clause-ascending g c = c.len-high.ensures.ascending
+
+pub returns-else-low-eq0-clause-ascending : goal.returns-else-low-eq0-clause-ascending
+returns-else-low-eq0-clause-ascending g c = c.len-high.ensures.ascending
+
+pub halves-init : goal.halves-init
+halves-init g c = record {
+  halved = subst (λ (high : ℕ). IsHalved c.args.starts.now c.args.d 0 high 0) (sym c.len-high.ensures.len) (all_left c.args.starts.now c.args.d c.requires);
+  ticks = omega arith;
+}
+
+pub is_above-requires-clause-place : goal.is_above-requires-clause-place
+is_above-requires-clause-place g c =
+    let some = c.halves-test.true in
+    omega (arith, c.halves.invariant.halved.within)
