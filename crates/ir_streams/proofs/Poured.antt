@@ -1,5 +1,5 @@
 -- A text that is poured piece by piece.
-use Rattle.std.proofs.Common.{◌≡◌, ℕ, Bool, true, false, List, [], ◌++◌, take, drop, Option, None, Some, is_none, Result, refl, sym, ap, subst, ◌∙◌, append_assoc}
+use Rattle.std.proofs.Common.{◌≡◌, ℕ, Bool, true, false, cond, List, [], ◌++◌, take, drop, Option, None, Some, is_none, Result, refl, sym, ap, subst, ◌∙◌, append_assoc}
 use Rattle.std.proofs.lemmas.List.{append-nil, take-append-drop}
 use Rattle.ir_streams.specs.declared.call.CallError.{CallError}
 use Rattle.ir_streams.specs.Writing.{Writes, Calls}
@@ -33,6 +33,15 @@ module _ {W : Type 0} (contents : W → Option (List ℕ)) (wrote : W → List �
   pours_none first None = (refl, refl)
   pours_none first (Some kept) =
       subst (λ (t : List ℕ). TakesAllBut contents wrote settled first t first kept) (sym (append-nil kept)) (taken_none contents wrote settled first kept)
+
+  -- some, which makes no part yet and is kept back
+  pub pours_kept : (at : W) (failed : Bool) (before after more text : List ℕ) (kept : Option (List ℕ)) → failed ≡ false → cond failed None (Some before) ≡ kept → after ≡ before ++ more → more ≡ text
+      → Pours contents wrote settled at kept text at (cond failed None (Some after))
+  pours_kept at true before after more text kept went is e same = absurd (cc went)
+  pours_kept at false before after more text kept went is e same =
+      let all : before ++ text ≡ after = ap (λ t. before ++ t) (sym same) ∙ sym e in
+      subst (λ (o : Option (List ℕ)). Pours contents wrote settled at o text at (Some after)) is
+      (subst (λ (t : List ℕ). TakesAllBut contents wrote settled at (before ++ text) at t) all (taken_none contents wrote settled at (before ++ text)))
 
   -- nothing more once a write failed
   pub pours_in_vain : (last : W) (after : Option (List ℕ)) → is_none after ≡ true → (more : List ℕ) → Pours contents wrote settled last after more last after

@@ -39,6 +39,13 @@ none_more ports weights own i sum fits before e ne q lt o =
     let is = offers_is ports weights i own (subst P same o) in
     ne (omega (arith, is, e, fits))) (cases_lt q i)
 
+-- the port at i offers own
+pub offers_here : (ports : List Hop) (weights : List ℕ) (own i sum : ℕ) → own < 4294967295 → i < length ports
+    → sum ≡ min (at weights (get_or ports i past).node + (get_or ports i past).weight) 4294967295
+    → sum ≡ own
+    → Offers ports weights i own
+offers_here ports weights own i sum fits lt e is = (get_or ports i past, slice_get-get_or ports i past lt, omega (arith, e, is, fits))
+
 -- a weight that a port of u offers is that of a way, once it stands at u
 pub reached_set : (net : Topology) → IsTopology net → (d u best : ℕ) (weights : List ℕ) → length weights ≡ node_count net → u < node_count net
     → best < unreached → ((p : ℕ) × Offers (ports_of net u) weights p best) → AllReached net d weights → AllReached net d (set weights u best)

@@ -1,6 +1,6 @@
-use Rattle.std.proofs.Common.{◌<◌, ◌≤◌, ◌∙◌, ◌++◌, sym, ap, arith, map, length, drop, string_bytes, bytes_eq}
+use Rattle.std.proofs.Common.{◌<◌, ◌≤◌, ◌∙◌, ◌++◌, refl, sym, ap, arith, map, length, drop, string_bytes, bytes_eq}
 use Rattle.std.specs.Map.{lookup}
-use Rattle.std.proofs.lemmas.List.{take_all, drop_all, append-nil}
+use Rattle.std.proofs.lemmas.List.{length-map, take_all, drop_all, append-nil}
 use Rattle.ir_model.specs.Graph.{without}
 use Rattle.ir_model.proofs.Graphs.{each_row}
 use Rattle.ir_graph.specs.View.{rows_view, row_view, change_row}
@@ -30,3 +30,6 @@ returns-clause-dropped c =
     ∙ append-nil _
     ∙ ap (each_row (λ _ es. without es x)) (ap (map (λ e. (string_bytes e.0, row_view e.1))) (c.shift_remove.ensures.entries ∙ removed-filter (λ k. bytes_eq x (string_bytes k)) c.args.rows.now.entries gone)
     ∙ sym (filter-view string_bytes row_view (bytes_eq x) c.args.rows.now.entries))
+
+pub loop-i-init : goal.loop-i-init
+loop-i-init c = record { cut = refl; long = refl; end = c.len-i-end.ensures.len ∙ sym (length-map c.shift_remove.new.self.entries (λ e. (string_bytes e.0, row_view e.1))) }

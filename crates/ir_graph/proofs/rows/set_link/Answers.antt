@@ -51,3 +51,12 @@ returns-else-i-j-clause-set c =
     ∙ sym (ap (λ b. cond b half (change_row half j (λ es. put es u w))) (eq-eqb i j c.if-i-j.false))
     ∙ joined-linked u v w g i j c.in-Some.ensures.differ c.in-Some.ensures.found c.in-Some-row_index.ensures.found
     ∙ sym (with_edge-there g u v w (has_node-weight_of g u v c.requires.forth) (has_node-weight_of g v u c.requires.back))
+
+pub returns-in_default-clause-differ : goal.returns-in_default-clause-differ
+returns-in_default-clause-differ c = c.row_index.ensures.differ
+
+pub returns-then-i-j-clause-differ : goal.returns-then-i-j-clause-differ
+returns-then-i-j-clause-differ c = c.row_index.ensures.differ
+
+pub returns-else-i-j-clause-differ : goal.returns-else-i-j-clause-differ
+returns-else-i-j-clause-differ c = c.row_index.ensures.differ

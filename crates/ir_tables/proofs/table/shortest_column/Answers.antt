@@ -1,7 +1,8 @@
-use Rattle.std.proofs.Common.{◌≡◌, ◌+◌, ◌<◌, ◌++◌, ◌∷◌, [], ℕ, List, arith, ap, ◌∙◌}
+use Rattle.std.proofs.Common.{◌≡◌, ◌+◌, ◌<◌, ◌++◌, ◌∷◌, [], ℕ, List, Some, length, slice_get, arith, sym, ap, subst, ◌∙◌}
 use Rattle.std.proofs.lemmas.List.{get_or_read, length_push}
-use Rattle.ir_model.specs.Topology.{Topology, node_count}
-use Rattle.ir_model.proofs.Walks.{degree_bound}
+use Rattle.ir_model.specs.declared.Hop.{Hop}
+use Rattle.ir_model.specs.Topology.{Topology, node_count, port_at}
+use Rattle.ir_model.proofs.Walks.{degree_bound, port_facts}
 use Rattle.ir_tables.specs.Relaxation.{at, IsRelaxed}
 use Rattle.ir_tables.proofs.Settled.{no_walk, IsEntry, entry_here, entries_push, column_done}
 use Rattle.ir_tables.proofs.table.shortest_column.Goals as goal
@@ -41,3 +42,14 @@ returns-clause-column c =
     let all : c.loop-u.u ≡ node_count c.args.topology.now = omega (arith, c.nodes-nodes.ensures.count) in
     column_done c.args.topology.now c.nodes-nodes.ensures.topology c.args.d c.requires c.in_ok-weights.weights.items c.loop-u.ports.items c.in_ok-weights.ensures (c.loop-u.invariant.len ∙ all)
     (λ v lt. c.loop-u.invariant.entries v (omega (arith, all, lt)))
+
+pub first_port-requires-clause-in_range : goal.first_port-requires-clause-in_range
+first_port-requires-clause-in_range c = λ p hop is.
+    let done : IsRelaxed c.args.topology.now c.args.d c.in_ok-weights.weights.items = c.in_ok-weights.ensures in
+    let at_port : port_at c.args.topology.now c.loop-u.u p ≡ Some hop = subst (λ (hops : List Hop). slice_get hops p ≡ Some hop) c.ports.ensures is in
+    subst (λ (n : ℕ). hop.node < n) (sym (ap length c.as_slice.ensures.value ∙ done.len)) (port_facts c.args.topology.now c.nodes-nodes.ensures.topology c.loop-u.u p hop at_port).to
+
+pub index-own-requires : goal.index-own-requires
+index-own-requires c =
+    let done : IsRelaxed c.args.topology.now c.args.d c.in_ok-weights.weights.items = c.in_ok-weights.ensures in
+    subst (λ (n : ℕ). c.loop-u.u < n) (c.nodes-nodes.ensures.count ∙ sym done.len ∙ sym c.in_ok-weights.weights.ok.0) c.loop-u-test.true

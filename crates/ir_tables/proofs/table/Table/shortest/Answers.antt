@@ -1,4 +1,4 @@
-use Rattle.std.proofs.Common.{◌≡◌, ◌+◌, ◌++◌, ◌∷◌, [], arith, ap, ◌∙◌}
+use Rattle.std.proofs.Common.{◌≡◌, ◌+◌, ◌<◌, ◌++◌, ◌∷◌, [], ℕ, arith, ap, subst, ◌∙◌}
 use Rattle.std.proofs.lemmas.List.{length_push}
 use Rattle.ir_model.specs.Topology.{node_count}
 use Rattle.ir_model.proofs.Tables.{shortest_routed}
@@ -38,3 +38,8 @@ returns-clause-connected c =
     let all : c.loop-d.d ≡ node_count c.args.topology.now = omega (arith, c.nodes-nodes.ensures.count) in
     let are : AreColumns c.args.topology.now c.loop-d.columns.items = record { len = c.loop-d.invariant.len ∙ all; columns = λ k e lt. c.loop-d.invariant.columns k e (omega (arith, c.loop-d.invariant.len, lt)) } in
     columns_connected c.args.topology.now c.loop-d.columns.items are
+
+pub returns-in-None-clause-disconnected : goal.returns-in-None-clause-disconnected
+returns-in-None-clause-disconnected c = λ _.
+    let far = rw c.in-None.is at c.in_ok-column.ensures.none in
+    (far.0, c.loop-d.d, far.1, subst (λ (n : ℕ). c.loop-d.d < n) c.nodes-nodes.ensures.count c.loop-d-test.true, far.2)
