@@ -14,3 +14,4 @@ pub mod SonStarts
 pub mod Tours
 pub mod Differences
 pub mod Labelled
+pub mod BestRuns

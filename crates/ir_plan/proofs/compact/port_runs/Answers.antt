@@ -1,13 +1,10 @@
-use Rattle.std.proofs.Common.{◌≡◌, ◌∙◌, ℕ, Bool, List, length, replicate, drop, refl, ap, subst, sym, arith}
+use Rattle.std.proofs.Common.{◌∙◌, ℕ, Bool, List, length, drop, refl, ap, subst, sym, arith}
 use Rattle.std.proofs.lemmas.Bool.{eqb-true}
-use Rattle.std.proofs.lemmas.List.{length-replicate, take_at}
-use Rattle.std.specs.Prelude.{slice_index}
-use Rattle.ir_model.specs.Topology.{node_count, ports_of}
+use Rattle.std.proofs.lemmas.List.{take_at}
 use Rattle.ir_model.proofs.Walks.{degree_bound}
-use Rattle.ir_model.proofs.Best.{IsBestBelow, best_more, best_all}
-use Rattle.ir_compile.specs.Runs.{HasMarked}
-use Rattle.ir_plan.specs.CompactRows.{AreTiedMarks, MayTake}
-use Rattle.ir_plan.proofs.CompactRows.{best_none, best_same, marks_may, no_port_past, unmarked_may}
+use Rattle.ir_plan.specs.CompactRows.{AreTiedMarks}
+use Rattle.ir_plan.proofs.BestRuns.{runs_none, runs_more, runs_same, runs_all}
+use Rattle.ir_plan.proofs.CompactRows.{unmarked_may}
 use Rattle.ir_plan.proofs.compact.port_runs.Goals as goal
 use Rattle.ir_plan.proofs.compact.port_runs.Goals.{then-not-is_empty, else-not-is_empty}
 
@@ -21,17 +18,9 @@ overflow_cast-p c =
 
 pub loop-p-init : goal.loop-p-init
 loop-p-init c =
-    let net = c.args.topology.now in
     let numbers = c.args.numbering.now in
-    let n = node_count net in
-    let own = slice_index numbers.labels c.args.u in
-    let counts : c.in_ok-counts.counts.items ≡ replicate n 0 = c.in_ok-counts.ensures.items_if_clones_equal (λ y e. e) ∙ ap (λ (k : ℕ). replicate k 0) c.nodes-nodes.ensures.count in
-    let ports : c.in_ok-ports.ports.items ≡ replicate n 0 = c.in_ok-ports.ensures.items_if_clones_equal (λ y e. e) ∙ ap (λ (k : ℕ). replicate k 0) c.nodes-nodes.ensures.count in
-    record {
-      counts_len = ap (λ (xs : List ℕ). length xs) counts ∙ length-replicate n 0;
-      ports_len = ap (λ (xs : List ℕ). length xs) ports ∙ length-replicate n 0;
-      best = λ a l off. best_none n own (MayTake net numbers.order own) a c.in_ok-counts.counts.items c.in_ok-ports.ports.items counts ports l;
-    }
+    runs_none c.args.topology.now numbers.order numbers.labels c.args.u _ _ _ c.nodes-nodes.ensures.count
+    (c.in_ok-counts.ensures.items_if_clones_equal (λ y e. e)) (c.in_ok-ports.ensures.items_if_clones_equal (λ y e. e))
 
 pub row-requires-clause-ties : goal.row-requires-clause-ties
 row-requires-clause-ties c = record { same = refl; marks = rw c.requires.ties.same c.requires.ties.marks }
@@ -59,17 +48,14 @@ loop-p-preserved c =
     let net = c.args.topology.now in
     let numbers = c.args.numbering.now in
     let u = c.args.u in
-    let n = node_count net in
-    let own = slice_index numbers.labels u in
-    let may = MayTake net numbers.order own in
     let p : ℕ = c.loop-p.p in
-    let row : List Bool = c.in_ok-row.row.items in
-    let marked : List ℕ = c.in_ok-row.marked.items in
     let v = c.loop-p.invariant in
+    let ok = c.nodes-nodes.ensures.topology in
     let named = c.requires.labels in
     let node = c.requires.node in
+    let row : List Bool = c.in_ok-row.row.items in
+    let marked : List ℕ = c.in_ok-row.marked.items in
     let tied : AreTiedMarks net numbers.order u p row = subst (λ (order : List ℕ). AreTiedMarks net order u p row) c.requires.ties.same c.in_ok-row.ensures.marks in
-    let has : HasMarked n row marked = c.in_ok-row.ensures.marked in
     elim c.if-not-is_empty.branch [
       | then-not-is_empty w ↦
           let counts = w.keep_longer.new.counts in
@@ -80,35 +66,15 @@ loop-p-preserved c =
           let ports_back = take_at ports (drop (length ports) c.loop-p.ports.items) c.loop-p.ports.len (omega (arith, ports_len, v.ports_len, c.loop-p.ports.ok.0)) in
           let longer = rw (c.nodes-nodes.ensures.count, c.label_of-own.ensures, w.as_slice.ensures.value, w.as_mut_slice.ensures.value, w.as_mut_slice-then-not-is_empty.ensures.value) at w.keep_longer.ensures.longer in
           rw (w.counts-is, w.ports-is, counts_back, ports_back)
-          (record {
-            counts_len = counts_len;
-            ports_len = ports_len;
-            best = λ a l off.
-                let k = longer a l in
-                best_more n own may p a (slice_index c.loop-p.counts.items a) (slice_index c.loop-p.ports.items a) k.run (slice_index counts a) (slice_index ports a) row
-                (v.best a l off) k.longest (marks_may net c.nodes-nodes.ensures.topology numbers.order numbers.labels named u node p row tied) k.better;
-          })
+          (runs_more net ok numbers.order numbers.labels named u node p row c.loop-p.counts.items c.loop-p.ports.items counts ports tied v counts_len ports_len longer)
       | else-not-is_empty w ↦
           rw (w.counts-is, w.ports-is)
-          (record {
-            counts_len = v.counts_len;
-            ports_len = v.ports_len;
-            best = λ a l off.
-                best_same n own may p a (slice_index c.loop-p.counts.items a) (slice_index c.loop-p.ports.items a) off
-                (unmarked_may net c.nodes-nodes.ensures.topology numbers.order numbers.labels named u node p row marked tied has (let none = eqb-true _ _ (sym c.is_empty.ensures ∙ w.if-not-is_empty.false) in omega (arith, none, c.in_ok-row.marked.ok.0))) (v.best a l off);
-          })
+          (runs_same net ok numbers.order numbers.labels named u node p c.loop-p.counts.items c.loop-p.ports.items
+          (unmarked_may net ok numbers.order numbers.labels named u node p row marked tied c.in_ok-row.ensures.marked (let none = eqb-true _ _ (sym c.is_empty.ensures ∙ w.if-not-is_empty.false) in omega (arith, none, c.in_ok-row.marked.ok.0))) v)
     ]
 
 pub returns-clause-longest : goal.returns-clause-longest
 returns-clause-longest c =
-    let net = c.args.topology.now in
     let numbers = c.args.numbering.now in
-    let u = c.args.u in
-    let n = node_count net in
-    let own = slice_index numbers.labels u in
-    let may = MayTake net numbers.order own in
-    let last : c.loop-p.p ≡ length (ports_of net u) = let e = c.loop-p.auto.p-end in let d = c.degree-p-end.ensures in omega (arith, c.loop-p-test.false) in
-    λ a l off.
-    best_all n own may (length (ports_of net u)) a (slice_index c.loop-p.counts.items a) (slice_index c.loop-p.ports.items a) off
-    (no_port_past net c.nodes-nodes.ensures.topology numbers.order numbers.labels c.requires.labels u c.requires.node)
-    (subst (λ (p : ℕ). IsBestBelow n own may p a (slice_index c.loop-p.counts.items a) (slice_index c.loop-p.ports.items a)) last (c.loop-p.invariant.best a l off))
+    runs_all c.args.topology.now c.nodes-nodes.ensures.topology numbers.order numbers.labels c.requires.labels c.args.u c.requires.node c.loop-p.p c.loop-p.counts.items c.loop-p.ports.items
+    (omega (arith, c.degree-p-end.ensures, c.loop-p-test.false)) c.loop-p.invariant
