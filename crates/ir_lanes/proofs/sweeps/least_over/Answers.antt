@@ -1,4 +1,4 @@
-use Rattle.std.proofs.Common.{ℕ, get_or}
+use Rattle.std.proofs.Common.{◌+◌, ◌*◌, ℕ, get_or, arith}
 use Rattle.std.proofs.lemmas.Option.{slice_get-get_or}
 use Rattle.ir_model.specs.declared.Hop.{Hop}
 use Rattle.ir_tables.proofs.Rounds.{past}
@@ -14,3 +14,19 @@ loop-hop-preserved c =
     let hop : Hop = get_or c.args.ports.now i past in
     least_next c.args.ports.now c.args.unit i c.args.lanes.now c.loop-hop.least c.load-there.result c.farther.result c.lesser-least.result hop
     (slice_get-get_or c.args.ports.now i past c.loop-hop-test.true) c.load-there.ensures c.farther.ensures c.lesser-least.ensures c.loop-hop.invariant
+
+pub load-there-requires : goal.load-there-requires
+load-there-requires c =
+    let i : ℕ = c.loop-hop.hop-index in
+    let hop : Hop = get_or c.args.ports.now i past in
+    c.requires.have i hop (slice_get-get_or c.args.ports.now i past c.loop-hop-test.true)
+
+pub farther-requires : goal.farther-requires
+farther-requires c =
+    let i : ℕ = c.loop-hop.hop-index in
+    let hop : Hop = get_or c.args.ports.now i past in
+    record {
+      long = c.load-there.ensures.long;
+      light = c.requires.light i hop (slice_get-get_or c.args.ports.now i past c.loop-hop-test.true);
+      near = λ k k_in. omega (arith, c.load-there.ensures.each k k_in, c.requires.near (hop.node * 16 + k));
+    }
