@@ -1,4 +1,4 @@
-use Rattle.std.proofs.Common.{◌≡◌, ◌*◌, ◌<◌, ◌∙◌, [], ℕ, List, length, ap, subst, arith}
+use Rattle.std.proofs.Common.{◌≡◌, ◌*◌, ◌<◌, ◌≤◌, ◌∙◌, [], ℕ, List, length, ap, subst, arith}
 use Rattle.std.specs.Prelude.{slice_index_or}
 use Rattle.std.specs.Global.{Vec}
 use Rattle.std.proofs.lemmas.List.{length-map}
@@ -53,3 +53,21 @@ loop-batch-preserved c =
     (subst (λ (ws : List ℕ). ArePushedTied ws (ports_before net u) (length (ports_of net u)) old new) words
     (subst (λ (x : ℕ). ArePushedTied c.as_slice.result.now x (length (ports_of net u)) old new) begin
     (subst (λ (hops : List Hop). ArePushedTied c.as_slice.result.now c.index-begin.result.now (length hops) old new) c.ports-ports.ensures c.in_ok-push_tied.ensures)))
+
+pub push_tied-requires-clause-few : goal.push_tied-requires-clause-few
+push_tied-requires-clause-few c = omega (arith, c.requires.ports, ap (λ (hops : List Hop). length hops) c.ports-ports.ensures)
+
+pub loop-batch-init : goal.loop-batch-init
+loop-batch-init c = record {
+  every = ap (λ (ws : List ℕ). length ws) c.in_ok-tied.ensures.items;
+  bit = λ d p d_in d_listed. absurd (omega (arith, d_in));
+}
+
+pub returns : goal.returns
+returns c =
+    let i = c.loop-batch.invariant in
+    let all : length c.args.order.now ≤ c.loop-batch.batch * 16 = omega (arith, c.loop-batch-test.false, c.div_ceil-batches.ensures) in
+    record {
+      enough = omega (arith, all, i.every);
+      bit = λ d p d_in. i.bit d p (omega (arith, d_in, all)) d_in;
+    }
