@@ -30,3 +30,9 @@ farther-requires c =
       light = c.requires.light i hop (slice_get-get_or c.args.ports.now i past c.loop-hop-test.true);
       near = λ k k_in. omega (arith, c.load-there.ensures.each k k_in, c.requires.near (hop.node * 16 + k));
     }
+
+pub overflow_mul-hop-in-loop-hop : goal.overflow_mul-hop-in-loop-hop
+overflow_mul-hop-in-loop-hop c =
+    let i : ℕ = c.loop-hop.hop-index in
+    let hop : Hop = get_or c.args.ports.now i past in
+    record { fits = omega (arith, c.requires.light i hop (slice_get-get_or c.args.ports.now i past c.loop-hop-test.true)) }
