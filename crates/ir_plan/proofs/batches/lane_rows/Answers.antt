@@ -1,10 +1,47 @@
-use Rattle.std.proofs.Common.{◌+◌, ℕ, List}
-use Rattle.std.specs.Prelude.{slice_index}
+use Rattle.std.proofs.Common.{◌≡◌, ◌+◌, ◌-◌, ◌<◌, ℕ, List, Option, Some, None, length, min, ap, arith}
+use Rattle.std.specs.Prelude.{IfSome, slice_index}
 use Rattle.ir_model.specs.declared.Kind.TheVariants.{Shortest}
 use Rattle.ir_model.specs.Row.{Start}
+use Rattle.ir_model.specs.Topology.{node_count}
+use Rattle.ir_lanes.specs.Outward.{OutwardLanes, source_at}
 use Rattle.ir_plan.specs.NodeRows.{IsNodeRow}
 use Rattle.ir_plan.proofs.BatchRows.{read_more}
 use Rattle.ir_plan.proofs.batches.lane_rows.Goals as goal
+
+-- the source of a lane that has a node is that node
+source_here : (found : Option OutwardLanes) (n first lane : ℕ) → lane < 16 → first + lane < n → IfSome found (λ ways. (k : ℕ) → k < 16 → source_at ways k ≡ min (first + k) (n - 1)) → IfSome found (λ ways. source_at ways lane ≡ first + lane)
+source_here (Some ways) n first lane low inside sources = let here = sources lane low in omega (arith, here, inside)
+source_here None n first lane low inside sources = tt
+
+pub loop-lane-init : goal.loop-lane-init
+loop-lane-init g c = record {
+  every = ap (λ (rows : List (List Start)). length rows) c.in_ok-rows.ensures.items;
+  each = λ k h. absurd (omega (arith, h));
+}
+
+pub overflow_cast-u : goal.overflow_cast-u
+overflow_cast-u g c =
+    let inside = c.loop-lane-test.true in
+    let end = c.min-lane-end.ensures in
+    let count = c.nodes-nodes.ensures.count in
+    let few = c.nodes-nodes.ensures.topology.few_nodes in
+    omega (arith, inside, end, count, few)
+
+pub lane_row-requires : goal.lane_row-requires
+lane_row-requires g c =
+    let inside = c.loop-lane-test.true in
+    let end = c.min-lane-end.ensures in
+    let count = c.nodes-nodes.ensures.count in
+    let node : c.args.first + c.loop-lane.lane < node_count c.args.topology.now = omega (arith, inside, end, count) in
+    let lane : c.loop-lane.lane < 16 = omega (arith, inside, end) in
+    record {
+      labels = c.requires.labels;
+      connected = c.requires.connected;
+      node = node;
+      lane = lane;
+      ways = c.requires.ways;
+      source = source_here c.args.found.now (node_count c.args.topology.now) c.args.first c.loop-lane.lane lane node c.requires.sources;
+    }
 
 pub loop-lane-preserved : goal.loop-lane-preserved
 loop-lane-preserved g c =
@@ -14,3 +51,13 @@ loop-lane-preserved g c =
     let more = read_more (λ (k : ℕ) (row : List Start). IsNodeRow Shortest net numbers.order numbers.parents (slice_index numbers.labels (c.args.first + k)) row)
     c.loop-lane.lane c.loop-lane.rows.items c.push.new.self.items c.in_ok-lane_row.field-0 i.every i.each c.in_ok-push.ensures.items c.in_ok-lane_row.ensures in
     record { every = more.0; each = more.1 }
+
+pub returns : goal.returns
+returns g c =
+    let i = c.loop-lane.invariant in
+    let long = i.every in
+    let end = c.min-lane-end.ensures in
+    let count = c.nodes-nodes.ensures.count in
+    let past = c.loop-lane-test.false in
+    let most = c.loop-lane.auto.lane-end in
+    record { every = omega (arith, long, end, count, past, most); each = λ k h. i.each k (omega (arith, h, long)) }
