@@ -10,9 +10,8 @@ use Rattle.ir_model.specs.Topology.{Topology, node_count, port_at, port_back, Is
 use Rattle.ir_model.specs.Walk.{link_weight}
 use Rattle.ir_model.proofs.Walks.{link_weight_at, port_facts, PortFacts}
 use Rattle.ir_tables.specs.Relaxation.{at}
-use Rattle.ir_tables.specs.Frontier.{NoNode, Only}
-use Rattle.ir_tables.specs.Keys.{key_of, no_key, IsStepKey, IsKeyed, IsSpentKey, AreKeysOfWays, AreKeys, KeyEntry, key_entry, IsEntry, IsKeying}
-use Rattle.ir_tables.proofs.Offering.{contains_head, contains_cons, contains_tail, all_cons, all_tail, set_le}
+use Rattle.ir_tables.specs.Keys.{key_of, no_key, IsStepKey, IsKeyed, IsSpentKey, AreKeysOfWays, AreKeys, KeyEntry, key_entry, IsEntry, IsKeying, NoNode, Only}
+use Rattle.ir_tables.proofs.Entries.{contains_head, contains_cons, contains_tail, all_cons, all_tail, set_le}
 
 -- a port of u begins a way to its neighbour
 keyed_first : (net : Topology) → IsTopology net → (u p : ℕ) (hop : Hop) (key : ℕ) → port_at net u p ≡ Some hop → key ≡ key_of hop.weight p → IsKeyed net u hop.node key
@@ -189,12 +188,12 @@ keying_empty net ok u keys entries none so_far = record {
 
 -- so many times the key that stands for no way
 abbrev no_keys : ℕ → List ℕ
-no_keys n = replicate n 140737488355328
+no_keys n = replicate n 281474976645120
 
 no_keys_le : (n z : ℕ) → at (no_keys n) z ≤ no_key
 no_keys_le n z =
-    ⊎_elim (λ (z_in : z < n). let v : at (no_keys n) z ≡ 140737488355328 = get_or-replicate n z 140737488355328 0 z_in in omega (arith, v))
-    (λ (z_out : n ≤ z). let len : length (no_keys n) ≡ n = length-replicate n 140737488355328 in
+    ⊎_elim (λ (z_in : z < n). let v : at (no_keys n) z ≡ 281474976645120 = get_or-replicate n z 281474976645120 0 z_in in omega (arith, v))
+    (λ (z_out : n ≤ z). let len : length (no_keys n) ≡ n = length-replicate n 281474976645120 in
     let v : at (no_keys n) z ≡ 0 = get_or_past (no_keys n) z 0 (omega (arith, len, z_out)) in omega (arith, v))
     (cases_lt z n)
 
@@ -207,17 +206,17 @@ keying_start net u u_in none entries empty moved =
     let Q : List KeyEntry → Type 0 = λ es. IsPermutation (first ∷ es) entries in
     let moved' : IsPermutation (first ∷ []) entries = subst Q empty moved in
     let ks : List ℕ = set (no_keys n) u 0 in
-    let long : length (no_keys n) ≡ n = length-replicate n 140737488355328 in
+    let long : length (no_keys n) ≡ n = length-replicate n 281474976645120 in
     let u_in' : u < length (no_keys n) = omega (arith, long, u_in) in
     let here : at ks u ≡ 0 = get_or-set_same (no_keys n) u 0 0 u_in' in
-    let away : (v : ℕ) → v < n → v ≢ u → at ks v ≡ 140737488355328 = λ v v_in ne. get_or-set_other (no_keys n) u v 0 0 ne ∙ get_or-replicate n v 140737488355328 0 v_in in
+    let away : (v : ℕ) → v < n → v ≢ u → at ks v ≡ 281474976645120 = λ v v_in ne. get_or-set_other (no_keys n) u v 0 0 ne ∙ get_or-replicate n v 281474976645120 0 v_in in
     let low : (z : ℕ) → at ks z ≤ no_key = λ z. omega (arith, set_le (no_keys n) u 0 z u_in' (omega arith), no_keys_le n z) in
     record {
       ways = record {
         every = length-set (no_keys n) u 0 ∙ long;
         below = low;
         source = here;
-        reached = λ v v_in other less. absurd (let k : at ks v ≡ 140737488355328 = away v v_in other in omega (arith, k, less));
+        reached = λ v v_in other less. absurd (let k : at ks v ≡ 281474976645120 = away v v_in other in omega (arith, k, less));
       };
       nodes = All-permutation (IsEntry net) (first ∷ []) entries moved' (all_cons KeyEntry (IsEntry net) first [] (0, u, u_in, omega arith) (λ k e lt. absurd (omega (arith, lt))));
       pending = λ v v_in out. ⊎_elim
@@ -225,5 +224,5 @@ keying_start net u u_in none entries empty moved =
           let S : ℕ → Type 0 = λ k. Contains entries (record { 0 = k }) in
           let is : u ≡ key_of (at ks u) u = omega (arith, here) in
           inr (subst R (sym e) (subst S is (Contains-permutation (first ∷ []) entries first moved' (contains_head KeyEntry first [])))))
-          (λ (ne : v ≢ u). inl (λ p hop a port step. let k : at ks v ≡ 140737488355328 = away v v_in ne in omega (arith, k, low hop.node))) (cases_eq v u);
+          (λ (ne : v ≢ u). inl (λ p hop a port step. let k : at ks v ≡ 281474976645120 = away v v_in ne in omega (arith, k, low hop.node))) (cases_eq v u);
     }

@@ -2,7 +2,7 @@
 use Rattle.std.proofs.Common.{◌≡◌, ◌≢◌, ℕ, ◌+◌, ◌/◌, ◌%◌, ◌<◌, ◌≤◌, List, [], ◌∷◌, ◌++◌, length, slice_index_or, Option, Some, None, refl, ap, sym, subst, ◌∙◌, arith, ⊎_elim}
 use Rattle.std.proofs.lemmas.Bool.{cases_eq, cases_lt}
 use Rattle.std.proofs.lemmas.Option.{slice_get_within}
-use Rattle.std.proofs.lemmas.List.{get_or_append_left, get_or_push, length_push}
+use Rattle.std.proofs.lemmas.List.{get_or_append_left, get_or_past, get_or_push, length_push}
 use Rattle.ir_model.specs.declared.Hop.{Hop}
 use Rattle.ir_model.specs.Topology.{Topology, node_count, ports_of, port_at, port_back, IsTopology}
 use Rattle.ir_model.specs.Walk.{link_weight, LeadsTo, IsWalk, weight_from, walk_weight, IsDistance, IsConnected}
@@ -10,7 +10,7 @@ use Rattle.ir_model.specs.Table.{LeadsNearer, IsShortestPort}
 use Rattle.ir_model.proofs.Tables.{distance_unique, distance_way}
 use Rattle.ir_model.proofs.Walks.{link_weight_at, PortFacts, port_facts, degree_bound}
 use Rattle.ir_model.proofs.Ways.{joined, symmetric}
-use Rattle.ir_tables.specs.Relaxation.{at, IsSettled, IsReached}
+use Rattle.ir_tables.specs.Relaxation.{at, IsSettled, IsReached, IsRelaxed}
 use Rattle.ir_tables.specs.FromNode.{AreFrom, AreLeastPorts}
 use Rattle.ir_tables.specs.Keys.{key_of, IsKeyed, AreKeys, AreWeightsIn, ArePortsIn}
 use Rattle.ir_tables.proofs.Settled.{distance_from_settled, settled_within}
@@ -93,7 +93,7 @@ module _ (net : Topology) (ok : IsTopology net) (u : ℕ) (u_in : u < node_count
       record { weight = omega (arith, k.key_is, small); port = omega (arith, k.key_is, small) }
 
   -- the weight in a key is that of a way
-  weights_reached : (v : ℕ) → v < node_count net → weight_in v < 2147483648 → IsReached net u weight_in v
+  weights_reached : (v : ℕ) → v < node_count net → weight_in v < 4294967295 → IsReached net u weight_in v
   weights_reached v v_in below =
       ⊎_elim (λ (e : v ≡ u). let none : at keys v ≡ 0 = ap (at keys) e ∙ source_key in ([], (e, u_in), omega (arith, none)))
       (λ (ne : v ≢ u). by_key (are.ways.reached v v_in ne (omega (arith, below))))
@@ -107,15 +107,36 @@ module _ (net : Topology) (ok : IsTopology net) (u : ℕ) (u_in : u < node_count
           let both = joined net v k.hop.node u k.way (u ∷ []) k.leads last in
           (k.way ++ u ∷ [], both.0, omega (arith, both.1, link, (held_in v k).weight))
 
+  pub keys_relaxed : (weights : List ℕ) → AreWeightsIn keys weights (length keys) → IsRelaxed net u weights
+  keys_relaxed weights in_keys = record {
+    len = in_keys.every ∙ are.ways.every;
+    settled = record {
+      end = same u ∙ weights_settled.end;
+      tight = λ x p hop port. omega (arith, same x, same hop.node, weights_settled.tight x p hop port);
+    };
+    reached = λ v v_in below.
+        let way : IsReached net u weight_in v = weights_reached v v_in (omega (arith, same v, below)) in
+        (way.0, way.1, way.2 ∙ sym (same v));
+  }
+    where
+      same : (v : ℕ) → at weights v ≡ weight_in v
+      same v =
+          ⊎_elim (in_keys.each v)
+          (λ (past : length keys ≤ v).
+          let none : at weights v ≡ 0 = get_or_past weights v 0 (omega (arith, past, in_keys.every)) in
+          let no_key : at keys v ≡ 0 = get_or_past keys v 0 past in
+          omega (arith, none, no_key))
+          (cases_lt v (length keys))
+
   module _ (connected : IsConnected net) where
-    below_bound : (v : ℕ) → v < node_count net → weight_in v < 2147483648
+    below_bound : (v : ℕ) → v < node_count net → weight_in v < 4294967295
     below_bound v v_in = let w = connected v u v_in u_in in by_walk w.0 w.1
       where
-        by_walk : (walk : List ℕ) → IsWalk net v u walk → weight_in v < 2147483648
+        by_walk : (walk : List ℕ) → IsWalk net v u walk → weight_in v < 4294967295
         by_walk [] is = absurd is
         by_walk (x ∷ rest) is =
             let few : node_count net ≤ 16384 = ok.few_nodes in
-            settled_within net ok u 2147483648 weight_in weights_settled (omega (arith, few)) weights_reached v rest is.1
+            settled_within net ok u 4294967295 weight_in weights_settled (omega (arith, few)) weights_reached v rest is.1
 
     key_distance : (v : ℕ) → v < node_count net → IsDistance net u v (weight_in v)
     key_distance v v_in =

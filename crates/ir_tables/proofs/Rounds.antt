@@ -1,12 +1,11 @@
 -- What the ports of a node offer.
-use Rattle.std.proofs.Common.{◌≡◌, ◌≢◌, ℕ, ◌+◌, ◌<◌, min, List, Some, slice_get, ◌∷◌, length, refl, sym, subst, ◌∙◌, arith, get_or, set, sum, get_or-set_same, get_or-set_other, ⊎_elim}
+use Rattle.std.proofs.Common.{◌≡◌, ◌≢◌, ℕ, ◌+◌, ◌<◌, min, List, Some, slice_get, length, subst, arith, get_or, ⊎_elim}
 use Rattle.std.proofs.lemmas.Option.{get_or_from_slice_get, slice_get-get_or}
-use Rattle.std.proofs.lemmas.Bool.{cases_eq, cases_lt}
+use Rattle.std.proofs.lemmas.Bool.{cases_lt}
 use Rattle.ir_model.specs.declared.Hop.{Hop}
 use Rattle.ir_model.specs.Topology.{Topology, node_count, ports_of, port_at, IsTopology}
-use Rattle.ir_model.specs.Walk.{link_weight}
-use Rattle.ir_model.proofs.Walks.{link_weight_at, port_facts, PortFacts}
-use Rattle.ir_tables.specs.Relaxation.{IsReached, unreached, at, AllReached, Offers}
+use Rattle.ir_model.proofs.Walks.{port_facts}
+use Rattle.ir_tables.specs.Relaxation.{at, Offers}
 
 -- what stands for a port past the end of a list
 abbrev pub past : Hop
@@ -45,26 +44,3 @@ pub offers_here : (ports : List Hop) (weights : List ℕ) (own i sum : ℕ) → 
     → sum ≡ own
     → Offers ports weights i own
 offers_here ports weights own i sum fits lt e is = (get_or ports i past, slice_get-get_or ports i past lt, omega (arith, e, is, fits))
-
--- a weight that a port of u offers is that of a way, once it stands at u
-pub reached_set : (net : Topology) → IsTopology net → (d u best : ℕ) (weights : List ℕ) → length weights ≡ node_count net → u < node_count net
-    → best < unreached → ((p : ℕ) × Offers (ports_of net u) weights p best) → AllReached net d weights → AllReached net d (set weights u best)
-reached_set net ok d u best weights len u_in below offered reached x x_in less =
-    ⊎_elim (λ same. at_u same) (λ other. elsewhere other) (cases_eq x u)
-  where
-    at_u : x ≡ u → IsReached net d (at (set weights u best)) x
-    at_u same =
-        let u_in' : u < length weights = omega arith in
-        let hop : Hop = offered.1.0 in
-        let facts : PortFacts net u hop = port_facts net ok u offered.0 hop offered.1.1 in
-        let way : IsReached net d (at weights) hop.node = reached hop.node facts.to (omega (arith, offered.1.2, below)) in
-        let weight : link_weight net u hop.node ≡ hop.weight = link_weight_at net ok u offered.0 hop offered.1.1 in
-        let written : at (set weights u best) u ≡ best = get_or-set_same weights u best 0 u_in' in
-        let P : ℕ → Type 0 = λ y. IsReached net d (at (set weights u best)) y in
-        subst P (sym same) (hop.node ∷ way.0, ((offered.0, hop, offered.1.1, refl), way.1), omega (arith, weight, way.2, offered.1.2, written))
-
-    elsewhere : x ≢ u → IsReached net d (at (set weights u best)) x
-    elsewhere other =
-        let kept : at (set weights u best) x ≡ at weights x = get_or-set_other weights u x best 0 other in
-        let way : IsReached net d (at weights) x = reached x x_in (omega (arith, less, kept)) in
-        (way.0, way.1, way.2 ∙ sym kept)

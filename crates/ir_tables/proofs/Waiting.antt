@@ -6,9 +6,8 @@ use Rattle.std.proofs.lemmas.List.Sorted.{All-permutation, Contains-permutation,
 use Rattle.std.proofs.lemmas.Option.{get_or_from_slice_get, slice_get-get_or}
 use Rattle.ir_model.specs.Topology.{Topology, node_count, IsTopology}
 use Rattle.ir_tables.specs.Relaxation.{at}
-use Rattle.ir_tables.specs.Frontier.{NoNode}
-use Rattle.ir_tables.specs.Keys.{KeyEntry, key_entry, key_of, IsEntry, IsFresh, KeepsFresh, IsSpentKey, IsKeying}
-use Rattle.ir_tables.proofs.Offering.{all_tail, contains_tail}
+use Rattle.ir_tables.specs.Keys.{KeyEntry, key_entry, key_of, IsEntry, IsFresh, KeepsFresh, IsSpentKey, IsKeying, NoNode}
+use Rattle.ir_tables.proofs.Entries.{all_tail, contains_tail}
 
 -- an entry is pushed to the near ones
 pub pushed_near : (e : KeyEntry) (near near' far : List KeyEntry) → IsPermutation (e ∷ near) near' → IsPermutation (e ∷ (near ++ far)) (near' ++ far)

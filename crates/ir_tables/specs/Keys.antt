@@ -14,7 +14,7 @@ key_of weight port = weight * 65536 + port
 
 -- the key that stands for no way found yet
 abbrev pub no_key : ℕ
-no_key = 140737488355328
+no_key = 281474976645120
 
 -- what a step from x by its port p adds to a key: its weight, and from u itself the port too
 pub record IsStepKey (u x p weight added : ℕ) : Type 0 where
@@ -74,6 +74,14 @@ keys_waiting f = heap_items f.near ++ f.far.items
 -- how often what waits can still move: a far entry comes near, and a near one leaves
 abbrev pub load : Frontier → ℕ
 load f = length (heap_items f.near) + 2 * length f.far.items
+
+-- no node is left out
+abbrev pub NoNode : ℕ → Type 0
+NoNode v = ⊥
+
+-- v alone is left out
+abbrev pub Only : ℕ → ℕ → Type 0
+Only v x = x ≡ v
 
 -- keys from u and a frontier, where each node but those left out is spent or waits
 pub record IsKeying (net : Topology) (u : ℕ) (out : ℕ → Type 0) (keys : List ℕ) (entries : List (Reverse ℕ)) : Type 0 where

@@ -6,7 +6,6 @@ pub mod Listed
 pub mod FromNode
 -- what bodies use
 pub mod Rows
-pub mod Frontier
 pub mod Numbered
 pub mod ByPlace
 pub mod Keys

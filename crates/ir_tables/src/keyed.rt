@@ -2,8 +2,7 @@
 //! tells its distance and the least port that leads nearer to it, in one run.
 ghost use Rattle.std.specs.Prelude.{◌≡◌, ◌↔◌, ℕ, ◌+◌, ◌*◌, ◌<◌, ◌≤◌, [], ◌∷◌, length, sum, IfOk, OnOk, IsTrue, IsPermutation};
 ghost use Rattle.ir_model.specs.Topology.{node_count};
-ghost use Rattle.ir_tables.specs.Frontier.{NoNode, Only};
-ghost use Rattle.ir_tables.specs.Keys.{AreKeys, IsFresh, IsKeying, IsStepKey, KeepsFresh, load, keys_waiting};
+ghost use Rattle.ir_tables.specs.Keys.{AreKeys, IsFresh, IsKeying, IsStepKey, KeepsFresh, NoNode, Only, load, keys_waiting};
 
 use crate::topology::Topology;
 use std::alloc::{AllocError, Global};
@@ -15,7 +14,7 @@ use std::collections::BinaryHeap;
 pub const UNIT: u64 = 65_536;
 
 /// The key that stands for no way found yet.
-pub const NO_KEY: u64 = 140_737_488_355_328;
+pub const NO_KEY: u64 = 281_474_976_645_120;
 
 /// Nodes that wait, each behind the key that it had: near ones up to a limit, the least first, and far ones in no
 /// order. Most of what waits is far, and gone by the time that the limit comes to it, since its node has a lesser key

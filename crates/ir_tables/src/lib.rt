@@ -5,7 +5,6 @@
 #![tactic(auto)]
 
 mod adjacency;
-mod frontier;
 mod keyed;
 mod link_keys;
 mod listed;
@@ -15,9 +14,8 @@ mod relaxation;
 mod table;
 mod topology;
 
-pub use frontier::weights_to;
 pub use ir_model::{Hop, Link};
-pub use outward::Outward;
+pub use outward::{Outward, weights_to};
 pub use relaxation::UNREACHED;
 pub use table::{Table, TableError};
 pub use topology::Topology;

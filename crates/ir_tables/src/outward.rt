@@ -2,7 +2,7 @@
 //! one node's worth, where a table takes that of all nodes.
 ghost use Rattle.std.specs.Prelude.{◌≡◌, ◌≢◌, ◌+◌, ◌<◌, ◌≤◌, ℕ, IfOk, OnOk, IsTrue, ◌↔◌, All, IsSome, length};
 ghost use Rattle.ir_model.specs.{Topology.{node_count, port_at, ports_of}, Walk.IsConnected, Table.LeadsNearer};
-ghost use Rattle.ir_tables.specs.{Relaxation.at, Keys.{no_key, AreWeightsIn, ArePortsIn}};
+ghost use Rattle.ir_tables.specs.{Relaxation.{at, IsRelaxed}, Keys.{no_key, AreWeightsIn, ArePortsIn}};
 ghost use Rattle.ir_tables.specs.FromNode.{AreFrom, AreLeastPorts, AreLedBy, AreListed, IsPassedOn, Outward};
 ghost use Rattle.ir_tables.specs.Views.{ways_of};
 
@@ -68,6 +68,17 @@ impl Outward {
     {
         flood(alloc, topology, self.weights.as_slice(), self.source, port)
     }
+}
+
+/// The weights of the lightest walks to `d`, by node, `UNREACHED` where there is none. A link weighs the same both ways,
+/// so they are those of the walks from `d`. Takes O((n + m) log m), for n nodes and m links.
+pub fn weights_to(alloc: Global, topology: &Topology, d: usize) -> Result<Vec<u32>, AllocError>
+    requires { d < node_count topology.now }
+    ensures { IfOk result (λ weights. IsRelaxed topology.now d weights.items) }
+{
+    topology.invariant();
+    let keys = keys_from(alloc, topology, d as u16)?;
+    weights_in(alloc, keys.as_slice())
 }
 
 // The weights in keys.

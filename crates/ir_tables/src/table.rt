@@ -4,8 +4,8 @@ ghost use Rattle.ir_model.specs.Table.{table_size, port_in, weight_in, IsShortes
 ghost use Rattle.ir_tables.specs.{Relaxation.{IsColumn, HasNoWalk}, Listed.{IsPortList, IsListed, IsListedColumn}};
 ghost use Rattle.ir_tables.specs.{Errors.table_code, declared.table.TableError.TheVariants.NoMemory, Views.table_of};
 
-use crate::frontier::weights_to;
 use crate::listed::walk_weights;
+use crate::outward::weights_to;
 use crate::relaxation::{UNREACHED, first_port};
 use crate::topology::Topology;
 use std::alloc::{AllocError, AllocFailed, Global};

@@ -6,8 +6,7 @@ use Rattle.std.proofs.lemmas.List.Sorted.{length_permutation}
 use Rattle.std.specs.BinaryHeap.{heap_items}
 use Rattle.ir_model.specs.Topology.{node_count}
 use Rattle.ir_tables.specs.Relaxation.{at}
-use Rattle.ir_tables.specs.Frontier.{Only}
-use Rattle.ir_tables.specs.Keys.{KeyEntry, IsKeying, KeepsFresh, keys_waiting}
+use Rattle.ir_tables.specs.Keys.{KeyEntry, IsKeying, KeepsFresh, keys_waiting, Only}
 use Rattle.ir_tables.proofs.KeySteps.{Popped, popped, popped_fresh, keying_start, keying_empty}
 use Rattle.ir_tables.proofs.Waiting.{gone, left_near, keying_kept, stale_key}
 use Rattle.ir_tables.proofs.keyed.keys_from.Goals as goal
@@ -15,8 +14,8 @@ use Rattle.ir_tables.proofs.keyed.keys_from.Goals as goal
 pub loop-frontier-init : goal.loop-frontier-init
 loop-frontier-init c =
     let start = keying_start c.args.topology.now c.args.u c.requires (keys_waiting c.new-frontier.result) (keys_waiting c.push.new.self) c.new-frontier.ensures c.in_ok-push.ensures.waits in
-    let items : c.in_ok-keys.keys.items ≡ replicate (node_count c.args.topology.now) 140737488355328 =
-    c.in_ok-keys.ensures.items_if_clones_equal (λ y e. e) ∙ ap (λ n. replicate n 140737488355328) c.nodes.ensures.count in
+    let items : c.in_ok-keys.keys.items ≡ replicate (node_count c.args.topology.now) 281474976645120 =
+    c.in_ok-keys.ensures.items_if_clones_equal (λ y e. e) ∙ ap (λ n. replicate n 281474976645120) c.nodes.ensures.count in
     rw items start
 
 pub loop-frontier-preserved-in_default : goal.loop-frontier-preserved-in_default

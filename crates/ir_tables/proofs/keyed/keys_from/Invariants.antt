@@ -1,6 +1,5 @@
 use Rattle.std.proofs.Common.{◌+◌, ◌*◌, sum}
-use Rattle.ir_tables.specs.Frontier.{NoNode}
-use Rattle.ir_tables.specs.Keys.{IsKeying, load, keys_waiting}
+use Rattle.ir_tables.specs.Keys.{IsKeying, load, keys_waiting, NoNode}
 use Rattle.ir_tables.proofs.keyed.keys_from.Given as goal
 
 abbrev pub invariant-loop-frontier : goal.invariant-loop-frontier
