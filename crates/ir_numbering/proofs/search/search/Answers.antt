@@ -105,3 +105,26 @@ returns-clause-some c few =
           let u = some_unseen (node_count c.args.topology.now) c.search.nodes.items few in
           (u.0, u.1, λ walk is. u.2 (walk_is_seen c.args.topology.now _ _ _ _ done u.0 walk is))
     ]
+
+pub index_mut-requires : goal.index_mut-requires
+index_mut-requires c = omega (arith, c.requires, c.in_ok-marked.ensures.len, c.nodes-n.ensures.count)
+
+pub mark_next-requires-clause-marks : goal.mark_next-requires-clause-marks
+mark_next-requires-clause-marks c = c.search.invariant.marks.every
+
+pub mark_next-requires-clause-passed : goal.mark_next-requires-clause-passed
+mark_next-requires-clause-passed c = c.search.invariant.passed
+
+pub returns-clause-all : goal.returns-clause-all
+returns-clause-all c enough =
+    let i = c.search.invariant in
+    let t = i.traversal in
+    let every : length c.search.nodes.items ≡ node_count c.args.topology.now = omega (arith, enough, i.within) in
+    record {
+      every = every;
+      parented = t.parented ∙ every;
+      nodes = t.nodes;
+      once = t.once;
+      root_first = t.root_first;
+      next = λ k from below. t.next k from (omega (arith, below, every));
+    }
