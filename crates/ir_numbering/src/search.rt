@@ -1,4 +1,4 @@
-ghost use Rattle.std.specs.Prelude.{◌≡◌, ◌<◌, ◌≤◌, ℕ, length, All, IfOk, IfSome, MatchOption, map, slice_set, true};
+ghost use Rattle.std.specs.Prelude.{◌≡◌, ◌<◌, ◌≤◌, ◌++◌, ◌∷◌, [], ℕ, length, All, IfOk, IfSome, OnOk, MatchOption, map, slice_set, true};
 ghost use Rattle.ir_model.specs.{declared.Hop.Hop, Topology.node_count, Numbering.{neighbors_of, IsDepthFirst}};
 ghost use Rattle.ir_numbering.specs.Search.{IsFirstUnmarked, IsUnmarkedAt, AllMarked, FirstMarked, ArePassed};
 ghost use Rattle.ir_numbering.specs.Search.{IsOneCutOff};
@@ -37,13 +37,29 @@ pub fn search(alloc: Global, topology: &Topology, root: u16) -> Result<Order, Al
             break;
         };
         if let Some(next) = mark_next(topology, nodes[top], &mut passed, &mut marked) {
-            stack.push(top)?;
-            stack.push(nodes.len())?;
-            parents.push(top)?;
-            nodes.push(next)?;
+            visit(&mut nodes, &mut parents, &mut stack, top, next)?;
         }
     }
     Ok(Order { nodes, parents })
+}
+
+// The search comes to a node from the one at this place: it is the last of the nodes, and the search goes on from it.
+fn visit(
+    nodes: &mut Vec<u16>,
+    parents: &mut Vec<usize>,
+    stack: &mut Vec<usize>,
+    top: usize,
+    next: u16,
+) -> Result<(), AllocError>
+    ensures nodes { OnOk result (nodes.new.items ≡ nodes.old.items ++ next ∷ []) }
+    ensures parents { OnOk result (parents.new.items ≡ parents.old.items ++ top ∷ []) }
+    ensures stack { OnOk result (stack.new.items ≡ (stack.old.items ++ top ∷ []) ++ length nodes.old.items ∷ []) }
+{
+    stack.push(top)?;
+    stack.push(nodes.len())?;
+    parents.push(top)?;
+    nodes.push(next)?;
+    Ok(())
 }
 
 // Marks the first neighbour of a node, in port order, that has no mark. The ports that are known to lead to nodes with

@@ -1,4 +1,4 @@
-use Rattle.std.proofs.Common.{◌≡◌, ◌<◌, ℕ, List, Bool, length, map, set, get_or, true, false, ap, sym, subst, ◌∙◌, inl, inr, arith, length-set, get_or-set_other}
+use Rattle.std.proofs.Common.{◌≡◌, ◌<◌, ℕ, List, Bool, length, map, set, get_or, true, false, ap, sym, subst, ◌∙◌, inl, inr, arith, length-set, get_or-set_other, refl}
 use Rattle.std.specs.Prelude.{slice_index, slice_index_or}
 use Rattle.std.proofs.lemmas.Bool.{cases_eq}
 use Rattle.std.proofs.lemmas.List.{get_or-map, get_or_default}
@@ -70,3 +70,29 @@ returns-clause-passed c =
             | inr ne ↦ let at = get_or-set_other passed u v port 0 ne in mark_stays c.args.marked.now.items _ _ label (c.requires.passed.each v l k (omega (arith, h, at)))
           ];
     }
+
+pub bounds-ports-port : goal.bounds-ports-port
+bounds-ports-port c = c.in-Some.ensures.port
+
+pub index-requires : goal.index-requires
+index-requires c = let ok = c.args.passed.now.ok in omega (arith, c.requires.node, c.requires.passed.every, ok)
+
+pub index_mut-requires : goal.index_mut-requires
+index_mut-requires c = let ok = c.args.passed.now.ok in omega (arith, c.requires.node, c.requires.passed.every, ok)
+
+pub index_mut-requires-2 : goal.index_mut-requires-2
+index_mut-requires-2 c =
+    let ok = c.args.marked.now.ok in
+    let within = rw c.ports-ports.ensures at c.in-Some.ensures.port in
+    let label : node_in (get_or c.ports-ports.result.now c.in-Some.port none) < length c.args.marked.now.items =
+    rw (c.ports-ports.ensures, c.requires.marks) (ports_below c.args.topology.now c.invariant.ensures.topology c.args.u c.in-Some.port none within) in
+    omega (arith, label, ok)
+
+pub returns-clause-marks : goal.returns-clause-marks
+returns-clause-marks c = refl
+
+pub returns-in_default-clause-marks : goal.returns-in_default-clause-marks
+returns-in_default-clause-marks c = refl
+
+pub returns-in_default-clause-passed : goal.returns-in_default-clause-passed
+returns-in_default-clause-passed c = c.requires.passed

@@ -1,4 +1,4 @@
-use Rattle.std.proofs.Common.{◌≡◌, ◌<◌, ◌++◌, ℕ, List, [], ◌∷◌, length, arith, rules, ap, ◌∙◌, replicate, true, false}
+use Rattle.std.proofs.Common.{◌≡◌, ◌+◌, ◌<◌, ◌++◌, ℕ, List, [], ◌∷◌, length, arith, rules, ap, ◌∙◌, replicate, true, false}
 use Rattle.std.specs.Prelude.{slice_set}
 use Rattle.std.proofs.lemmas.List.{length_push, nil_from_length}
 use Rattle.ir_model.specs.Topology.{node_count}
@@ -46,16 +46,15 @@ search-smaller c =
     let long = ap (λ (xs : List ℕ). length xs) c.in-Some.ensures.items in
     omega (arith, more, long)
 
-pub search-smaller-in-Continue-branch-9 : goal.search-smaller-in-Continue-branch-9
-search-smaller-in-Continue-branch-9 c =
+pub search-smaller-in-Continue-branch-6 : goal.search-smaller-in-Continue-branch-6
+search-smaller-in-Continue-branch-6 c =
     let few = c.search-test.true in
     let len = c.len.ensures in
     let ok = c.search.nodes.ok in
     let stack0 = ap (λ (xs : List ℕ). length xs) c.in-Some.ensures.items ∙ length_push c.pop.new.self.items c.in-Some.top in
-    let stack1 = ap (λ (xs : List ℕ). length xs) c.in_ok-push-4.ensures.items ∙ length_push c.pop.new.self.items c.in-Some.top in
-    let stack2 = ap (λ (xs : List ℕ). length xs) c.in_ok-push-5.ensures.items ∙ length_push c.push-in-Some-mark_next.new.self.items c.len-in-Some-mark_next.result in
-    let nodes = ap (λ (xs : List ℕ). length xs) c.in_ok-push-7.ensures.items ∙ length_push c.search.nodes.items c.in-Some-mark_next.next in
-    omega (arith, few, len, ok, stack0, stack1, stack2, nodes)
+    let stack1 = ap (λ (xs : List ℕ). length xs) c.in_ok-visit.ensures.stack ∙ length_push (c.pop.new.self.items ++ c.in-Some.top ∷ []) (length c.search.nodes.items) ∙ ap (λ (k : ℕ). k + 1) (length_push c.pop.new.self.items c.in-Some.top) in
+    let nodes = ap (λ (xs : List ℕ). length xs) c.in_ok-visit.ensures.nodes ∙ length_push c.search.nodes.items c.in-Some-mark_next.next in
+    omega (arith, few, len, ok, stack0, stack1, nodes)
 
 pub search-preserved : goal.search-preserved
 search-preserved c =
@@ -69,24 +68,22 @@ search-preserved c =
       within = t.within;
     }
 
-pub search-preserved-in-Continue-branch-9 : goal.search-preserved-in-Continue-branch-9
-search-preserved-in-Continue-branch-9 c =
+pub search-preserved-in-Continue-branch-6 : goal.search-preserved-in-Continue-branch-6
+search-preserved-in-Continue-branch-6 c =
     let x = c.in-Some-mark_next.next in
     let t = c.search.invariant in
     let first : IsFirstUnmarked c.search.marked.items (neighbors_of c.args.topology.now c.index.result.now) x = c.in-Some-mark_next.ensures.first in
     let label : x < node_count c.args.topology.now = c.in-Some-mark_next.ensures.node in
     let marked : c.mark_next.new.marked.items ≡ slice_set c.search.marked.items x true = c.in-Some-mark_next.ensures.marks in
-    let stack1 : c.push-in-Some-mark_next.new.self.items ≡ c.pop.new.self.items ++ c.in-Some.top ∷ [] = c.in_ok-push-4.ensures.items in
-    let stack2 : c.push-in-Some-mark_next-2.new.self.items ≡ c.push-in-Some-mark_next.new.self.items ++ c.len-in-Some-mark_next.result ∷ [] = c.in_ok-push-5.ensures.items in
-    let parents : c.push-in-Some-mark_next-3.new.self.items ≡ c.search.parents.items ++ c.in-Some.top ∷ [] = c.in_ok-push-6.ensures.items in
-    let nodes : c.push-in-Some-mark_next-4.new.self.items ≡ c.search.nodes.items ++ x ∷ [] = c.in_ok-push-7.ensures.items in
-    let here : c.len-in-Some-mark_next.result ≡ length c.search.nodes.items = let e = c.len-in-Some-mark_next.ensures in omega arith in
+    let stack : c.visit.new.stack.items ≡ (c.pop.new.self.items ++ c.in-Some.top ∷ []) ++ length c.search.nodes.items ∷ [] = c.in_ok-visit.ensures.stack in
+    let parents : c.visit.new.parents.items ≡ c.search.parents.items ++ c.in-Some.top ∷ [] = c.in_ok-visit.ensures.parents in
+    let nodes : c.visit.new.nodes.items ≡ c.search.nodes.items ++ x ∷ [] = c.in_ok-visit.ensures.nodes in
     let more = length_push c.search.nodes.items x in
     let few = c.search-test.true in
     let len = c.len.ensures in
     let n = c.nodes-n.ensures.count in
     record {
-      traversal = rw (nodes, parents, stack2, stack1, here) (goes_on _ c.nodes-n.ensures.topology _ _ _ _ _ _ _ _ t.traversal t.marks c.in-Some.ensures.items c.index.ensures x label first);
+      traversal = rw (nodes, parents, stack) (goes_on _ c.nodes-n.ensures.topology _ _ _ _ _ _ _ _ t.traversal t.marks c.in-Some.ensures.items c.index.ensures x label first);
       marks = rw (nodes, marked) (marks_more _ _ _ t.marks x label);
       passed = c.in-Some-mark_next.ensures.passed;
       within = rw nodes (omega arith);
@@ -105,3 +102,26 @@ returns-clause-some c few =
           let u = some_unseen (node_count c.args.topology.now) c.search.nodes.items few in
           (u.0, u.1, λ walk is. u.2 (walk_is_seen c.args.topology.now _ _ _ _ done u.0 walk is))
     ]
+
+pub index_mut-requires : goal.index_mut-requires
+index_mut-requires c = omega (arith, c.requires, c.in_ok-marked.ensures.len, c.nodes-n.ensures.count)
+
+pub mark_next-requires-clause-marks : goal.mark_next-requires-clause-marks
+mark_next-requires-clause-marks c = c.search.invariant.marks.every
+
+pub mark_next-requires-clause-passed : goal.mark_next-requires-clause-passed
+mark_next-requires-clause-passed c = c.search.invariant.passed
+
+pub returns-clause-all : goal.returns-clause-all
+returns-clause-all c enough =
+    let i = c.search.invariant in
+    let t = i.traversal in
+    let every : length c.search.nodes.items ≡ node_count c.args.topology.now = omega (arith, enough, i.within) in
+    record {
+      every = every;
+      parented = t.parented ∙ every;
+      nodes = t.nodes;
+      once = t.once;
+      root_first = t.root_first;
+      next = λ k from below. t.next k from (omega (arith, below, every));
+    }

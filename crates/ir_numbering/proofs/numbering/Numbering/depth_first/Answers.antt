@@ -1,12 +1,28 @@
-use Rattle.std.proofs.Common.{ℕ, arith, refl, subst, sym}
+use Rattle.std.proofs.Common.{◌≡◌, ℕ, List, Result, Ok, Err, length, refl, ap, sym, subst, arith}
+use Rattle.std.proofs.lemmas.Result.{err_from_is_err_and}
 use Rattle.ir_model.specs.Topology.{node_count}
 use Rattle.ir_model.specs.Numbering.{neighbors_of, IsDepthFirst}
 use Rattle.ir_model.specs.Subtree.{IsNested}
 use Rattle.ir_model.specs.Plan.{AreLabels}
+use Rattle.ir_numbering.specs.declared.error.NumberError.{NumberError}
+use Rattle.ir_numbering.specs.declared.error.NumberError.TheVariants.{NoNode, Disconnected, NoMemory}
+use Rattle.ir_numbering.specs.Numbering.{Numbering}
 use Rattle.ir_numbering.proofs.Nested.{depth_first_nests}
 use Rattle.ir_numbering.proofs.ParentPorts.{sound_numbers}
 use Rattle.ir_numbering.proofs.Ways.{tree_connects}
 use Rattle.ir_numbering.proofs.numbering.Numbering.depth_first.Goals as goal
+
+made_is_no_refusal : (s : Numbering) (x : NumberError) → Ok s ≡ Err x → ⊥
+made_is_no_refusal s x e = cc
+
+other_refusal : (r : Result Numbering NumberError) → r ≡ Err NoNode → r ≡ Err Disconnected → ⊥
+other_refusal r e f = cc
+
+not_no_node : (r : Result Numbering NumberError) (x : NumberError) → r ≡ Err x → x ≡ NoMemory → r ≡ Err NoNode → ⊥
+not_no_node r x is memory e = cc
+
+not_disconnected : (r : Result Numbering NumberError) (x : NumberError) → r ≡ Err x → x ≡ NoMemory → r ≡ Err Disconnected → ⊥
+not_disconnected r x is memory e = cc
 
 pub returns-then-len-nodes-clause-disconnected : goal.returns-then-len-nodes-clause-disconnected
 returns-then-len-nodes-clause-disconnected c = λ e.
@@ -81,3 +97,46 @@ returns-clause-numbering c =
       labels = subst (λ (k : ℕ). AreLabels k c.in_ok-order.field-0.nodes.items c.in_ok-labels.labels.items) is.every labels;
       ports = rw (c.as_slice-2.ensures.value, c.as_slice-3.ensures.value) at c.in_ok-ports.ensures;
     }
+
+pub search-requires : goal.search-requires
+search-requires c = omega (arith, c.if-root-nodes.false, c.nodes.ensures.count)
+
+pub labels_of-requires-clause-few : goal.labels_of-requires-clause-few
+labels_of-requires-clause-few c =
+    let is = c.in_ok-order.ensures.all (omega (arith, c.nodes-2.ensures.count, c.if-len-nodes.false, c.len.ensures, c.in_ok-order.field-0.nodes.ok)) in
+    omega (arith, ap (λ (xs : List ℕ). length xs) c.as_slice.ensures.value, is.every, c.nodes-2.ensures.topology.few_nodes)
+
+pub subtree_sizes-requires-clause-few : goal.subtree_sizes-requires-clause-few
+subtree_sizes-requires-clause-few c =
+    let is = c.in_ok-order.ensures.all (omega (arith, c.nodes-2.ensures.count, c.if-len-nodes.false, c.len.ensures, c.in_ok-order.field-0.nodes.ok)) in
+    omega (arith, ap (λ (xs : List ℕ). length xs) c.as_slice-5.ensures.value, is.parented, c.nodes-2.ensures.topology.few_nodes)
+
+pub returns-then-root-nodes-clause-no_node : goal.returns-then-root-nodes-clause-no_node
+returns-then-root-nodes-clause-no_node c = ((λ e. omega (arith, c.if-root-nodes.true, c.nodes.ensures.count)), (λ past. refl))
+
+pub returns-then-root-nodes-clause-disconnected : goal.returns-then-root-nodes-clause-disconnected
+returns-then-root-nodes-clause-disconnected c e = absurd (other_refusal _ refl e)
+
+pub returns-then-len-nodes-clause-no_node : goal.returns-then-len-nodes-clause-no_node
+returns-then-len-nodes-clause-no_node c = ((λ e. absurd (other_refusal _ e refl)), (λ past. absurd (omega (arith, past, c.if-root-nodes.false, c.nodes.ensures.count))))
+
+pub returns-in_err-order-clause-no_node : goal.returns-in_err-order-clause-no_node
+returns-in_err-order-clause-no_node c =
+    let no = err_from_is_err_and c.from_residual.result c.from_residual.ensures.1 in
+    ((λ e. absurd (not_no_node c.from_residual.result no.0 no.1 no.2 e)), (λ past. absurd (omega (arith, past, c.if-root-nodes.false, c.nodes.ensures.count))))
+
+pub returns-in_err-order-clause-connected : goal.returns-in_err-order-clause-connected
+returns-in_err-order-clause-connected c =
+    let no = err_from_is_err_and c.from_residual.result c.from_residual.ensures.1 in
+    rw no.1 tt
+
+pub returns-in_err-order-clause-disconnected : goal.returns-in_err-order-clause-disconnected
+returns-in_err-order-clause-disconnected c e =
+    let no = err_from_is_err_and c.from_residual.result c.from_residual.ensures.1 in
+    absurd (not_disconnected c.from_residual.result no.0 no.1 no.2 e)
+
+pub returns-clause-no_node : goal.returns-clause-no_node
+returns-clause-no_node c = ((λ e. absurd (made_is_no_refusal _ _ e)), (λ past. absurd (omega (arith, past, c.if-root-nodes.false, c.nodes.ensures.count))))
+
+pub returns-clause-disconnected : goal.returns-clause-disconnected
+returns-clause-disconnected c e = absurd (made_is_no_refusal _ _ e)

@@ -1,4 +1,4 @@
-use Rattle.std.proofs.Common.{◌≡◌, ℕ, List, Option, None, length, replicate, ap, subst, ◌∙◌, arith, rules}
+use Rattle.std.proofs.Common.{◌≡◌, ℕ, List, Option, None, length, replicate, ap, subst, ◌∙◌, arith, rules, refl}
 use Rattle.std.proofs.lemmas.List.{length-replicate, get_or-replicate}
 use Rattle.ir_model.specs.Subtree.{IsNested}
 use Rattle.ir_numbering.proofs.numbering.Numbering.listed.Goals as goal
@@ -39,3 +39,15 @@ invariant_of-result c =
 
 pub returns-clause-labels : goal.returns-clause-labels
 returns-clause-labels c = rw c.as_slice.ensures.value at c.in_ok-labels.ensures
+
+pub labels_of-requires-clause-few : goal.labels_of-requires-clause-few
+labels_of-requires-clause-few c = omega (arith, ap (λ (xs : List ℕ). length xs) c.as_slice.ensures.value, c.requires.few)
+
+pub subtree_sizes-requires-clause-few : goal.subtree_sizes-requires-clause-few
+subtree_sizes-requires-clause-few c =
+    let ok = c.args.order.ok in
+    let made = c.in_ok-parents.parents.ok in
+    omega (arith, ap (λ (xs : List ℕ). length xs) c.as_slice-2.ensures.value, c.in_ok-parents.ensures.len, made, c.len.ensures, ok, c.requires.few)
+
+pub returns-clause-order : goal.returns-clause-order
+returns-clause-order c = refl
