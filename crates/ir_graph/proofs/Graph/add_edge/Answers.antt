@@ -1,5 +1,6 @@
-use Rattle.std.proofs.Common.{◌≡◌, ◌≤◌, ◌<◌, ◌+◌, ◌∙◌, Bool, not, cond, refl, sym, ap, subst, arith, true, length, None, is_some}
-use Rattle.std.proofs.lemmas.Bool.{and_from, le-leb, lt-ltb}
+use Rattle.std.proofs.Common.{◌≡◌, ◌≤◌, ◌<◌, ◌+◌, ◌∙◌, ◌&&◌, Bool, not, cond, refl, sym, ap, subst, arith, true, false, length, None, is_some, nat_le, ⊎_elim}
+use Rattle.std.proofs.lemmas.Bool.{and_from, le-leb, lt-leb, lt-ltb}
+use Rattle.std.proofs.Math.Bool.{and-false}
 use Rattle.ir_model.specs.Graph.{is_name, is_weight, with_node, with_edge, weight_of, edges}
 use Rattle.ir_model.specs.declared.TheConstants.{MAX_NODES, MAX_EDGES, MAX_WEIGHT}
 use Rattle.ir_graph.specs.Faults.{edge_fault}
@@ -8,6 +9,8 @@ use Rattle.ir_graph.specs.Kept.{IsKept}
 use Rattle.ir_graph.proofs.Joined.{has_node-weight_of}
 use Rattle.ir_graph.proofs.Keeping.{kept-new_edge, kept-old_edge, length-edges-new, length-edges-old, edge_fault-none, edge_fault-edges, with_nodes-there}
 use Rattle.ir_graph.proofs.Graph.add_edge.Goals as goal
+use Rattle.ir_graph.proofs.Graph.add_edge.Goals.{then-not-is_valid_name-via-then-not-is_valid_name}
+use Rattle.ir_graph.proofs.Graph.add_edge.Goals.{then-not-is_valid_name-via-else-not-is_valid_name+then-not-is_valid_name-2}
 
 pub invariant_of-self : goal.invariant_of-self
 invariant_of-self c =
@@ -128,3 +131,28 @@ returns-then-len_with-gt-MAX_NODES-clause-refused c =
 
 pub returns-then-len_with-gt-MAX_NODES-clause-err : goal.returns-then-len_with-gt-MAX_NODES-clause-err
 returns-then-len_with-gt-MAX_NODES-clause-err c = refl
+
+-- the first test refuses an edge, or the second
+first : {A : Type 0} (p : Bool) (a x : A) → p ≡ false → cond (not p) a x ≡ a
+first p a x e = ap (λ t. cond (not t) a x) e
+
+second : {A : Type 0} (p q : Bool) (a b x : A) → p ≡ true → q ≡ false → cond (not p) a (cond (not q) b x) ≡ b
+second p q a b x e f = ap (λ t. cond (not t) a (cond (not q) b x)) e ∙ ap (λ t. cond (not t) b x) f
+
+pub returns-then-not-is_valid_name-clause-refused : goal.returns-then-not-is_valid_name-clause-refused
+returns-then-not-is_valid_name-clause-refused c =
+    let v = c.args.v.now in
+    first _ _ _ (elim c.then-not-is_valid_name.branch [
+      | then-not-is_valid_name-via-then-not-is_valid_name w ↦ ap (λ b. b && is_name v) (sym w.if-not-is_valid_name.ensures)
+      | then-not-is_valid_name-via-else-not-is_valid_name+then-not-is_valid_name-2 w ↦
+          ap (λ b. b && is_name v) (sym w.if-not-is_valid_name.ensures) ∙ sym w.if-not-is_valid_name-2.ensures
+    ])
+
+pub returns-then-weight-eq0-clause-refused : goal.returns-then-weight-eq0-clause-refused
+returns-then-weight-eq0-clause-refused c =
+    let named = and_from _ _ (sym c.if-not-is_valid_name.ensures) (sym c.if-not-is_valid_name-2.ensures) in
+    second _ _ _ _ _ named (⊎_elim (λ (none : c.args.weight ≡ 0). ap is_weight none)
+    (λ (over : (c.args.weight ≡ 0 → ⊥) × MAX_WEIGHT < c.args.weight). ap (λ b. nat_le 1 c.args.weight && b) (lt-leb c.args.weight MAX_WEIGHT over.1) ∙ and-false (nat_le 1 c.args.weight)) c.then-weight-eq0.either)
+
+pub invariant_of-self-in-Err : goal.invariant_of-self-in-Err
+invariant_of-self-in-Err c = subst (λ g. IsKept g c.self.inside.edge_count) (sym c.in-Err.ensures.err) c.self.invariant

@@ -1,5 +1,5 @@
 use Rattle.std.proofs.Common.{◌+◌, ◌≡◌, ◌≤◌, ◌<◌, ◌∙◌, ◌++◌, ◌∷◌, [], None, Some, not, sym, ap, subst, arith, true, false, length, cond, nat_lt}
-use Rattle.std.proofs.lemmas.Bool.{le-ltb}
+use Rattle.std.proofs.lemmas.Bool.{le-ltb, lt-ltb}
 use Rattle.ir_model.specs.Graph.{Name, Adjacency, has_node, is_name, with_node}
 use Rattle.ir_model.specs.declared.TheConstants.{MAX_NODES}
 use Rattle.ir_graph.specs.Faults.{node_fault}
@@ -79,3 +79,19 @@ returns-clause-err c =
       | in-Ok w ↦ rw w.result-is tt
       | in-Err w ↦ rw w.result-is (w.in-Err.ensures.err ∙ c.self.view_is)
     ]
+
+pub returns-then-not-is_valid_name-clause-refused : goal.returns-then-not-is_valid_name-clause-refused
+returns-then-not-is_valid_name-clause-refused c =
+    let g = c.args.self.now in
+    let x = c.args.name.now in
+    ap (λ t. cond (not t) (Some BadName) (cond (nat_lt MAX_NODES (length (with_node g x))) (Some TooManyNodes) None)) (sym c.if-not-is_valid_name.ensures)
+
+pub returns-then-number_of_nodes-ge-MAX_NODES-clause-refused : goal.returns-then-number_of_nodes-ge-MAX_NODES-clause-refused
+returns-then-number_of_nodes-ge-MAX_NODES-clause-refused c =
+    let g = c.args.self.now in
+    let x = c.args.name.now in
+    let full = c.if-number_of_nodes-ge-MAX_NODES.true in
+    let count = c.number_of_nodes.ensures.len in
+    let more = length-with_node_is g x ∙ ap (λ b. length g + cond b 0 1) (sym (c.if-has_row.ensures ∙ ap (λ g. has_node g x) c.self.view_is)) in
+    ap (λ t. cond (not t) (Some BadName) (cond (nat_lt MAX_NODES (length (with_node g x))) (Some TooManyNodes) None)) (sym c.if-not-is_valid_name.ensures)
+    ∙ ap (λ t. cond t (Some TooManyNodes) None) (lt-ltb MAX_NODES (length (with_node g x)) (omega (arith, full, count, more)))

@@ -1,4 +1,5 @@
 use Rattle.std.proofs.Common.{◌≡◌, ◌+◌, ◌∙◌, sym, ap, subst, nat_eq, arith, [], ◌∷◌, length, slice_get}
+use Rattle.std.proofs.lemmas.Result.{err_from_is_err_and}
 use Rattle.indexmap.specs.IndexSet.{insert_key}
 use Rattle.ir_graph.specs.View.{rows_view}
 use Rattle.ir_graph.specs.Reached.{HasPlace, HasNeighbors, AreReached, HasMoreBehind}
@@ -52,3 +53,23 @@ returns-clause-closed c =
     let g = rows_view c.args.rows.now in
     let full : c.loop-turn.turn ≡ length g = omega arith in
     closed_all g c.requires.graph c.loop-turn.reached.keys c.loop-turn.invariant.reached (subst (ClosedBefore g c.requires.graph c.loop-turn.reached.keys) full c.loop-turn.invariant.closed)
+
+pub reach_neighbors-requires-clause-graph : goal.reach_neighbors-requires-clause-graph
+reach_neighbors-requires-clause-graph c = c.requires.graph
+
+pub reach_neighbors-requires-clause-before : goal.reach_neighbors-requires-clause-before
+reach_neighbors-requires-clause-before c = c.loop-turn.invariant.reached
+
+pub returns-clause-reached : goal.returns-clause-reached
+returns-clause-reached c = c.loop-turn.invariant.reached
+
+pub returns-clause-first : goal.returns-clause-first
+returns-clause-first c = c.loop-turn.invariant.first
+
+pub returns-in_default : goal.returns-in_default
+returns-in_default c = record { reached = tt; closed = tt; first = tt }
+
+pub returns-in_err-reach_neighbors : goal.returns-in_err-reach_neighbors
+returns-in_err-reach_neighbors c =
+    let is = (err_from_is_err_and c.from_residual.result c.from_residual.ensures.1).1 in
+    record { reached = rw is tt; closed = rw is tt; first = rw is tt }
