@@ -1,6 +1,4 @@
-use Rattle.std.proofs.Common.{arith}
 use Rattle.ir_numbering.proofs.ParentPorts.{parent_linked_to, first_has_none, other_has_port}
-use Rattle.ir_numbering.proofs.Nested.{depth_first_nests}
 use Rattle.ir_numbering.proofs.parents.parent_port.Goals as goal
 
 pub port_to_neighbor-requires : goal.port_to_neighbor-requires
@@ -15,15 +13,3 @@ returns c =
 pub returns-then-label-eq0 : goal.returns-then-label-eq0
 returns-then-label-eq0 c =
     first_has_none c.args.topology.now c.invariant.ensures.topology _ c.args.order.now c.args.parents.now c.args.labels.now c.requires.order c.requires.labels c.args.u c.requires.node c.if-label-eq0.true
-
-pub bounds-labels-u : goal.bounds-labels-u
-bounds-labels-u c = omega (arith, c.requires.labels.every_node, c.requires.node)
-
-pub bounds-parents-label : goal.bounds-parents-label
-bounds-parents-label c = omega (arith, c.requires.labels.label c.args.u c.requires.node, c.requires.order.parented)
-
-pub bounds-order-parents : goal.bounds-order-parents
-bounds-order-parents c =
-    let label = c.requires.labels.label c.args.u c.requires.node in
-    let nest = depth_first_nests _ _ _ c.args.order.now c.args.parents.now c.requires.order in
-    omega (arith, nest.lower _ (omega (arith, c.if-label-eq0.false)) label, label, c.requires.order.every)

@@ -46,12 +46,3 @@ returns c =
       | else-loop-end-test w ↦ let f = w.loop-end-test.false in omega arith
     ] in
     subtree_ends _ _ c.requires.nested _ c.loop-end.end l.from l.to l.inside last
-
-pub bounds-parents-end : goal.bounds-parents-end
-bounds-parents-end c = c.loop-end-test.true
-
-pub bounds-sizes-end : goal.bounds-sizes-end
-bounds-sizes-end c = omega (arith, c.loop-end-test.true, c.requires.sizes.every)
-
-pub loop-end-init : goal.loop-end-init
-loop-end-init c = record { from = omega arith; to = omega (arith, c.requires.place); inside = λ k low high. absurd (omega (arith, low, high)) }

@@ -38,17 +38,3 @@ returns c =
     let low = nest.lower (length c.args.before.now) (omega arith) c.requires.before in
     other_cell c.args.topology.now c.invariant.ensures.topology c.args.order.now c.args.parents.now c.requires.order c.args.own c.requires.own
     (length c.args.before.now) (omega arith) c.requires.before c.if-place-own.false c.if-parent-own.false _ (c.requires.cells.each _ low)
-
-pub bounds-parents-place : goal.bounds-parents-place
-bounds-parents-place c = omega (arith, c.requires.before, c.requires.order.parented)
-
-pub bounds-order-own : goal.bounds-order-own
-bounds-order-own c = omega (arith, c.requires.own, c.requires.order.every)
-
-pub bounds-order-place : goal.bounds-order-place
-bounds-order-place c = omega (arith, c.requires.before, c.requires.order.every)
-
-pub bounds-before-parent : goal.bounds-before-parent
-bounds-before-parent c =
-    let nest = depth_first_nests _ _ _ c.args.order.now c.args.parents.now c.requires.order in
-    nest.lower (length c.args.before.now) (omega (arith, c.if-place-eq0.false)) c.requires.before
