@@ -47,3 +47,12 @@ pub returns-clause-starts : goal.returns-clause-starts
 returns-clause-starts c = λ ports stand.
     let all : c.loop-d.d ≡ c.args.n = omega (arith, c.loop-d-test.false, c.loop-d.auto.d-end) in
     subst (λ (d : ℕ). IsPartial c.args.n c.args.own ports d (starts_of (take c.loop-d.count c.loop-d.words))) all (c.loop-d.invariant.starts ports stand)
+
+pub bounds-plain-before : goal.bounds-plain-before
+bounds-plain-before c = omega (arith, c.before-2.ensures.label, c.requires.every)
+
+pub bounds-plain-d : goal.bounds-plain-d
+bounds-plain-d c = omega (arith, c.loop-d-test.true, c.requires.every)
+
+pub put-count-requires : goal.put-count-requires
+put-count-requires c = omega (arith, c.loop-d.invariant.few, c.loop-d.invariant.room, c.loop-d-test.true)

@@ -1,4 +1,4 @@
-use Rattle.std.proofs.Common.{ℕ, List, Option, sym, ◌∙◌}
+use Rattle.std.proofs.Common.{ℕ, List, Option, length, ap, sym, ◌∙◌}
 use Rattle.std.proofs.lemmas.Result.{IfOk-weaker}
 use Rattle.ir_model.specs.Row.{Start}
 use Rattle.ir_model.specs.Compiled.{IsCanonical}
@@ -33,3 +33,21 @@ returns c =
       is,
     ))
     (canonical held some.1)
+
+pub first_of_longest-requires : goal.first_of_longest-requires
+first_of_longest-requires c = record { two = c.requires.two; own = c.requires.own; steps = c.requires.steps; on = c.requires.on }
+
+pub label_at-start-requires : goal.label_at-start-requires
+label_at-start-requires c = record { start = c.requires.own; place = c.first_of_longest.ensures.in_round }
+
+pub plain_round-requires-clause-steps : goal.plain_round-requires-clause-steps
+plain_round-requires-clause-steps c = c.requires.steps
+
+pub plain_round-requires-clause-ports : goal.plain_round-requires-clause-ports
+plain_round-requires-clause-ports c = c.requires.ports
+
+pub plain_round-requires-clause-start : goal.plain_round-requires-clause-start
+plain_round-requires-clause-start c = c.label_at-start.ensures.label
+
+pub row_of_ports-requires : goal.row_of_ports-requires
+row_of_ports-requires c = record { own = c.requires.own; every = ap (λ (xs : List ℕ). length xs) c.as_slice.ensures.value ∙ c.in_ok-plain.ensures.every }

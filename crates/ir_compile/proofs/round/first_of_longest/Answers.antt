@@ -57,3 +57,6 @@ returns c =
                 (others.0, others.1, omega (arith, few, more))
           ];
     }
+
+pub bounds-counts-first : goal.bounds-counts-first
+bounds-counts-first c = omega (arith, c.label_at-first.ensures.label, c.requires.steps.every)

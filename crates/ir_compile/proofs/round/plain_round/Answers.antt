@@ -15,3 +15,21 @@ returns-clause-ports c =
     IfOk-weaker c.turned.result _ _
     (λ plain each held stand. c.put_round.ensures.ports held (λ j l ne. stand.each (label_from n s j) (from_is_label n s j c.requires.start) ne ∙ ap (λ (p : ℕ). Some p) (each j l)))
     turned
+
+pub overflow_add-n : goal.overflow_add-n
+overflow_add-n c = record { fits = omega (arith, c.ranges.n.fits) }
+
+pub put_round-requires : goal.put_round-requires
+put_round-requires c =
+    let room = c.as_mut_slice.ensures.len in
+    let long = c.in_ok-places.ensures.len in
+    record {
+      room = omega (arith, room, long);
+      steps = c.requires.steps;
+      ports = c.requires.ports;
+      start = c.requires.start;
+      off = c.requires.off;
+    }
+
+pub turned-requires : goal.turned-requires
+turned-requires c = record { start = c.requires.start; room = omega (arith, c.as_slice.ensures.len, c.in_ok-places.ensures.len) }

@@ -1,4 +1,4 @@
-use Rattle.std.proofs.Common.{◌≡◌, ℕ, suc, Some, ◌∙◌, ap, arith}
+use Rattle.std.proofs.Common.{◌≡◌, ℕ, suc, Some, refl, ◌∙◌, ap, arith}
 use Rattle.std.specs.Prelude.{slice_index}
 use Rattle.ir_model.specs.Choices.{label_from}
 use Rattle.ir_model.proofs.Steps.{steps_more, ports_more, after_off, step_some}
@@ -35,3 +35,15 @@ returns-clause-ports c = λ held at.
     let v = c.loop-place.invariant in
     let inside = v.inside in
     v.rest 0 held (omega (arith, c.loop-place-test.false)) tt (λ j l ne. at j (omega (arith, l, inside)) ne)
+
+pub label_at-requires : goal.label_at-requires
+label_at-requires c = record { start = c.requires.start; place = c.loop-place-test.true }
+
+pub bounds-ports-label_at : goal.bounds-ports-label_at
+bounds-ports-label_at c = omega (arith, c.label_at.ensures.label, c.requires.ports)
+
+pub put_run-requires : goal.put_run-requires
+put_run-requires c = omega (arith, c.requires.room, c.loop-place.invariant.every, c.place_after-after.ensures.inside)
+
+pub loop-place-init : goal.loop-place-init
+loop-place-init c = record { every = refl; inside = omega arith; off = λ _. c.requires.off; rest = λ k last go have kept. (k, go, have) }

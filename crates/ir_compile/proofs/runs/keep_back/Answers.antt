@@ -64,3 +64,42 @@ pub returns-clause-block : goal.returns-clause-block
 returns-clause-block c =
     back_round c.args.n c.args.own c.args.marked.marks.now c.args.marked.port c.args.end c.loop-run.run c.loop-run.a c.args.counts.now c.args.ports.now c.loop-run.counts c.loop-run.ports
     (omega (arith, c.loop-run-test.false)) c.loop-run.invariant.walk
+
+pub after-requires : goal.after-requires
+after-requires c = c.requires.end
+
+pub is_served-requires : goal.is_served-requires
+is_served-requires c = omega (arith, c.after.ensures.label, c.requires.every)
+
+pub is_served-requires-in-loop-run : goal.is_served-requires-in-loop-run
+is_served-requires-in-loop-run c = omega (arith, c.loop-run.invariant.walk.label, c.requires.every)
+
+pub bounds-counts-a : goal.bounds-counts-a
+bounds-counts-a c = omega (arith, c.loop-run.invariant.walk.label, c.loop-run.invariant.counts_len)
+
+pub bounds-ports-a : goal.bounds-ports-a
+bounds-ports-a c = omega (arith, c.loop-run.invariant.walk.label, c.loop-run.invariant.ports_len)
+
+pub overflow_cast-a : goal.overflow_cast-a
+overflow_cast-a c = record { fits = omega (arith, c.ranges.n.fits, c.loop-run.invariant.walk.label) }
+
+pub one_before-a-requires : goal.one_before-a-requires
+one_before-a-requires c = c.loop-run.invariant.walk.label
+
+pub returns-clause-each : goal.returns-clause-each
+returns-clause-each c = c.loop-run.invariant.walk.each
+
+pub returns-then-not-is_served-clause-each : goal.returns-then-not-is_served-clause-each
+returns-then-not-is_served-clause-each c = c.loop-run.invariant.walk.each
+
+pub overflow_add-counts : goal.overflow_add-counts
+overflow_add-counts c = record { fits = omega (arith, c.ranges.n.fits, c.loop-run-test.true) }
+
+pub overflow_cast-ports : goal.overflow_cast-ports
+overflow_cast-ports c = record { fits = omega (arith, c.ranges.n.fits, c.loop-run.invariant.walk.label) }
+
+pub overflow_cast-counts : goal.overflow_cast-counts
+overflow_cast-counts c = record { fits = omega (arith, c.ranges.n.fits, c.loop-run.invariant.walk.label) }
+
+pub bounds-counts-a-then-counts-a : goal.bounds-counts-a-then-counts-a
+bounds-counts-a-then-counts-a c = omega (arith, c.loop-run.invariant.walk.label, c.loop-run.invariant.counts_len)

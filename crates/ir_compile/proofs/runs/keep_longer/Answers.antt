@@ -66,3 +66,18 @@ returns-clause-longer c =
     let zero : 0 < n = omega (arith, c.requires.own) in
     all_kept n c.args.own c.args.marked.marks.now c.args.marked.port c.args.marked.labels.now c.loop-label.label-index c.args.counts.now c.args.ports.now c.loop-label.counts c.loop-label.ports
     c.requires.marked (omega (arith, c.loop-label-test.false)) (label_from n 0 front) (from_is_label n 0 front zero) (λ served. stop.1 (served stop.0)) c.loop-label.invariant.each c.loop-label.invariant.blocks
+
+pub front_run-requires : goal.front_run-requires
+front_run-requires c = record { every = c.requires.every; own = c.requires.own }
+
+pub keep_round-requires : goal.keep_round-requires
+keep_round-requires c = record { counts = c.requires.counts; ports = c.requires.ports }
+
+pub keep_back-requires : goal.keep_back-requires
+keep_back-requires c = record {
+  every = c.requires.every;
+  own = c.requires.own;
+  end = c.requires.own;
+  counts = c.requires.counts;
+  ports = c.requires.ports;
+}

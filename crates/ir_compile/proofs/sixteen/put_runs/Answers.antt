@@ -28,3 +28,15 @@ loop-k-preserved c =
       runs = subst (λ (m : ℕ). AreWordRuns n twice m (set c.loop-k.counts a size) (set c.loop-k.ports a port)) next
           (runs_more n twice a c.loop-k.counts c.loop-k.ports size port (omega (arith, inside, k_in, counts_len)) (omega (arith, inside, k_in, ports_len)) v.runs run);
     }
+
+pub bounds-sizes-k : goal.bounds-sizes-k
+bounds-sizes-k c = omega (arith, c.requires.short.all_sizes, c.loop-k-test.true)
+
+pub bounds-shared-k : goal.bounds-shared-k
+bounds-shared-k c = omega (arith, c.requires.short.all_ports, c.loop-k-test.true)
+
+pub bounds-counts-from : goal.bounds-counts-from
+bounds-counts-from c = omega (arith, c.requires.inside, c.loop-k-test.true, c.loop-k.invariant.counts_len)
+
+pub bounds-ports-from : goal.bounds-ports-from
+bounds-ports-from c = omega (arith, c.requires.inside, c.loop-k-test.true, c.loop-k.invariant.ports_len)

@@ -19,3 +19,17 @@ loop-from-preserved c = record {
 
 pub returns-clause-runs : goal.returns-clause-runs
 returns-clause-runs c = λ a l k. c.loop-from.invariant.runs a (omega (arith, l, c.loop-from-test.false)) k
+
+pub fill_some-from-requires : goal.fill_some-from-requires
+fill_some-from-requires c =
+    let i = c.loop-from.invariant in
+    record {
+      few = c.requires.few;
+      twice = c.requires.twice;
+      some = c.requires.some;
+      inside = c.loop-from-test.true;
+      backs = i.backs_len;
+      counts = i.counts_len;
+      ports = i.ports_len;
+      runs = i.runs;
+    }

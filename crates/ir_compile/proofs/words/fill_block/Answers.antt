@@ -57,3 +57,21 @@ loop-a-preserved c =
       some = (port, run.low, λ k l b. run.common k (omega (arith, l)) (omega (arith, b, is)));
       runs = runs_more n twice a c.loop-a.counts c.loop-a.ports count port (omega (arith, test, last, len)) (omega (arith, test, last, ports_len)) v.runs run;
     }
+
+pub overflow_add-a : goal.overflow_add-a
+overflow_add-a c = record { fits = omega (arith, c.requires.few, c.loop-a-test.true, c.min-a-end.ensures) }
+
+pub extended-further-requires : goal.extended-further-requires
+extended-further-requires c = record {
+  limit = c.loop-a.invariant.within;
+  room = omega (arith, c.requires.twice, c.loop-a-test.true, c.min-a-end.ensures);
+}
+
+pub bounds-backs-a : goal.bounds-backs-a
+bounds-backs-a c = omega (arith, c.requires.room, c.loop-a-test.true, c.min-a-end.ensures)
+
+pub bounds-counts-a : goal.bounds-counts-a
+bounds-counts-a c = omega (arith, c.loop-a.invariant.counts_len, c.loop-a-test.true, c.min-a-end.ensures)
+
+pub bounds-ports-a : goal.bounds-ports-a
+bounds-ports-a c = omega (arith, c.loop-a.invariant.ports_len, c.loop-a-test.true, c.min-a-end.ensures)

@@ -1,4 +1,4 @@
-use Rattle.std.proofs.Common.{◌≡◌, ◌+◌, ◌-◌, ◌^◌, ◌<◌, ℕ, List, arith, rules, subst, w32, slice_index}
+use Rattle.std.proofs.Common.{◌≡◌, ◌+◌, ◌-◌, ◌^◌, ◌<◌, ℕ, List, ◌∙◌, arith, rules, subst, w32, slice_index}
 use Rattle.std.specs.Int.{trailing_zeros}
 use Rattle.std.specs.Int.Bits.{bit_and}
 use Rattle.ir_compile.specs.PortBits.{AreCommon, IsWordRun}
@@ -30,3 +30,36 @@ fill_block-requires-clause-common c =
     let made = c.extended-to.ensures in
     let common : AreCommon twice from c.extended-to.result.0 c.extended-to.result.1 = made.common from (omega arith) (common_none twice from) in
     begun_common twice from c.extended-to.result.0 c.extended-to.result.1 common (made.some all_some)
+
+pub overflow_add-from : goal.overflow_add-from
+overflow_add-from c = record { fits = omega (arith, c.requires.inside, c.requires.few) }
+
+pub extended-to-requires : goal.extended-to-requires
+extended-to-requires c = record { limit = omega arith; room = omega (arith, c.requires.inside, c.requires.twice) }
+
+pub overflow_sub-to : goal.overflow_sub-to
+overflow_sub-to c = c.extended-to.ensures.further
+
+pub bounds-counts-from : goal.bounds-counts-from
+bounds-counts-from c = omega (arith, c.requires.inside, c.requires.counts)
+
+pub bounds-ports-from : goal.bounds-ports-from
+bounds-ports-from c = omega (arith, c.requires.inside, c.requires.ports)
+
+pub put_backs-requires : goal.put_backs-requires
+put_backs-requires c =
+    let within = c.extended-to.ensures.within in
+    record {
+      block = c.extended-to.ensures.further;
+      room = omega (arith, within, c.requires.inside, c.requires.twice);
+      backs = omega (arith, within, c.requires.inside, c.requires.backs);
+    }
+
+pub returns : goal.returns
+returns c = record {
+  further = omega (arith, c.extended-to.ensures.further, c.if-to-from-lt-LEAST_BLOCK.false);
+  backs = c.put_backs.ensures.length ∙ c.requires.backs;
+  counts = c.fill_block.ensures.counts;
+  ports = c.fill_block.ensures.ports;
+  runs = c.fill_block.ensures.runs;
+}

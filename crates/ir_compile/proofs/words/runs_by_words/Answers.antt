@@ -1,4 +1,4 @@
-use Rattle.std.proofs.Common.{ℕ, List, length, drop, arith}
+use Rattle.std.proofs.Common.{◌∙◌, ℕ, List, length, drop, ap, arith}
 use Rattle.std.proofs.lemmas.List.{take_at}
 use Rattle.ir_compile.proofs.PortBits.{rounds_some, word_runs_longest}
 use Rattle.ir_compile.proofs.words.runs_by_words.Goals as goal
@@ -31,3 +31,21 @@ returns-clause-longest c =
       take_at ports (drop (length ports) c.in_ok-ports.ports.items) c.in_ok-ports.ports.len (omega (arith, ports_len, c.in_ok-ports.ensures.len)),
     )
     (word_runs_longest c.args.n c.args.own c.args.words.now c.in_ok-twice.twice.items c.in_ok-twice.ensures counts ports runs)
+
+pub overflow_mul-nodes : goal.overflow_mul-nodes
+overflow_mul-nodes c = record { fits = omega (arith, c.ranges.n.fits) }
+
+pub fill-requires-clause-few : goal.fill-requires-clause-few
+fill-requires-clause-few c = omega (arith, c.ranges.n.fits)
+
+pub fill-requires-clause-twice : goal.fill-requires-clause-twice
+fill-requires-clause-twice c = ap (λ (xs : List ℕ). length xs) c.as_slice.ensures.value ∙ c.in_ok-twice.ensures.every
+
+pub fill-requires-clause-backs : goal.fill-requires-clause-backs
+fill-requires-clause-backs c = c.as_mut_slice.ensures.len ∙ c.in_ok-backs.ensures.len
+
+pub fill-requires-clause-counts : goal.fill-requires-clause-counts
+fill-requires-clause-counts c = c.as_mut_slice-2.ensures.len ∙ c.in_ok-counts.ensures.len
+
+pub fill-requires-clause-ports : goal.fill-requires-clause-ports
+fill-requires-clause-ports c = c.as_mut_slice-3.ensures.len ∙ c.in_ok-ports.ensures.len
