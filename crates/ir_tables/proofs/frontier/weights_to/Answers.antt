@@ -47,3 +47,20 @@ loop-weight-smaller-in-Continue-branch-3 c =
 pub returns : goal.returns
 returns c =
     frontier_empty c.args.topology.now c.nodes.ensures.topology c.args.d c.loop-weight.weights.items (heap_items c.loop-weight.frontier) (omega (arith, c.in_default.ensures.none, c.loop-weight.frontier.data.ok.0)) c.loop-weight.invariant
+
+pub index-requires : goal.index-requires
+index-requires c =
+    let in_net = popped_node c.args.topology.now c.args.d c.loop-weight.weights.items (heap_items c.loop-weight.frontier) (heap_items c.pop.new.self) c.in-Some.field-0 c.in-Some.ensures.permutation c.loop-weight.invariant in
+    omega (arith, in_net, c.loop-weight.invariant.len, c.loop-weight.weights.ok.0)
+
+pub offer-requires-clause-node : goal.offer-requires-clause-node
+offer-requires-clause-node c =
+    popped_node c.args.topology.now c.args.d c.loop-weight.weights.items (heap_items c.loop-weight.frontier) (heap_items c.pop.new.self) c.in-Some.field-0 c.in-Some.ensures.permutation c.loop-weight.invariant
+
+pub offer-requires-clause-weights : goal.offer-requires-clause-weights
+offer-requires-clause-weights c = ap length c.as_mut_slice.ensures.value ∙ c.loop-weight.invariant.len
+
+pub loop-weight-smaller : goal.loop-weight-smaller
+loop-weight-smaller c =
+    let gone = length_permutation (heap_items c.loop-weight.frontier) (c.in-Some.field-0 ∷ heap_items c.pop.new.self) c.in-Some.ensures.permutation in
+    omega (arith, gone)
