@@ -1,4 +1,4 @@
-use Rattle.std.proofs.Common.{◌<◌, arith}
+use Rattle.std.proofs.Common.{arith}
 use Rattle.ir_tables.specs.Keys.{keys_waiting}
 use Rattle.ir_tables.proofs.Waiting.{kept_then}
 use Rattle.ir_tables.proofs.keyed.Frontier.bring_near.Goals as goal
