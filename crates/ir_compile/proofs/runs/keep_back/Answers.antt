@@ -50,17 +50,34 @@ loop-run-preserved c =
           })
     ]
 
-pub returns-then-is_served-clause-block : goal.returns-then-is_served-clause-block
-returns-then-is_served-clause-block c =
+pub returns-then-is_served : goal.returns-then-is_served
+returns-then-is_served c =
     let served = rw c.after.ensures.after at c.is_served.ensures.0 c.if-is_served.true in
-    not_last c.args.n c.args.own c.args.marked.marks.now c.args.marked.port c.args.end c.args.counts.now c.args.ports.now served
+    record {
+      counts = c.requires.counts;
+      ports = c.requires.ports;
+      each = λ d l. inl (refl, refl);
+      block = not_last c.args.n c.args.own c.args.marked.marks.now c.args.marked.port c.args.end c.args.counts.now c.args.ports.now served;
+    }
 
-pub returns-then-not-is_served-clause-block : goal.returns-then-not-is_served-clause-block
-returns-then-not-is_served-clause-block c =
-    back_done c.args.n c.args.own c.args.marked.marks.now c.args.marked.port c.args.end c.loop-run.run c.loop-run.a c.args.counts.now c.args.ports.now c.loop-run.counts c.loop-run.ports
-    (iff_false c.is_served-in-loop-run.ensures c.if-not-is_served.true) c.loop-run.invariant.walk
+pub returns-then-not-is_served : goal.returns-then-not-is_served
+returns-then-not-is_served c =
+    let i = c.loop-run.invariant in
+    record {
+      counts = i.counts_len;
+      ports = i.ports_len;
+      each = i.walk.each;
+      block = back_done c.args.n c.args.own c.args.marked.marks.now c.args.marked.port c.args.end c.loop-run.run c.loop-run.a c.args.counts.now c.args.ports.now c.loop-run.counts c.loop-run.ports
+          (iff_false c.is_served-in-loop-run.ensures c.if-not-is_served.true) i.walk;
+    }
 
-pub returns-clause-block : goal.returns-clause-block
-returns-clause-block c =
-    back_round c.args.n c.args.own c.args.marked.marks.now c.args.marked.port c.args.end c.loop-run.run c.loop-run.a c.args.counts.now c.args.ports.now c.loop-run.counts c.loop-run.ports
-    (omega (arith, c.loop-run-test.false)) c.loop-run.invariant.walk
+pub returns : goal.returns
+returns c =
+    let i = c.loop-run.invariant in
+    record {
+      counts = i.counts_len;
+      ports = i.ports_len;
+      each = i.walk.each;
+      block = back_round c.args.n c.args.own c.args.marked.marks.now c.args.marked.port c.args.end c.loop-run.run c.loop-run.a c.args.counts.now c.args.ports.now c.loop-run.counts c.loop-run.ports
+          (omega (arith, c.loop-run-test.false)) i.walk;
+    }
