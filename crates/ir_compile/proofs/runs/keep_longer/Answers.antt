@@ -25,11 +25,20 @@ loop-label-init c =
       blocks = λ e tried. elim tried [ inl own_e ↦ subst P (sym own_e) c.keep_back.ensures.block | inr w ↦ absurd (omega (arith, w.1)) ];
     }
 
-pub keep_back-requires-in-loop-label-clause-end : goal.keep_back-requires-in-loop-label-clause-end
-keep_back-requires-in-loop-label-clause-end c =
+pub keep_back-requires : goal.keep_back-requires
+keep_back-requires c = record { every = c.requires.every; own = c.requires.own; end = c.requires.own; counts = c.requires.counts; ports = c.requires.ports }
+
+pub keep_back-requires-in-loop-label : goal.keep_back-requires-in-loop-label
+keep_back-requires-in-loop-label c =
     let marked : List ℕ = c.args.marked.labels.now in
     let i : ℕ = c.loop-label.label-index in
-    c.requires.marked.label (slice_index_or marked i 0) (Contains-get_or marked i 0 c.loop-label-test.true)
+    record {
+      every = c.requires.every;
+      own = c.requires.own;
+      end = c.requires.marked.label (slice_index_or marked i 0) (Contains-get_or marked i 0 c.loop-label-test.true);
+      counts = c.loop-label.invariant.counts_len;
+      ports = c.loop-label.invariant.ports_len;
+    }
 
 pub loop-label-preserved : goal.loop-label-preserved
 loop-label-preserved c =
