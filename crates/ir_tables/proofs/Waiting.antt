@@ -65,3 +65,10 @@ keying_kept net ok u keys before after kept so_far = record {
         let key : key_of (at keys v) v / 65536 ≡ at keys v = omega (arith, few, v_in) in
         let P : ℕ → Type 0 = λ k. slice_get keys k ≡ Some (key_of (at keys v) v / 65536) in
         subst P (sym node) (slice_get-get_or keys v 0 (omega (arith, v_in, so_far.ways.every)) ∙ ap Some (sym key))
+
+-- what is kept twice is kept
+pub kept_then : (keys : List ℕ) (before between after : List KeyEntry) → KeepsFresh keys before between → KeepsFresh keys between after → KeepsFresh keys before after
+kept_then keys before between after first second = record {
+  nodes = λ net all. second.nodes net (first.nodes net all);
+  fresh = λ e fresh has. second.fresh e fresh (first.fresh e fresh has);
+}

@@ -94,3 +94,14 @@ loop-frontier-smaller-in-Continue-branch-4 c =
 pub returns : goal.returns
 returns c =
     keying_empty c.args.topology.now c.nodes.ensures.topology c.args.u c.loop-frontier.keys.items (keys_waiting c.loop-frontier.frontier) (c.is_empty.ensures.0 c.loop-frontier-test.false) c.loop-frontier.invariant
+
+pub loop-frontier-smaller-in_default : goal.loop-frontier-smaller-in_default
+loop-frontier-smaller-in_default c =
+    let same = ap (λ (es : List KeyEntry). length es) c.in_default.ensures.unchanged.0 in
+    let falls = c.in_ok-bring_near.ensures.load in
+    omega (arith, same, falls)
+
+pub loop-frontier-smaller : goal.loop-frontier-smaller
+loop-frontier-smaller c =
+    let gone = length_permutation (heap_items c.loop-frontier.frontier.near) (c.in-Some.field-0 ∷ heap_items c.pop.new.self) c.in-Some.ensures.permutation in
+    omega (arith, gone)

@@ -58,3 +58,13 @@ returns-clause-offered c =
 
 pub returns-clause-falls : goal.returns-clause-falls
 returns-clause-falls c = c.loop-p.invariant.falls
+
+pub bounds-keys-hop-then-through-keys : goal.bounds-keys-hop-then-through-keys
+bounds-keys-hop-then-through-keys c =
+    let net : Topology = c.args.topology.now in
+    let facts = port_facts net c.invariant.ensures.topology c.args.x c.loop-p.p (slice_index_or c.ports-hop-items.result.now c.loop-p.p past)
+    (port_here net c.args.x c.loop-p.p c.ports-hop-items.result.now c.ports-hop-items.ensures c.loop-p-test.true) in
+    omega (arith, facts.to, c.loop-p.invariant.but.ways.every)
+
+pub loop-p-init : goal.loop-p-init
+loop-p-init c = record { but = c.requires.so_far; kept = refl; spent = λ p hop added lt port step. absurd (omega (arith, lt)); falls = omega arith }

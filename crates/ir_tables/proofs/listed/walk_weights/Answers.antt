@@ -30,3 +30,32 @@ loop-u-preserved c =
       filled = subst (λ (ws : List ℕ). IsFilled c.args.topology.now (listed_port (node_count c.args.topology.now) c.args.ports.now) c.args.d ws) back c.write_walk.ensures.filled;
       known = λ v lt. subst (λ (ws : List ℕ). at ws v < unreached) back (known v lt);
     }
+
+pub weight_of_walk-total-requires : goal.weight_of_walk-total-requires
+weight_of_walk-total-requires c =
+    let n : ℕ = node_count c.args.topology.now in
+    record {
+      list = c.requires.list;
+      node = subst (λ (m : ℕ). c.loop-u.u < m) c.nodes-nodes.ensures.count c.loop-u-test.true;
+      end = c.requires.end;
+      filled = subst (λ (ws : List ℕ). IsFilled c.args.topology.now (listed_port n c.args.ports.now) c.args.d ws) (sym c.as_slice.ensures.value) c.loop-u.invariant.filled;
+    }
+
+pub write_walk-requires : goal.write_walk-requires
+write_walk-requires c =
+    let n : ℕ = node_count c.args.topology.now in
+    record {
+      list = c.requires.list;
+      node = subst (λ (m : ℕ). c.loop-u.u < m) c.nodes-nodes.ensures.count c.loop-u-test.true;
+      end = c.requires.end;
+      filled = subst (λ (ws : List ℕ). IsFilled c.args.topology.now (listed_port n c.args.ports.now) c.args.d ws) (sym c.as_mut_slice.ensures.value) c.loop-u.invariant.filled;
+      way = c.weight_of_walk-total.ensures;
+    }
+
+pub returns : goal.returns
+returns c =
+    let filled = c.loop-u.invariant.filled in
+    record {
+      len = filled.len;
+      ways = λ x x_in. filled.ways x x_in (c.loop-u.invariant.known x (omega (arith, x_in, c.nodes-nodes.ensures.count, c.loop-u-test.false)));
+    }

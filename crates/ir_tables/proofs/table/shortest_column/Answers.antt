@@ -53,3 +53,6 @@ pub index-own-requires : goal.index-own-requires
 index-own-requires c =
     let done : IsRelaxed c.args.topology.now c.args.d c.in_ok-weights.weights.items = c.in_ok-weights.ensures in
     subst (λ (n : ℕ). c.loop-u.u < n) (c.nodes-nodes.ensures.count ∙ sym done.len ∙ sym c.in_ok-weights.weights.ok.0) c.loop-u-test.true
+
+pub loop-u-init : goal.loop-u-init
+loop-u-init c = record { len = ap length c.in_ok-ports.ensures.items; entries = λ v lt. absurd (omega (arith, lt)) }

@@ -1,9 +1,10 @@
-use Rattle.std.proofs.Common.{◌≡◌, ◌+◌, ◌++◌, ◌∷◌, [], ℕ, List, Option, arith, subst, ap, ◌∙◌}
+use Rattle.std.proofs.Common.{◌≡◌, ◌+◌, ◌++◌, ◌∷◌, [], ℕ, List, Option, arith, subst, ap, ◌∙◌, length, sym}
 use Rattle.std.proofs.lemmas.List.{length_push}
 use Rattle.ir_model.specs.Topology.{node_count}
 use Rattle.ir_tables.specs.declared.table.Column.{Column}
 use Rattle.ir_tables.specs.Listed.{IsListedColumn}
 use Rattle.ir_tables.proofs.Columns.{AreListed, columns_push, listed_square, listed_table, listed_routed}
+use Rattle.ir_tables.specs.Listed.{IsPortList}
 use Rattle.ir_tables.proofs.table.Table.from_ports.Goals as goal
 
 pub loop-d-preserved : goal.loop-d-preserved
@@ -33,3 +34,9 @@ returns-clause-routed c =
     let all : c.loop-d.d ≡ node_count c.args.topology.now = omega (arith, c.nodes-nodes.ensures.count) in
     let are : AreListed c.args.topology.now c.args.ports.items c.loop-d.columns.items = record { len = c.loop-d.invariant.len ∙ all; columns = λ k e lt. c.loop-d.invariant.columns k e (omega (arith, c.loop-d.invariant.len, lt)) } in
     listed_routed c.args.topology.now c.nodes-nodes.ensures.topology c.args.ports.items c.loop-d.columns.items c.requires are
+
+pub loop-d-init : goal.loop-d-init
+loop-d-init c = record { len = ap (λ (cs : List Column). length cs) c.in_ok-columns.ensures.items; columns = λ k e lt. absurd (omega (arith, lt)) }
+
+pub listed_column-requires-clause-list : goal.listed_column-requires-clause-list
+listed_column-requires-clause-list c = subst (λ (list : List (Option ℕ)). IsPortList c.args.topology.now list) (sym c.as_slice.ensures.value) c.requires

@@ -1,9 +1,11 @@
-use Rattle.std.proofs.Common.{◌≡◌, ◌+◌, ◌<◌, ◌++◌, ◌∷◌, [], ℕ, arith, ap, subst, ◌∙◌}
+use Rattle.std.proofs.Common.{◌≡◌, ◌+◌, ◌<◌, ◌++◌, ◌∷◌, [], ℕ, arith, ap, subst, ◌∙◌, List, length}
 use Rattle.std.proofs.lemmas.List.{length_push}
 use Rattle.ir_model.specs.Topology.{node_count}
 use Rattle.ir_model.proofs.Tables.{shortest_routed}
 use Rattle.ir_tables.specs.Relaxation.{IsColumn}
 use Rattle.ir_tables.proofs.Columns.{of_columns, AreColumns, columns_push, columns_square, columns_shortest, columns_connected}
+use Rattle.std.proofs.lemmas.Result.{err_from_is_err_and}
+use Rattle.ir_tables.specs.declared.table.Column.{Column}
 use Rattle.ir_tables.proofs.table.Table.shortest.Goals as goal
 
 pub loop-d-preserved : goal.loop-d-preserved
@@ -43,3 +45,15 @@ pub returns-in-None-clause-disconnected : goal.returns-in-None-clause-disconnect
 returns-in-None-clause-disconnected c = λ _.
     let far = rw c.in-None.is at c.in_ok-column.ensures.none in
     (far.0, c.loop-d.d, far.1, subst (λ (n : ℕ). c.loop-d.d < n) c.nodes-nodes.ensures.count c.loop-d-test.true, far.2)
+
+pub loop-d-init : goal.loop-d-init
+loop-d-init c = record { len = ap (λ (cs : List Column). length cs) c.in_ok-columns.ensures.items; columns = λ k e lt. absurd (omega (arith, lt)) }
+
+pub returns-in_err-column-clause-shortest : goal.returns-in_err-column-clause-shortest
+returns-in_err-column-clause-shortest c = rw (err_from_is_err_and c.from_residual-in_err-column.result c.from_residual-in_err-column.ensures.1).1 tt
+
+pub returns-in_err-column-clause-routed : goal.returns-in_err-column-clause-routed
+returns-in_err-column-clause-routed c = rw (err_from_is_err_and c.from_residual-in_err-column.result c.from_residual-in_err-column.ensures.1).1 tt
+
+pub returns-in_err-column-clause-connected : goal.returns-in_err-column-clause-connected
+returns-in_err-column-clause-connected c = rw (err_from_is_err_and c.from_residual-in_err-column.result c.from_residual-in_err-column.ensures.1).1 tt

@@ -4,7 +4,7 @@ use Rattle.ir_model.specs.declared.Hop.{Hop}
 use Rattle.ir_model.specs.Graph.{Adjacency}
 use Rattle.ir_model.specs.Topology.{Topology, IsTopology}
 use Rattle.ir_model.specs.Places.{neighbors_at}
-use Rattle.ir_tables.specs.Numbered.{ports_at, ports_from}
+use Rattle.ir_tables.specs.Numbered.{AreLinkKeys, ports_at, ports_from}
 use Rattle.ir_tables.specs.ByPlace.{row_numbers, neighbor_rows}
 use Rattle.ir_tables.proofs.OfGraph.{graph_few, graph_topology, graph_made, ports_step, ports_whole}
 use Rattle.ir_tables.proofs.topology.Topology.of.Goals as goal
@@ -42,3 +42,8 @@ returns c =
     let links : List Link = c.in_ok-links.links.items in
     let ports = c.loop-u.invariant ∙ ports_whole g links c.loop-u.u (omega (arith, c.number_of_nodes-nodes.ensures.len)) in
     graph_made g c.number_of_nodes-nodes.ensures.graph links c.loop-u.ports c.in_ok-links.ensures ports
+
+pub ports_of-requires-clause-keys : goal.ports_of-requires-clause-keys
+ports_of-requires-clause-keys c =
+    let keys = subst (λ (ks : List ℕ). AreLinkKeys c.as_slice.result.now ks) (sym c.as_slice-in-loop-u-2.ensures.value) c.in_ok-keys.ensures in
+    subst (λ (ls : List Link). AreLinkKeys ls c.as_slice-in-loop-u-2.result.now) (c.as_slice.ensures.value ∙ sym c.as_slice-in-loop-u.ensures.value) keys
