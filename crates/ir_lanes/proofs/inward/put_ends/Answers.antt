@@ -2,26 +2,6 @@ use Rattle.std.proofs.Common.{get_or, refl, arith}
 use Rattle.ir_lanes.proofs.Ends.{ended_more}
 use Rattle.ir_lanes.proofs.inward.put_ends.Goals as goal
 
-pub bounds-ends-lane : goal.bounds-ends-lane
-bounds-ends-lane c = omega (arith, c.loop-lane-test.true, c.requires.sixteen)
-
-pub overflow_mul-starts : goal.overflow_mul-starts
-overflow_mul-starts c =
-    let end_in = c.requires.nodes c.loop-lane.lane c.loop-lane-test.true in
-    record { fits = omega (arith, end_in, c.invariant.ensures.topology.few_nodes) }
-
-pub overflow_add-starts : goal.overflow_add-starts
-overflow_add-starts c =
-    let lane_in = c.loop-lane-test.true in
-    let end_in = c.requires.nodes c.loop-lane.lane lane_in in
-    record { fits = omega (arith, end_in, lane_in, c.invariant.ensures.topology.few_nodes) }
-
-pub bounds-starts-ends : goal.bounds-starts-ends
-bounds-starts-ends c =
-    let lane_in = c.loop-lane-test.true in
-    let end_in = c.requires.nodes c.loop-lane.lane lane_in in
-    omega (arith, end_in, lane_in, c.loop-lane.invariant.near.every)
-
 pub loop-lane-init : goal.loop-lane-init
 loop-lane-init c = record {
   near = c.requires.near;
