@@ -3,9 +3,24 @@ use Rattle.std.proofs.lemmas.Bool.{cases_lt}
 use Rattle.ir_lanes.specs.Equation.{IsMet}
 use Rattle.ir_lanes.proofs.equation.are_met.Goals as goal
 
+pub loop-u-init : goal.loop-u-init
+loop-u-init c v lt = absurd (omega (arith, lt))
+
+pub is_met-requires : goal.is_met-requires
+is_met-requires c = record {
+  node = omega (arith, c.loop-u-test.true, c.nodes-u-end.ensures.count);
+  unit = c.requires.unit;
+  starts = c.requires.starts;
+  lanes = c.requires.lanes;
+}
+
 pub loop-u-preserved : goal.loop-u-preserved
 loop-u-preserved c v lt =
     ⊎_elim (λ (less : v < c.loop-u.u). c.loop-u.invariant v less)
     (λ (ge : c.loop-u.u ≤ v). let same : v ≡ c.loop-u.u = omega (arith, lt, ge) in
     let P : ℕ → Type 0 = λ x. IsMet c.args.topology.now c.args.unit c.args.starts.now c.args.lanes.now x in
     subst P (sym same) (c.is_met.ensures c.if-not-is_met.false)) (cases_lt v c.loop-u.u)
+
+pub returns : goal.returns
+returns c told k k_in u u_in =
+    c.loop-u.invariant u (omega (arith, u_in, c.loop-u-test.false, c.nodes-u-end.ensures.count)) k k_in

@@ -1,8 +1,27 @@
-use Rattle.std.proofs.Common.{◌≡◌, ℕ, ◌<◌, ◌≤◌, arith, subst, sym, ⊎_elim}
+use Rattle.std.proofs.Common.{◌≡◌, ℕ, ◌<◌, ◌≤◌, List, length, ap, arith, subst, sym, ⊎_elim}
 use Rattle.std.proofs.lemmas.Bool.{cases_lt}
+use Rattle.ir_model.specs.Topology.{node_count}
 use Rattle.ir_lanes.specs.Equation.{IsMet}
-use Rattle.ir_lanes.proofs.Words.{tight_more}
+use Rattle.ir_lanes.specs.Inward.{AreTightWords}
+use Rattle.ir_lanes.proofs.Words.{tight_more, tight_none}
 use Rattle.ir_lanes.proofs.inward.met_words.Goals as goal
+
+pub overflow_mul-links : goal.overflow_mul-links
+overflow_mul-links c = record { fits = omega (arith, c.links.ensures.count, c.nodes-nodes.ensures.topology.few_links) }
+
+pub loop-u-init : goal.loop-u-init
+loop-u-init c = record {
+  tight = tight_none c.args.topology.now c.args.lanes.now c.in_ok-words.words.items
+      (ap (λ (ws : List ℕ). length ws) c.in_ok-words.ensures.items);
+  met = λ v lt. absurd (omega (arith, lt));
+}
+
+pub push_words-requires : goal.push_words-requires
+push_words-requires c = record {
+  node = omega (arith, c.loop-u-test.true, c.nodes-nodes.ensures.count);
+  starts = c.requires.starts;
+  near = c.requires.lanes;
+}
 
 pub loop-u-preserved : goal.loop-u-preserved
 loop-u-preserved c = record {
@@ -17,3 +36,10 @@ loop-u-preserved c = record {
 
 pub returns-clause-met : goal.returns-clause-met
 returns-clause-met c = λ k k_in u u_in. c.loop-u.invariant.met u (omega (arith, u_in, c.loop-u-test.false, c.nodes-nodes.ensures.count)) k k_in
+
+pub returns-clause-words : goal.returns-clause-words
+returns-clause-words c =
+    let all : c.loop-u.u ≡ node_count c.args.topology.now =
+    omega (arith, c.loop-u-test.false, c.loop-u.auto.u-end, c.nodes-nodes.ensures.count) in
+    subst (λ (u : ℕ). AreTightWords c.args.topology.now c.args.lanes.now u c.loop-u.words.items) all
+    c.loop-u.invariant.tight

@@ -1,6 +1,6 @@
-use Rattle.std.proofs.Common.{◌<◌, ℕ, List, subst, slice_index}
+use Rattle.std.proofs.Common.{◌<◌, ℕ, List, sym, subst, slice_index}
 use Rattle.ir_model.specs.Topology.{Topology, node_count, IsTopology}
-use Rattle.ir_lanes.specs.Lanes.{in_lane}
+use Rattle.ir_lanes.specs.Lanes.{AreNear, in_lane}
 use Rattle.ir_lanes.specs.Equation.{AreMet, IsEndStart}
 use Rattle.ir_lanes.specs.Inward.{AreTightWords, ArePortWords}
 use Rattle.ir_lanes.proofs.Bellman.{least_distance, some_nearer}
@@ -15,6 +15,26 @@ told_here net ok ends lanes starts words nodes begun met tight =
     (λ k u k_in u_in. least_distance net ok (slice_index ends k) (nodes k k_in) (in_lane starts k) (in_lane lanes k) (begun k k_in) (met k k_in) u u_in)
     (λ k u k_in u_in ne. some_nearer net ok (slice_index ends k) (nodes k k_in) (in_lane starts k) (in_lane lanes k) (begun k k_in) (met k k_in) u u_in ne)
     words tight
+
+pub end_starts-requires : goal.end_starts-requires
+end_starts-requires c = record { sixteen = c.requires.sixteen; nodes = c.requires.nodes }
+
+pub lanes_from-requires : goal.lanes_from-requires
+lanes_from-requires c =
+    let P : List ℕ → Type 0 = λ ls. AreNear c.args.topology.now ls in
+    record {
+      sixteen = c.requires.sixteen;
+      nodes = c.requires.nodes;
+      starts = subst P (sym c.as_slice.ensures.value) c.in_ok-starts.ensures.near;
+    }
+
+pub met_words-requires : goal.met_words-requires
+met_words-requires c =
+    let P : List ℕ → Type 0 = λ ls. AreNear c.args.topology.now ls in
+    record {
+      starts = subst P (sym c.as_slice-2.ensures.value) c.in_ok-starts.ensures.near;
+      lanes = subst P (sym c.as_slice-3.ensures.value) c.in_ok-lanes.ensures;
+    }
 
 pub returns : goal.returns
 returns c =

@@ -20,6 +20,28 @@ overflow_add-place c =
     let before = before_few net ok u (omega (arith, c.requires.node)) in
     record { fits = omega (arith, read, before, few, degree_bound net ok u, c.requires.node, c.requires.port) }
 
+pub index-requires : goal.index-requires
+index-requires c =
+    let inside = ap (λ (m : PortMarks). length m.begins) c.self.view_is in
+    omega (arith, c.requires.node, c.requires.marks.every, inside, c.self.inside.begins.ok.0)
+
+pub overflow_mul-batch : goal.overflow_mul-batch
+overflow_mul-batch c =
+    record { fits = omega (arith, c.loop-batch-test.true, c.div_ceil-batch-end.ensures, c.requires.few) }
+
+pub word-requires-clause-batch : goal.word-requires-clause-batch
+word-requires-clause-batch c =
+    omega (arith, c.loop-batch-test.true, c.div_ceil-batch-end.ensures, c.requires.marks.enough)
+
+pub put_word-requires : goal.put_word-requires
+put_word-requires c =
+    let i = c.loop-batch.invariant in
+    record {
+      first = omega (arith, c.loop-batch-test.true, c.div_ceil-batch-end.ensures, c.requires.few);
+      few = omega (arith, i.every, c.requires.few);
+      clean = i.behind;
+    }
+
 pub word-requires-clause-place : goal.word-requires-clause-place
 word-requires-clause-place c =
     let net = c.args.topology.now in
