@@ -1,17 +1,28 @@
 -- What a search from sixteen nodes starts with.
-use Rattle.std.proofs.Common.{◌≡◌, ◌≢◌, ℕ, ◌+◌, ◌*◌, ◌<◌, ◌≤◌, List, length, replicate, set, slice_index, Some, refl, sym, subst, ◌∙◌, arith, ⊎_elim, length-set, get_or-set_same, get_or-set_other}
+use Rattle.std.proofs.Common.{◌≡◌, ◌≢◌, ℕ, ◌+◌, ◌*◌, ◌<◌, ◌≤◌, List, length, replicate, set, slice_get, slice_index, Some, refl, sym, subst, ◌∙◌, arith, ⊎_elim, length-set, get_or-set_same, get_or-set_other}
 use Rattle.std.proofs.lemmas.Bool.{cases_eq, cases_lt}
 use Rattle.std.proofs.lemmas.Nat.{mul-le}
 use Rattle.std.proofs.lemmas.List.{get_or-replicate, get_or_past, length-replicate}
 use Rattle.ir_model.specs.declared.Hop.{Hop}
-use Rattle.ir_model.specs.Topology.{Topology, node_count, port_at, IsTopology}
+use Rattle.ir_model.specs.Topology.{Topology, node_count, ports_of, port_at, IsTopology}
 use Rattle.ir_model.proofs.Walks.{PortFacts, port_facts}
-use Rattle.ir_lanes.specs.Lanes.{in_lane, far, AreNear}
+use Rattle.ir_lanes.specs.Lanes.{in_lane, far, most_added, AreNear, HaveLanes}
 use Rattle.ir_lanes.specs.Equation.{IsSourceStart}
 
 -- what a step adds is small
 pub added_small : (net : Topology) → IsTopology net → (unit : ℕ) → unit ≤ 16384 → (u p : ℕ) (hop : Hop) → port_at net u p ≡ Some hop → hop.weight * unit ≤ 1073725440
 added_small net ok unit few u p hop port = mul-le hop.weight unit 65535 16384 (port_facts net ok u p hop port).bounded few
+
+-- the ports of a node lead to nodes that have lanes, and what they add is small
+module _ (net : Topology) (ok : IsTopology net) (u : ℕ) (ports : List Hop) (is : ports ≡ ports_of net u) where
+  port_here : (p : ℕ) (hop : Hop) → slice_get ports p ≡ Some hop → port_at net u p ≡ Some hop
+  port_here p hop at = subst (λ (hops : List Hop). slice_get hops p ≡ Some hop) is at
+
+  pub ports_have_lanes : (lanes : List ℕ) → AreNear net lanes → HaveLanes ports lanes
+  ports_have_lanes lanes near p hop at = omega (arith, (port_facts net ok u p hop (port_here p hop at)).to, near.every)
+
+  pub ports_are_light : (unit : ℕ) → unit ≤ 16384 → (p : ℕ) (hop : Hop) → slice_get ports p ≡ Some hop → hop.weight * unit ≤ most_added
+  ports_are_light unit few p hop at = omega (arith, added_small net ok unit few u p hop (port_here p hop at))
 
 -- ---- one place of the lanes is written
 
