@@ -23,3 +23,24 @@ returns c =
     let P : List ℕ → Type 0 = λ xs. AreMet c.args.topology.now 1 xs c.as_slice-3.result.now in
     told_here c.args.topology.now c.invariant.ensures.topology c.args.ends.now c.as_slice-3.result.now c.in_ok-starts.starts.items c.in-Some.words.items
     c.requires.nodes c.in_ok-starts.ensures.starts (subst P c.as_slice-2.ensures.value met) tight
+
+pub end_starts-requires-clause-sixteen : goal.end_starts-requires-clause-sixteen
+end_starts-requires-clause-sixteen c = c.requires.sixteen
+
+pub end_starts-requires-clause-nodes : goal.end_starts-requires-clause-nodes
+end_starts-requires-clause-nodes c = c.requires.nodes
+
+pub lanes_from-requires-clause-sixteen : goal.lanes_from-requires-clause-sixteen
+lanes_from-requires-clause-sixteen c = c.requires.sixteen
+
+pub lanes_from-requires-clause-nodes : goal.lanes_from-requires-clause-nodes
+lanes_from-requires-clause-nodes c = c.requires.nodes
+
+pub lanes_from-requires-clause-starts : goal.lanes_from-requires-clause-starts
+lanes_from-requires-clause-starts c = rw c.as_slice.ensures.value c.in_ok-starts.ensures.near
+
+pub met_words-requires-clause-starts : goal.met_words-requires-clause-starts
+met_words-requires-clause-starts c = rw c.as_slice-2.ensures.value c.in_ok-starts.ensures.near
+
+pub met_words-requires-clause-lanes : goal.met_words-requires-clause-lanes
+met_words-requires-clause-lanes c = rw c.as_slice-3.ensures.value c.in_ok-lanes.ensures
