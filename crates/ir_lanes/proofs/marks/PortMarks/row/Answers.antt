@@ -63,3 +63,24 @@ pub returns-clause-marked : goal.returns-clause-marked
 returns-clause-marked c =
     let i = c.loop-batch.invariant in
     record { place = λ d has. omega (arith, i.place d has, i.every); each = λ d d_in yes. i.each d (omega (arith, d_in, i.every)) yes }
+
+pub index-requires : goal.index-requires
+index-requires c =
+    let long = ap (λ (m : PortMarks). length m.begins) c.self.view_is in
+    let ok = c.self.inside.begins.ok in
+    omega (arith, long, c.requires.marks.every, c.requires.node, ok)
+
+pub word-requires-clause-batch : goal.word-requires-clause-batch
+word-requires-clause-batch c = omega (arith, c.loop-batch-test.true, c.div_ceil-batch-end.ensures, c.requires.marks.enough)
+
+pub overflow_mul-batch : goal.overflow_mul-batch
+overflow_mul-batch c = record { fits = omega (arith, c.loop-batch-test.true, c.div_ceil-batch-end.ensures, c.requires.few) }
+
+pub put_word-requires-clause-first : goal.put_word-requires-clause-first
+put_word-requires-clause-first c = omega (arith, c.loop-batch-test.true, c.div_ceil-batch-end.ensures, c.requires.few)
+
+pub put_word-requires-clause-few : goal.put_word-requires-clause-few
+put_word-requires-clause-few c = omega (arith, c.loop-batch.invariant.every, c.requires.few)
+
+pub put_word-requires-clause-clean : goal.put_word-requires-clause-clean
+put_word-requires-clause-clean c = c.loop-batch.invariant.behind
