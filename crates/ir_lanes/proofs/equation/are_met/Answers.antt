@@ -1,5 +1,5 @@
 use Rattle.std.proofs.Common.{◌≡◌, ℕ, ◌<◌, ◌≤◌, arith, subst, sym, ⊎_elim}
-use Rattle.std.proofs.lemmas.Bool.{cases_lt}
+use Rattle.std.proofs.lemmas.Bool.{cases_lt, false≢true}
 use Rattle.ir_lanes.specs.Equation.{IsMet}
 use Rattle.ir_lanes.proofs.equation.are_met.Goals as goal
 
@@ -27,3 +27,6 @@ is_met-requires-clause-lanes c = c.requires.lanes
 
 pub returns : goal.returns
 returns c truth k k_in u u_in = c.loop-u.invariant u (omega (arith, u_in, c.loop-u-test.false, c.nodes-u-end.ensures.count)) k k_in
+
+pub returns-then-not-is_met : goal.returns-then-not-is_met
+returns-then-not-is_met c never = absurd (false≢true never)
