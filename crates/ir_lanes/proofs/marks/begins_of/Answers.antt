@@ -1,4 +1,4 @@
-use Rattle.std.proofs.Common.{◌≡◌, ◌≤◌, ◌<◌, ◌∷◌, ◌++◌, [], ℕ, length, ap, rules, arith, List, refl}
+use Rattle.std.proofs.Common.{◌≡◌, ◌≤◌, ◌<◌, ◌∷◌, ◌++◌, [], ℕ, length, ap, rules, arith}
 use Rattle.std.proofs.lemmas.List.{length_push}
 use Rattle.ir_model.specs.Topology.{node_count}
 use Rattle.ir_model.proofs.Walks.{degree_bound}
@@ -23,23 +23,3 @@ loop-u-preserved c =
       here = omega (arith, more, is, i.here);
       few = omega (arith, degree_bound net ok u, few, is, i.few);
     })
-
-pub loop-u-init : goal.loop-u-init
-loop-u-init c = record {
-  every = ap (λ (xs : List ℕ). length xs) c.in_ok-begins.ensures.items;
-  each = λ v none. absurd (omega (arith, none));
-  here = refl;
-  few = omega arith;
-}
-
-pub overflow_add-begin : goal.overflow_add-begin
-overflow_add-begin c =
-    let ok = c.nodes-nodes.ensures.topology in
-    let few : node_count c.args.topology.now ≤ 16384 = ok.few_nodes in
-    record { fits = omega (arith, degree_bound c.args.topology.now ok c.loop-u.u, few, ap length c.ports.ensures, c.loop-u.invariant.few, c.loop-u-test.true, c.nodes-nodes.ensures.count) }
-
-pub returns-clause-each : goal.returns-clause-each
-returns-clause-each c u u_in = c.loop-u.invariant.each u (omega (arith, u_in, c.loop-u-test.false, c.nodes-nodes.ensures.count))
-
-pub returns-clause-every : goal.returns-clause-every
-returns-clause-every c = omega (arith, c.loop-u.invariant.every, c.loop-u-test.false, c.loop-u.auto.u-end, c.nodes-nodes.ensures.count)
