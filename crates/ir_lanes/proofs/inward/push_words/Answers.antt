@@ -68,3 +68,52 @@ returns-clause-pushed c =
     let long = ap length c.ports-hop-items.ensures in
     let whole : c.loop-hop.hop-index ≡ length (ports_of c.args.topology.now c.args.u) = omega (arith, long, c.loop-hop-test.false, c.loop-hop.auto.hop-index-end) in
     subst (λ (i : ℕ). IsPushing c.args.topology.now c.args.lanes.now c.args.u i c.args.words.now.items c.loop-hop.words.items) whole c.loop-hop.invariant.pushing
+
+pub load-own-requires : goal.load-own-requires
+load-own-requires c = omega (arith, c.requires.node, c.requires.near.every)
+
+pub overflow_mul-u : goal.overflow_mul-u
+overflow_mul-u c = record { fits = omega (arith, c.requires.node, c.invariant.ensures.topology.few_nodes) }
+
+pub bounds-hop-items-hop-index : goal.bounds-hop-items-hop-index
+bounds-hop-items-hop-index c = c.loop-hop-test.true
+
+pub overflow_mul-hop : goal.overflow_mul-hop
+overflow_mul-hop c =
+    let i : ℕ = c.loop-hop.hop-index in
+    let hops : List Hop = c.ports-hop-items.result.now in
+    let ok = c.invariant.ensures.topology in
+    let facts = port_facts c.args.topology.now ok c.args.u i (get_or hops i past) (port_next c.args.topology.now c.args.u i hops c.ports-hop-items.ensures c.loop-hop-test.true) in
+    record { fits = omega (arith, facts.to, ok.few_nodes) }
+
+pub farther-through-requires-clause-long : goal.farther-through-requires-clause-long
+farther-through-requires-clause-long c = c.load-there.ensures.long
+
+pub farther-through-requires-clause-near : goal.farther-through-requires-clause-near
+farther-through-requires-clause-near c k k_in =
+    let hop : Hop = get_or c.ports-hop-items.result.now c.loop-hop.hop-index past in
+    omega (arith, c.load-there.ensures.each k k_in, c.requires.near.near (hop.node * 16 + k))
+
+pub same_lanes-requires-clause-left : goal.same_lanes-requires-clause-left
+same_lanes-requires-clause-left c = c.load-own.ensures.long
+
+pub same_lanes-requires-clause-right : goal.same_lanes-requires-clause-right
+same_lanes-requires-clause-right c = c.farther-through.ensures.long
+
+pub lesser-least-requires-clause-left : goal.lesser-least-requires-clause-left
+lesser-least-requires-clause-left c = c.loop-hop.invariant.least.long
+
+pub lesser-least-requires-clause-right : goal.lesser-least-requires-clause-right
+lesser-least-requires-clause-right c = c.farther-through.ensures.long
+
+pub is_least-requires-clause-node : goal.is_least-requires-clause-node
+is_least-requires-clause-node c = c.requires.node
+
+pub is_least-requires-clause-starts : goal.is_least-requires-clause-starts
+is_least-requires-clause-starts c = c.requires.starts
+
+pub is_least-requires-clause-lanes : goal.is_least-requires-clause-lanes
+is_least-requires-clause-lanes c = c.requires.near
+
+pub returns-clause-met : goal.returns-clause-met
+returns-clause-met c = c.is_least.ensures

@@ -4,7 +4,7 @@ use Rattle.ir_model.specs.declared.Hop.{Hop}
 use Rattle.ir_model.specs.Topology.{Topology, ports_of}
 use Rattle.ir_model.proofs.Walks.{port_facts}
 use Rattle.ir_tables.proofs.Rounds.{past, port_next}
-use Rattle.ir_lanes.proofs.Starts.{added_small, beginning_more, beginning_done}
+use Rattle.ir_lanes.proofs.Starts.{added_small, beginning_more, beginning_done, beginning_none}
 use Rattle.ir_lanes.proofs.outward.begin.Goals as goal
 
 pub overflow_mul-starts : goal.overflow_mul-starts
@@ -49,3 +49,18 @@ returns-clause-begun c =
     (λ p hop port. let lt : p < length (ports_of net c.args.source) = slice_get_within (ports_of net c.args.source) p hop port in
     omega (arith, lt, ap length c.ports-hop-items.ensures, c.loop-p-test.false))
     c.loop-p.invariant
+
+pub bounds-hop-items-p : goal.bounds-hop-items-p
+bounds-hop-items-p c = c.loop-p-test.true
+
+pub loop-p-init : goal.loop-p-init
+loop-p-init c = beginning_none c.args.topology.now c.args.unit c.args.source c.args.lane c.args.starts.now c.requires.near c.requires.empty
+
+pub overflow_cast-starts : goal.overflow_cast-starts
+overflow_cast-starts c = omega (arith, c.loop-p-test.true, ap length c.ports-hop-items.ensures, c.requires.ports, c.requires.unit)
+
+pub returns-clause-near : goal.returns-clause-near
+returns-clause-near c = c.loop-p.invariant.near
+
+pub returns-clause-others : goal.returns-clause-others
+returns-clause-others c = c.loop-p.invariant.others

@@ -30,3 +30,36 @@ returns-clause-ways c =
     c.in_ok-starts.starts.items c.as_slice.result.now c.bits_for-bits.result c.unit_of-unit.result c.greatest_degree.result
     c.bits_for-bits.ensures.few c.unit_of-unit.ensures.unit c.in_ok-from_slice.ensures.items c.as_slice.ensures.value
     c.requires.sixteen c.requires.nodes near c.in_ok-starts.ensures.starts c.greatest_degree.ensures.greatest c.bits_for-bits.ensures.enough met
+
+pub bits_for-bits-requires : goal.bits_for-bits-requires
+bits_for-bits-requires c = c.greatest_degree.ensures.few
+
+pub unit_of-unit-requires : goal.unit_of-unit-requires
+unit_of-unit-requires c = c.bits_for-bits.ensures.few
+
+pub source_starts-requires-clause-unit : goal.source_starts-requires-clause-unit
+source_starts-requires-clause-unit c = c.unit_of-unit.ensures.few
+
+pub source_starts-requires-clause-sixteen : goal.source_starts-requires-clause-sixteen
+source_starts-requires-clause-sixteen c = c.requires.sixteen
+
+pub source_starts-requires-clause-nodes : goal.source_starts-requires-clause-nodes
+source_starts-requires-clause-nodes c = c.requires.nodes
+
+pub source_starts-requires-clause-ports : goal.source_starts-requires-clause-ports
+source_starts-requires-clause-ports c u u_in = omega (arith, c.greatest_degree.ensures.greatest u u_in, c.bits_for-bits.ensures.enough, c.unit_of-unit.ensures.unit)
+
+pub bounds-sources : goal.bounds-sources
+bounds-sources c = omega (arith, c.requires.sixteen)
+
+pub settled-requires-clause-unit : goal.settled-requires-clause-unit
+settled-requires-clause-unit c = c.unit_of-unit.ensures.few
+
+pub settled-requires-clause-node : goal.settled-requires-clause-node
+settled-requires-clause-node c = c.requires.nodes 8 (omega arith)
+
+pub settled-requires-clause-starts : goal.settled-requires-clause-starts
+settled-requires-clause-starts c = rw c.as_slice.ensures.value c.in_ok-starts.ensures.near
+
+pub returns-clause-sources : goal.returns-clause-sources
+returns-clause-sources c = c.in_ok-from_slice.ensures.items
