@@ -1,4 +1,4 @@
-use Rattle.std.proofs.Common.{◌≡◌, ◌≤◌, ◌+◌, ◌*◌, ◌++◌, ℕ, List, sym, subst, arith}
+use Rattle.std.proofs.Common.{◌≡◌, ◌≤◌, ◌+◌, ◌*◌, ◌++◌, ℕ, List, length, ap, sym, subst, arith}
 use Rattle.ir_model.specs.declared.Kind.TheVariants.{Shortest}
 use Rattle.ir_model.specs.Topology.{node_count}
 use Rattle.ir_model.specs.Row.{Start}
@@ -29,3 +29,18 @@ returns c =
     let all : node_count net ≤ c.loop-batch.batch * 16 = let end = c.loop-batch.auto.batch-end in omega (arith, end, c.loop-batch-test.false, c.div_ceil-batch-end.ensures, c.nodes-nodes.ensures.count) in
     node_rows_stand net c.nodes-nodes.ensures.topology numbers c.requires.labels c.loop-batch.rows.items Shortest no_tree
     (rows_of_all Shortest net numbers.order numbers.parents numbers.labels (c.loop-batch.batch * 16) c.loop-batch.rows.items all c.loop-batch.invariant)
+
+pub batch_rows-requires : goal.batch_rows-requires
+batch_rows-requires c =
+    let before = c.loop-batch-test.true in
+    let end = c.div_ceil-batch-end.ensures in
+    let count = c.nodes-nodes.ensures.count in
+    record { labels = c.requires.labels; connected = c.requires.connected; batch = omega (arith, before, end, count) }
+
+pub rows_by_nodes-requires : goal.rows_by_nodes-requires
+rows_by_nodes-requires c = record { labels = c.requires.labels; tree = no_tree; ties = tt; connected = c.requires.connected }
+
+pub loop-batch-init : goal.loop-batch-init
+loop-batch-init c =
+    let none = ap length c.in_ok-rows.ensures.items in
+    record { every = omega (arith, none); each = λ k h. absurd (omega (arith, none, h)) }

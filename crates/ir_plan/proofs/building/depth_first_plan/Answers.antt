@@ -1,11 +1,17 @@
-use Rattle.std.proofs.Common.{◌≡◌, ◌↔◌, ◌<◌, ◌≤◌, ℕ, refl, inl, inr, arith}
+use Rattle.std.proofs.Common.{◌≡◌, ◌↔◌, ◌<◌, ◌≤◌, ℕ, List, Ok, Err, refl, inl, inr, arith}
+use Rattle.std.specs.Prelude.{IfOk}
+use Rattle.std.specs.declared.result.Result.{Result}
+use Rattle.std.proofs.lemmas.Result.{IfErr-weaker}
 use Rattle.std.proofs.lemmas.Bool.{cases_lt}
+use Rattle.ir_model.specs.declared.Kind.{Kind}
+use Rattle.ir_model.specs.Numbering.{IsDepthFirst, neighbors_of}
+use Rattle.ir_model.specs.Plan.{Plan, IsPlan}
 use Rattle.ir_model.specs.Topology.{Topology, node_count}
 use Rattle.ir_model.specs.Walk.{IsDisconnected}
 use Rattle.ir_plan.specs.declared.error.PlanError.{PlanError}
 use Rattle.ir_plan.specs.declared.error.PlanError.TheVariants.{NoNode, Empty, Disconnected, NoMemory}
 use Rattle.ir_plan.specs.declared.tour.LabelOrder.TheVariants.{DepthFirst}
-use Rattle.ir_plan.specs.Building.{FromRoot, RefusesPlan}
+use Rattle.ir_plan.specs.Building.{FromRoot, IsPlanBy, RefusesPlan}
 use Rattle.ir_plan.proofs.building.depth_first_plan.Goals as goal
 
 -- what a refusal of numbers says
@@ -26,3 +32,37 @@ refused_from net root NoMemory empty no_node disconnected =
 
 pub returns-in-Err-clause-refused : goal.returns-in-Err-clause-refused
 returns-in-Err-clause-refused g c = refused_from c.args.topology c.args.root _ c.in-Err.ensures.empty c.in-Err.ensures.no_node c.in-Err.ensures.disconnected
+
+pub rows-rows-requires-clause-labels : goal.rows-rows-requires-clause-labels
+rows-rows-requires-clause-labels g c = c.in-Ok.ensures.labels
+
+pub rows-rows-requires-clause-tree : goal.rows-rows-requires-clause-tree
+rows-rows-requires-clause-tree g c = λ _. c.in-Ok.ensures.numbering
+
+pub of_rows-requires-clause-rows : goal.of_rows-requires-clause-rows
+of_rows-requires-clause-rows g c = c.rows-rows.ensures
+
+-- a plan of depth-first numbers is one from their root
+built_from : {E : Type 0} (r : Result Plan E) (net : Topology) (kind : Kind) (root : ℕ) (order parents : List ℕ) → IsDepthFirst (neighbors_of net) (node_count net) root order parents
+    → IfOk r (λ p. p.kind ≡ kind) → IfOk r (λ p. p.root ≡ root) → IfOk r (λ p. p.topology ≡ net) → IfOk r (λ p. p.order ≡ order) → IfOk r IsPlan → IfOk r (IsPlanBy net kind (FromRoot DepthFirst root))
+built_from (Ok p) net kind root order parents numbers of_kind at_root over by valid = record {
+  valid = valid;
+  over = over;
+  of_kind = of_kind;
+  labelled = ((parents, rw (over, at_root, by) numbers), at_root);
+}
+built_from (Err e) net kind root order parents numbers of_kind at_root over by valid = tt
+
+pub returns-in-Ok-clause-made : goal.returns-in-Ok-clause-made
+returns-in-Ok-clause-made g c =
+    let numbers = c.in-Ok.numbering in
+    let made = c.of_rows.ensures in
+    built_from c.of_rows.result c.args.topology c.args.kind c.args.root numbers.order numbers.parents c.in-Ok.ensures.depth_first made.kind made.root made.topology made.order made.plan
+
+pub returns-in-Ok-clause-refused : goal.returns-in-Ok-clause-refused
+returns-in-Ok-clause-refused g c =
+    let net = c.args.topology in
+    let root = c.in-Ok.ensures.root in
+    let some : 0 < node_count net = omega (arith, root) in
+    IfErr-weaker c.of_rows.result (λ (e : PlanError × Topology). e.0 ≡ NoMemory) (λ (e : PlanError × Topology). RefusesPlan net (FromRoot DepthFirst c.args.root) e.0)
+    (λ e memory. rw memory (some, root)) c.of_rows.ensures.memory

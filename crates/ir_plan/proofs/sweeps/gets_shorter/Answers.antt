@@ -1,4 +1,5 @@
-use Rattle.std.proofs.Common.{◌≡◌, ◌+◌, length, ◌∙◌}
+use Rattle.std.proofs.Common.{◌≡◌, ◌<◌, ◌+◌, ◌-◌, ℕ, length, ◌∙◌, arith}
+use Rattle.std.proofs.lemmas.List.Elements.{All-get_or}
 use Rattle.std.specs.Prelude.{nat_lt, if◌then◌else◌}
 use Rattle.std.proofs.lemmas.Bool.{cond_below, cond_above}
 use Rattle.ir_plan.specs.Distances.{far_between}
@@ -16,3 +17,53 @@ returns c =
       | else-to-order w ↦ cond_above (j + 1) (length xs) (j + 1) 0 c.if-to-order.next w.if-to-order.false w.next-is
     ] in
     shorter_is (far_between c.args.far.now.rows.items) xs c.args.from j c.if-to-order.next c.between.result c.between-2.result c.between-3.result c.between-4.result next c.between.ensures c.between-2.ensures c.between-3.ensures c.between-4.ensures
+
+pub between-requires : goal.between-requires
+between-requires c =
+    let inside = c.requires.inside in
+    let some = c.requires.some in
+    let xs = c.args.order.now in
+    let is_node : ℕ → Type 0 = λ v. v < c.args.far.now.nodes in
+    record {
+      from = All-get_or is_node xs (c.args.from - 1) 0 (omega (arith, inside, some)) c.requires.nodes;
+      to = All-get_or is_node xs c.args.from 0 (omega (arith, inside, some)) c.requires.nodes;
+    }
+
+pub between-requires-2 : goal.between-requires-2
+between-requires-2 c =
+    let inside = c.requires.inside in
+    let xs = c.args.order.now in
+    let is_node : ℕ → Type 0 = λ v. v < c.args.far.now.nodes in
+    let next : c.if-to-order.next < length xs =
+    elim c.if-to-order.branch [
+      | then-to-order w ↦ (let is = w.next-is in let less = w.if-to-order.true in omega (arith, is, less))
+      | else-to-order w ↦ (let is = w.next-is in omega (arith, is, inside))
+    ] in
+    record { from = All-get_or is_node xs c.args.to 0 inside c.requires.nodes; to = All-get_or is_node xs c.if-to-order.next 0 next c.requires.nodes }
+
+pub between-requires-3 : goal.between-requires-3
+between-requires-3 c =
+    let inside = c.requires.inside in
+    let some = c.requires.some in
+    let xs = c.args.order.now in
+    let is_node : ℕ → Type 0 = λ v. v < c.args.far.now.nodes in
+    record {
+      from = All-get_or is_node xs (c.args.from - 1) 0 (omega (arith, inside, some)) c.requires.nodes;
+      to = All-get_or is_node xs c.args.to 0 inside c.requires.nodes;
+    }
+
+pub between-requires-4 : goal.between-requires-4
+between-requires-4 c =
+    let inside = c.requires.inside in
+    let some = c.requires.some in
+    let xs = c.args.order.now in
+    let is_node : ℕ → Type 0 = λ v. v < c.args.far.now.nodes in
+    let next : c.if-to-order.next < length xs =
+    elim c.if-to-order.branch [
+      | then-to-order w ↦ (let is = w.next-is in let less = w.if-to-order.true in omega (arith, is, less))
+      | else-to-order w ↦ (let is = w.next-is in omega (arith, is, inside))
+    ] in
+    record {
+      from = All-get_or is_node xs c.args.from 0 (omega (arith, inside, some)) c.requires.nodes;
+      to = All-get_or is_node xs c.if-to-order.next 0 next c.requires.nodes;
+    }
