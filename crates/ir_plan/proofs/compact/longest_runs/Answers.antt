@@ -1,7 +1,6 @@
 use Rattle.std.proofs.Common.{◌<◌, ◌∙◌, ℕ, Bool, List, length, drop, subst, sym, arith}
 use Rattle.std.proofs.lemmas.Bool.{eqb-true}
 use Rattle.std.proofs.lemmas.List.{take_at}
-use Rattle.std.proofs.lemmas.Result.{err_from_is_err_and}
 use Rattle.ir_model.proofs.Walks.{degree_bound}
 use Rattle.ir_tables.specs.FromNode.{AreLedBy}
 use Rattle.ir_plan.proofs.BestRuns.{runs_none, runs_more, runs_same, runs_all}
@@ -85,14 +84,17 @@ returns-clause-longest c =
     runs_all c.args.topology.now c.nodes-nodes.ensures.topology numbers.order numbers.labels c.requires.labels c.args.u c.requires.distances.node c.loop-p.p c.loop-p.counts.items c.loop-p.ports.items
     (omega (arith, c.degree-p-end.ensures, c.loop-p-test.false)) c.loop-p.invariant
 
+pub overflow_cast-nodes : goal.overflow_cast-nodes
+overflow_cast-nodes c =
+    let few = c.nodes-nodes.ensures.topology.few_nodes in
+    let count = c.nodes-nodes.ensures.count in
+    omega (arith, few, count)
+
 pub label_of-own-requires : goal.label_of-own-requires
 label_of-own-requires c = subst (λ (n : ℕ). c.args.u < n) (sym c.requires.labels.every_label) c.requires.distances.node
 
-pub overflow_cast-nodes : goal.overflow_cast-nodes
-overflow_cast-nodes c =
-    let count = c.nodes-nodes.ensures.count in
-    let few = c.nodes-nodes.ensures.topology.few_nodes in
-    omega (arith, count, few)
+pub degree-p-end-requires : goal.degree-p-end-requires
+degree-p-end-requires c = c.requires.distances.node
 
 pub marks_of-requires-clause-labels : goal.marks_of-requires-clause-labels
 marks_of-requires-clause-labels c = rw c.nodes-nodes.ensures.count c.requires.labels
@@ -102,13 +104,3 @@ returns-clause-counts c = c.loop-p.invariant.counts_len
 
 pub returns-clause-ports : goal.returns-clause-ports
 returns-clause-ports c = c.loop-p.invariant.ports_len
-
-pub returns-in_err-marks : goal.returns-in_err-marks
-returns-in_err-marks c =
-    let is = (err_from_is_err_and c.from_residual-in_err-marks.result c.from_residual-in_err-marks.ensures.1).1 in
-    rw is (record { counts = tt; ports = tt; longest = tt })
-
-pub returns-in_err-led : goal.returns-in_err-led
-returns-in_err-led c =
-    let is = (err_from_is_err_and c.from_residual-in_err-led.result c.from_residual-in_err-led.ensures.1).1 in
-    rw is (record { counts = tt; ports = tt; longest = tt })

@@ -1,4 +1,4 @@
-use Rattle.std.proofs.Common.{ℕ, List, length, ap, subst, arith}
+use Rattle.std.proofs.Common.{◌∙◌, ℕ, List, length, refl, ap, subst, arith}
 use Rattle.std.proofs.lemmas.Result.{IfOk-weaker}
 use Rattle.ir_lanes.specs.Marks.{AreTied}
 use Rattle.ir_plan.proofs.CompactRows.{words_some, words_longest}
@@ -33,3 +33,26 @@ returns-clause-longest c =
     IfOk-weaker c.runs_by_words.result _ _
     (λ made longest. words_longest net c.nodes-nodes.ensures.topology numbers.order numbers.labels c.requires.labels c.args.u c.requires.node words tied c.requires.ports made.0.items made.1.items longest)
     (rw (c.nodes-nodes.ensures.count, c.label_of-own.ensures, c.as_slice.ensures.value) at c.runs_by_words.ensures.longest)
+
+pub overflow_cast-nodes : goal.overflow_cast-nodes
+overflow_cast-nodes c =
+    let few = c.nodes-nodes.ensures.topology.few_nodes in
+    let count = c.nodes-nodes.ensures.count in
+    omega (arith, few, count)
+
+pub label_of-own-requires : goal.label_of-own-requires
+label_of-own-requires c = rw c.requires.labels.every_label c.requires.node
+
+pub tied-requires : goal.tied-requires
+tied-requires c = record {
+  ties = record { same = refl; marks = rw c.requires.ties.same c.requires.ties.marks };
+  every = ap (λ (nodes : List ℕ). length nodes) c.requires.ties.same ∙ c.requires.labels.every_label;
+  node = c.requires.node;
+  ports = c.requires.ports;
+}
+
+pub returns-clause-counts : goal.returns-clause-counts
+returns-clause-counts c = rw c.nodes-nodes.ensures.count at c.runs_by_words.ensures.counts
+
+pub returns-clause-ports : goal.returns-clause-ports
+returns-clause-ports c = rw c.nodes-nodes.ensures.count at c.runs_by_words.ensures.ports

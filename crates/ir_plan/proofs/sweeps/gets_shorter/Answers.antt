@@ -1,5 +1,4 @@
-use Rattle.std.proofs.Common.{◌≡◌, ◌<◌, ◌+◌, ◌-◌, ℕ, length, ◌∙◌, arith}
-use Rattle.std.proofs.lemmas.List.Elements.{All-get_or}
+use Rattle.std.proofs.Common.{◌≡◌, ◌+◌, ◌-◌, ◌<◌, length, ◌∙◌, arith}
 use Rattle.std.specs.Prelude.{nat_lt, if◌then◌else◌}
 use Rattle.std.proofs.lemmas.Bool.{cond_below, cond_above}
 use Rattle.ir_plan.specs.Distances.{far_between}
@@ -20,50 +19,35 @@ returns c =
 
 pub between-requires : goal.between-requires
 between-requires c =
-    let inside = c.requires.inside in
     let some = c.requires.some in
-    let xs = c.args.order.now in
-    let is_node : ℕ → Type 0 = λ v. v < c.args.far.now.nodes in
+    let inside = c.requires.inside in
     record {
-      from = All-get_or is_node xs (c.args.from - 1) 0 (omega (arith, inside, some)) c.requires.nodes;
-      to = All-get_or is_node xs c.args.from 0 (omega (arith, inside, some)) c.requires.nodes;
+      from = c.requires.nodes (c.args.from - 1) 0 (omega (arith, some, inside));
+      to = c.requires.nodes c.args.from 0 (omega (arith, some, inside));
     }
 
 pub between-requires-2 : goal.between-requires-2
 between-requires-2 c =
-    let inside = c.requires.inside in
-    let xs = c.args.order.now in
-    let is_node : ℕ → Type 0 = λ v. v < c.args.far.now.nodes in
-    let next : c.if-to-order.next < length xs =
+    let next : c.if-to-order.next < length c.args.order.now =
     elim c.if-to-order.branch [
-      | then-to-order w ↦ (let is = w.next-is in let less = w.if-to-order.true in omega (arith, is, less))
-      | else-to-order w ↦ (let is = w.next-is in omega (arith, is, inside))
+      | then-to-order w ↦ rw w.next-is w.if-to-order.true
+      | else-to-order w ↦ let zero = w.next-is in omega (arith, zero, c.requires.inside)
     ] in
-    record { from = All-get_or is_node xs c.args.to 0 inside c.requires.nodes; to = All-get_or is_node xs c.if-to-order.next 0 next c.requires.nodes }
+    record { from = c.requires.nodes c.args.to 0 c.requires.inside; to = c.requires.nodes c.if-to-order.next 0 next }
 
 pub between-requires-3 : goal.between-requires-3
 between-requires-3 c =
-    let inside = c.requires.inside in
     let some = c.requires.some in
-    let xs = c.args.order.now in
-    let is_node : ℕ → Type 0 = λ v. v < c.args.far.now.nodes in
-    record {
-      from = All-get_or is_node xs (c.args.from - 1) 0 (omega (arith, inside, some)) c.requires.nodes;
-      to = All-get_or is_node xs c.args.to 0 inside c.requires.nodes;
-    }
+    let inside = c.requires.inside in
+    record { from = c.requires.nodes (c.args.from - 1) 0 (omega (arith, some, inside)); to = c.requires.nodes c.args.to 0 inside }
 
 pub between-requires-4 : goal.between-requires-4
 between-requires-4 c =
-    let inside = c.requires.inside in
     let some = c.requires.some in
-    let xs = c.args.order.now in
-    let is_node : ℕ → Type 0 = λ v. v < c.args.far.now.nodes in
-    let next : c.if-to-order.next < length xs =
+    let inside = c.requires.inside in
+    let next : c.if-to-order.next < length c.args.order.now =
     elim c.if-to-order.branch [
-      | then-to-order w ↦ (let is = w.next-is in let less = w.if-to-order.true in omega (arith, is, less))
-      | else-to-order w ↦ (let is = w.next-is in omega (arith, is, inside))
+      | then-to-order w ↦ rw w.next-is w.if-to-order.true
+      | else-to-order w ↦ let zero = w.next-is in omega (arith, zero, c.requires.inside)
     ] in
-    record {
-      from = All-get_or is_node xs c.args.from 0 (omega (arith, inside, some)) c.requires.nodes;
-      to = All-get_or is_node xs c.if-to-order.next 0 next c.requires.nodes;
-    }
+    record { from = c.requires.nodes c.args.from 0 (omega (arith, some, inside)); to = c.requires.nodes c.if-to-order.next 0 next }

@@ -27,3 +27,9 @@ pub returns-clause-kept : goal.returns-clause-kept
 returns-clause-kept g c none =
     let told = c.in_ok-found.ensures in
     first_labelled c.args.plan.now c.in_ok-found.found c.nodes.ensures.plan c.requires told.like told.tour c.args.labels (c.if_fewer.ensures.others none)
+
+pub plan_over_tour-requires-clause-few : goal.plan_over_tour-requires-clause-few
+plan_over_tour-requires-clause-few g c κs within =
+    let few = c.if-nodes-gt-MOST_TOUR_NODES.false in
+    let count = c.nodes.ensures.count in
+    omega (arith, few, count)
