@@ -27,7 +27,7 @@ words_in_threads-requires g c =
     let labels = c.requires in (
       c.type_bounds.sync-typeof-rt,
       subst (λ (xs : List ℕ). (d : ℕ) → d < length xs → slice_index xs d < node_count net) (sym (c.as_slice.ensures.value ∙ c.in_ok-order.ensures.items ∙ c.order.ensures))
-      (λ d within. labels.node d (subst (λ (n : ℕ). d < n) labels.every_label within)),
+          (λ d within. labels.node d (subst (λ (n : ℕ). d < n) labels.every_label within)),
     )
 
 pub from_batches-requires-clause-enough : goal.from_batches-requires-clause-enough
