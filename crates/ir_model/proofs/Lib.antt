@@ -22,3 +22,7 @@ pub mod Line
 pub mod Ordered
 pub mod Ranked
 pub mod Compact
+pub mod Within
+pub mod Landmarks
+pub mod Triangle
+pub mod Reach

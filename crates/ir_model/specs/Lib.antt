@@ -16,5 +16,7 @@ pub mod Row
 pub mod Compiled
 pub mod Choices
 pub mod Compact
+pub mod Within
+pub mod Landmark
 pub mod Plan
 pub mod Worked

@@ -2,7 +2,7 @@
 use Rattle.std.specs.Prelude.{◌≡◌, ℕ, ◌<◌, ◌≤◌, Option, None, List, [], length, map, slice_index, slice_index_or, option_and_then}
 use Rattle.ir_model.specs.declared.Hop.{Hop}
 use Rattle.ir_model.specs.declared.Kind.{Kind}
-use Rattle.ir_model.specs.declared.Kind.TheVariants.{Tree, Shortest, Compact}
+use Rattle.ir_model.specs.declared.Kind.TheVariants.{Tree, Shortest, Compact, Landmark}
 use Rattle.ir_model.specs.Topology.{Topology, node_count, port_at, IsTopology}
 use Rattle.ir_model.specs.Walk.{IsConnected}
 use Rattle.ir_model.specs.Table.{IsShortestTable, IsPrescribedWalk}
@@ -11,6 +11,7 @@ use Rattle.ir_model.specs.Tree.{IsTreeTable}
 use Rattle.ir_model.specs.Row.{Start}
 use Rattle.ir_model.specs.Compiled.{IsCanonical}
 use Rattle.ir_model.specs.Compact.{IsCompactTable}
+use Rattle.ir_model.specs.Landmark.{AreMostLinked, IsLandmarkTable}
 
 -- A plan, which is a routing scheme by intervals: the kind and root that it was built with, its network, the nodes by label, the
 -- label of each node, the full table's port at each node, by destination, and each node's row.
@@ -46,11 +47,14 @@ row_in s u = slice_index_or s.rows u []
 abbrev pub by_label : Plan → ℕ → List (Option ℕ)
 by_label s u = map (table_port s u) s.order
 
--- the full table of a kind over a network: the shortest table, the tree table of a numbering, or the compact table of its labels
+-- the full table of a kind over a network: the shortest table, the tree table of a numbering, the compact table of its
+-- labels, or that within the bound by the landmarks of its first node
 abbrev pub IsTableOf : Kind → Topology → List ℕ → List ℕ → (ℕ → ℕ → Option ℕ) → Type 0
 IsTableOf Shortest net order parents table = IsShortestTable net table
 IsTableOf Tree net order parents table = IsTreeTable net order parents table
 IsTableOf Compact net order parents table = IsCompactTable net order table
+IsTableOf (Landmark t) net order parents table =
+    (landmarks : List ℕ) × AreMostLinked net (slice_index order 0) t.landmarks landmarks × IsLandmarkTable net landmarks t.stretch order table
 
 -- Each node's label is its place in the order.
 pub record AreLabels (n : ℕ) (order labels : List ℕ) : Type 0 where
@@ -60,10 +64,6 @@ pub record AreLabels (n : ℕ) (order labels : List ℕ) : Type 0 where
   pub label : (u : ℕ) → u < n → slice_index labels u < n
   pub there : (u : ℕ) → u < n → slice_index order (slice_index labels u) ≡ u
   pub back : (a : ℕ) → a < n → slice_index labels (slice_index order a) ≡ a
-
--- the labels are depth-first numbers of the network from the root, along some tree
-abbrev pub HasDepthFirst : Plan → Type 0
-HasDepthFirst s = (parents : List ℕ) × IsDepthFirst (neighbors_of s.topology) (node_count s.topology) s.root s.order parents
 
 -- What is true of every plan: each node has one label, the root the first, and in a tree plan the labels are depth-first
 -- numbers from the root; its table is the full table of its kind over its network, whose prescribed walks exist and are

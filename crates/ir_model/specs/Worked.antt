@@ -3,6 +3,7 @@ use Rattle.std.specs.Prelude.{ℕ, List, [], ◌∷◌, Option, Some, None, code
 use Rattle.ir_model.specs.declared.Link.{Link}
 use Rattle.ir_model.specs.declared.Hop.{Hop}
 use Rattle.ir_model.specs.Topology.{Topology}
+use Rattle.ir_model.specs.Interval.{PortInterval}
 
 abbrev pub link : ℕ → ℕ → ℕ → Link
 link u v w = record { low = u; high = v; weight = w }
@@ -16,6 +17,17 @@ line = record {
   links = link 0 1 1 ∷ link 1 2 1 ∷ [];
   ports = (hop 1 0 1 ∷ []) ∷ (hop 0 0 1 ∷ hop 2 1 1 ∷ []) ∷ (hop 1 1 1 ∷ []) ∷ [];
 }
+
+-- a triangle, its links of weight 1
+abbrev pub triangle : Topology
+triangle = record {
+  links = link 0 1 1 ∷ link 0 2 1 ∷ link 1 2 1 ∷ [];
+  ports = (hop 1 0 1 ∷ hop 2 1 1 ∷ []) ∷ (hop 0 0 1 ∷ hop 2 2 1 ∷ []) ∷ (hop 0 1 1 ∷ hop 1 2 1 ∷ []) ∷ [];
+}
+
+-- one interval of all labels
+abbrev pub one_interval : PortInterval
+one_interval = record { start = 0; end = 0; port = 0 }
 
 -- six nodes u p q r t s (0 to 5) and the links u-p, u-q, p-q, p-t, q-r, q-t, q-s (0 to 6)
 abbrev pub six : Topology

@@ -1,6 +1,7 @@
 pub mod Lists
 pub mod Neighbors
 pub mod Traversal
+pub mod Adjacent
 pub mod Nested
 pub mod Ways
 pub mod ParentPorts

@@ -48,6 +48,3 @@ pub neighbors_below : (net : Topology) → IsTopology net → (u : ℕ) → All 
 neighbors_below net ok u k d h =
     let b = linked_below net ok u (slice_index (neighbors_of net u) k) (contains_linked net u k h) in
     subst (λ (x : ℕ). x < node_count net) (get_or_default (neighbors_of net u) k 0 d h) b
-
-pub ports_below : (net : Topology) → IsTopology net → (u : ℕ) → All (λ (hop : Hop). hop.node < node_count net) (ports_of net u)
-ports_below net ok u k d h = (port_facts net ok u k (get_or (ports_of net u) k d) (slice_get-get_or (ports_of net u) k d h)).to

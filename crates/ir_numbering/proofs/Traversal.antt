@@ -1,18 +1,19 @@
 -- What a search keeps that has a stack of the places on its way.
 use Rattle.std.proofs.Common.{◌≡◌, ◌≢◌, ℕ, zero, suc, ◌<◌, ◌≤◌, List, [], ◌∷◌, ◌++◌, length, get_or, set, replicate, take, refl, ap, sym, ◌∙◌, subst, inl, inr, ◌⊎◌, arith, Bool, true, false}
 use Rattle.std.specs.Prelude.{All, AllPairs, Contains, slice_index}
+use Rattle.std.specs.Global.{Vec}
 use Rattle.std.proofs.lemmas.Bool.{cases_eq, false≢true}
 use Rattle.std.proofs.lemmas.List.{length_push, get_or_append_left, get_or_push, take-append-le, take_at, get_or_default, get_or-set_same, get_or-set_other, length-set, length-replicate, get_or-replicate, get_or_read}
 use Rattle.std.proofs.lemmas.List.Elements.{Contains-get_or, Contains-append_left, Contains-push, Contains-push_cases, All-push}
 use Rattle.std.proofs.lemmas.List.Quantifiers.{all_pairs_push}
 use Rattle.ir_model.proofs.Pigeonhole.{length-le_from_places}
-use Rattle.ir_model.specs.Topology.{Topology, node_count, IsTopology}
+use Rattle.ir_model.specs.Topology.{Topology}
 use Rattle.ir_model.specs.Numbering.{neighbors_of, IsFirstOutside, NoneOutside, IsNext}
 use Rattle.ir_model.specs.Walk.{LeadsTo, IsWalk}
 use Rattle.ir_model.specs.Plan.{AreLabels}
-use Rattle.ir_numbering.specs.Search.{IsFirstUnmarked, AllMarked, ArePassed}
+use Rattle.ir_numbering.specs.Search.{IsFirstUnmarked, AllMarked, ArePassed, IsClosed}
 use Rattle.ir_numbering.specs.Numbering.{IsListing}
-use Rattle.ir_numbering.proofs.Neighbors.{neighbor_at, neighbors_below}
+use Rattle.ir_numbering.proofs.Neighbors.{neighbor_at}
 
 -- nodes seen so far, the place of each one's parent, and the places on the way from the root to the node where the search stands
 pub record IsTraversal (adjacent : ℕ → List ℕ) (n root : ℕ) (order parents stack : List ℕ) : Type 0 where
@@ -130,23 +131,28 @@ begun adjacent n root label = record {
   finished = λ k h off. let e : 0 ≡ k = omega arith in absurd (off (0, omega arith, e));
 }
 
--- where every neighbour of a node seen is seen, so is each node that a walk leads to
-seen_along : (net : Topology) (order : List ℕ) → ((k : ℕ) → k < length order → NoneOutside order (neighbors_of net (slice_index order k)))
-    → (u v : ℕ) (rest : List ℕ) → LeadsTo net u v rest → Contains order u → Contains order v
-seen_along net order closed u v [] way h = subst (Contains order) way.0 h
-seen_along net order closed u v (x ∷ rest) way h =
-    let is : get_or order h.0 0 ≡ u = get_or_default order h.0 0 u h.1 ∙ h.2 in
-    let all : NoneOutside order (neighbors_of net u) = subst (λ (y : ℕ). NoneOutside order (neighbors_of net y)) is (closed h.0 h.1) in
-    let edge = neighbor_at net u way.0.0 way.0.1 way.0.2 in
-    seen_along net order closed x v rest way.1 (subst (Contains order) (edge.1 ∙ way.0.3) (all way.0.0 edge.0))
+-- where the stack is empty, the nodes seen are closed
+pub all_seen : (adjacent : ℕ → List ℕ) (n root : ℕ) (order parents : List ℕ) → IsTraversal adjacent n root order parents [] → IsClosed adjacent root order
+all_seen adjacent n root order parents t = record {
+  root_in = (0, t.started, get_or_default order 0 root 0 t.started ∙ t.root_first);
+  closed = λ u v h w.
+      let is : get_or order h.0 0 ≡ u = get_or_default order h.0 0 u h.1 ∙ h.2 in
+      let all : NoneOutside order (adjacent u) = subst (λ (y : ℕ). NoneOutside order (adjacent y)) is (t.finished h.0 h.1 (λ k. omega (arith, k.1))) in
+      subst (Contains order) (get_or_default (adjacent u) w.0 0 v w.1 ∙ w.2) (all w.0 w.1);
+}
 
--- where the stack is empty, each node that a walk from the root leads to is seen
-pub walk_is_seen : (net : Topology) (n root : ℕ) (order parents : List ℕ) → IsTraversal (neighbors_of net) n root order parents [] → (v : ℕ) (walk : List ℕ) → IsWalk net root v walk → Contains order v
-walk_is_seen net n root order parents t v [] walk = absurd walk
-walk_is_seen net n root order parents t v (x ∷ rest) walk =
-    let root_is : get_or order 0 root ≡ root = get_or_default order 0 root 0 t.started ∙ t.root_first in
-    let way : LeadsTo net root v rest = walk.1 in
-    seen_along net order (λ k h. t.finished k h (λ w. omega (arith, w.1))) root v rest way (0, t.started, root_is)
+-- what is closed along ports has each node that a walk leads to
+module _ (net : Topology) (root : ℕ) (nodes : List ℕ) (c : IsClosed (neighbors_of net) root nodes) where
+  closed_along : (u v : ℕ) (rest : List ℕ) → LeadsTo net u v rest → Contains nodes u → Contains nodes v
+  closed_along u v [] way h = subst (Contains nodes) way.0 h
+  closed_along u v (x ∷ rest) way h =
+      let edge = neighbor_at net u way.0.0 way.0.1 way.0.2 in
+      let next : Contains (neighbors_of net u) x = (way.0.0, edge.0, get_or_default (neighbors_of net u) way.0.0 x 0 edge.0 ∙ edge.1 ∙ way.0.3) in
+      closed_along x v rest way.1 (c.closed u x h next)
+
+  pub walk_is_closed : (v : ℕ) (walk : List ℕ) → IsWalk net root v walk → Contains nodes v
+  walk_is_closed v [] walk = absurd walk
+  walk_is_closed v (x ∷ rest) walk = let way : LeadsTo net root v rest = walk.1 in closed_along root v rest way c.root_in
 
 -- a number stands at one of the first m places, or at none
 at_some_place : (xs : List ℕ) (v m : ℕ) → m ≤ length xs → Contains xs v ⊎ ((k : ℕ) → k < m → get_or xs k v ≡ v → ⊥)
@@ -254,39 +260,38 @@ marks_more n order marks m x label =
 pub marks_one : (n root : ℕ) → root < n → IsMarked n (root ∷ []) (set (replicate n false) root true)
 marks_one n root label = marks_more n [] (replicate n false) (record { every = length-replicate n false; seen = λ v h is. absurd (false≢true (sym (get_or-replicate n v false false h) ∙ is)); told = λ v w. absurd (omega (arith, w.1)) }) root label
 
--- a search that begins has passed no port
-pub passed_none : (net : Topology) (marks : List Bool) → ArePassed net marks (replicate (node_count net) 0)
-passed_none net marks = record {
-  every = length-replicate (node_count net) 0;
-  each = λ u h k lt. let e : slice_index (replicate (node_count net) 0) u ≡ 0 = get_or-replicate (node_count net) u 0 0 h in absurd (omega arith);
+-- a search that begins has passed no neighbour
+pub passed_none : (lists : List (Vec ℕ)) (marks : List Bool) → ArePassed lists marks (replicate (length lists) 0)
+passed_none lists marks = record {
+  every = length-replicate (length lists) 0;
+  each = λ u h k lt. let e : slice_index (replicate (length lists) 0) u ≡ 0 = get_or-replicate (length lists) u 0 0 h in absurd (omega arith);
 }
 
 -- the node that was read at the top
-module _ (net : Topology) (ok : IsTopology net) (root : ℕ) (order parents rest : List ℕ) (marks : List Bool) (stack : List ℕ) (top node : ℕ)
-    (t : IsTraversal (neighbors_of net) (node_count net) root order parents stack) (m : IsMarked (node_count net) order marks)
-    (is : stack ≡ rest ++ top ∷ []) (read : node ≡ get_or order top node) where
-  here_t : IsTraversal (neighbors_of net) (node_count net) root order parents (rest ++ top ∷ [])
-  here_t = subst (IsTraversal (neighbors_of net) (node_count net) root order parents) is t
+module _ (adjacent : ℕ → List ℕ) (n root : ℕ) (order parents rest : List ℕ) (marks : List Bool) (stack : List ℕ) (top node : ℕ) (below : (u : ℕ) → u < n → All (λ v. v < n) (adjacent u))
+    (t : IsTraversal adjacent n root order parents stack) (m : IsMarked n order marks) (is : stack ≡ rest ++ top ∷ []) (read : node ≡ get_or order top node) where
+  here_t : IsTraversal adjacent n root order parents (rest ++ top ∷ [])
+  here_t = subst (IsTraversal adjacent n root order parents) is t
 
   here_below : top < length order
-  here_below = top_below (neighbors_of net) (node_count net) root order parents rest top here_t
+  here_below = top_below adjacent n root order parents rest top here_t
 
   here_is : node ≡ get_or order top 0
   here_is = get_or_read order top node here_below read 0
 
-  pub node_below : node < node_count net
-  node_below = subst (λ (v : ℕ). v < node_count net) (sym here_is) (t.nodes top 0 here_below)
+  node_below : node < n
+  node_below = subst (λ (v : ℕ). v < n) (sym here_is) (t.nodes top 0 here_below)
 
-  pub goes_back : AllMarked marks (neighbors_of net node) → IsTraversal (neighbors_of net) (node_count net) root order parents rest
+  pub goes_back : AllMarked marks (adjacent node) → IsTraversal adjacent n root order parents rest
   goes_back all =
-      let none = marked_none (node_count net) order marks m (neighbors_of net node) (neighbors_below net ok node) all in
-      popped (neighbors_of net) (node_count net) root order parents rest top here_t (subst (λ (v : ℕ). NoneOutside order (neighbors_of net v)) here_is none)
+      let none = marked_none n order marks m (adjacent node) (below node node_below) all in
+      popped adjacent n root order parents rest top here_t (subst (λ (v : ℕ). NoneOutside order (adjacent v)) here_is none)
 
-  pub goes_on : (x : ℕ) → x < node_count net → IsFirstUnmarked marks (neighbors_of net node) x
-      → IsTraversal (neighbors_of net) (node_count net) root (order ++ x ∷ []) (parents ++ top ∷ []) ((rest ++ top ∷ []) ++ length order ∷ [])
+  pub goes_on : (x : ℕ) → x < n → IsFirstUnmarked marks (adjacent node) x
+      → IsTraversal adjacent n root (order ++ x ∷ []) (parents ++ top ∷ []) ((rest ++ top ∷ []) ++ length order ∷ [])
   goes_on x label f =
-      let first = marked_first (node_count net) order marks m (neighbors_of net node) (neighbors_below net ok node) x label f in
-      pushed (neighbors_of net) (node_count net) root order parents rest top here_t x label (subst (λ (v : ℕ). IsFirstOutside order (neighbors_of net v) x) here_is first)
+      let first = marked_first n order marks m (adjacent node) (below node node_below) x label f in
+      pushed adjacent n root order parents rest top here_t x label (subst (λ (v : ℕ). IsFirstOutside order (adjacent v) x) here_is first)
 
 -- a listing of n numbers below n has each of them
 module _ (n : ℕ) (order : List ℕ) (is : IsListing n order) (v : ℕ) (label : v < n) (off : Contains order v → ⊥) where

@@ -5,9 +5,10 @@ ghost use Rattle.ir_model.specs.{Tree.{IsParent, IsTreeTable}, Plan.AreLabels, d
 ghost use Rattle.ir_numbering.specs.Numbering.{IsListing, IsNumberingOf, Numbering, AreSoundNumbers};
 ghost use Rattle.ir_numbering.specs.{Sizes.AreSizesFrom, Views.numbers_of};
 
+use crate::adjacency::search;
 use crate::error::NumberError;
 use crate::parents::{labels_of, parent_ports, subtree_sizes};
-use crate::search::{Order, search};
+use crate::search::Order;
 use crate::tree::tree_ports;
 use ir_tables::{Table, Topology};
 use std::alloc::{AllocError, Global};

@@ -1,9 +1,10 @@
-ghost use Rattle.std.specs.Prelude.{◌≡◌, ◌<◌, ◌≤◌, ◌++◌, ◌∷◌, [], ℕ, length, All, IfOk, IfSome, OnOk, MatchOption, map, slice_set, true};
-ghost use Rattle.ir_model.specs.{declared.Hop.Hop, Topology.node_count, Numbering.{neighbors_of, IsDepthFirst}};
-ghost use Rattle.ir_numbering.specs.Search.{IsFirstUnmarked, IsUnmarkedAt, AllMarked, FirstMarked, ArePassed};
-ghost use Rattle.ir_numbering.specs.Search.{IsOneCutOff};
+//! The search that goes on from the last node it came to.
 
-use ir_tables::{Hop, Topology};
+ghost use Rattle.std.specs.Prelude.{◌≡◌, ◌<◌, ◌≤◌, ◌++◌, ◌∷◌, [], ℕ, length, All, IfOk, IfSome, OnOk, MatchOption, slice_set, true};
+ghost use Rattle.ir_model.specs.{Numbering.IsDepthFirst};
+ghost use Rattle.ir_numbering.specs.Search.{IsFirstUnmarked, IsUnmarkedAt, AllMarked, FirstMarked, ArePassed};
+ghost use Rattle.ir_numbering.specs.Search.{AreAdjacent, IsClosed, list_at};
+
 use std::alloc::{AllocError, Global};
 
 /// Nodes in depth-first order, and the place of each one's parent in it.
@@ -13,16 +14,17 @@ pub struct Order {
     pub parents: Vec<usize>,
 }
 
-/// The nodes that walks from the root lead to, in depth-first order. Takes O(n + m), for n nodes and m links.
-pub fn search(alloc: Global, topology: &Topology, root: u16) -> Result<Order, AllocError>
-    requires { root < node_count topology.now }
-    ensures all { IfOk result (λ order. node_count topology.now ≤ length order.nodes.items
-        → IsDepthFirst (neighbors_of topology.now)
-        (node_count topology.now) root order.nodes.items order.parents.items) }
-    ensures some { IfOk result (λ order. length order.nodes.items < node_count topology.now
-        → IsOneCutOff topology.now root) }
+/// The nodes that a root leads to, in depth-first order, by the list of the neighbours of each node. It is refused for
+/// memory alone. Takes O(n + m), for n nodes and m neighbours.
+pub fn search_lists(alloc: Global, lists: &[Vec<u16>], root: u16) -> Result<Order, AllocError>
+    requires root { root < length lists.now }
+    requires nodes { AreAdjacent lists.now }
+    ensures all { IfOk result (λ order. length lists.now ≤ length order.nodes.items
+        → IsDepthFirst (list_at lists.now) (length lists.now) root order.nodes.items order.parents.items) }
+    ensures some { IfOk result (λ order. length order.nodes.items < length lists.now
+        → IsClosed (list_at lists.now) root order.nodes.items) }
 {
-    let n = topology.nodes();
+    let n = lists.len();
     let mut marked = vec![in alloc; false; n]?;
     let mut passed = vec![in alloc; 0usize; n]?;
     let mut nodes = Vec::new(alloc);
@@ -36,7 +38,7 @@ pub fn search(alloc: Global, topology: &Topology, root: u16) -> Result<Order, Al
         let Some(top) = stack.pop() else {
             break;
         };
-        if let Some(next) = mark_next(topology, nodes[top], &mut passed, &mut marked) {
+        if let Some(next) = mark_next(lists, nodes[top], &mut passed, &mut marked) {
             visit(&mut nodes, &mut parents, &mut stack, top, next)?;
         }
     }
@@ -62,46 +64,53 @@ fn visit(
     Ok(())
 }
 
-// Marks the first neighbour of a node, in port order, that has no mark. The ports that are known to lead to nodes with
-// marks are passed over, so that each is looked at once, whatever the number of calls.
+// Marks the first neighbour of a node that has no mark. The neighbours that are known to have marks are passed over, so
+// that each is looked at once, whatever the number of calls.
 fn mark_next(
-    topology: &Topology,
+    lists: &[Vec<u16>],
     u: u16,
     passed: &mut Vec<usize>,
     marked: &mut Vec<bool>,
 ) -> Option<u16>
-    requires node { u < node_count topology.now }
-    requires marks { length marked.old.items ≡ node_count topology.now }
-    requires passed { ArePassed topology.now marked.old.items passed.old.items }
-    ensures node { IfSome result (λ x. x < node_count topology.now) }
-    ensures first { MatchOption result (AllMarked marked.old.items (neighbors_of topology.now u))
-        (IsFirstUnmarked marked.old.items (neighbors_of topology.now u)) }
+    requires node { u < length lists.now }
+    requires nodes { AreAdjacent lists.now }
+    requires marks { length marked.old.items ≡ length lists.now }
+    requires passed { ArePassed lists.now marked.old.items passed.old.items }
+    ensures node { IfSome result (λ x. x < length lists.now) }
+    ensures first { MatchOption result (AllMarked marked.old.items (list_at lists.now u))
+        (IsFirstUnmarked marked.old.items (list_at lists.now u)) }
     ensures marks { MatchOption result (marked.new.items ≡ marked.old.items)
         (λ x. marked.new.items ≡ slice_set marked.old.items x true) }
-    ensures passed { ArePassed topology.now marked.new.items passed.new.items }
+    ensures passed { ArePassed lists.now marked.new.items passed.new.items }
 {
-    topology.invariant();
     let u = u as usize;
-    let ports = topology.ports(u);
-    let Some(port) = first_unmarked(ports, passed[u], marked.as_slice()) else {
+    let list = list_of(lists, u);
+    let Some(place) = first_unmarked(list, passed[u], marked.as_slice()) else {
         return None;
     };
-    let next = ports[port].node;
-    passed[u] = port;
+    let next = list[place];
+    passed[u] = place;
     marked[next as usize] = true;
     Some(next)
 }
 
-// The first port, from this one on, that leads to a node without a mark; no port before it does.
-fn first_unmarked(ports: &[Hop], from: usize, marked: &[bool]) -> Option<usize>
-    requires nodes { All (λ (hop : Hop). hop.node < length marked.now) ports.now }
-    requires from { FirstMarked marked.now (map (λ (hop : Hop). hop.node) ports.now) from }
-    ensures port { IfSome result (λ p. p < length ports.now) }
-    ensures unmarked { MatchOption result (AllMarked marked.now (map (λ (hop : Hop). hop.node) ports.now))
-        (IsUnmarkedAt marked.now (map (λ (hop : Hop). hop.node) ports.now)) }
+// The list at a place.
+fn list_of(lists: &[Vec<u16>], u: usize) -> &[u16]
+    requires { u < length lists.now }
+    ensures { result.now ≡ list_at lists.now u }
 {
-    for p in from..ports.len() {
-        if !marked[ports[p].node as usize] {
+    lists[u].as_slice()
+}
+
+// The first place, from this one on, of a node without a mark; there is none at a place before it.
+fn first_unmarked(nodes: &[u16], from: usize, marked: &[bool]) -> Option<usize>
+    requires nodes { All (λ v. v < length marked.now) nodes.now }
+    requires from { FirstMarked marked.now nodes.now from }
+    ensures place { IfSome result (λ p. p < length nodes.now) }
+    ensures unmarked { MatchOption result (AllMarked marked.now nodes.now) (IsUnmarkedAt marked.now nodes.now) }
+{
+    for p in from..nodes.len() {
+        if !marked[nodes[p] as usize] {
             return Some(p);
         }
     }

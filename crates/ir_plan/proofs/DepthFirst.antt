@@ -1,22 +1,26 @@
--- Plans of one kind, network and order have the same rows, and depth-first plans of one network and root the same order.
+-- Plans of one kind, network and order have the same rows, and first plans of one kind, network and root the same order.
 use Rattle.std.proofs.Common.{◌≡◌, ◌≢◌, ℕ, ◌<◌, List, [], ◌∷◌, length, map, get_or, Option, Some, refl, ap, sym, ◌∙◌, subst, inl, inr, arith}
 use Rattle.std.specs.Prelude.{All, slice_index}
 use Rattle.std.proofs.lemmas.Bool.{cases_eq}
 use Rattle.std.proofs.lemmas.List.{same_lists, get_or_default}
 use Rattle.std.proofs.lemmas.List.Elements.{All-head, All-tail}
 use Rattle.ir_model.specs.declared.Kind.{Kind}
-use Rattle.ir_model.specs.declared.Kind.TheVariants.{Tree, Shortest, Compact}
-use Rattle.ir_model.specs.Topology.{Topology, node_count}
-use Rattle.ir_model.specs.Numbering.{neighbors_of, IsDepthFirst}
+use Rattle.ir_model.specs.declared.Kind.TheVariants.{Tree, Shortest, Compact, Landmark}
+use Rattle.ir_model.specs.Topology.{Topology, node_count, IsTopology}
+use Rattle.ir_model.specs.Numbering.{neighbors_of}
 use Rattle.ir_model.specs.Row.{Start}
 use Rattle.ir_model.specs.Compiled.{IsCanonical}
 use Rattle.ir_model.specs.Compact.{IsCompactTable}
+use Rattle.ir_model.specs.Landmark.{IsLandmarkTable}
 use Rattle.ir_model.specs.Table.{IsShortestTable}
-use Rattle.ir_model.specs.Plan.{Plan, IsPlan, HasDepthFirst, AreLabels, IsTableOf, table_port, label_in, row_in, by_label}
+use Rattle.ir_model.specs.Plan.{Plan, IsPlan, AreLabels, IsTableOf, table_port, label_in, row_in, by_label}
 use Rattle.ir_model.proofs.Compact.{compact_same}
 use Rattle.ir_model.proofs.Ordered.{canonical_same}
 use Rattle.ir_model.proofs.Ranked.{order_same}
-use Rattle.ir_plan.specs.Starts.{IsPlanAs}
+use Rattle.ir_model.proofs.Within.{within_same}
+use Rattle.ir_model.specs.Landmark.{IsLandmarkBound}
+use Rattle.ir_bounds.proofs.Determined.{block_labels_same, most_linked_same}
+use Rattle.ir_plan.specs.Starts.{IsPlanAs, IsDepthFirstOrder, IsFirstOrder, IsFirstPlan}
 
 -- a network has one shortest table
 pub shortest_same : (net : Topology) (table other : ℕ → ℕ → Option ℕ) → IsShortestTable net table → IsShortestTable net other → (u d : ℕ) → u < node_count net → d < node_count net → table u d ≡ other u d
@@ -73,13 +77,25 @@ module _ (p q : Plan) (is : IsPlan p) (so : IsPlan q) (nodes : node_count p.topo
       ∙ row_same u (omega (arith, within, is.row_of_each))
       ∙ get_or_default q.rows u [] d (omega (arith, within, every)))
 
--- the order is that of the network and the root
-pub depth_first_order : (p q : Plan) → HasDepthFirst p → IsPlanAs p q → HasDepthFirst q → p.order ≡ q.order
-depth_first_order p q first like other =
-    let net = p.topology in
-    let moved = subst (λ (x : Topology). IsDepthFirst (neighbors_of x) (node_count x) q.root q.order other.0) like.topology other.1 in
-    let rooted = subst (λ (x : ℕ). IsDepthFirst (neighbors_of net) (node_count net) x q.order other.0) like.root moved in
-    order_same (neighbors_of net) (node_count net) p.root p.order first.0 q.order other.0 first.1 rooted
+-- a network has one depth-first order from a root
+depth_first_same : (net : Topology) (root : ℕ) (order other : List ℕ) → IsDepthFirstOrder net root order → IsDepthFirstOrder net root other → order ≡ other
+depth_first_same net root order other a b = order_same (neighbors_of net) (node_count net) root order a.0 other b.0 a.1 b.1
+
+-- a kind, a network and a root have one first order
+first_order_same : (kind : Kind) (net : Topology) → IsTopology net → (root : ℕ) (order other : List ℕ) → IsFirstOrder kind net root order → IsFirstOrder kind net root other → order ≡ other
+first_order_same Tree net ok root order other a b = depth_first_same net root order other a b
+first_order_same Shortest net ok root order other a b = depth_first_same net root order other a b
+first_order_same Compact net ok root order other a b = depth_first_same net root order other a b
+first_order_same (Landmark t) net ok root order other a b = block_labels_same net ok root t.landmarks order other a b
+
+-- the order of a first plan is that of the kind, the network and the root
+pub first_order : (p q : Plan) → IsFirstPlan p → IsPlanAs p q → IsFirstPlan q → p.order ≡ q.order
+first_order p q first like other =
+    let is : IsPlan q = like.plan in
+    first_order_same p.kind p.topology (subst IsTopology like.topology is.topology) p.root p.order q.order first
+    (subst (λ (x : ℕ). IsFirstOrder p.kind p.topology x q.order) like.root
+    (subst (λ (x : Topology). IsFirstOrder p.kind x q.root q.order) like.topology
+    (subst (λ (x : Kind). IsFirstOrder x q.topology q.root q.order) like.kind other)))
 
 -- the labels are those of the order
 pub labels_same : (p q : Plan) → IsPlan p → IsPlanAs p q → p.order ≡ q.order → p.labels ≡ q.labels
@@ -109,6 +125,17 @@ by_kind Compact p q other kind is like same =
     let over = subst (λ (net : Topology). IsCompactTable net q.order (table_port q)) like.topology theirs in
     let ordered = subst (λ (xs : List ℕ). IsCompactTable p.topology xs (table_port q)) (sym same) over in
     compact_same p.topology p.order p.labels is.labels (table_port p) (table_port q) table ordered
+by_kind (Landmark t) p q other kind is like same =
+    let net = p.topology in
+    let so = like.plan in
+    let K : Topology → List ℕ → (ℕ → ℕ → Option ℕ) → Type 0 = λ x xs port. IsTableOf (Landmark t) x xs so.parents port in
+    let table = subst (λ (k : Kind). IsTableOf k net p.order is.parents (table_port p)) kind is.table in
+    let theirs = subst (λ (k : Kind). IsTableOf k q.topology q.order so.parents (table_port q)) (like.kind ∙ kind) so.table in
+    let over : K net q.order (table_port q) = subst (λ (x : Topology). K x q.order (table_port q)) like.topology theirs in
+    let ordered : K net p.order (table_port q) = subst (λ (xs : List ℕ). K net xs (table_port q)) (sym same) over in
+    let landmarks : ordered.0 ≡ table.0 = most_linked_same net (slice_index p.order 0) t.landmarks ordered.0 table.0 ordered.1 table.1 in
+    within_same net (IsLandmarkBound net table.0 t.stretch) p.order p.labels is.labels (table_port p) (table_port q) table.2
+    (subst (λ (ls : List ℕ). IsLandmarkTable net ls t.stretch p.order (table_port q)) landmarks ordered.2)
 
 -- plans of one kind other than Tree, network and order have the same table, and the same rows
 pub table_same : (p q : Plan) → p.kind ≢ Tree → IsPlan p → IsPlanAs p q → p.order ≡ q.order → (u d : ℕ) → u < node_count p.topology → d < node_count p.topology → table_port p u d ≡ table_port q u d

@@ -5,6 +5,7 @@ pub mod Counting
 pub mod TreeStarts
 pub mod CompactRows
 pub mod CompactPlans
+pub mod LandmarkPlans
 pub mod NodeRows
 pub mod LaneRows
 pub mod BatchRows
@@ -15,3 +16,4 @@ pub mod Tours
 pub mod Differences
 pub mod Labelled
 pub mod BestRuns
+pub mod Crews

@@ -8,6 +8,8 @@ use Rattle.std.specs.declared.alloc.AllocError.{AllocError}
 use Rattle.std.proofs.lemmas.Bool.{cases_eq}
 use Rattle.std.proofs.lemmas.List.{get_or-map, length-map, length_push, get_or_push, get_or_append_left, map-append}
 use Rattle.rayon.specs.Numbers.{nat_range}
+use Rattle.rayon.specs.Shown.{run-append}
+use Rattle.rayon.proofs.ListFacts.{AllZip-append}
 use Rattle.ir_plan.specs.Distances.{lists_of}
 
 -- lists of vectors that were made for the numbers of a range, where P holds of each and its number
@@ -62,33 +64,16 @@ read_pushed f xs ys v x len own e is k lt =
       | inr ne ↦ get_or_append_left xs (x ∷ []) 0 k (omega (arith, len)) ∙ own k (omega arith)
     ]
 
--- what was made for the numbers of a range, where P holds of each and its number
-pub made_for_range : {T : Type 0} (P : ℕ → T → Type 0) (a k : ℕ) (made : List T) → AllZip (λ (u : ℕ) (one : Result T AllocError). IfOk one (P u)) (range_with_len a k) (map Ok made)
-    → (length made ≡ k) × ((i : ℕ) (d : T) → i < k → P (a + i) (slice_index_or made i d))
-made_for_range P a zero [] zipped = (refl, λ i d lt. absurd (omega (arith, lt)))
-made_for_range P a zero (x ∷ xs) zipped = absurd zipped
-made_for_range P a (suc k) [] zipped = absurd zipped
-made_for_range {T} P a (suc k) (x ∷ xs) zipped =
-    let later = made_for_range P (a + 1) k xs zipped.1 in
-    (ap suc later.0, at later.1)
-  where
-    at : ((i : ℕ) (d : T) → i < k → P (a + 1 + i) (slice_index_or xs i d)) → (i : ℕ) (d : T) → i < suc k → P (a + i) (slice_index_or (x ∷ xs) i d)
-    at later zero d lt = let e : a ≡ a + 0 = omega arith in subst (λ (u : ℕ). P u x) e zipped.0
-    at later (suc i) d lt = let e : a + 1 + i ≡ a + suc i = omega arith in subst (λ (u : ℕ). P u (slice_index_or xs i d)) e (later i d (omega (arith, lt)))
-
-pub words_made : (P : ℕ → Option (Vec ℕ) → Type 0) (k : ℕ) (made : List (Option (Vec ℕ)))
-    → AllZip (λ (u : ℕ) (one : Result (Option (Vec ℕ)) AllocError). IfOk one (P u)) (range_with_len 0 k) (map Ok made)
-    → (length made ≡ k) × ((i : ℕ) → i < length made → P i (slice_index_or made i None))
-words_made P k made zipped =
-    let all = made_for_range P 0 k made zipped in
-    (all.0, λ i lt. let e : 0 + i ≡ i = omega arith in subst (λ (u : ℕ). P u (slice_index_or made i None)) e (all.1 i None (omega (arith, lt, all.0))))
-
--- what was found for each number, where something was found for all
-pub found_each : (P : ℕ → List ℕ → Type 0) (lists : List (Vec ℕ)) → ((i : ℕ) → i < length lists → IfSome (slice_index_or (map Some lists) i None) (λ (v : Vec ℕ). P i v.items))
-    → (i : ℕ) → i < length lists → P i (slice_index_or (lists_of lists) i [])
-found_each P [] all i lt = absurd (omega (arith, lt))
-found_each P (x ∷ xs) all zero lt = all 0 lt
-found_each P (x ∷ xs) all (suc i) lt = found_each (λ j list. P (suc j) list) xs (λ j l. all (suc j) (omega (arith, l))) i (omega (arith, lt))
+-- one more that was made
+pub zip_more : {T : Type 0} (R : ℕ → Result T AllocError → Type 0) (k : ℕ) (made : List T) (x : T) → AllZip R (range_with_len 0 k) (map Ok made) → R k (Ok x)
+    → AllZip R (range_with_len 0 (k + 1)) (map Ok (made ++ (x ∷ [])))
+zip_more {T} R k made x zipped own =
+    let e : 0 + k ≡ k = omega arith in
+    let one : range_with_len (0 + k) 1 ≡ (k ∷ []) = ap (λ (u : ℕ). u ∷ []) e in
+    let places : range_with_len 0 k ++ (k ∷ []) ≡ range_with_len 0 (k + 1) = ap (λ (us : List ℕ). range_with_len 0 k ++ us) (sym one) ∙ run-append 0 k 1 in
+    let all = AllZip-append R (range_with_len 0 k) (k ∷ []) (map Ok made) (Ok x ∷ []) zipped (own, tt) in
+    subst (λ (us : List ℕ). AllZip R us (map Ok (made ++ (x ∷ [])))) places
+    (subst (λ (rs : List (Result T AllocError)). AllZip R (range_with_len 0 k ++ (k ∷ [])) rs) (sym (map-append (λ (y : T). Ok y) made (x ∷ []))) all)
 
 -- what a chain over a range gave, where each was made
 pub made_of_chain : {T : Type 0} (R : ℕ → Result T AllocError → Type 0) (places : List ℕ) (a b n : ℕ) (results : List (Result T AllocError)) (made items : List T)

@@ -1,13 +1,11 @@
 -- The rows of all nodes stand for the full table of their kind.
-use Rattle.std.proofs.Common.{◌≡◌, ◌≢◌, ℕ, zero, suc, Ok, ◌+◌, ◌<◌, ◌≤◌, List, [], ◌∷◌, ◌++◌, length, map, Option, None, get_or, refl, ap, sym, ◌∙◌, subst, inl, inr, arith}
-use Rattle.std.specs.Prelude.{slice_index, slice_index_or, IsSome, IfOk}
-use Rattle.std.specs.List.{AllZip, range_with_len}
-use Rattle.std.specs.declared.result.Result.{Result}
-use Rattle.std.specs.declared.alloc.AllocError.{AllocError}
+use Rattle.std.proofs.Common.{◌≡◌, ◌≢◌, ℕ, ◌<◌, ◌≤◌, List, [], ◌∷◌, length, map, Option, None, get_or, refl, ap, sym, ◌∙◌, subst, inl, inr, arith}
+use Rattle.std.specs.Prelude.{slice_index, slice_index_or, IsSome}
 use Rattle.std.proofs.lemmas.Bool.{cases_eq, eq-eqb, ne_eqb}
-use Rattle.std.proofs.lemmas.List.{get_or-map, length-map, ext_get_or, get_or_push, get_or_append_left, length_push}
+use Rattle.std.proofs.lemmas.List.{get_or-map, length-map, ext_get_or}
+use Rattle.ir_model.specs.declared.Detour.{Detour}
 use Rattle.ir_model.specs.declared.Kind.{Kind}
-use Rattle.ir_model.specs.declared.Kind.TheVariants.{Tree, Shortest, Compact}
+use Rattle.ir_model.specs.declared.Kind.TheVariants.{Tree, Shortest, Compact, Landmark}
 use Rattle.ir_model.specs.Topology.{Topology, IsTopology, node_count}
 use Rattle.ir_model.specs.Table.{LeadsNearer, IsShortestPort, IsShortestTable, IsPrescribedWalk}
 use Rattle.ir_model.specs.Row.{Start}
@@ -15,10 +13,15 @@ use Rattle.ir_model.specs.Numbering.{neighbors_of}
 use Rattle.ir_model.specs.Compiled.{IsDestinations, IsCanonical, port_to}
 use Rattle.ir_model.specs.Choices.{AreChoices, AreChosen}
 use Rattle.ir_model.specs.Compact.{IsTied, IsCompactTable}
+use Rattle.ir_model.specs.Walk.{IsConnected}
+use Rattle.ir_model.specs.Within.{LeadsWithin, MayLead}
+use Rattle.ir_model.specs.Landmark.{AreMostLinked, IsLandmarkBound, IsLandmarkTable}
 use Rattle.ir_model.specs.Plan.{AreLabels}
 use Rattle.ir_model.proofs.Canonical.{canonical_fits}
 use Rattle.ir_model.proofs.Tables.{nearer_walks, shortest_is_nearer}
 use Rattle.ir_model.proofs.Chosen.{chosen_may}
+use Rattle.ir_model.proofs.Landmarks.{landmark_walks}
+use Rattle.ir_model.proofs.Reach.{connected_distances}
 use Rattle.ir_tables.specs.FromNode.{held_at, AreLeastPorts}
 use Rattle.ir_tables.proofs.Ways.{continues_short}
 use Rattle.ir_numbering.specs.Numbering.{Numbering, IsNumberingOf}
@@ -27,7 +30,9 @@ use Rattle.ir_numbering.proofs.Nested.{depth_first_nests}
 use Rattle.ir_numbering.proofs.Ways.{Goes, way}
 use Rattle.ir_numbering.proofs.Routes.{tree_walk, tree_table_is}
 use Rattle.ir_plan.specs.Shown.{row_port, shown_port, AreRows, StandForTable}
-use Rattle.ir_plan.specs.NodeRows.{AreShortestPorts, IsNodeRow, AreNodeRows}
+use Rattle.ir_bounds.proofs.Determined.{most_linked_same}
+use Rattle.ir_bounds.proofs.Rooted.{linked_are_landmarks}
+use Rattle.ir_plan.specs.NodeRows.{AreShortestPorts, ArePortsOf, AreNodeRows}
 use Rattle.ir_plan.proofs.RowPorts.{shown_fits}
 
 module _ (kind : Kind) (net : Topology) (order parents labels : List ℕ) (named : AreLabels (node_count net) order labels) (rows : List (List Start))
@@ -118,6 +123,46 @@ module _ (net : Topology) (order parents labels : List ℕ) (named : AreLabels (
         (subst (λ (x : ℕ). AreChosen (node_count net) x (IsTied net order x) w.ports) (named.back a ha) tied.1);
   }
 
+  -- the landmarks of one row are those of each
+  ports_within : (t : Detour) (are : AreNodeRows (Landmark t) net order parents labels (node_count net) rows) (landmarks : List ℕ) → AreMostLinked net (slice_index order 0) t.landmarks landmarks → (u : ℕ) → (hu : u < node_count net)
+      → AreChoices (node_count net) (slice_index labels u) (MayLead net (IsLandmarkBound net landmarks t.stretch) order (slice_index labels u))
+      × AreChosen (node_count net) (slice_index labels u) (MayLead net (IsLandmarkBound net landmarks t.stretch) order (slice_index labels u)) (are.each u hu).ports
+  ports_within t are landmarks chosen u hu =
+      let w : ArePortsOf (Landmark t) net order parents (slice_index labels u) (are.each u hu).ports = (are.each u hu).ports_of_kind in
+      let a = slice_index labels u in
+      let P : List ℕ → Type 0 = λ ls. AreChoices (node_count net) a (MayLead net (IsLandmarkBound net ls t.stretch) order a) × AreChosen (node_count net) a (MayLead net (IsLandmarkBound net ls t.stretch) order a) (are.each u hu).ports in
+      subst P (most_linked_same net (slice_index order 0) t.landmarks w.0 landmarks w.1 chosen) (w.2, w.3)
+
+  landmark_shown : (t : Detour) → 0 < node_count net → AreNodeRows (Landmark t) net order parents labels (node_count net) rows
+      → (landmarks : List ℕ) × AreMostLinked net (slice_index order 0) t.landmarks landmarks × IsLandmarkTable net landmarks t.stretch order (shown_port labels rows)
+  landmark_shown t some are =
+      let first : ArePortsOf (Landmark t) net order parents (slice_index labels 0) (are.each 0 some).ports = (are.each 0 some).ports_of_kind in
+      let landmarks : List ℕ = first.0 in (
+        landmarks,
+        first.1,
+        record {
+          keeps = record {
+            own = shown_own (Landmark t) net order parents labels named rows are;
+            port = λ u d hu hd ne.
+                let a = slice_index labels u in
+                let tied = ports_within t are landmarks first.1 u hu in
+                let may : ℕ → ℕ → Type 0 = MayLead net (IsLandmarkBound net landmarks t.stretch) order a in
+                let m = chosen_may (node_count net) a may tied.0 (are.each u hu).ports tied.1 (slice_index labels d) (named.label d hd) (label_differs (Landmark t) net order parents labels named rows are u d hu hd ne) in (
+                  m.0,
+                  shown_at_label (Landmark t) net order parents labels named rows are u d hu hd ∙ m.1,
+                  subst (λ (x : ℕ). LeadsWithin net (IsLandmarkBound net landmarks t.stretch) x d m.0) (named.there u hu)
+                      (subst (λ (y : ℕ). LeadsWithin net (IsLandmarkBound net landmarks t.stretch) (slice_index order a) y m.0) (named.there d hd) m.2),
+                );
+          };
+          chosen = λ a ha.
+              let u = slice_index order a in
+              let hu = named.node a ha in
+              let tied = ports_within t are landmarks first.1 u hu in
+              subst (λ (ports : List (Option ℕ)). AreChosen (node_count net) a (MayLead net (IsLandmarkBound net landmarks t.stretch) order a) ports) (sym (shown_ports (Landmark t) net order parents labels named rows are u hu))
+              (subst (λ (x : ℕ). AreChosen (node_count net) x (MayLead net (IsLandmarkBound net landmarks t.stretch) order x) (are.each u hu).ports) (named.back a ha) tied.1);
+        },
+      )
+
 -- the rows of all nodes stand for a full table
 module _ (net : Topology) (ok : IsTopology net) (numbers : Numbering) (named : AreLabels (node_count net) numbers.order numbers.labels) (rows : List (List Start)) where
   -- the walk that a tree table prescribes is short
@@ -125,8 +170,8 @@ module _ (net : Topology) (ok : IsTopology net) (numbers : Numbering) (named : A
   tree_short table u d hu [] walks = absurd walks
   tree_short table u d hu (x ∷ rest) walks = continues_short net ok table d u hu rest walks.1
 
-  pub node_rows_stand : (kind : Kind) → (kind ≡ Tree → IsNumberingOf net numbers) → AreNodeRows kind net numbers.order numbers.parents numbers.labels (node_count net) rows → StandForTable kind net numbers.order numbers.parents numbers.labels rows
-  node_rows_stand Tree tree are =
+  pub node_rows_stand : (kind : Kind) → IsConnected net → 0 < node_count net → (kind ≡ Tree → IsNumberingOf net numbers) → AreNodeRows kind net numbers.order numbers.parents numbers.labels (node_count net) rows → StandForTable kind net numbers.order numbers.parents numbers.labels rows
+  node_rows_stand Tree connected some tree are =
       let is = tree refl in
       let table = shown_port numbers.labels rows in
       let cells = tree_cells net numbers.order numbers.parents numbers.labels named rows are in (
@@ -137,34 +182,32 @@ module _ (net : Topology) (ok : IsTopology net) (numbers : Numbering) (named : A
             (w.0, w.1, tree_short table u d hu w.0 w.1)),
         rows_stand Tree net numbers.order numbers.parents numbers.labels named rows are,
       )
-  node_rows_stand Shortest tree are =
+  node_rows_stand Shortest connected some tree are =
       let table = shortest_shown net numbers.order numbers.parents numbers.labels named rows are in (
         shown_port numbers.labels rows,
         table,
         nearer_walks net ok (shown_port numbers.labels rows) (shortest_is_nearer net (shown_port numbers.labels rows) table),
         rows_stand Shortest net numbers.order numbers.parents numbers.labels named rows are,
       )
-  node_rows_stand Compact tree are =
+  node_rows_stand Compact connected some tree are =
       let table = compact_shown net numbers.order numbers.parents numbers.labels named rows are in (
         shown_port numbers.labels rows,
         table,
         nearer_walks net ok (shown_port numbers.labels rows) table.nearer,
         rows_stand Compact net numbers.order numbers.parents numbers.labels named rows are,
       )
-
--- one row more
-pub node_rows_more : (kind : Kind) (net : Topology) (order parents labels : List ℕ) (count : ℕ) (rows : List (List Start)) (row : List Start) → AreNodeRows kind net order parents labels count rows
-    → IsNodeRow kind net order parents (slice_index labels count) row → AreNodeRows kind net order parents labels (count + 1) (rows ++ row ∷ [])
-node_rows_more kind net order parents labels count rows row are is =
-    let every = are.every in
-    record {
-      every = length_push rows row ∙ ap (λ (k : ℕ). k + 1) every;
-      each = λ u h.
-          elim (cases_eq u count) [
-            | inl e ↦ rw (get_or_push rows row [] u (omega arith)) (subst (λ (x : ℕ). IsNodeRow kind net order parents (slice_index labels x) row) (sym e) is)
-            | inr ne ↦ rw (get_or_append_left rows (row ∷ []) [] u (omega arith)) (are.each u (omega arith))
-          ];
-    }
+  node_rows_stand (Landmark t) connected some tree are =
+      let shown = shown_port numbers.labels rows in
+      let table = landmark_shown net numbers.order numbers.parents numbers.labels named rows t some are in
+      let far_between = connected_distances net ok connected in
+      let landmarks = linked_are_landmarks net (slice_index numbers.order 0) t.landmarks table.0 (named.node 0 some) table.1 in (
+        shown,
+        table,
+        (λ u d hu hd.
+            let far = far_between u d hu hd in
+            landmark_walks net ok table.0 t.stretch t.least t.most far_between landmarks shown table.2.keeps u d far.0 far.1),
+        rows_stand (Landmark t) net numbers.order numbers.parents numbers.labels named rows are,
+      )
 
 -- ---- the ports of one node
 
@@ -210,31 +253,3 @@ module _ (net : Topology) (order labels : List ℕ) (named : AreLabels (node_cou
     none = least_by_label.own;
     some = λ d hd ne. let w = least_by_label.port d hd ne in rw w.1 refl;
   }
-
--- ---- rows made one by one
-
--- a list of rows, where P holds of each and its number
-zipped_rows : (P : ℕ → List Start → Type 0) (a k : ℕ) (rows : List (List Start)) → AllZip (λ (u : ℕ) (made : Result (List Start) AllocError). IfOk made (P u)) (range_with_len a k) (map Ok rows)
-    → (length rows ≡ k) × ((i : ℕ) → i < k → P (a + i) (slice_index_or rows i []))
-zipped_rows P a zero [] zipped = (refl, λ i lt. absurd (omega (arith, lt)))
-zipped_rows P a zero (row ∷ rows) zipped = absurd zipped
-zipped_rows P a (suc k) [] zipped = absurd zipped
-zipped_rows P a (suc k) (row ∷ rows) zipped =
-    let later = zipped_rows P (a + 1) k rows zipped.1 in
-    (ap suc later.0, at later.1)
-  where
-    at : ((i : ℕ) → i < k → P (a + 1 + i) (slice_index_or rows i [])) → (i : ℕ) → i < suc k → P (a + i) (slice_index_or (row ∷ rows) i [])
-    at later zero lt = let e : a ≡ a + 0 = omega arith in subst (λ (u : ℕ). P u row) e zipped.0
-    at later (suc i) lt = let e : a + 1 + i ≡ a + suc i = omega arith in subst (λ (u : ℕ). P u (slice_index_or rows i [])) e (later i (omega (arith, lt)))
-
--- rows that were made for the numbers of a range are the rows of all nodes
-pub rows_of_range : (kind : Kind) (net : Topology) (order parents labels : List ℕ) (rows : List (List Start))
-    → AllZip (λ (u : ℕ) (one : Result (List Start) AllocError). IfOk one (λ (row : List Start). IsNodeRow kind net order parents (slice_index labels u) row)) (range_with_len 0 (node_count net)) (map Ok rows)
-    → AreNodeRows kind net order parents labels (node_count net) rows
-rows_of_range kind net order parents labels rows zipped =
-    let P : ℕ → List Start → Type 0 = λ u row. IsNodeRow kind net order parents (slice_index labels u) row in
-    let all = zipped_rows P 0 (node_count net) rows zipped in
-    record {
-      every = all.0;
-      each = λ u hu. let e : 0 + u ≡ u = omega arith in subst (λ (v : ℕ). P v (slice_index_or rows u [])) e (all.1 u hu);
-    }

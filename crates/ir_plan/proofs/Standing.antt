@@ -8,7 +8,7 @@ use Rattle.std.proofs.lemmas.List.Elements.{Contains-get_or}
 use Rattle.std.proofs.lemmas.List.Sums.{sum_by-le}
 use Rattle.std.proofs.lemmas.List.FromFn.{get_or-map-range_with_len, get_or-range_with_len, length-range_with_len}
 use Rattle.ir_model.specs.declared.Kind.{Kind}
-use Rattle.ir_model.specs.declared.Kind.TheVariants.{Tree, Shortest, Compact}
+use Rattle.ir_model.specs.declared.Kind.TheVariants.{Tree, Shortest, Compact, Landmark}
 use Rattle.ir_model.specs.Topology.{Topology, IsTopology, node_count}
 use Rattle.ir_model.specs.Walk.{IsConnected}
 use Rattle.ir_model.specs.Table.{IsPrescribedWalk}
@@ -16,6 +16,8 @@ use Rattle.ir_model.specs.Numbering.{IsDepthFirst, neighbors_of}
 use Rattle.ir_model.specs.Row.{Start, labels as start_labels, intervals_of}
 use Rattle.ir_model.specs.Choices.{AreChosen}
 use Rattle.ir_model.specs.Compact.{IsTied}
+use Rattle.ir_model.specs.Within.{MayLead}
+use Rattle.ir_model.specs.Landmark.{IsLandmarkBound}
 use Rattle.ir_model.specs.Compiled.{IsDestinations, IsCanonical, port_to, Fits, IsFewest}
 use Rattle.ir_model.specs.Plan.{Plan, IsPlan, IsTableOf, AreLabels, table_port, label_in, by_label, row_in}
 use Rattle.ir_model.proofs.Canonical.{canonical_fits}
@@ -106,12 +108,27 @@ same_table Compact net order parents labels t s named same is = record {
       let maps : map (s u) order ≡ map (t u) order = map_same (node_count net) (s u) (t u) (λ d hd. same u d (named.node a ha) hd) order (λ k h. named.node k (rw (sym named.every_label) h)) in
       subst (λ (ports : List (Option ℕ)). AreChosen (node_count net) a (IsTied net order a) ports) (sym maps) (is.chosen a ha);
 }
+same_table (Landmark far) net order parents labels t s named same is = (
+  is.0,
+  is.1,
+  record {
+    keeps = record {
+      own = λ d hd. same d d hd hd ∙ is.2.keeps.own d hd;
+      port = λ u d hu hd ne. let w = is.2.keeps.port u d hu hd ne in (w.0, same u d hu hd ∙ w.1, w.2);
+    };
+    chosen = λ a ha.
+        let u = slice_index order a in
+        let maps : map (s u) order ≡ map (t u) order = map_same (node_count net) (s u) (t u) (λ d hd. same u d (named.node a ha) hd) order (λ k h. named.node k (rw (sym named.every_label) h)) in
+        subst (λ (ports : List (Option ℕ)). AreChosen (node_count net) a (MayLead net (IsLandmarkBound net is.0 far.stretch) order a) ports) (sym maps) (is.2.chosen a ha);
+  },
+)
 
 -- a table of any kind is full
 pub full_table : (kind : Kind) (net : Topology) (order parents : List ℕ) (t : ℕ → ℕ → Option ℕ) → IsTableOf kind net order parents t → IsFullTable (node_count net) t
 full_table Tree net order parents t is = record { own = is.own; some = λ u d hu hd ne. rw (is.port u d hu hd ne).3 refl }
 full_table Compact net order parents t is = record { own = is.nearer.own; some = λ u d hu hd ne. rw (is.nearer.port u d hu hd ne).1 refl }
 full_table Shortest net order parents t is = record { own = is.own; some = λ u d hu hd ne. rw (is.port u d hu hd ne).1 refl }
+full_table (Landmark far) net order parents t is = record { own = is.2.keeps.own; some = λ u d hu hd ne. rw (is.2.keeps.port u d hu hd ne).1 refl }
 
 -- the numbers and rows of a full table make a plan
 pub plan_stands : (kind : Kind) (root : ℕ) (net : Topology) (order parents labels : List ℕ) (table : ℕ → ℕ → Option ℕ) (rows : List (List Start))

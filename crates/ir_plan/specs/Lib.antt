@@ -7,9 +7,11 @@ pub mod NodeRows
 pub mod Views
 pub mod TreeRows
 pub mod CompactRows
+pub mod LandmarkRows
 pub mod Tour
 pub mod Starts
 pub mod Distances
 -- what bodies use
 pub mod Ties
+pub mod Prepared
 pub mod SonStarts

@@ -1,13 +1,15 @@
 -- The row of one node, and the ports that it was compiled from.
 use Rattle.std.specs.Prelude.{◌≡◌, ◌≢◌, ℕ, ◌+◌, ◌-◌, ◌<◌, min, Option, Some, None, List, [], length, slice_index, slice_index_or}
 use Rattle.ir_model.specs.declared.Kind.{Kind}
-use Rattle.ir_model.specs.declared.Kind.TheVariants.{Tree, Shortest, Compact}
+use Rattle.ir_model.specs.declared.Kind.TheVariants.{Tree, Shortest, Compact, Landmark}
 use Rattle.ir_model.specs.Topology.{Topology, node_count}
 use Rattle.ir_model.specs.Table.{IsShortestPort}
 use Rattle.ir_model.specs.Row.{Start}
 use Rattle.ir_model.specs.Compiled.{port_to, IsDestinations, IsCanonical}
 use Rattle.ir_model.specs.Choices.{AreChoices, AreChosen}
 use Rattle.ir_model.specs.Compact.{IsTied}
+use Rattle.ir_model.specs.Within.{MayLead}
+use Rattle.ir_model.specs.Landmark.{AreMostLinked, IsLandmarkBound}
 use Rattle.ir_numbering.specs.Numbering.{Numbering}
 use Rattle.ir_numbering.specs.Cells.{AreTreeCells}
 
@@ -22,6 +24,10 @@ abbrev pub ArePortsOf : Kind → Topology → List ℕ → List ℕ → ℕ → 
 ArePortsOf Tree topology order parents a ports = AreTreeCells topology order parents a (node_count topology) ports
 ArePortsOf Shortest topology order parents a ports = AreShortestPorts topology order a ports
 ArePortsOf Compact topology order parents a ports = AreChoices (node_count topology) a (IsTied topology order a) × AreChosen (node_count topology) a (IsTied topology order a) ports
+ArePortsOf (Landmark t) topology order parents a ports =
+    (landmarks : List ℕ) × AreMostLinked topology (slice_index order 0) t.landmarks landmarks
+    × AreChoices (node_count topology) a (MayLead topology (IsLandmarkBound topology landmarks t.stretch) order a)
+    × AreChosen (node_count topology) a (MayLead topology (IsLandmarkBound topology landmarks t.stretch) order a) ports
 
 -- the canonical row of these ports
 pub record IsNodeRow (kind : Kind) (topology : Topology) (order parents : List ℕ) (a : ℕ) (row : List Start) : Type 0 where

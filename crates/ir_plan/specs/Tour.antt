@@ -65,3 +65,9 @@ pub record IsTour (topology : Topology) (root : ℕ) (tour : List ℕ) : Type 0 
   pub start : List ℕ
   pub nearest : IsNearestOrder (node_count topology) (difference (node_count topology) table) root start
   pub short : tour ≡ shortened (difference (node_count topology) table) 16 start
+
+-- a listing of all nodes that is the tour and begins with the root
+pub record IsTourOf (topology : Topology) (root : ℕ) (order : List ℕ) : Type 0 where
+  pub tour : IsTour topology root order
+  pub listing : IsListing (node_count topology) order
+  pub first : slice_index order 0 ≡ root

@@ -4,15 +4,13 @@ ghost use Rattle.std.specs.Prelude.{◌≡◌, ◌+◌, ◌-◌, ◌*◌, ◌<�
 ghost use Rattle.ir_model.specs.{declared.Kind.TheVariants.Shortest, Topology.node_count, Walk.IsConnected};
 ghost use Rattle.ir_model.specs.Plan.{AreLabels};
 ghost use Rattle.ir_lanes.specs.Outward.{AreOutwardLanes, source_at};
-ghost use Rattle.ir_plan.specs.{Shown.StandForTable, NodeRows.{AreRowsFrom, IsNodeRow}};
+ghost use Rattle.ir_plan.specs.NodeRows.{AreRowsFrom, IsNodeRow};
 
 use crate::patience::Patience;
-use crate::rows::{rows_by_nodes, searched_row};
-use crate::watch::{Unwatched, Watch};
+use crate::rows::searched_row;
 use ir_compile::row_of_ports;
 use ir_lanes::OutwardLanes;
 use ir_lookup::Row;
-use ir_model::Kind;
 use ir_numbering::Numbering;
 use ir_tables::Topology;
 use std::alloc::{AllocError, Global};
@@ -23,38 +21,13 @@ pub const BATCH: usize = 16;
 /// The fewest nodes of a network whose nodes are searched from by batches.
 pub const LEAST_BATCHED: usize = 64;
 
-/// The row of each node in the shortest table, by number.
-pub fn shortest_rows(
-    alloc: Global,
-    topology: &Topology,
-    numbering: &Numbering,
-) -> Result<Vec<Row>, AllocError>
-    requires labels { AreLabels (node_count topology.now) numbering.now.order numbering.now.labels }
-    requires connected { IsConnected topology.now }
-    ensures { IfOk result (λ rows. StandForTable Shortest topology.now numbering.now.order numbering.now.parents
-        numbering.now.labels rows.items) }
-{
-    let nodes = topology.nodes();
-    if nodes < LEAST_BATCHED {
-        return rows_by_nodes(alloc, topology, numbering, Kind::Shortest, &None);
-    }
-    let patience = &Patience::new();
-    let mut rows = Vec::with_capacity(alloc, nodes)?;
-    for batch in 0..nodes.div_ceil(BATCH) {
-        let mut made = batch_rows(alloc, topology, numbering, batch, patience, &Unwatched)?;
-        rows.append(&mut made)?;
-    }
-    Ok(rows)
-}
-
-/// The rows of a batch of nodes in the shortest table, by number; the watch is told of each.
+/// The rows of a batch of nodes in the shortest table, by number.
 pub fn batch_rows(
     alloc: Global,
     topology: &Topology,
     numbering: &Numbering,
     batch: usize,
     patience: &Patience,
-    watch: &impl Watch,
 ) -> Result<Vec<Row>, AllocError>
     requires labels { AreLabels (node_count topology.now) numbering.now.order numbering.now.labels }
     requires connected { IsConnected topology.now }
@@ -66,7 +39,7 @@ pub fn batch_rows(
     let first = batch * BATCH;
     let sources = sixteen_from(alloc, nodes, first)?;
     let ways = ways_from(alloc, topology, sources.as_slice(), patience)?;
-    lane_rows(alloc, topology, numbering, &ways, first, watch)
+    lane_rows(alloc, topology, numbering, &ways, first)
 }
 
 // The ways from sixteen nodes, where the lanes are tried and find them.
@@ -96,7 +69,6 @@ fn lane_rows(
     numbering: &Numbering,
     found: &Option<OutwardLanes>,
     first: usize,
-    watch: &impl Watch,
 ) -> Result<Vec<Row>, AllocError>
     requires labels { AreLabels (node_count topology.now) numbering.now.order numbering.now.labels }
     requires connected { IsConnected topology.now }
@@ -112,7 +84,6 @@ fn lane_rows(
     for lane in 0..BATCH.min(nodes - first) {
         let u = (first + lane) as u16;
         rows.push(lane_row(alloc, topology, numbering, found, lane, u)?)?;
-        watch.row_made(nodes);
     }
     Ok(rows)
 }

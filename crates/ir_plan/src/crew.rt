@@ -1,149 +1,255 @@
-//! Who makes the parts of plans: the thread that calls, or several.
+//! Who makes what may be made in several threads: the thread that calls, or several.
 
-ghost use Rattle.std.specs.Prelude.{◌≡◌, ◌≤◌, All, IfOk, length};
-ghost use Rattle.ir_model.specs.{Topology.node_count, Walk.IsConnected, declared.Kind.TheVariants.Tree};
-ghost use Rattle.ir_model.specs.Plan.{AreLabels, table_port};
-ghost use Rattle.ir_numbering.specs.Numbering.{IsNumberingOf};
-ghost use Rattle.ir_plan.specs.{Crew.MayBeShared, Shown.StandForTable, declared.TheConstants.MOST_TOUR_NODES};
-ghost use Rattle.ir_plan.specs.Distances.{AreColumns, AreDistances, lists_of};
+ghost use Rattle.std.specs.Prelude.{ℕ, ◌<◌, IfOk, Ok, map};
+ghost use Rattle.std.specs.List.{AllZip, range_with_len};
+ghost use Rattle.ir_plan.specs.Crew.{MayBeShared};
 
-use crate::distances::{columns_in_threads, columns_of, distances_in_threads, distances_of};
-use crate::plan::Plan;
-use crate::rows::rows_of;
-use crate::threads::{Makers, rows_in_threads};
-use crate::watch::Unwatched;
+use crate::making::{made_alone, made_in_threads};
 use ir_lookup::Row;
-use ir_model::Kind;
-use ir_numbering::Numbering;
-use ir_tables::Topology;
 use std::alloc::{AllocError, Global};
 use std::thread::Threads;
 
-/// Who makes the rows of plans, and what a tour is sought by. All crews make the same ones.
+/// Who makes what may be made in several threads. Each call makes something for each number below
+/// `count`, by number, and gives at least `least` to a thread; it is refused where a growth is
+/// refused in any of them. All crews make the same.
 pub trait Crew {
     /// What its threads share.
     type Shared: Sync;
 
-    /// The row of each node, by number, made in at most `most` threads, or in as many as suit the
-    /// processors where it is None. Refused where a growth is refused in any of them.
+    /// Whether nothing is made but by the thread that calls.
+    fn is_alone(&self) -> bool;
+
+    /// Rows of a plan that has `all` rows.
     fn rows(
         &self,
         alloc: Global,
-        topology: &Topology,
-        numbering: &Numbering,
-        kind: Kind,
-        most: Option<usize>,
-    ) -> Result<Vec<Row>, AllocError>
+        all: usize,
+        count: usize,
+        least: usize,
+        make: &(dyn Fn(usize) -> Result<Vec<Row>, AllocError> + Sync),
+    ) -> Result<Vec<Vec<Row>>, AllocError>
         requires shared { MayBeShared Self.Shared.row }
-        requires labels { AreLabels (node_count topology.now) numbering.now.order numbering.now.labels }
-        requires tree { kind ≡ Tree → IsNumberingOf topology.now numbering.now }
-        requires connected { IsConnected topology.now }
-        ensures { IfOk result (λ rows. StandForTable kind topology.now numbering.now.order numbering.now.parents
-            numbering.now.labels rows.items) };
+        requires each { (k : ℕ) → k < count → pre make.now k }
+        ensures { IfOk result (λ made. AllZip (post make.now) (range_with_len 0 count) (map Ok made.items)) };
 
-    /// The ports of all nodes to each node, by its number, by the rows of a plan. Refused as `rows`
-    /// is.
-    fn columns(
+    /// Lists of numbers.
+    fn lists(
         &self,
         alloc: Global,
-        plan: &Plan,
-        most: Option<usize>,
+        count: usize,
+        least: usize,
+        make: &(dyn Fn(usize) -> Result<Vec<u16>, AllocError> + Sync),
     ) -> Result<Vec<Vec<u16>>, AllocError>
         requires shared { MayBeShared Self.Shared.row }
-        ensures { IfOk result (λ columns. AreColumns (node_count plan.now.topology) (table_port plan.now)
-            (lists_of columns.items)) };
+        requires each { (k : ℕ) → k < count → pre make.now k }
+        ensures { IfOk result (λ made. AllZip (post make.now) (range_with_len 0 count) (map Ok made.items)) };
 
-    /// The distances of all nodes: for each node at how many places its column differs from that of
-    /// each. Refused as `rows` is.
-    fn distances(
+    /// Texts.
+    fn texts(
         &self,
         alloc: Global,
-        columns: &[Vec<u16>],
-        most: Option<usize>,
-    ) -> Result<Vec<Vec<u16>>, AllocError>
+        count: usize,
+        least: usize,
+        make: &(dyn Fn(usize) -> Result<Vec<u8>, AllocError> + Sync),
+    ) -> Result<Vec<Vec<u8>>, AllocError>
         requires shared { MayBeShared Self.Shared.row }
-        requires few { length columns.now ≤ MOST_TOUR_NODES }
-        requires square { All (λ column. length column.items ≡ length columns.now) columns.now }
-        ensures { IfOk result (λ rows. AreDistances (lists_of columns.now) (lists_of rows.items)) };
+        requires each { (k : ℕ) → k < count → pre make.now k }
+        ensures { IfOk result (λ made. AllZip (post make.now) (range_with_len 0 count) (map Ok made.items)) };
+
+    /// Texts of nodes.
+    fn node_texts(
+        &self,
+        alloc: Global,
+        count: usize,
+        least: usize,
+        make: &(dyn Fn(usize) -> Result<NodeText, AllocError> + Sync),
+    ) -> Result<Vec<NodeText>, AllocError>
+        requires shared { MayBeShared Self.Shared.row }
+        requires each { (k : ℕ) → k < count → pre make.now k }
+        ensures { IfOk result (λ made. AllZip (post make.now) (range_with_len 0 count) (map Ok made.items)) };
 }
 
-/// Several threads, started by a runtime; where none can be started, the thread that calls.
+/// The text of a node, and how many lines it stands for.
 #[derive(Drop)]
-pub struct Several<'a, R> {
-    pub rt: &'a R,
+pub struct NodeText {
+    pub text: String,
+    pub lines: usize,
 }
 
-/// The thread that calls, alone: no other is started, whatever number is allowed.
+/// The thread that calls, alone: no other is started.
 #[derive(Drop)]
 pub struct Alone;
 
-impl<'a, R: Threads + Sync> Crew for Several<'a, R> {
-    type Shared = R;
-
-    fn rows(
-        &self,
-        alloc: Global,
-        topology: &Topology,
-        numbering: &Numbering,
-        kind: Kind,
-        most: Option<usize>,
-    ) -> Result<Vec<Row>, AllocError> {
-        let makers = Makers {
-            rt: self.rt,
-            most,
-            watch: &Unwatched,
-        };
-        rows_in_threads(makers, alloc, topology, numbering, kind)
-    }
-
-    fn columns(
-        &self,
-        alloc: Global,
-        plan: &Plan,
-        most: Option<usize>,
-    ) -> Result<Vec<Vec<u16>>, AllocError> {
-        columns_in_threads(self.rt, alloc, plan, most)
-    }
-
-    fn distances(
-        &self,
-        alloc: Global,
-        columns: &[Vec<u16>],
-        most: Option<usize>,
-    ) -> Result<Vec<Vec<u16>>, AllocError> {
-        distances_in_threads(self.rt, alloc, columns, most)
-    }
+/// Several threads, started by a runtime: at most `most`, or as many as suit the processors where
+/// it is None; where none can be started, the thread that calls.
+#[derive(Drop)]
+pub struct Several<'a, R> {
+    pub rt: &'a R,
+    pub most: Option<usize>,
 }
 
 impl Crew for Alone {
     type Shared = ();
 
+    fn is_alone(&self) -> bool {
+        true
+    }
+
     fn rows(
         &self,
         alloc: Global,
-        topology: &Topology,
-        numbering: &Numbering,
-        kind: Kind,
-        _most: Option<usize>,
-    ) -> Result<Vec<Row>, AllocError> {
-        rows_of(alloc, topology, numbering, kind)
+        _all: usize,
+        count: usize,
+        _least: usize,
+        make: &(dyn Fn(usize) -> Result<Vec<Row>, AllocError> + Sync),
+    ) -> Result<Vec<Vec<Row>>, AllocError> {
+        made_alone(
+            alloc,
+            count,
+            |k: usize| -> Result<Vec<Row>, AllocError>
+                requires { pre make.now k }
+                ensures { post make.entry.now k result }
+            { make(k) },
+        )
     }
 
-    fn columns(
+    fn lists(
         &self,
         alloc: Global,
-        plan: &Plan,
-        _most: Option<usize>,
+        count: usize,
+        _least: usize,
+        make: &(dyn Fn(usize) -> Result<Vec<u16>, AllocError> + Sync),
     ) -> Result<Vec<Vec<u16>>, AllocError> {
-        columns_of(alloc, plan)
+        made_alone(
+            alloc,
+            count,
+            |k: usize| -> Result<Vec<u16>, AllocError>
+                requires { pre make.now k }
+                ensures { post make.entry.now k result }
+            { make(k) },
+        )
     }
 
-    fn distances(
+    fn texts(
         &self,
         alloc: Global,
-        columns: &[Vec<u16>],
-        _most: Option<usize>,
+        count: usize,
+        _least: usize,
+        make: &(dyn Fn(usize) -> Result<Vec<u8>, AllocError> + Sync),
+    ) -> Result<Vec<Vec<u8>>, AllocError> {
+        made_alone(
+            alloc,
+            count,
+            |k: usize| -> Result<Vec<u8>, AllocError>
+                requires { pre make.now k }
+                ensures { post make.entry.now k result }
+            { make(k) },
+        )
+    }
+
+    fn node_texts(
+        &self,
+        alloc: Global,
+        count: usize,
+        _least: usize,
+        make: &(dyn Fn(usize) -> Result<NodeText, AllocError> + Sync),
+    ) -> Result<Vec<NodeText>, AllocError> {
+        made_alone(
+            alloc,
+            count,
+            |k: usize| -> Result<NodeText, AllocError>
+                requires { pre make.now k }
+                ensures { post make.entry.now k result }
+            { make(k) },
+        )
+    }
+}
+
+impl<'a, R: Threads + Sync> Crew for Several<'a, R> {
+    type Shared = R;
+
+    fn is_alone(&self) -> bool {
+        self.most == Some(1)
+    }
+
+    fn rows(
+        &self,
+        alloc: Global,
+        _all: usize,
+        count: usize,
+        least: usize,
+        make: &(dyn Fn(usize) -> Result<Vec<Row>, AllocError> + Sync),
+    ) -> Result<Vec<Vec<Row>>, AllocError> {
+        made_in_threads(
+            self.rt,
+            alloc,
+            self.most,
+            count,
+            least,
+            |k: usize| -> Result<Vec<Row>, AllocError>
+                requires { pre make.now k }
+                ensures { post make.entry.now k result }
+            { make(k) },
+        )
+    }
+
+    fn lists(
+        &self,
+        alloc: Global,
+        count: usize,
+        least: usize,
+        make: &(dyn Fn(usize) -> Result<Vec<u16>, AllocError> + Sync),
     ) -> Result<Vec<Vec<u16>>, AllocError> {
-        distances_of(alloc, columns)
+        made_in_threads(
+            self.rt,
+            alloc,
+            self.most,
+            count,
+            least,
+            |k: usize| -> Result<Vec<u16>, AllocError>
+                requires { pre make.now k }
+                ensures { post make.entry.now k result }
+            { make(k) },
+        )
+    }
+
+    fn texts(
+        &self,
+        alloc: Global,
+        count: usize,
+        least: usize,
+        make: &(dyn Fn(usize) -> Result<Vec<u8>, AllocError> + Sync),
+    ) -> Result<Vec<Vec<u8>>, AllocError> {
+        made_in_threads(
+            self.rt,
+            alloc,
+            self.most,
+            count,
+            least,
+            |k: usize| -> Result<Vec<u8>, AllocError>
+                requires { pre make.now k }
+                ensures { post make.entry.now k result }
+            { make(k) },
+        )
+    }
+
+    fn node_texts(
+        &self,
+        alloc: Global,
+        count: usize,
+        least: usize,
+        make: &(dyn Fn(usize) -> Result<NodeText, AllocError> + Sync),
+    ) -> Result<Vec<NodeText>, AllocError> {
+        made_in_threads(
+            self.rt,
+            alloc,
+            self.most,
+            count,
+            least,
+            |k: usize| -> Result<NodeText, AllocError>
+                requires { pre make.now k }
+                ensures { post make.entry.now k result }
+            { make(k) },
+        )
     }
 }

@@ -6,15 +6,15 @@ ghost use Rattle.ir_plan.specs.Distances.{AreColumns, AreDistances, AreShortestD
 ghost use Rattle.ir_plan.specs.Distances.{far_between, far_from, lists_of, unlike};
 
 use crate::crew::Crew;
-use crate::making::made_in_threads;
 use crate::plan::Plan;
-use crate::threads::rows_of_a_thread;
 use ir_model::Kind;
 use std::alloc::{AllocError, Global};
-use std::thread::Threads;
 
 /// What stands for the port of a node to itself. No node has so many ports.
 const NO_PORT: u16 = u16::MAX;
+
+/// The fewest columns that a thread is started for.
+const LEAST_COLUMNS: usize = 16;
 
 /// The distance of each two nodes: how many nodes send them by different ports in a plan's table
 /// (the tours of van Leeuwen and Tan's labels, 1987, are as long as the rows that these labels
@@ -29,20 +29,15 @@ pub struct Distances {
 
 impl Distances {
     /// The distances of the nodes of a plan of kind Shortest, by its rows.
-    pub fn of(
-        crew: &impl Crew,
-        alloc: Global,
-        plan: &Plan,
-        most: Option<usize>,
-    ) -> Result<Distances, AllocError>
+    pub fn of(crew: &impl Crew, alloc: Global, plan: &Plan) -> Result<Distances, AllocError>
         requires few { node_count plan.now.topology ≤ MOST_TOUR_NODES }
         requires shortest { plan.now.kind ≡ Kind.Shortest }
         ensures nodes { IfOk result (λ far. far.nodes ≡ node_count plan.now.topology) }
         ensures shortest { IfOk result (λ far. AreShortestDistances plan.now.topology (far_between far.rows.items)) }
     {
         let nodes = plan.nodes();
-        let columns = crew.columns(alloc, plan, most)?;
-        let rows = crew.distances(alloc, columns.as_slice(), most)?;
+        let columns = columns_of(crew, alloc, plan)?;
+        let rows = distances_of(crew, alloc, columns.as_slice())?;
         Ok(Distances { nodes, rows })
     }
 
@@ -72,38 +67,16 @@ impl Distances {
     }
 }
 
-/// The ports of all nodes to each node, by its number.
-pub fn columns_of(alloc: Global, plan: &Plan) -> Result<Vec<Vec<u16>>, AllocError>
+// The ports of all nodes to each node, by its number, by the rows of a plan.
+fn columns_of(crew: &impl Crew, alloc: Global, plan: &Plan) -> Result<Vec<Vec<u16>>, AllocError>
     ensures { IfOk result (λ columns. AreColumns (node_count plan.now.topology) (table_port plan.now)
         (lists_of columns.items)) }
 {
-    let nodes = plan.nodes();
-    let mut columns = Vec::with_capacity(alloc, nodes)?;
-    for d in 0..nodes {
-        columns.push(column(alloc, plan, d)?)?;
-    }
-    Ok(columns)
-}
-
-/// The ports of all nodes to each node, by its number, by the rows of a plan, made in at most so
-/// many threads, or in as many as suit the processors. It is refused where a growth is refused in
-/// any of them.
-pub fn columns_in_threads(
-    rt: &(impl Threads + Sync),
-    alloc: Global,
-    plan: &Plan,
-    most: Option<usize>,
-) -> Result<Vec<Vec<u16>>, AllocError>
-    ensures { IfOk result (λ columns. AreColumns (node_count plan.now.topology) (table_port plan.now)
-        (lists_of columns.items)) }
-{
-    let nodes = plan.nodes();
-    made_in_threads(
-        rt,
+    crew.lists(
         alloc,
-        nodes,
-        rows_of_a_thread(nodes, most),
-        |d: usize| -> Result<Vec<u16>, AllocError>
+        plan.nodes(),
+        LEAST_COLUMNS,
+        &|d: usize| -> Result<Vec<u16>, AllocError>
             requires { d < node_count plan.now.topology }
             ensures { IfOk result (λ column. IsPortColumn (node_count plan.entry.now.topology)
                 (table_port plan.entry.now) d column.items) }
@@ -125,38 +98,21 @@ fn column(alloc: Global, plan: &Plan, d: usize) -> Result<Vec<u16>, AllocError>
     Ok(ports)
 }
 
-/// The distances of all nodes, by their columns of ports.
-pub fn distances_of(alloc: Global, columns: &[Vec<u16>]) -> Result<Vec<Vec<u16>>, AllocError>
-    requires few { length columns.now ≤ MOST_TOUR_NODES }
-    requires square { All (λ column. length column.items ≡ length columns.now) columns.now }
-    ensures { IfOk result (λ rows. AreDistances (lists_of columns.now) (lists_of rows.items)) }
-{
-    let mut rows = Vec::with_capacity(alloc, columns.len())?;
-    for own in columns {
-        rows.push(row(alloc, columns, own.as_slice())?)?;
-    }
-    Ok(rows)
-}
-
-/// The distances of all nodes, by their columns of ports, made in at most so many threads, or in as
-/// many as suit the processors. It is refused where a growth is refused in any of them.
-pub fn distances_in_threads(
-    rt: &(impl Threads + Sync),
+// The distances of all nodes, by their columns of ports.
+fn distances_of(
+    crew: &impl Crew,
     alloc: Global,
     columns: &[Vec<u16>],
-    most: Option<usize>,
 ) -> Result<Vec<Vec<u16>>, AllocError>
     requires few { length columns.now ≤ MOST_TOUR_NODES }
     requires square { All (λ column. length column.items ≡ length columns.now) columns.now }
     ensures { IfOk result (λ rows. AreDistances (lists_of columns.now) (lists_of rows.items)) }
 {
-    let nodes = columns.len();
-    made_in_threads(
-        rt,
+    crew.lists(
         alloc,
-        nodes,
-        rows_of_a_thread(nodes, most),
-        |a: usize| -> Result<Vec<u16>, AllocError>
+        columns.len(),
+        LEAST_COLUMNS,
+        &|a: usize| -> Result<Vec<u16>, AllocError>
             requires { (a < length columns.now) × (length columns.now ≤ MOST_TOUR_NODES)
                 × All (λ column. length column.items ≡ length columns.now) columns.now }
             ensures { IfOk result (λ row. IsRow (lists_of columns.entry.now)

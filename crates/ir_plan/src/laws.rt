@@ -1,10 +1,11 @@
 //! Laws of plans, each the contract of a function with an empty body.
 
-ghost use Rattle.std.specs.Prelude.{◌≡◌, ◌≢◌, ℕ, ◌<◌, ◌≤◌, List};
-ghost use Rattle.ir_model.specs.{declared.Kind.TheVariants.Tree, Topology.{Topology, node_count}};
-ghost use Rattle.ir_model.specs.Plan.{Plan, IsPlan, HasDepthFirst};
+ghost use Rattle.std.specs.Prelude.{◌≡◌, ◌≢◌, ℕ, ◌*◌, ◌<◌, ◌≤◌, List};
+ghost use Rattle.ir_model.specs.{declared.Kind.TheVariants.{Tree, Landmark}, Topology.{Topology, node_count}};
+ghost use Rattle.ir_model.specs.{declared.Detour.Detour, Walk.{IsDistance, walk_weight}, Table.IsPrescribedWalk};
+ghost use Rattle.ir_model.specs.Plan.{Plan, IsPlan, table_port};
 ghost use Rattle.ir_plan.specs.{Starts.{HaveSameTable, IsLabelledBy, IsPlanAs, start_count}, Tour.IsTour};
-ghost use Rattle.ir_plan.specs.declared.tour.LabelOrder.{LabelOrder, TheVariants.Tour};
+ghost use Rattle.ir_plan.specs.declared.tour.LabelOrder.{LabelOrder, TheVariants.{DepthFirst, Tour}};
 
 /// A network has one tour from a root.
 pub fn tour_is_determined()
@@ -26,8 +27,15 @@ pub fn labels_are_determined()
         → IsLabelledBy labels p → IsLabelledBy labels q → p.rows ≡ q.rows }
 {}
 
-/// A plan that is labelled by a tour has no more starts than a depth-first plan of its kind, root and network.
+/// A plan that is labelled by a tour has no more starts than the first plan of its kind, root and network.
 pub fn tour_has_no_more_starts()
-    ensures { (p q : Plan) → IsPlan p → IsPlanAs p q → IsLabelledBy Tour p → HasDepthFirst q
+    ensures { (p q : Plan) → IsPlan p → IsPlanAs p q → IsLabelledBy Tour p → IsLabelledBy DepthFirst q
         → start_count p ≤ start_count q }
+{}
+
+/// What a landmark plan prescribes weighs no more, of the distance in percent, than its stretch.
+pub fn ways_of_a_landmark_plan()
+    ensures { (p : Plan) → IsPlan p → (t : Detour) → p.kind ≡ Landmark t → (u d n : ℕ) → IsDistance p.topology u d n
+        → (walk : List ℕ) → IsPrescribedWalk p.topology (table_port p) u d walk
+        → 100 * walk_weight p.topology walk ≤ t.stretch * n }
 {}

@@ -1,9 +1,11 @@
 ghost use Rattle.std.specs.Prelude.{◌-◌, ◌*◌, ◌≡◌, ◌<◌, Some, length, slice_index, sum_by, IfOk, IfErr};
+ghost use Rattle.ir_model.specs.declared.Detour.{Detour};
 ghost use Rattle.ir_model.specs.{Numbering.{IsDepthFirst, neighbors_of}, Topology.{node_count, port_at, ports_of}};
 ghost use Rattle.ir_model.specs.Walk.{IsConnected};
 ghost use Rattle.ir_model.specs.Plan.{AreLabels, IsPlan, by_label, label_in, node_in, table_port, row_in, Plan};
 ghost use Rattle.ir_model.specs.{Row.intervals_of, Compiled.{Fits, IsFewest}};
 ghost use Rattle.ir_plan.specs.{Shown.StandForTable, CompactRows.{FitsTied, IsFewestOfTied}, TreeRows.HasTreeRow};
+ghost use Rattle.ir_plan.specs.LandmarkRows.{FitsWithin, IsFewestWithin};
 ghost use Rattle.ir_plan.specs.Views.{plan_view};
 
 use crate::error::PlanError;
@@ -172,7 +174,8 @@ impl Plan {
     /// fewest intervals that do. In a tree plan it has exactly one start for each port to a son or
     /// the father, and no other (Santoro and Khatib 1985). In a compact plan each port leads nearer
     /// to its addresses' nodes, and no set of cyclic intervals is smaller that gives each address
-    /// but the own such a port.
+    /// but the own such a port. In a landmark plan the same holds of the ports that lead within the
+    /// bound by its landmarks.
     pub fn row(&self, node: u16) -> &Row
         requires { node < node_count self.now.topology }
         ensures row { result.now ≡ row_in self.now node }
@@ -183,6 +186,10 @@ impl Plan {
         ensures tree { self.now.kind ≡ Kind.Tree → HasTreeRow self.now node }
         ensures tied { self.now.kind ≡ Kind.Compact → FitsTied self.now node (intervals_of result.now) }
         ensures compact { self.now.kind ≡ Kind.Compact → IsFewestOfTied self.now node (length result.now) }
+        ensures within { (t : Detour) → self.now.kind ≡ Kind.Landmark t
+            → FitsWithin t self.now node (intervals_of result.now) }
+        ensures landmark { (t : Detour) → self.now.kind ≡ Kind.Landmark t
+            → IsFewestWithin t self.now node (length result.now) }
     {
         &self.rows[node as usize]
     }

@@ -1,13 +1,15 @@
 //! The marks of the ports that lead nearer, for the rows of a compact plan.
 
-ghost use Rattle.std.specs.Prelude.{[], ◌≡◌, ◌*◌, ◌<◌, ◌≤◌, ℕ, Some, None, IfOk, IfSome, length, map, slice_index, slice_index_or};
+ghost use Rattle.std.specs.Prelude.{[], ◌≡◌, ◌≢◌, ◌*◌, ◌<◌, ◌≤◌, ℕ, IfOk, IfSome, IsTrue, length, slice_index, slice_index_or};
 ghost use Rattle.ir_model.specs.{Topology.{node_count, ports_of}, Plan.AreLabels};
 ghost use Rattle.ir_lanes.specs.Marks.{AreTied};
 ghost use Rattle.ir_compile.specs.Runs.{HasMarked};
-ghost use Rattle.ir_plan.specs.{CompactRows.AreTiedMarks, Ties.AreTies};
+ghost use Rattle.ir_plan.specs.{CompactRows.AreTiedMarks, Distances.lists_of, Ties.{AreTies, MayBeWords}};
 
-use crate::batches::LEAST_BATCHED;
-use ir_lanes::PortMarks;
+use crate::batches::{BATCH, LEAST_BATCHED};
+use crate::crew::Crew;
+use crate::patience::Patience;
+use ir_lanes::{PortMarks, words_to};
 use ir_numbering::Numbering;
 use ir_tables::Topology;
 use std::alloc::{AllocError, Global};
@@ -26,6 +28,7 @@ impl Ties {
     /// The ties of a network, where its nodes are enough to search to sixteen at a time and its marks few enough to be
     /// held, and where the searches found them.
     pub fn of(
+        crew: &impl Crew,
         alloc: Global,
         topology: &Topology,
         numbering: &Numbering,
@@ -37,9 +40,11 @@ impl Ties {
             return Ok(None);
         }
         let order = Vec::from_slice(alloc, numbering.order())?;
-        let Some(marks) = PortMarks::of(alloc, topology, order.as_slice())? else {
+        let batches = words_of(crew, alloc, topology, order.as_slice())?;
+        if !are_found(batches.as_slice()) {
             return Ok(None);
-        };
+        }
+        let marks = PortMarks::from_batches(alloc, topology, order.as_slice(), batches)?;
         Ok(Some(Ties { order, marks }))
     }
 
@@ -76,25 +81,72 @@ impl Ties {
     }
 }
 
-/// Whether the marks of a network are held: its nodes are enough for batches, and the marks not too many.
-pub fn are_held(topology: &Topology) -> bool {
+// Whether the marks of a network are held: its nodes are enough for batches, and the marks not too many.
+fn are_held(topology: &Topology) -> bool {
     let nodes = topology.nodes();
     nodes >= LEAST_BATCHED && topology.links().saturating_mul(nodes) / 4 <= MOST_MARK_BYTES
 }
 
-/// What was found for all, where something was found for each.
-pub fn all_found(
+// The words of all ports for each batch of nodes of a list; none for a batch where they were not found.
+fn words_of(
+    crew: &impl Crew,
     alloc: Global,
-    found: Vec<Option<Vec<u16>>>,
-) -> Result<Option<Vec<Vec<u16>>>, AllocError>
-    ensures { IfOk result (λ all. IfSome all (λ lists. found.items ≡ map Some lists.items)) }
+    topology: &Topology,
+    order: &[u16],
+) -> Result<Vec<Vec<u16>>, AllocError>
+    requires { (d : ℕ) → d < length order.now → slice_index order.now d < node_count topology.now }
+    ensures each { IfOk result (λ found. (b : ℕ) → b < length found.items
+        → MayBeWords topology.now order.now b (slice_index_or (lists_of found.items) b [])) }
+    ensures enough { IfOk result (λ found. length order.now ≤ length found.items * 16) }
 {
-    let mut lists = Vec::with_capacity(alloc, found.len())?;
-    for one in found {
-        let Some(list) = one else {
-            return Ok(None);
-        };
-        lists.push(list)?;
+    let patience = &Patience::new();
+    crew.lists(
+        alloc,
+        order.len().div_ceil(BATCH),
+        1,
+        &|batch: usize| -> Result<Vec<u16>, AllocError>
+            requires { (batch * 16 < length order.now)
+                × ((d : ℕ) → d < length order.now → slice_index order.now d < node_count topology.now) }
+            ensures { IfOk result (λ words. MayBeWords topology.entry.now order.entry.now batch words.items) }
+        { words_by(alloc, topology, order, batch, patience) },
+    )
+}
+
+// The words of all ports for a batch of nodes of a list, where the lanes are tried and find them, else none.
+fn words_by(
+    alloc: Global,
+    topology: &Topology,
+    order: &[u16],
+    batch: usize,
+    patience: &Patience,
+) -> Result<Vec<u16>, AllocError>
+    requires nodes { (d : ℕ) → d < length order.now → slice_index order.now d < node_count topology.now }
+    requires batch { batch * 16 < length order.now }
+    ensures { IfOk result (λ words. MayBeWords topology.now order.now batch words.items) }
+{
+    if !patience.tries() {
+        return Ok(Vec::new(alloc));
     }
-    Ok(Some(lists))
+    match words_to(alloc, topology, order, batch)? {
+        Some(words) => {
+            patience.learns(true);
+            Ok(words)
+        }
+        None => {
+            patience.learns(false);
+            Ok(Vec::new(alloc))
+        }
+    }
+}
+
+// Whether each batch has words.
+fn are_found(batches: &[Vec<u16>]) -> bool
+    ensures { IsTrue result → (b : ℕ) → b < length batches.now → slice_index_or (lists_of batches.now) b [] ≢ [] }
+{
+    for words in batches {
+        if words.is_empty() {
+            return false;
+        }
+    }
+    true
 }

@@ -46,6 +46,13 @@ impl Outward {
         })
     }
 
+    /// The distance to each node, by node.
+    pub fn weights(&self) -> &[u32]
+        ensures { result.now ≡ self.now.weights }
+    {
+        self.weights.as_slice()
+    }
+
     /// The least port of the node that leads nearer to each node, by node; none for itself.
     pub fn least_ports(&self) -> &[Option<u16>]
         ensures { result.now ≡ self.now.ports }

@@ -1,7 +1,9 @@
 //! Worked values: the definitions at small networks and texts.
 
 ghost use Rattle.std.specs.Prelude.{◌≡◌, ℕ, ◌≤◌, List, [], ◌∷◌, None};
-ghost use Rattle.ir_model.specs.Worked.{line, six, by_tree, text};
+ghost use Rattle.ir_model.specs.Worked.{line, six, triangle, one_interval, by_tree, text};
+ghost use Rattle.ir_model.specs.{Choices.FitsChoices, Within.MayLead};
+ghost use Rattle.ir_model.specs.Landmark.{IsLandmarkOf, IsLandmarkBound};
 ghost use Rattle.ir_model.specs.{Graph.{names, edges}, Interval.InInterval, Made.graph_of, Table.IsPrescribedWalk};
 ghost use Rattle.ir_model.specs.{Text.{lines, names_in, pairs_in, first_fault}, Walk.{IsWalk, IsDistance, walk_weight}};
 
@@ -24,6 +26,16 @@ pub fn weighted_example()
     ensures weight { walk_weight six (0 ∷ 1 ∷ 4 ∷ []) ≡ 2 }
     ensures by_tree { IsPrescribedWalk six by_tree 0 4 (0 ∷ 1 ∷ 2 ∷ 4 ∷ []) }
     ensures tree_weight { walk_weight six (0 ∷ 1 ∷ 2 ∷ 4 ∷ []) ≡ 19 }
+{}
+
+/// In a triangle whose node 0 is the landmark the bound from 2 to 1 is 2 at a stretch of 300 percent, where the distance
+/// is 1. So one interval of all labels, by the port to 0, is a row of node 2.
+pub fn triangle_with_a_landmark()
+    ensures landmark { IsLandmarkOf triangle (0 ∷ []) 1 0 1 }
+    ensures distance { IsDistance triangle 2 1 1 }
+    ensures bound { IsLandmarkBound triangle (0 ∷ []) 300 2 1 2 }
+    ensures row { FitsChoices 3 2 (MayLead triangle (IsLandmarkBound triangle (0 ∷ []) 300) (0 ∷ 1 ∷ 2 ∷ []) 2)
+        (one_interval ∷ []) }
 {}
 
 /// A text of three lines has no fault; it names the nodes a, b, c and the edges a-a, a-b, b-c.

@@ -12,20 +12,20 @@ each_source (Some ways) held sources first nodes count same is every each =
 each_source None held sources first nodes count same is every each = tt
 
 pub overflow_mul-first : goal.overflow_mul-first
-overflow_mul-first g c =
+overflow_mul-first c =
     let batch = c.requires.batch in
     let few = c.nodes-nodes.ensures.topology.few_nodes in
     record { fits = omega (arith, batch, few) }
 
 pub sixteen_from-requires : goal.sixteen_from-requires
-sixteen_from-requires g c =
+sixteen_from-requires c =
     let count = c.nodes-nodes.ensures.count in
     let batch = c.requires.batch in
     let few = c.nodes-nodes.ensures.topology.few_nodes in
     record { first = omega (arith, batch, count); few = omega (arith, few, count) }
 
 pub ways_from-requires : goal.ways_from-requires
-ways_from-requires g c =
+ways_from-requires c =
     let is = c.as_slice.ensures.value in
     record {
       sixteen = ap (λ (xs : List ℕ). length xs) is ∙ c.in_ok-sources.ensures.sixteen;
@@ -37,7 +37,7 @@ ways_from-requires g c =
     }
 
 pub lane_rows-requires : goal.lane_rows-requires
-lane_rows-requires g c = record {
+lane_rows-requires c = record {
   labels = c.requires.labels;
   connected = c.requires.connected;
   first = c.requires.batch;
@@ -47,4 +47,4 @@ lane_rows-requires g c = record {
 }
 
 pub returns : goal.returns
-returns g c = c.lane_rows.ensures
+returns c = c.lane_rows.ensures

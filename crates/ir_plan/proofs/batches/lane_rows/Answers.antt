@@ -14,13 +14,13 @@ source_here (Some ways) n first lane low inside sources = let here = sources lan
 source_here None n first lane low inside sources = tt
 
 pub loop-lane-init : goal.loop-lane-init
-loop-lane-init g c = record {
+loop-lane-init c = record {
   every = ap (λ (rows : List (List Start)). length rows) c.in_ok-rows.ensures.items;
   each = λ k h. absurd (omega (arith, h));
 }
 
 pub overflow_cast-u : goal.overflow_cast-u
-overflow_cast-u g c =
+overflow_cast-u c =
     let inside = c.loop-lane-test.true in
     let end = c.min-lane-end.ensures in
     let count = c.nodes-nodes.ensures.count in
@@ -28,7 +28,7 @@ overflow_cast-u g c =
     omega (arith, inside, end, count, few)
 
 pub lane_row-requires : goal.lane_row-requires
-lane_row-requires g c =
+lane_row-requires c =
     let inside = c.loop-lane-test.true in
     let end = c.min-lane-end.ensures in
     let count = c.nodes-nodes.ensures.count in
@@ -44,7 +44,7 @@ lane_row-requires g c =
     }
 
 pub loop-lane-preserved : goal.loop-lane-preserved
-loop-lane-preserved g c =
+loop-lane-preserved c =
     let net = c.args.topology.now in
     let numbers = c.args.numbering.now in
     let i = c.loop-lane.invariant in
@@ -53,7 +53,7 @@ loop-lane-preserved g c =
     record { every = more.0; each = more.1 }
 
 pub returns : goal.returns
-returns g c =
+returns c =
     let i = c.loop-lane.invariant in
     let long = i.every in
     let end = c.min-lane-end.ensures in

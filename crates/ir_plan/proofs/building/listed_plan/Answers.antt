@@ -18,14 +18,17 @@ refused_from net list NoNode some cut not_empty not_gone = absurd (not_gone refl
 refused_from net list Disconnected some cut not_empty not_gone = (some, tt, cut refl)
 refused_from net list NoMemory some cut not_empty not_gone = (some, tt)
 
-pub rows-rows-requires-clause-labels : goal.rows-rows-requires-clause-labels
-rows-rows-requires-clause-labels g c = c.in-Ok.ensures.labels
+pub rows_of-rows-requires-clause-labels : goal.rows_of-rows-requires-clause-labels
+rows_of-rows-requires-clause-labels g c κs within = c.in-Ok.ensures.labels
 
-pub rows-rows-requires-clause-tree : goal.rows-rows-requires-clause-tree
-rows-rows-requires-clause-tree g c = λ tree. absurd (c.requires.kind tree)
+pub rows_of-rows-requires-clause-tree : goal.rows_of-rows-requires-clause-tree
+rows_of-rows-requires-clause-tree g c κs within = λ tree. absurd (c.requires.kind tree)
 
-pub rows-rows-requires-clause-connected : goal.rows-rows-requires-clause-connected
-rows-rows-requires-clause-connected g c = c.in-Ok.ensures.connected
+pub rows_of-rows-requires-clause-connected : goal.rows_of-rows-requires-clause-connected
+rows_of-rows-requires-clause-connected g c κs within = c.in-Ok.ensures.connected
+
+pub rows_of-rows-requires-clause-some : goal.rows_of-rows-requires-clause-some
+rows_of-rows-requires-clause-some g c κs within = some_node (node_count c.args.topology) (λ e. c.if-nodes-eq0.false (c.nodes.ensures.count ∙ e))
 
 pub of_rows-requires-clause-connected : goal.of_rows-requires-clause-connected
 of_rows-requires-clause-connected g c = c.in-Ok.ensures.connected
@@ -34,7 +37,7 @@ pub of_rows-requires-clause-labels : goal.of_rows-requires-clause-labels
 of_rows-requires-clause-labels g c = c.in-Ok.ensures.labels
 
 pub of_rows-requires-clause-rows : goal.of_rows-requires-clause-rows
-of_rows-requires-clause-rows g c = c.rows-rows.ensures
+of_rows-requires-clause-rows g c = c.rows_of-rows.ensures
 
 pub of_rows-requires-clause-depth_first : goal.of_rows-requires-clause-depth_first
 of_rows-requires-clause-depth_first g c = λ tree. absurd (c.requires.kind tree)

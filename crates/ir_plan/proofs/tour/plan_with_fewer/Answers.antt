@@ -1,32 +1,29 @@
-use Rattle.std.proofs.Common.{rules, ◌≢◌, sym, subst, arith}
-use Rattle.ir_model.specs.declared.Kind.TheVariants.{Tree}
-use Rattle.ir_plan.specs.declared.tour.LabelOrder.TheVariants.{DepthFirst}
-use Rattle.ir_plan.specs.Starts.{IsLabelledBy, IsPlanAs, IsToured}
-use Rattle.ir_plan.proofs.Labelled.{first_labelled, over_labelled}
-use Rattle.ir_plan.proofs.Lists.{of_some}
+use Rattle.std.proofs.Common.{rules, ◌≡◌, ◌≢◌, Option, refl, sym, subst, arith}
+use Rattle.std.specs.Prelude.{IfOk, IfSome, None}
+use Rattle.ir_model.specs.Plan.{Plan}
+use Rattle.ir_plan.specs.declared.tour.LabelOrder.{LabelOrder}
+use Rattle.ir_plan.specs.declared.tour.LabelOrder.TheVariants.{DepthFirst, Tour}
+use Rattle.ir_plan.specs.Starts.{IsLabelledBy, IsOfShortestWays}
 use Rattle.ir_plan.proofs.tour.plan_with_fewer.Goals as goal
 
-pub returns-clause-like : goal.returns-clause-like
-returns-clause-like g c =
-    of_some c.if_fewer.result _ (IsPlanAs c.args.plan.now) c.if_fewer.ensures.fewer
-    (λ p fewer. subst (IsPlanAs c.args.plan.now) (sym fewer.0) c.in_ok-found.ensures.like)
+-- the other order
+by_tour : (labels : LabelOrder) → labels ≢ DepthFirst → labels ≡ Tour
+by_tour DepthFirst other = absurd (other refl)
+by_tour Tour other = refl
 
 pub returns-clause-found : goal.returns-clause-found
 returns-clause-found g c =
-    let plan = c.args.plan.now in
-    let told = c.in_ok-found.ensures in
     let by : c.args.labels ≢ DepthFirst = search rules in
-    let kind : plan.kind ≢ Tree = search rules in
-    let sought : IsToured plan = (kind, omega (arith, c.nodes.ensures.count, c.if-nodes-gt-MOST_TOUR_NODES.false)) in
-    of_some c.if_fewer.result _ (IsLabelledBy c.args.labels) c.if_fewer.ensures.fewer
-    (λ p fewer.
-    subst (IsLabelledBy c.args.labels) (sym fewer.0)
-    (over_labelled plan c.in_ok-found.found c.nodes.ensures.plan c.requires told.like told.tour c.args.labels by sought fewer.1))
+    subst (λ (labels : LabelOrder). IfOk c.plan_over_tour.result (λ (found : Option Plan). IfSome found (IsLabelledBy labels))) (sym (by_tour c.args.labels by)) c.plan_over_tour.ensures.found
 
 pub returns-clause-kept : goal.returns-clause-kept
-returns-clause-kept g c none =
-    let told = c.in_ok-found.ensures in
-    first_labelled c.args.plan.now c.in_ok-found.found c.nodes.ensures.plan c.requires told.like told.tour c.args.labels (c.if_fewer.ensures.others none)
+returns-clause-kept g c =
+    let by : c.args.labels ≢ DepthFirst = search rules in
+    subst (λ (labels : LabelOrder). IfOk c.plan_over_tour.result (λ (found : Option Plan). found ≡ None → IsLabelledBy labels c.args.plan.now)) (sym (by_tour c.args.labels by)) c.plan_over_tour.ensures.kept
+
+pub plan_over_tour-requires-clause-kind : goal.plan_over_tour-requires-clause-kind
+plan_over_tour-requires-clause-kind g c κs within =
+    subst IsOfShortestWays c.kind.ensures (c.is_of_shortest_ways.ensures.0 c.if-not-is_of_shortest_ways.false)
 
 pub plan_over_tour-requires-clause-few : goal.plan_over_tour-requires-clause-few
 plan_over_tour-requires-clause-few g c κs within =

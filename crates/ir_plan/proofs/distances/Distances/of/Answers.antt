@@ -9,8 +9,8 @@ use Rattle.ir_plan.proofs.Lists.{list_at, lists_length}
 use Rattle.ir_plan.proofs.Differences.{distances_differ}
 use Rattle.ir_plan.proofs.distances.Distances.of.Goals as goal
 
-pub distances-requires-clause-square : goal.distances-requires-clause-square
-distances-requires-clause-square g c =
+pub distances_of-requires-clause-square : goal.distances_of-requires-clause-square
+distances_of-requires-clause-square g c κs inside =
     let same = c.as_slice.ensures.value in
     let are = c.in_ok-columns.ensures in
     let len = lists_length c.in_ok-columns.columns.items in

@@ -1,0 +1,16 @@
+//! Rows of nodes that keep to a bound with the fewest intervals, and the bound by landmarks (Cowen 2001, Thorup and Zwick
+//! 2001): rows of few intervals, whose ways are at most three times as long as the shortest.
+#![tactic(auto)]
+
+mod bounds;
+mod detours;
+mod landmarks;
+mod order;
+mod rows;
+mod trees;
+
+pub use bounds::Bounds;
+pub use detours::{LandmarkBounds, block_labels};
+pub use landmarks::Owners;
+pub use order::{block_order, most_linked};
+pub use rows::row_within;
