@@ -17,6 +17,7 @@ use Rattle.ir_worker.specs.declared.node.Turn.{Turn}
 use Rattle.ir_worker.specs.Seen.{Parcel}
 use Rattle.ir_worker.specs.Turns.{AreTurns, IsUntouched}
 use Rattle.ir_links.specs.Ends.{Word}
+use Rattle.ir_epochs.specs.Looks.{Look}
 use Rattle.ir_control.specs.Lives.{AreSameNodes, HaveTurned}
 use Rattle.ir_control.specs.Runs.{CameBack}
 
@@ -43,7 +44,7 @@ module _ (net : Net) (n : ℕ) where
       omega (arith, own, most)
 
   -- the nodes that came back
-  module _ (was_full was_empty : Word Parcel) (may_end : ℕ → ℕ → Type 0) (nodes : List Node) (back : List (Node × Option NoMemory)) (first : AreFirstNodes net n nodes) (came : CameBack was_full was_empty may_end nodes back) where
+  module _ (was_full was_empty : Word Parcel) (looked : Look Parcel) (may_end : ℕ → ℕ → Type 0) (nodes : List Node) (back : List (Node × Option NoMemory)) (first : AreFirstNodes net n nodes) (came : CameBack was_full was_empty looked may_end nodes back) where
     pub first_back : AreFirstNodes net n (map (λ b. b.0) back)
     first_back = record {
       count_is = (let a = first.count_is in let b = came.count in omega (arith, a, b, length-map back (λ (b : Node × Option NoMemory). b.0)));
@@ -71,7 +72,7 @@ module _ (net : Net) (n : ℕ) where
     }
 
     -- where none found no memory, each made turns
-    pub turned_back : All (λ (b : Node × Option NoMemory). b.1 ≡ None) back → HaveTurned was_full was_empty may_end nodes (map (λ b. b.0) back)
+    pub turned_back : All (λ (b : Node × Option NoMemory). b.1 ≡ None) back → HaveTurned was_full was_empty looked may_end nodes (map (λ b. b.0) back)
     turned_back served k d e lt =
         let count = came.count in
         let many = length-map back (λ (b : Node × Option NoMemory). b.0) in
@@ -81,7 +82,7 @@ module _ (net : Net) (n : ℕ) where
         let was : Node = slice_index_or nodes k d in
         let is : Node × Option NoMemory = slice_index_or back k there.0 in
         let made = (came.each k d there.0 lt).0 in
-        let kept = subst (λ (short : Option NoMemory). MatchOption short (AreTurns was_full was_empty was made.0 is.0 × may_end was.index (length made.0)) (λ _. (m : Node) × AreTurns was_full was_empty was made.0 m × IsUntouched m is.0))
+        let kept = subst (λ (short : Option NoMemory). MatchOption short (AreTurns was_full was_empty looked was made.0 is.0 × may_end was.index (length made.0)) (λ _. (m : Node) × AreTurns was_full was_empty looked was made.0 m × IsUntouched m is.0))
         (served k there.0 (omega (arith, lt, count))) made.1 in
-        subst (λ (m : Node). (turns : List Turn) × AreTurns was_full was_empty was turns m × may_end was.index (length turns))
+        subst (λ (m : Node). (turns : List Turn) × AreTurns was_full was_empty looked was turns m × may_end was.index (length turns))
         (ap (λ (b : Node × Option NoMemory). b.0) (get_or_from_slice_get back k there.0 there.0 there.1) ∙ there.2) (made.0, kept.0, kept.1)

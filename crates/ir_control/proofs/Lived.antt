@@ -27,6 +27,7 @@ use Rattle.ir_epochs.specs.declared.registry.Stamp.{Stamp}
 use Rattle.ir_worker.specs.declared.node.Node.{Node}
 use Rattle.ir_worker.specs.declared.serving.NoMemory.{NoMemory}
 use Rattle.ir_links.specs.Ends.{Word}
+use Rattle.ir_epochs.specs.Looks.{Look}
 use Rattle.ir_worker.specs.Seen.{Parcel}
 use Rattle.ir_control.specs.declared.net.Net.{Net}
 use Rattle.ir_control.specs.declared.injector.Accepted.{Accepted}
@@ -50,18 +51,24 @@ pub given : {A : Type 0} (P : A → Type 0) (o : Option A) (x : A) → o ≡ Som
 given {A} P o x is h = subst (λ (z : Option A). IfSome z P) is h
 
 -- a thread that was not started is that of a node of the net
-module _ (B : Type 0) (was_full : Word Parcel) (unstarted : ℕ → Type 0) (came_back : Node → Type 0) (net : Net) (commands : List Command) where
-  pub refused : (n : ℕ) (nodes : List Node) (error : LiveError) → AreFirstNodes net n nodes → IsStopped unstarted nodes error → IsRefusal B was_full unstarted came_back net commands error
+module _ (unstarted : ℕ → Type 0) (net : Net) where
+  pub refused : (n : ℕ) (nodes : List Node) (error : LiveError) → AreFirstNodes net n nodes → IsStopped unstarted nodes error → IsRefusal unstarted net error
   refused n nodes live_error.Spent first h = absurd h
   refused n nodes live_error.NoThread first h = (h.1.index, (first.each h.0 h.1 h.2).0.index_in, h.3)
   refused n nodes live_error.NoMemory first h = tt
   refused n nodes live_error.TooManyReaders first h = absurd h
-  refused n nodes live_error.Unpublished first h = absurd h
 
-module _ (was_full was_empty : Word Parcel) (may_end : ℕ → ℕ → Type 0) {B : Type 0} (net : Net) (nodes : List Node) (opened : Desk B) (commands : List Command) (run : LiveRun B)
-    (fresh : AreFreshParts net nodes opened.injector opened.controller) (done : IsNetRun was_full was_empty may_end net.opening nodes opened commands run) where
+  pub unreported : (result : Result Live LiveError) → IfErr result IsUnreported → IfErr result (IsRefusal unstarted net)
+  unreported (Ok live) h = tt
+  unreported (Err live_error.Spent) h = absurd h
+  unreported (Err live_error.NoThread) h = absurd h
+  unreported (Err live_error.NoMemory) h = tt
+  unreported (Err live_error.TooManyReaders) h = absurd h
+
+module _ (was_full was_empty : Word Parcel) (looked : Look Parcel) (may_end : ℕ → ℕ → Type 0) {B : Type 0} (net : Net) (nodes : List Node) (opened : Desk B) (commands : List Command) (run : LiveRun B)
+    (fresh : AreFreshParts net nodes opened.injector opened.controller) (done : IsNetRun was_full was_empty looked may_end net.opening nodes opened commands run) where
   pub nodes_back : AreFirstNodes net (node_count net.topology) (map (λ (b : Node × Option NoMemory). b.0) run.back.items)
-  nodes_back = first_back net (node_count net.topology) was_full was_empty may_end nodes run.back.items fresh.nodes_are done.came_back
+  nodes_back = first_back net (node_count net.topology) was_full was_empty looked may_end nodes run.back.items fresh.nodes_are done.came_back
 
   pub injector_back : IsInjectorOf net run.parts.injector
   injector_back = injector_kept net opened.injector run.parts.injector fresh.injector_of (same_injector was_full commands opened (desk_of run.parts) done.answers done.carried_out)
@@ -76,7 +83,7 @@ module _ (was_full was_empty : Word Parcel) (may_end : ℕ → ℕ → Type 0) {
   back = map (λ (b : Node × Option NoMemory). b.0) run.back.items
 
   came : AreSameNodes nodes back
-  came = same_back net (node_count net.topology) was_full was_empty may_end nodes run.back.items fresh.nodes_are done.came_back
+  came = same_back net (node_count net.topology) was_full was_empty looked may_end nodes run.back.items fresh.nodes_are done.came_back
 
   stands : Stands net opened.controller (replicate (length net.topology.links) true) 1 opened.controller
   stands = stands_first net nodes opened fresh
@@ -86,25 +93,6 @@ module _ (was_full was_empty : Word Parcel) (may_end : ℕ → ℕ → Type 0) {
       let count = came.count in
       (came.each k d d (omega (arith, lt, count))).reader ∙ fresh.boards k d (omega (arith, lt, count))
       ∙ sym (same_board net opened.controller was_full commands (replicate (length net.topology.links) true) 1 opened (desk_of run.parts) done.answers done.carried_out stands)
-
-  -- a node that is ahead of the controller
-  pub unreported : (unstarted : ℕ → Type 0) (came_back : Node → Type 0) (result : Result Live LiveError) → IfErr result (IsUnreported came_back run.parts.controller) →
-      IfErr result (IsRefusal B was_full unstarted came_back net commands)
-  unreported unstarted came_back (Ok live) h = tt
-  unreported unstarted came_back (Err live_error.Spent) h = absurd h
-  unreported unstarted came_back (Err live_error.NoThread) h = absurd h
-  unreported unstarted came_back (Err live_error.NoMemory) h = tt
-  unreported unstarted came_back (Err live_error.TooManyReaders) h = absurd h
-  unreported unstarted came_back (Err live_error.Unpublished) h = record {
-    first = nodes;
-    opened = opened;
-    handed_out = fresh;
-    answers = done.answers;
-    closed = desk_of run.parts;
-    carried_out = done.carried_out;
-    node = h.0;
-    ahead = h.1;
-  }
 
   abbrev whole : List Stamp
   whole = net.opening ∷ stamps_in done.answers
@@ -152,33 +140,41 @@ module _ (was_full was_empty : Word Parcel) (may_end : ℕ → ℕ → Type 0) {
         (λ k o got. sound_by_plans whole net.restamps (stamps_of o.stamp o.later.items) o.packet (at_all IsSoundOutcome report.outcomes report.sound k o got).1
         (at_all (λ (o : Outcome). length o.packet.restamps ≤ net.restamps) report.outcomes report.few k o got) (agree k o got) (first_there k o got) (restamps_there k o got)))
 
-    is_live : was_closed run.parts.injector → live.refusals ≡ run.refusals → All (λ b. b.1 ≡ None) run.back.items → All came_back back → IsLive B was_full was_empty may_end came_back was_closed net commands live
+    is_live : was_closed run.parts.injector → live.refusals ≡ run.refusals → All (λ b. b.1 ≡ None) run.back.items → All came_back back → IsLive B was_full was_empty looked may_end came_back was_closed net commands live
     is_live closed told served shown =
-        let turned = turned_back net (node_count net.topology) was_full was_empty may_end nodes run.back.items fresh.nodes_are done.came_back served in
+        let turned = turned_back net (node_count net.topology) was_full was_empty looked may_end nodes run.back.items fresh.nodes_are done.came_back served in
         record {
-          first = nodes;
-          opened = opened;
-          handed_out = fresh;
-          answers = done.answers;
-          closed = desk_of run.parts;
-          carried_out = done.carried_out;
-          refusals = ap (λ xs. xs.items) told ∙ done.refusals;
-          injector_shown = closed;
-          accepted = accepted;
-          last = map (λ (b : Node × Option NoMemory). b.0) run.back.items;
-          same_nodes = came;
-          turned = turned;
-          shown = shown;
-          read = read;
-          nodes_of = first_apart net (node_count net.topology) (map (λ (b : Node × Option NoMemory). b.0) run.back.items) nodes_back;
-          all_there = all_there net (node_count net.topology) (map (λ (b : Node × Option NoMemory). b.0) run.back.items) nodes_back;
-          injector_of = injector_back;
-          report = report;
-          causes = causes_are was_full was_empty may_end net nodes back run.parts.injector live.report _ (published run.parts.controller.writer) came.count fresh.fresh_nodes turned read report;
-          plans = planned whole;
-          plans_are = ap (λ (e : ℕ). let p : Planned = record { epoch = e; plan = first_plan net } in p ∷ planned (stamps_in done.answers)) net.opened.epoch;
-          asked = all_asked net opened.controller was_full commands (replicate (length net.topology.links) true) 1 opened (desk_of run.parts) done.answers done.carried_out stands;
-          sound = sound;
+          carried = record {
+            first = nodes;
+            opened = opened;
+            handed_out = fresh;
+            answers = done.answers;
+            closed = desk_of run.parts;
+            carried_out = done.carried_out;
+            refusals = ap (λ xs. xs.items) told ∙ done.refusals;
+            injector_shown = closed;
+            accepted = accepted;
+          };
+          turned = record {
+            last = back;
+            same_nodes = came;
+            turned = turned;
+            shown = shown;
+            read = read;
+          };
+          reported = record {
+            nodes_of = first_apart net (node_count net.topology) back nodes_back;
+            all_there = all_there net (node_count net.topology) back nodes_back;
+            injector_of = injector_back;
+            told = report;
+            causes = causes_are was_full was_empty looked may_end net nodes back run.parts.injector live.report _ (published run.parts.controller.writer) came.count fresh.fresh_nodes turned read report;
+          };
+          sound = record {
+            plans = planned whole;
+            plans_are = ap (λ (e : ℕ). let p : Planned = record { epoch = e; plan = first_plan net } in p ∷ planned (stamps_in done.answers)) net.opened.epoch;
+            asked = all_asked net opened.controller was_full commands (replicate (length net.topology.links) true) 1 opened (desk_of run.parts) done.answers done.carried_out stands;
+            sound = sound;
+          };
         }
 
   pub lived : (came_back : Node → Type 0) (was_closed : Injector → Type 0) → was_closed run.parts.injector → (result : Result Live LiveError) →
@@ -188,6 +184,6 @@ module _ (was_full was_empty : Word Parcel) (may_end : ℕ → ℕ → Type 0) {
       IfOk result (λ live. All (λ row. All (λ s. Agrees run.stamps.items s) row.items) live.report.later.items) →
       IfOk result (λ live. live.refusals ≡ run.refusals) → IfOk result (λ _. All (λ b. b.1 ≡ None) run.back.items) →
       IfOk result (λ _. All came_back (map (λ (b : Node × Option NoMemory). b.0) run.back.items)) →
-      IfOk result (λ live. IsLive B was_full was_empty may_end came_back was_closed net commands live)
+      IfOk result (λ live. IsLive B was_full was_empty looked may_end came_back was_closed net commands live)
   lived came_back was_closed closed (Ok live) report read first later told served shown = is_live came_back was_closed live report read first later closed told served shown
   lived came_back was_closed closed (Err e) report read first later told served shown = tt

@@ -2,6 +2,7 @@
 use Rattle.std.specs.Prelude.{◌≡◌, ℕ, ◌<◌, List, ◌∷◌, length, slice_index_or, slice_get, Option, Some}
 use Rattle.ir_core.specs.declared.command.Command.{Command}
 use Rattle.ir_links.specs.Ends.{Word}
+use Rattle.ir_epochs.specs.Looks.{Look}
 use Rattle.ir_epochs.specs.declared.registry.Stamp.{Stamp}
 use Rattle.ir_worker.specs.declared.node.Node.{Node}
 use Rattle.ir_worker.specs.declared.serving.NoMemory.{NoMemory as Short}
@@ -15,13 +16,12 @@ use Rattle.ir_control.specs.declared.working.LiveRun.{LiveRun}
 use Rattle.ir_control.specs.Answers.{CommandAnswer, refusals_from}
 use Rattle.ir_control.specs.Planned.{stamps_in}
 use Rattle.ir_control.specs.Carried.{AreCarriedOut}
-use Rattle.ir_control.specs.Lives.{IsAhead}
 use Rattle.ir_control.specs.declared.controller.Controller.{Controller}
 
-module _ (was_full was_empty : Word Parcel) (may_end : ℕ → ℕ → Type 0) where
+module _ (was_full was_empty : Word Parcel) (looked : Look Parcel) (may_end : ℕ → ℕ → Type 0) where
   -- what came back of a node is the same node, after turns
   abbrev pub ComesAs : Node → Node × Option Short → Type 0
-  ComesAs n back = HasServed was_full was_empty may_end n back.0 back.1 × IsSameNode n back.0
+  ComesAs n back = HasServed was_full was_empty looked may_end n back.0 back.1 × IsSameNode n back.0
 
   -- the same nodes, in the same order, each after turns
   pub record CameBack (before : List Node) (after : List (Node × Option Short)) : Type 0 where
@@ -30,8 +30,8 @@ module _ (was_full was_empty : Word Parcel) (may_end : ℕ → ℕ → Type 0) w
 
 -- The nodes came back, and each command had its answer. The stamps are that of the opening and those of the epochs that were
 -- installed.
-pub record IsNetRun (was_full was_empty : Word Parcel) (may_end : ℕ → ℕ → Type 0) {B : Type 0} (opening : Stamp) (nodes : List Node) (desk : Desk B) (commands : List Command) (run : LiveRun B) : Type 0 where
-  pub came_back : CameBack was_full was_empty may_end nodes run.back.items
+pub record IsNetRun (was_full was_empty : Word Parcel) (looked : Look Parcel) (may_end : ℕ → ℕ → Type 0) {B : Type 0} (opening : Stamp) (nodes : List Node) (desk : Desk B) (commands : List Command) (run : LiveRun B) : Type 0 where
+  pub came_back : CameBack was_full was_empty looked may_end nodes run.back.items
   pub answers : List CommandAnswer
   pub carried_out : AreCarriedOut was_full commands desk answers (desk_of run.parts)
   pub refusals : run.refusals.items ≡ refusals_from 0 answers
@@ -43,12 +43,10 @@ IsStopped unstarted nodes live.Spent = ⊥
 IsStopped unstarted nodes live.NoThread = (k : ℕ) × (n : Node) × (slice_get nodes k ≡ Some n) × unstarted n.index
 IsStopped unstarted nodes live.NoMemory = Unit {0}
 IsStopped unstarted nodes live.TooManyReaders = ⊥
-IsStopped unstarted nodes live.Unpublished = ⊥
 
--- one of the nodes is ahead of the controller, or a growth was refused
-abbrev pub IsUnreported : {B : Type 0} → (Node → Type 0) → Controller B → LiveError → Type 0
-IsUnreported came_back controller live.Spent = ⊥
-IsUnreported came_back controller live.NoThread = ⊥
-IsUnreported came_back controller live.NoMemory = Unit {0}
-IsUnreported came_back controller live.TooManyReaders = ⊥
-IsUnreported came_back controller live.Unpublished = (n : Node) × IsAhead came_back controller n
+-- a growth was refused
+abbrev pub IsUnreported : LiveError → Type 0
+IsUnreported live.Spent = ⊥
+IsUnreported live.NoThread = ⊥
+IsUnreported live.NoMemory = Unit {0}
+IsUnreported live.TooManyReaders = ⊥

@@ -51,12 +51,14 @@ impl<R: Wait + Drop> Controller<R> {
         self.writer.board()
     }
 
-    /// Whether it published all that a node of its board has read or learnt.
-    pub fn leads(&self, node: &Node) -> bool
-        requires { IsReadBy self.now node.now }
-        ensures { IsTrue result ↔ IsPrefix (known_to node.now) (published_by self.now) }
+    /// Sees that it published all that a node of its board has read or learnt.
+    pub fn leads(&mut self, node: &Node)
+        requires { IsReadBy self.old node.now }
+        ensures led { IsPrefix (known_to node.now) (published_by self.old) }
+        ensures same { (published self.new.writer ≡ published self.old.writer)
+            × (writer_board self.new.writer ≡ writer_board self.old.writer) }
     {
-        node.follows(&self.writer)
+        node.follows(&mut self.writer);
     }
 
     /// Publishes one change, for which there is room.
@@ -135,7 +137,7 @@ impl<R: Wait + Drop> Controller<R> {
     {
         let topology = self.registry.plan(&self.opening).topology();
         let board = self.writer.board();
-        let crew = Several { rt };
+        let crew = Several { rt, most: None };
         let labels = self.labels;
         let draft = Draft { labels, kind, root };
         let plan = plan_up_by(&crew, self.alloc, topology, &board, draft)?;

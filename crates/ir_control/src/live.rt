@@ -27,13 +27,10 @@ pub enum LiveError {
     /// The board has no place for a reader of each node.
     #[error("no place is left for a reader of the board")]
     TooManyReaders = 4,
-    /// A node knows of the board what its controller did not publish.
-    #[error("a node knows what was not published")]
-    Unpublished = 5,
 }
 
 impl LiveError {
-    /// Its number: 1 Spent, 2 NoThread, 3 NoMemory, 4 TooManyReaders, 5 Unpublished.
+    /// Its number: 1 Spent, 2 NoThread, 3 NoMemory, 4 TooManyReaders.
     pub fn code(self) -> u8
         ensures { result ≡ live_code self }
     {

@@ -76,7 +76,7 @@ fn opening_plan(
     let Ok(over) = opening.topology.try_clone(alloc) else {
         return Err(OpenError::NoMemory);
     };
-    let crew = Several { rt };
+    let crew = Several { rt, most: None };
     let draft = Draft {
         labels: opening.labels,
         kind: opening.kind,

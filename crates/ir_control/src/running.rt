@@ -1,5 +1,5 @@
 //! A live run.
-ghost use Rattle.std.specs.{Prelude.{◌≡◌, ℕ, All, IsTrue, IfOk, IfErr, Some, None, false, map, slice_get}, Borrow.Bor};
+ghost use Rattle.std.specs.{Prelude.{◌≡◌, ℕ, All, IsTrue, IfOk, IfErr, OnOk, Some, None, false, map, slice_get}, Borrow.Bor};
 ghost use Rattle.ir_model.specs.Topology.{node_count};
 ghost use Rattle.ir_worker.specs.declared.node.Node.{Node};
 ghost use mathlib.Core.List.{IsPrefix};
@@ -16,27 +16,21 @@ use crate::reporting::finish;
 use crate::starter::Starter;
 use crate::working::{By, LiveRun, run_nodes};
 use ir_core::Command;
-use ir_epochs::{BoardError, Stamp};
+use ir_epochs::{BoardError, Looks, Stamp};
 use ir_links::Moments;
 use ir_worker::{Flag, Gate, NoMemory, Node, Parcel};
 use std::alloc::{AllocError, Global};
 use std::sync::Wait;
 use std::thread::Threads;
 
-// Whether the controller published all that these nodes have read.
-fn lead_all<B: Wait + Drop>(controller: &Controller<B>, nodes: &Vec<Node>) -> bool
-    requires { All (λ n. reader_board n.reader ≡ writer_board controller.now.writer) nodes.now.items }
-    ensures lead { IsTrue result
-        → All (λ n. IsPrefix (known n.reader) (published controller.now.writer)) nodes.now.items }
-    ensures ahead { result ≡ false → (k : ℕ) × (n : Node) × (slice_get nodes.now.items k ≡ Some n)
-        × (IsPrefix (known n.reader) (published controller.now.writer) → ⊥) }
+// Sees that the controller published all that these nodes have read.
+fn lead_all<B: Wait + Drop>(controller: &mut Controller<B>, nodes: &Vec<Node>)
+    requires { All (λ n. reader_board n.reader ≡ writer_board controller.old.writer) nodes.now.items }
+    ensures lead { All (λ n. IsPrefix (known n.reader) (published controller.old.writer)) nodes.now.items }
 {
     for k in 0..nodes.len() {
-        if !controller.leads(&nodes[k]) {
-            return false;
-        }
+        controller.leads(&nodes[k]);
     }
-    true
 }
 
 // Sees that a stamp knows the plan of each of these that is of its epoch.
@@ -107,7 +101,7 @@ fn reported<R: Wait, S: Starter, B: Wait + Drop>(
     ensures refusals { IfOk result (λ live. live.refusals ≡ run.refusals) }
     ensures served { IfOk result (λ _. All (λ b. b.1 ≡ None) run.back.items) }
     ensures shown { IfOk result (λ _. All (S.came_back starter.now) (map (λ b. b.0) run.back.items)) }
-    ensures refused { IfErr result (IsUnreported (S.came_back starter.now) run.parts.controller) }
+    ensures refused { IfErr result IsUnreported }
     ensures read { IfOk result (λ _. All (λ n. IsPrefix (known n.reader) (published run.parts.controller.writer))
         (map (λ b. b.0) run.back.items)) }
     ensures first { IfOk result (λ live. All (λ s. Agrees run.stamps.items s) live.report.stamps.items) }
@@ -123,9 +117,7 @@ fn reported<R: Wait, S: Starter, B: Wait + Drop>(
     let Ok(nodes) = all_back(net.alloc(), back, starter) else {
         return Err(LiveError::NoMemory);
     };
-    if !lead_all(&parts.controller, &nodes) {
-        return Err(LiveError::Unpublished);
-    }
+    lead_all(&mut parts.controller, &nodes);
     parts.nodes = nodes;
     match finish(rt, net, parts) {
         Ok(report) => {
@@ -148,10 +140,9 @@ fn reported<R: Wait, S: Starter, B: Wait + Drop>(
 /// A packet is refused for a full inbox only where the push of its inject was refused.
 ///
 /// Refused are: a net whose parts were handed out before (`Spent`), a board without a place for a
-/// reader of each node (`TooManyReaders`), a thread that was not started (`NoThread`), want of
-/// memory, a node's too, and a node that came back and knows of the board what was not published,
-/// which tests don't find (`Unpublished`). After any answer the net is spent.
-pub fn run_live<R: Threads + Moments<Parcel> + Sync, G: Gate, F: Flag, S: Starter>(
+/// reader of each node (`TooManyReaders`), a thread that was not started (`NoThread`), and want of
+/// memory, a node's too. After any answer the net is spent.
+pub fn run_live<R: Threads + Moments<Parcel> + Looks<Parcel> + Sync, G: Gate, F: Flag, S: Starter>(
     rt: &R,
     net: &Net,
     commands: &[Command],
@@ -159,11 +150,11 @@ pub fn run_live<R: Threads + Moments<Parcel> + Sync, G: Gate, F: Flag, S: Starte
     stop: &F,
     starter: &S,
 ) -> Result<Live, LiveError>
-    ensures live { IfOk result (λ live. IsLive (Bor R) R.was_full R.was_empty
-        (MayEnd F.seen G.barred stop.now gate.now) (S.came_back starter.now) (S.was_closed starter.now)
+    ensures live { IfOk result (λ live. IsLive (Bor R) R.was_full R.was_empty R.looked
+        (MayEnd F.was_set G.barred stop.now gate.now) (S.came_back starter.now) (S.was_closed starter.now)
         net.now commands.now live) }
-    ensures refused { IfErr result (IsRefusal (Bor R) R.was_full (S.unstarted starter.now) (S.came_back starter.now)
-        net.now commands.now) }
+    ensures stopped { OnOk result (F.was_set stop.now) }
+    ensures refused { IfErr result (IsRefusal (S.unstarted starter.now) net.now) }
 {
     let given = match net.parts(rt) {
         Ok(given) => given,

@@ -1,16 +1,18 @@
 //! Which nodes' threads are started, and which nodes came back from theirs.
-ghost use Rattle.std.specs.Prelude.{◌≡◌, ℕ, false};
+ghost use Rattle.std.specs.Prelude.{◌≡◌, ℕ, true, false};
 ghost use Rattle.ir_worker.specs.declared.node.Node.{Node};
 ghost use Rattle.ir_control.specs.declared.injector.Injector.{Injector};
 
 use crate::injector::Injector;
 use ir_worker::Node;
+use std::sync::atomic::{AtomicBool, Ordering};
 use std::thread::{SpawnError, Threads};
 
 /// Says of each node whether its thread is to be started, and is shown the injector once the
-/// commands are carried out and each node that came back. It has a word for a thread that was not
-/// started, for an injector and for a node that was shown: so a contract can say that a thread was
-/// not started, and of which injector and nodes a run tells.
+/// commands are carried out and each node that came back; and it sets the flag of a run. It has a
+/// word for a thread that was not started, for an injector and for a node that was shown, and for a
+/// flag that was set: so a contract can say that a thread was not started, of which injector and
+/// nodes a run tells, and why its nodes ended.
 pub trait Starter {
     // the thread of the node of this number was not started
     ghost unstarted: { Self → ℕ → Type 0 };
@@ -20,6 +22,9 @@ pub trait Starter {
 
     // this injector was shown behind the commands
     ghost was_closed: { Self → Injector → Type 0 };
+
+    // the flag that lets the nodes of a run end was set
+    ghost was_stopped: { Self → Type 0 };
 
     /// Whether the thread of the node of this number is to be started.
     fn starts(&self, node: u16) -> bool
@@ -36,6 +41,14 @@ pub trait Starter {
     /// This node came back from its thread.
     fn takes_back(&self, node: &Node)
         ensures { came_back self.now node.now };
+
+    /// Whether this flag of a run is set.
+    fn is_stopped(&self, flag: &AtomicBool) -> bool
+        ensures { result ≡ true → was_stopped self.now };
+
+    /// Sets this flag of a run.
+    fn stops(&self, flag: &AtomicBool)
+        ensures { was_stopped self.now };
 }
 
 /// A runtime is a starter that has each node's thread started. Who takes any runtime with this
@@ -47,6 +60,8 @@ impl<R: Threads> Starter for R {
 
     ghost was_closed = { λ _ _. Unit {0} };
 
+    ghost was_stopped = { λ _. Unit {0} };
+
     fn starts(&self, _node: u16) -> bool {
         true
     }
@@ -56,4 +71,12 @@ impl<R: Threads> Starter for R {
     fn closes(&self, _injector: &Injector) {}
 
     fn takes_back(&self, _node: &Node) {}
+
+    fn is_stopped(&self, flag: &AtomicBool) -> bool {
+        flag.load(Ordering::SeqCst)
+    }
+
+    fn stops(&self, flag: &AtomicBool) {
+        flag.store(true, Ordering::SeqCst);
+    }
 }

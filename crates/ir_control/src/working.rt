@@ -9,7 +9,7 @@ use crate::live::LiveError;
 use crate::net::{Net, Parts};
 use crate::starter::Starter;
 use ir_core::{Command, Refused};
-use ir_epochs::Stamp;
+use ir_epochs::{Looks, Stamp};
 use ir_links::Moments;
 use ir_worker::{Bells, ComesBack, Flag, Gate, NoMemory, Node, Parcel, serve_with_bells};
 use std::alloc::{AllocError, Global};
@@ -39,7 +39,7 @@ pub(crate) struct LiveRun<B: Wait + Drop> {
 type Running<R, G, F> = PromisedHandle<(Node, Option<NoMemory>), ComesBack<R, G, F>>;
 
 // Starts the thread of a node, and adds it to those that run. Where it is not started, these are let end.
-fn start<'s, E, R: Threads + Moments<Parcel> + Sync, G: Gate, F: Flag, S: Starter>(
+fn start<'s, E, R: Threads + Moments<Parcel> + Looks<Parcel> + Sync, G: Gate, F: Flag, S: Starter>(
     scope: &Scope<'s, E>,
     rt: &'s R,
     node: Node,
@@ -82,7 +82,14 @@ fn start<'s, E, R: Threads + Moments<Parcel> + Sync, G: Gate, F: Flag, S: Starte
 }
 
 // Starts a thread for each node, and answers all.
-fn start_all<'s, E, R: Threads + Moments<Parcel> + Sync, G: Gate, F: Flag, S: Starter>(
+fn start_all<
+    's,
+    E,
+    R: Threads + Moments<Parcel> + Looks<Parcel> + Sync,
+    G: Gate,
+    F: Flag,
+    S: Starter,
+>(
     scope: &Scope<'s, E>,
     rt: &'s R,
     alloc: Global,
@@ -125,6 +132,7 @@ fn carry_and_close<
     ensures told { IfOk result (λ told. AreTold R.was_full commands.now (desk_of parts.old) (desk_of parts.new)
         net.now.opening told.0.items told.1.items) }
     ensures closed { S.was_closed by.now.starter.now parts.new.injector }
+    ensures set { F.was_set by.now.stop.now }
 {
     let told = carry_out_all(rt, net, bells, parts, commands);
     by.starter.closes(&parts.injector);
@@ -134,14 +142,14 @@ fn carry_and_close<
 }
 
 // Waits until each node has come back, where the commands were carried out.
-fn join_all<R: Threads + Moments<Parcel> + Sync, G: Gate, F: Flag, T: Drop>(
+fn join_all<R: Threads + Moments<Parcel> + Looks<Parcel> + Sync, G: Gate, F: Flag, T: Drop>(
     rt: &R,
     told: Result<T, AllocError>,
     running: Vec<Running<R, G, F>>,
 ) -> Result<(Vec<(Node, Option<NoMemory>)>, T), LiveError>
     ensures back { IfOk result (λ ended. (stop : _) (gate : _) →
         All (λ h. (h.promise.stop.value ≡ stop) × (h.promise.gate.value ≡ gate)) running.items →
-        CameBack R.was_full R.was_empty (MayEnd F.seen G.barred stop gate)
+        CameBack R.was_full R.was_empty R.looked (MayEnd F.was_set G.barred stop gate)
         (map (λ h. h.promise.node.value) running.items) ended.0.items) }
     ensures told { IfOk result (λ ended. told ≡ Ok ended.1) }
     ensures error { IfErr result (λ error. error ≡ live.NoMemory) }
@@ -158,7 +166,7 @@ fn join_all<R: Threads + Moments<Parcel> + Sync, G: Gate, F: Flag, T: Drop>(
 /// Starts a thread for each node, carries out the commands, shows the starter the injector, sets the flag that lets the
 /// nodes end, and waits until each has come back.
 pub(crate) fn run_nodes<
-    R: Threads + Moments<Parcel> + Sync,
+    R: Threads + Moments<Parcel> + Looks<Parcel> + Sync,
     G: Gate,
     F: Flag,
     S: Starter,
@@ -171,10 +179,11 @@ pub(crate) fn run_nodes<
     by: &By<'_, G, F, S>,
 ) -> Result<LiveRun<B>, LiveError>
     requires { parts.controller.opening ≡ parts.injector.opening }
-    ensures run { IfOk result (IsNetRun R.was_full R.was_empty
-        (MayEnd F.seen G.barred by.now.stop.now by.now.gate.now) net.now.opening parts.nodes.items (desk_of parts)
+    ensures run { IfOk result (IsNetRun R.was_full R.was_empty R.looked
+        (MayEnd F.was_set G.barred by.now.stop.now by.now.gate.now) net.now.opening parts.nodes.items (desk_of parts)
         commands.now) }
     ensures closed { IfOk result (λ run. S.was_closed by.now.starter.now run.parts.injector) }
+    ensures set { OnOk result (F.was_set by.now.stop.now) }
     ensures stopped { IfErr result (λ error. IsStopped (S.unstarted by.now.starter.now) parts.nodes.items error) }
 {
     let alloc = net.alloc();
@@ -187,10 +196,11 @@ pub(crate) fn run_nodes<
         rt,
         move |scope| -> Result<LiveRun<B>, LiveError>
             requires { parts.controller.opening ≡ parts.injector.opening }
-            ensures run { IfOk result (IsNetRun R.was_full R.was_empty
-                (MayEnd F.seen G.barred by.entry.now.stop.now by.entry.now.gate.now) net.entry.now.opening
+            ensures run { IfOk result (IsNetRun R.was_full R.was_empty R.looked
+                (MayEnd F.was_set G.barred by.entry.now.stop.now by.entry.now.gate.now) net.entry.now.opening
                 parts.nodes.items (desk_of parts) commands.entry.now) }
             ensures closed { IfOk result (λ run. S.was_closed by.entry.now.starter.now run.parts.injector) }
+            ensures set { OnOk result (F.was_set by.entry.now.stop.now) }
             ensures stopped { IfErr result
                 (λ error. IsStopped (S.unstarted by.entry.now.starter.now) parts.nodes.items error) }
         {

@@ -29,7 +29,7 @@ use Rattle.ir_core.specs.Meaning.{IsMade, ComesTo, InstallsUnless, unless, insta
 use Rattle.ir_core.specs.World.{World, IsWorld, sight_in}
 use Rattle.ir_core.specs.Shows.{Shows, AnswersAfter, IsAnswered, reply_to}
 use Rattle.ir_core.proofs.Accepted.{same_entry, not_accepted}
-use Rattle.ir_core.specs.Installed.{IsTaken, IsControlled, IsControlRun, IsBuiltFrom, AreBuiltFrom, AreInstallsOf, ControlsOn, IsPlainChange}
+use Rattle.ir_core.specs.Installed.{IsTaken, IsControlled, IsControlRun, IsBuiltFrom, AreBuiltFrom, AreInstallsWithPlans, ControlsOn, IsPlainChange}
 
 built_push : (o : Setting) (installs : List Install) (plans : List Plan) (i : Install) (t : Plan) → AreBuiltFrom o installs plans → IsBuiltFrom o i t → AreBuiltFrom o (installs ++ i ∷ []) (plans ++ t ∷ [])
 built_push o [] [] i t b is = (is, tt)
@@ -174,10 +174,12 @@ control_more opening steps s world new installs more so on =
       built = subst (λ (o : Setting). AreBuiltFrom o more (history.plans o next.0)) back next.3;
     }
 
-pub control_all : (opening : Opening) (steps all : List Step) (world : World) (installs : List Install) → steps ≡ all → ControlSo opening steps world installs →
-    AreInstallsOf opening all installs
-control_all opening steps all world installs same so =
-    record { setting = world.opening; opened = so.opened; log = so.log; run = subst (λ (xs : List Step). IsControlRun world.opening [] xs so.log) same so.run; built = so.built }
+pub control_all : (opening : Opening) (steps all : List Step) (world : World) (installs : List Install) (plans : List Plan) → steps ≡ all → ControlSo opening steps world installs →
+    plans ≡ world.plans → AreInstallsWithPlans opening all installs plans
+control_all opening steps all world installs plans same so are = record {
+  installs_are = record { setting = world.opening; opened = so.opened; log = so.log; run = subst (λ (xs : List Step). IsControlRun world.opening [] xs so.log) same so.run; built = so.built };
+  plans_are = are ∙ so.shows.plans;
+}
 
 -- what holds of all installs holds of these
 pub of_installs : {X E : Type 0} (r : Result X E) (Q : List Install → Type 0) → IfOk r (λ _. (installs : List Install) → Q installs) → (installs : List Install) → IfOk r (λ _. Q installs)

@@ -1,14 +1,16 @@
-use Rattle.std.proofs.Common.{◌≡◌, ℕ, ◌-◌, ◌<◌, List, [], ◌∷◌, ◌++◌, slice_get, Some, refl, sym, ap, ◌∙◌, subst, arith, inl, inr}
+use Rattle.std.proofs.Common.{◌≡◌, ℕ, ◌-◌, ◌*◌, ◌<◌, List, [], ◌∷◌, ◌++◌, slice_get, Some, refl, sym, ap, ◌∙◌, subst, arith, inl, inr}
 use Rattle.std.specs.Prelude.{Result, Ok, Err, IfErr, reverse, length, slice_index_or, ◌≤◌}
 use Rattle.std.proofs.lemmas.Option.{slice_get_within, slice_get-get_or}
 use Rattle.ir_model.specs.declared.Kind.{Kind}
-use Rattle.ir_model.specs.declared.Kind.TheVariants.{Tree, Shortest, Compact}
+use Rattle.ir_model.specs.declared.Kind.TheVariants.{Tree, Shortest, Compact, Landmark}
 use Rattle.ir_model.specs.Topology.{node_count}
 use Rattle.ir_model.specs.Walk.{walk_weight, IsDistance}
 use Rattle.ir_model.specs.Table.{IsPrescribedWalk, IsNearerTable, IsShortestTable}
 use Rattle.ir_model.specs.Compact.{IsCompactTable}
 use Rattle.ir_model.specs.Plan.{Plan, table_port, IsPlan, IsTableOf}
+use Rattle.ir_model.proofs.Reach.{connected_distances}
 use Rattle.ir_model.proofs.Tables.{prescribed_nearer, shortest_is_nearer}
+use Rattle.ir_plan.proofs.LandmarkPlans.{landmark_weight}
 use Rattle.ir_core.specs.declared.event.Event.{Event}
 use Rattle.ir_core.specs.declared.event.Reply.{Reply}
 use Rattle.ir_core.specs.declared.event.Refused.{Refused}
@@ -74,7 +76,8 @@ nearer_weighs t is table r s_in d_in walk w h =
     let d = (prescribed_nearer t.topology is.topology (table_port t) table r.source r.dest s_in d_in walk w).1 in
     subst (λ (x : List ℕ). IsDistance t.topology r.source r.dest (walk_weight t.topology x)) (sym h) d
 
--- with a kind of shortest ways the whole walk weighs the distance
+-- with a kind of shortest ways the whole walk weighs the distance, and with one of landmarks no more than the stretch
+-- allows
 weighs : (k : Kind) (t : Plan) → k ≡ t.kind → IsPlan t → (r : Record) → r.source < node_count t.topology → r.dest < node_count t.topology →
     (walk : List ℕ) → IsPrescribedWalk t.topology (table_port t) r.source r.dest walk → r.hops ≡ walk → WeighsTheDistance k t r
 weighs Tree t e is r s_in d_in walk w h = tt
@@ -84,6 +87,10 @@ weighs Shortest t e is r s_in d_in walk w h =
 weighs Compact t e is r s_in d_in walk w h =
     let table : IsCompactTable t.topology t.order (table_port t) = subst (λ (k : Kind). IsTableOf k t.topology t.order is.parents (table_port t)) (sym e) is.table in
     nearer_weighs t is table.nearer r s_in d_in walk w h
+weighs (Landmark detour) t e is r s_in d_in walk w h =
+    let far = connected_distances t.topology is.topology is.connected r.source r.dest s_in d_in in
+    let weight = landmark_weight t is detour (sym e) r.source r.dest far.0 far.1 walk w in
+    (far.0, far.1, subst (λ (x : List ℕ). 100 * walk_weight t.topology x ≤ detour.stretch * far.0) (sym h) weight)
 
 -- a record that is right, and the walk that its plan prescribes
 module _ (o : Setting) (t : Plan) (plan : IsPlanFor o t) (r : Record) (s_in : r.source < nodes_of o) (d_in : r.dest < nodes_of o) (begins : slice_get r.hops 0 ≡ Some r.source) (follows : IsBeginning t r.dest r.hops)

@@ -4,7 +4,7 @@ use Rattle.std.proofs.lemmas.Option.{same_Some, none-some}
 use Rattle.std.proofs.lemmas.Bool.{cases_eq}
 use Rattle.ir_model.specs.declared.Hop.{Hop}
 use Rattle.ir_model.specs.declared.Kind.{Kind}
-use Rattle.ir_model.specs.declared.Kind.TheVariants.{Tree, Shortest, Compact}
+use Rattle.ir_model.specs.declared.Kind.TheVariants.{Tree, Shortest, Compact, Landmark}
 use Rattle.ir_model.specs.Topology.{Topology, node_count, port_at}
 use Rattle.ir_model.specs.Table.{next_node, Continues, IsPrescribedWalk}
 use Rattle.ir_model.specs.Plan.{Plan, next_hop, table_port, IsPlan, IsTableOf}
@@ -54,6 +54,7 @@ own_of : (k : Kind) (net : Topology) (order parents : List ℕ) (table : ℕ →
 own_of Tree net order parents table is d d_in = is.own d d_in
 own_of Shortest net order parents table is d d_in = is.own d d_in
 own_of Compact net order parents table is d d_in = is.nearer.own d d_in
+own_of (Landmark t) net order parents table is d d_in = is.2.keeps.own d d_in
 
 pub no_port_at_home : (t : Plan) → IsPlan t → (d : ℕ) → d < node_count t.topology → table_port t d d ≡ None
 no_port_at_home t is d d_in = own_of t.kind t.topology t.order is.parents (table_port t) is.table d d_in

@@ -68,6 +68,11 @@ pub record AreInstallsOf (opening : Opening) (steps : List Step) (installs : Lis
   pub run : IsControlRun setting [] steps log
   pub built : AreBuiltFrom setting installs (history.plans setting log)
 
+-- The installs of a list of steps, and beside them the plans of its epochs: each plan is built from its install.
+pub record AreInstallsWithPlans (opening : Opening) (steps : List Step) (installs : List Install) (plans : List Plan) : Type 0 where
+  pub installs_are : AreInstallsOf opening steps installs
+  pub plans_are : plans ≡ history.plans installs_are.setting installs_are.log
+
 -- no reply to a step is want of memory
 abbrev pub NoneWantsMemory : List (Result Reply Refused) → Type 0
 NoneWantsMemory replies = All (λ reply. reply ≢ Err NoMemory) replies

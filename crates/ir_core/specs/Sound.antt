@@ -1,11 +1,11 @@
 -- What makes a packet's record sound: each of its segments follows the walk that the full table of its one epoch
 -- prescribes.
-use Rattle.std.specs.Prelude.{◌≡◌, ℕ, ◌-◌, ◌<◌, ◌≤◌, List, [], ◌∷◌, ◌++◌, length, reverse, Some, slice_get}
+use Rattle.std.specs.Prelude.{◌≡◌, ℕ, ◌-◌, ◌*◌, ◌<◌, ◌≤◌, List, [], ◌∷◌, ◌++◌, length, reverse, Some, slice_get}
 use Rattle.std.specs.List.{AllByRecursion}
 use mathlib.Core.List.{IsPrefix}
 use Rattle.ir_model.specs.declared.Hop.{Hop}
 use Rattle.ir_model.specs.declared.Kind.{Kind}
-use Rattle.ir_model.specs.declared.Kind.TheVariants.{Tree, Shortest, Compact}
+use Rattle.ir_model.specs.declared.Kind.TheVariants.{Tree, Shortest, Compact, Landmark}
 use Rattle.ir_model.specs.Walk.{walk_weight, IsDistance}
 use Rattle.ir_model.specs.Table.{IsPrescribedWalk}
 use Rattle.ir_model.specs.Plan.{Plan, next_hop, table_port, IsPlan}
@@ -30,11 +30,14 @@ LeadsOn plan r link node = (h : Hop) × (next_hop plan (last_of r.hops) r.dest �
 abbrev pub GoesOnAlong : Plan → Record → List ℕ → ℕ → ℕ → Type 0
 GoesOnAlong plan r walk link node = IsPrefix (r.hops ++ node ∷ []) walk × LeadsOn plan r link node
 
--- with a kind of shortest ways, the hops weigh the distance from the source to the destination
+-- with a kind of shortest ways, the hops weigh the distance from the source to the destination; with one of landmarks,
+-- at most so many percent of it as the stretch allows
 abbrev pub WeighsTheDistance : Kind → Plan → Record → Type 0
 WeighsTheDistance Shortest plan r = IsDistance plan.topology r.source r.dest (walk_weight plan.topology r.hops)
 WeighsTheDistance Compact plan r = IsDistance plan.topology r.source r.dest (walk_weight plan.topology r.hops)
 WeighsTheDistance Tree plan r = Unit {0}
+WeighsTheDistance (Landmark t) plan r =
+    (n : ℕ) × IsDistance plan.topology r.source r.dest n × (100 * walk_weight plan.topology r.hops ≤ t.stretch * n)
 
 -- what a fate says of the hops and of the prescribed walk
 abbrev pub FateFits : Plan → Record → List ℕ → Fate → Type 0

@@ -4,13 +4,13 @@ ghost use Rattle.ir_core.specs.declared.event.Step.TheVariants as step;
 ghost use Rattle.ir_core.specs.{declared.event.Refused.TheVariants.NoMemory, declared.built.Install.Install};
 ghost use Rattle.ir_core.specs.{Meaning.IsMade, History.plans, Shows.Shows};
 ghost use Rattle.ir_core.specs.Opened.{IsOpenedWith, IsOpenRefusal, open_refused};
-ghost use Rattle.ir_core.specs.Installed.{AreInstallsOf, AreBuiltFrom, ControlsOn, IsPlainChange, install_of};
+ghost use Rattle.ir_core.specs.Installed.{AreInstallsOf, AreInstallsWithPlans, AreBuiltFrom, ControlsOn, IsPlainChange, install_of};
 
 use crate::event::{Event, OpenError, Refused, Reply, Step};
 use crate::opening::{Opening, open_refusal};
 use crate::world::World;
 use ir_model::Kind;
-use ir_plan::{Alone, Crew, LabelOrder};
+use ir_plan::{Alone, Crew, LabelOrder, Plan};
 use std::alloc::Global;
 
 /// What an epoch's plan was built from: the order in which it is labelled, its kind and root, and for each link of the
@@ -62,6 +62,22 @@ pub fn installs_by(
     ensures accepted { IfOk result (λ _. open_refused opening.now ≡ None) }
     ensures refused { IfErr result (λ e. IsOpenRefusal opening.now e) }
 {
+    let (built, _) = installs_with_plans_by(crew, alloc, opening, steps)?;
+    Ok(built)
+}
+
+/// What `installs_by` gives, and beside it the plans of the epochs, of which each was built from the
+/// install at its place. Refused, and takes as long, as that is.
+pub fn installs_with_plans_by(
+    crew: &impl Crew,
+    alloc: Global,
+    opening: &Opening,
+    steps: &[Step],
+) -> Result<(Vec<Install>, Vec<Plan>), OpenError>
+    ensures built { IfOk result (λ v. AreInstallsWithPlans opening.now steps.now v.0.items v.1.items) }
+    ensures accepted { IfOk result (λ _. open_refused opening.now ≡ None) }
+    ensures refused { IfErr result (λ e. IsOpenRefusal opening.now e) }
+{
     if let Some(error) = open_refusal(opening) {
         return Err(error);
     }
@@ -72,7 +88,7 @@ pub fn installs_by(
             return Err(OpenError::NoMemory);
         };
     }
-    Ok(built)
+    Ok((built, world.into_plans()))
 }
 
 /// The world of the empty history.

@@ -21,7 +21,7 @@ mod verdict;
 mod world;
 
 pub use board::{Board, KeptBoard};
-pub use built::{Install, installs, installs_by};
+pub use built::{Install, installs, installs_by, installs_with_plans_by};
 pub use command::Command;
 pub use event::{Action, Event, OpenError, Refused, Reply, Ruling, Step, Verdict, Way};
 pub use ir_model::{Hop, Kind};

@@ -7,7 +7,7 @@ ghost use Rattle.ir_core.specs.declared.TheConstants.{MAX_LINKS};
 use crate::MAX_LINKS;
 use crate::board::Board;
 use ir_model::Kind;
-use ir_plan::{Crew, LabelOrder, Labels, Plan, PlanError};
+use ir_plan::{Alone, Crew, LabelOrder, Labels, Plan, PlanError};
 use ir_tables::Topology;
 use std::alloc::Global;
 
@@ -22,8 +22,8 @@ pub struct Draft {
     pub root: u16,
 }
 
-/// The plan over a topology that is wanted. Over more than 256 nodes the crew makes it in as many
-/// threads as suit the processors. Refused, and takes as long, as `Plan::build_by`.
+/// The plan over a topology that is wanted. Over more than 256 nodes the crew makes it, else the
+/// thread that calls. Refused, and takes as long, as `Plan::build_by`.
 pub fn plan_over_by(
     crew: &impl Crew,
     alloc: Global,
@@ -33,13 +33,25 @@ pub fn plan_over_by(
     ensures made { IfOk result (IsPlanBy topology draft.kind (FromRoot draft.labels draft.root)) }
     ensures refused { IfErr result (RefusesPlan topology (FromRoot draft.labels draft.root)) }
 {
-    let most = if topology.nodes() > MOST_NODES_ON_ONE_THREAD {
-        None
+    if topology.nodes() > MOST_NODES_ON_ONE_THREAD {
+        made_by(crew, alloc, topology, draft)
     } else {
-        Some(1)
-    };
+        made_by(&Alone, alloc, topology, draft)
+    }
+}
+
+// The same, whatever its nodes, made by the crew.
+fn made_by(
+    crew: &impl Crew,
+    alloc: Global,
+    topology: Topology,
+    draft: Draft,
+) -> Result<Plan, PlanError>
+    ensures made { IfOk result (IsPlanBy topology draft.kind (FromRoot draft.labels draft.root)) }
+    ensures refused { IfErr result (RefusesPlan topology (FromRoot draft.labels draft.root)) }
+{
     let labels = Labels::FromRoot(draft.labels, draft.root);
-    match Plan::build_by(crew, alloc, topology, draft.kind, labels, most) {
+    match Plan::build_by(crew, alloc, topology, draft.kind, labels) {
         Ok(plan) => Ok(plan),
         Err((error, _)) => Err(error),
     }

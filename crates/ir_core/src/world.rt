@@ -184,11 +184,18 @@ impl World {
     fn learn(&mut self, epoch: u32) -> Result<Reply, Refused>
         ensures { IsAnswer self.old self.new (learns (sight_in self.old) epoch) result }
     {
-        if epoch == 0 || self.newest().current() < epoch {
+        if epoch == 0 || self.current() < epoch {
             return Err(Refused::NoEpoch);
         }
         self.learnt = self.learnt.max(epoch);
         Ok(Reply::Learnt)
+    }
+
+    /// The newest epoch.
+    fn current(&self) -> u32
+        ensures { result ≡ (newest (sight_in self.now)).current }
+    {
+        self.boards[self.boards.len() - 1].current()
     }
 
     fn newest(&self) -> Board
@@ -556,6 +563,14 @@ impl World {
     {
         let records = self.records;
         records
+    }
+
+    /// The plans of all epochs, the first epoch first.
+    pub(crate) fn into_plans(self) -> Vec<Plan>
+        ensures { result.items ≡ self.plans }
+    {
+        let plans = self.plans;
+        plans
     }
 
     /// Says what is true of every world: each record is sound.

@@ -2,6 +2,7 @@
 pub mod Codes
 pub mod Entries
 pub mod Handles
+pub mod Looks
 pub mod Over
 pub mod Seats
 pub mod Stamps

@@ -1,5 +1,5 @@
 //! The board: one thread changes it, and readers read it with no lock and no wait.
-ghost use Rattle.std.specs.Prelude.{◌≡◌, ◌+◌, ◌<◌, ◌≤◌, [], ◌∷◌, ◌++◌, ◌⊎◌, length, drop, option_map, Some, None, IsTrue, ◌↔◌, IfOk, IsOk, IfSome, MatchOption, if◌then◌else◌};
+ghost use Rattle.std.specs.Prelude.{◌≡◌, ◌+◌, ◌<◌, ◌≤◌, [], ◌∷◌, ◌++◌, ◌⊎◌, length, drop, option_map, Some, None, IsTrue, ◌↔◌, IfOk, IsOk, IfSome, IsSome, MatchOption, if◌then◌else◌};
 ghost use Rattle.std.specs.Option.{ForSome};
 ghost use mathlib.Core.List.{IsPrefix};
 ghost use Rattle.left_right.specs.Sides.{view};
@@ -9,6 +9,7 @@ ghost use Rattle.ir_epochs.specs.Seats.{IsNoted};
 
 use crate::chronicle::{Chronicle, Front};
 use crate::entry::{Change, Entry};
+use crate::looks::Looks;
 use crate::published::Published;
 use crate::registry::Stamp;
 use crate::seats::{Desk, Learn, See, Sitting, Tell};
@@ -118,7 +119,7 @@ fn note(newest: &mut Published, other: &Published)
 }
 
 // Takes the value that was published last into the newest that is known, unless the writer is gone.
-fn enter(reader: Sitting, newest: &mut Published) -> Sitting
+pub(crate) fn enter(reader: Sitting, newest: &mut Published) -> Sitting
     requires same_board { option_map (λ s. s.book) (view reader.place).known ≡ Some newest.old.front.book }
     requires noted { IsNoted (view reader.place) newest.old }
     ensures same_board { option_map (λ s. s.book) (view result.place).known ≡ Some newest.new.front.book }
@@ -146,6 +147,7 @@ pub struct BoardWriter<R: Wait + Drop> {
     rt: R,
     ghost settled: { drop writer.behind writer.log.items ≡ [] },
     ghost same_board: { writer.desk.shown.value.front.book ≡ chronicle.head.book },
+    ghost next: { chronicle.pen.nib.key ≡ length writer.desk.shown.value.front.log },
     ghost knows: { (view writer.desk.place).known ≡ Some writer.desk.shown.value.front },
 }
 
@@ -164,6 +166,7 @@ pub struct Receipt {
 pub struct BoardReader {
     reader: Option<Sitting>,
     newest: Published,
+    ghost seated: { IsSome reader },
     ghost same_board: { ForSome reader
         (λ r. option_map (λ s. s.book) (view r.place).known ≡ Some newest.front.book) },
     ghost noted: { ForSome reader (λ r. IsNoted (view r.place) newest) },
@@ -201,7 +204,7 @@ impl<R: Wait + Drop> BoardWriter<R> {
         requires few { links ≤ MAX_LINKS }
         ensures { IfOk result (λ w. published w ≡ Opened links opening.now ∷ []) }
     {
-        let (chronicle, front) = Chronicle::open(Entry::Opened(links, opening.again()));
+        let (chronicle, front) = Chronicle::open(&rt, Entry::Opened(links, opening.again()));
         let first = Published {
             board: Board::opening(),
             stamp: opening.again(),
@@ -273,19 +276,16 @@ impl<R: Wait + Drop> BoardWriter<R> {
         &self.writer.published().front
     }
 
-    /// Whether all that a reader of this board knows was published. That it was, since the writer alone changes the
-    /// board, is shown by test.
-    pub fn leads(&self, reader: &BoardReader) -> bool
-        requires { reader_board reader.now ≡ writer_board self.now }
-        ensures { IsTrue result ↔ IsPrefix (known reader.now) (published self.now) }
+    /// Sees that all that a reader of this board knows was published, and nothing else comes of it: who has the pen of
+    /// the next entry, as the writer does, knows that no list is longer than what it published.
+    pub fn leads(&mut self, reader: &BoardReader)
+        requires { reader_board reader.now ≡ writer_board self.old }
+        ensures led { IsPrefix (known reader.now) (published self.old) }
+        ensures same { (published self.new ≡ published self.old) × (writer_board self.new ≡ writer_board self.old) }
     {
         let mut both = self.published().again();
         both.learn(reader.known());
-        let now = self.writer.published();
-        if reader.newest.board.version() <= now.board.version() {
-            return true;
-        }
-        false
+        self.chronicle.bound(&mut both);
     }
 
     // A reader that knows the board as it is. Returns `Err` where each place is in use.
@@ -368,8 +368,7 @@ impl BoardReader {
 
     /// The board as it is, or the newest that it knows where the writer is gone. It waits for nobody.
     ///
-    /// The board is that of the list of entries that it knows, which never gets shorter. That it enters the board at
-    /// all is shown by test.
+    /// The board is that of the list of entries that it knows, which never gets shorter.
     pub fn read(&mut self) -> Board
         ensures board { result ≡ board_of (known self.new) }
         ensures version { result.version + 1 ≡ length (known self.new) }
@@ -379,21 +378,23 @@ impl BoardReader {
         ensures opening { IsSameOpening (known self.old) (known self.new) }
         ensures same { reader_board self.new ≡ reader_board self.old }
     {
-        self.look();
+        self.look(&(), &());
         *self.board()
     }
 
-    /// As `read`, without a copy of the board: `board` has it.
-    pub fn look(&mut self)
+    /// As `read`, without a copy of the board: `board` has it. The runtime's word says that its caller looked with this
+    /// in hand.
+    pub fn look<X, R: Looks<X>>(&mut self, rt: &R, in_hand: &X)
+        ensures looked { R.looked in_hand.now (reader_board self.old) (known self.old) (known self.new) }
         ensures later { IsPrefix (known self.old) (known self.new) }
         ensures rises { Rises (board_of (known self.old)) (board_of (known self.new)) }
         ensures opening { IsSameOpening (known self.old) (known self.new) }
         ensures same { reader_board self.new ≡ reader_board self.old }
     {
         let Some(reader) = self.reader.take() else {
-            return;
+            unreachable!()
         };
-        self.reader = Some(enter(reader, &mut self.newest));
+        self.reader = Some(rt.enter(in_hand, reader, &mut self.newest));
     }
 
     /// The newest board that it has read or learnt.

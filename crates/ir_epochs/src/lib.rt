@@ -12,6 +12,9 @@
 //! - enter and learn, by a reader;
 //! - the making of the seats.
 //!
+//! A look has a word that the runtime's call alone gives (`Looks`), as a refused push has one of `Moments`: so no
+//! reader stays with what it knows and does not look.
+//!
 //! No clause says that a call returns, or that a `read` finds the writer's last change.
 #![tactic(auto)]
 
@@ -20,6 +23,7 @@ mod entry;
 mod error;
 mod handles;
 mod known;
+mod looks;
 mod one_list;
 mod opening;
 mod published;
@@ -30,6 +34,7 @@ mod tag;
 pub use entry::{Change, Entry};
 pub use error::{BoardError, RegisterError};
 pub use handles::{BoardReader, BoardWriter, Receipt};
+pub use looks::Looks;
 pub use one_list::{Follows, know_one_list};
 pub use opening::board;
 pub use registry::{Registry, Stamp};

@@ -4,8 +4,9 @@ use Rattle.std.proofs.lemmas.Bool.{and_from, lt-ltb}
 use Rattle.std.proofs.lemmas.List.Folds.{find_at}
 use Rattle.std.proofs.lemmas.Option.{slice_get_within}
 use Rattle.std.specs.List.{list_all, prefix_len, position_or_len}
+use Rattle.ir_model.specs.declared.Detour.{Detour}
 use Rattle.ir_model.specs.declared.Hop.{Hop}
-use Rattle.ir_model.specs.declared.Kind.TheVariants.{Tree, Shortest, Compact}
+use Rattle.ir_model.specs.declared.Kind.TheVariants.{Tree, Shortest, Compact, Landmark}
 use Rattle.ir_model.specs.Graph.{Name}
 use Rattle.ir_model.specs.Text.{content, words, is_plain}
 use Rattle.ir_model.specs.Topology.{Topology, IsTopology, node_count, ports_of}
@@ -28,7 +29,7 @@ place_within p nodes u e = by (nat_lt (prefix_len (λ y. not (p y)) nodes) (leng
     by true h k = let same : prefix_len (λ y. not (p y)) nodes ≡ u = cc k in ap (λ n. nat_lt n (length nodes)) (sym same) ∙ h
     by false h k = absurd (cc k)
 
-module _ (nodes : List Name) (net : Topology) (is_net : IsTopology net) (count : length nodes ≡ node_count net) where
+module _ (detour : Detour) (nodes : List Name) (net : Topology) (is_net : IsTopology net) (count : length nodes ≡ node_count net) where
   node_within : (word : Name) (u : ℕ) → node_of nodes word ≡ Ok u → is_node_of net u ≡ true
   node_within word u e = by (position (bytes_eq word) nodes) refl e
     where
@@ -80,7 +81,7 @@ module _ (nodes : List Name) (net : Topology) (is_net : IsTopology net) (count :
       (either_within (bytes_eq word (codes "learn")) _ _ (of_one_within (λ e. Learn e) (number_of a) (λ n h. refl))
       (either_within (bytes_eq word (codes "retire")) _ _ (of_one_within (λ f. Retire f) (number_of a) (λ n h. refl)) tt))
 
-  two_within : (word a b : Name) → EventWithin (event_of_two nodes net word a b)
+  two_within : (word a b : Name) → EventWithin (event_of_two detour nodes net word a b)
   two_within word a b =
       either_within (bytes_eq word (codes "inject")) _ _ (of_two_within (λ u v. Inject u v) (node_of nodes a) (node_of nodes b) (λ u v hu hv. and_from _ _ (node_within a u hu) (node_within b v hv)))
       (either_within (bytes_eq word (codes "down")) _ _ (of_one_within (λ l. Down l) (named_link nodes net a b) (link_within a b))
@@ -89,7 +90,8 @@ module _ (nodes : List Name) (net : Topology) (is_net : IsTopology net) (count :
       (either_within (bytes_eq word (codes "take") && bytes_eq b (codes "inbox")) _ _ (of_one_within (λ u. Take u Inbox) (node_of nodes a) (λ u hu. and_from _ _ (node_within a u hu) refl))
       (either_within (bytes_eq word (codes "install") && bytes_eq a (codes "tree")) _ _ (of_one_within (λ r. Install Tree r) (node_of nodes b) (node_within b))
       (either_within (bytes_eq word (codes "install") && bytes_eq a (codes "shortest")) _ _ (of_one_within (λ r. Install Shortest r) (node_of nodes b) (node_within b))
-      (either_within (bytes_eq word (codes "install") && bytes_eq a (codes "compact")) _ _ (of_one_within (λ r. Install Compact r) (node_of nodes b) (node_within b)) tt)))))))
+      (either_within (bytes_eq word (codes "install") && bytes_eq a (codes "compact")) _ _ (of_one_within (λ r. Install Compact r) (node_of nodes b) (node_within b))
+      (either_within (bytes_eq word (codes "install") && bytes_eq a (codes "landmark")) _ _ (of_one_within (λ r. Install (Landmark detour) r) (node_of nodes b) (node_within b)) tt))))))))
 
   three_within : (word a b c : Name) → EventWithin (event_of_three nodes net word a b c)
   three_within word a b c =
@@ -110,16 +112,16 @@ module _ (nodes : List Name) (net : Topology) (is_net : IsTopology net) (count :
   choice_within true a b ha hb = ha
   choice_within false a b ha hb = hb
 
-  words_within : (ws : List Name) → StepWithin (step_of nodes net ws)
+  words_within : (ws : List Name) → StepWithin (step_of detour nodes net ws)
   words_within [] = tt
   words_within (w ∷ []) = choice_within (bytes_eq w (codes "drain")) (Ok (Some step.Drain)) (Err BadCommand) refl tt
   words_within (w ∷ a ∷ []) = as_step_within (event_of_one nodes w a) (one_within w a)
-  words_within (w ∷ a ∷ b ∷ []) = as_step_within (event_of_two nodes net w a b) (two_within w a b)
+  words_within (w ∷ a ∷ b ∷ []) = as_step_within (event_of_two detour nodes net w a b) (two_within w a b)
   words_within (w ∷ a ∷ b ∷ c ∷ []) = as_step_within (event_of_three nodes net w a b c) (three_within w a b c)
   words_within (w ∷ a ∷ b ∷ c ∷ d ∷ more) = tt
 
-  line_within : (line : List ℕ) → StepWithin (line_step nodes net line)
-  line_within line = choice_within (not (list_all is_plain (content line))) (Err BadByte) (step_of nodes net (words line)) tt (words_within (words line))
+  line_within : (line : List ℕ) → StepWithin (line_step detour nodes net line)
+  line_within line = choice_within (not (list_all is_plain (content line))) (Err BadByte) (step_of detour nodes net (words line)) tt (words_within (words line))
 
   abbrev ListingWithin : Result (Listing Step) (ℕ × ScriptFault) → Type 0
   ListingWithin (Ok listing) = list_all (is_step_within net) listing.steps ≡ true
@@ -131,10 +133,10 @@ module _ (nodes : List Name) (net : Topology) (is_net : IsTopology net) (count :
   front_within number (Ok (Some s)) (Err e) hs hl = tt
   front_within number (Ok (Some s)) (Ok later) hs hl = and_from _ _ hs hl
 
-  from_within : (number : ℕ) (ls : List (List ℕ)) → ListingWithin (listing_from line_step nodes net number ls)
+  from_within : (number : ℕ) (ls : List (List ℕ)) → ListingWithin (listing_from (line_step detour) nodes net number ls)
   from_within number [] = refl
-  from_within number (l ∷ ls) = front_within number (line_step nodes net l) (listing_from line_step nodes net (number + 1) ls) (line_within l) (from_within (number + 1) ls)
+  from_within number (l ∷ ls) = front_within number (line_step detour nodes net l) (listing_from (line_step detour) nodes net (number + 1) ls) (line_within l) (from_within (number + 1) ls)
 
   -- the steps of a script name nodes and links of the network
-  pub steps_within : (ls : List (List ℕ)) (listing : Listing Step) → listing_of nodes net ls ≡ Ok listing → list_all (is_step_within net) listing.steps ≡ true
+  pub steps_within : (ls : List (List ℕ)) (listing : Listing Step) → listing_of detour nodes net ls ≡ Ok listing → list_all (is_step_within net) listing.steps ≡ true
   steps_within ls listing e = let P : Result (Listing Step) (ℕ × ScriptFault) → Type 0 = λ r. ListingWithin r in subst P e (from_within 1 ls)

@@ -1,8 +1,9 @@
 -- What one line of a script says.
 use Rattle.std.specs.Prelude.{ℕ, not, ◌&&◌, ◌||◌, ◌==◌, Bool, if◌then◌else◌, List, [], ◌∷◌, length, nat_le, Option, Some, None, Result, Ok, Err, bytes_eq, codes, find, position}
 use Rattle.std.specs.List.{list_all}
+use Rattle.ir_model.specs.declared.Detour.{Detour}
 use Rattle.ir_model.specs.declared.Hop.{Hop}
-use Rattle.ir_model.specs.declared.Kind.TheVariants.{Tree, Shortest, Compact}
+use Rattle.ir_model.specs.declared.Kind.TheVariants.{Tree, Shortest, Compact, Landmark}
 use Rattle.ir_model.specs.Graph.{Name}
 use Rattle.ir_model.specs.Text.{content, words, is_plain, is_empty}
 use Rattle.ir_model.specs.Edgelist.{is_digit, value_of}
@@ -79,9 +80,10 @@ event_of_one nodes command first =
     else if bytes_eq command (codes "retire") then of_one (λ f. Retire f) (number_of first)
     else Err BadCommand
 
--- `inject A B`, `down A B`, `up A B`, `read N K`, `take N inbox`, `install tree R`, `install shortest R`, `install compact R`
-abbrev pub event_of_two : List Name → Topology → Name → Name → Name → Result Event ScriptFault
-event_of_two nodes net command first second =
+-- `inject A B`, `down A B`, `up A B`, `read N K`, `take N inbox`, `install tree R`, `install shortest R`, `install compact R`,
+-- `install landmark R`, whose ways go round so far
+abbrev pub event_of_two : Detour → List Name → Topology → Name → Name → Name → Result Event ScriptFault
+event_of_two detour nodes net command first second =
     if bytes_eq command (codes "inject") then of_two (λ u v. Inject u v) (node_of nodes first) (node_of nodes second)
     else if bytes_eq command (codes "down") then of_one (λ l. Down l) (named_link nodes net first second)
     else if bytes_eq command (codes "up") then of_one (λ l. Up l) (named_link nodes net first second)
@@ -90,6 +92,7 @@ event_of_two nodes net command first second =
     else if bytes_eq command (codes "install") && bytes_eq first (codes "tree") then of_one (λ r. Install Tree r) (node_of nodes second)
     else if bytes_eq command (codes "install") && bytes_eq first (codes "shortest") then of_one (λ r. Install Shortest r) (node_of nodes second)
     else if bytes_eq command (codes "install") && bytes_eq first (codes "compact") then of_one (λ r. Install Compact r) (node_of nodes second)
+    else if bytes_eq command (codes "install") && bytes_eq first (codes "landmark") then of_one (λ r. Install (Landmark detour) r) (node_of nodes second)
     else Err BadCommand
 
 -- `take N from M`
@@ -104,17 +107,17 @@ as_step (Err e) = Err e
 as_step (Ok event) = Ok (Some (step.Event event))
 
 -- the step that the words of a line name: none where there is no word, and `drain` where there is that one
-abbrev pub step_of : List Name → Topology → List Name → Result (Option Step) ScriptFault
-step_of nodes net [] = Ok None
-step_of nodes net (command ∷ []) = if bytes_eq command (codes "drain") then Ok (Some step.Drain) else Err BadCommand
-step_of nodes net (command ∷ first ∷ []) = as_step (event_of_one nodes command first)
-step_of nodes net (command ∷ first ∷ second ∷ []) = as_step (event_of_two nodes net command first second)
-step_of nodes net (command ∷ first ∷ second ∷ third ∷ []) = as_step (event_of_three nodes net command first second third)
-step_of nodes net (command ∷ first ∷ second ∷ third ∷ fourth ∷ more) = Err BadCommand
+abbrev pub step_of : Detour → List Name → Topology → List Name → Result (Option Step) ScriptFault
+step_of detour nodes net [] = Ok None
+step_of detour nodes net (command ∷ []) = if bytes_eq command (codes "drain") then Ok (Some step.Drain) else Err BadCommand
+step_of detour nodes net (command ∷ first ∷ []) = as_step (event_of_one nodes command first)
+step_of detour nodes net (command ∷ first ∷ second ∷ []) = as_step (event_of_two detour nodes net command first second)
+step_of detour nodes net (command ∷ first ∷ second ∷ third ∷ []) = as_step (event_of_three nodes net command first second third)
+step_of detour nodes net (command ∷ first ∷ second ∷ third ∷ fourth ∷ more) = Err BadCommand
 
 -- what a line says: its bytes are looked at first
-abbrev pub line_step : List Name → Topology → List ℕ → Result (Option Step) ScriptFault
-line_step nodes net line = if not (list_all is_plain (content line)) then Err BadByte else step_of nodes net (words line)
+abbrev pub line_step : Detour → List Name → Topology → List ℕ → Result (Option Step) ScriptFault
+line_step detour nodes net line = if not (list_all is_plain (content line)) then Err BadByte else step_of detour nodes net (words line)
 
 -- ---- the commands of a live run
 
@@ -148,10 +151,10 @@ as_command (Ok (Some s)) = some_command (command_of s)
 
 -- the command that the words of a line name: none where there is no word. A line of a simulation alone is no command,
 -- whatever follows its first word; each other line names what it names in a simulation.
-abbrev pub command_named : List Name → Topology → List Name → Result (Option Command) ScriptFault
-command_named nodes net [] = Ok None
-command_named nodes net (word ∷ more) = if is_of_simulation word then Err BadCommand else as_command (step_of nodes net (word ∷ more))
+abbrev pub command_named : Detour → List Name → Topology → List Name → Result (Option Command) ScriptFault
+command_named detour nodes net [] = Ok None
+command_named detour nodes net (word ∷ more) = if is_of_simulation word then Err BadCommand else as_command (step_of detour nodes net (word ∷ more))
 
 -- what a line of a live run's script says
-abbrev pub line_command : List Name → Topology → List ℕ → Result (Option Command) ScriptFault
-line_command nodes net line = if not (list_all is_plain (content line)) then Err BadByte else command_named nodes net (words line)
+abbrev pub line_command : Detour → List Name → Topology → List ℕ → Result (Option Command) ScriptFault
+line_command detour nodes net line = if not (list_all is_plain (content line)) then Err BadByte else command_named detour nodes net (words line)

@@ -1,6 +1,7 @@
 -- What a script says: its steps, each with the number of its line, or its first fault. In a simulation each line names a
 -- step, in a live run a command.
 use Rattle.std.specs.Prelude.{◌≡◌, ℕ, ◌+◌, List, [], ◌∷◌, ◌++◌, Option, Some, None, Result, Ok, Err}
+use Rattle.ir_model.specs.declared.Detour.{Detour}
 use Rattle.ir_model.specs.Graph.{Name}
 use Rattle.ir_model.specs.Topology.{Topology}
 use Rattle.ir_core.specs.declared.event.Step.{Step}
@@ -47,12 +48,12 @@ module _ {A : Type 0} where
   line_of (Some s) line = line ∷ []
 
 -- what a script of a simulation says of these nodes and the links between them; lines are counted from 1
-abbrev pub listing_of : List Name → Topology → List (List ℕ) → Result (Listing Step) (ℕ × ScriptFault)
-listing_of nodes net ls = listing_from line_step nodes net 1 ls
+abbrev pub listing_of : Detour → List Name → Topology → List (List ℕ) → Result (Listing Step) (ℕ × ScriptFault)
+listing_of detour nodes net ls = listing_from (line_step detour) nodes net 1 ls
 
 -- what a script of a live run says: its lines are of the commands alone
-abbrev pub live_listing_of : List Name → Topology → List (List ℕ) → Result (Listing Command) (ℕ × ScriptFault)
-live_listing_of nodes net ls = listing_from line_command nodes net 1 ls
+abbrev pub live_listing_of : Detour → List Name → Topology → List (List ℕ) → Result (Listing Command) (ℕ × ScriptFault)
+live_listing_of detour nodes net ls = listing_from (line_command detour) nodes net 1 ls
 
 -- the error for a fault in a line
 abbrev pub told_script : ℕ → ScriptFault → ScriptError

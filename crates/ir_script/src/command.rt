@@ -8,6 +8,7 @@ use crate::word::{link_between, link_of, node_of, number_of};
 use ir_adjlist::scan;
 use ir_core::{Command, Event, Kind, Step, Way};
 use ir_graph::Graph;
+use ir_model::Detour;
 use ir_tables::Topology;
 
 /// Whether two words are the same.
@@ -37,12 +38,13 @@ fn event_of_one(graph: &Graph, command: &[u8], first: &[u8]) -> Result<Event, Sc
 fn event_of_two(
     graph: &Graph,
     topology: &Topology,
+    detour: Detour,
     command: &[u8],
     first: &[u8],
     second: &[u8],
 ) -> Result<Event, ScriptFault>
     requires { topology.now ≡ topology_of_graph graph.now }
-    ensures { result ≡ event_of_two (names graph.now) topology.now command.now first.now second.now }
+    ensures { result ≡ event_of_two detour (names graph.now) topology.now command.now first.now second.now }
 {
     if is_word(command, b"inject") {
         return Ok(Event::Inject(node_of(graph, first)?, node_of(graph, second)?));
@@ -68,6 +70,9 @@ fn event_of_two(
     if is_word(command, b"install") && is_word(first, b"compact") {
         return Ok(Event::Install(Kind::Compact, node_of(graph, second)?));
     }
+    if is_word(command, b"install") && is_word(first, b"landmark") {
+        return Ok(Event::Install(Kind::Landmark(detour), node_of(graph, second)?));
+    }
     Err(ScriptFault::BadCommand)
 }
 
@@ -91,14 +96,15 @@ fn event_of_three(
     Err(ScriptFault::BadCommand)
 }
 
-/// The step that the words of a line name; none where it has no word.
+/// The step that the words of a line name; none where it has no word. Landmark plans go round so far.
 pub fn step_of(
     graph: &Graph,
     topology: &Topology,
+    detour: Detour,
     words: &[u8],
 ) -> Result<Option<Step>, ScriptFault>
     requires { topology.now ≡ topology_of_graph graph.now }
-    ensures { result ≡ step_of (names graph.now) topology.now (words_of words.now) }
+    ensures { result ≡ step_of detour (names graph.now) topology.now (words_of words.now) }
 {
     let Some((command, rest)) = scan::next_word(words) else {
         return Ok(None);
@@ -113,7 +119,9 @@ pub fn step_of(
         return Ok(Some(Step::Event(event_of_one(graph, command, first)?)));
     };
     let Some((third, rest)) = scan::next_word(rest) else {
-        return Ok(Some(Step::Event(event_of_two(graph, topology, command, first, second)?)));
+        return Ok(Some(Step::Event(event_of_two(
+            graph, topology, detour, command, first, second,
+        )?)));
     };
     if scan::next_word(rest).is_some() {
         return Err(ScriptFault::BadCommand);

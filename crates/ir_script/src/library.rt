@@ -7,6 +7,7 @@ use crate::fault::ScriptError;
 use crate::script::{Script, parse};
 use ir_core::Command;
 use ir_graph::Graph;
+use ir_model::Detour;
 use ir_tables::Topology;
 use std::alloc::Global;
 
@@ -40,12 +41,13 @@ pub fn parse_live(
     text: &[u8],
     graph: &Graph,
     topology: &Topology,
+    detour: Detour,
 ) -> Result<Script<Command>, ScriptError>
     requires { topology.now ≡ topology_of_graph graph.now }
-    ensures parsed { IfOk result (λ s. live_listing_of (names graph.now) topology.now (lines text.now)
+    ensures parsed { IfOk result (λ s. live_listing_of detour (names graph.now) topology.now (lines text.now)
         ≡ Ok (record { steps = s.steps.items; lines = s.lines.items })) }
     ensures fault { IfErr result (λ e. ScriptTold e
-        (live_listing_of (names graph.now) topology.now (lines text.now))) }
+        (live_listing_of detour (names graph.now) topology.now (lines text.now))) }
 {
-    parse(alloc, text, graph, topology)
+    parse(alloc, text, graph, topology, detour)
 }

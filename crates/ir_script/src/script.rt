@@ -1,6 +1,6 @@
 //! Scripts, line by line.
 ghost use Rattle.std.specs.{Prelude.{◌≡◌, ℕ, List, Option, Result, Ok, true, length, vec_len, IfOk, IfErr}, List.list_all};
-ghost use Rattle.ir_model.specs.{Graph.{Name, names}, Topology.Topology, OfGraph.topology_of_graph, Text.lines};
+ghost use Rattle.ir_model.specs.{declared.Detour.Detour, Graph.{Name, names}, Topology.Topology, OfGraph.topology_of_graph, Text.lines};
 ghost use Rattle.ir_script.specs.{declared.fault.ScriptFault.ScriptFault, Command.{line_step, line_command}};
 ghost use Rattle.ir_script.specs.Script.{listing_from, listing_of, ScriptTold, told_script};
 ghost use Rattle.ir_script.specs.Within.{is_step_within};
@@ -10,6 +10,7 @@ use crate::fault::{ScriptError, ScriptFault};
 use ir_adjlist::scan;
 use ir_core::{Command, Step};
 use ir_graph::Graph;
+use ir_model::Detour;
 use ir_tables::Topology;
 use std::alloc::Global;
 
@@ -42,24 +43,34 @@ impl<T> Script<T> {
 
 /// What a line of a script names: a step of a simulation, or a command of a live run.
 pub trait ScriptItem: Copy {
-    // What a line says of these nodes and links.
-    ghost says: { List Name → Topology → List ℕ → Result (Option Self) ScriptFault };
+    // What a line says of these nodes and links, where landmark plans go round so far.
+    ghost says: { Detour → List Name → Topology → List ℕ → Result (Option Self) ScriptFault };
 
     /// What the line names of a graph and its topology: nothing where it has no word.
-    fn named(graph: &Graph, topology: &Topology, line: &[u8]) -> Result<Option<Self>, ScriptFault>
+    fn named(
+        graph: &Graph,
+        topology: &Topology,
+        detour: Detour,
+        line: &[u8],
+    ) -> Result<Option<Self>, ScriptFault>
         requires { topology.now ≡ topology_of_graph graph.now }
-        ensures { result ≡ says (names graph.now) topology.now line.now };
+        ensures { result ≡ says detour (names graph.now) topology.now line.now };
 }
 
 impl ScriptItem for Step {
     ghost says = { line_step };
 
-    fn named(graph: &Graph, topology: &Topology, line: &[u8]) -> Result<Option<Step>, ScriptFault> {
+    fn named(
+        graph: &Graph,
+        topology: &Topology,
+        detour: Detour,
+        line: &[u8],
+    ) -> Result<Option<Step>, ScriptFault> {
         let words = scan::without_comment(line);
         if !scan::all_plain(words) {
             return Err(ScriptFault::BadByte);
         }
-        step_of(graph, topology, words)
+        step_of(graph, topology, detour, words)
     }
 }
 
@@ -69,6 +80,7 @@ impl ScriptItem for Command {
     fn named(
         graph: &Graph,
         topology: &Topology,
+        detour: Detour,
         line: &[u8],
     ) -> Result<Option<Command>, ScriptFault> {
         let words = scan::without_comment(line);
@@ -81,7 +93,7 @@ impl ScriptItem for Command {
         if is_of_simulation(word) {
             return Err(ScriptFault::BadCommand);
         }
-        match step_of(graph, topology, words)? {
+        match step_of(graph, topology, detour, words)? {
             Some(step) => Ok(Some(command_of(step)?)),
             None => Ok(None),
         }
@@ -106,12 +118,13 @@ pub fn parse<T: ScriptItem>(
     text: &[u8],
     graph: &Graph,
     topology: &Topology,
+    detour: Detour,
 ) -> Result<Script<T>, ScriptError>
     requires { topology.now ≡ topology_of_graph graph.now }
-    ensures parsed { IfOk result (λ s. listing_from T.says (names graph.now) topology.now 1 (lines text.now)
+    ensures parsed { IfOk result (λ s. listing_from (T.says detour) (names graph.now) topology.now 1 (lines text.now)
         ≡ Ok (record { steps = s.steps.items; lines = s.lines.items })) }
     ensures fault { IfErr result (λ e. ScriptTold e
-        (listing_from T.says (names graph.now) topology.now 1 (lines text.now))) }
+        (listing_from (T.says detour) (names graph.now) topology.now 1 (lines text.now))) }
 {
     let mut steps = Vec::new(alloc);
     let mut numbers = Vec::new(alloc);
@@ -120,7 +133,7 @@ pub fn parse<T: ScriptItem>(
     while !rest.is_empty() {
         let (current, after) = scan::next_line(rest);
         line += 1;
-        match T::named(graph, topology, current) {
+        match T::named(graph, topology, detour, current) {
             Err(kind) => return Err(error_at(line, kind)),
             Ok(None) => {}
             Ok(Some(step)) => {
@@ -141,7 +154,8 @@ pub fn parse<T: ScriptItem>(
 ///
 /// - `inject A B`: a packet from A to B;
 /// - `down A B`, `up A B`: the link between A and B;
-/// - `install tree R`, `install shortest R`, `install compact R`: a plan with root R;
+/// - `install tree R`, `install shortest R`, `install compact R`, `install landmark R`: a plan with
+///   root R, of kind landmark with this detour;
 /// - `retire F`, `learn E`: epochs;
 /// - `drain`;
 /// - `take N inbox`, `take N from M`: from the inbox, or from the link between N and M;
@@ -158,13 +172,14 @@ pub fn parse_script(
     text: &[u8],
     graph: &Graph,
     topology: &Topology,
+    detour: Detour,
 ) -> Result<Script<Step>, ScriptError>
     requires { topology.now ≡ topology_of_graph graph.now }
-    ensures parsed { IfOk result (λ s. listing_of (names graph.now) topology.now (lines text.now)
+    ensures parsed { IfOk result (λ s. listing_of detour (names graph.now) topology.now (lines text.now)
         ≡ Ok (record { steps = s.steps.items; lines = s.lines.items })) }
     ensures within { IfOk result (λ s. list_all (is_step_within topology.now) s.steps.items ≡ true) }
-    ensures fault { IfErr result (λ e. ScriptTold e (listing_of (names graph.now) topology.now (lines text.now))) }
+    ensures fault { IfErr result (λ e. ScriptTold e (listing_of detour (names graph.now) topology.now (lines text.now))) }
 {
     topology.invariant();
-    parse(alloc, text, graph, topology)
+    parse(alloc, text, graph, topology, detour)
 }

@@ -1,23 +1,27 @@
 -- What the checker computes of a row is what the definition says of it.
-use Rattle.std.proofs.Common.{◌≡◌, ◌⊎◌, ◌<◌, ◌≤◌, ◌-◌, ◌==◌, ℕ, zero, suc, Bool, true, false, not, ◌&&◌, ◌||◌, List, [], ◌∷◌, ◌++◌, length, slice_get, nat_lt, nat_le, Option, Some, None, refl, sym, ap, subst, ◌∙◌, arith, inl, inr, ⊎_elim}
+use Rattle.std.proofs.Common.{◌≡◌, ◌⊎◌, ◌<◌, ◌≤◌, ◌-◌, ◌*◌, ◌==◌, ℕ, zero, suc, Bool, true, false, not, ◌&&◌, ◌||◌, List, [], ◌∷◌, ◌++◌, length, slice_get, nat_lt, nat_le, Option, Some, None, refl, sym, ap, subst, ◌∙◌, arith, inl, inr, ⊎_elim}
 use Rattle.std.specs.List.{list_all}
 use Rattle.std.proofs.lemmas.Bool.{and_parts, and_from, or_cases, eqb-true, eq-eqb, ltb-true, lt-ltb, leb-true, le-leb, both_ways}
 use Rattle.std.proofs.lemmas.Option.{slice_get-get_or}
 use Rattle.ir_model.specs.Topology.{Topology, node_count}
+use Rattle.ir_model.specs.declared.Detour.{Detour}
 use Rattle.ir_model.specs.declared.Kind.{Kind}
-use Rattle.ir_model.specs.declared.Kind.TheVariants.{Tree, Shortest, Compact}
+use Rattle.ir_model.specs.declared.Kind.TheVariants.{Tree, Shortest, Compact, Landmark}
 use Rattle.ir_model.specs.Walk.{IsDistance, walk_weight}
 use Rattle.ir_model.specs.Table.{IsShortestTable, IsNearerTable}
 use Rattle.ir_model.specs.Compact.{IsCompactTable}
 use Rattle.ir_model.specs.Plan.{Plan, IsPlan, IsTableOf, table_port}
+use Rattle.ir_model.proofs.Reach.{connected_distances}
 use Rattle.ir_model.proofs.Tables.{prescribed_nearer, shortest_is_nearer}
+use Rattle.ir_plan.specs.Starts.{IsOfShortestWays}
+use Rattle.ir_plan.proofs.LandmarkPlans.{landmark_weight}
 use Rattle.ir_core.specs.Sound.{last_of}
 use Rattle.ir_trace.specs.declared.row.RowFate.{RowFate}
 use Rattle.ir_trace.specs.declared.row.RowFate.TheVariants.{Delivered, Retired, Down, Full, Left}
 use Rattle.ir_trace.specs.declared.finding.FindingKind.{FindingKind}
 use Rattle.ir_trace.specs.declared.finding.FindingKind.TheVariants.{NotTrace, BadRow, UnknownNode, UnknownEpoch, NotAPrefix, NotAtDestination, BadWeight, Repeated, NoMemory}
 use Rattle.ir_trace.specs.Row.{Segment, TraceRow}
-use Rattle.ir_trace.specs.Checked.{plan_at, no_part, last_part, is_part_over, IsRowOver, KnowsEpochs, IsFrontOfWalk, IsWholeWalk, AreJoined, ArePair, GoesOn, FollowsWalks, HasArrived, Weighs, IsOfShortestWays, ArrivesShortest, HasNewId, IsFindingOf, IsFine}
+use Rattle.ir_trace.specs.Checked.{plan_at, no_part, last_part, is_part_over, IsRowOver, KnowsEpochs, IsFrontOfWalk, IsWholeWalk, AreJoined, ArePair, GoesOn, FollowsWalks, HasArrived, Weighs, ArrivesShortest, ArrivesWithin, HasNewId, IsFindingOf, IsFine}
 use Rattle.ir_trace.specs.Inspect.{is_node, next_of, leads_through, follows_from, are_known, are_joined, fits_fate, goes_on, is_delivered, has_arrived, segments_weight, first_of_four, found_of, AreOver, IsOverPlan, AreOverPlans}
 use Rattle.ir_trace.proofs.Inspecting.{part_facts}
 use Rattle.ir_trace.proofs.Fronts.{leads_through-push, front, front_back, whole, whole_back}
@@ -315,6 +319,13 @@ module _ (net : Topology) (plans : List Plan) (row : TraceRow) (over : AreOver (
       let walks = (follows known).back fine.walks in
       computed true true true true known walks ((arrives known (joined_from walks)).back fine.arrived) (weighs_is.back fine.weight)
 
+  -- the plan of the last part, and its nodes
+  last_plan : KnowsEpochs plans row.parts → IsPlan (plan_at plans (last_part row.parts).epoch)
+  last_plan known = let e = known (length row.parts - 1) (last_part row.parts) last_is in (over (last_part row.parts).epoch e.0 e.1).0
+
+  last_nodes : KnowsEpochs plans row.parts → node_count (plan_at plans (last_part row.parts).epoch).topology ≡ node_count net
+  last_nodes known = let e = known (length row.parts - 1) (last_part row.parts) last_is in (over (last_part row.parts).epoch e.0 e.1).1
+
   -- with a kind of shortest ways the whole of the last walk weighs the distance
   pub shortest : KnowsEpochs plans row.parts → HasArrived plans row → ArrivesShortest plans row
   shortest known arrived delivered kind = by (last_part row.parts).hops (part_facts (node_count net) (last_part row.parts) (all_at (is_part_over (node_count net)) row.parts is.parts (length row.parts - 1) (last_part row.parts) last_is)).within (arrived delivered)
@@ -323,13 +334,14 @@ module _ (net : Topology) (plans : List Plan) (row : TraceRow) (over : AreOver (
       t = plan_at plans (last_part row.parts).epoch
 
       plan : IsPlan (plan_at plans (last_part row.parts).epoch)
-      plan = let e = known (length row.parts - 1) (last_part row.parts) last_is in (over (last_part row.parts).epoch e.0 e.1).0
+      plan = last_plan known
 
       nodes : node_count (plan_at plans (last_part row.parts).epoch).topology ≡ node_count net
-      nodes = let e = known (length row.parts - 1) (last_part row.parts) last_is in (over (last_part row.parts).epoch e.0 e.1).1
+      nodes = last_nodes known
 
       nearer : (k : Kind) → k ≡ (plan_at plans (last_part row.parts).epoch).kind → IsOfShortestWays k → IsNearerTable (plan_at plans (last_part row.parts).epoch).topology (table_port (plan_at plans (last_part row.parts).epoch))
       nearer Tree e short = absurd short
+      nearer (Landmark detour) e short = absurd short
       nearer Shortest e short =
           let table : IsShortestTable (plan_at plans (last_part row.parts).epoch).topology (table_port (plan_at plans (last_part row.parts).epoch)) = subst (λ (k : Kind). IsTableOf k (plan_at plans (last_part row.parts).epoch).topology (plan_at plans (last_part row.parts).epoch).order plan.parents (table_port (plan_at plans (last_part row.parts).epoch))) (sym e) plan.table in
           shortest_is_nearer (plan_at plans (last_part row.parts).epoch).topology (table_port (plan_at plans (last_part row.parts).epoch)) table
@@ -346,3 +358,23 @@ module _ (net : Topology) (plans : List Plan) (row : TraceRow) (over : AreOver (
       by (u ∷ rest) within whole =
           let u_in : u < node_count net = ltb-true u (node_count net) (and_parts (nat_lt u (node_count net)) (list_all (λ u. nat_lt u (node_count net)) rest) within).0 in
           (u, refl, (prescribed_nearer (plan_at plans (last_part row.parts).epoch).topology plan.topology (table_port (plan_at plans (last_part row.parts).epoch)) table u row.dest (omega (arith, u_in, nodes)) (omega (arith, is.dest, nodes)) (u ∷ rest) whole).1)
+
+  -- with a kind of landmarks it weighs no more than the stretch allows
+  pub within_stretch : KnowsEpochs plans row.parts → HasArrived plans row → ArrivesWithin plans row
+  within_stretch known arrived delivered detour kind =
+      by (last_part row.parts).hops (part_facts (node_count net) (last_part row.parts) (all_at (is_part_over (node_count net)) row.parts is.parts (length row.parts - 1) (last_part row.parts) last_is)).within (arrived delivered)
+    where
+      plan : IsPlan (plan_at plans (last_part row.parts).epoch)
+      plan = last_plan known
+
+      nodes : node_count (plan_at plans (last_part row.parts).epoch).topology ≡ node_count net
+      nodes = last_nodes known
+
+      by : (hops : List ℕ) → list_all (λ u. nat_lt u (node_count net)) hops ≡ true → IsWholeWalk (plan_at plans (last_part row.parts).epoch) row.dest hops
+          → (u : ℕ) × (slice_get hops 0 ≡ Some u) × (n : ℕ) × IsDistance (plan_at plans (last_part row.parts).epoch).topology u row.dest n
+          × (100 * walk_weight (plan_at plans (last_part row.parts).epoch).topology hops ≤ detour.stretch * n)
+      by [] within whole = absurd whole
+      by (u ∷ rest) within whole =
+          let u_in : u < node_count net = ltb-true u (node_count net) (and_parts (nat_lt u (node_count net)) (list_all (λ u. nat_lt u (node_count net)) rest) within).0 in
+          let far = connected_distances (plan_at plans (last_part row.parts).epoch).topology plan.topology plan.connected u row.dest (omega (arith, u_in, nodes)) (omega (arith, is.dest, nodes)) in
+          (u, refl, far.0, far.1, landmark_weight (plan_at plans (last_part row.parts).epoch) plan detour kind u row.dest far.0 far.1 (u ∷ rest) whole)

@@ -8,12 +8,14 @@ use Rattle.std.proofs.lemmas.Option.{none-some, same_Some, get_or_from_slice_get
 use Rattle.ir_model.specs.declared.Hop.{Hop}
 use Rattle.ir_model.specs.declared.Link.{Link}
 use Rattle.ir_model.specs.declared.Kind.{Kind}
-use Rattle.ir_model.specs.declared.Kind.TheVariants.{Tree, Shortest, Compact}
+use Rattle.ir_model.specs.declared.Kind.TheVariants.{Tree, Shortest, Compact, Landmark}
 use Rattle.ir_model.specs.Topology.{Topology, node_count, port_at, IsLink, IsPort, Joins}
 use Rattle.ir_model.specs.Table.{IsPrescribedWalk, IsShortestTable}
 use Rattle.ir_model.specs.Compact.{IsCompactTable}
 use Rattle.ir_model.specs.Plan.{Plan, table_port, next_hop, IsPlan, IsTableOf}
+use Rattle.ir_model.proofs.Reach.{connected_distances}
 use Rattle.ir_model.proofs.Tables.{prescribed_nearer, prescribed_shortest}
+use Rattle.ir_plan.proofs.LandmarkPlans.{landmark_weight}
 use Rattle.ir_core.specs.declared.packet.Fate.{Fate}
 use Rattle.ir_core.specs.declared.packet.Fate.TheVariants as fate
 use mathlib.Core.List.{IsPrefix}
@@ -107,6 +109,9 @@ module _ (net : Topology) (t : Plan) (is : IsPlan t) (same : t.topology.links �
   weighs Compact e u rest u_in whole =
       let table : IsCompactTable t.topology t.order (table_port t) = subst (λ (k : Kind). IsTableOf k t.topology t.order is.parents (table_port t)) (sym e) is.table in
       (prescribed_nearer t.topology is.topology (table_port t) table.nearer u d u_in d_in (u ∷ rest) whole).1
+  weighs (Landmark detour) e u rest u_in whole =
+      let far = connected_distances t.topology is.topology is.connected u d u_in d_in in
+      (far.0, far.1, landmark_weight t is detour (sym e) u d far.0 far.1 (u ∷ rest) whole)
 
   last_sound : (hops : List ℕ) → list_all (λ u. nat_lt u (node_count t.topology)) hops ≡ true → IsFrontOfWalk t d hops → (f : RowFate) → GoesOn t d hops f → (f ≡ Delivered → IsWholeWalk t d hops) → IsOrdered f
       → (x : Fate) × (fate_again net x ≡ f) × IsSound t (segment_of id d epoch hops x)

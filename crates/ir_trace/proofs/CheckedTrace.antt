@@ -17,7 +17,7 @@ use Rattle.ir_trace.specs.Checked.{plan_at, ArePlansOf, IsRowOver, AreRowsOver, 
 use Rattle.ir_trace.specs.Sound.{IsSoundTrace}
 use Rattle.ir_trace.proofs.CheckedSound.{sound_row}
 use Rattle.ir_trace.specs.Inspect.{found_of, AreOver, FindsBy}
-use Rattle.ir_trace.proofs.CheckedRows.{IsFound, found, shortest}
+use Rattle.ir_trace.proofs.CheckedRows.{IsFound, found, shortest, within_stretch}
 
 -- ---- ids
 
@@ -171,6 +171,7 @@ module _ (net : Topology) (installs : List Install) (plans : List Plan) (are : A
     fine = fine;
     sound = λ k row at. (let is : IsFine net plans (take k rows) row = fine k row at in sound_row net plans row (over_from net installs plans are) (links_from net installs plans are) (over k row at) is.epochs is.walks is.arrived);
     shortest = λ k row at. (let is : IsFine net plans (take k rows) row = fine k row at in shortest net plans row (over_from net installs plans are) (over k row at) is.epochs is.arrived);
+    within = λ k row at. (let is : IsFine net plans (take k rows) row = fine k row at in within_stretch net plans row (over_from net installs plans are) (over k row at) is.epochs is.arrived);
   }
   sound_from (Err e) over fine = tt
 

@@ -1,7 +1,7 @@
 -- Plans of one install, and of one list of installs, route alike.
 use Rattle.std.proofs.Common.{◌≡◌, ◌≢◌, ◌⊎◌, ℕ, zero, suc, ◌<◌, ◌≤◌, ◌-◌, List, [], ◌∷◌, length, refl, sym, ap, subst, ◌∙◌, inl, inr, arith}
 use Rattle.ir_model.specs.declared.Kind.{Kind}
-use Rattle.ir_model.specs.declared.Kind.TheVariants.{Tree, Shortest, Compact}
+use Rattle.ir_model.specs.declared.Kind.TheVariants.{Tree}
 use Rattle.ir_model.specs.Topology.{Topology, node_count, restrict}
 use Rattle.ir_model.specs.Numbering.{neighbors_of, IsDepthFirst}
 use Rattle.ir_model.specs.Tree.{IsTreeTable}
@@ -11,16 +11,11 @@ use Rattle.ir_plan.specs.declared.tour.LabelOrder.{LabelOrder}
 use Rattle.ir_plan.specs.Building.{FromRoot, IsPlanBy}
 use Rattle.ir_plan.specs.Starts.{IsPlanAs}
 use Rattle.ir_plan.proofs.DepthFirst.{labels_same, rows_alike, table_same}
-use Rattle.ir_plan.proofs.Labelled.{order_determined}
+use Rattle.ir_plan.proofs.Labelled.{order_determined, tree_or_not}
 use Rattle.ir_core.specs.declared.built.Install.{Install}
 use Rattle.ir_trace.specs.Checked.{plan_at, ArePlansOf}
 use Rattle.ir_trace.specs.Judged.{RoutesAs, RouteAlike}
 use Rattle.ir_trace.proofs.OneTree.{table_moved, one_table}
-
-tree_or_not : (k : Kind) → (k ≡ Tree) ⊎ (k ≢ Tree)
-tree_or_not Tree = inl refl
-tree_or_not Shortest = inr (λ e. cc e)
-tree_or_not Compact = inr (λ e. cc e)
 
 -- two tree plans of one order, root and network
 module _ (p q : Plan) (is : IsPlan p) (like : IsPlanAs p q) (order : p.order ≡ q.order) (tree : p.kind ≡ Tree) where

@@ -1,13 +1,14 @@
 -- What the rows of a trace are checked for, against what each epoch was installed with.
-use Rattle.std.specs.Prelude.{◌≡◌, ℕ, ◌+◌, ◌-◌, ◌<◌, ◌≤◌, ◌⊎◌, true, List, [], ◌∷◌, ◌++◌, length, take, sum_by, Bool, nat_lt, ◌&&◌, Some, slice_get, slice_index_or}
+use Rattle.std.specs.Prelude.{◌≡◌, ℕ, ◌+◌, ◌-◌, ◌*◌, ◌<◌, ◌≤◌, ◌⊎◌, true, List, [], ◌∷◌, ◌++◌, length, take, sum_by, Bool, nat_lt, ◌&&◌, Some, slice_get, slice_index_or}
 use Rattle.std.specs.List.{list_all}
-use Rattle.ir_model.specs.declared.Kind.{Kind}
-use Rattle.ir_model.specs.declared.Kind.TheVariants.{Tree, Shortest, Compact}
+use Rattle.ir_model.specs.declared.Detour.{Detour}
+use Rattle.ir_model.specs.declared.Kind.TheVariants.{Landmark}
 use Rattle.ir_model.specs.Topology.{Topology, node_count, restrict}
 use Rattle.ir_model.specs.Walk.{IsConnected, IsDistance, walk_weight}
 use Rattle.ir_model.specs.Table.{IsPrescribedWalk}
 use Rattle.ir_model.specs.Plan.{Plan, table_port}
 use Rattle.ir_plan.specs.Building.{FromRoot, IsPlanBy}
+use Rattle.ir_plan.specs.Starts.{IsOfShortestWays}
 use Rattle.ir_core.specs.declared.built.Install.{Install}
 use Rattle.ir_core.specs.Setting.{no_plan}
 use mathlib.Core.List.{IsPrefix}
@@ -109,17 +110,18 @@ pub record FollowsWalks (plans : List Plan) (row : TraceRow) : Type 0 where
 abbrev pub HasArrived : List Plan → TraceRow → Type 0
 HasArrived plans row = row.fate ≡ Delivered → IsWholeWalk (plan_at plans (last_part row.parts).epoch) row.dest (last_part row.parts).hops
 
--- a kind of shortest ways
-abbrev pub IsOfShortestWays : Kind → Type 0
-IsOfShortestWays Tree = ⊥
-IsOfShortestWays Shortest = Unit {0}
-IsOfShortestWays Compact = Unit {0}
-
 -- with a kind of shortest ways, the last part of a packet that is delivered weighs the distance from its first node
 abbrev pub ArrivesShortest : List Plan → TraceRow → Type 0
 ArrivesShortest plans row = row.fate ≡ Delivered → IsOfShortestWays (plan_at plans (last_part row.parts).epoch).kind
     → (u : ℕ) × (slice_get (last_part row.parts).hops 0 ≡ Some u)
     × IsDistance (plan_at plans (last_part row.parts).epoch).topology u row.dest (walk_weight (plan_at plans (last_part row.parts).epoch).topology (last_part row.parts).hops)
+
+-- with a kind of landmarks it weighs at most so many percent of that distance as the stretch allows
+abbrev pub ArrivesWithin : List Plan → TraceRow → Type 0
+ArrivesWithin plans row = row.fate ≡ Delivered → (t : Detour) → (plan_at plans (last_part row.parts).epoch).kind ≡ Landmark t
+    → (u : ℕ) × (slice_get (last_part row.parts).hops 0 ≡ Some u)
+    × (n : ℕ) × IsDistance (plan_at plans (last_part row.parts).epoch).topology u row.dest n
+    × (100 * walk_weight (plan_at plans (last_part row.parts).epoch).topology (last_part row.parts).hops ≤ t.stretch * n)
 
 -- the weight is the sum of the weights of the links between neighbours in the hops
 abbrev pub Weighs : Topology → TraceRow → Type 0

@@ -95,7 +95,26 @@ pub fn check_trace_by(
         → IsOnlyFinding topology.now installs.now trace.now e.line e.kind) }
 {
     let plans = plans_by(crew, alloc, topology, installs)?;
-    check_rows(alloc, topology, plans.as_slice(), trace.all())
+    check_trace_over(alloc, topology, plans.as_slice(), trace)
+}
+
+/// What `check_trace_by` finds, by the plans of the epochs in place of their installs. The plan of
+/// epoch e stands at place e - 1.
+/// Condition: the trace was read over the topology's graph, and the plans are over its nodes. Takes
+/// O(log k + d) for each hop and O(log r) for each of r rows, for at most k starts and d ports of a
+/// node.
+pub fn check_trace_over(
+    alloc: Global,
+    topology: &Topology,
+    plans: &[Plan],
+    trace: &Trace,
+) -> Result<(), Finding>
+    requires plans { AreOver (node_count topology.now) plans.now }
+    requires rows { AreRowsOver (node_count topology.now) trace.now }
+    ensures fine { IfOk result (λ _. AreFine topology.now plans.now trace.now) }
+    ensures finding { IfErr result (λ e. FindsBy topology.now plans.now trace.now e.line e.kind) }
+{
+    check_rows(alloc, topology, plans, trace.all())
 }
 
 /// The first finding of rows, by the plans of the epochs.

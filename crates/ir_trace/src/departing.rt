@@ -122,8 +122,10 @@ fn left_by_fate(plans: &[Plan], last: &Segment, fate: RowFate, dest: u16) -> Opt
     }
 }
 
-/// Where a row leaves the walks of its epochs first, by the plans of the epochs.
-pub(crate) fn first_departure(plans: &[Plan], row: &TraceRow) -> Option<Departure>
+/// Where a row leaves the walks of its epochs first, by the plans of the epochs; none where it follows
+/// them, or where an epoch of it has no plan. The plan of epoch e stands at place e - 1.
+/// Condition: the row and the plans are over the nodes of one network.
+pub fn first_departure(plans: &[Plan], row: &TraceRow) -> Option<Departure>
     requires { AreOverRow plans.now row.now }
     ensures { IsDeparture plans.now row.now result }
 {

@@ -21,8 +21,8 @@ pub mod text;
 mod words;
 mod writing;
 
-pub use checking::check_trace_by;
-pub use departing::{Departure, departure_by};
+pub use checking::{check_trace_by, check_trace_over};
+pub use departing::{Departure, departure_by, first_departure};
 pub use finding::{Finding, FindingKind};
 pub use laws::{check_is_determined, departure_is_determined, plans_of_installs_route_alike};
 pub use library::{Outlet, TraceError, check_trace, write_trace, write_trace_2};

@@ -14,6 +14,7 @@ use Rattle.ir_epochs.specs.declared.entry.Entry.{Entry}
 use Rattle.ir_epochs.specs.Handles.{known}
 use Rattle.ir_epochs.proofs.Fronts.{prefix_self, prefix_trans}
 use Rattle.ir_links.specs.Ends.{Word}
+use Rattle.ir_epochs.specs.Looks.{Look}
 use Rattle.ir_worker.specs.declared.node.Node.{Node}
 use Rattle.ir_worker.specs.declared.node.Turn.{Turn}
 use Rattle.ir_worker.specs.declared.node.Turn.TheVariants.{Idle, Sent, Settled}
@@ -25,9 +26,9 @@ use Rattle.ir_worker.specs.Turns.{board_in, restamp_in, IsTurn, AreTurns, HasSet
 use Rattle.ir_worker.specs.Wires.{Out, WasFullFor, WasFullBy}
 use Rattle.ir_worker.proofs.Nodes.{head_with}
 
-module _ (was_full was_empty : Word Parcel) where
+module _ (was_full was_empty : Word Parcel) (looked : Look Parcel) where
   -- with one turn more
-  more : (a m b : Node) (r : Record) (turn : Turn) → HasSettled was_full was_empty a m r → IsTurn was_full was_empty m b turn → HasSettled was_full was_empty a b r
+  more : (a m b : Node) (r : Record) (turn : Turn) → HasSettled was_full was_empty looked a m r → IsTurn was_full was_empty looked m b turn → HasSettled was_full was_empty looked a b r
   more a m b r turn h step = record {
     earlier = h.earlier;
     before = h.before;
@@ -40,18 +41,18 @@ module _ (was_full was_empty : Word Parcel) where
   }
 
   -- the packet of the outcome has the number that the turn tells
-  number : (m b : Node) (id : ℕ) (step : IsTurn was_full was_empty m b (Settled id)) → id ≡ step.does.outcome.packet.id
+  number : (m b : Node) (id : ℕ) (step : IsTurn was_full was_empty looked m b (Settled id)) → id ≡ step.does.outcome.packet.id
   number m b id step =
       let s = step.does in
       sym (ap (λ (h : Head). h.id) (ap head_of s.settled.packet ∙ head_with (restamp_in m b s.parcel s.way) s.current s.way m.index s.parcel) ∙ s.number)
 
   -- in the last turn
-  now : (a m b : Node) (turns : List Turn) (id : ℕ) → AreTurns was_full was_empty a turns m → (step : IsTurn was_full was_empty m b (Settled id)) → (r : Record) → step.does.outcome.packet ≡ r → HasSettled was_full was_empty a b r
+  now : (a m b : Node) (turns : List Turn) (id : ℕ) → AreTurns was_full was_empty looked a turns m → (step : IsTurn was_full was_empty looked m b (Settled id)) → (r : Record) → step.does.outcome.packet ≡ r → HasSettled was_full was_empty looked a b r
   now a m b turns id made step r told =
-      let s = subst (λ (i : ℕ). (step : IsTurn was_full was_empty m b (Settled i)) × (step.does.outcome.packet ≡ r)) (number m b id step ∙ ap (λ (r : Record). r.id) told) (step, told) in
+      let s = subst (λ (i : ℕ). (step : IsTurn was_full was_empty looked m b (Settled i)) × (step.does.outcome.packet ≡ r)) (number m b id step ∙ ap (λ (r : Record). r.id) told) (step, told) in
       record { earlier = turns; before = m; made_earlier = made; after = b; turn = s.0; told = s.1; later = []; made_later = refl }
 
-  pub settled_in : (a : Node) (turns : List Turn) (b : Node) → AreTurns was_full was_empty a turns b → a.outcomes.items ≡ [] → (q : ℕ) (o : Outcome) → slice_get b.outcomes.items q ≡ Some o → HasSettled was_full was_empty a b o.packet
+  pub settled_in : (a : Node) (turns : List Turn) (b : Node) → AreTurns was_full was_empty looked a turns b → a.outcomes.items ≡ [] → (q : ℕ) (o : Outcome) → slice_get b.outcomes.items q ≡ Some o → HasSettled was_full was_empty looked a b o.packet
   settled_in a [] b made none q o got =
       absurd (none-some o (ap (λ (xs : List Outcome). slice_get xs q) (sym none) ∙ ap (λ (n : Node). slice_get n.outcomes.items q) made ∙ got))
   settled_in a (Idle ∷ turns) b made none q o got =
@@ -66,7 +67,7 @@ module _ (was_full was_empty : Word Parcel) where
       ]
 
   -- a node never knows less of the board
-  known_more : (a : Node) (turns : List Turn) (b : Node) → AreTurns was_full was_empty a turns b → IsPrefix (known a.reader) (known b.reader)
+  known_more : (a : Node) (turns : List Turn) (b : Node) → AreTurns was_full was_empty looked a turns b → IsPrefix (known a.reader) (known b.reader)
   known_more a [] b made = subst (λ (n : Node). IsPrefix (known a.reader) (known n.reader)) made (prefix_self (known a.reader))
   known_more a (turn ∷ turns) b made = prefix_trans (known a.reader) (known made.0.reader) (known b.reader) (known_more a turns made.0 made.1) made.2.later
 
@@ -82,7 +83,7 @@ module _ (was_full was_empty : Word Parcel) where
       by_case (NoRoom h) full = (h, full, refl, refl)
       by_case (GoesOn h) full = tt
 
-  pub had_cause : (entries : List Entry) (a b : Node) (r : Record) → HasSettled was_full was_empty a b r → IsPrefix (known b.reader) entries → HadCause was_full was_empty entries a b r
+  pub had_cause : (entries : List Entry) (a b : Node) (r : Record) → HasSettled was_full was_empty looked a b r → IsPrefix (known b.reader) entries → HadCause was_full was_empty looked entries a b r
   had_cause entries a b r settled read =
       let s = settled.turn.does in
       record {

@@ -8,10 +8,11 @@ use Rattle.ir_core.specs.declared.event.Verdict.{Verdict}
 use Rattle.ir_core.specs.declared.event.Verdict.TheVariants.{Arrives}
 use Rattle.ir_core.specs.Record.{Record, stamp_of}
 use Rattle.ir_links.specs.Ends.{Word}
+use Rattle.ir_epochs.specs.Looks.{Look}
 use Rattle.ir_epochs.specs.declared.entry.Entry.{Entry}
 use Rattle.ir_epochs.specs.declared.registry.Stamp.{Stamp}
 use Rattle.ir_epochs.specs.Entries.{board_of, Rises, IsCurrent}
-use Rattle.ir_epochs.specs.Handles.{known}
+use Rattle.ir_epochs.specs.Handles.{known, reader_board}
 use Rattle.ir_worker.specs.declared.parcel.Outcome.{Outcome}
 use Rattle.ir_worker.specs.declared.node.Node.{Node}
 use Rattle.ir_worker.specs.declared.node.Turn.{Turn}
@@ -49,14 +50,21 @@ in_hand a b p way current = with_restamp (restamp_in a b p way) current way a.in
 abbrev pub way_in : Node → Node → Parcel → Way → Way
 way_in a b p way = way_then (restamp_in a b p way) way
 
--- The parcel that was taken was restamped, where that is due, with the stamp that is current on the board that was read,
--- and sent on by the core's verdict by that board: to this node, and over no other port. Its present segment is of no epoch that the
--- node knew to be retired before.
-pub record Sends (a b : Node) (id to : ℕ) : Type 0 where
+-- In the word for a look at a board: the node looked at its board with this parcel in hand, so after
+-- it took the parcel, and knew from then on what it knows after the turn.
+abbrev pub LooksWith : Look Parcel → Node → Node → Parcel → Type 0
+LooksWith looked a b p = looked p (reader_board a.reader) (known a.reader) (known b.reader)
+
+-- The node looked at its board with the parcel that it had taken in hand. The parcel was restamped,
+-- where that is due, with the stamp that is current on the board that was read, and sent on by the
+-- core's verdict by that board: to this node, and over no other port. Its present segment is of no
+-- epoch that the node knew to be retired before.
+pub record Sends (looked : Look Parcel) (a b : Node) (id to : ℕ) : Type 0 where
   pub parcel : Parcel
   pub way : Way
   pub takes : Takes a b parcel way
   pub number : parcel.packet.id ≡ id
+  pub looks : LooksWith looked a b parcel
   pub current : Stamp
   pub is_current : IsCurrent (known b.reader) current
   pub hop : Hop
@@ -74,21 +82,24 @@ pub record IsUntouched (a b : Node) : Type 0 where
   pub reader : known b.reader ≡ known a.reader
   pub holds : HoldsAll a b
 
--- In the words for a flag that was found set and for a turn that a gate did not allow: the node of this number may end behind so many turns,
--- since the flag was found set, the gate did not let it make the next turn, or that turn's number would be u64's greatest.
+-- In the words for a flag that was set and for a turn that a gate did not allow: the node of this
+-- number may end after so many turns, since the flag was set, the gate did not let it make the next
+-- turn, or that turn's number would be u64's greatest.
 abbrev pub MayEnd : {F G : Type 0} → (F → Type 0) → (G → ℕ → ℕ → Type 0) → F → G → ℕ → ℕ → Type 0
-MayEnd {F} {G} seen barred stop gate node turns = seen stop ⊎ (barred gate node turns ⊎ (turns + 1 ≡ 2 ^ 64))
+MayEnd {F} {G} was_set barred stop gate node turns = was_set stop ⊎ (barred gate node turns ⊎ (turns + 1 ≡ 2 ^ 64))
 
--- In the words for a refused push and a refused pop.
-module _ (was_full was_empty : Word Parcel) where
-  -- The parcel that was taken was restamped, where that is due, and settled by the core's verdict by the board that was
-  -- read, whose version the outcome holds, and on which the cause that it names held; the earlier outcomes stay. If it was delivered, its present segment is of no
-  -- epoch that the node knew to be retired before.
+-- In the words for a refused push, a refused pop and a look at a board.
+module _ (was_full was_empty : Word Parcel) (looked : Look Parcel) where
+  -- The node looked at its board with the parcel that it had taken in hand. The parcel was
+  -- restamped, where that is due, and settled by the core's verdict by the board that was read, whose
+  -- version the outcome holds, and on which the cause that it names held; the earlier outcomes stay.
+  -- If it was delivered, its present segment is of no epoch that the node knew to be retired before.
   pub record Settles (a b : Node) (id : ℕ) : Type 0 where
     pub parcel : Parcel
     pub way : Way
     pub takes : Takes a b parcel way
     pub number : parcel.packet.id ≡ id
+    pub looks : LooksWith looked a b parcel
     pub current : Stamp
     pub is_current : IsCurrent (known b.reader) current
     pub refused : Bool
@@ -105,7 +116,7 @@ module _ (was_full was_empty : Word Parcel) where
   -- Idle is told only where the pop of the way whose turn it was is refused.
   abbrev pub Does : Node → Node → Turn → Type 0
   Does a b Idle = HoldsAll a b × WasEmptyAt was_empty a.entrances.inbox a.entrances.ports.items a.entrances.next
-  Does a b (Sent id to) = Sends a b id to
+  Does a b (Sent id to) = Sends looked a b id to
   Does a b (Settled id) = Settles a b id
 
   -- The node a turned, and is b: the way whose turn it was is polled and the next one's turn comes, and what it knows of

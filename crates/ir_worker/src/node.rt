@@ -11,7 +11,7 @@ use crate::parcel::{Outcome, Parcel};
 use crate::passing::{Turning, pass_on, ready};
 use crate::serving::NoMemory;
 use ir_core::{Hop, Way};
-use ir_epochs::{BoardReader, BoardWriter, Receipt, Registry, Stamp};
+use ir_epochs::{BoardReader, BoardWriter, Looks, Receipt, Registry, Stamp};
 use ir_links::{Bound, Moments, Sender, Taker};
 use std::alloc::Global;
 use std::sync::atomic::{AtomicU32, Ordering};
@@ -80,7 +80,7 @@ impl Node {
     ghost use mathlib.Core.List.{IsPrefix};
     ghost use Rattle.ir_model.specs.Topology.{node_count, ports_of};
     ghost use Rattle.ir_epochs.specs.Entries.{board_of, Rises};
-    ghost use Rattle.ir_epochs.specs.Handles.{told, published};
+    ghost use Rattle.ir_epochs.specs.Handles.{told, published, writer_board};
     ghost use Rattle.ir_worker.specs.{Turns.{IsTurn, IsUntouched, HoldsAll}, Wires.IsWayAt};
     ghost use Rattle.ir_worker.specs.Same.{IsSameNode, IsNodeWith, HasNodeEnds, IsAtStart, ComesApartAs};
     ghost use Rattle.ir_worker.specs.Same.{number_in_net, known_to, next_way, ReadsBoardOf, ReadsBoardOfReceipt};
@@ -159,12 +159,14 @@ impl Node {
         self.reader.learn(receipt);
     }
 
-    /// Whether the writer of its board published all that it has read or learnt.
-    pub fn follows<R: Wait + Drop>(&self, writer: &BoardWriter<R>) -> bool
-        requires { ReadsBoardOf writer.now self.now }
-        ensures { IsTrue result ↔ IsPrefix (known_to self.now) (published writer.now) }
+    /// Sees that the writer of its board published all that it has read or learnt.
+    pub fn follows<R: Wait + Drop>(&self, writer: &mut BoardWriter<R>)
+        requires { ReadsBoardOf writer.old self.now }
+        ensures led { IsPrefix (known_to self.now) (published writer.old) }
+        ensures same { (published writer.new ≡ published writer.old)
+            × (writer_board writer.new ≡ writer_board writer.old) }
     {
-        writer.leads(&self.reader)
+        writer.leads(&self.reader);
     }
 
     // The way by which the packet core takes from what is polled next.
@@ -180,11 +182,11 @@ impl Node {
 
     /// One turn: it makes room for one outcome, and then polls the way whose turn it is. A parcel that was there is
     /// restamped, where its epoch is retired and the net still allows it, and sent on or settled, by the board that is
-    /// then read.
+    /// then read: the look is made with the parcel in hand.
     ///
     /// Where there is no memory for the outcome nothing is polled.
-    pub fn turn<R: Moments<Parcel>>(&mut self, rt: &R) -> Result<Turn, NoMemory>
-        ensures { MatchResult result (λ turn. IsTurn R.was_full R.was_empty self.old self.new turn)
+    pub fn turn<R: Moments<Parcel> + Looks<Parcel>>(&mut self, rt: &R) -> Result<Turn, NoMemory>
+        ensures { MatchResult result (λ turn. IsTurn R.was_full R.was_empty R.looked self.old self.new turn)
             (λ _. IsUntouched self.old self.new) }
     {
         self.outcomes.reserve(1)?;
@@ -193,7 +195,7 @@ impl Node {
             return Ok(Turn::Idle);
         };
         let id = parcel.id();
-        self.reader.look();
+        self.reader.look(rt, &parcel);
         let ports = self.ports.as_slice();
         let turning = Turning {
             registry: &self.registry,

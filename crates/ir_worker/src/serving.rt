@@ -5,6 +5,7 @@ ghost use Rattle.ir_worker.specs.{Same.IsSameNode, Turns.{MayEnd, HasServed}};
 use crate::bells::{Bells, Idle};
 use crate::node::Node;
 use crate::parcel::Parcel;
+use ir_epochs::Looks;
 use ir_links::Moments;
 use std::alloc::AllocError;
 use std::marker::PhantomData;
@@ -23,21 +24,23 @@ pub trait Gate: Sync {
         ensures { result ≡ false → barred self.now node turn };
 }
 
-/// Tells nodes to end, with a word for a look that found it set. Each node looks at it before each turn.
+/// Tells nodes to end, with a word that it was set, which who sets it has, and who finds it set. Each node looks at it
+/// before each turn.
 pub trait Flag: Sync {
-    // it was found set
-    ghost seen: { Self → Type 0 };
+    // it was set
+    ghost was_set: { Self → Type 0 };
 
     /// Whether it is set.
     fn is_set(&self) -> bool
-        ensures { result ≡ true → seen self.now };
+        ensures { result ≡ true → was_set self.now };
 
     /// Sets it.
-    fn set(&self);
+    fn set(&self)
+        ensures { was_set self.now };
 }
 
 impl Flag for AtomicBool {
-    ghost seen = { λ _. Unit {0} };
+    ghost was_set = { λ _. Unit {0} };
 
     fn is_set(&self) -> bool {
         self.load(Ordering::SeqCst)
@@ -60,7 +63,7 @@ impl From<AllocError> for NoMemory {
 
 // Whether a node ends before the turn of this number.
 fn is_over<G: Gate, F: Flag>(node: u16, number: u64, gate: &G, stop: &F) -> bool
-    ensures over { result ≡ true → MayEnd F.seen G.barred stop.now gate.now node number }
+    ensures over { result ≡ true → MayEnd F.was_set G.barred stop.now gate.now node number }
     ensures more { result ≡ false → number + 1 < 2 ^ 64 }
 {
     stop.is_set() || number == u64::MAX || !gate.pass(node, number)
@@ -69,14 +72,15 @@ fn is_over<G: Gate, F: Flag>(node: u16, number: u64, gate: &G, stop: &F) -> bool
 /// What `serve` does, but where it finds nothing it sleeps, once it has looked some times, until
 /// its bell is rung; it rings that of a neighbour to which it sent. Who sets the flag rings all: a
 /// node that sleeps asks neither gate nor flag.
-pub fn serve_with_bells<R: Moments<Parcel>, G: Gate, F: Flag>(
+pub fn serve_with_bells<R: Moments<Parcel> + Looks<Parcel>, G: Gate, F: Flag>(
     rt: &R,
     mut node: Node,
     gate: &G,
     stop: &F,
     bells: &Bells,
 ) -> (Node, Option<NoMemory>)
-    ensures turns { HasServed R.was_full R.was_empty (MayEnd F.seen G.barred stop.now gate.now) node result.0 result.1 }
+    ensures turns { HasServed R.was_full R.was_empty R.looked (MayEnd F.was_set G.barred stop.now gate.now)
+        node result.0 result.1 }
     ensures same { IsSameNode node result.0 }
 {
     let mut number = 0;
@@ -124,8 +128,8 @@ impl<R, G, F> ComesBack<R, G, F> {
     }
 }
 
-impl<R: Moments<Parcel>, G: Gate, F: Flag> Promise<(Node, Option<NoMemory>)>
+impl<R: Moments<Parcel> + Looks<Parcel>, G: Gate, F: Flag> Promise<(Node, Option<NoMemory>)>
     for ComesBack<R, G, F> {
-    ghost kept_by = { λ p r. HasServed R.was_full R.was_empty (MayEnd F.seen G.barred p.stop.value p.gate.value)
-        p.node.value r.0 r.1 × IsSameNode p.node.value r.0 };
+    ghost kept_by = { λ p r. HasServed R.was_full R.was_empty R.looked
+        (MayEnd F.was_set G.barred p.stop.value p.gate.value) p.node.value r.0 r.1 × IsSameNode p.node.value r.0 };
 }

@@ -12,9 +12,9 @@ use Rattle.ir_control.proofs.carrying.carry_out_all.Goals as goal
 pub loop-place-preserved : goal.loop-place-preserved
 loop-place-preserved g c =
     let had = c.loop-place.invariant in
-    let more = carried_to g.R.Moments.was_full c.args.commands.now c.loop-place.place _ _ (desk_of c.args.parts.now) (desk_of c.loop-place.parts) (desk_of c.carry_out-answer.new.parts) c.loop-place.refusals.items c.note.new.refusals.items
+    let more = carried_to g.R.Moments.was_full c.args.commands.now c.loop-place.place c.index-commands-place.result c.index-commands-place.result (desk_of c.args.parts.now) (desk_of c.loop-place.parts) (desk_of c.carry_out-answer.new.parts) c.loop-place.refusals.items c.note.new.refusals.items
     c.args.net.now.opening c.loop-place.stamps.items c.note.new.stamps.items c.carry_out-answer.result
-    c.loop-place-test.true refl (had.0, had.1, had.2, had.3) c.carry_out-answer.ensures c.in_ok-note.ensures.refusals c.in_ok-note.ensures.stamps in
+    c.loop-place-test.true c.index-commands-place.is (had.0, had.1, had.2, had.3) c.carry_out-answer.ensures c.in_ok-note.ensures.refusals c.in_ok-note.ensures.stamps in
     (more.0, more.1, more.2, more.3, one_net g.R.Moments.was_full _ (desk_of c.loop-place.parts) (desk_of c.carry_out-answer.new.parts) c.carry_out-answer.result c.carry_out-answer.ensures had.4)
 
 pub loop-place-init : goal.loop-place-init

@@ -18,8 +18,8 @@ loop-k-preserved c =
     let ok = c.args.nodes.now.ok in
     let test = c.loop-k-test.true in
     let lt : c.loop-k.k < length c.args.nodes.now.items = omega (arith, n, ok, test) in
-    let more = sum_by_more (hit node_number c.args.u) c.args.nodes.now.items c.loop-k.k c.index.result.now lt in
-    let here = other (get_or c.args.nodes.now.items c.loop-k.k c.index.result.now) c.args.u c.index-in-loop-k.result (c.index-in-loop-k.ensures ∙ ap (λ (n : Node). n.index) c.index.ensures) c.if-index-u.false in
+    let more = sum_by_more (hit node_number c.args.u) c.args.nodes.now.items c.loop-k.k c.index-in-loop-k.result.now lt in
+    let here = other (get_or c.args.nodes.now.items c.loop-k.k c.index-in-loop-k.result.now) c.args.u c.index-in-loop-k-2.result (c.index-in-loop-k-2.ensures ∙ ap (λ (n : Node). n.index) c.index-in-loop-k.ensures) c.if-index-u-2.false in
     let was = c.loop-k.invariant in
     omega (arith, more, here, was)
 

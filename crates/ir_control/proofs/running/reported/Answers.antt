@@ -42,21 +42,7 @@ agree_rows-requires g c =
 
 pub returns-in-Ok-finish-clause-read : goal.returns-in-Ok-finish-clause-read
 returns-in-Ok-finish-clause-read g c =
-    subst (λ (ns : List Node). All (λ n. IsPrefix (known n.reader) (published c.args.run.parts.controller.writer)) ns) c.in-Ok.ensures.nodes (c.lead_all.ensures.lead c.if-not-lead_all.false)
+    subst (λ (ns : List Node). All (λ n. IsPrefix (known n.reader) (published c.args.run.parts.controller.writer)) ns) c.in-Ok.ensures.nodes c.lead_all.ensures.lead
 
 pub returns-in-Ok-finish-clause-shown : goal.returns-in-Ok-finish-clause-shown
 returns-in-Ok-finish-clause-shown g c = subst (λ (ns : List Node). All (g.S.Starter.came_back c.args.starter.now) ns) c.in-Ok.ensures.nodes c.in-Ok.ensures.shown
-
-pub returns-then-not-lead_all-clause-refused : goal.returns-then-not-lead_all-clause-refused
-returns-then-not-lead_all-clause-refused g c =
-    let nodes : List Node = c.in-Ok.nodes.items in
-    let one = c.lead_all.ensures.ahead c.if-not-lead_all.true in
-    let boards : All (λ n. reader_board n.reader ≡ writer_board c.args.run.parts.controller.writer) nodes =
-    subst (λ (ns : List Node). All (λ n. reader_board n.reader ≡ writer_board c.args.run.parts.controller.writer) ns) (sym c.in-Ok.ensures.nodes) c.requires.boards in (
-      one.1,
-      record {
-        shown = at_all (g.S.Starter.came_back c.args.starter.now) nodes c.in-Ok.ensures.shown one.0 one.1 one.2;
-        of_board = at_all (λ n. reader_board n.reader ≡ writer_board c.args.run.parts.controller.writer) nodes boards one.0 one.1 one.2;
-        unpublished = one.3;
-      },
-    )

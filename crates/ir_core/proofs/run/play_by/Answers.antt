@@ -1,7 +1,6 @@
-use Rattle.std.proofs.Common.{◌≡◌, ◌<◌, length, get_or, take, arith}
+use Rattle.std.proofs.Common.{◌≡◌, ◌<◌, ◌+◌, ◌++◌, ◌∷◌, ◌∙◌, [], length, take, ap, sym, arith}
 use Rattle.std.proofs.lemmas.List.{take_more, take_all}
-use Rattle.ir_core.specs.declared.event.Event.TheVariants as event
-use Rattle.ir_core.specs.declared.event.Step.TheVariants as step
+use Rattle.ir_core.specs.declared.event.Step.{Step}
 use Rattle.ir_core.proofs.Runs.{ran_more, ran_played}
 use Rattle.ir_core.proofs.run.play_by.Goals as goal
 
@@ -10,10 +9,11 @@ loop-step-preserved g c =
     let i = c.loop-step.step-index in
     let steps = c.args.steps.now in
     let lt : c.loop-step.step-index < length c.args.steps.now = omega (arith, c.loop-step-test.true) in
-    let more = take_more steps i (step.Event (event.Inject 0 0)) lt in
+    let now = c.step-item.result in
+    let more : take (i + 1) steps ≡ take i steps ++ (now ∷ []) = take_more steps i now lt ∙ ap (λ (s : Step). take i steps ++ (s ∷ [])) (sym c.step-item.is) in
     rw (c.in-Ok-push.ensures.items, more)
     (ran_more c.args.opening (take i steps) c.loop-step.replies.items
-    c.loop-step.world c.step-reply.new.self (get_or steps i (step.Event (event.Inject 0 0))) c.step-reply.result c.loop-step.invariant c.step-reply.ensures.same_opening c.step-reply.ensures.history)
+    c.loop-step.world c.step-reply.new.self now c.step-reply.result c.loop-step.invariant c.step-reply.ensures.same_opening c.step-reply.ensures.history)
 
 pub returns-clause-played : goal.returns-clause-played
 returns-clause-played g c =

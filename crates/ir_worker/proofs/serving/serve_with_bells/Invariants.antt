@@ -6,6 +6,6 @@ use Rattle.ir_worker.proofs.serving.serve_with_bells.Given as goal
 
 abbrev pub invariant-loop : goal.invariant-loop
 invariant-loop g l = record {
-  turns : (turns : List Turn) × AreTurns g.R.Moments.was_full g.R.Moments.was_empty l.fn.node turns l.node × (length turns ≡ l.number);
+  turns : (turns : List Turn) × AreTurns g.R.Moments.was_full g.R.Moments.was_empty g.R.Looks.looked l.fn.node turns l.node × (length turns ≡ l.number);
   same : IsSameNode l.fn.node l.node;
 }

@@ -130,6 +130,7 @@ returns-in-Ok g c =
         way = c.way-way.result;
         takes = record { took = c.in-Some.ensures.took; by = c.way-way.ensures };
         number = sym c.id-id.ensures;
+        looks = c.look.ensures.looked;
         current = c.stamp.result;
         is_current = c.stamp.ensures;
         hop = a.0;
@@ -160,6 +161,7 @@ returns-in-Err g c =
         way = c.way-way.result;
         takes = record { took = c.in-Some.ensures.took; by = c.way-way.ensures };
         number = sym c.id-id.ensures;
+        looks = c.look.ensures.looked;
         current = c.stamp.result;
         is_current = c.stamp.ensures;
         refused = a.0;
