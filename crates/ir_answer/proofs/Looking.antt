@@ -1,7 +1,12 @@
 -- The answers that show a plan, by what was read before it is built.
-use Rattle.std.proofs.Common.{◌≡◌, ◌≢◌, ◌∙◌, ◌<◌, ℕ, Bool, List, Option, Some, None, MatchOption, string_bytes, refl, sym, ap, subst, arith}
+use Rattle.std.proofs.Common.{◌≡◌, ◌≢◌, ◌∙◌, ◌<◌, ℕ, Bool, length, List, Option, Some, None, MatchOption, string_bytes, refl, sym, ap, subst, true, true≢false, arith}
 use Rattle.std.specs.Option.{option_map}
+use Rattle.ir_model.specs.declared.Detour.{Detour}
 use Rattle.ir_model.specs.declared.Kind.{Kind}
+use Rattle.ir_model.specs.declared.Kind.TheVariants.{Tree}
+use Rattle.ir_cli.specs.declared.kinds.KindChoice.{KindChoice}
+use Rattle.ir_cli.specs.declared.kinds.KindChoice.TheVariants as choices
+use Rattle.ir_cli.specs.Words.{takes_list}
 use Rattle.ir_model.specs.Graph.{Name, Adjacency, names}
 use Rattle.ir_model.specs.Topology.{node_count}
 use Rattle.ir_model.specs.OfGraph.{topology_of_graph}
@@ -14,12 +19,13 @@ use Rattle.ir_script.specs.Order.{order_fault, IsOrder}
 use Rattle.ir_script.specs.declared.order_fault.OrderFaultKind.{OrderFaultKind}
 use Rattle.ir_cli.specs.declared.words.Words.{Words}
 use Rattle.ir_cli.specs.declared.words.Second.{Second}
+use Rattle.ir_cli.specs.Kinds.{detour_of, kind_of}
 use Rattle.ir_cli.specs.Answer.{Answer, Ran, Found, Refused, NoThread}
 use Rattle.ir_core.specs.declared.event.OpenError.{OpenError}
 use Rattle.ir_core.specs.declared.event.OpenError.TheVariants as errors
 use Rattle.ir_core.specs.Codes.{open_error_of}
 use Rattle.ir_cli.specs.Lines.{numbering_line, opening_line}
-use Rattle.ir_cli.specs.Openings.{topology_fault, topology_graph, root_name, root_in, label_order, AnswersRoot, AnswersOrder}
+use Rattle.ir_cli.specs.Openings.{topology_fault, topology_graph, root_name, root_in, kind_asked, label_order, AnswersRoot, AnswersOrder}
 use Rattle.ir_cli.specs.declared.words.Sub.{Sub}
 use Rattle.ir_cli.specs.declared.words.Sub.TheVariants.{Plan as Planning, Walk, Stats, Compare, Draw, Prefixes, Ranges as Ranging, Sim, Live, Check}
 use Rattle.ir_answer.specs.declared.look.Show.{Show}
@@ -40,6 +46,13 @@ second_refused s is root lt plans.Disconnected (some, has, apart) = (let walk = 
 second_refused s is root lt plans.NoMemory any = refl
 
 -- ---- labels
+
+-- a kind that takes another order than depth first is no tree
+pub no_tree : (choice : KindChoice) (detour : Detour) → takes_list choice ≡ true → kind_of choice detour ≢ Tree
+no_tree choices.Tree detour takes = absurd (true≢false (sym takes))
+no_tree choices.Shortest detour takes = λ same. cc same
+no_tree choices.Compact detour takes = λ same. cc same
+no_tree choices.Landmark detour takes = absurd (true≢false (sym takes))
 
 of_order : (g : Adjacency) (ls : List (List ℕ)) (answers : List ℕ → Answer → Type 0) (answer : Answer) (places : List ℕ)
     → IsOrder (names g) ls places → answers places answer → AnswersOrder g ls answers answer
@@ -85,18 +98,18 @@ of_drawn None is_svg from to g answers show answer is holds = of_network from to
 of_drawn (Some node) is_svg from to g answers show answer (u, is, same) holds =
     of_root g (Some node) (λ v. answers (Circle v is_svg)) answer u is (subst (λ (s : Show). answers s answer) same holds)
 
-of_figures : (second : Option Second) (g : Adjacency) (answers : Show → Answer → Type 0) (show : Show) (answer : Answer)
-    → AreShown second g show → answers show answer → AnswersFigures second g answers answer
-of_figures None g answers show answer same holds = subst (λ (s : Show). answers s answer) same holds
-of_figures (Some second) g answers show answer (root, is, same) holds =
-    of_root g (option_map string_bytes second.root) (λ u. answers (Beside second.kind u)) answer root is (subst (λ (s : Show). answers s answer) same holds)
+of_figures : (detour : Detour) (second : Option Second) (g : Adjacency) (answers : Show → Answer → Type 0) (show : Show) (answer : Answer)
+    → AreShown detour second g show → answers show answer → AnswersFigures detour second g answers answer
+of_figures detour None g answers show answer same holds = subst (λ (s : Show). answers s answer) same holds
+of_figures detour (Some second) g answers show answer (root, is, same) holds =
+    of_root g (option_map string_bytes second.root) (λ u. answers (Beside (kind_of second.kind detour) u)) answer root is (subst (λ (s : Show). answers s answer) same holds)
 
 of_show : (look : Sub) (words : Words) (g : Adjacency) (answers : Show → Answer → Type 0) (show : Show) (answer : Answer)
     → IsShow look words g show → answers show answer → AnswersAsked look words g answers answer
 of_show Planning words g answers show answer same holds = subst (λ (s : Show). answers s answer) same holds
 of_show Walk words g answers show answer (a, b, first, second, same) holds =
     of_ends g (from_name words) (to_name words) (λ x y. answers (Between x y)) answer a b first second (subst (λ (s : Show). answers s answer) same holds)
-of_show Stats words g answers show answer is holds = of_figures words.second g answers show answer is holds
+of_show Stats words g answers show answer is holds = of_figures (detour_of words.detour (length g)) words.second g answers show answer is holds
 of_show Draw words g answers show answer is holds = of_drawn (drawn_name words) words.svg (from_name words) (to_name words) g answers show answer is holds
 of_show Prefixes words g answers show answer same holds = subst (λ (s : Show). answers s answer) same holds
 of_show Ranging words g answers show answer same holds = subst (λ (s : Show). answers s answer) same holds
@@ -116,16 +129,16 @@ refuses_drawn : (node : Option Name) (is_svg : Bool) (from to : Option Name) (g 
 refuses_drawn None is_svg from to g answers line refuses = refuses_network from to g answers line refuses
 refuses_drawn (Some node) is_svg from to g answers line refuses = option_more (root_in (names g) (Some node)) (λ same. same) (λ u none. absurd none) refuses
 
-refuses_figures : (second : Option Second) (g : Adjacency) (answers : Show → Answer → Type 0) (line : List ℕ)
-    → RefusesFigures second g line → AnswersFigures second g answers (Refused line)
-refuses_figures None g answers line refuses = absurd refuses
-refuses_figures (Some second) g answers line refuses = option_more (root_in (names g) (option_map string_bytes second.root)) (λ same. same) (λ u none. absurd none) refuses
+refuses_figures : (detour : Detour) (second : Option Second) (g : Adjacency) (answers : Show → Answer → Type 0) (line : List ℕ)
+    → RefusesFigures detour second g line → AnswersFigures detour second g answers (Refused line)
+refuses_figures detour None g answers line refuses = absurd refuses
+refuses_figures detour (Some second) g answers line refuses = option_more (root_in (names g) (option_map string_bytes second.root)) (λ same. same) (λ u none. absurd none) refuses
 
 refuses_show : (look : Sub) (words : Words) (g : Adjacency) (answers : Show → Answer → Type 0) (line : List ℕ)
     → RefusesShow look words g line → AnswersAsked look words g answers (Refused line)
 refuses_show Planning words g answers line refuses = absurd refuses
 refuses_show Walk words g answers line refuses = refuses_ends g (from_name words) (to_name words) (λ x y. answers (Between x y)) line refuses
-refuses_show Stats words g answers line refuses = refuses_figures words.second g answers line refuses
+refuses_show Stats words g answers line refuses = refuses_figures (detour_of words.detour (length g)) words.second g answers line refuses
 refuses_show Draw words g answers line refuses = refuses_drawn (drawn_name words) words.svg (from_name words) (to_name words) g answers line refuses
 refuses_show Prefixes words g answers line refuses = absurd refuses
 refuses_show Ranging words g answers line refuses = absurd refuses
@@ -153,13 +166,13 @@ module _ (look : Sub) (words : Words) (texts : List (List ℕ)) (topology : List
   -- an end is refused
   pub without_show : (labels : Labelling) → IsLabelling words order g labels → (line : List ℕ) → RefusesShow look words g line → LookAnswers look words texts (Refused line)
   without_show labels is line refuses =
-      by_graph (Refused line) (of_labels words order g (AnswersLook look words g) labels (Refused line) is (refuses_show look words g (AnswersShow words g labels) line refuses))
+      by_graph (Refused line) (of_labels words order g (AnswersLook look words g) labels (Refused line) is (refuses_show look words g (AnswersShow (kind_asked words (length g)) g labels) line refuses))
 
   -- the plan is shown, or refused
   pub with_show : (labels : Labelling) → IsLabelling words order g labels → (show : Show) → IsShow look words g show
-      → (answer : Answer) → AnswersShow words g labels show answer → LookAnswers look words texts answer
+      → (answer : Answer) → AnswersShow (kind_asked words (length g)) g labels show answer → LookAnswers look words texts answer
   with_show labels is show shown answer holds =
-      by_graph answer (of_labels words order g (AnswersLook look words g) labels answer is (of_show look words g (AnswersShow words g labels) show answer shown holds))
+      by_graph answer (of_labels words order g (AnswersLook look words g) labels answer is (of_show look words g (AnswersShow (kind_asked words (length g)) g labels) show answer shown holds))
 
 -- what shows a plan is an answer
 pub shown_plan : (g : Adjacency) (kind : Kind) (labels : Labelling) (show : Show) (plan : Plan) → IsPlanBy (topology_of_graph g) kind labels plan

@@ -12,7 +12,7 @@ use Rattle.ir_core.specs.declared.opening.Opening.{Opening}
 use Rattle.ir_core.specs.Setting.{Setting}
 use Rattle.ir_core.specs.Opened.{IsOpenedWith, IsRefusedAs, IsOpenRefusal, open_refused}
 use Rattle.ir_script.specs.Command.{line_step}
-use Rattle.ir_script.specs.Script.{Listing, listing_from}
+use Rattle.ir_script.specs.Script.{Listing}
 use Rattle.ir_trace.specs.declared.finding.Finding.{Finding}
 use Rattle.ir_trace.specs.declared.finding.FindingKind.TheVariants.{NoMemory}
 use Rattle.ir_trace.specs.Row.{TraceRow}
@@ -27,6 +27,7 @@ use Rattle.ir_cli.specs.Answer.{Answer, Ran, Found, Refused, NoThread}
 use Rattle.ir_cli.specs.Lines.{topology_line, opening_line, script_line, finding_line, whole_line, ok_line}
 use Rattle.ir_cli.specs.Openings.{topology_fault, topology_graph, opening_by, root_name, root_in, no_root, AnswersTopology}
 use Rattle.ir_answer.specs.Agreed.{HaveSamePlans}
+use Rattle.ir_answer.specs.Stops.{script_said}
 use Rattle.ir_answer.specs.Asked.{CheckAnswers}
 use Rattle.ir_answer.specs.Checks.{IsClean, IsCleanTrace, IsFound, IsFoundWhole, AnswersTrace, AnswersWhole, AnswersTraceAsked, AreReplayed, run_with, AnswersCheck, AnswersChecked}
 use Rattle.ir_answer.proofs.SameInstalls.{not_both, have_same_plans, finds_moved}
@@ -215,7 +216,7 @@ option_same (Some a) answers refused each one other h k = each a one other h k
 
 pub checked_same : (words : Words) (script : List (List ℕ)) (trace : List ℕ) (g : Adjacency) (one other : Answer) → AnswersChecked words script trace g one → AnswersChecked words script trace g other → one ≡ other
 checked_same words script trace g =
-    result_same (listing_from line_step (names g) (topology_of_graph g) 1 script)
+    result_same (script_said line_step words script g)
     (λ listing answer. MatchOption (root_in (names g) (root_name words)) (answer ≡ Refused (opening_line (no_root g))) (λ root. AnswersCheck g words listing trace root answer))
     (λ f. Refused (script_line f))
     (λ listing. option_same (root_in (names g) (root_name words)) (λ root answer. AnswersCheck g words listing trace root answer) (Refused (opening_line (no_root g)))

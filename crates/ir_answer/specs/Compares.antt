@@ -1,5 +1,6 @@
 -- What a topology comes to as the text that compares its plans.
-use Rattle.std.specs.Prelude.{◌≡◌, ◌≢◌, ℕ, if◌then◌else◌, List, [], ◌∷◌}
+use Rattle.std.specs.Prelude.{◌≡◌, ◌≢◌, ℕ, if◌then◌else◌, List, [], ◌∷◌, length}
+use Rattle.ir_model.specs.declared.Detour.{Detour}
 use Rattle.ir_model.specs.Graph.{Adjacency}
 use Rattle.ir_model.specs.OfGraph.{topology_of_graph}
 use Rattle.ir_model.specs.Text.{lines}
@@ -13,6 +14,7 @@ use Rattle.ir_cli.specs.declared.words.Words.{Words}
 use Rattle.ir_cli.specs.declared.read.Source.{Source}
 use Rattle.ir_cli.specs.declared.read.Source.TheVariants.{Input, Topology}
 use Rattle.ir_cli.specs.Answer.{Answer, Ran, Found, Refused, NoThread}
+use Rattle.ir_cli.specs.Kinds.{AreCompared, landmarks_for}
 use Rattle.ir_cli.specs.Lines.{opening_line}
 use Rattle.ir_cli.specs.Openings.{root_name, AnswersTopology, AnswersRoot}
 use Rattle.ir_cli.specs.Words.{is_one_input}
@@ -23,7 +25,8 @@ compare_sources words = (if is_one_input words then Input else Topology) ∷ []
 
 -- The answer to a graph and a root: the text that compares its plans, or the refusal of these, other than for memory.
 abbrev pub AnswersComparison : Adjacency → ℕ → Answer → Type 0
-AnswersComparison g root (Ran text refusals) = IsComparison (topology_of_graph g) root text × (refusals ≡ [])
+AnswersComparison g root (Ran text refusals) =
+    (detours : Detour × Detour × Detour) × AreCompared (landmarks_for (length g)) detours × IsComparison (topology_of_graph g) root detours text × (refusals ≡ [])
 AnswersComparison g root (Found text) = ⊥
 AnswersComparison g root NoThread = ⊥
 AnswersComparison g root (Refused line) =

@@ -1,6 +1,6 @@
 -- What a topology comes to as a text that shows its plan: its rows, the order of its labels, a walk, its figures, a
 -- drawing, the circle of its labels, its forwarding tables, or its ranges of labels.
-use Rattle.std.specs.Prelude.{◌≡◌, ◌<◌, ℕ, Bool, IfSome, List, [], ◌∷◌, Option, None, Some, if◌then◌else◌, string_bytes}
+use Rattle.std.specs.Prelude.{◌≡◌, ◌<◌, ℕ, length, Bool, IfSome, List, [], ◌∷◌, Option, None, Some, if◌then◌else◌, string_bytes}
 use Rattle.std.specs.Option.{option_map}
 use Rattle.std.specs.Borrow.{Bor}
 use Rattle.ir_model.specs.Graph.{Name, Adjacency, names}
@@ -18,13 +18,15 @@ use Rattle.ir_cli.specs.declared.words.Words.{Words}
 use Rattle.ir_cli.specs.declared.words.Second.{Second}
 use Rattle.ir_cli.specs.declared.words.Sub.{Sub}
 use Rattle.ir_cli.specs.declared.words.Sub.TheVariants.{Plan as Planning, Walk, Stats, Compare, Draw, Prefixes, Ranges as Ranging, Sim, Live, Check}
+use Rattle.ir_model.specs.declared.Detour.{Detour}
 use Rattle.ir_model.specs.declared.Kind.{Kind}
+use Rattle.ir_cli.specs.Kinds.{detour_of, kind_of}
 use Rattle.ir_plan.specs.declared.tour.LabelOrder.TheVariants.{DepthFirst}
 use Rattle.ir_answer.specs.declared.look.Show.{Show}
 use Rattle.ir_answer.specs.declared.look.Show.TheVariants.{Rows, Between, Figures, Beside, Drawing, Circle, Tables, Ranges, Order}
 use Rattle.ir_script.specs.Order.{IsOrder}
 use Rattle.ir_cli.specs.Answer.{Answer, Ran, Found, Refused, NoThread}
-use Rattle.ir_cli.specs.Openings.{root_name, root_in, label_order, AnswersTopology, AnswersRoot, AnswersOrder}
+use Rattle.ir_cli.specs.Openings.{root_name, root_in, kind_asked, label_order, AnswersTopology, AnswersRoot, AnswersOrder}
 use Rattle.ir_model.specs.Plan.{Plan}
 use Rattle.ir_plan.specs.Building.{Labelling, FromRoot, ByList, IsPlanBy}
 use Rattle.ir_answer.specs.Plans.{AnswersText}
@@ -58,10 +60,11 @@ AnswersDrawn None is_svg from to g answers = AnswersBothEnds g from to (λ ends.
 AnswersDrawn (Some node) is_svg from to g answers = AnswersRoot g (Some node) (λ u. answers (Circle u is_svg))
 
 -- The answer to a graph where figures are asked for: the refusal of a second plan's root that is no node, or else an answer
--- to what is to be shown. Where the root has no name it is the first node.
-abbrev pub AnswersFigures : Option Second → Adjacency → (Show → Answer → Type 0) → Answer → Type 0
-AnswersFigures None g answers = answers Figures
-AnswersFigures (Some second) g answers = AnswersRoot g (option_map string_bytes second.root) (λ root. answers (Beside second.kind root))
+-- to what is to be shown. Where the root has no name it is the first node. Landmark plans go round so far.
+abbrev pub AnswersFigures : Detour → Option Second → Adjacency → (Show → Answer → Type 0) → Answer → Type 0
+AnswersFigures detour None g answers = answers Figures
+AnswersFigures detour (Some second) g answers =
+    AnswersRoot g (option_map string_bytes second.root) (λ root. answers (Beside (kind_of second.kind detour) root))
 
 -- the text is that of a plan's figures beside a second plan of this kind, numbered depth first from this root
 abbrev pub IsFiguresBeside : Kind → ℕ → List Name → Plan → List ℕ → Type 0
@@ -102,9 +105,9 @@ AreAmong n (Tables is_disjoint) = Unit {0}
 AreAmong n Ranges = Unit {0}
 AreAmong n Order = Unit {0}
 
--- the answer to a graph and labels, by what is shown
-abbrev pub AnswersShow : Words → Adjacency → Labelling → Show → Answer → Type 0
-AnswersShow words g labels show = AnswersText g words.kind labels (Says show (names g))
+-- the answer to a graph, a kind and labels, by what is shown
+abbrev pub AnswersShow : Kind → Adjacency → Labelling → Show → Answer → Type 0
+AnswersShow kind g labels show = AnswersText g kind labels (Says show (names g))
 
 -- what `plan` shows: the rows, or the order of the labels
 abbrev pub rows_or_order : Words → Show
@@ -123,7 +126,7 @@ ShowsPlan sub = Unit {0}
 abbrev pub AnswersAsked : Sub → Words → Adjacency → (Show → Answer → Type 0) → Answer → Type 0
 AnswersAsked Planning words g answers = answers (rows_or_order words)
 AnswersAsked Walk words g answers = AnswersEnds g (from_name words) (to_name words) (λ a b. answers (Between a b))
-AnswersAsked Stats words g answers = AnswersFigures words.second g answers
+AnswersAsked Stats words g answers = AnswersFigures (detour_of words.detour (length g)) words.second g answers
 AnswersAsked Draw words g answers = AnswersDrawn (drawn_name words) words.svg (from_name words) (to_name words) g answers
 AnswersAsked Prefixes words g answers = answers (Tables words.disjoint)
 AnswersAsked Ranging words g answers = answers Ranges
@@ -134,7 +137,7 @@ AnswersAsked Check words g answers = λ answer. ⊥
 
 -- the answer to a graph and labels, by what is asked for
 abbrev pub AnswersLook : Sub → Words → Adjacency → Labelling → Answer → Type 0
-AnswersLook sub words g labels = AnswersAsked sub words g (AnswersShow words g labels)
+AnswersLook sub words g labels = AnswersAsked sub words g (AnswersShow (kind_asked words (length g)) g labels)
 
 -- The answer to a graph: that to its labels from the root that the words name, or by an order where there is one.
 abbrev pub AnswersLabels : Words → Option (List ℕ) → Adjacency → (Labelling → Answer → Type 0) → Answer → Type 0
@@ -172,9 +175,10 @@ IsLabelling words None g labels = (root : ℕ) × IsNode g (root_name words) roo
 IsLabelling words (Some order) g labels = (places : List ℕ) × IsOrder (names g) (lines order) places × (labels ≡ ByList places)
 
 -- the figures that the words ask for
-abbrev pub AreShown : Option Second → Adjacency → Show → Type 0
-AreShown None g show = show ≡ Figures
-AreShown (Some second) g show = (root : ℕ) × IsNode g (option_map string_bytes second.root) root × (show ≡ Beside second.kind root)
+abbrev pub AreShown : Detour → Option Second → Adjacency → Show → Type 0
+AreShown detour None g show = show ≡ Figures
+AreShown detour (Some second) g show =
+    (root : ℕ) × IsNode g (option_map string_bytes second.root) root × (show ≡ Beside (kind_of second.kind detour) root)
 
 -- the drawing of the network, with the ends where both are named
 abbrev pub IsNetwork : Option Name → Option Name → Adjacency → Show → Type 0
@@ -195,7 +199,7 @@ IsDrawn words g show = IsOneDrawn (drawn_name words) words.svg (from_name words)
 abbrev pub IsShow : Sub → Words → Adjacency → Show → Type 0
 IsShow Planning words g show = show ≡ rows_or_order words
 IsShow Walk words g show = (a b : ℕ) × IsNode g (from_name words) a × IsNode g (to_name words) b × (show ≡ Between a b)
-IsShow Stats words g show = AreShown words.second g show
+IsShow Stats words g show = AreShown (detour_of words.detour (length g)) words.second g show
 IsShow Draw words g show = IsDrawn words g show
 IsShow Prefixes words g show = show ≡ Tables words.disjoint
 IsShow Ranging words g show = show ≡ Ranges
@@ -211,8 +215,8 @@ RefusesLabels words order g line = AnswersLabels words order g (λ labels answer
 abbrev pub RefusesEnds : Adjacency → Option Name → Option Name → List ℕ → Type 0
 RefusesEnds g from to line = AnswersEnds g from to (λ a b answer. ⊥) (Refused line)
 
-abbrev pub RefusesFigures : Option Second → Adjacency → List ℕ → Type 0
-RefusesFigures second g line = AnswersFigures second g (λ show answer. ⊥) (Refused line)
+abbrev pub RefusesFigures : Detour → Option Second → Adjacency → List ℕ → Type 0
+RefusesFigures detour second g line = AnswersFigures detour second g (λ show answer. ⊥) (Refused line)
 
 abbrev pub RefusesDrawn : Words → Adjacency → List ℕ → Type 0
 RefusesDrawn words g line = AnswersDrawn (drawn_name words) words.svg (from_name words) (to_name words) g (λ show answer. ⊥) (Refused line)

@@ -5,7 +5,7 @@ ghost use Rattle.ir_answer.specs.Stops.{Gives};
 ghost use Rattle.ir_cli.specs.{Openings.{root_name, AnswersRoot}, Reading.texts_of};
 
 use crate::asking::{AnswerStop, opening_stop, read_graph, read_node};
-use ir_cli::{RunReply, Words};
+use ir_cli::{RunReply, Words, compared_detours};
 use ir_core::OpenError;
 use ir_figures::compare_text;
 use ir_graph::Graph;
@@ -35,7 +35,8 @@ fn compare_graph(
     let Ok(topology) = Topology::of(alloc, graph) else {
         return Err(AnswerStop::NoMemory);
     };
-    match compare_text(crew, alloc, topology, root, words.threads) {
+    let detours = compared_detours(graph.number_of_nodes());
+    match compare_text(crew, alloc, topology, root, detours) {
         Ok(text) => Ok(RunReply::Ran(text, Vec::new(alloc))),
         Err(error) => Err(opening_stop(OpenError::from(error))),
     }

@@ -7,7 +7,7 @@ ghost use Rattle.ir_answer.specs.Formed.{shape_of, asked_shape, shaped, IsTextPu
 
 use ir_cli::{Notice, Sub, Words, notice_line};
 use ir_json::{Shape, json_of};
-use ir_show::TextCrew;
+use ir_plan::Crew;
 use ir_show::plan_text::PlanText;
 use ir_streams::{Writer, write_text};
 use std::alloc::{AllocError, Global};
@@ -36,8 +36,6 @@ fn shape_of(sub: Sub, words: &Words) -> Option<Shape>
 pub struct AnswerForm {
     /// The shape as which it is printed as JSON; None where it is text.
     pub shape: Option<Shape>,
-    /// In how many threads at most the lines of a plan are made; None for as many as suit the processors.
-    pub most: Option<usize>,
 }
 
 /// The form that the words ask for.
@@ -49,10 +47,7 @@ pub fn form_of(sub: Sub, words: &Words) -> AnswerForm
     } else {
         None
     };
-    AnswerForm {
-        shape,
-        most: words.threads,
-    }
+    AnswerForm { shape }
 }
 
 /// A text as it is, or as its JSON where there is a shape.
@@ -105,7 +100,7 @@ pub fn put_notice<W: Writer>(
 }
 
 /// Writes the text of a plan as a crew makes it, or its JSON, and answers whether all of it was taken.
-pub fn put_plan<C: TextCrew, W: Writer>(
+pub fn put_plan<C: Crew, W: Writer>(
     crew: &C,
     alloc: Global,
     form: AnswerForm,
@@ -116,7 +111,7 @@ pub fn put_plan<C: TextCrew, W: Writer>(
         (Sends W.contents W.wrote W.settled output.old output.new) (output.new ≡ output.old) }
 {
     match form.shape {
-        None => Ok(text.write_by(crew, alloc, form.most, output)),
+        None => Ok(text.write_by(crew, alloc, output)),
         Some(shape) => {
             let json = plan_json(alloc, shape, text)?;
             Ok(write_text(output, json.as_bytes()))

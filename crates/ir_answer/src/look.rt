@@ -1,24 +1,24 @@
 //! What is shown of a topology's plan, from the text of the topology.
-ghost use Rattle.std.specs.Prelude.{◌≡◌, ◌≢◌, ◌<◌, ℕ, IfOk, IfErr, IfSome, IsSome, length, string_bytes};
+ghost use Rattle.std.specs.Prelude.{◌≡◌, ◌≢◌, ◌<◌, ℕ, true, IfOk, IfErr, IfSome, IsSome, length, string_bytes};
 ghost use Rattle.ir_model.specs.{Graph.names, Topology.node_count};
 ghost use Rattle.ir_answer.specs.Asked.{look_sources};
 ghost use Rattle.ir_answer.specs.Looks.{from_name, to_name, circle_text, AnswersShow, AreAmong, AreTexts, Says, AnswerShows, order_in, IsNode, IsLabelling, AreShown, IsDrawn, IsShow, RefusesLabels, RefusesEnds, RefusesFigures, RefusesDrawn, RefusesShow, ShowsPlan, LookAnswers, IsFiguresBeside};
 ghost use Rattle.ir_answer.specs.Stops.{StopsAs, Gives};
 ghost use Rattle.ir_cli.specs.Answer.{Refused};
 ghost use Rattle.ir_model.specs.OfGraph.{topology_of_graph};
-ghost use Rattle.ir_plan.specs.Building.{FromRoot, IsPlanBy, MayLabel, labelling_of};
+ghost use Rattle.ir_plan.specs.{Building.{FromRoot, IsPlanBy, MayLabel, labelling_of}, Starts.IsOfShortestWays};
 ghost use Rattle.ir_show.specs.Plans.{NeedsNoTour};
 ghost use Rattle.ir_answer.specs.Plans.{AnswersText};
-ghost use Rattle.ir_cli.specs.{Reading.texts_of, Words.FitsItsKind};
+ghost use Rattle.ir_cli.specs.{Kinds.detour_of, Openings.kind_asked, Reading.texts_of, Words.{FitsItsKind, takes_list}};
 
 use crate::asking::{AnswerStop, opening_stop, read_graph, read_node};
-use ir_cli::{Notice, RunReply, Sub, Words, label_order};
+use ir_cli::{Notice, RunReply, Sub, Words, kind_asked, label_order};
 use ir_core::OpenError;
-use ir_exports::{LineCrew, circle_dot, circle_svg, order_text, ranges_text};
+use ir_exports::{circle_dot, circle_svg, order_text, prefixes_text_by, ranges_text};
 use ir_figures::{figures_text, figures_text_beside};
 use ir_graph::Graph;
 use ir_model::Kind;
-use ir_plan::{LabelOrder, Labels, Plan, PlanError};
+use ir_plan::{Crew, LabelOrder, Labels, Plan, PlanError, is_of_shortest_ways};
 use ir_script::{OrderFaultKind, read_order};
 use ir_show::plan_text::PlanText;
 use ir_show::{draw_text, needs_no_tour, walk_text, walk_text_alone};
@@ -50,11 +50,10 @@ pub enum Show {
 /// The plan of this kind, numbered depth first from this root, over the network of another plan: memory alone refuses
 /// it.
 fn second_plan(
-    crew: &impl LineCrew,
+    crew: &impl Crew,
     alloc: Global,
     plan: &Plan,
     second: (Kind, u16),
-    most: Option<usize>,
 ) -> Result<Plan, AllocError>
     requires root { second.1 < node_count plan.now.topology }
     ensures { IfOk result (IsPlanBy plan.now.topology second.0 (FromRoot LabelOrder.DepthFirst second.1)) }
@@ -63,7 +62,7 @@ fn second_plan(
     let topology = plan.topology().try_clone(alloc)?;
     let (kind, root) = second;
     let labels = Labels::FromRoot(LabelOrder::DepthFirst, root);
-    match Plan::build_by(crew, alloc, topology, kind, labels, most) {
+    match Plan::build_by(crew, alloc, topology, kind, labels) {
         Ok(second) => Ok(second),
         Err((error, _topology)) => {
             if error != PlanError::NoMemory {
@@ -77,18 +76,17 @@ fn second_plan(
 /// The figures of a plan, and the links that wait for each other in it and in a second one of this kind, numbered depth
 /// first from this root. The second is over the same network, so that memory alone refuses it.
 fn beside_text(
-    crew: &impl LineCrew,
+    crew: &impl Crew,
     alloc: Global,
     graph: &Graph,
     plan: &Plan,
     second: (Kind, u16),
-    most: Option<usize>,
 ) -> Result<String, AllocError>
     requires nodes { node_count plan.now.topology ≡ length graph.now }
     requires root { second.1 < length graph.now }
     ensures { IfOk result (λ text. IsFiguresBeside second.0 second.1 (names graph.now) plan.now (string_bytes text)) }
 {
-    let second = second_plan(crew, alloc, plan, second, most)?;
+    let second = second_plan(crew, alloc, plan, second)?;
     figures_text_beside(alloc, graph, plan, &second)
 }
 
@@ -113,12 +111,11 @@ fn circle_text(
 
 /// What is shown of a plan other than its rows.
 fn text_of(
-    crew: &impl LineCrew,
+    crew: &impl Crew,
     alloc: Global,
     graph: &Graph,
     plan: &Plan,
     show: Show,
-    most: Option<usize>,
 ) -> Result<String, AllocError>
     requires nodes { node_count plan.now.topology ≡ length graph.now }
     requires ends { AreAmong (length graph.now) show }
@@ -129,10 +126,10 @@ fn text_of(
         Show::Rows => unreachable!(),
         Show::Between(from, to) => walk_text(alloc, graph, plan, from, to),
         Show::Figures => figures_text(alloc, graph, plan),
-        Show::Beside(kind, root) => beside_text(crew, alloc, graph, plan, (kind, root), most),
+        Show::Beside(kind, root) => beside_text(crew, alloc, graph, plan, (kind, root)),
         Show::Drawing(ends) => draw_text(alloc, graph, plan, ends),
         Show::Circle(node, is_svg) => circle_text(alloc, graph, plan, node, is_svg),
-        Show::Tables(is_disjoint) => crew.prefixes(alloc, graph, plan, is_disjoint, most),
+        Show::Tables(is_disjoint) => prefixes_text_by(crew, alloc, graph, plan, is_disjoint),
         Show::Ranges => ranges_text(alloc, graph, plan),
         Show::Order => order_text(alloc, graph, plan),
     }
@@ -151,19 +148,18 @@ fn rows_reply(alloc: Global, graph: Graph, plan: Plan) -> Result<RunReply, Answe
 
 /// The answer that shows something other than the rows of a plan, as a text that is made whole.
 fn text_reply(
-    crew: &impl LineCrew,
+    crew: &impl Crew,
     alloc: Global,
     graph: &Graph,
     plan: &Plan,
     show: Show,
-    most: Option<usize>,
 ) -> Result<RunReply, AnswerStop>
     requires nodes { node_count plan.now.topology ≡ length graph.now }
     requires ends { AreAmong (length graph.now) show }
     requires no_rows { show ≢ Show.Rows }
     ensures { Gives (AnswerShows show (names graph.now) plan.now) result }
 {
-    let Ok(text) = text_of(crew, alloc, graph, plan, show, most) else {
+    let Ok(text) = text_of(crew, alloc, graph, plan, show) else {
         return Err(AnswerStop::NoMemory);
     };
     Ok(RunReply::Ran(text, Vec::new(alloc)))
@@ -174,7 +170,7 @@ fn look_texts<'a>(words: &Words, texts: &'a [Vec<u8>]) -> (&'a [u8], Option<&'a 
     requires kind { FitsItsKind words.now }
     requires texts { length texts.now ≡ length (look_sources words.now) }
     ensures texts { AreTexts (texts_of texts.now) result.0.now (order_in result.1) }
-    ensures kind { IsSome result.1 → words.now.kind ≢ Kind.Tree }
+    ensures kind { IsSome result.1 → takes_list words.now.kind ≡ true }
 {
     if words.has_order() {
         (texts[0].as_slice(), Some(texts[1].as_slice()))
@@ -190,10 +186,11 @@ fn read_labels(
     graph: &Graph,
     order: Option<&[u8]>,
 ) -> Result<Labels, AnswerStop>
-    requires { IsSome order → words.now.kind ≢ Kind.Tree }
+    requires { IsSome order → takes_list words.now.kind ≡ true }
     ensures labels { IfOk result (λ labels. IsLabelling words.now (order_in order.entry) graph.now
         (labelling_of labels)) }
-    ensures may { IfOk result (λ labels. MayLabel (topology_of_graph graph.now) words.now.kind (labelling_of labels)) }
+    ensures may { IfOk result (λ labels. MayLabel (topology_of_graph graph.now)
+        (kind_asked words.now (length graph.now)) (labelling_of labels)) }
     ensures stop { IfErr result (λ s. StopsAs s
         (RefusesLabels words.now (order_in order.entry) graph.now)) }
 {
@@ -225,15 +222,18 @@ fn read_ends(words: &Words, graph: &Graph) -> Result<(u16, u16), AnswerStop>
 
 /// The figures, beside those of a second plan if the words ask for one.
 fn read_figures(words: &Words, graph: &Graph) -> Result<Show, AnswerStop>
-    ensures show { IfOk result (λ show. AreShown words.now.second graph.now show) }
+    ensures show { IfOk result (λ show. AreShown (detour_of words.now.detour (length graph.now)) words.now.second
+        graph.now show) }
     ensures among { IfOk result (λ show. 0 < length graph.now → AreAmong (length graph.now) show) }
-    ensures stop { IfErr result (λ s. StopsAs s (RefusesFigures words.now.second graph.now)) }
+    ensures stop { IfErr result (λ s. StopsAs s (RefusesFigures (detour_of words.now.detour (length graph.now))
+        words.now.second graph.now)) }
 {
     let Some(second) = &words.second else {
         return Ok(Show::Figures);
     };
     let root = read_node(graph, &second.root)?;
-    Ok(Show::Beside(second.kind, root))
+    let detour = words.detour.detour(graph.number_of_nodes());
+    Ok(Show::Beside(second.kind.kind(detour), root))
 }
 
 /// What is to be drawn: the circle of the node that the words name, or else the network, with ends only where both are
@@ -276,17 +276,17 @@ fn read_show(sub: Sub, words: &Words, graph: &Graph) -> Result<Show, AnswerStop>
     }
 }
 
-/// The ends of a walk that is shown, where its plan need not be built: that is of a kind other than Tree, and no tour
-/// is sought for its labels.
+/// The ends of a walk that is shown, where its plan need not be built: that is of a kind of shortest ways, and no
+/// tour is sought for its labels.
 fn ends_alone(show: Show, kind: Kind, nodes: usize, labels: &Labels) -> Option<(u16, u16)>
     ensures shown { IfSome result (λ ends. show ≡ Show.Between ends.0 ends.1) }
-    ensures kind { IsSome result → kind ≢ Kind.Tree }
+    ensures kind { IsSome result → IsOfShortestWays kind }
     ensures alone { IsSome result → NeedsNoTour nodes (labelling_of labels.now) }
 {
     let Show::Between(from, to) = show else {
         return None;
     };
-    if kind == Kind::Tree || !needs_no_tour(nodes, labels) {
+    if !is_of_shortest_ways(kind) || !needs_no_tour(nodes, labels) {
         return None;
     }
     Some((from, to))
@@ -300,7 +300,7 @@ fn show_walk(
     labels: Labels,
     ends: (u16, u16),
 ) -> Result<RunReply, AnswerStop>
-    requires kind { kind ≢ Kind.Tree }
+    requires kind { IsOfShortestWays kind }
     requires ends { 0 < length graph.now → (ends.0 < length graph.now) × (ends.1 < length graph.now) }
     requires labels { MayLabel (topology_of_graph graph.now) kind (labelling_of labels) }
     requires alone { NeedsNoTour (length graph.now) (labelling_of labels) }
@@ -316,23 +316,23 @@ fn show_walk(
     }
 }
 
-/// The plan over the network of a graph by these labels, of the kind that the words name, or what refuses it.
+/// The plan over the network of a graph by these labels, of this kind, or what refuses it.
 fn plan_of(
-    crew: &impl LineCrew,
+    crew: &impl Crew,
     alloc: Global,
-    words: &Words,
+    kind: Kind,
     graph: &Graph,
     labels: Labels,
 ) -> Result<Plan, AnswerStop>
-    requires { MayLabel (topology_of_graph graph.now) words.now.kind (labelling_of labels) }
-    ensures plan { IfOk result (IsPlanBy (topology_of_graph graph.now) words.now.kind (labelling_of labels)) }
+    requires { MayLabel (topology_of_graph graph.now) kind (labelling_of labels) }
+    ensures plan { IfOk result (IsPlanBy (topology_of_graph graph.now) kind (labelling_of labels)) }
     ensures stop { IfErr result (λ s. StopsAs s (λ line.
-        AnswersText graph.now words.now.kind (labelling_of labels) (λ plan text. ⊥) (Refused line))) }
+        AnswersText graph.now kind (labelling_of labels) (λ plan text. ⊥) (Refused line))) }
 {
     let Ok(topology) = Topology::of(alloc, graph) else {
         return Err(AnswerStop::NoMemory);
     };
-    match Plan::build_by(crew, alloc, topology, words.kind, labels, words.threads) {
+    match Plan::build_by(crew, alloc, topology, kind, labels) {
         Ok(plan) => Ok(plan),
         Err((error, _topology)) => Err(opening_stop(OpenError::from(error))),
     }
@@ -340,16 +340,16 @@ fn plan_of(
 
 /// The answer that shows the rows of a plan, or tells what refuses it.
 fn show_rows(
-    crew: &impl LineCrew,
+    crew: &impl Crew,
     alloc: Global,
-    words: &Words,
+    kind: Kind,
     graph: Graph,
     labels: Labels,
 ) -> Result<RunReply, AnswerStop>
-    requires { MayLabel (topology_of_graph graph) words.now.kind (labelling_of labels) }
-    ensures { Gives (AnswersShow words.now graph (labelling_of labels) Show.Rows) result }
+    requires { MayLabel (topology_of_graph graph) kind (labelling_of labels) }
+    ensures { Gives (AnswersShow kind graph (labelling_of labels) Show.Rows) result }
 {
-    match plan_of(crew, alloc, words, &graph, labels) {
+    match plan_of(crew, alloc, kind, &graph, labels) {
         Ok(plan) => rows_reply(alloc, graph, plan),
         Err(stop) => Err(stop),
     }
@@ -358,25 +358,25 @@ fn show_rows(
 /// The answer that shows something other than the rows of a plan, or tells what refuses it. A walk is told without its
 /// plan where that need not be built.
 fn show_text(
-    crew: &impl LineCrew,
+    crew: &impl Crew,
     alloc: Global,
-    words: &Words,
+    kind: Kind,
     graph: &Graph,
     labels: Labels,
     show: Show,
 ) -> Result<RunReply, AnswerStop>
-    requires labels { MayLabel (topology_of_graph graph.now) words.now.kind (labelling_of labels) }
+    requires labels { MayLabel (topology_of_graph graph.now) kind (labelling_of labels) }
     requires ends { 0 < length graph.now → AreAmong (length graph.now) show }
     requires no_rows { show ≢ Show.Rows }
-    ensures { Gives (AnswersShow words.now graph.now (labelling_of labels) show) result }
+    ensures { Gives (AnswersShow kind graph.now (labelling_of labels) show) result }
 {
-    if let Some(ends) = ends_alone(show, words.kind, graph.number_of_nodes(), &labels) {
-        return show_walk(alloc, graph, words.kind, labels, ends);
+    if let Some(ends) = ends_alone(show, kind, graph.number_of_nodes(), &labels) {
+        return show_walk(alloc, graph, kind, labels, ends);
     }
-    match plan_of(crew, alloc, words, graph, labels) {
+    match plan_of(crew, alloc, kind, graph, labels) {
         Ok(plan) => {
             plan.invariant();
-            text_reply(crew, alloc, graph, &plan, show, words.threads)
+            text_reply(crew, alloc, graph, &plan, show)
         }
         Err(stop) => Err(stop),
     }
@@ -385,28 +385,35 @@ fn show_text(
 /// The answer that shows a plan, or tells what refuses it. The text of its rows is written as it is made, and each
 /// other text is made whole.
 fn show_plan(
-    crew: &impl LineCrew,
+    crew: &impl Crew,
     alloc: Global,
-    words: &Words,
+    kind: Kind,
     graph: Graph,
     labels: Labels,
     show: Show,
 ) -> Result<RunReply, AnswerStop>
-    requires labels { MayLabel (topology_of_graph graph) words.now.kind (labelling_of labels) }
+    requires labels { MayLabel (topology_of_graph graph) kind (labelling_of labels) }
     requires ends { 0 < length graph → AreAmong (length graph) show }
-    ensures { Gives (AnswersShow words.now graph (labelling_of labels) show) result }
+    ensures { Gives (AnswersShow kind graph (labelling_of labels) show) result }
 {
     match show {
-        Show::Rows => show_rows(crew, alloc, words, graph, labels),
-        _ => show_text(crew, alloc, words, &graph, labels, show),
+        Show::Rows => show_rows(crew, alloc, kind, graph, labels),
+        _ => show_text(crew, alloc, kind, &graph, labels, show),
     }
+}
+
+/// The kind that the words ask for, of a plan over a graph's network.
+fn kind_over(words: &Words, graph: &Graph) -> Kind
+    ensures { result ≡ kind_asked words.now (length graph.now) }
+{
+    kind_asked(words, graph.number_of_nodes())
 }
 
 /// The answer to the text of a topology, and to that of an order where the words have one: what is shown of the plan.
 /// Refused are, in this order, the topology's first fault, the order's or a root that is no node, an end, a circle's
 /// node or a second plan's root that is none, and what refuses the plan. The plan's rows are made by a crew.
 pub fn look_at(
-    crew: &impl LineCrew,
+    crew: &impl Crew,
     alloc: Global,
     sub: Sub,
     words: &Words,
@@ -420,8 +427,9 @@ pub fn look_at(
     let (topology, order) = look_texts(words, texts);
     let graph = read_graph(alloc, words.format, topology)?;
     let labels = read_labels(alloc, words, &graph, order)?;
+    let kind = kind_over(words, &graph);
     match read_show(sub, words, &graph) {
-        Ok(show) => show_plan(crew, alloc, words, graph, labels, show),
+        Ok(show) => show_plan(crew, alloc, kind, graph, labels, show),
         Err(stop) => Err(stop),
     }
 }

@@ -13,8 +13,7 @@ use crate::look::look_at;
 use crate::play::simulate;
 use crate::writing::write_given;
 use ir_cli::{RunOutcome, RunReply, Source, Sub, Words, read_inputs, status_of, tell_unread};
-use ir_exports::LineCrew;
-use ir_plan::Alone;
+use ir_plan::{Alone, Crew};
 use ir_streams::{Reader, Writer};
 use std::alloc::Global;
 
@@ -61,7 +60,7 @@ pub fn sources_of(words: &Words) -> &'static [Source]
 }
 
 /// The answer of a subcommand to the texts of the inputs, as text. That of `live` is that no thread was started.
-fn answer_by<C: LineCrew>(
+fn answer_by<C: Crew>(
     crew: &C,
     alloc: Global,
     request: &Request<'_>,
@@ -90,7 +89,7 @@ fn answer_by<C: LineCrew>(
 }
 
 /// Answers the texts of the inputs, and writes the answer in the form that the words ask for.
-fn write_answer<C: LineCrew, W: Writer, F: Writer>(
+fn write_answer<C: Crew, W: Writer, F: Writer>(
     crew: &C,
     alloc: Global,
     request: &Request<'_>,
@@ -112,7 +111,7 @@ fn write_answer<C: LineCrew, W: Writer, F: Writer>(
 }
 
 /// Does what a subcommand does over readers and writers.
-fn follow_as<C: LineCrew, R: Reader, W: Writer, F: Writer>(
+fn follow_as<C: Crew, R: Reader, W: Writer, F: Writer>(
     crew: &C,
     alloc: Global,
     request: &Request<'_>,
@@ -216,7 +215,7 @@ pub fn run_check<R: Reader, W: Writer, F: Writer>(
 /// `words.is_one_input()` one of all texts, which the first lines that are exactly `%%` cut. `status_of` has the exit
 /// status of an ending: 0 where all is done; 1 for an input that is refused, a finding, or a reader or writer that
 /// failed; 3 for want of memory, also where a step wanted it, and for `live`.
-pub fn follow_by<C: LineCrew, R: Reader, W: Writer, F: Writer>(
+pub fn follow_by<C: Crew, R: Reader, W: Writer, F: Writer>(
     crew: &C,
     alloc: Global,
     words: &Words,

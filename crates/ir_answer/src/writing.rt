@@ -11,7 +11,7 @@ use ir_cli::{
     Ending, Notice, RunOutcome, RunReply, Told, notice_line, steps_text, tell, tell_fault,
 };
 use ir_core::Refused;
-use ir_show::TextCrew;
+use ir_plan::Crew;
 use ir_streams::Writer;
 use std::alloc::{AllocError, Global};
 
@@ -62,7 +62,7 @@ fn ended<F: Writer>(
 }
 
 /// Writes what the inputs come to; a crew makes the lines of a plan's text.
-fn write_reply<C: TextCrew, W: Writer, F: Writer>(
+fn write_reply<C: Crew, W: Writer, F: Writer>(
     crew: &C,
     alloc: Global,
     form: AnswerForm,
@@ -108,7 +108,7 @@ fn write_reply<C: TextCrew, W: Writer, F: Writer>(
 
 /// Writes what the inputs come to, in a form, or the line that tells why that is nothing. A crew makes the lines of a
 /// plan's text.
-pub fn write_given<C: TextCrew, W: Writer, F: Writer>(
+pub fn write_given<C: Crew, W: Writer, F: Writer>(
     crew: &C,
     alloc: Global,
     form: AnswerForm,

@@ -6,16 +6,17 @@ use Rattle.std.proofs.lemmas.List.{length-map}
 use Rattle.std.proofs.lemmas.List.Folds.{list_all-map}
 use Rattle.std.proofs.lemmas.Slice.Eq.{bytes_eq-Decides}
 use Rattle.clap.specs.Words.{Row, Text, first_of}
-use Rattle.ir_model.specs.declared.Kind.{Kind}
-use Rattle.ir_model.specs.declared.Kind.TheVariants.{Tree, Shortest, Compact}
+use Rattle.ir_cli.specs.declared.kinds.KindChoice.{KindChoice}
+use Rattle.ir_cli.specs.declared.kinds.KindChoice.TheVariants.{Tree, Shortest, Compact, Landmark}
+use Rattle.ir_cli.specs.Kinds.{is_landmark}
 use Rattle.ir_cli.specs.declared.words.Sub.{Sub}
 use Rattle.ir_cli.specs.declared.words.Sub.TheVariants as subs
 use Rattle.ir_cli.specs.declared.words.NumberingChoice.{NumberingChoice}
 use Rattle.ir_cli.specs.declared.words.NumberingChoice.TheVariants.{DepthFirst, Tour, File}
 use Rattle.ir_cli.specs.declared.words.Second.{Second}
 use Rattle.ir_cli.specs.declared.words.Words.{Words}
-use Rattle.ir_cli.specs.Words.{AreTaken, FitsItsKind, alike, has_its_files, has_order, is_dash, is_file, is_no_dash, takes_drawing, takes_numbering, texts_wanted}
-use Rattle.ir_cli.specs.Meaning.{HasItsSecond, IsNumbering, IsSecond, Means, kind_word, numbering_word, second_word}
+use Rattle.ir_cli.specs.Words.{AreTaken, FitsItsKind, alike, has_its_files, has_order, is_dash, is_file, has_landmark, has_script, is_no_dash, may_go_round, takes_detour, takes_drawing, takes_list, takes_numbering, texts_wanted}
+use Rattle.ir_cli.specs.Meaning.{HasItsSecond, IsNumbering, IsSecond, IsKindWord, Means, first_kind, second_kind, numbering_word, second_word}
 use Rattle.ir_cli.specs.CommandLine.{sub_word}
 
 -- ---- what a word tells
@@ -35,19 +36,40 @@ texts_by_word subs.Sim = refl
 texts_by_word subs.Live = refl
 texts_by_word subs.Check = refl
 
+abbrev script_by : Text → Bool
+script_by word = bytes_eq word (codes "sim") || (bytes_eq word (codes "live") || bytes_eq word (codes "check"))
+
+script_by_word : (sub : Sub) → script_by (sub_word sub) ≡ has_script sub
+script_by_word subs.Plan = refl
+script_by_word subs.Walk = refl
+script_by_word subs.Stats = refl
+script_by_word subs.Compare = refl
+script_by_word subs.Draw = refl
+script_by_word subs.Prefixes = refl
+script_by_word subs.Ranges = refl
+script_by_word subs.Sim = refl
+script_by_word subs.Live = refl
+script_by_word subs.Check = refl
+
+same_scripts : (a b : Sub) → sub_word a ≡ sub_word b → has_script a ≡ has_script b
+same_scripts a b e = sym (script_by_word a) ∙ ap script_by e ∙ script_by_word b
+
 same_texts : (a b : Sub) → sub_word a ≡ sub_word b → texts_wanted a ≡ texts_wanted b
 same_texts a b e = sym (texts_by_word a) ∙ ap texts_by e ∙ texts_by_word b
 
-abbrev kind_by : Text → Kind
-kind_by word = if bytes_eq word (codes "tree") then Tree else if bytes_eq word (codes "compact") then Compact else Shortest
+abbrev kind_by : Text → KindChoice
+kind_by word =
+    if bytes_eq word (codes "tree") then Tree else if bytes_eq word (codes "compact") then Compact
+    else if bytes_eq word (codes "landmark") then Landmark else Shortest
 
-kind_by_word : (kind : Kind) → kind_by (kind_word kind) ≡ kind
-kind_by_word Tree = refl
-kind_by_word Shortest = refl
-kind_by_word Compact = refl
+kind_by_word : (kind : KindChoice) (word : Text) → IsKindWord kind word → kind ≡ kind_by word
+kind_by_word Tree word is = ap kind_by is
+kind_by_word Shortest word is = ap kind_by is
+kind_by_word Compact word is = ap kind_by is
+kind_by_word Landmark word is = ap kind_by is
 
-same_kind : (a b : Kind) → kind_word a ≡ kind_word b → a ≡ b
-same_kind a b e = sym (kind_by_word a) ∙ ap kind_by e ∙ kind_by_word b
+same_kind : (a b : KindChoice) (word : Text) → IsKindWord a word → IsKindWord b word → a ≡ b
+same_kind a b word is also = kind_by_word a word is ∙ sym (kind_by_word b word also)
 
 other_text : (a b : Text) → a ≢ b → bytes_eq a b ≡ false
 other_text a b other = go (bytes_eq a b) refl
@@ -58,7 +80,7 @@ other_text a b other = go (bytes_eq a b) refl
 
 -- ---- the numbering of a word
 
-abbrev numbering_by : Text → Kind → Bool → Bool
+abbrev numbering_by : Text → KindChoice → Bool → Bool
 numbering_by word kind has_root =
     if bytes_eq word (codes "depth-first") then true else if bytes_eq word (codes "tour") then takes_numbering Tour kind has_root
     else is_no_dash word && not has_root
@@ -66,7 +88,7 @@ numbering_by word kind has_root =
 abbrev file_by : Text → Bool
 file_by word = if bytes_eq word (codes "depth-first") then false else if bytes_eq word (codes "tour") then false else true
 
-numbering_by_word : (numbering : NumberingChoice) (word : Text) (kind : Kind) (has_root : Bool) → IsNumbering numbering word
+numbering_by_word : (numbering : NumberingChoice) (word : Text) (kind : KindChoice) (has_root : Bool) → IsNumbering numbering word
     → takes_numbering numbering kind has_root ≡ numbering_by word kind has_root
 numbering_by_word DepthFirst word kind has_root is = sym (ap (λ w. numbering_by w kind has_root) is)
 numbering_by_word Tour word kind has_root is = sym (ap (λ w. numbering_by w kind has_root) is)
@@ -102,6 +124,17 @@ no_second word first (Some second) b is also some = λ e. true≢false (ap is_so
 no_second word first None None is also some = absurd (some refl)
 no_second word first None (Some second) is also some = absurd (is second.kind also.0)
 
+-- whether a second plan is one of landmarks, by its word
+landmark_by_word : (kind : KindChoice) (word : Text) → IsKindWord kind word → is_landmark kind ≡ bytes_eq word (codes "landmark")
+landmark_by_word Tree word is = ap (λ w. bytes_eq w (codes "landmark")) is
+landmark_by_word Shortest word is = ap (λ w. bytes_eq w (codes "landmark")) is
+landmark_by_word Compact word is = ap (λ w. bytes_eq w (codes "landmark")) is
+landmark_by_word Landmark word is = ap (λ w. bytes_eq w (codes "landmark")) is
+
+second_by_word : (word : Text) (first : Option Text) (second : Option Second) → IsSecond word first second → has_landmark second ≡ bytes_eq (second_kind word) (codes "landmark")
+second_by_word word first None none = sym (other_text (second_kind word) (codes "landmark") (λ e. none Landmark (sym e)))
+second_by_word word first (Some second) is = landmark_by_word second.kind (second_kind word) is.0
+
 -- ---- words that mean the same
 
 module _ (name : Text) (rows : List Row) (a b : Words) (is : Means name rows a) (also : Means name rows b) where
@@ -109,7 +142,7 @@ module _ (name : Text) (rows : List Row) (a b : Words) (is : Means name rows a) 
   same_files = files_by_texts a ∙ ap₂ files_by (same_texts a.sub b.sub (is.sub ∙ sym also.sub)) (is.files ∙ sym also.files) ∙ sym (files_by_texts b)
 
   kinds : a.kind ≡ b.kind
-  kinds = same_kind a.kind b.kind (is.kind ∙ sym also.kind)
+  kinds = same_kind a.kind b.kind (first_kind rows) is.kind also.kind
 
   same_numbering : takes_numbering a.numbering a.kind (is_some a.root) ≡ takes_numbering b.numbering b.kind (is_some b.root)
   same_numbering = numbering_by_word a.numbering (numbering_word rows) a.kind (is_some a.root) is.numbering
@@ -126,11 +159,22 @@ module _ (name : Text) (rows : List Row) (a b : Words) (is : Means name rows a) 
   same_order : has_order a ≡ has_order b
   same_order = file_by_word a.numbering (numbering_word rows) is.numbering ∙ sym (file_by_word b.numbering (numbering_word rows) also.numbering)
 
+  same_second : has_landmark a.second ≡ has_landmark b.second
+  same_second = second_by_word (second_word rows) (first_of (codes "root") rows) a.second is.second
+      ∙ sym (second_by_word (second_word rows) (first_of (codes "root") rows) b.second also.second)
+
+  same_round : may_go_round a.sub a.kind a.second ≡ may_go_round b.sub b.kind b.second
+  same_round = ap₂ (λ (script landmark : Bool). script || (landmark || has_landmark a.second)) (same_scripts a.sub b.sub (is.sub ∙ sym also.sub)) (ap is_landmark kinds)
+      ∙ ap (λ (second : Bool). has_script b.sub || (is_landmark b.kind || second)) same_second
+
+  same_detour : takes_detour a ≡ takes_detour b
+  same_detour = ap₂ (λ (said round : Bool). not said || round) (is.detour.said ∙ sym also.detour.said) same_round
+
   pub taken_too : AreTaken b → AreTaken a
-  taken_too taken = (same_files ∙ taken.0, same_numbering ∙ taken.1, same_drawing ∙ taken.2)
+  taken_too taken = (same_files ∙ taken.0, same_numbering ∙ taken.1, same_drawing ∙ taken.2, same_detour ∙ taken.3)
 
   pub fits_too : FitsItsKind b → FitsItsKind a
-  fits_too fits = λ order tree. fits (sym same_order ∙ order) (sym kinds ∙ tree)
+  fits_too fits = λ order. ap takes_list kinds ∙ fits (sym same_order ∙ order)
 
   pub second_too : HasItsSecond rows b → HasItsSecond rows a
   second_too has = λ asked. no_second (second_word rows) (first_of (codes "root") rows) a.second b.second is.second also.second (has asked)

@@ -8,3 +8,5 @@ pub mod Simple
 pub mod Table
 pub mod Subcommand
 pub mod Failing
+pub mod Fewest
+pub mod SameDetours

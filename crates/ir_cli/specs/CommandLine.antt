@@ -14,7 +14,7 @@ use Rattle.ir_cli.specs.declared.options.Choices.{Choices}
 use Rattle.ir_cli.specs.declared.words.Sub.{Sub}
 use Rattle.ir_cli.specs.declared.words.Sub.TheVariants as subs
 use Rattle.ir_core.specs.declared.TheConstants.{MAX_CAPACITY, MAX_PACKETS, MAX_RESTAMPS}
-use Rattle.ir_cli.specs.declared.TheConstants.{MAX_THREADS, DEFAULT_CAPACITY, DEFAULT_PACKETS, DEFAULT_RESTAMPS}
+use Rattle.ir_cli.specs.declared.TheConstants.{MAX_THREADS, MAX_LANDMARKS, MIN_STRETCH, MAX_STRETCH, DEFAULT_CAPACITY, DEFAULT_PACKETS, DEFAULT_RESTAMPS}
 
 -- `--NAME`
 abbrev pub flag : Text → Rule
@@ -73,7 +73,7 @@ name_of Bentzolu = codes "bentzolu"
 -- the words of which one may be chosen
 abbrev pub AreTheirWords : Choices → Type 0
 AreTheirWords choices = (texts choices.formats.now ≡ codes "adjlist" ∷ codes "edgelist" ∷ [])
-    × (texts choices.kinds.now ≡ codes "tree" ∷ codes "shortest" ∷ codes "compact" ∷ [])
+    × (texts choices.kinds.now ≡ codes "tree" ∷ codes "shortest" ∷ codes "compact" ∷ codes "landmark" ∷ [])
     × (texts choices.numberings.now ≡ codes "depth-first" ∷ codes "tour" ∷ [])
 
 -- the flag of output as JSON
@@ -146,6 +146,8 @@ module _ (choices : Choices) where
   routed =
       format
       ∷ lettered (codes "k") (or_else (codes "shortest") (choice (codes "kind") choices.kinds))
+      ∷ number (codes "landmarks") 1 MAX_LANDMARKS
+      ∷ number (codes "stretch") MIN_STRETCH MAX_STRETCH
       ∷ lettered (codes "r") (option (codes "root"))
       ∷ []
 

@@ -1,4 +1,5 @@
 -- what contracts promise
+pub mod Kinds
 pub mod Words
 pub mod CommandLine
 pub mod Meaning

@@ -1,13 +1,14 @@
 -- What the words behind the program's name mean, field by field.
-use Rattle.std.specs.Prelude.{◌≡◌, ◌≢◌, ◌≤◌, ◌==◌, ℕ, Bool, false, not, ◌&&◌, if◌then◌else◌, List, [], ◌∷◌, ◌++◌, map, Option, Some, None, MatchOption, unwrap_or, option_map, option_to_list, bytes_eq, codes, string_bytes}
+use Rattle.std.specs.Prelude.{◌≡◌, ◌≢◌, ◌≤◌, ◌==◌, ℕ, Bool, false, not, ◌&&◌, ◌||◌, is_some, if◌then◌else◌, List, [], ◌∷◌, ◌++◌, map, Option, Some, None, MatchOption, unwrap_or, option_map, option_to_list, bytes_eq, codes, string_bytes}
 use Rattle.std.specs.Option.{option_map_or, option_or}
 use Rattle.std.specs.List.{list_any, before_first, after_first}
 use Rattle.std.specs.Str.Parse.{IsNumeral, digits_value, without_leading_plus}
 use Rattle.clap.specs.Words.{Kinds, Row, Text, fault_of, first_of, one_of, subcommand_of}
-use Rattle.ir_model.specs.declared.Kind.{Kind}
-use Rattle.ir_model.specs.declared.Kind.TheVariants.{Tree, Shortest, Compact}
 use Rattle.ir_core.specs.declared.TheConstants.{MAX_CAPACITY, MAX_PACKETS, MAX_RESTAMPS}
-use Rattle.ir_cli.specs.declared.TheConstants.{MAX_THREADS, DEFAULT_CAPACITY, DEFAULT_PACKETS, DEFAULT_RESTAMPS}
+use Rattle.ir_cli.specs.declared.TheConstants.{MAX_THREADS, MAX_LANDMARKS, MIN_STRETCH, MAX_STRETCH, DEFAULT_CAPACITY, DEFAULT_PACKETS, DEFAULT_RESTAMPS}
+use Rattle.ir_cli.specs.declared.choices.DetourChoice.{DetourChoice}
+use Rattle.ir_cli.specs.declared.kinds.KindChoice.{KindChoice}
+use Rattle.ir_cli.specs.declared.kinds.KindChoice.TheVariants.{Tree, Shortest, Compact, Landmark}
 use Rattle.ir_cli.specs.declared.words.Format.{Format}
 use Rattle.ir_cli.specs.declared.words.Format.TheVariants.{AdjList, EdgeList}
 use Rattle.ir_cli.specs.declared.words.NumberingChoice.{NumberingChoice}
@@ -20,10 +21,12 @@ use Rattle.ir_cli.specs.declared.help.Called.TheVariants.{Route}
 use Rattle.ir_cli.specs.declared.options.Choices.{Choices}
 use Rattle.ir_cli.specs.CommandLine.{AreTheirWords, name_of, program, sub_word}
 
-abbrev pub kind_word : Kind → Text
-kind_word Tree = codes "tree"
-kind_word Shortest = codes "shortest"
-kind_word Compact = codes "compact"
+-- the word of a kind
+abbrev pub IsKindWord : KindChoice → Text → Type 0
+IsKindWord Tree word = codes "tree" ≡ word
+IsKindWord Shortest word = codes "shortest" ≡ word
+IsKindWord Compact word = codes "compact" ≡ word
+IsKindWord Landmark word = codes "landmark" ≡ word
 
 abbrev pub format_word : Format → Text
 format_word AdjList = codes "adjlist"
@@ -61,6 +64,12 @@ IsNumber name rows least most (Some n) = (word : Text) × (one_of name rows ≡ 
 abbrev pub IsNumberElse : Text → List Row → ℕ → ℕ → ℕ → ℕ → Type 0
 IsNumberElse name rows least most other n = (given : Option ℕ) × IsNumber name rows least most given × (n ≡ unwrap_or given other)
 
+-- How far landmark plans go round: the numbers that options say, 300 percent where none says it, and whether one does.
+pub record IsDetour (detour : DetourChoice) (rows : List Row) : Type 0 where
+  pub landmarks : IsNumber (codes "landmarks") rows 1 MAX_LANDMARKS detour.landmarks
+  pub stretch : IsNumberElse (codes "stretch") rows MIN_STRETCH MAX_STRETCH MAX_STRETCH detour.stretch
+  pub said : detour.is_said ≡ (is_some (first_of (codes "landmarks") rows) || is_some (first_of (codes "stretch") rows))
+
 -- a flag stands among the words
 abbrev pub is_set : Text → List Row → Bool
 is_set name rows = option_map_or (λ word. bytes_eq word (codes "true")) (first_of name rows) false
@@ -87,9 +96,9 @@ second_root word = if list_any is_comma word then Some (after_first is_comma wor
 
 -- The second plan that a word asks for, its root by default that of the first plan; none where the word has no kind.
 abbrev pub IsSecond : Text → Option Text → Option Second → Type 0
-IsSecond word first None = (kind : Kind) → kind_word kind ≢ second_kind word
+IsSecond word first None = (kind : KindChoice) → IsKindWord kind (second_kind word) → ⊥
 IsSecond word first (Some second) =
-    (kind_word second.kind ≡ second_kind word) × (option_map string_bytes second.root ≡ option_or (second_root word) first)
+    IsKindWord second.kind (second_kind word) × (option_map string_bytes second.root ≡ option_or (second_root word) first)
 
 -- there is a second plan where one is asked for
 abbrev pub HasItsSecond : List Row → Words → Type 0
@@ -99,7 +108,8 @@ HasItsSecond rows words = first_of (codes "with") rows ≢ None → words.second
 pub record Means (name : Text) (rows : List Row) (words : Words) : Type 0 where
   pub sub : sub_word words.sub ≡ name
   pub format : IsFormat words.format rows
-  pub kind : kind_word words.kind ≡ first_kind rows
+  pub kind : IsKindWord words.kind (first_kind rows)
+  pub detour : IsDetour words.detour rows
   pub root : option_map string_bytes words.root ≡ first_of (codes "root") rows
   pub numbering : IsNumbering words.numbering (numbering_word rows)
   pub capacity : IsNumberElse (codes "capacity") rows 1 MAX_CAPACITY (digits_value 10 DEFAULT_CAPACITY.now) words.capacity

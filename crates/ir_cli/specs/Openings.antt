@@ -5,7 +5,8 @@ use Rattle.ir_model.specs.declared.Fault.{Fault}
 use Rattle.ir_model.specs.Graph.{Name, Adjacency, names}
 use Rattle.ir_model.specs.Made.{graph_of}
 use Rattle.ir_model.specs.Text.{names_in, pairs_in, first_fault}
-use Rattle.ir_model.specs.Topology.{Topology}
+use Rattle.ir_model.specs.declared.Kind.{Kind}
+use Rattle.ir_model.specs.Topology.{Topology, node_count}
 use Rattle.ir_model.specs.Edgelist.{edges_in, graph_of_edges, first_edge_fault}
 use Rattle.ir_plan.specs.declared.tour.LabelOrder.{LabelOrder}
 use Rattle.ir_plan.specs.declared.tour.LabelOrder.TheVariants as orders
@@ -17,6 +18,7 @@ use Rattle.ir_cli.specs.declared.words.Format.TheVariants.{AdjList, EdgeList}
 use Rattle.ir_cli.specs.declared.words.NumberingChoice.{NumberingChoice}
 use Rattle.ir_cli.specs.declared.words.NumberingChoice.TheVariants.{DepthFirst, Tour, File}
 use Rattle.ir_cli.specs.declared.words.Words.{Words}
+use Rattle.ir_cli.specs.Kinds.{detour_of, kind_of}
 use Rattle.ir_cli.specs.Answer.{Answer, Refused}
 use Rattle.ir_script.specs.Order.{order_fault, IsOrder}
 use Rattle.ir_cli.specs.Lines.{topology_line, numbering_line, opening_line}
@@ -45,12 +47,16 @@ label_order DepthFirst = orders.DepthFirst
 label_order Tour = orders.Tour
 label_order (File name) = orders.DepthFirst
 
+-- the kind that the words ask for, of plans of so many nodes
+abbrev pub kind_asked : Words → ℕ → Kind
+kind_asked words n = kind_of words.kind (detour_of words.detour n)
+
 -- the opening of a run over a network, as the words ask for it
 abbrev pub opening_by : Words → Topology → ℕ → Opening
 opening_by words net root = record {
   topology = net;
   labels = label_order words.numbering;
-  kind = words.kind;
+  kind = kind_asked words (node_count net);
   root = root;
   capacity = words.capacity;
   max_packets = words.packets;

@@ -1,10 +1,11 @@
 -- What the words of the command line say of their files, and the numbers of their refusals.
-use Rattle.std.specs.Prelude.{◌≡◌, ◌≢◌, ℕ, ◌==◌, Bool, true, false, not, is_some, List, [], ◌∷◌, ◌&&◌, ◌||◌, ◌-◌, if◌then◌else◌, bytes_eq, codes, string_bytes, map, length, drop, slice_get}
+use Rattle.std.specs.Prelude.{◌≡◌, ℕ, ◌==◌, Bool, true, false, not, is_some, Option, Some, None, List, [], ◌∷◌, ◌&&◌, ◌||◌, ◌-◌, if◌then◌else◌, bytes_eq, codes, string_bytes, map, length, drop, slice_get}
 use Rattle.ir_model.specs.Graph.{Name}
 use Rattle.std.specs.List.{list_all}
 use Rattle.std.specs.Option.{option_map_or}
-use Rattle.ir_model.specs.declared.Kind.{Kind}
-use Rattle.ir_model.specs.declared.Kind.TheVariants.{Tree}
+use Rattle.ir_cli.specs.declared.kinds.KindChoice.{KindChoice}
+use Rattle.ir_cli.specs.declared.kinds.KindChoice.TheVariants.{Tree, Shortest, Compact, Landmark}
+use Rattle.ir_cli.specs.declared.words.Second.{Second}
 use Rattle.ir_cli.specs.declared.words.Sub.{Sub}
 use Rattle.ir_cli.specs.declared.words.Sub.TheVariants.{Sim, Live, Check}
 use Rattle.ir_cli.specs.declared.words.NumberingChoice.{NumberingChoice}
@@ -12,6 +13,7 @@ use Rattle.ir_cli.specs.declared.words.NumberingChoice.TheVariants.{DepthFirst, 
 use Rattle.ir_cli.specs.declared.words.Words.{Words}
 use Rattle.ir_cli.specs.declared.words.Format.{Format}
 use Rattle.ir_cli.specs.declared.words.Format.TheVariants.{AdjList, EdgeList}
+use Rattle.ir_cli.specs.Kinds.{is_landmark}
 use Rattle.ir_cli.specs.declared.words.WordsError.{WordsError}
 use Rattle.ir_cli.specs.declared.words.WordsError.TheVariants as refused
 
@@ -55,11 +57,17 @@ abbrev pub has_its_files : Words → Bool
 has_its_files words = is_one_input words
     || ((length words.files.items == texts_wanted words.sub) && list_all (λ file. is_no_dash (string_bytes file)) words.files.items)
 
--- a tour is of no tree, and a file of an order is no dash and stands beside no root
-abbrev pub takes_numbering : NumberingChoice → Kind → Bool → Bool
+-- a kind's nodes may be numbered in another order than depth first: it is of no tree, and of no landmarks
+abbrev pub takes_list : KindChoice → Bool
+takes_list Tree = false
+takes_list Shortest = true
+takes_list Compact = true
+takes_list Landmark = false
+
+-- a tour is of a kind that takes another order, and a file of an order is no dash and stands beside no root
+abbrev pub takes_numbering : NumberingChoice → KindChoice → Bool → Bool
 takes_numbering DepthFirst kind has_root = true
-takes_numbering Tour Tree has_root = false
-takes_numbering Tour kind has_root = true
+takes_numbering Tour kind has_root = takes_list kind
 takes_numbering (File name) kind has_root = is_no_dash (string_bytes name) && not has_root
 
 abbrev pub has_its_numbering : Words → Bool
@@ -74,10 +82,30 @@ abbrev pub takes_drawing : Words → Bool
 takes_drawing words = alike (is_some words.from) (is_some words.to)
     && (not (is_some words.node && is_some words.from) && (not words.svg || is_some words.node))
 
--- the words have the files, the numbering and the drawing that their subcommand takes
+-- a second plan is one of landmarks
+abbrev pub has_landmark : Option Second → Bool
+has_landmark None = false
+has_landmark (Some second) = is_landmark second.kind
+
+-- the subcommand reads a script, whose installs may be of landmark plans
+abbrev pub has_script : Sub → Bool
+has_script Sim = true
+has_script Live = true
+has_script Check = true
+has_script _ = false
+
+-- a landmark plan may be made: by an install, of the words' kind, or as a second plan
+abbrev pub may_go_round : Sub → KindChoice → Option Second → Bool
+may_go_round sub kind second = has_script sub || (is_landmark kind || has_landmark second)
+
+-- how far ways go round is said only where a landmark plan may be made
+abbrev pub takes_detour : Words → Bool
+takes_detour words = not words.detour.is_said || may_go_round words.sub words.kind words.second
+
+-- the words have the files, the numbering, the drawing and the detour that their subcommand takes
 abbrev pub AreTaken : Words → Type 0
 AreTaken words = (has_its_files words ≡ true) × (takes_numbering words.numbering words.kind (is_some words.root) ≡ true)
-    × (takes_drawing words ≡ true)
+    × (takes_drawing words ≡ true) × (takes_detour words ≡ true)
 
 -- the format of a file, by its name
 abbrev pub format_of_name : Name → Format
@@ -92,9 +120,9 @@ is_file (File name) = true
 abbrev pub has_order : Words → Bool
 has_order words = is_file words.numbering
 
--- a file's numbering is of no tree
+-- a file's numbering is of a kind that takes another order than depth first
 abbrev pub FitsItsKind : Words → Type 0
-FitsItsKind words = has_order words ≡ true → words.kind ≢ Tree
+FitsItsKind words = has_order words ≡ true → takes_list words.kind ≡ true
 
 -- the numbers of the refusals of words
 abbrev pub words_code : WordsError → ℕ

@@ -18,7 +18,7 @@ use std::alloc::{AllocError, Global};
 
 static FORMATS: [&str; 2] = ["adjlist", "edgelist"];
 
-static KINDS: [&str; 3] = ["tree", "shortest", "compact"];
+static KINDS: [&str; 4] = ["tree", "shortest", "compact", "landmark"];
 
 static NUMBERINGS: [&str; 2] = ["depth-first", "tour"];
 

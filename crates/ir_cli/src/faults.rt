@@ -3,14 +3,14 @@
 ghost use Rattle.std.specs.Prelude.{◌≡◌, true, false, MatchOption, string_bytes};
 ghost use Rattle.std.specs.List.{list_all};
 ghost use Rattle.clap.specs.Words.{found_of, rows_of};
-ghost use Rattle.ir_cli.specs.Words.{AreTaken, FitsItsKind, has_its_files, has_its_numbering, is_no_dash, takes_drawing, texts_wanted};
+ghost use Rattle.ir_cli.specs.Words.{AreTaken, FitsItsKind, has_its_files, has_its_numbering, is_no_dash, may_go_round, takes_detour, takes_drawing, takes_list, texts_wanted};
 ghost use Rattle.ir_cli.specs.Meaning.{HasItsSecond};
 
 use crate::help::{Called, texts_of, usage_of};
+use crate::kinds::KindChoice;
 use crate::typed::typed;
 use crate::words::{NumberingChoice, Sub, Words};
 use clap::ArgMatches;
-use ir_model::Kind;
 use std::alloc::{AllocError, Global};
 
 /// How many texts a subcommand reads.
@@ -42,12 +42,27 @@ fn has_its_files(words: &Words) -> bool
 /// That a tree takes another numbering than depth first.
 static TREE_NUMBERING: &str = "'--kind tree' takes '--numbering depth-first' alone";
 
+/// That labels by landmarks have no other order.
+static LANDMARK_NUMBERING: &str =
+    "'--kind landmark' takes no '--numbering': its landmarks number the nodes";
+
+/// What is wrong with a numbering other than depth first of a kind, if anything is.
+fn list_fault(kind: KindChoice) -> Option<&'static str>
+    ensures { MatchOption result (takes_list kind ≡ true) (λ _. takes_list kind ≡ false) }
+{
+    match kind {
+        KindChoice::Tree => Some(TREE_NUMBERING),
+        KindChoice::Landmark => Some(LANDMARK_NUMBERING),
+        KindChoice::Shortest | KindChoice::Compact => None,
+    }
+}
+
 /// What is wrong with the numbering of the words, if anything is.
 fn numbering_fault(words: &Words) -> Option<&'static str>
     ensures { MatchOption result (has_its_numbering words.now ≡ true) (λ _. has_its_numbering words.now ≡ false) }
 {
     match &words.numbering {
-        NumberingChoice::Tour if words.kind == Kind::Tree => Some(TREE_NUMBERING),
+        NumberingChoice::Tour => list_fault(words.kind),
         NumberingChoice::File(name) if name.as_str() == "-" => {
             Some("'--numbering' takes 'depth-first', 'tour' or a file, not '-'")
         }
@@ -56,7 +71,7 @@ fn numbering_fault(words: &Words) -> Option<&'static str>
                 "'--root' does not go with a file's '--numbering', of which the first node is the root",
             )
         }
-        NumberingChoice::DepthFirst | NumberingChoice::Tour | NumberingChoice::File(_) => None,
+        NumberingChoice::DepthFirst | NumberingChoice::File(_) => None,
     }
 }
 
@@ -72,6 +87,30 @@ fn drawing_fault(words: &Words) -> Option<&'static str>
         Some("'--to' takes '--from' beside it")
     } else if words.svg && words.node.is_none() {
         Some("'--svg' takes '--node' beside it")
+    } else {
+        None
+    }
+}
+
+/// Whether a landmark plan may be made: of the words' kind, as a second plan, or by an install.
+fn may_go_round(words: &Words) -> bool
+    ensures { result ≡ may_go_round words.now.sub words.now.kind words.now.second }
+{
+    match words.sub {
+        Sub::Sim | Sub::Live | Sub::Check => true,
+        _ => match &words.second {
+            Some(second) => words.kind.is_landmark() || second.kind.is_landmark(),
+            None => words.kind.is_landmark(),
+        },
+    }
+}
+
+/// What is wrong with how far the words say that landmark plans go round, if anything is.
+fn detour_fault(words: &Words) -> Option<&'static str>
+    ensures { MatchOption result (takes_detour words.now ≡ true) (λ _. takes_detour words.now ≡ false) }
+{
+    if words.detour.is_said && !may_go_round(words) {
+        Some("'--landmarks' and '--stretch' take '--kind landmark' beside them")
     } else {
         None
     }
@@ -101,8 +140,11 @@ pub fn fault_of(called: Called, words: &Words) -> Option<&'static str>
     if let Some(fault) = drawing_fault(words) {
         return Some(fault);
     }
-    if words.has_order() && words.kind == Kind::Tree {
-        Some(TREE_NUMBERING)
+    if let Some(fault) = detour_fault(words) {
+        return Some(fault);
+    }
+    if words.has_order() {
+        list_fault(words.kind)
     } else {
         None
     }
@@ -130,7 +172,9 @@ pub fn second_fault(found: &ArgMatches<'_>, words: &Words) -> Option<&'static st
         (λ _. HasItsSecond (rows_of (found_of found.now)) words.now → ⊥) }
 {
     if typed(found, "with").is_some() && words.second.is_none() {
-        Some("'--with' takes 'tree', 'shortest' or 'compact', and behind a comma a root")
+        Some(
+            "'--with' takes 'tree', 'shortest', 'compact' or 'landmark', and behind a comma a root",
+        )
     } else {
         None
     }

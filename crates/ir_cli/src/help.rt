@@ -43,6 +43,7 @@ Lines of a script ('learn', 'take', 'read' and 'act' are lines of 'sim' alone):
   install tree R      A tree plan from root R over the links that are up becomes the current epoch
   install shortest R  The same with a plan of shortest ways
   install compact R   The same with the fewest intervals at each node
+  install landmark R  The same with paths that may go round by --landmarks, up to --stretch percent of the distance
   retire F            The epochs below F are retired
   learn E             The injector learns epoch E; it stamps each packet with the greatest that it learnt
   take N inbox        Node N takes the first packet of its inbox into its hand
@@ -61,6 +62,7 @@ Lines of a script:
   install tree R      A tree plan from root R over the links that are up becomes the current epoch
   install shortest R  The same with a plan of shortest ways
   install compact R   The same with the fewest intervals at each node
+  install landmark R  The same with paths that may go round by --landmarks, up to --stretch percent of the distance
   retire F            The epochs below F are retired
   # TEXT              A comment, behind a line's words too";
 
@@ -90,14 +92,14 @@ macro_rules! texts_by {
             prefixes: concat!("\
 Lines that are printed:
   prefixes KIND N BITS LINES                       The numbers of nodes, of bits of a label, and of lines of tables
-  NODE LABEL [VALUE/LENGTH NEXT]...                The lines of a node; NEXT is a neighbour, or - for unreachable
+  NODE LABEL [VALUE/LENGTH NEXT]...                The lines of a node; NEXT is a neighbour, or # for unreachable
 
 Example, for a topology with the lines 'a b' and 'b c':
   $ ", $name, " prefixes --kind tree --root b TOPOLOGY
   prefixes tree 3 2 5
   a 1 0/0 b
   b 0 2/1 c 0/0 a
-  c 2 2/1 - 0/0 b
+  c 2 2/1 # 0/0 b
 
 What goes to a label goes by the line of the longest prefix that holds it; a number beyond the labels goes as the last
 label does, and is unreachable at its node."),
@@ -123,7 +125,7 @@ Lines that are printed:
 
 MEAN is the weight of all walks over all distances, WORST the walk over the distance of the pair that fares worst, DEP
 acyclic or cycle: whether links wait for each other in a ring. Rows are of shortest and compact, depth-first and tour,
-and of tree.
+of tree, and of landmark with paths of at most 150, 200 and 300 percent of the distance.
 
 Example, for a ring of four nodes:
   $ ", $name, " compare TOPOLOGY
@@ -134,6 +136,9 @@ Example, for a ring of four nodes:
   compact depth-first 8 2 24 16/16 1/1 cycle
   compact tour 8 2 24 16/16 1/1 cycle
   tree depth-first 6 2 18 20/16 3/1 acyclic
+  landmark-150 blocks 8 2 24 16/16 1/1 cycle
+  landmark-200 blocks 8 2 24 16/16 1/1 cycle
+  landmark-300 blocks 7 2 21 18/16 3/1 acyclic
   tables - - - 12 - - -"),
             sim_usage: concat!($name, " sim [OPTIONS] <TOPOLOGY> <SCRIPT>\n       ", $name, " sim [OPTIONS] -"),
             live_usage: concat!($name, " live [OPTIONS] <TOPOLOGY> <SCRIPT>\n       ", $name, " live [OPTIONS] -"),

@@ -148,7 +148,7 @@ pub fn notice_line(alloc: Global, notice: Notice) -> Result<String, AllocError>
         Notice::Opening(error) => {
             format!(in alloc; "opening {}\n", OPENINGS[error.code() as usize - 1])
         }
-        Notice::Finding(f) => line_of(alloc, "finding", f.line, FINDINGS[f.kind as usize - 1]),
+        Notice::Finding(f, _) => line_of(alloc, "finding", f.line, FINDINGS[f.kind as usize - 1]),
         Notice::Beside(f) => line_of(alloc, "finding", f.line, BESIDE_SCRIPT[f.kind as usize - 1]),
         Notice::Sound(rows) => format!(in alloc; "ok {rows}\n"),
         Notice::Unwritable => String::from_str(alloc, "output unwritable\n"),

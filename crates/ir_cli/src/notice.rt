@@ -3,7 +3,7 @@ use crate::read::Source;
 use ir_adjlist::TextError;
 use ir_core::OpenError;
 use ir_script::{OrderFault, ScriptError};
-use ir_trace::Finding;
+use ir_trace::{Departure, Finding};
 use ir_whole::WholeFinding;
 
 /// Why a run ended, or what a check found. Its stable line is `notice_line`; its sentence is `ir_explain`'s.
@@ -17,8 +17,8 @@ pub enum Notice {
     Script(ScriptError),
     Numbering(OrderFault),
     Opening(OpenError),
-    /// The first finding of a trace.
-    Finding(Finding),
+    /// The first finding of a trace, and where its row leaves the walks of its epochs, where it does so.
+    Finding(Finding, Option<Departure>),
     /// The first finding of a trace beside its script.
     Beside(WholeFinding),
     /// A trace of so many rows has no finding.

@@ -1,14 +1,15 @@
 //! The graph of a topology text, its root, and what a run over it is opened with.
-ghost use Rattle.std.specs.Prelude.{◌≡◌, ◌<◌, None, IfOk, IfErr, IfSome, OnOk, length, string_bytes};
+ghost use Rattle.std.specs.Prelude.{◌≡◌, ◌<◌, ◌^◌, None, IfOk, IfErr, IfSome, OnOk, length, string_bytes};
 ghost use Rattle.std.specs.Option.{option_map};
 ghost use Rattle.ir_model.specs.{Graph.names, Text.lines};
 ghost use Rattle.ir_adjlist.specs.Told.{Tells};
-ghost use Rattle.ir_cli.specs.Openings.{topology_fault, topology_graph, root_in, no_root, label_order, opening_by};
+ghost use Rattle.ir_cli.specs.Openings.{topology_fault, topology_graph, root_in, no_root, kind_asked, label_order, opening_by};
 
 use crate::words::{Format, NumberingChoice, Words};
 use ir_adjlist::{TextError, parse_adjlist, parse_weighted_edgelist};
 use ir_core::{OpenError, Opening};
 use ir_graph::Graph;
+use ir_model::Kind;
 use ir_plan::LabelOrder;
 use ir_tables::Topology;
 use std::alloc::{AllocError, Global};
@@ -57,6 +58,14 @@ pub fn label_order(numbering: &NumberingChoice) -> LabelOrder
     }
 }
 
+/// The kind that the words ask for, of plans of so many nodes.
+pub fn kind_asked(words: &Words, nodes: usize) -> Kind
+    requires { nodes < 2 ^ 16 }
+    ensures { result ≡ kind_asked words.now nodes }
+{
+    words.kind.kind(words.detour.detour(nodes))
+}
+
 /// What a run over a topology is opened with, by the words and this root's number. Memory alone
 /// refuses it.
 pub fn opening_of(
@@ -70,7 +79,7 @@ pub fn opening_of(
     Ok(Opening {
         topology: topology.try_clone(alloc)?,
         labels: label_order(&words.numbering),
-        kind: words.kind,
+        kind: kind_asked(words, topology.nodes()),
         root,
         capacity: words.capacity,
         max_packets: words.packets,

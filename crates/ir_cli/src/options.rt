@@ -5,7 +5,10 @@ ghost use Rattle.ir_cli.specs.declared.options.Choices.{Choices};
 ghost use Rattle.ir_cli.specs.Taking.{rules_taken};
 
 use crate::words::Sub;
-use crate::{DEFAULT_CAPACITY, DEFAULT_PACKETS, DEFAULT_RESTAMPS, MAX_THREADS};
+use crate::{
+    DEFAULT_CAPACITY, DEFAULT_PACKETS, DEFAULT_RESTAMPS, MAX_LANDMARKS, MAX_STRETCH, MAX_THREADS,
+    MIN_STRETCH,
+};
 use ir_core::{MAX_CAPACITY, MAX_PACKETS, MAX_RESTAMPS};
 
 /// What may be chosen.
@@ -99,6 +102,14 @@ const KIND: Taken =
     taken!("kind", Some('k'), Accepts::WordOf("KIND", Choice::Kind), Need::Else("shortest")
     => "How the first plan routes");
 
+const LANDMARKS: Taken =
+    taken!("landmarks", None, Accepts::Number("K", 1, MAX_LANDMARKS), Need::Free
+    => "The most landmarks of plans of kind landmark; by default the least K with 4 K K at least the number of nodes");
+
+const STRETCH: Taken =
+    taken!("stretch", None, Accepts::Number("P", MIN_STRETCH, MAX_STRETCH), Need::Free
+    => "The most percent of the distance that paths of plans of kind landmark weigh; 300 by default");
+
 const ROOT: Taken = taken!("root", Some('r'), Accepts::Word("NAME"), Need::Free
     => "The root of the first plan; the first node by default");
 
@@ -175,34 +186,41 @@ const TRACE: Taken =
 const WHOLE: Taken = taken!("whole", None, Accepts::Nothing, Need::Free
     => "Whether rows can be those of a run of the script, too: injects, epochs above them and causes of drops");
 
-static PLAN: [Taken; 8] = [
-    FORMAT, KIND, ROOT, NUMBERING, THREADS, TOPOLOGY, ORDER, JSON,
+static PLAN: [Taken; 10] = [
+    FORMAT, KIND, LANDMARKS, STRETCH, ROOT, NUMBERING, THREADS, TOPOLOGY, ORDER, JSON,
 ];
 
-static WALK: [Taken; 9] = [
-    FORMAT, KIND, ROOT, NUMBERING, THREADS, TOPOLOGY, FROM, TO, JSON,
+static WALK: [Taken; 11] = [
+    FORMAT, KIND, LANDMARKS, STRETCH, ROOT, NUMBERING, THREADS, TOPOLOGY, FROM, TO, JSON,
 ];
 
-static STATS: [Taken; 8] = [FORMAT, KIND, ROOT, NUMBERING, THREADS, TOPOLOGY, WITH, JSON];
+static STATS: [Taken; 10] = [
+    FORMAT, KIND, LANDMARKS, STRETCH, ROOT, NUMBERING, THREADS, TOPOLOGY, WITH, JSON,
+];
 
 static COMPARE: [Taken; 5] = [FORMAT, ROOTS, THREADS, TOPOLOGY, JSON];
 
-static DRAW: [Taken; 10] = [
-    FORMAT, KIND, ROOT, NUMBERING, THREADS, TOPOLOGY, DRAWN_FROM, DRAWN_TO, NODE, SVG,
+static DRAW: [Taken; 12] = [
+    FORMAT, KIND, LANDMARKS, STRETCH, ROOT, NUMBERING, THREADS, TOPOLOGY, DRAWN_FROM, DRAWN_TO,
+    NODE, SVG,
 ];
 
-static PREFIXES: [Taken; 8] = [
-    FORMAT, KIND, ROOT, NUMBERING, THREADS, TOPOLOGY, DISJOINT, JSON,
+static PREFIXES: [Taken; 10] = [
+    FORMAT, KIND, LANDMARKS, STRETCH, ROOT, NUMBERING, THREADS, TOPOLOGY, DISJOINT, JSON,
 ];
 
-static RANGES: [Taken; 7] = [FORMAT, KIND, ROOT, NUMBERING, THREADS, TOPOLOGY, JSON];
-
-static RUN: [Taken; 10] = [
-    FORMAT, KIND, ROOT, RUN_ORDER, CAPACITY, PACKETS, RESTAMPS, TWO_TEXTS, SCRIPT, JSON,
+static RANGES: [Taken; 9] = [
+    FORMAT, KIND, LANDMARKS, STRETCH, ROOT, NUMBERING, THREADS, TOPOLOGY, JSON,
 ];
 
-static CHECK: [Taken; 11] = [
-    FORMAT, KIND, ROOT, RUN_ORDER, CAPACITY, PACKETS, ALL_TEXTS, SCRIPT, TRACE, WHOLE, JSON,
+static RUN: [Taken; 12] = [
+    FORMAT, KIND, LANDMARKS, STRETCH, ROOT, RUN_ORDER, CAPACITY, PACKETS, RESTAMPS, TWO_TEXTS,
+    SCRIPT, JSON,
+];
+
+static CHECK: [Taken; 13] = [
+    FORMAT, KIND, LANDMARKS, STRETCH, ROOT, RUN_ORDER, CAPACITY, PACKETS, ALL_TEXTS, SCRIPT, TRACE,
+    WHOLE, JSON,
 ];
 
 static TELLING: [Taken; 4] = [OUTPUT, QUIET, EXPLAIN, SILENT];

@@ -2,19 +2,21 @@
 
 ghost use Rattle.std.specs.Prelude.{◌≡◌, ◌≢◌, ◌<◌, ◌++◌, ℕ, Option, Some, IfOk, MatchOption, OnOk, codes, map, option_map, option_to_list, string_bytes, unwrap_or};
 ghost use Rattle.clap.specs.Words.{first_of, found_of, rows_of};
-ghost use Rattle.ir_model.specs.declared.Kind.{Kind};
-ghost use Rattle.ir_cli.specs.Meaning.{IsFormat, IsNumber, IsNumberElse, IsNumbering, IsSecond, files_in, is_set, kind_word, numbering_word, second_kind, second_root, second_word};
+ghost use Rattle.ir_cli.specs.declared.choices.DetourChoice.{DetourChoice};
+ghost use Rattle.ir_cli.specs.declared.kinds.KindChoice.{KindChoice};
+ghost use Rattle.ir_cli.specs.Meaning.{IsDetour, IsFormat, IsKindWord, IsNumber, IsNumberElse, IsNumbering, IsSecond, files_in, is_set, numbering_word, second_kind, second_root, second_word};
 ghost use Rattle.ir_cli.specs.CommandLine.{sub_word};
 ghost use Rattle.ir_cli.specs.Typed.{AreTyped};
 ghost use Rattle.ir_cli.specs.declared.typed.Chosen.{Chosen};
 ghost use Rattle.ir_cli.specs.declared.words.Format.{Format};
 ghost use Rattle.ir_cli.specs.declared.words.Sub.{Sub};
 
-use crate::MAX_THREADS;
+use crate::choices::DetourChoice;
+use crate::kinds::KindChoice;
 use crate::words::{Format, NumberingChoice, Second, Sub, format_of_file};
+use crate::{MAX_LANDMARKS, MAX_STRETCH, MAX_THREADS, MIN_STRETCH};
 use clap::ArgMatches;
 use ir_core::{MAX_CAPACITY, MAX_PACKETS, MAX_RESTAMPS};
-use ir_model::Kind;
 use std::alloc::{AllocError, Global};
 
 /// The word of an option or a file, if there is one.
@@ -99,15 +101,31 @@ fn sub_of(name: &str) -> Option<Sub>
 }
 
 /// The kind of a word, if it is that of one.
-fn kind_in(word: &str) -> Option<Kind>
-    ensures { MatchOption result ((kind : Kind) → kind_word kind ≢ word.now) (λ kind. kind_word kind ≡ word.now) }
+fn kind_in(word: &str) -> Option<KindChoice>
+    ensures { MatchOption result ((kind : KindChoice) → IsKindWord kind word.now → ⊥) (λ kind. IsKindWord kind word.now) }
 {
     match word {
-        "tree" => Some(Kind::Tree),
-        "shortest" => Some(Kind::Shortest),
-        "compact" => Some(Kind::Compact),
+        "tree" => Some(KindChoice::Tree),
+        "shortest" => Some(KindChoice::Shortest),
+        "compact" => Some(KindChoice::Compact),
+        "landmark" => Some(KindChoice::Landmark),
         _ => None,
     }
+}
+
+/// How far landmark plans go round by the words, if the numbers that say it are taken.
+fn detour_in(found: &ArgMatches<'_>) -> Option<DetourChoice>
+    ensures { MatchOption result ((detour : DetourChoice) → IsDetour detour (rows_of (found_of found.now)) → ⊥)
+        (λ detour. IsDetour detour (rows_of (found_of found.now))) }
+{
+    let landmarks = number_in(found, "landmarks", 1, MAX_LANDMARKS as usize)?;
+    let (least, most) = (MIN_STRETCH as usize, MAX_STRETCH as usize);
+    let stretch = number_or(found, "stretch", least, most, most)?;
+    Some(DetourChoice {
+        landmarks,
+        stretch: stretch as u16,
+        is_said: typed(found, "landmarks").is_some() || typed(found, "stretch").is_some(),
+    })
 }
 
 /// The word of a second plan as its kind and the name of its root, if that stands behind a comma.
@@ -193,7 +211,8 @@ pub fn files_of(alloc: Global, found: &ArgMatches<'_>) -> Result<Vec<String>, Al
 pub struct Chosen {
     pub sub: Sub,
     pub format: Format,
-    pub kind: Kind,
+    pub kind: KindChoice,
+    pub detour: DetourChoice,
     pub capacity: usize,
     pub packets: usize,
     pub restamps: u8,
@@ -210,6 +229,7 @@ pub fn choose(name: &str, found: &ArgMatches<'_>) -> Option<Chosen>
         sub: sub_of(name)?,
         format: format_of(found)?,
         kind: kind_in(typed(found, "kind").unwrap_or("shortest"))?,
+        detour: detour_in(found)?,
         capacity: number_or(found, "capacity", 1, MAX_CAPACITY, 16)?,
         packets: number_or(found, "packets", 1, MAX_PACKETS, 4096)?,
         restamps: number_or(found, "restamps", 0, MAX_RESTAMPS, 0)? as u8,

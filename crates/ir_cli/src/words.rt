@@ -12,13 +12,14 @@ ghost use Rattle.ir_cli.specs.Typed.{AreTyped};
 ghost use Rattle.ir_cli.specs.declared.words.Words.{Words};
 ghost use Rattle.ir_cli.specs.declared.words.WordsError.TheVariants.{NoMemory};
 
+use crate::choices::DetourChoice;
 use crate::command::route_command;
 use crate::faults::{fault_of, fault_text, second_fault};
 use crate::help::Called;
+use crate::kinds::KindChoice;
 use crate::typed::{Chosen, choose, files_of, is_set, numbering_of, second_of, word_of};
 use clap::ArgMatches;
 use clap::error::ErrorKind;
-use ir_model::Kind;
 use std::alloc::{AllocError, AllocFailed, Global};
 use thiserror::Error;
 
@@ -58,7 +59,7 @@ pub enum NumberingChoice {
 /// A second plan over a topology, beside the first.
 #[derive(Debug, Drop)]
 pub struct Second {
-    pub kind: Kind,
+    pub kind: KindChoice,
     /// The name of its root; the first node where there is none.
     pub root: Option<String>,
 }
@@ -70,10 +71,12 @@ pub struct Second {
 pub struct Words {
     pub sub: Sub,
     pub format: Format,
-    pub kind: Kind,
+    pub kind: KindChoice,
+    /// How far the ways of landmark plans go round: said only where such a plan may be made.
+    pub detour: DetourChoice,
     /// The name of the root; the first node where there is none.
     pub root: Option<String>,
-    /// Depth first for kind Tree. A file's only where a plan is shown, and no root is named.
+    /// Depth first for kinds Tree and Landmark. A file's only where a plan is shown, and no root is named.
     pub numbering: NumberingChoice,
     /// The capacity of each channel and inbox, from 1 to 1,024.
     pub capacity: usize,
@@ -257,6 +260,7 @@ fn words_of(alloc: Global, all: Chosen, found: &ArgMatches<'_>) -> Result<Words,
         sub: all.sub,
         format: all.format,
         kind: all.kind,
+        detour: all.detour,
         root,
         numbering,
         capacity: all.capacity,
@@ -342,8 +346,9 @@ fn all_words<'a>(
 /// What the words behind the program's name ask for. Words that are refused give the text for
 /// standard error, `--help` and `--version` that for standard output. Besides what the parser
 /// refuses: a number of files that the subcommand does not take, and `-` beside another file; a
-/// numbering other than depth first of a tree; a file's numbering beside a root, on standard input,
-/// or of a run; a second plan of no kind; a drawn walk with one end, a node beside one, SVG of none.
+/// numbering other than depth first of a tree or by landmarks; a file's numbering beside a root, on
+/// standard input, or of a run; a detour where no landmark plan is made; a second plan of no kind; a
+/// drawn walk with one end, a node beside one, SVG of none.
 pub fn read_words_as(alloc: Global, called: Called, words: &[String]) -> Result<Words, WordsError>
     ensures kind { IfOk result (λ words. FitsItsKind words) }
     ensures taken { IfOk result (λ words. AreTaken words) }

@@ -13,7 +13,6 @@ use crate::topology::push_topology;
 use crate::unlearnt::push_unlearnt;
 use ir_cli::{Notice, RunOutcome, Sub, Told, Words};
 use ir_core::Refused;
-use ir_plan::{Alone, Crew};
 use ir_streams::MAX_INPUT_BYTES;
 use std::alloc::{AllocError, Global};
 
@@ -52,7 +51,7 @@ fn push_on(text: &mut String, file: &str, said: &str) -> Pushed {
 }
 
 /// Says what a notice means.
-fn push_noticed(crew: &impl Crew, text: &mut String, run: &RunTexts<'_>, notice: Notice) -> Pushed {
+fn push_noticed(text: &mut String, run: &RunTexts<'_>, notice: Notice) -> Pushed {
     let texts = &run.texts;
     match notice {
         Notice::Unreadable(source) => {
@@ -70,7 +69,7 @@ fn push_noticed(crew: &impl Crew, text: &mut String, run: &RunTexts<'_>, notice:
         Notice::Script(error) => push_script(text, run, error),
         Notice::Numbering(fault) => push_numbering(text, run, fault),
         Notice::Opening(error) => push_opening(text, run, error),
-        Notice::Finding(finding) => push_finding(crew, text, run, finding),
+        Notice::Finding(finding, left) => push_finding(text, run, finding, left),
         Notice::Beside(finding) => push_beside(text, run, finding),
         Notice::Sound(_) => push_on(text, texts.trace.file, unseen(run.words)),
         Notice::Unwritable => push_unwritten(text, run.words),
@@ -80,8 +79,8 @@ fn push_noticed(crew: &impl Crew, text: &mut String, run: &RunTexts<'_>, notice:
 }
 
 /// Explains a notice.
-fn push_notice(crew: &impl Crew, text: &mut String, run: &RunTexts<'_>, notice: Notice) -> Pushed {
-    push_noticed(crew, text, run, notice)?;
+fn push_notice(text: &mut String, run: &RunTexts<'_>, notice: Notice) -> Pushed {
+    push_noticed(text, run, notice)?;
     text.push_str("\n")
 }
 
@@ -113,7 +112,6 @@ fn explain_steps(
 
 /// Explains what a run came to.
 fn explain_outcome(
-    crew: &impl Crew,
     text: &mut String,
     run: &RunTexts<'_>,
     outcome: &RunOutcome,
@@ -121,17 +119,16 @@ fn explain_outcome(
 ) -> Pushed {
     match &outcome.told {
         Told::Steps(steps) => explain_steps(text, run, steps.as_slice(), is_kept)?,
-        Told::Fault(notice) => push_notice(crew, text, run, *notice)?,
+        Told::Fault(notice) => push_notice(text, run, *notice)?,
     }
     match outcome.found {
-        Some(notice) => push_notice(crew, text, run, notice),
+        Some(notice) => push_notice(text, run, notice),
         None => Ok(()),
     }
 }
 
 /// Explains what a run of these texts came to.
 fn explain_over(
-    crew: &impl Crew,
     text: &mut String,
     words: &Words,
     texts: &GivenTexts<'_>,
@@ -146,12 +143,11 @@ fn explain_over(
         words,
         texts: *texts,
     };
-    explain_outcome(crew, text, &run, outcome, is_kept)
+    explain_outcome(text, &run, outcome, is_kept)
 }
 
 /// Writes the explanation of a run of these texts.
 fn push_explanation(
-    crew: &impl Crew,
     text: &mut String,
     words: &Words,
     texts: &GivenTexts<'_>,
@@ -164,7 +160,7 @@ fn push_explanation(
         Told::Fault(_) => (false, true),
     };
     if has_steps || has_fault || !is_kept || outcome.found.is_some() {
-        explain_over(crew, text, words, texts, outcome, is_kept)?;
+        explain_over(text, words, texts, outcome, is_kept)?;
     }
     push_note(alloc, text, words, &texts.topology)?;
     if words.sub == Sub::Sim && !has_fault && (is_kept || has_steps) {
@@ -183,12 +179,11 @@ pub fn explanation(
     given: &[Given<'_>],
     outcome: &RunOutcome,
 ) -> Result<String, AllocError> {
-    explanation_by(&Alone, alloc, words, given, outcome, true)
+    explanation_kept(alloc, words, given, outcome, true)
 }
 
-/// The same, told too whether the output came to its place; a crew makes the plans that it needs.
-pub fn explanation_by(
-    crew: &impl Crew,
+/// The same, told too whether the output came to its place.
+pub fn explanation_kept(
     alloc: Global,
     words: &Words,
     given: &[Given<'_>],
@@ -197,6 +192,6 @@ pub fn explanation_by(
 ) -> Result<String, AllocError> {
     let texts = texts_of(words, given);
     let mut text = String::new(alloc);
-    push_explanation(crew, &mut text, words, &texts, outcome, is_kept)?;
+    push_explanation(&mut text, words, &texts, outcome, is_kept)?;
     Ok(text)
 }

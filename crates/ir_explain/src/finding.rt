@@ -1,13 +1,12 @@
 //! What a finding in a trace means.
 ghost use Rattle.std.specs.Prelude.{◌≤◌};
 
-use crate::departing::push_departure_by;
+use crate::departing::push_departure;
 use crate::lines::{line_at, line_with, word_at, words_of};
 use crate::script::{push_no_node, unknown_word};
 use crate::sentence::{FileName, Pushed, Quoted, begin_at};
 use crate::texts::{GivenText, RunTexts};
-use ir_plan::Crew;
-use ir_trace::{Finding, FindingKind};
+use ir_trace::{Departure, Finding, FindingKind};
 use ir_whole::{WholeFinding, WholeKind};
 
 static MEMORY: &str = "memory was refused while the trace was checked";
@@ -68,10 +67,10 @@ pub fn push_beside(text: &mut String, run: &RunTexts<'_>, finding: WholeFinding)
 
 /// Says what a finding means on a row of these words.
 fn push_meaning(
-    crew: &impl Crew,
     text: &mut String,
     run: &RunTexts<'_>,
     finding: Finding,
+    departure: Option<Departure>,
     words: &[&[u8]],
 ) -> Pushed {
     let trace = &run.texts.trace;
@@ -83,8 +82,10 @@ fn push_meaning(
         FindingKind::UnknownEpoch => {
             return write!(text, "the run has no epoch {}", Quoted(word_at(words, 1)));
         }
-        FindingKind::NotAPrefix if push_departure_by(crew, text, run, finding.line)? => "",
-        FindingKind::NotAPrefix => UNFOLLOWED,
+        FindingKind::NotAPrefix => match departure {
+            Some(found) if push_departure(text, run, finding.line, found)? => "",
+            _ => UNFOLLOWED,
+        },
         FindingKind::NotAtDestination => {
             "it says delivered, and the walk goes on behind its last hop"
         }
@@ -102,14 +103,14 @@ fn push_meaning(
     text.push_str(said)
 }
 
-/// Says what a finding means.
+/// Says what a finding means, whose row leaves the walks of its epochs there.
 pub fn push_finding(
-    crew: &impl Crew,
     text: &mut String,
     run: &RunTexts<'_>,
     finding: Finding,
+    departure: Option<Departure>,
 ) -> Pushed {
     begin_row(text, run, finding.line)?;
     let words = words_of(run.alloc, line_at(run.texts.trace.bytes, finding.line))?;
-    push_meaning(crew, text, run, finding, words.as_slice())
+    push_meaning(text, run, finding, departure, words.as_slice())
 }

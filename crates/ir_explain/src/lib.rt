@@ -22,7 +22,7 @@ mod texts;
 mod topology;
 mod unlearnt;
 
-pub use explain::{explanation, explanation_by};
+pub use explain::{explanation, explanation_kept};
 pub use limits::{limits_of_runs, limits_of_texts, limits_of_words};
 pub use texts::{Given, Trouble};
 

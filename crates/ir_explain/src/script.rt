@@ -18,9 +18,9 @@ static COMMANDS: [&str; 10] = [
 const LIVE_COMMANDS: usize = 6;
 
 /// The kinds of plans.
-static KINDS: [&str; 3] = ["tree", "shortest", "compact"];
+static KINDS: [&str; 4] = ["tree", "shortest", "compact", "landmark"];
 
-static NO_KIND: &str = " is no kind of plan: tree, shortest or compact is wanted";
+static NO_KIND: &str = " is no kind of plan: tree, shortest, compact or landmark is wanted";
 
 /// How the line of a command looks; nothing where the word is none.
 fn form_of(command: &str) -> &'static str {

@@ -12,7 +12,7 @@ use Rattle.ir_model.specs.Plan.{Plan}
 use Rattle.ir_prefix.specs.Longest.{IsWidth}
 use Rattle.ir_prefix.specs.declared.line.TableLine.{TableLine}
 use Rattle.ir_show.specs.Words.{line_text}
-use Rattle.ir_exports.specs.declared.threads.NodeText.{NodeText}
+use Rattle.ir_plan.specs.declared.crew.NodeText.{NodeText}
 use Rattle.ir_exports.specs.Before.{AreWritten}
 use Rattle.ir_exports.specs.NodeTexts.{AreNodeTexts, IsNodeText, bytes_of, lines_of}
 use Rattle.ir_exports.specs.PrefixesText.{prefix_node_words, nodes_text}

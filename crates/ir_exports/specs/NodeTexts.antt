@@ -1,4 +1,4 @@
--- The texts of single nodes, that threads make.
+-- The texts of single nodes, that a crew makes.
 use Rattle.std.specs.Prelude.{◌≡◌, ℕ, Bool, List, length, string_bytes}
 use Rattle.std.specs.List.{AllZip, range_with_len}
 use Rattle.ir_model.specs.Graph.{Name}
@@ -7,7 +7,7 @@ use Rattle.ir_model.specs.Plan.{Plan}
 use Rattle.ir_prefix.specs.Longest.{IsWidth}
 use Rattle.ir_prefix.specs.declared.line.TableLine.{TableLine}
 use Rattle.ir_show.specs.Words.{line_text}
-use Rattle.ir_exports.specs.declared.threads.NodeText.{NodeText}
+use Rattle.ir_plan.specs.declared.crew.NodeText.{NodeText}
 use Rattle.ir_exports.specs.PrefixesText.{prefix_node_words}
 use Rattle.ir_exports.specs.Tables.{AreLinesOf}
 

@@ -13,9 +13,9 @@ use Rattle.ir_exports.specs.Tables.{AreTablesOf}
 abbrev pub prefix_text : ℕ → ℕ → List ℕ
 prefix_text value length = decimal value ++ codes "/" ++ decimal length
 
--- the name of the neighbour at a port of u, or `-` for what is unreachable
+-- the name of the neighbour at a port of u, or `#`, which no name holds, for what is unreachable
 abbrev pub goal_text : List Name → Topology → ℕ → Option ℕ → List ℕ
-goal_text nodes topology u None = codes "-"
+goal_text nodes topology u None = codes "#"
 goal_text nodes topology u (Some p) = name_at nodes (node_by topology u p)
 
 -- a line of u: its prefix and its neighbour

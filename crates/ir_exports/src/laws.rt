@@ -1,8 +1,10 @@
 //! Laws of the tables, each the contract of a function with an empty body.
-ghost use Rattle.std.specs.Prelude.{◌^◌, ℕ, Bool, List, false, true};
-ghost use Rattle.ir_model.specs.{Graph.Name, Plan.{IsPlan, Plan}};
+ghost use Rattle.std.specs.Prelude.{◌≡◌, ◌≢◌, ◌^◌, ℕ, Bool, List, None, Some, false, true};
+ghost use Rattle.ir_model.specs.{Graph.{Name, is_name}, Plan.{IsPlan, Plan}, Topology.Topology};
 ghost use Rattle.ir_prefix.specs.declared.line.TableLine.{TableLine};
-ghost use Rattle.ir_exports.specs.{PrefixesText.AgreeByLines, Tables.AreTablesOf};
+ghost use Rattle.ir_show.specs.PlanText.{node_by};
+ghost use Rattle.ir_trace.specs.Written.{name_at};
+ghost use Rattle.ir_exports.specs.{PrefixesText.{AgreeByLines, goal_text}, Tables.AreTablesOf};
 ghost use Rattle.ir_exports.specs.Sent.{FrontsKeepToWalks, GoAllTheWay, LabelsGoAllTheWay, PartsKeepToWalks};
 
 /// Where each node has only the first ones of its lines, whatever number something is sent to and from whichever node,
@@ -35,4 +37,10 @@ pub fn lines_go_all_the_way()
 pub fn text_is_determined_by_lines()
     ensures { (is_disjoint : Bool) (nodes : List Name) (plan : Plan) (text other : List ℕ)
         → AgreeByLines is_disjoint nodes plan text other }
+{}
+
+/// No neighbour's name, whatever it is, is the word for no neighbour.
+pub fn neighbour_is_not_none()
+    ensures { (nodes : List Name) (topology : Topology) (u p : ℕ) → is_name (name_at nodes (node_by topology u p)) ≡ true
+        → goal_text nodes topology u (Some p) ≢ goal_text nodes topology u None }
 {}

@@ -4,22 +4,19 @@
 #![tactic(auto)]
 
 mod circle;
-mod crew;
 mod laws;
 mod order;
 mod prefixes;
 mod ranges;
 mod table;
-mod threads;
+mod texts;
 
 pub use circle::{circle_dot, circle_svg};
-pub use crew::LineCrew;
 pub use laws::{
     beginnings_of_lines_keep_to_walks, disjoint_lines_keep_to_walks, lines_go_all_the_way,
     text_is_determined_by_lines,
 };
 pub use order::order_text;
-pub use prefixes::prefixes_text;
 pub use ranges::{ranges_of, ranges_text};
 pub use table::table_of;
-pub use threads::prefixes_text_in_threads;
+pub use texts::{prefixes_text, prefixes_text_by};

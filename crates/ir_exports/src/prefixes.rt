@@ -3,10 +3,9 @@ ghost use Rattle.std.specs.Prelude.{◌≡◌, ◌<◌, ◌≤◌, ◌++◌, IfO
 ghost use Rattle.ir_model.specs.{Graph.names, Topology.{node_count, ports_of}, Plan.IsPlan};
 ghost use Rattle.ir_trace.specs.Rows.{spaced};
 ghost use Rattle.ir_show.specs.Words.{line_text};
-ghost use Rattle.ir_exports.specs.Before.{AreWritten, IsTextOfLines};
-ghost use Rattle.ir_exports.specs.PrefixesText.{entry_words, prefixes_head, prefix_node_words, IsPrefixesOf};
+ghost use Rattle.ir_exports.specs.Before.{IsTextOfLines};
+ghost use Rattle.ir_exports.specs.PrefixesText.{entry_words, prefixes_head, prefix_node_words};
 
-use crate::table::table_of;
 use ir_graph::Graph;
 use ir_plan::Plan;
 use ir_prefix::{TableLine, width};
@@ -15,7 +14,8 @@ use ir_show::plan_text::kind_text;
 use ir_trace::text::{name_of, push_name, push_next_number, push_word};
 use std::alloc::{AllocError, Global};
 
-/// Writes a line of a node: its prefix, and the neighbour at its port, or `-` where there is no port.
+/// Writes a line of a node: its prefix, and the neighbour at its port. Where there is no port `#` stands, which no name
+/// holds.
 fn push_entry(text: &mut String, graph: &Graph, plan: &Plan, u: u16, line: &TableLine) -> TextResult
     requires nodes { node_count plan.now.topology ≡ length graph.now }
     requires plan { IsPlan plan.now }
@@ -27,7 +27,7 @@ fn push_entry(text: &mut String, graph: &Graph, plan: &Plan, u: u16, line: &Tabl
     write!(text, " {}/{}", line.value, line.length)?;
     match line.port {
         Some(port) => push_name(text, graph, plan.hop(u, port).node),
-        None => push_word(text, "-"),
+        None => push_word(text, "#"),
     }
 }
 
@@ -73,28 +73,6 @@ pub fn push_node(
     text.push_str("\n")
 }
 
-/// Writes the lines of each node, the table of one node after the other, and answers how many lines there are.
-fn push_nodes(
-    alloc: Global,
-    text: &mut String,
-    graph: &Graph,
-    plan: &Plan,
-    is_disjoint: bool,
-) -> Result<usize, AllocError>
-    requires { node_count plan.now.topology ≡ length graph.now }
-    ensures { IfOk result (λ lines. AreWritten is_disjoint (names graph.now) plan.now
-        (node_count plan.now.topology) lines (string_bytes text.old) (string_bytes text.new)) }
-{
-    let mut lines = 0;
-    for u in 0..plan.nodes() {
-        let table = table_of(alloc, plan, u as u16, is_disjoint)?;
-        push_node(text, graph, plan, u as u16, table.as_slice())?;
-        let _bytes = text.len();
-        lines += table.len();
-    }
-    Ok(lines)
-}
-
 fn push_head(text: &mut String, plan: &Plan, bits: u8, lines: usize) -> TextResult
     ensures { OnOk result (string_bytes text.new ≡ string_bytes text.old
         ++ line_text (prefixes_head plan.now bits lines)) }
@@ -105,25 +83,6 @@ fn push_head(text: &mut String, plan: &Plan, bits: u8, lines: usize) -> TextResu
     push_next_number(text, bits as usize)?;
     push_next_number(text, lines)?;
     text.push_str("\n")
-}
-
-/// The text of the forwarding tables of a plan's nodes: `prefixes KIND N BITS LINES`, and for each node its name, its
-/// label and its lines, each as `VALUE/LENGTH` and the neighbour, or `-` where the numbers are unreachable. They are
-/// those of `table_of`, so the text is determined up to which of several lists of the fewest lines stand there.
-/// Condition: the plan is over the graph's network. It is refused for memory alone. Takes O(n * n log n), for n nodes.
-/// For users of the library.
-pub fn prefixes_text(
-    alloc: Global,
-    graph: &Graph,
-    plan: &Plan,
-    is_disjoint: bool,
-) -> Result<String, AllocError>
-    requires { node_count plan.now.topology ≡ length graph.now }
-    ensures { IfOk result (λ text. IsPrefixesOf is_disjoint (names graph.now) plan.now (string_bytes text)) }
-{
-    let mut tables = String::new(alloc);
-    let lines = push_nodes(alloc, &mut tables, graph, plan, is_disjoint)?;
-    text_of_lines(alloc, plan, lines, tables.as_str())
 }
 
 /// The whole text, of the lines of all nodes, and how many these are.

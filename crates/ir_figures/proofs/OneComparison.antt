@@ -1,7 +1,8 @@
 -- A network has one comparison of its plans from a root.
 use Rattle.std.proofs.Common.{◌≡◌, ℕ, ◌<◌, ◌++◌, List, Option, Some, None, refl, sym, ap, subst, ◌∙◌}
+use Rattle.ir_model.specs.declared.Detour.{Detour}
 use Rattle.ir_model.specs.declared.Kind.{Kind}
-use Rattle.ir_model.specs.declared.Kind.TheVariants.{Tree, Shortest, Compact}
+use Rattle.ir_model.specs.declared.Kind.TheVariants.{Tree, Shortest, Compact, Landmark}
 use Rattle.ir_model.specs.Row.{Start}
 use Rattle.ir_model.specs.Topology.{Topology, node_count, IsTopology}
 use Rattle.ir_model.specs.Plan.{Plan, table_port}
@@ -14,7 +15,7 @@ use Rattle.ir_trace.proofs.Routing.{routes_as}
 use Rattle.ir_show.specs.Words.{line_text}
 use Rattle.ir_figures.specs.Waits.{Waits}
 use Rattle.ir_figures.specs.FiguresText.{IsRingOf}
-use Rattle.ir_figures.specs.Compared.{IsRowOf, IsRowBy, AreBothRows, compare_head, column_names, table_words, IsComparison}
+use Rattle.ir_figures.specs.Compared.{IsRowOf, IsRowBy, AreBothRows, AreDetourRows, compare_head, column_names, table_words, IsComparison}
 use Rattle.ir_figures.proofs.OneRow.{one_row, one_table_bits}
 
 -- a plan with the table of another one, which agrees with its own on the nodes
@@ -107,15 +108,22 @@ both_same net root kind lines others x y =
     x.4 ∙ ap (λ (t : List ℕ). t ++ x.1) (one_row_by net root kind DepthFirst x.0 y.0 x.2 y.2)
     ∙ ap (λ (t : List ℕ). y.0 ++ t) (one_row_by net root kind Tour x.1 y.1 x.3 y.3) ∙ sym y.4
 
-abbrev text_of : Topology → (shortest compact tree : List ℕ) (tables : ℕ) → List ℕ
-text_of net shortest compact tree tables =
-    ((((line_text (compare_head net) ++ line_text column_names) ++ shortest) ++ compact) ++ tree) ++ line_text (table_words tables)
+landmarks_same : (net : Topology) (root : ℕ) (detours : Detour × Detour × Detour) (lines others : List ℕ) → AreDetourRows net root detours lines → AreDetourRows net root detours others → lines ≡ others
+landmarks_same net root detours lines others x y =
+    x.6 ∙ ap (λ (t : List ℕ). (t ++ x.1) ++ x.2) (one_row_by net root (Landmark detours.0) DepthFirst x.0 y.0 x.3 y.3)
+    ∙ ap (λ (t : List ℕ). (y.0 ++ t) ++ x.2) (one_row_by net root (Landmark detours.1) DepthFirst x.1 y.1 x.4 y.4)
+    ∙ ap (λ (t : List ℕ). (y.0 ++ y.1) ++ t) (one_row_by net root (Landmark detours.2) DepthFirst x.2 y.2 x.5 y.5) ∙ sym y.6
 
-pub one_comparison : (net : Topology) (root : ℕ) (text other : List ℕ) → IsComparison net root text → IsComparison net root other → text ≡ other
-one_comparison net root text other x y =
+abbrev text_of : Topology → (shortest compact tree by_landmarks : List ℕ) (tables : ℕ) → List ℕ
+text_of net shortest compact tree by_landmarks tables =
+    (((((line_text (compare_head net) ++ line_text column_names) ++ shortest) ++ compact) ++ tree) ++ by_landmarks) ++ line_text (table_words tables)
+
+pub one_comparison : (net : Topology) (root : ℕ) (detours : Detour × Detour × Detour) (text other : List ℕ) → IsComparison net root detours text → IsComparison net root detours other → text ≡ other
+one_comparison net root detours text other x y =
     x.whole
-    ∙ ap (λ (t : List ℕ). text_of net t x.compact x.tree x.tables) (both_same net root Shortest x.shortest y.shortest x.shortest_are y.shortest_are)
-    ∙ ap (λ (t : List ℕ). text_of net y.shortest t x.tree x.tables) (both_same net root Compact x.compact y.compact x.compact_are y.compact_are)
-    ∙ ap (λ (t : List ℕ). text_of net y.shortest y.compact t x.tables) (one_row_by net root Tree DepthFirst x.tree y.tree x.tree_are y.tree_are)
-    ∙ ap (text_of net y.shortest y.compact y.tree) (one_table_bits net x.tables y.tables x.tables_are y.tables_are)
+    ∙ ap (λ (t : List ℕ). text_of net t x.compact x.tree x.by_landmarks x.tables) (both_same net root Shortest x.shortest y.shortest x.shortest_are y.shortest_are)
+    ∙ ap (λ (t : List ℕ). text_of net y.shortest t x.tree x.by_landmarks x.tables) (both_same net root Compact x.compact y.compact x.compact_are y.compact_are)
+    ∙ ap (λ (t : List ℕ). text_of net y.shortest y.compact t x.by_landmarks x.tables) (one_row_by net root Tree DepthFirst x.tree y.tree x.tree_are y.tree_are)
+    ∙ ap (λ (t : List ℕ). text_of net y.shortest y.compact y.tree t x.tables) (landmarks_same net root detours x.by_landmarks y.by_landmarks x.by_landmarks_are y.by_landmarks_are)
+    ∙ ap (text_of net y.shortest y.compact y.tree y.by_landmarks) (one_table_bits net x.tables y.tables x.tables_are y.tables_are)
     ∙ sym y.whole

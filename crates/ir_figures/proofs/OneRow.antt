@@ -9,14 +9,13 @@ use Rattle.ir_model.specs.Plan.{Plan}
 use Rattle.ir_plan.specs.declared.tour.LabelOrder.{LabelOrder}
 use Rattle.ir_prefix.specs.Longest.{IsWidth}
 use Rattle.ir_show.specs.declared.worst.Pair.{Pair}
-use Rattle.ir_show.specs.PlanText.{kind_text}
 use Rattle.ir_show.specs.StatsText.{sum_of_pairs, IsWorstOf}
 use Rattle.ir_show.specs.Words.{line_text}
 use Rattle.ir_show.proofs.Determined.{Agree, same_walks, same_distances, same_pair_sums, one_greatest, one_worst, worst_along}
 use Rattle.ir_figures.specs.RowBits.{AreFewestBits, row_bits, AreBitsBefore}
 use Rattle.ir_figures.specs.Waits.{Waits}
 use Rattle.ir_figures.specs.FiguresText.{IsRingOf}
-use Rattle.ir_figures.specs.Compared.{order_word, ring_word, ratio_text, count_words, stretch_words, IsRowOf, AreTableBits}
+use Rattle.ir_figures.specs.Compared.{compared_kind, labels_word, ring_word, ratio_text, count_words, stretch_words, IsRowOf, AreTableBits}
 use Rattle.ir_figures.proofs.Turns.{no_ring}
 
 -- ---- widths
@@ -93,7 +92,7 @@ same_ring s (Some nodes) (Some others) x y = refl
 -- ---- rows
 
 abbrev line_of : Plan → LabelOrder → List (List ℕ) → List (List ℕ) → List ℕ → List ℕ
-line_of s order counts stretches ring = line_text (kind_text s.kind ∷ order_word order ∷ counts ++ stretches ++ ring ∷ [])
+line_of s order counts stretches ring = line_text (compared_kind s.kind ∷ labels_word s.kind order ∷ counts ++ stretches ++ ring ∷ [])
 
 pub one_row : (order : LabelOrder) (s : Plan) (line other : List ℕ) → IsRowOf order s line → IsRowOf order s other → line ≡ other
 one_row order s line other x y =

@@ -5,7 +5,7 @@ use Rattle.std.proofs.lemmas.List.{get_or_past, length-replicate, get_or-replica
 use Rattle.std.proofs.lemmas.Option.{slice_get_within}
 use Rattle.ir_model.specs.declared.Hop.{Hop}
 use Rattle.ir_model.specs.declared.Kind.{Kind}
-use Rattle.ir_model.specs.declared.Kind.TheVariants.{Tree, Shortest, Compact}
+use Rattle.ir_model.specs.declared.Kind.TheVariants.{Tree, Shortest, Compact, Landmark}
 use Rattle.ir_model.specs.Topology.{node_count, ports_of, port_at}
 use Rattle.ir_model.specs.Plan.{Plan, IsPlan, IsTableOf, table_port, node_in, label_in}
 use Rattle.ir_show.proofs.WalkLines.{plan_next}
@@ -17,6 +17,7 @@ own_none : (s : Plan) → IsPlan s → (k : Kind) → s.kind ≡ k → (d : ℕ)
 own_none s is Tree e d lt = (subst (λ (k : Kind). IsTableOf k s.topology s.order is.parents (table_port s)) e is.table).own d lt
 own_none s is Shortest e d lt = (subst (λ (k : Kind). IsTableOf k s.topology s.order is.parents (table_port s)) e is.table).own d lt
 own_none s is Compact e d lt = (subst (λ (k : Kind). IsTableOf k s.topology s.order is.parents (table_port s)) e is.table).nearer.own d lt
+own_none s is (Landmark t) e d lt = (subst (λ (k : Kind). IsTableOf k s.topology s.order is.parents (table_port s)) e is.table).2.keeps.own d lt
 
 pub goes_elsewhere : (s : Plan) → IsPlan s → (u d p : ℕ) → d < node_count s.topology → table_port s u d ≡ Some p → u ≢ d
 goes_elsewhere s is u d p lt held e =

@@ -1,10 +1,14 @@
 -- What follows from what is said of an answer that may be none.
 use Rattle.std.proofs.Common.{ℕ, List, Option, None, Some, Result, Ok, Err}
-use Rattle.std.specs.Prelude.{IfOk, IfNone, IfSome}
+use Rattle.std.specs.Prelude.{IfOk, IfNone, IfSome, OnOk}
 use Rattle.std.specs.Option.{option_map}
 use Rattle.std.specs.Global.{Vec}
 use Rattle.ir_figures.specs.Waits.{IsWithoutRing, IsWaitingRing}
 use Rattle.ir_figures.specs.FiguresText.{IsRingOf}
+
+pub on_ok_then : {A E : Type 0} {P Q : Type 0} (r : Result A E) → (P → Q) → OnOk r P → OnOk r Q
+on_ok_then (Ok a) then holds = then holds
+on_ok_then (Err e) then holds = holds
 
 pub ok_none_then : {A E : Type 0} {P Q : Type 0} (r : Result (Option A) E) → (P → Q) → IfOk r (λ found. IfNone found P) → IfOk r (λ found. IfNone found Q)
 ok_none_then (Ok None) then holds = then holds

@@ -1,17 +1,16 @@
 -- The text of the rows of a comparison.
-use Rattle.std.proofs.Common.{◌≡◌, ◌≢◌, ℕ, List, [], ◌∷◌, ◌++◌, Option, None, Some, IfSome, option_map, flat_map, ap, sym, ◌∙◌, refl, append_assoc}
+use Rattle.std.proofs.Common.{◌≡◌, ℕ, List, [], ◌∷◌, ◌++◌, Option, None, Some, Ok, Err, IfSome, option_map, flat_map, ap, sym, subst, ◌∙◌, refl, append_assoc}
+use Rattle.std.specs.Prelude.{OnOk}
+use Rattle.std.specs.declared.result.Result.{Result}
 use Rattle.std.specs.List.{join_with_byte}
 use Rattle.std.proofs.lemmas.Grind.{flat_map-append}
 use Rattle.std.proofs.lemmas.List.{append-nil}
 use Rattle.ir_model.specs.declared.Kind.{Kind}
-use Rattle.ir_model.specs.declared.Kind.TheVariants.{Tree, Shortest, Compact}
 use Rattle.ir_model.specs.Topology.{Topology, node_count}
-use Rattle.ir_model.specs.Plan.{Plan}
-use Rattle.ir_plan.specs.declared.tour.LabelOrder.{LabelOrder}
+use Rattle.ir_model.specs.Plan.{Plan, IsPlan}
 use Rattle.ir_plan.specs.declared.tour.LabelOrder.TheVariants.{DepthFirst, Tour}
-use Rattle.ir_plan.specs.declared.error.PlanError.{PlanError}
-use Rattle.ir_plan.specs.declared.error.PlanError.TheVariants.{NoNode, Empty, Disconnected, NoMemory}
-use Rattle.ir_plan.specs.Building.{FromRoot, RefusesPlan}
+use Rattle.ir_plan.specs.Building.{FromRoot, IsPlanBy}
+use Rattle.ir_plan.specs.Starts.{IsFirstPlan, IsLabelledBy, IsPlanAs}
 use Rattle.ir_trace.specs.Rows.{spaced}
 use Rattle.ir_trace.proofs.WrittenRows.{join_spaced}
 use Rattle.ir_show.specs.declared.worst.Weighed.{Weighed}
@@ -20,7 +19,7 @@ use Rattle.ir_show.specs.Before.{IsWeighed}
 use Rattle.ir_show.specs.Figures.{AreFigures}
 use Rattle.ir_show.specs.StatsText.{sum_of_pairs}
 use Rattle.ir_show.specs.Words.{line_text}
-use Rattle.ir_figures.specs.Compared.{stretch_words, ratio_text, IsRowBy, AreBothRows, AreRowsOf}
+use Rattle.ir_figures.specs.Compared.{stretch_words, ratio_text, IsRowOf, IsRowBy, AreBothRows}
 use Rattle.ir_figures.specs.Columns.{stretches_of}
 
 pieces : (old a b c d e f : List ℕ) → (((((old ++ a) ++ b) ++ c) ++ d) ++ e) ++ f ≡ old ++ ((a ++ (b ++ ((c ++ d) ++ e))) ++ f)
@@ -55,30 +54,27 @@ pub figures_stretches : (s : Plan) (f : Figures) (are : AreFigures s f)
 figures_stretches s f are =
     weighed_stretches (node_count s.topology) are.walk are.distance f.walks f.distances f.worst are.weighed are.walks_sum are.distances_sum
 
--- the rows of a kind other than Tree are those of both orders
-pub both_rows : (net : Topology) (root : ℕ) (kind : Kind) (lines : List ℕ) → kind ≢ Tree → AreBothRows net root kind lines → AreRowsOf net root kind lines
-both_rows net root Tree lines other rows = absurd (other refl)
-both_rows net root Shortest lines other rows = rows
-both_rows net root Compact lines other rows = rows
+-- the row of a plan as another one that is labelled by the tour
+pub row_by_tour : {X E : Type 0} (r : Result X E) (p q : Plan) (old new : List ℕ) → IsPlanAs p q → IsLabelledBy Tour q → OnOk r ((line : List ℕ) × IsRowOf Tour q line × (new ≡ old ++ line))
+    → OnOk r ((line : List ℕ) × IsRowBy p.topology p.root p.kind Tour line × (new ≡ old ++ line))
+row_by_tour (Ok x) p q old new like labelled told = (told.0, (q, record { valid = like.plan; over = like.topology; of_kind = like.kind; labelled = (labelled, like.root) }, told.1), told.2)
+row_by_tour (Err e) p q old new like labelled told = tt
 
--- the row of a tree
-pub tree_row : (net : Topology) (root : ℕ) (kind : Kind) (line : List ℕ) → kind ≡ Tree → IsRowBy net root kind DepthFirst line → AreRowsOf net root kind line
-tree_row net root Tree line same row = row
-tree_row net root Shortest line same row = absurd (cc same)
-tree_row net root Compact line same row = absurd (cc same)
+-- the row of a depth-first plan
+pub row_by_depth : (p : Plan) (line : List ℕ) → IsPlan p → IsFirstPlan p → IsRowOf DepthFirst p line → IsRowBy p.topology p.root p.kind DepthFirst line
+row_by_depth p line is numbers row = (p, record { valid = is; over = refl; of_kind = refl; labelled = (numbers, refl) }, row)
 
--- what refuses a plan hangs on no order of labels
-pub refused_alike : (net : Topology) (order other : LabelOrder) (root : ℕ) (e : PlanError) → RefusesPlan net (FromRoot order root) e → RefusesPlan net (FromRoot other root) e
-refused_alike net order other root Empty refuses = refuses
-refused_alike net order other root NoNode refuses = refuses
-refused_alike net order other root Disconnected refuses = refuses
-refused_alike net order other root NoMemory refuses = refuses
+-- the rows of a plan are those of its network, kind and root
+pub rows_by : (net : Topology) (kind : Kind) (root : ℕ) (p : Plan) (lines : List ℕ) → IsPlanBy net kind (FromRoot DepthFirst root) p → AreBothRows p.topology p.root p.kind lines → AreBothRows net root kind lines
+rows_by net kind root p lines is rows =
+    subst (λ (n : Topology). AreBothRows n root kind lines) is.over
+    (subst (λ (r : ℕ). AreBothRows p.topology r kind lines) is.labelled.1 (subst (λ (k : Kind). AreBothRows p.topology p.root k lines) is.of_kind rows))
 
 -- two texts, one written behind the other
 pub more_words : (old first second a b : List ℕ) → a ≡ old ++ first → b ≡ a ++ second → b ≡ old ++ (first ++ second)
 more_words old first second a b one two = rw (two, one) (append_assoc old first second)
 
 -- the texts of a comparison, one written behind the other
-pub whole_text : (a b c d e f head columns one two three tables : List ℕ) → a ≡ [] → b ≡ (a ++ head) ++ columns → c ≡ b ++ one → d ≡ c ++ two → e ≡ d ++ three → f ≡ e ++ tables
-    → f ≡ ((((head ++ columns) ++ one) ++ two) ++ three) ++ tables
-whole_text a b c d e f head columns one two three tables p q r s t u = rw (u, t, s, r, q, p) refl
+pub whole_text : (a b c d e f g head columns one two three four tables : List ℕ) → a ≡ [] → b ≡ (a ++ head) ++ columns → c ≡ b ++ one → d ≡ c ++ two → e ≡ d ++ three → f ≡ e ++ four → g ≡ f ++ tables
+    → g ≡ (((((head ++ columns) ++ one) ++ two) ++ three) ++ four) ++ tables
+whole_text a b c d e f g head columns one two three four tables p q r s t u v = rw (v, u, t, s, r, q, p) refl

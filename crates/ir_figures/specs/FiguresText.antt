@@ -1,12 +1,15 @@
 -- The text of a plan's figures, those of the field among them.
 use Rattle.std.specs.Prelude.{◌≡◌, ℕ, ◌++◌, List, [], ◌∷◌, map, decimal, codes, Option, None, Some}
 use Rattle.std.specs.Option.{option_map_or}
+use Rattle.ir_model.specs.declared.Kind.{Kind}
+use Rattle.ir_model.specs.declared.Kind.TheVariants.{Tree, Shortest, Compact, Landmark}
 use Rattle.ir_model.specs.Graph.{Name}
+use Rattle.ir_model.specs.Landmark.{AreMostLinked}
 use Rattle.ir_model.specs.Topology.{Topology, node_count, port_at}
 use Rattle.ir_model.specs.Plan.{Plan}
 use Rattle.ir_trace.specs.Written.{name_at}
 use Rattle.ir_show.specs.Words.{line_text}
-use Rattle.ir_show.specs.StatsText.{IsStatsOf}
+use Rattle.ir_show.specs.StatsText.{count_line, IsStatsOf}
 use Rattle.ir_figures.specs.declared.most.Most.{Most}
 use Rattle.ir_figures.specs.Compactness.{AreMost}
 use Rattle.ir_figures.specs.RowBits.{AreBitsBefore}
@@ -24,6 +27,21 @@ most_line nodes plan (Some m) = line_text (codes "compactness" ∷ name_at nodes
 -- `bits ROWS TABLES`
 abbrev pub bits_line : ℕ → ℕ → List ℕ
 bits_line rows tables = line_text (codes "bits" ∷ decimal rows ∷ decimal tables ∷ [])
+
+-- the landmarks of a landmark plan; another plan has none
+abbrev pub ArePlanLandmarks : Kind → Plan → List ℕ → Type 0
+ArePlanLandmarks Tree plan landmarks = landmarks ≡ []
+ArePlanLandmarks Shortest plan landmarks = landmarks ≡ []
+ArePlanLandmarks Compact plan landmarks = landmarks ≡ []
+ArePlanLandmarks (Landmark t) plan landmarks = AreMostLinked plan.topology plan.root t.landmarks landmarks
+
+-- `landmarks NODE NODE ..` and `stretch PERCENT` of a landmark plan
+abbrev pub landmarks_text : List Name → Kind → List ℕ → List ℕ
+landmarks_text nodes Tree landmarks = []
+landmarks_text nodes Shortest landmarks = []
+landmarks_text nodes Compact landmarks = []
+landmarks_text nodes (Landmark t) landmarks =
+    line_text (codes "landmarks" ∷ map (name_at nodes) landmarks) ++ count_line (codes "stretch") t.stretch
 
 -- `WORD acyclic`, or `WORD cycle` and the nodes that the links of a ring leave
 abbrev pub ring_line : List ℕ → List Name → Option (List ℕ) → List ℕ
@@ -46,7 +64,11 @@ pub record AreFiguresOf (nodes : List Name) (plan : Plan) (text : List ℕ) : Ty
   pub bits : AreBitsBefore plan (node_count plan.topology) rows tables
   pub ring : Option (List ℕ)
   pub ring_is : IsRingOf (Waits plan) ring
-  pub whole : text ≡ ((figures ++ most_line nodes plan most) ++ bits_line rows tables) ++ ring_line (codes "dependencies") nodes ring
+  pub landmarks : List ℕ
+  pub landmarks_are : ArePlanLandmarks plan.kind plan landmarks
+  pub whole :
+      text
+      ≡ (((figures ++ most_line nodes plan most) ++ bits_line rows tables) ++ ring_line (codes "dependencies") nodes ring) ++ landmarks_text nodes plan.kind landmarks
 
 -- The text has all figures of a plan, and behind them whether links wait for each other in a ring while packets of a second
 -- plan are under way too.

@@ -8,4 +8,5 @@ pub mod Arcs
 -- what bodies use
 pub mod Exits
 pub mod Columns
+pub mod Sought
 pub mod Search

@@ -1,6 +1,6 @@
 //! Laws of links that wait for each other, and of comparisons.
 ghost use Rattle.std.specs.Prelude.{◌≡◌, ℕ, List};
-ghost use Rattle.ir_model.specs.{declared.Kind.TheVariants.Tree, Plan.{Plan, IsPlan}, Topology.Topology};
+ghost use Rattle.ir_model.specs.{declared.Detour.Detour, declared.Kind.TheVariants.Tree, Plan.{Plan, IsPlan}, Topology.Topology};
 ghost use Rattle.ir_figures.specs.Waits.{Waits, WaitsInEither, IsWithoutRing, IsWaitingRing};
 ghost use Rattle.ir_figures.specs.Compared.{IsRowOf, IsComparison};
 ghost use Rattle.ir_plan.specs.declared.tour.LabelOrder.{LabelOrder};
@@ -19,10 +19,11 @@ pub fn tree_plans_have_no_ring()
     ensures { (plan : Plan) → IsPlan plan → plan.kind ≡ Tree → IsWithoutRing (Waits plan) }
 {}
 
-/// A plan has one row of a comparison for each word of an order, and a network one comparison of its plans from a root.
+/// A plan has one row of a comparison for each word of an order, and a network one comparison of its plans from a root and of
+/// these detours.
 pub fn comparison_is_determined()
     ensures row { (order : LabelOrder) (plan : Plan) (line other : List ℕ) → IsRowOf order plan line
         → IsRowOf order plan other → line ≡ other }
-    ensures whole { (network : Topology) (root : ℕ) (text other : List ℕ) → IsComparison network root text
-        → IsComparison network root other → text ≡ other }
+    ensures whole { (network : Topology) (root : ℕ) (detours : Detour × Detour × Detour) (text other : List ℕ)
+        → IsComparison network root detours text → IsComparison network root detours other → text ≡ other }
 {}

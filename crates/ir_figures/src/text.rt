@@ -1,15 +1,18 @@
 //! The text of a plan's figures, those of the field among them.
-ghost use Rattle.std.specs.Prelude.{◌≡◌, ◌<◌, ◌++◌, ℕ, IfOk, IfSome, OnOk, codes, flat_map, length, map, slice_index, string_bytes};
+ghost use Rattle.std.specs.Prelude.{◌≡◌, ◌<◌, ◌++◌, ◌∷◌, ℕ, List, IfOk, IfSome, OnOk, codes, flat_map, length, map, slice_index, string_bytes};
 ghost use Rattle.std.specs.Option.{option_map};
 ghost use Rattle.ir_model.specs.{Graph.names, Topology.node_count};
 ghost use Rattle.ir_trace.specs.{Rows.spaced, Written.name_at};
+ghost use Rattle.ir_show.specs.{StatsText.count_line, Words.line_text};
 ghost use Rattle.ir_figures.specs.Compactness.{HasPortNumber};
-ghost use Rattle.ir_figures.specs.FiguresText.{most_line, bits_line, ring_line, AreFiguresOf, AreFiguresBeside};
+ghost use Rattle.ir_figures.specs.FiguresText.{most_line, bits_line, landmarks_text, ring_line, AreFiguresOf, ArePlanLandmarks, AreFiguresBeside};
 
 use crate::bits::{Bits, bits_of};
 use crate::most::{Most, most_intervals};
 use crate::waits::{waiting_ring, waiting_ring_together};
+use ir_bounds::most_linked;
 use ir_graph::Graph;
+use ir_model::Kind;
 use ir_plan::Plan;
 use ir_show::{TextResult, stats_text};
 use ir_trace::text::{push_name, push_next_number};
@@ -71,6 +74,43 @@ fn push_ring(text: &mut String, word: &str, graph: &Graph, ring: &Option<Vec<u16
     text.push_str("\n")
 }
 
+/// Writes the line of landmarks.
+#[tactic(auto, using(ir_show::proofs::PlanLines::words_of_a_line))]
+fn push_chosen(text: &mut String, graph: &Graph, landmarks: &[u16]) -> TextResult
+    requires { (i : ℕ) → i < length landmarks.now → slice_index landmarks.now i < length graph.now }
+    ensures { OnOk result (string_bytes text.new ≡ string_bytes text.old
+        ++ line_text (codes "landmarks" ∷ map (name_at (names graph.now)) landmarks.now)) }
+{
+    text.push_str("landmarks")?;
+    push_names(text, graph, landmarks)?;
+    text.push_str("\n")
+}
+
+fn push_stretch(text: &mut String, stretch: u16) -> TextResult
+    ensures { OnOk result (string_bytes text.new ≡ string_bytes text.old ++ count_line (codes "stretch") stretch) }
+{
+    text.push_str("stretch")?;
+    push_next_number(text, stretch as usize)?;
+    text.push_str("\n")
+}
+
+/// Writes the lines of the landmarks of a landmark plan and of its stretch; nothing of another plan.
+fn push_landmarks(text: &mut String, alloc: Global, graph: &Graph, plan: &Plan) -> TextResult
+    requires { node_count plan.now.topology ≡ length graph.now }
+    ensures { OnOk result ((landmarks : List ℕ) × ArePlanLandmarks plan.now.kind plan.now landmarks
+        × (string_bytes text.new ≡ string_bytes text.old
+        ++ landmarks_text (names graph.now) plan.now.kind landmarks)) }
+{
+    let Kind::Landmark(detour) = plan.kind() else {
+        return Ok(());
+    };
+    plan.invariant();
+    let count = detour.landmarks as usize;
+    let landmarks = most_linked(alloc, plan.topology(), plan.root(), count)?;
+    push_chosen(text, graph, landmarks.as_slice())?;
+    push_stretch(text, detour.stretch)
+}
+
 /// The text of the figures of a plan, those of the field behind the others. Condition: the plan is over the graph's
 /// network. It is refused for memory alone. Takes as long as `stats_text` of `ir_show`, `most_intervals` and
 /// `waiting_ring`.
@@ -83,6 +123,7 @@ pub fn figures_text(alloc: Global, graph: &Graph, plan: &Plan) -> Result<String,
     push_most(&mut text, graph, plan, most_intervals(plan))?;
     push_bits(&mut text, bits_of(plan))?;
     push_ring(&mut text, "dependencies", graph, &ring)?;
+    push_landmarks(&mut text, alloc, graph, plan)?;
     Ok(text)
 }
 

@@ -76,6 +76,7 @@ figure_form words =
     else if is_word_at words 0 (codes "worst") then plain (codes "$:{\"from\":$,\"to\":$,\"walk\":#,\"distance\":#}")
     else if is_word_at words 0 (codes "compactness") then plain (codes "$:{\"node\":$,\"neighbour\":$,\"intervals\":#}")
     else if is_word_at words 0 (codes "bits") then plain (codes "$:{\"rows\":#,\"tables\":#}")
+    else if is_word_at words 0 (codes "landmarks") then listed (codes "$:{\"nodes\":[") Names
     else if is_word_at words 1 (codes "acyclic") then plain (codes "$:$")
     else if is_word_at words 1 (codes "cycle") then listed (codes "$:{$:[") Names
     else plain (codes "$:#")

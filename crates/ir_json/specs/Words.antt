@@ -30,9 +30,9 @@ is_whole_number word = nat_le 1 (length word) && list_all is_digit_byte word
 abbrev pub json_number : List ℕ → List ℕ
 json_number word = if is_whole_number word then word else codes "null"
 
--- a word as a string; the dash of a neighbour that there is not is null
+-- a word as a string; the `#` of a neighbour that there is not is null
 abbrev pub goal : List ℕ → List ℕ
-goal word = if bytes_eq word (codes "-") then codes "null" else json_string word
+goal word = if bytes_eq word (codes "#") then codes "null" else json_string word
 
 -- the digits at the front of a word such as `3/2` or `0-4`, and what stands behind the mark that follows them
 abbrev pub before_mark : List ℕ → List ℕ

@@ -102,6 +102,8 @@ fn figure_form(line: &[u8]) -> Form
         plain("$:{\"node\":$,\"neighbour\":$,\"intervals\":#}")
     } else if is(first, "bits") {
         plain("$:{\"rows\":#,\"tables\":#}")
+    } else if is(first, "landmarks") {
+        listed("$:{\"nodes\":[", Items::Names)
     } else if is(second, "acyclic") {
         plain("$:$")
     } else if is(second, "cycle") {

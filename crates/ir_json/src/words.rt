@@ -71,11 +71,11 @@ pub fn push_number(text: &mut String, word: &[u8]) -> Result<(), AllocError>
     Ok(())
 }
 
-/// Writes a word as a string; a dash as null.
+/// Writes a word as a string; `#`, which no name holds, as null.
 pub fn push_goal(text: &mut String, word: &[u8]) -> Result<(), AllocError>
     ensures { OnOk result (string_bytes text.new ≡ string_bytes text.old ++ goal word.now) }
 {
-    if is(word, "-") {
+    if is(word, "#") {
         return text.push_str("null");
     }
     push_quoted(text, word)

@@ -8,7 +8,7 @@ use ir_plan::{Alone, Crew, Several};
 use std::alloc::Global;
 
 /// A packet, an install, a change that is refused, and a drain.
-static STEPS: [Step; 4] = [
+const STEPS: [Step; 4] = [
     Step::Event(Event::Inject(0, 2)),
     Step::Event(Event::Install(Kind::Shortest, 0)),
     Step::Event(Event::Up(0)),
@@ -95,7 +95,15 @@ fn are_so(crew: &impl Crew, alloc: Global) -> Option<bool> {
 
 #[test]
 fn runs_by_several_threads(rt: HostRuntime) {
-    assert!(rt; are_so(&Several { rt: &rt }, rt.alloc()) == Some(true));
+    assert!(rt;
+        are_so(
+            &Several {
+                rt: &rt,
+                most: None
+            },
+            rt.alloc()
+        ) == Some(true)
+    );
 }
 
 #[test]

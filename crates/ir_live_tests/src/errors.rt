@@ -15,7 +15,7 @@ fn tells<E: Display>(alloc: Global, error: &E, text: &str) -> bool {
 }
 
 /// Why a live run has no report, with its number and its words.
-static LIVE: [(LiveError, u8, &'static str); 5] = [
+static LIVE: [(LiveError, u8, &'static str); 4] = [
     (LiveError::Spent, 1, "the net is spent"),
     (LiveError::NoThread, 2, "a thread was not started"),
     (LiveError::NoMemory, 3, "out of memory"),
@@ -23,11 +23,6 @@ static LIVE: [(LiveError, u8, &'static str); 5] = [
         LiveError::TooManyReaders,
         4,
         "no place is left for a reader of the board",
-    ),
-    (
-        LiveError::Unpublished,
-        5,
-        "a node knows what was not published",
     ),
 ];
 

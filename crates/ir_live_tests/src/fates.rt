@@ -74,7 +74,7 @@ const OVER: Became<'static> = Became {
 
 /// Two packets that meet at b, before a channel to c that holds one and that c does not poll until one of them is
 /// dropped; and a third behind a drain.
-static MEETING: [Command; 5] = [
+const MEETING: [Command; 5] = [
     Command::Inject(0, 2),
     Command::Inject(1, 2),
     Command::Drain,
@@ -124,7 +124,7 @@ fn full_with_a_drain_behind_each(rt: HostRuntime) {
 }
 
 /// A packet that waits at a until its epoch is retired and the next packet has arrived; and a third behind a drain.
-static WAITING: [Command; 7] = [
+const WAITING: [Command; 7] = [
     Command::Inject(0, 2),
     Command::Install(Kind::Shortest, 0),
     Command::Retire(2),

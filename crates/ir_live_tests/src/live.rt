@@ -42,6 +42,8 @@ impl Starter for AllBut {
 
     ghost was_closed = { λ _ _. Unit {0} };
 
+    ghost was_stopped = { λ _. Unit {0} };
+
     fn starts(&self, node: u16) -> bool {
         node != self.0
     }
@@ -51,6 +53,14 @@ impl Starter for AllBut {
     fn closes(&self, _injector: &Injector) {}
 
     fn takes_back(&self, _node: &Node) {}
+
+    fn is_stopped(&self, flag: &AtomicBool) -> bool {
+        flag.load(Ordering::SeqCst)
+    }
+
+    fn stops(&self, flag: &AtomicBool) {
+        flag.store(true, Ordering::SeqCst);
+    }
 }
 
 // Each node comes to its first turn, and goes on once so many have come. `met` counts those that saw all others.
@@ -117,7 +127,7 @@ const OVER: Became<'static> = Became {
 };
 
 /// Commands over the path, of which four are refused.
-static COMMANDS: [Command; 7] = [
+const COMMANDS: [Command; 7] = [
     Command::Down(0),
     Command::Install(Kind::Tree, 1),
     Command::Retire(2),
@@ -202,7 +212,7 @@ fn thread_that_is_not_started(rt: HostRuntime) {
 }
 
 /// A packet over the first link, and what becomes of it.
-static FIRST: [Command; 2] = [Command::Inject(0, 1), Command::Drain];
+const FIRST: [Command; 2] = [Command::Inject(0, 1), Command::Drain];
 
 static FIRST_BECAME: [Became<'static>; 1] = [Became {
     hops: &[0, 1],

@@ -1,22 +1,16 @@
-//! Plans whose rows a crew makes: by depth-first numbers, by those of a tour, and over a given order; and what their
-//! parts are, made in threads. What the rows are, `tests/program` shows of texts of plans.
+//! Plans whose rows a crew makes: by depth-first numbers, by those of a tour, and over a given order. What the rows are, `tests/program` shows of texts of plans.
 
 ghost use Rattle.std.specs.Prelude.{◌≢◌, ◌<◌};
 ghost use Rattle.ir_model.specs.{Topology.node_count, declared.Kind.TheVariants.Tree};
 
 use crate::by_hand::{link, network_of};
-use crate::epochs::path;
 use ir_graph::Graph;
-use ir_model::Kind;
-use ir_numbering::{Numbering, is_order};
-use ir_plan::{
-    Alone, Crew, LabelOrder, Labels, Makers, Plan, PlanError, Several, Unwatched,
-    columns_in_threads, distances_in_threads, rows_in_threads,
-};
+use ir_model::{Detour, Kind};
+use ir_numbering::is_order;
+use ir_plan::{Alone, Crew, LabelOrder, Labels, Plan, PlanError, Several};
 use ir_tables::Topology;
 use std::alloc::Global;
 use std::test::Fail;
-use std::thread::Threads;
 
 // Links each of so many nodes, n0 to the last, to the next one and to the third one behind it, with weights from 1 to
 // 7, and answers whether it could.
@@ -39,6 +33,11 @@ fn chain(alloc: Global, nodes: u16) -> Option<Topology> {
     network_of(alloc, &graph, is_whole)
 }
 
+/// At most so many threads.
+fn crew<'a, R>(rt: &'a R, most: Option<usize>) -> Several<'a, R> {
+    Several { rt, most }
+}
+
 /// The plan of shortest ways that is labelled from a root, depth first or by a tour.
 fn labelled(
     crew: &impl Crew,
@@ -46,23 +45,16 @@ fn labelled(
     topology: Topology,
     order: LabelOrder,
     root: u16,
-    most: Option<usize>,
 ) -> Result<Plan, (PlanError, Topology)> {
     let labels = Labels::FromRoot(order, root);
-    Plan::build_by(crew, alloc, topology, Kind::Shortest, labels, most)
+    Plan::build_by(crew, alloc, topology, Kind::Shortest, labels)
 }
 
-/// How many starts a plan of a chain has by depth-first numbers, or by a tour, made in at most so many threads. A plain
-/// program in another language counted the same.
-fn starts(
-    crew: &impl Crew,
-    alloc: Global,
-    nodes: u16,
-    order: LabelOrder,
-    most: Option<usize>,
-) -> Option<usize> {
+/// How many starts a plan of a chain has by depth-first numbers, or by a tour. A plain program in another language
+/// counted the same.
+fn starts(crew: &impl Crew, alloc: Global, nodes: u16, order: LabelOrder) -> Option<usize> {
     let topology = chain(alloc, nodes)?;
-    match labelled(crew, alloc, topology, order, 5, most) {
+    match labelled(crew, alloc, topology, order, 5) {
         Ok(plan) => Some(plan.labels()),
         Err(_) => None,
     }
@@ -71,13 +63,13 @@ fn starts(
 #[test]
 fn tours_of_chains_have_fewer_starts(rt: HostRuntime) {
     let alloc = rt.alloc();
-    let crew = Several { rt: &rt };
+    let (one, two) = (crew(&rt, Some(1)), crew(&rt, Some(2)));
     let found = [
-        starts(&Alone, alloc, 20, LabelOrder::DepthFirst, Some(1)),
-        starts(&Alone, alloc, 20, LabelOrder::Tour, None),
-        starts(&crew, alloc, 20, LabelOrder::Tour, Some(1)),
-        starts(&crew, alloc, 60, LabelOrder::DepthFirst, Some(2)),
-        starts(&crew, alloc, 60, LabelOrder::Tour, Some(2)),
+        starts(&Alone, alloc, 20, LabelOrder::DepthFirst),
+        starts(&Alone, alloc, 20, LabelOrder::Tour),
+        starts(&one, alloc, 20, LabelOrder::Tour),
+        starts(&two, alloc, 60, LabelOrder::DepthFirst),
+        starts(&two, alloc, 60, LabelOrder::Tour),
     ];
     assert!(rt; found == [Some(118), Some(82), Some(82), Some(354), Some(238)]);
 }
@@ -86,7 +78,7 @@ fn tours_of_chains_have_fewer_starts(rt: HostRuntime) {
 fn comes_back(crew: &impl Crew, alloc: Global, order: LabelOrder) -> Option<bool> {
     let topology = chain(alloc, 20)?;
     let nodes = topology.nodes();
-    match labelled(crew, alloc, topology, order, nodes as u16, None) {
+    match labelled(crew, alloc, topology, order, nodes as u16) {
         Err((why, back)) => Some(why == PlanError::NoNode && back.nodes() == nodes),
         Ok(_) => None,
     }
@@ -94,7 +86,7 @@ fn comes_back(crew: &impl Crew, alloc: Global, order: LabelOrder) -> Option<bool
 
 #[test]
 fn a_refusal_hands_the_topology_back(rt: HostRuntime) {
-    let crew = Several { rt: &rt };
+    let crew = crew(&rt, None);
     let answers = (
         comes_back(&crew, rt.alloc(), LabelOrder::DepthFirst),
         comes_back(&Alone, rt.alloc(), LabelOrder::Tour),
@@ -112,7 +104,7 @@ fn backwards(alloc: Global, nodes: usize) -> Option<Vec<u16>> {
 }
 
 // The plan of a chain over its nodes from the last on.
-fn over_an_order(crew: &impl Crew, alloc: Global, kind: Kind, most: Option<usize>) -> Option<Plan>
+fn over_an_order(crew: &impl Crew, alloc: Global, kind: Kind) -> Option<Plan>
     requires { kind ≢ Tree }
 {
     let topology = chain(alloc, 40)?;
@@ -121,27 +113,14 @@ fn over_an_order(crew: &impl Crew, alloc: Global, kind: Kind, most: Option<usize
         return None;
     };
     let labels = Labels::Listed(order);
-    Plan::build_by(crew, alloc, topology, kind, labels, most).ok()
+    Plan::build_by(crew, alloc, topology, kind, labels).ok()
 }
 
 // The plan of a chain that is labelled from a root.
-fn from_a_root(
-    crew: &impl Crew,
-    alloc: Global,
-    kind: Kind,
-    order: LabelOrder,
-    most: Option<usize>,
-) -> Option<Plan> {
+fn from_a_root(crew: &impl Crew, alloc: Global, kind: Kind, order: LabelOrder) -> Option<Plan> {
     let topology = chain(alloc, 40)?;
-    Plan::build_by(
-        crew,
-        alloc,
-        topology,
-        kind,
-        Labels::FromRoot(order, 5),
-        most,
-    )
-    .ok()
+    let labels = Labels::FromRoot(order, 5);
+    Plan::build_by(crew, alloc, topology, kind, labels).ok()
 }
 
 // Whether a node has the same label and row in two plans.
@@ -199,123 +178,35 @@ fn are_both(one: Option<Plan>, other: Option<Plan>) -> bool {
 }
 
 /// The kinds and orders of plans from a root.
-static FROM_A_ROOT: [(Kind, LabelOrder); 6] = [
+const FROM_A_ROOT: [(Kind, LabelOrder); 8] = [
     (Kind::Tree, LabelOrder::DepthFirst),
     (Kind::Tree, LabelOrder::Tour),
     (Kind::Shortest, LabelOrder::DepthFirst),
     (Kind::Shortest, LabelOrder::Tour),
     (Kind::Compact, LabelOrder::DepthFirst),
     (Kind::Compact, LabelOrder::Tour),
+    (Kind::Landmark(TWOFOLD), LabelOrder::DepthFirst),
+    (Kind::Landmark(TWOFOLD), LabelOrder::Tour),
 ];
+
+/// The ways by four landmarks, of at most twice the distance.
+const TWOFOLD: Detour = Detour {
+    landmarks: 4,
+    stretch: 200,
+};
 
 #[test]
 fn one_plan_of_each_kind_and_labels(rt: HostRuntime) -> Result<(), Fail> {
-    let (alloc, crew) = (rt.alloc(), Several { rt: &rt });
+    let (alloc, crew) = (rt.alloc(), crew(&rt, Some(2)));
     for (kind, order) in &FROM_A_ROOT {
-        let alone = from_a_root(&Alone, alloc, *kind, *order, None);
-        if !are_both(alone, from_a_root(&crew, alloc, *kind, *order, Some(2))) {
+        let alone = from_a_root(&Alone, alloc, *kind, *order);
+        if !are_both(alone, from_a_root(&crew, alloc, *kind, *order)) {
             return Err("another plan".into());
         }
     }
-    let alone = over_an_order(&Alone, alloc, Kind::Shortest, None);
-    assert!(rt; are_both(alone, over_an_order(&crew, alloc, Kind::Shortest, Some(2))));
-    let alone = over_an_order(&Alone, alloc, Kind::Compact, None);
-    assert!(rt; are_both(alone, over_an_order(&crew, alloc, Kind::Compact, Some(2))));
+    let alone = over_an_order(&Alone, alloc, Kind::Shortest);
+    assert!(rt; are_both(alone, over_an_order(&crew, alloc, Kind::Shortest)));
+    let alone = over_an_order(&Alone, alloc, Kind::Compact);
+    assert!(rt; are_both(alone, over_an_order(&crew, alloc, Kind::Compact)));
     Ok(())
-}
-
-/// The ports of a, b and c of the path to each of them; 65,535 stands for that of a node to itself.
-static COLUMNS: [[u16; 3]; 3] = [[65_535, 0, 0], [0, 65_535, 0], [0, 1, 65_535]];
-
-// Whether lists are these.
-fn are_lists(lists: &[Vec<u16>], wanted: &[[u16; 3]]) -> bool {
-    if lists.len() != wanted.len() {
-        return false;
-    }
-    for k in 0..lists.len() {
-        if lists[k].as_slice() != wanted[k].as_slice() {
-            return false;
-        }
-    }
-    true
-}
-
-// The plan of the path in depth-first numbers from a.
-fn plan_of_path(rt: &(impl Threads + Sync), alloc: Global) -> Option<Plan> {
-    let crew = Several { rt };
-    let path = path(alloc)?;
-    labelled(&crew, alloc, path, LabelOrder::DepthFirst, 0, None).ok()
-}
-
-// Whether the ports of a plan are these.
-fn are_columns(rt: &(impl Threads + Sync), alloc: Global, plan: &Plan) -> bool {
-    match columns_in_threads(rt, alloc, plan, Some(2)) {
-        Ok(columns) => are_lists(columns.as_slice(), &COLUMNS),
-        Err(_) => false,
-    }
-}
-
-// Whether those of the plan of the path are.
-fn are_columns_of_path(rt: &(impl Threads + Sync), alloc: Global) -> bool {
-    match plan_of_path(rt, alloc) {
-        Some(plan) => are_columns(rt, alloc, &plan),
-        None => false,
-    }
-}
-
-#[test]
-fn ports_to_each_node(rt: HostRuntime) {
-    assert!(rt; are_columns_of_path(&rt, rt.alloc()));
-}
-
-/// At how many of a, b and c the ports to each two of them differ.
-static DISTANCES: [[u16; 3]; 3] = [[0, 2, 3], [2, 0, 2], [3, 2, 0]];
-
-// Whether the distances by these ports are so.
-fn are_distances(rt: &(impl Threads + Sync), alloc: Global) -> Option<bool> {
-    let columns = [
-        Vec::from_slice(alloc, &COLUMNS[0]).ok()?,
-        Vec::from_slice(alloc, &COLUMNS[1]).ok()?,
-        Vec::from_slice(alloc, &COLUMNS[2]).ok()?,
-    ];
-    match distances_in_threads(rt, alloc, &columns, Some(2)) {
-        Ok(rows) => Some(are_lists(rows.as_slice(), &DISTANCES)),
-        Err(_) => None,
-    }
-}
-
-#[test]
-fn distances_of_each_two_nodes(rt: HostRuntime) {
-    assert!(rt; are_distances(&rt, rt.alloc()) == Some(true));
-}
-
-// How many starts the rows of a network have by depth-first numbers, made in at most two threads.
-fn starts_over(rt: &(impl Threads + Sync), alloc: Global, topology: &Topology) -> Option<usize> {
-    let numbers = Numbering::depth_first(alloc, topology, 5).ok()?;
-    let makers = Makers {
-        rt,
-        most: Some(2),
-        watch: &Unwatched,
-    };
-    let Ok(rows) = rows_in_threads(makers, alloc, topology, &numbers, Kind::Shortest) else {
-        return None;
-    };
-    let mut starts = 0usize;
-    for row in &rows {
-        starts = starts.saturating_add(row.len());
-    }
-    Some(starts)
-}
-
-// How many the rows of a chain have.
-fn starts_of_rows(rt: &(impl Threads + Sync), alloc: Global, nodes: u16) -> Option<usize> {
-    match chain(alloc, nodes) {
-        Some(topology) => starts_over(rt, alloc, &topology),
-        None => None,
-    }
-}
-
-#[test]
-fn rows_of_each_node(rt: HostRuntime) {
-    assert!(rt; starts_of_rows(&rt, rt.alloc(), 60) == Some(354));
 }

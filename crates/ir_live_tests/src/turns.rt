@@ -24,10 +24,10 @@ enum Move {
     Turn(usize, Turn),
     /// A link is marked as up, or as down.
     Mark(u16, bool, Result<u32, Refused>),
-    /// An install, and why it is refused.
-    Install(Kind, u16, Option<Refused>),
-    /// An install of which the injector learns, and its epoch.
-    InstallAndLearn(Kind, u16, u32),
+    /// An install of kind Tree, and why it is refused.
+    Install(u16, Option<Refused>),
+    /// An install of kind Shortest of which the injector learns, and its epoch.
+    InstallAndLearn(u16, u32),
     /// A retirement, and why it is refused.
     Retire(u32, Option<Refused>),
     /// Epoch 2 is installed and epoch 1 retired, of which this node learns.
@@ -195,11 +195,11 @@ static CASES: [Case; 9] = [
             Move::Mark(2, false, Err(Refused::NoLink)),
             Move::Mark(0, false, Ok(1)),
             Move::Mark(0, false, Err(Refused::Same)),
-            Move::Install(Kind::Tree, 1, Some(Refused::Disconnected)),
+            Move::Install(1, Some(Refused::Disconnected)),
             Move::Mark(0, true, Ok(2)),
             Move::Retire(2, Some(Refused::NoEpoch)),
             Move::Retire(1, Some(Refused::Same)),
-            Move::Install(Kind::Tree, 3, Some(Refused::NoNode)),
+            Move::Install(3, Some(Refused::NoNode)),
         ],
         packets: &[],
     },
@@ -208,9 +208,9 @@ static CASES: [Case; 9] = [
         capacity: 16,
         restamps: 0,
         moves: &[
-            Move::Install(Kind::Tree, 0, None),
+            Move::Install(0, None),
             Move::Inject(0, 2, Ok(0)),
-            Move::InstallAndLearn(Kind::Shortest, 2, 3),
+            Move::InstallAndLearn(2, 3),
             Move::Inject(0, 2, Ok(1)),
         ],
         packets: &[LEFT, Became { epoch: 3, ..LEFT }],
@@ -247,9 +247,9 @@ fn moved<R: Threads + Wait + Sync>(rt: &R, hands: &mut ByHand<&R>, step: Move) -
         Move::Inject(source, dest, answer) => hands.inject(rt, source, dest) == answer,
         Move::Turn(at, turn) => hands.turn(rt, at) == Some(turn),
         Move::Mark(link, up, answer) => hands.mark(link, up) == answer,
-        Move::Install(kind, root, why) => hands.install(rt, kind, root).err() == why,
-        Move::InstallAndLearn(kind, root, epoch) => {
-            hands.install_and_learn(rt, kind, root) == Ok(Some(epoch))
+        Move::Install(root, why) => hands.install(rt, Kind::Tree, root).err() == why,
+        Move::InstallAndLearn(root, epoch) => {
+            hands.install_and_learn(rt, Kind::Shortest, root) == Ok(Some(epoch))
         }
         Move::Retire(floor, why) => hands.retire(floor).err() == why,
         Move::Renew(at) => renewed(rt, hands, at),

@@ -27,6 +27,7 @@ use Rattle.ir_control.specs.Heads.{head_at}
 use Rattle.ir_control.specs.Reports.{IsSoundOutcome}
 use Rattle.ir_control.specs.Told.{IsOutcomeIn}
 use Rattle.ir_links.specs.Ends.{Word}
+use Rattle.ir_epochs.specs.Looks.{Look}
 use Rattle.ir_control.specs.Desks.{Desk}
 use Rattle.ir_control.specs.declared.live.Live.{Live}
 use Rattle.ir_control.specs.Answers.{CommandAnswer, accepted_by, accepted_from, epoch_after}
@@ -113,18 +114,18 @@ all_at : {X : Type 0} (P : X → Type 0) (xs : List X) (i : ℕ) (x : X) → All
 all_at P xs i x all at = subst P (get_or_from_slice_get xs i x x at) (all i x (slice_get_within xs i x at))
 
 -- each record of a live run can be written over the network of its net's opening
-pub live_records : (was_full was_empty : Word Parcel) (may_end : ℕ → ℕ → Type 0) (came_back : Node → Type 0) (was_closed : Injector → Type 0) {B : Type 0} (net : Net) (commands : List Command) (live : Live) → IsLive B was_full was_empty may_end came_back was_closed net commands live → (over : Topology) → IsTopology over → node_count over ≤ MAX_NODES → (knows net.opening).topology ≡ over
+pub live_records : (was_full was_empty : Word Parcel) (looked : Look Parcel) (may_end : ℕ → ℕ → Type 0) (came_back : Node → Type 0) (was_closed : Injector → Type 0) {B : Type 0} (net : Net) (commands : List Command) (live : Live) → IsLive B was_full was_empty looked may_end came_back was_closed net commands live → (over : Topology) → IsTopology over → node_count over ≤ MAX_NODES → (knows net.opening).topology ≡ over
     → HaveSegments over live.report.records.items
-live_records was_full was_empty may_end came_back was_closed net commands live is over ok few opening i r at =
-    let found = of_outcome is.report.outcomes i r (ap (λ (rs : List Record). slice_get rs i) (sym is.report.records) ∙ at) in
+live_records was_full was_empty looked may_end came_back was_closed net commands live is over ok few opening i r at =
+    let found = of_outcome is.reported.told.outcomes i r (ap (λ (rs : List Record). slice_get rs i) (sym is.reported.told.records) ∙ at) in
     let o = found.0 in
     let there = found.1 in
-    let nodes : node_count (knows is.opened.injector.opening).topology ≡ node_count over = ap (λ (s : Stamp). node_count (knows s).topology) is.handed_out.injector_of.opening ∙ ap (λ (g : Topology). length g.ports) opening in
-    let all = entered was_full (node_count over) commands is.opened is.answers is.closed 0 1 nodes is.carried_out in
-    let every = subst (AllByRecursion (IsEntered (node_count over))) (sym is.accepted) all in
-    let ends = ends_in (node_count over) is.report.outcomes is.closed.injector.accepted.items is.report.heads every i o there in
-    let sound = all_at IsSoundOutcome is.report.outcomes i o is.report.sound there in
-    let of_net = all_at (IsOutcomeIn net.opening) is.report.outcomes i o is.report.of_net there in
+    let nodes : node_count (knows is.carried.opened.injector.opening).topology ≡ node_count over = ap (λ (s : Stamp). node_count (knows s).topology) is.carried.handed_out.injector_of.opening ∙ ap (λ (g : Topology). length g.ports) opening in
+    let all = entered was_full (node_count over) commands is.carried.opened is.carried.answers is.carried.closed 0 1 nodes is.carried.carried_out in
+    let every = subst (AllByRecursion (IsEntered (node_count over))) (sym is.carried.accepted) all in
+    let ends = ends_in (node_count over) is.reported.told.outcomes is.carried.closed.injector.accepted.items is.reported.told.heads every i o there in
+    let sound = all_at IsSoundOutcome is.reported.told.outcomes i o is.reported.told.sound there in
+    let of_net = all_at (IsOutcomeIn net.opening) is.reported.told.outcomes i o is.reported.told.of_net there in
     subst (λ (x : Record). HasSegments over x) found.2 (has_segments over ok net.opening opening (stamps_of o.stamp o.later.items) o.packet few ends.0 ends.1 of_net sound.1)
 
 -- what is opened is a network of few nodes

@@ -14,6 +14,7 @@ use Rattle.ir_core.specs.declared.command.Command.{Command}
 use Rattle.ir_control.specs.declared.net.Net.{Net}
 use Rattle.ir_control.specs.declared.starter.Starter as Starter
 use Rattle.ir_links.specs.declared.moments.Moments as Moments
+use Rattle.ir_epochs.specs.declared.looks.Looks as Looks
 use Rattle.ir_control.specs.Nets.{IsNetFor}
 use Rattle.ir_control.specs.Opened.{IsNetRefusal}
 use Rattle.ir_worker.specs.Seen.{Parcel}
@@ -46,18 +47,21 @@ pub record IsOpenedNet (g : Adjacency) (words : Words) (root : ℕ) (net : Net) 
   pub accepted : open_refused (opening_by words (topology_of_graph g) root) ≡ None
   pub opened : IsNetFor (opening_by words (topology_of_graph g) root) net
 
--- A node may end behind any number of turns: the gate and the flag of a script's run have no words.
-abbrev pub ends_somewhere : ℕ → ℕ → Type 0
-ends_somewhere node turns = Unit {0} ⊎ (Unit {0} ⊎ (turns + 1 ≡ 2 ^ 64))
+-- In the word that the flag was set: a node of a script's run ends where it was set, or at the last
+-- number of a turn. Its gate bars no turn.
+abbrev pub ends_unbarred : Type 0 → ℕ → ℕ → Type 0
+ends_unbarred was_stopped node turns = was_stopped ⊎ (⊥ ⊎ (turns + 1 ≡ 2 ^ 64))
 
 -- why nothing runs over a net: it is not opened, or the board of one that was opened has no place for a reader of each node
 abbrev pub RefusesNet : Adjacency → Words → ℕ → OpenError → Type 0
 RefusesNet g words root e =
     IsNetRefusal (opening_by words (topology_of_graph g) root) e ⊎ ((e ≡ openings.TooManyReaders) × (net : Net) × IsOpenedNet g words root net)
 
--- In the words of a runtime: for a refused push and a refused pop, for a thread that was not started, for a node that was
--- shown as it came back, and for an injector that was shown behind the commands.
-module _ {T Place : Type 0} (moments : Moments.Ghosts T Parcel Place) (starter : Starter.Ghosts T) (rt : T) where
+-- In the words of a runtime: for a refused push and a refused pop, for a look at a board, for a flag
+-- that was set, for a thread that was not started, for a node that was shown as it came back, and for
+-- an injector that was shown after the commands.
+module _ {T Place : Type 0} (moments : Moments.Ghosts T Parcel Place)
+    (looks : Looks.Ghosts T Parcel) (starter : Starter.Ghosts T) (rt : T) where
   -- The commands of a script are carried out over such a net while its nodes turn on threads of their own, and none of them
   -- wants memory. The text is the trace of the records that are reported, each of which is a
   -- sound record by the plans of its epochs: epoch 1 has the plan that the words ask for, and each other epoch the one that
@@ -66,7 +70,9 @@ module _ {T Place : Type 0} (moments : Moments.Ghosts T Parcel Place) (starter :
     pub net : Net
     pub live : Live
     pub opened : IsOpenedNet g words root net
-    pub ran : IsLive (Bor T) moments.was_full moments.was_empty ends_somewhere (starter.came_back rt) (starter.was_closed rt) net script.steps live
+    pub ran : IsLive (Bor T) moments.was_full moments.was_empty looks.looked
+        (ends_unbarred (starter.was_stopped rt)) (starter.came_back rt) (starter.was_closed rt)
+        net script.steps live
     pub in_memory : list_any is_for_memory live.refusals.items ≡ false
     pub trace : text ≡ run_text words.restamps (names g) (topology_of_graph g) live.report.records.items
     pub told : refused ≡ refusals_text script.lines live.refusals.items

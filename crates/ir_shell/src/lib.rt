@@ -9,7 +9,6 @@ pub use ir_answer::{
     Format, Notice, NumberingChoice, RunOutcome, Source, Sub, Words, WordsError, read_words,
     run_check, run_plan, run_sim, sources_of,
 };
-pub use ir_exports::LineCrew;
 pub use ir_plan::{Alone, Crew, Several};
 pub use ir_script::{Command, Script, ScriptError, ScriptFault, parse_live, parse_script};
 pub use running::{Team, follow, run_live_text};

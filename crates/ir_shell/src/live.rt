@@ -4,18 +4,19 @@ ghost use Rattle.ir_model.specs.{Graph.names, OfGraph.topology_of_graph, Text.li
 ghost use Rattle.ir_trace.specs.Written.{HaveSegments};
 ghost use Rattle.ir_cli.specs.{Lines.steps_text, Openings.{AnswersTopology}};
 ghost use Rattle.ir_control.specs.Lives.{IsLive, IsRefusal};
-ghost use Rattle.ir_shell.specs.Lives.{is_for_memory, refusals_text, IsOpenedNet, AnswersLive, AnswersLiveScript, ends_somewhere};
+ghost use Rattle.ir_shell.specs.Lives.{is_for_memory, refusals_text, IsOpenedNet, AnswersLive, AnswersLiveScript, ends_unbarred};
 ghost use Rattle.ir_answer.specs.{Plays.{listing_in, run_text}, Stops.{StopsAs, Gives}};
 
 use ir_answer::{AnswerStop, Asked, opening_stop, read_asked, run_text};
 use ir_cli::{RunReply, Words, opening_of};
 use ir_control::{Live, LiveError, Net, Starter, run_live};
 use ir_core::{OpenError, Refused};
+use ir_epochs::Looks;
 use ir_graph::Graph;
 use ir_links::Moments;
 use ir_script::Command;
 use ir_tables::Topology;
-use ir_worker::{Gate, Parcel};
+use ir_worker::{Flag, Gate, Parcel};
 use std::alloc::{AllocError, Global};
 use std::sync::atomic::AtomicBool;
 use std::thread::Threads;
@@ -24,10 +25,30 @@ use std::thread::Threads;
 struct Open;
 
 impl Gate for Open {
-    ghost barred = { λ _ _ _. Unit {0} };
+    // there is no turn that it does not let a node make
+    ghost barred = { λ _ _ _. ⊥ };
 
     fn pass(&self, _node: u16, _turn: u64) -> bool {
         true
+    }
+}
+
+/// The flag of a script's run, in the word of the run's starter.
+#[derive(Drop)]
+struct Stop<'s, S> {
+    starter: &'s S,
+    flag: AtomicBool,
+}
+
+impl<S: Starter + Sync> Flag for Stop<'_, S> {
+    ghost was_set = { λ stop. S.was_stopped stop.starter.now };
+
+    fn is_set(&self) -> bool {
+        self.starter.is_stopped(&self.flag)
+    }
+
+    fn set(&self) {
+        self.starter.stops(&self.flag);
     }
 }
 
@@ -90,24 +111,27 @@ fn live_texts(
 }
 
 /// A live run in which each node has a thread, makes every turn, and ends once the commands are carried out.
-fn run_open<T: Threads + Moments<Parcel> + Starter + Sync>(
+fn run_open<T: Threads + Moments<Parcel> + Looks<Parcel> + Starter + Sync>(
     rt: &T,
     net: &Net,
     commands: &[Command],
 ) -> Result<Live, LiveError>
-    ensures live { IfOk result (λ live. IsLive (Bor T) T.was_full T.was_empty ends_somewhere (T.came_back rt.now)
+    ensures live { IfOk result (λ live. IsLive (Bor T) T.was_full T.was_empty T.looked
+        (ends_unbarred (T.was_stopped rt.now)) (T.came_back rt.now)
         (T.was_closed rt.now) net.now commands.now live) }
-    ensures refused { IfErr result (IsRefusal (Bor T) T.was_full (T.unstarted rt.now) (T.came_back rt.now) net.now
-        commands.now) }
+    ensures refused { IfErr result (IsRefusal (T.unstarted rt.now) net.now) }
 {
-    let stop = AtomicBool::new(false);
+    let stop = Stop {
+        starter: rt,
+        flag: AtomicBool::new(false),
+    };
     run_live(rt, net, commands, &Open, &stop, rt)
 }
 
 /// The answer to a script and a net that was opened for it. Its parts were not handed out before; that they are not
 /// handed out is told as want of memory, and that the board has no place for a reader of each node as a refused
 /// opening.
-fn answer_net<T: Threads + Moments<Parcel> + Starter + Sync>(
+fn answer_net<T: Threads + Moments<Parcel> + Looks<Parcel> + Starter + Sync>(
     rt: &T,
     alloc: Global,
     words: &Words,
@@ -116,8 +140,8 @@ fn answer_net<T: Threads + Moments<Parcel> + Starter + Sync>(
 ) -> Result<RunReply, AnswerStop>
     requires over { asked.now.topology ≡ topology_of_graph asked.now.graph }
     requires opened { IsOpenedNet asked.now.graph words.now asked.now.root net.now }
-    ensures { Gives (AnswersLive T.Moments T.Starter rt.now asked.now.graph words.now (listing_in asked.now.script)
-        asked.now.root) result }
+    ensures { Gives (AnswersLive T.Moments T.Looks T.Starter rt.now asked.now.graph words.now
+        (listing_in asked.now.script) asked.now.root) result }
 {
     asked.topology.invariant();
     match run_open(rt, net, asked.script.steps()) {
@@ -134,15 +158,31 @@ fn answer_net<T: Threads + Moments<Parcel> + Starter + Sync>(
         }
         Err(LiveError::NoThread) => Ok(RunReply::NoThread),
         Err(LiveError::TooManyReaders) => Err(opening_stop(OpenError::TooManyReaders)),
-        Err(LiveError::Spent | LiveError::NoMemory | LiveError::Unpublished) => Err(
-            AnswerStop::NoMemory,
-        ),
+        Err(LiveError::Spent | LiveError::NoMemory) => Err(AnswerStop::NoMemory),
+    }
+}
+
+/// The answer to what is asked for: the live run of the script, or what refuses its opening.
+fn run_asked<T: Threads + Moments<Parcel> + Looks<Parcel> + Starter + Sync>(
+    rt: &T,
+    alloc: Global,
+    words: &Words,
+    asked: &Asked<Command>,
+) -> Result<RunReply, AnswerStop>
+    requires { asked.now.topology ≡ topology_of_graph asked.now.graph }
+    ensures { Gives (AnswersLive T.Moments T.Looks T.Starter rt.now asked.now.graph words.now
+        (listing_in asked.now.script) asked.now.root) result }
+{
+    let opening = opening_of(alloc, words, &asked.topology, asked.root)?;
+    match Net::open(rt, alloc, opening) {
+        Ok(net) => answer_net(rt, alloc, words, asked, &net),
+        Err(error) => Err(opening_stop(error)),
     }
 }
 
 /// The answer of `live` to the texts of a topology and of a script: the trace of the packets, and a line for each
 /// command that was refused.
-pub fn run_commands<T: Threads + Moments<Parcel> + Starter + Sync>(
+pub fn run_commands<T: Threads + Moments<Parcel> + Looks<Parcel> + Starter + Sync>(
     rt: &T,
     alloc: Global,
     words: &Words,
@@ -150,12 +190,10 @@ pub fn run_commands<T: Threads + Moments<Parcel> + Starter + Sync>(
     script: &[u8],
 ) -> Result<RunReply, AnswerStop>
     ensures { Gives (AnswersTopology words.now.format (lines topology.now)
-        (AnswersLiveScript T.Moments T.Starter rt.now words.now (lines script.now))) result }
+        (AnswersLiveScript T.Moments T.Looks T.Starter rt.now words.now (lines script.now))) result }
 {
-    let asked = read_asked::<Command>(alloc, words, topology, script)?;
-    let opening = opening_of(alloc, words, &asked.topology, asked.root)?;
-    match Net::open(rt, alloc, opening) {
-        Ok(net) => answer_net(rt, alloc, words, &asked, &net),
-        Err(error) => Err(opening_stop(error)),
+    match read_asked::<Command>(alloc, words, topology, script) {
+        Ok(asked) => run_asked(rt, alloc, words, &asked),
+        Err(stop) => Err(stop),
     }
 }

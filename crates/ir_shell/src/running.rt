@@ -9,9 +9,9 @@ use crate::live::run_commands;
 use ir_answer::{follow_by, form_of, sources_by, two_texts, write_given};
 use ir_cli::{RunOutcome, Sub, Words, read_inputs, status_of, tell_unread};
 use ir_control::Starter;
-use ir_exports::LineCrew;
+use ir_epochs::Looks;
 use ir_links::Moments;
-use ir_plan::Alone;
+use ir_plan::{Alone, Crew};
 use ir_streams::{Reader, Writer};
 use ir_worker::Parcel;
 use std::alloc::Global;
@@ -25,7 +25,7 @@ pub struct Team<'t, 'c, T, C> {
 }
 
 /// Answers the texts of the inputs of a live run, and writes the answer in the form that the words ask for.
-fn write_live<T: Threads + Moments<Parcel> + Starter + Sync, W: Writer, F: Writer>(
+fn write_live<T: Threads + Moments<Parcel> + Looks<Parcel> + Starter + Sync, W: Writer, F: Writer>(
     rt: &T,
     alloc: Global,
     words: &Words,
@@ -34,7 +34,7 @@ fn write_live<T: Threads + Moments<Parcel> + Starter + Sync, W: Writer, F: Write
     faults: &mut F,
 ) -> RunOutcome
     requires { length texts.now ≡ length (sim_sources words.now) }
-    ensures ends { LiveEndsAs T.Moments T.Starter rt.now words.now result.ending
+    ensures ends { LiveEndsAs T.Moments T.Looks T.Starter rt.now words.now result.ending
         (io_over (texts_of texts.now) (written_of W.Writer F.Writer output.old output.new faults.old faults.new)) }
     ensures told { Tells F.contents F.wrote F.settled faults.old faults.new (told_text result.told) }
     ensures found { ShowsFound (asked_form Sub.Live words.now) result.found result.ending
@@ -47,7 +47,12 @@ fn write_live<T: Threads + Moments<Parcel> + Starter + Sync, W: Writer, F: Write
 }
 
 /// Does what `run_live_text` does, and answers what it came to, as values.
-fn follow_live<T: Threads + Moments<Parcel> + Starter + Sync, R: Reader, W: Writer, F: Writer>(
+fn follow_live<
+    T: Threads + Moments<Parcel> + Looks<Parcel> + Starter + Sync,
+    R: Reader,
+    W: Writer,
+    F: Writer,
+>(
     rt: &T,
     alloc: Global,
     words: &Words,
@@ -56,7 +61,7 @@ fn follow_live<T: Threads + Moments<Parcel> + Starter + Sync, R: Reader, W: Writ
     faults: &mut F,
 ) -> RunOutcome
     requires { length inputs.old ≡ length (sim_sources words.now) }
-    ensures ends { LiveEndsAs T.Moments T.Starter rt.now words.now result.ending
+    ensures ends { LiveEndsAs T.Moments T.Looks T.Starter rt.now words.now result.ending
         (io_of R.Reader W.Writer F.Writer inputs.old inputs.new output.old output.new faults.old faults.new) }
     ensures told { Tells F.contents F.wrote F.settled faults.old faults.new (told_text result.told) }
     ensures found { ShowsFound (asked_form Sub.Live words.now) result.found result.ending
@@ -78,13 +83,13 @@ fn follow_live<T: Threads + Moments<Parcel> + Starter + Sync, R: Reader, W: Writ
 /// is refused, or a reader or writer failed; 3 want of memory, also where a command wanted it, or a thread that was
 /// not started.
 pub fn run_live_text<
-    T: Threads + Moments<Parcel> + Starter + Sync,
+    T: Threads + Moments<Parcel> + Looks<Parcel> + Starter + Sync,
     R: Reader,
     W: Writer,
     F: Writer,
 >(rt: &T, alloc: Global, words: &Words, inputs: &mut [R], output: &mut W, faults: &mut F) -> u8
     requires { length inputs.old ≡ length (sim_sources words.now) }
-    ensures { RunEnds (LiveAnswers T.Moments T.Starter rt.now) Sub.Live words.now result
+    ensures { RunEnds (LiveAnswers T.Moments T.Looks T.Starter rt.now) Sub.Live words.now result
         (io_of R.Reader W.Writer F.Writer inputs.old inputs.new output.old output.new faults.old faults.new) }
 {
     status_of(follow_live(rt, alloc, words, inputs, output, faults).ending)
@@ -99,8 +104,8 @@ pub fn run_live_text<
 /// status of an ending: 0 where all is done; 1 for an input that is refused, a finding, or a reader or writer that
 /// failed; 3 for want of memory, also where a step or a thread wanted it, or a thread of a node that was not started.
 pub fn follow<
-    T: Threads + Moments<Parcel> + Starter + Sync,
-    C: LineCrew,
+    T: Threads + Moments<Parcel> + Looks<Parcel> + Starter + Sync,
+    C: Crew,
     R: Reader,
     W: Writer,
     F: Writer,
@@ -114,7 +119,7 @@ pub fn follow<
 ) -> RunOutcome
     requires kind { FitsItsKind words.now }
     requires inputs { length inputs.old ≡ length (sources_of words.now) }
-    ensures ends { FollowsAs T.Moments T.Starter team.now.rt.now words.now result.ending
+    ensures ends { FollowsAs T.Moments T.Looks T.Starter team.now.rt.now words.now result.ending
         (io_of R.Reader W.Writer F.Writer inputs.old inputs.new output.old output.new faults.old faults.new) }
     ensures told { Tells F.contents F.wrote F.settled faults.old faults.new (told_text result.told) }
     ensures found { ShowsFound (asked_form words.now.sub words.now) result.found result.ending

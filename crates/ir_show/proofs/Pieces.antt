@@ -1,5 +1,5 @@
 -- The pieces that a plan's text is made of.
-use Rattle.std.proofs.Common.{◌≡◌, ℕ, zero, suc, Ok, ◌+◌, ◌<◌, List, [], ◌∷◌, ◌++◌, length, map, take, get_or, slice_index, flat_map, refl, sym, ap, ◌∙◌, arith}
+use Rattle.std.proofs.Common.{◌≡◌, ℕ, zero, suc, Ok, ◌+◌, ◌<◌, List, [], ◌∷◌, ◌++◌, length, map, take, get_or, slice_index, flat_map, refl, sym, ap, ◌∙◌, arith, subst}
 use Rattle.std.specs.Global.{Vec}
 use Rattle.std.specs.Prelude.{IfOk}
 use Rattle.std.specs.List.{AllZip, range_with_len}
@@ -43,12 +43,14 @@ texts_more texts i d more within is =
     ap (λ (t : List ℕ). flat_map items (take i texts) ++ t) is ∙ flat_map_more items [] (take i texts) (get_or texts i d)
     ∙ ap (flat_map items) (sym (take_more texts i d within))
 
--- where no memory was refused, texts of the nodes of a range are their lines
-pub texts_made : (line : ℕ → List ℕ) (u k : ℕ) (made : List (Vec ℕ))
-    → AllZip (λ (v : ℕ) (one : Result (Vec ℕ) AllocError). IfOk one (λ (text : Vec ℕ). text.items ≡ line v)) (range_with_len u k) (map Ok made)
-    → flat_map (λ (t : Vec ℕ). t.items) made ≡ flat_map line (range_with_len u k)
-texts_made line u zero [] zipped = refl
-texts_made line u zero (one ∷ made) zipped = absurd zipped
-texts_made line u (suc k) [] zipped = absurd zipped
-texts_made line u (suc k) (one ∷ made) zipped =
-    ap (λ (t : List ℕ). t ++ flat_map (λ (v : Vec ℕ). v.items) made) zipped.0 ∙ ap (λ (t : List ℕ). line u ++ t) (texts_made line (u + 1) k made zipped.1)
+-- where no memory was refused, texts of nodes from one on are their lines
+pub texts_made : (line : ℕ → List ℕ) (first a k : ℕ) (made : List (Vec ℕ))
+    → AllZip (λ (v : ℕ) (one : Result (Vec ℕ) AllocError). IfOk one (λ (text : Vec ℕ). text.items ≡ line (first + v))) (range_with_len a k) (map Ok made)
+    → flat_map (λ (t : Vec ℕ). t.items) made ≡ flat_map line (range_with_len (first + a) k)
+texts_made line first a zero [] zipped = refl
+texts_made line first a zero (one ∷ made) zipped = absurd zipped
+texts_made line first a (suc k) [] zipped = absurd zipped
+texts_made line first a (suc k) (one ∷ made) zipped =
+    let next : first + (a + 1) ≡ first + a + 1 = omega arith in
+    let later = subst (λ (u : ℕ). flat_map (λ (v : Vec ℕ). v.items) made ≡ flat_map line (range_with_len u k)) next (texts_made line first (a + 1) k made zipped.1) in
+    ap (λ (t : List ℕ). t ++ flat_map (λ (v : Vec ℕ). v.items) made) zipped.0 ∙ ap (λ (t : List ℕ). line (first + a) ++ t) later

@@ -6,7 +6,7 @@ use Rattle.std.proofs.lemmas.List.{ext_get_or, get_or-map, length-map}
 use Rattle.std.proofs.lemmas.Option.{slice_get_within}
 use Rattle.ir_model.specs.declared.Hop.{Hop}
 use Rattle.ir_model.specs.declared.Kind.{Kind}
-use Rattle.ir_model.specs.declared.Kind.TheVariants.{Tree, Shortest, Compact}
+use Rattle.ir_model.specs.declared.Kind.TheVariants.{Tree, Shortest, Compact, Landmark}
 use Rattle.ir_model.specs.Topology.{Topology, node_count, ports_of, port_at}
 use Rattle.ir_model.specs.Interval.{PortInterval}
 use Rattle.ir_model.specs.Row.{Start}
@@ -16,6 +16,7 @@ use Rattle.ir_model.specs.Plan.{Plan, IsPlan, IsTableOf, table_port, next_hop, l
 use Rattle.ir_model.proofs.Ordered.{canonical_same}
 use Rattle.ir_numbering.specs.Numbering.{Numbering}
 use Rattle.ir_plan.specs.NodeRows.{AreShortestPorts, ArePortsOf, IsNodeRow}
+use Rattle.ir_plan.specs.Starts.{IsOfShortestWays}
 use Rattle.ir_model.specs.Choices.{AreChosen}
 use Rattle.ir_model.specs.Compact.{IsTied}
 use Rattle.ir_model.proofs.Chosen.{chosen_same}
@@ -49,9 +50,10 @@ module _ (s : Plan) (is : IsPlan s) (u : ℕ) (hu : u < node_count s.topology) w
         port_is d hd ∙ sym (get_or-map (table_port s u) s.order d 0 None (omega (arith, hd, is.labels.every_label))))
 
   -- the ports of a kind are those of the plan's table
-  same_ports : (kind : Kind) → kind ≢ Tree → IsTableOf kind s.topology s.order is.parents (table_port s) → (parents : List ℕ) (ports : List (Option ℕ))
+  same_ports : (kind : Kind) → IsOfShortestWays kind → IsTableOf kind s.topology s.order is.parents (table_port s) → (parents : List ℕ) (ports : List (Option ℕ))
       → ArePortsOf kind s.topology s.order parents (label_in s u) ports → ports ≡ by_label s u
-  same_ports Tree other table parents ports are = absurd (other refl)
+  same_ports Tree other table parents ports are = absurd other
+  same_ports (Landmark t) other table parents ports are = absurd other
   same_ports Shortest other table parents ports are = ports_are table ports are
   same_ports Compact other table parents ports are =
       let a = label_in s u in
@@ -60,20 +62,20 @@ module _ (s : Plan) (is : IsPlan s) (u : ℕ) (hu : u < node_count s.topology) w
       subst (λ (x : ℕ). AreChosen n a (IsTied s.topology s.order a) (map (table_port s x) s.order)) (is.labels.there u hu) (table.chosen a (is.labels.label u hu)) in
       chosen_same n a (IsTied s.topology s.order a) are.0 ports (by_label s u) are.1 chosen
 
-  same_row : s.kind ≢ Tree → (parents : List ℕ) (row : List Start) → IsNodeRow s.kind s.topology s.order parents (label_in s u) row → row ≡ row_in s u
+  same_row : IsOfShortestWays s.kind → (parents : List ℕ) (row : List Start) → IsNodeRow s.kind s.topology s.order parents (label_in s u) row → row ≡ row_in s u
   same_row other parents row made =
       let n = node_count s.topology in
       canonical_same n (label_in s u) (by_label s u) row (row_in s u)
       (subst (λ (ports : List (Option ℕ)). IsCanonical n (label_in s u) ports row) (same_ports s.kind other is.table parents made.ports made.ports_of_kind) made.canonical) (is.rows u hu)
 
-module _ (net : Topology) (kind : Kind) (other_kind : kind ≢ Tree) (numbers : Numbering) (s : Plan) (is : IsPlanOver net kind numbers s) (u : ℕ) (hu : u < node_count net) (row : List Start)
+module _ (net : Topology) (kind : Kind) (other_kind : IsOfShortestWays kind) (numbers : Numbering) (s : Plan) (is : IsPlanOver net kind numbers s) (u : ℕ) (hu : u < node_count net) (row : List Start)
     (made : IsNodeRow kind net numbers.order numbers.parents (slice_index numbers.labels u) row) where
   in_plan : u < node_count s.topology
   in_plan = subst (λ (over : Topology). u < node_count over) (sym is.over) hu
 
   pub plan_row : row ≡ row_in s u
   plan_row =
-      same_row s is.valid u in_plan (λ e. other_kind (sym is.of_kind ∙ e)) numbers.parents row
+      same_row s is.valid u in_plan (subst IsOfShortestWays (sym is.of_kind) other_kind) numbers.parents row
       (subst (λ (k : Kind). IsNodeRow k s.topology s.order numbers.parents (label_in s u) row) (sym is.of_kind)
       (subst (λ (over : Topology). IsNodeRow kind over s.order numbers.parents (label_in s u) row) (sym is.over)
       (subst (λ (order : List ℕ). IsNodeRow kind net order numbers.parents (label_in s u) row) (sym is.order)

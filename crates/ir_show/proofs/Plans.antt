@@ -1,8 +1,8 @@
--- A connected network has a plan of each kind but Tree for each numbering of its nodes.
+-- A connected network has a plan of each kind of shortest ways for each numbering of its nodes.
 use Rattle.std.proofs.Common.{◌≡◌, ◌≢◌, ℕ, ◌<◌, List, [], length, map, refl, sym, ap, ◌∙◌, subst, arith}
 use Rattle.std.specs.Prelude.{slice_index}
 use Rattle.ir_model.specs.declared.Kind.{Kind}
-use Rattle.ir_model.specs.declared.Kind.TheVariants.{Tree, Shortest, Compact}
+use Rattle.ir_model.specs.declared.Kind.TheVariants.{Tree, Shortest, Compact, Landmark}
 use Rattle.ir_model.specs.Topology.{Topology, node_count, ports_of, IsTopology}
 use Rattle.ir_model.specs.Choices.{AreChoices}
 use Rattle.ir_model.specs.Compact.{IsTied}
@@ -11,7 +11,7 @@ use Rattle.std.proofs.lemmas.Option.{slice_get_within}
 use Rattle.ir_model.specs.Walk.{IsConnected}
 use Rattle.ir_model.specs.Row.{Start}
 use Rattle.ir_model.specs.Numbering.{IsDepthFirst, neighbors_of}
-use Rattle.ir_model.specs.Plan.{Plan, AreLabels, HasDepthFirst}
+use Rattle.ir_model.specs.Plan.{Plan, AreLabels}
 use Rattle.ir_numbering.specs.Numbering.{Numbering}
 use Rattle.ir_tables.specs.FromNode.{held_at}
 use Rattle.ir_plan.specs.declared.tour.LabelOrder.{LabelOrder}
@@ -19,8 +19,8 @@ use Rattle.ir_plan.specs.declared.tour.LabelOrder.TheVariants.{DepthFirst, Tour}
 use Rattle.ir_plan.specs.Building.{Labelling, FromRoot, ByList, IsPlanBy}
 use Rattle.ir_plan.specs.NodeRows.{IsNodeRow, AreNodeRows}
 use Rattle.ir_plan.specs.Shown.{plan_with}
-use Rattle.ir_plan.specs.Starts.{IsLabelledBy}
-use Rattle.ir_plan.proofs.Labelled.{untoured_labelled}
+use Rattle.ir_plan.specs.Starts.{IsDepthFirstOrder, IsFirstOrder, IsFirstPlan, IsLabelledBy, IsOfShortestWays}
+use Rattle.ir_plan.proofs.Labelled.{no_tree_of_shortest_ways, untoured_labelled}
 use Rattle.ir_plan.proofs.NodeRows.{node_rows_stand, least_by_label, least_destinations}
 use Rattle.ir_plan.proofs.Standing.{plan_stands}
 use Rattle.ir_show.specs.Plans.{NeedsNoTour, IsOrderBy, IsPlanOver}
@@ -30,8 +30,15 @@ use Rattle.ir_show.proofs.LongestRuns.{AreDecided}
 use Rattle.ir_show.proofs.ChosenPorts.{chosen_some}
 use Rattle.ir_show.proofs.CanonicalRows.{canonical_some}
 
-no_tree : {A : Type 0} {kind : Kind} → kind ≢ Tree → kind ≡ Tree → A
-no_tree other e = absurd (other e)
+no_tree : {A : Type 0} (kind : Kind) → IsOfShortestWays kind → kind ≡ Tree → A
+no_tree kind other e = absurd (no_tree_of_shortest_ways kind other e)
+
+-- in the first plan of a kind of shortest ways the labels are depth first
+depth_first_labels : (kind : Kind) → IsOfShortestWays kind → (net : Topology) (root : ℕ) (order : List ℕ) → IsDepthFirstOrder net root order → IsFirstOrder kind net root order
+depth_first_labels Tree other net root order depth = depth
+depth_first_labels Shortest other net root order depth = depth
+depth_first_labels Compact other net root order depth = depth
+depth_first_labels (Landmark t) other net root order depth = absurd other
 
 module _ (net : Topology) (ok : IsTopology net) (connected : IsConnected net) (numbers : Numbering) (named : AreLabels (node_count net) numbers.order numbers.labels) where
   module _ (u : ℕ) (hu : u < node_count net) where
@@ -78,20 +85,21 @@ module _ (net : Topology) (ok : IsTopology net) (connected : IsConnected net) (n
         let row = canonical_some n a chosen.0 valid in
         (row.0, record { ports = chosen.0; ports_of_kind = (tied, chosen.1); destinations = valid; canonical = row.1 })
 
-    node_row : (kind : Kind) → kind ≢ Tree → (row : List Start) × IsNodeRow kind net numbers.order numbers.parents (slice_index numbers.labels u) row
-    node_row Tree other = absurd (other refl)
+    node_row : (kind : Kind) → IsOfShortestWays kind → (row : List Start) × IsNodeRow kind net numbers.order numbers.parents (slice_index numbers.labels u) row
+    node_row Tree other = absurd other
+    node_row (Landmark t) other = absurd other
     node_row Shortest other = shortest_row
     node_row Compact other = compact_row
 
-  pub plan_some : (kind : Kind) → kind ≢ Tree → 0 < node_count net → (plan : Plan) × IsPlanOver net kind numbers plan
+  pub plan_some : (kind : Kind) → IsOfShortestWays kind → 0 < node_count net → (plan : Plan) × IsPlanOver net kind numbers plan
   plan_some kind other some =
       let made = chosen_list [] (λ u row. IsNodeRow kind net numbers.order numbers.parents (slice_index numbers.labels u) row) (node_count net) (λ u hu. node_row u hu kind other) in
       let are : AreNodeRows kind net numbers.order numbers.parents numbers.labels (node_count net) made.0 = record { every = made.1; each = made.2 } in
-      let stand = node_rows_stand net ok numbers named made.0 kind (no_tree other) are in
+      let stand = node_rows_stand net ok numbers named made.0 kind connected some (no_tree kind other) are in
       let root = slice_index numbers.order 0 in (
         plan_with kind root net numbers.order numbers.labels made.0,
         record {
-          valid = plan_stands kind root net numbers.order numbers.parents numbers.labels stand.0 made.0 ok connected (named.node 0 some) (no_tree other) refl named stand.1 stand.2 stand.3;
+          valid = plan_stands kind root net numbers.order numbers.parents numbers.labels stand.0 made.0 ok connected (named.node 0 some) (no_tree kind other) refl named stand.1 stand.2 stand.3;
           over = refl;
           of_kind = refl;
           order = refl;
@@ -100,19 +108,18 @@ module _ (net : Topology) (ok : IsTopology net) (connected : IsConnected net) (n
       )
 
 -- a plan with numbers by these labels is one by these labels
-module _ (net : Topology) (kind : Kind) (numbers : Numbering) (plan : Plan) (is : IsPlanOver net kind numbers plan) where
+module _ (net : Topology) (kind : Kind) (numbers : Numbering) (plan : Plan) (is : IsPlanOver net kind numbers plan) (other : IsOfShortestWays kind) where
   has_root : (root : ℕ) (parents : List ℕ) → IsDepthFirst (neighbors_of net) (node_count net) root numbers.order parents → plan.root ≡ root
   has_root root parents depth = sym is.valid.first ∙ ap (λ (order : List ℕ). slice_index order 0) is.order ∙ depth.root_first
 
-  has_depth_first : (root : ℕ) (parents : List ℕ) → IsDepthFirst (neighbors_of net) (node_count net) root numbers.order parents → HasDepthFirst plan
-  has_depth_first root parents depth = (
-    parents,
-    subst (λ (over : Topology). IsDepthFirst (neighbors_of over) (node_count over) plan.root plan.order parents) (sym is.over)
-        (subst (λ (order : List ℕ). IsDepthFirst (neighbors_of net) (node_count net) plan.root order parents) (sym is.order)
-        (subst (λ (first : ℕ). IsDepthFirst (neighbors_of net) (node_count net) first numbers.order parents) (sym (has_root root parents depth)) depth)),
-  )
+  is_first : (root : ℕ) (parents : List ℕ) → IsDepthFirst (neighbors_of net) (node_count net) root numbers.order parents → IsFirstPlan plan
+  is_first root parents depth =
+      subst (λ (k : Kind). IsFirstOrder k plan.topology plan.root plan.order) (sym is.of_kind)
+      (subst (λ (over : Topology). IsFirstOrder kind over plan.root plan.order) (sym is.over)
+      (subst (λ (order : List ℕ). IsFirstOrder kind net plan.root order) (sym is.order)
+      (subst (λ (first : ℕ). IsFirstOrder kind net first numbers.order) (sym (has_root root parents depth)) (depth_first_labels kind other net root numbers.order (parents, depth)))))
 
-  labelled : (labels : LabelOrder) (root : ℕ) → NeedsNoTour (node_count net) (FromRoot labels root) → HasDepthFirst plan → IsLabelledBy labels plan
+  labelled : (labels : LabelOrder) (root : ℕ) → NeedsNoTour (node_count net) (FromRoot labels root) → IsFirstPlan plan → IsLabelledBy labels plan
   labelled DepthFirst root none depth = untoured_labelled DepthFirst plan depth (λ other _. absurd (other refl))
   labelled Tour root none depth = untoured_labelled Tour plan depth (λ _ sought. omega (arith, none, sought.1, ap node_count is.over))
 
@@ -121,6 +128,6 @@ module _ (net : Topology) (kind : Kind) (numbers : Numbering) (plan : Plan) (is 
     valid = is.valid;
     over = is.over;
     of_kind = is.of_kind;
-    labelled = (labelled labels root none (has_depth_first root parents depth), has_root root parents depth);
+    labelled = (labelled labels root none (is_first root parents depth), has_root root parents depth);
   }
   plan_by (ByList list) none by = record { valid = is.valid; over = is.over; of_kind = is.of_kind; labelled = is.order ∙ by }

@@ -6,7 +6,7 @@ use Rattle.ir_model.specs.Topology.{node_count}
 use Rattle.ir_model.specs.Plan.{IsPlan, row_in}
 use Rattle.ir_trace.specs.Rows.{spaced}
 use Rattle.ir_trace.specs.Written.{name_at}
-use Rattle.ir_show.specs.declared.crew.TextBlock.{TextBlock}
+use Rattle.ir_show.specs.declared.blocks.TextBlock.{TextBlock}
 use Rattle.ir_show.specs.declared.plan_text.Pieces.{Pieces}
 use Rattle.ir_show.specs.PlanText.{node_words, start_words}
 use Rattle.ir_show.specs.Words.{line_text}

@@ -3,7 +3,7 @@ use Rattle.std.specs.Prelude.{ℕ, List, [], ◌∷◌, ◌++◌, length, flat_m
 use Rattle.std.specs.List.{range_with_len}
 use Rattle.std.specs.Option.{option_map_or}
 use Rattle.ir_model.specs.declared.Kind.{Kind}
-use Rattle.ir_model.specs.declared.Kind.TheVariants.{Tree, Shortest, Compact}
+use Rattle.ir_model.specs.declared.Kind.TheVariants.{Tree, Shortest, Compact, Landmark}
 use Rattle.ir_model.specs.Graph.{Name}
 use Rattle.ir_model.specs.Topology.{Topology, node_count, port_at}
 use Rattle.ir_model.specs.Row.{Start}
@@ -15,6 +15,7 @@ abbrev pub kind_text : Kind → List ℕ
 kind_text Tree = codes "tree"
 kind_text Shortest = codes "shortest"
 kind_text Compact = codes "compact"
+kind_text (Landmark t) = codes "landmark"
 
 -- the node at a port of u
 abbrev pub node_by : Topology → ℕ → ℕ → ℕ

@@ -1,13 +1,12 @@
 -- The plans of a kind by their numbers, and which labels need no plan.
-use Rattle.std.specs.Prelude.{◌≡◌, ◌≢◌, ℕ, ◌<◌, List}
+use Rattle.std.specs.Prelude.{◌≡◌, ℕ, ◌<◌, List}
 use Rattle.ir_model.specs.declared.Kind.{Kind}
-use Rattle.ir_model.specs.declared.Kind.TheVariants.{Tree}
 use Rattle.ir_model.specs.Topology.{Topology, node_count}
-use Rattle.ir_model.specs.Numbering.{IsDepthFirst, neighbors_of}
 use Rattle.ir_model.specs.Plan.{Plan, AreLabels, IsPlan}
 use Rattle.ir_numbering.specs.Numbering.{Numbering}
 use Rattle.ir_plan.specs.declared.tour.LabelOrder.TheVariants.{DepthFirst, Tour}
 use Rattle.ir_plan.specs.Building.{Labelling, FromRoot, ByList}
+use Rattle.ir_plan.specs.Starts.{IsOfShortestWays, IsDepthFirstOrder}
 
 -- no tour is sought for so many nodes: they are labelled depth first, by a list, or are more than 4,096
 abbrev pub NeedsNoTour : ℕ → Labelling → Type 0
@@ -17,7 +16,7 @@ NeedsNoTour nodes (ByList list) = Unit {0}
 
 -- the nodes in the order of these labels: depth first from the root, or as they are listed
 abbrev pub IsOrderBy : Topology → Labelling → List ℕ → Type 0
-IsOrderBy topology (FromRoot labels root) order = (parents : List ℕ) × IsDepthFirst (neighbors_of topology) (node_count topology) root order parents
+IsOrderBy topology (FromRoot labels root) order = IsDepthFirstOrder topology root order
 IsOrderBy topology (ByList list) order = order ≡ list
 
 -- a plan of a kind over the network, with these numbers
@@ -28,7 +27,7 @@ pub record IsPlanOver (topology : Topology) (kind : Kind) (numbers : Numbering) 
   pub order : plan.order ≡ numbers.order
   pub labels : plan.labels ≡ numbers.labels
 
--- the network has a plan of each kind but Tree for each numbering of its nodes
+-- the network has a plan of each kind of shortest ways for each numbering of its nodes
 abbrev pub HasPlans : Topology → Type 0
 HasPlans topology =
-    (kind : Kind) → kind ≢ Tree → (numbers : Numbering) → AreLabels (node_count topology) numbers.order numbers.labels → (plan : Plan) × IsPlanOver topology kind numbers plan
+    (kind : Kind) → IsOfShortestWays kind → (numbers : Numbering) → AreLabels (node_count topology) numbers.order numbers.labels → (plan : Plan) × IsPlanOver topology kind numbers plan

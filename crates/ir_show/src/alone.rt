@@ -1,7 +1,7 @@
 //! The text of a walk of a plan that is not built: rows are made for the nodes on the walk alone.
 ghost use Rattle.std.specs.Prelude.{◌≡◌, ◌≢◌, ◌<◌, ◌↔◌, IfOk, IfErr, IsTrue, OnOk, length, string_bytes};
 ghost use Rattle.ir_model.specs.{Graph.names, Topology.node_count, Walk.IsConnected, Plan.{AreLabels, Plan}};
-ghost use Rattle.ir_plan.specs.Building.{MayLabel, RefusesPlan, labelling_of};
+ghost use Rattle.ir_plan.specs.{Building.{MayLabel, RefusesPlan, labelling_of}, Starts.IsOfShortestWays};
 ghost use Rattle.ir_show.specs.Stops.{AreStopsOf, IsStopOf};
 ghost use Rattle.ir_show.specs.{Alone.IsWalkOfPlan, Plans.{IsOrderBy, IsPlanOver, NeedsNoTour}};
 
@@ -60,7 +60,7 @@ fn stop_at(
     to: u16,
     u: u16,
 ) -> Result<WalkStop, AllocError>
-    requires kind { kind ≢ Kind.Tree }
+    requires kind { IsOfShortestWays kind }
     requires labels { AreLabels (node_count topology.now) numbering.now.order numbering.now.labels }
     requires connected { IsConnected topology.now }
     requires end { to < node_count topology.now }
@@ -92,7 +92,7 @@ fn stops_between(
     from: u16,
     to: u16,
 ) -> Result<Stops, AllocError>
-    requires kind { kind ≢ Kind.Tree }
+    requires kind { IsOfShortestWays kind }
     requires labels { AreLabels (node_count topology.now) numbering.now.order numbering.now.labels }
     requires connected { IsConnected topology.now }
     requires from { from < node_count topology.now }
@@ -122,7 +122,7 @@ fn stops_between(
 
 /// The text of the walk between two nodes, from the first end to the second, in the plan of a kind over a topology by
 /// these labels. That plan is not built: its rows are made for the nodes of the walk alone, each by a search from its
-/// node. Conditions: the kind is not Tree, the topology is the graph's network, the ends are nodes of it if it has any,
+/// node. Conditions: the kind is one of shortest ways, the topology is the graph's network, the ends are nodes of it if it has any,
 /// and no tour is sought (`needs_no_tour`).
 ///
 /// Refused as the plan is (`Plan::build_by`). Takes O(w (n + m) log n), for w nodes of the walk, n nodes of the network
@@ -136,7 +136,7 @@ pub fn walk_text_alone(
     labels: Labels,
     ends: (u16, u16),
 ) -> Result<String, PlanError>
-    requires kind { kind ≢ Kind.Tree }
+    requires kind { IsOfShortestWays kind }
     requires nodes { node_count topology.now ≡ length graph.now }
     requires from { 0 < length graph.now → ends.0 < length graph.now }
     requires to { 0 < length graph.now → ends.1 < length graph.now }

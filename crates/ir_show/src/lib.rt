@@ -5,7 +5,7 @@
 use std::alloc::AllocError;
 
 mod alone;
-mod crew;
+mod blocks;
 mod draw;
 mod figures;
 pub mod interval;
@@ -14,13 +14,12 @@ pub mod plan_text;
 pub mod quoted;
 mod stats;
 mod stops;
-mod threads;
 mod walk;
 mod weights;
 mod worst;
 
 pub use alone::{needs_no_tour, walk_text_alone};
-pub use crew::{TextBlock, TextCrew};
+pub use blocks::TextBlock;
 pub use draw::draw_text;
 pub use figures::{Figures, figures_of};
 pub use laws::{
@@ -28,7 +27,6 @@ pub use laws::{
     walk_text_is_determined,
 };
 pub use stats::{greatest_row, stats_text};
-pub use threads::lines_in_threads;
 pub use walk::walk_text;
 pub use worst::{Pair, Weighed};
 

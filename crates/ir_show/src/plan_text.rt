@@ -6,10 +6,10 @@ ghost use Rattle.ir_trace.specs.{Rows.spaced, Written.name_at};
 ghost use Rattle.ir_show.specs.Blocks.{ArePieces, AreSpaced, IsBlock, block_lines, line_of_node, start_text, starts_text};
 ghost use Rattle.ir_show.specs.{Held.{plan_text_held, IsHeld}, PlanText.{kind_text, plan_head, plan_text}, Words.line_text};
 
-use crate::crew::{TextBlock, TextCrew};
+use crate::blocks::{TextBlock, lines_by};
 use ir_graph::Graph;
 use ir_model::Kind;
-use ir_plan::Plan;
+use ir_plan::{Crew, Plan};
 use ir_streams::{TextParts, Texts, Writer};
 use ir_trace::text::{name_of, push_name, push_next_number};
 use itoa::Buffer;
@@ -31,6 +31,7 @@ pub fn kind_text(kind: Kind) -> &'static str
         Kind::Tree => "tree",
         Kind::Shortest => "shortest",
         Kind::Compact => "compact",
+        Kind::Landmark(_) => "landmark",
     }
 }
 
@@ -225,13 +226,12 @@ fn block_end(plan: &Plan, from: usize) -> usize
 
 /// Writes the text of a plan over a graph's network; a crew makes the lines of a large one, one
 /// block of nodes after the other.
-fn pour_plan_by<C: TextCrew, W: Writer>(
+fn pour_plan_by<C: Crew, W: Writer>(
     crew: &C,
     alloc: Global,
     parts: &mut TextParts,
     writer: &mut W,
     pieces: &Pieces,
-    most: Option<usize>,
 )
     requires { ArePieces pieces.now }
     ensures { Pours W.contents W.wrote W.settled writer.old parts.old
@@ -250,7 +250,7 @@ fn pour_plan_by<C: TextCrew, W: Writer>(
         }
         let to = block_end(&pieces.plan, from);
         let block = TextBlock { from, to };
-        let made = crew.lines(alloc, pieces, block, most);
+        let made = lines_by(crew, alloc, pieces, block);
         pour_lines(parts, writer, pieces, block, made);
         from = to;
     }
@@ -317,21 +317,14 @@ impl PlanText {
         parts.finish(writer)
     }
 
-    /// Does what `write` does. The lines of a large plan are made by a crew in at most `most`
-    /// threads, or in as many as suit the processors where it is None, some mebibytes at a time;
-    /// where memory for them is refused, by the thread that calls.
-    pub fn write_by<C: TextCrew, W: Writer>(
-        self,
-        crew: &C,
-        alloc: Global,
-        most: Option<usize>,
-        writer: &mut W,
-    ) -> bool
+    /// Does what `write` does. The lines of a large plan are made by a crew, some mebibytes at a
+    /// time; where memory for them is refused, by the thread that calls.
+    pub fn write_by<C: Crew, W: Writer>(self, crew: &C, alloc: Global, writer: &mut W) -> bool
         ensures calls { Calls W.wrote W.settled result writer.old self writer.new }
         ensures bytes { Writes result (W.contents writer.old) (W.contents writer.new) self }
     {
         let PlanText { pieces, mut parts } = self;
-        pour_plan_by(crew, alloc, &mut parts, writer, &pieces, most);
+        pour_plan_by(crew, alloc, &mut parts, writer, &pieces);
         parts.finish(writer)
     }
 }

@@ -6,6 +6,7 @@ ghost use Rattle.ir_trace.specs.Checked.{AreInstalls};
 use crate::networks::{PATH, graph_of, topology_of};
 use ir_core::{Event, Install, Kind, Opening, Played, Record, Refused, Step, installs, play};
 use ir_graph::Graph;
+use ir_model::Detour;
 use ir_plan::{Alone, Plan};
 use ir_script::parse_live;
 use ir_tables::Topology;
@@ -13,7 +14,7 @@ use ir_trace::{check_trace, check_trace_by, read_trace};
 use std::alloc::Global;
 
 /// A packet goes from a to c, and one from c to a by the plan of a second epoch; the last step is refused.
-static STEPS: [Step; 5] = [
+const STEPS: [Step; 5] = [
     Step::Event(Event::Inject(0, 2)),
     Step::Drain,
     Step::Event(Event::Install(Kind::Shortest, 1)),
@@ -106,8 +107,12 @@ fn a_run_and_the_check_of_its_trace(rt: HostRuntime) {
 fn commands_over(alloc: Global, graph: &Graph, topology: &Topology) -> Option<usize>
     requires { topology.now ≡ topology_of_graph graph.now }
 {
-    let text = b"inject a c\ndrain\n".as_slice();
-    match parse_live(alloc, text, graph, topology) {
+    let text = b"inject a c\ninstall landmark b\n".as_slice();
+    let detour = Detour {
+        landmarks: 1,
+        stretch: 300,
+    };
+    match parse_live(alloc, text, graph, topology, detour) {
         Ok(script) => Some(script.commands().len()),
         Err(_) => None,
     }

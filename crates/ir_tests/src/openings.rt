@@ -62,46 +62,45 @@ fn openings_refused(rt: HostRuntime) -> Result<(), Fail> {
 /// What an epoch is built from: a kind, a root and a mark for each link.
 type Built = (Kind, u16, &'static [bool]);
 
-/// A setting, steps, and the epochs that they install, or why there is no such world.
-type Case = (
-    Setting,
-    &'static [Step],
-    Result<&'static [Built], OpenError>,
-);
+/// Steps over the path, of which two are refused.
+fn path_steps() -> [Step; 8] {
+    [
+        Step::Event(Event::Install(Kind::Shortest, 0)),
+        Step::Event(Event::Down(0)),
+        Step::Event(Event::Install(Kind::Tree, 1)),
+        Step::Event(Event::Inject(1, 2)),
+        Step::Event(Event::Install(Kind::Tree, 3)),
+        Step::Event(Event::Up(0)),
+        Step::Drain,
+        Step::Event(Event::Install(Kind::Tree, 2)),
+    ]
+}
 
-static CASES: [Case; 3] = [
-    (
-        (&PATH, 1, 16, 4096, 0),
-        &[
-            Step::Event(Event::Install(Kind::Shortest, 0)),
-            Step::Event(Event::Down(0)),
-            Step::Event(Event::Install(Kind::Tree, 1)),
-            Step::Event(Event::Inject(1, 2)),
-            Step::Event(Event::Install(Kind::Tree, 3)),
-            Step::Event(Event::Up(0)),
-            Step::Drain,
-            Step::Event(Event::Install(Kind::Tree, 2)),
-        ],
-        Ok(&[
-            (Kind::Tree, 1, &[true, true]),
-            (Kind::Shortest, 0, &[true, true]),
-            (Kind::Tree, 2, &[true, true]),
-        ]),
-    ),
-    (
-        (&HEAVY, 0, 16, 4096, 0),
-        &[
-            Step::Event(Event::Down(0)),
-            Step::Event(Event::Install(Kind::Tree, 0)),
-            Step::Event(Event::Up(0)),
-        ],
-        Ok(&[
-            (Kind::Tree, 0, &[true, true, true, true, true, true, true]),
-            (Kind::Tree, 0, &[false, true, true, true, true, true, true]),
-        ]),
-    ),
-    ((&PATH, 1, 0, 4096, 0), &[], Err(OpenError::TooLarge)),
-];
+/// The epochs that they install.
+fn path_epochs() -> [Built; 3] {
+    [
+        (Kind::Tree, 1, &[true, true]),
+        (Kind::Shortest, 0, &[true, true]),
+        (Kind::Tree, 2, &[true, true]),
+    ]
+}
+
+/// Steps round the heavy link.
+fn heavy_steps() -> [Step; 3] {
+    [
+        Step::Event(Event::Down(0)),
+        Step::Event(Event::Install(Kind::Tree, 0)),
+        Step::Event(Event::Up(0)),
+    ]
+}
+
+/// The epochs that they install.
+fn heavy_epochs() -> [Built; 2] {
+    [
+        (Kind::Tree, 0, &[true, true, true, true, true, true, true]),
+        (Kind::Tree, 0, &[false, true, true, true, true, true, true]),
+    ]
+}
 
 /// Whether these epochs are so, one after another.
 fn are_built(list: &[Install], epochs: &[Built]) -> bool {
@@ -117,41 +116,61 @@ fn are_built(list: &[Install], epochs: &[Built]) -> bool {
     true
 }
 
-/// Whether these are the epochs of a case.
-fn are_wanted(list: &[Install], case: &Case) -> bool {
-    match case.2 {
-        Ok(epochs) => are_built(list, epochs),
-        Err(_) => false,
-    }
-}
-
-/// Whether steps install these epochs and no other, in depth-first numbers.
-fn is_installed_over(alloc: Global, opening: &Opening, case: &Case) -> bool {
-    match installs(alloc, opening, case.1) {
-        Ok(list) => are_wanted(list.as_slice(), case),
-        Err(error) => match case.2 {
+/// Whether steps over an opening install these epochs and no other, or are refused for this.
+fn is_installed_over(
+    alloc: Global,
+    opening: &Opening,
+    steps: &[Step],
+    wanted: Result<&[Built], OpenError>,
+) -> bool {
+    match installs(alloc, opening, steps) {
+        Ok(list) => match wanted {
+            Ok(epochs) => are_built(list.as_slice(), epochs),
+            Err(_) => false,
+        },
+        Err(error) => match wanted {
             Ok(_) => false,
             Err(why) => error == why,
         },
     }
 }
 
-/// Whether they do in the setting of a case.
-fn is_installed(alloc: Global, case: &Case) -> bool {
-    match along_tree(alloc, &case.0) {
-        Some(opening) => is_installed_over(alloc, &opening, case),
+/// Whether they do in a setting, in depth-first numbers.
+fn is_installed(
+    alloc: Global,
+    setting: &Setting,
+    steps: &[Step],
+    wanted: Result<&[Built], OpenError>,
+) -> bool {
+    match along_tree(alloc, setting) {
+        Some(opening) => is_installed_over(alloc, &opening, steps, wanted),
         None => false,
     }
 }
 
 #[test]
-fn installs_of_a_list(rt: HostRuntime) -> Result<(), Fail> {
-    for case in &CASES {
-        if !is_installed(rt.alloc(), case) {
-            return Err("other epochs".into());
-        }
-    }
-    Ok(())
+fn installs_over_a_path(rt: HostRuntime) {
+    let setting: Setting = (&PATH, 1, 16, 4096, 0);
+    let steps = path_steps();
+    let epochs = path_epochs();
+    let is_so = is_installed(rt.alloc(), &setting, &steps, Ok(&epochs));
+    assert!(rt; is_so);
+}
+
+#[test]
+fn installs_round_a_heavy_link(rt: HostRuntime) {
+    let setting: Setting = (&HEAVY, 0, 16, 4096, 0);
+    let steps = heavy_steps();
+    let epochs = heavy_epochs();
+    let is_so = is_installed(rt.alloc(), &setting, &steps, Ok(&epochs));
+    assert!(rt; is_so);
+}
+
+#[test]
+fn no_installs_of_no_channel(rt: HostRuntime) {
+    let setting: Setting = (&PATH, 1, 0, 4096, 0);
+    let is_so = is_installed(rt.alloc(), &setting, &[], Err(OpenError::TooLarge));
+    assert!(rt; is_so);
 }
 
 /// The install of a kind and root over two links that are up, in depth-first numbers.

@@ -4,7 +4,7 @@ ghost use Rattle.std.specs.Prelude.{◌<◌};
 ghost use Rattle.ir_model.specs.Topology.{node_count};
 
 use crate::networks::{Edge, HEAVY, PATH, RING, topology_of};
-use ir_plan::{Kind, Plan, PlanError};
+use ir_plan::{Detour, Kind, Plan, PlanError};
 use ir_tables::Topology;
 use std::alloc::Global;
 use std::test::Fail;
@@ -34,7 +34,7 @@ struct Case {
     rows: &'static [(u16, &'static [(u16, u16)])],
 }
 
-static PLANS: [Case; 8] = [
+const PLANS: [Case; 11] = [
     Case {
         name: "one node",
         edges: &[("a", "a", 1)],
@@ -108,7 +108,56 @@ static PLANS: [Case; 8] = [
             (5, &[(0, 0)]),
         ],
     },
+    Case {
+        name: "round a ring by one landmark",
+        edges: &RING,
+        kind: Kind::Landmark(THREEFOLD),
+        root: 0,
+        rows: &[
+            (0, &[(1, 0), (3, 1)]),
+            (1, &[(2, 1), (3, 0)]),
+            (3, &[(0, 0), (2, 1)]),
+            (2, &[(3, 0)]),
+        ],
+    },
+    Case {
+        name: "round a ring by two landmarks",
+        edges: &RING,
+        kind: Kind::Landmark(BY_TWO),
+        root: 0,
+        rows: &[
+            (0, &[(1, 1), (2, 0)]),
+            (2, &[(0, 0), (3, 1)]),
+            (1, &[(2, 0)]),
+            (3, &[(0, 0)]),
+        ],
+    },
+    Case {
+        name: "blocks of two landmarks by the heavy link",
+        edges: &HEAVY,
+        kind: Kind::Landmark(BY_TWO),
+        root: 0,
+        rows: &[
+            (0, &[(1, 0), (3, 1)]),
+            (1, &[(2, 2), (3, 0)]),
+            (3, &[(0, 0), (4, 2), (5, 4)]),
+            (4, &[(5, 0)]),
+            (2, &[(3, 1)]),
+            (5, &[(0, 0)]),
+        ],
+    },
 ];
+
+/// The ways by one landmark, and by two, of at most three times the distance.
+const THREEFOLD: Detour = Detour {
+    landmarks: 1,
+    stretch: 300,
+};
+
+const BY_TWO: Detour = Detour {
+    landmarks: 2,
+    stretch: 300,
+};
 
 /// The rows of shortest ways round the heavy link.
 const AROUND: [(u16, &'static [(u16, u16)]); 6] = [

@@ -80,10 +80,39 @@ fn step(world: &mut World, event: Event, wanted: Option<Refused>) -> Result<(), 
     }
 }
 
+/// An event of a table; an install by its kind, since a static can't hold one.
+#[derive(Clone, Copy)]
+enum Move {
+    Inject(u16, u16),
+    Learn(u32),
+    Take(u16, Way),
+    Act(u16),
+    Shortest(u16),
+    Compact(u16),
+    Retire(u32),
+    Down(u16),
+    Up(u16),
+}
+
+/// The event of a move.
+fn event_of(tried: Move) -> Event {
+    match tried {
+        Move::Inject(source, dest) => Event::Inject(source, dest),
+        Move::Learn(epoch) => Event::Learn(epoch),
+        Move::Take(node, way) => Event::Take(node, way),
+        Move::Act(node) => Event::Act(node),
+        Move::Shortest(root) => Event::Install(Kind::Shortest, root),
+        Move::Compact(root) => Event::Install(Kind::Compact, root),
+        Move::Retire(epoch) => Event::Retire(epoch),
+        Move::Down(link) => Event::Down(link),
+        Move::Up(link) => Event::Up(link),
+    }
+}
+
 /// These events, and then a drain.
-fn play(world: &mut World, events: &[(Event, Option<Refused>)]) -> Result<(), &'static str> {
-    for (event, wanted) in events {
-        step(world, *event, *wanted)?;
+fn play(world: &mut World, moves: &[(Move, Option<Refused>)]) -> Result<(), &'static str> {
+    for (tried, wanted) in moves {
+        step(world, event_of(*tried), *wanted)?;
     }
     world.drain();
     Ok(())
@@ -92,7 +121,7 @@ fn play(world: &mut World, events: &[(Event, Option<Refused>)]) -> Result<(), &'
 /// Events by rounds, each with a drain behind it, and what is then seen of a world whose channels have this capacity.
 pub struct Run {
     capacity: usize,
-    rounds: &'static [&'static [(Event, Option<Refused>)]],
+    rounds: &'static [&'static [(Move, Option<Refused>)]],
     seen: Sight,
 }
 
@@ -102,22 +131,22 @@ pub static RUNS: [Run; 3] = [
     Run {
         capacity: 2,
         rounds: &[
-            &[(Event::Inject(0, 2), None), (Event::Inject(2, 1), None)],
+            &[(Move::Inject(0, 2), None), (Move::Inject(2, 1), None)],
             &[
-                (Event::Install(Kind::Shortest, 0), None),
-                (Event::Learn(2), None),
-                (Event::Inject(2, 0), None),
+                (Move::Shortest(0), None),
+                (Move::Learn(2), None),
+                (Move::Inject(2, 0), None),
             ],
             &[
-                (Event::Retire(2), None),
-                (Event::Down(1), None),
-                (Event::Down(1), Some(Refused::Same)),
-                (Event::Up(1), None),
+                (Move::Retire(2), None),
+                (Move::Down(1), None),
+                (Move::Down(1), Some(Refused::Same)),
+                (Move::Up(1), None),
             ],
             &[
-                (Event::Install(Kind::Compact, 2), None),
-                (Event::Learn(3), None),
-                (Event::Inject(1, 2), None),
+                (Move::Compact(2), None),
+                (Move::Learn(3), None),
+                (Move::Inject(1, 2), None),
             ],
         ],
         seen: Sight {
@@ -131,10 +160,10 @@ pub static RUNS: [Run; 3] = [
         capacity: 1,
         rounds: &[
             &[
-                (Event::Inject(0, 2), None),
-                (Event::Inject(0, 1), Some(Refused::InboxFull)),
+                (Move::Inject(0, 2), None),
+                (Move::Inject(0, 1), Some(Refused::InboxFull)),
             ],
-            &[(Event::Inject(0, 1), None)],
+            &[(Move::Inject(0, 1), None)],
         ],
         seen: Sight {
             packets: 2,
@@ -146,12 +175,12 @@ pub static RUNS: [Run; 3] = [
     Run {
         capacity: 1,
         rounds: &[&[
-            (Event::Inject(0, 2), None),
-            (Event::Take(0, Way::Inbox), None),
-            (Event::Act(0), None),
-            (Event::Inject(0, 2), None),
-            (Event::Take(0, Way::Inbox), None),
-            (Event::Act(0), None),
+            (Move::Inject(0, 2), None),
+            (Move::Take(0, Way::Inbox), None),
+            (Move::Act(0), None),
+            (Move::Inject(0, 2), None),
+            (Move::Take(0, Way::Inbox), None),
+            (Move::Act(0), None),
         ]],
         seen: Sight {
             packets: 2,

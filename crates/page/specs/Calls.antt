@@ -1,12 +1,12 @@
 -- What a call over texts in memory comes to.
-use Rattle.std.specs.Prelude.{◌≡◌, ◌⊎◌, ℕ, Bool, false, List, [], ◌∷◌, ◌++◌, Some, length, map, take, drop, slice_get, codes}
+use Rattle.std.specs.Prelude.{◌≡◌, ◌⊎◌, ℕ, true, false, List, [], ◌∷◌, ◌++◌, Some, length, map, take, drop, slice_get, codes, IsUtf8}
 use Rattle.ir_model.specs.Text.{lines}
-use Rattle.ir_streams.specs.Writing.{Writes}
 use Rattle.ir_cli.specs.declared.read.Source.{Source}
 use Rattle.ir_cli.specs.declared.read.Source.TheVariants.{Input, Topology, Script, Trace, Numbering}
 use Rattle.ir_cli.specs.declared.words.Words.{Words}
 use Rattle.ir_cli.specs.Words.{FitsItsKind}
 use Rattle.ir_cli.specs.Meaning.{Asks}
+use Rattle.ir_cli.specs.Refusals.{AsksForHelp, RefusesWords}
 use Rattle.ir_cli.specs.Ending.{Ends}
 use Rattle.ir_cli.specs.Lines.{out_of_memory_line}
 use Rattle.ir_answer.specs.Asked.{sources_of, Answers, NoThreads}
@@ -29,26 +29,26 @@ text_for topology script trace Script = script
 text_for topology script trace Numbering = script
 text_for topology script trace Trace = trace
 
--- what a vector that was empty has of a text that was written to it: all, or a front where memory was wanting
-abbrev pub IsInVector : Bool → List ℕ → List ℕ → Type 0
-IsInVector sent text items = Writes sent (Some []) (Some items) text
-
 -- The faults are these lines, and sentences behind them where the words ask for sentences.
 abbrev pub AreFaults : Words → List ℕ → List ℕ → Type 0
-AreFaults words lines faults =
-    (sent : Bool) × (front sentences : List ℕ) × IsInVector sent lines front × (faults ≡ front ++ sentences) × (words.explain ≡ false → sentences ≡ [])
+AreFaults words lines faults = (sentences : List ℕ) × (faults ≡ lines ++ sentences) × (words.explain ≡ false → sentences ≡ [])
 
--- Words are followed over the texts of their sources: the run ends by the answers of the program.
+-- Words are followed over the texts of their sources: the run ends by the answers of the program, and its output is whole.
 abbrev pub IsFollowed : Words → (Source → List ℕ) → ℕ → List ℕ → List ℕ → Type 0
 IsFollowed words text status output faults =
     Ends (Answers NoThreads words) status (λ read. read ≡ map text (sources_of words))
     (λ source why. (place : ℕ) × (slice_get (sources_of words) place ≡ Some source))
-    (λ sent written. IsInVector sent written output) (output ≡ []) (λ lines. AreFaults words lines faults)
+    (λ sent written. (sent ≡ true) × (output ≡ written)) (output ≡ []) (λ lines. AreFaults words lines faults)
 
--- What the words ask for was followed, and fits its kind; or the words were refused by a text.
-abbrev pub IsCallAnswer : List (List ℕ) → (Source → List ℕ) → ℕ → List ℕ → List ℕ → Type 0
+-- No words of this text are followed: it is no UTF-8, or its words are refused, or they ask for help or the version.
+abbrev pub IsRefusedText : List ℕ → Type 0
+IsRefusedText words = (IsUtf8 words → ⊥) ⊎ (RefusesWords (typed_words words) ⊎ AsksForHelp (typed_words words))
+
+-- What the words ask for was followed, and fits its kind; or the words were refused, or asked for help, and a text says so.
+abbrev pub IsCallAnswer : List ℕ → (Source → List ℕ) → ℕ → List ℕ → List ℕ → Type 0
 IsCallAnswer typed text status output faults =
-    ((words : Words) × Asks typed words × FitsItsKind words × IsFollowed words text status output faults) ⊎ ((status ≡ 2) × (output ≡ []))
+    ((words : Words) × Asks (typed_words typed) words × FitsItsKind words × IsFollowed words text status output faults)
+    ⊎ ((status ≡ 2) × (output ≡ []) × IsRefusedText typed)
 
 -- memory was refused, and nothing is told but that
 abbrev pub IsOutOfMemory : ℕ → List ℕ → List ℕ → Type 0
@@ -62,6 +62,6 @@ IsPut text told old new = (told ≡ length text) × (new ≡ take (length old) t
 pub record IsCall (words topology script trace : List ℕ) (status : ℕ) (lengths : Lengths) (output_old output_new faults_old faults_new : List ℕ) : Type 0 where
   pub output : List ℕ
   pub faults : List ℕ
-  pub answer : IsCallAnswer (typed_words words) (text_for topology script trace) status output faults ⊎ IsOutOfMemory status output faults
+  pub answer : IsCallAnswer words (text_for topology script trace) status output faults ⊎ IsOutOfMemory status output faults
   pub output_put : IsPut output lengths.output output_old output_new
   pub faults_put : IsPut faults lengths.faults faults_old faults_new

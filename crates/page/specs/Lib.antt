@@ -1,2 +1,3 @@
 -- what contracts promise
 pub mod Calls
+pub mod Kept

@@ -2,11 +2,12 @@
 ghost use Rattle.std.specs.Prelude.{◌≡◌, false, [], IfOk, map, string_bytes};
 ghost use Rattle.ir_answer.specs.Asked.{sources_of};
 ghost use Rattle.ir_cli.specs.Words.{FitsItsKind};
-ghost use Rattle.page.specs.Calls.{typed_words, text_for, IsFollowed, IsCallAnswer};
+ghost use Rattle.page.specs.Calls.{text_for, IsFollowed, IsCallAnswer};
 
+use crate::kept::Kept;
 use crate::words::asked;
 use ir_answer::{Alone, RunOutcome, Source, Words, WordsError, follow_by, sources_of};
-use ir_cli::{Ending, status_of};
+use ir_cli::status_of;
 use ir_explain::{Given, Trouble, explanation};
 use std::alloc::{AllocError, Global};
 
@@ -87,13 +88,12 @@ fn followed(
 {
     let texts = texts_of(alloc, words, topology, script, trace)?;
     let mut inputs = texts_of(alloc, words, topology, script, trace)?;
-    let mut output = Vec::new(alloc);
-    let mut faults = Vec::with_capacity(alloc, LINE)?;
+    let mut written = Kept::with_room(alloc, 0)?;
+    let mut told = Kept::with_room(alloc, LINE)?;
     let readers = inputs.as_mut_slice();
-    let outcome = follow_by(&Alone, alloc, words, readers, &mut output, &mut faults);
-    if outcome.ending == Ending::Unwritable {
-        return Err(AllocError);
-    }
+    let outcome = follow_by(&Alone, alloc, words, readers, &mut written, &mut told);
+    let output = written.whole()?;
+    let mut faults = told.whole()?;
     let text = sentences(alloc, words, texts.as_slice(), &outcome)?;
     faults.extend_from_slice(text.as_bytes())?;
     Ok(Answered {
@@ -122,7 +122,7 @@ pub fn answer_to(
     script: &[u8],
     trace: &[u8],
 ) -> Result<Answered, AllocError>
-    ensures { IfOk result (λ it. IsCallAnswer (typed_words words.now) (text_for topology.now script.now trace.now)
+    ensures { IfOk result (λ it. IsCallAnswer words.now (text_for topology.now script.now trace.now)
         it.status it.output.items it.faults.items) }
 {
     match asked(alloc, words) {

@@ -4,6 +4,7 @@
 #![tactic(auto)]
 
 mod answer;
+mod kept;
 mod words;
 
 ghost use Rattle.page.specs.Calls.{IsCall, IsPut};

@@ -1,9 +1,10 @@
 //! The words of a call.
-ghost use Rattle.std.specs.Prelude.{◌≡◌, IfOk, map, string_bytes};
+ghost use Rattle.std.specs.Prelude.{◌≡◌, IfOk, IfErr, map, string_bytes};
 ghost use Rattle.ir_model.specs.Text.{lines};
 ghost use Rattle.ir_cli.specs.Words.{FitsItsKind};
 ghost use Rattle.ir_cli.specs.Meaning.{Asks};
-ghost use Rattle.page.specs.Calls.{typed_words};
+ghost use Rattle.ir_cli.specs.Refusals.{FailsOn};
+ghost use Rattle.page.specs.Calls.{typed_words, IsRefusedText};
 
 use ir_answer::{Words, WordsError, read_words};
 use std::alloc::{AllocError, Global};
@@ -43,6 +44,7 @@ fn words_in(alloc: Global, text: &str) -> Result<Vec<String>, AllocError>
 pub fn asked(alloc: Global, text: &[u8]) -> Result<Words, WordsError>
     ensures kind { IfOk result (λ words. FitsItsKind words) }
     ensures asks { IfOk result (λ words. Asks (typed_words text.now) words) }
+    ensures refused { IfErr result (FailsOn (IsRefusedText text.now) (IsRefusedText text.now)) }
 {
     match std::str::from_utf8(text) {
         Ok(text) => {

@@ -1,3 +1,5 @@
 -- what contracts promise
+pub mod Asked
+pub mod Held
 pub mod Naming
 pub mod Sentences

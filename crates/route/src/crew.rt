@@ -1,88 +1,79 @@
 //! Who makes the plans of a run of the program.
 use crate::progress::Progress;
-use ir_exports::{LineCrew, prefixes_text_in_threads};
-use ir_graph::Graph;
 use ir_lookup::Row;
-use ir_model::Kind;
-use ir_numbering::Numbering;
-use ir_plan::{Crew, Makers, Plan, columns_in_threads, distances_in_threads, rows_in_threads};
-use ir_show::plan_text::Pieces;
-use ir_show::{TextBlock, TextCrew, lines_in_threads};
-use ir_tables::Topology;
+use ir_plan::{Crew, NodeText, Several, made_in_threads};
 use std::alloc::{AllocError, Global};
 use std::thread::Threads;
 
-/// Several threads, started by a runtime, of which each row that is made is told to the line of progress. Where memory
-/// for rows is refused, that line goes away before anything is said of it.
-#[derive(Clone, Copy)]
+/// Several threads, of which the rows that are made are told to the line of progress.
+#[derive(Drop)]
 pub struct Shown<'a, R> {
-    pub rt: &'a R,
+    pub several: Several<'a, R>,
     pub progress: &'a Progress<'a>,
 }
 
 impl<'a, R: Threads + Sync> Crew for Shown<'a, R> {
     type Shared = R;
 
+    fn is_alone(&self) -> bool {
+        self.several.is_alone()
+    }
+
     fn rows(
         &self,
         alloc: Global,
-        topology: &Topology,
-        numbering: &Numbering,
-        kind: Kind,
-        most: Option<usize>,
-    ) -> Result<Vec<Row>, AllocError> {
-        let makers = Makers {
-            rt: self.rt,
-            most,
-            watch: self.progress,
-        };
-        let made = rows_in_threads(makers, alloc, topology, numbering, kind);
-        if made.is_err() {
-            self.progress.clear();
-        }
-        made
+        all: usize,
+        count: usize,
+        least: usize,
+        make: &(dyn Fn(usize) -> Result<Vec<Row>, AllocError> + Sync),
+    ) -> Result<Vec<Vec<Row>>, AllocError> {
+        let progress = self.progress;
+        made_in_threads(
+            self.several.rt,
+            alloc,
+            self.several.most,
+            count,
+            least,
+            |k: usize| -> Result<Vec<Row>, AllocError>
+                requires { pre make.now k }
+                ensures { post make.entry.now k result }
+            {
+                let rows = make(k);
+                if let Ok(made) = &rows {
+                    progress.rows_made(made.len(), all);
+                }
+                rows
+            },
+        )
     }
 
-    fn columns(
+    fn lists(
         &self,
         alloc: Global,
-        plan: &Plan,
-        most: Option<usize>,
+        count: usize,
+        least: usize,
+        make: &(dyn Fn(usize) -> Result<Vec<u16>, AllocError> + Sync),
     ) -> Result<Vec<Vec<u16>>, AllocError> {
-        columns_in_threads(self.rt, alloc, plan, most)
+        self.several.lists(alloc, count, least, make)
     }
 
-    fn distances(
+    fn texts(
         &self,
         alloc: Global,
-        columns: &[Vec<u16>],
-        most: Option<usize>,
-    ) -> Result<Vec<Vec<u16>>, AllocError> {
-        distances_in_threads(self.rt, alloc, columns, most)
+        count: usize,
+        least: usize,
+        make: &(dyn Fn(usize) -> Result<Vec<u8>, AllocError> + Sync),
+    ) -> Result<Vec<Vec<u8>>, AllocError> {
+        self.several.texts(alloc, count, least, make)
     }
-}
 
-impl<'a, R: Threads + Sync> TextCrew for Shown<'a, R> {
-    fn lines(
+    fn node_texts(
         &self,
         alloc: Global,
-        pieces: &Pieces,
-        block: TextBlock,
-        most: Option<usize>,
-    ) -> Option<Vec<Vec<u8>>> {
-        lines_in_threads(self.rt, alloc, pieces, block, most)
-    }
-}
-
-impl<'a, R: Threads + Sync> LineCrew for Shown<'a, R> {
-    fn prefixes(
-        &self,
-        alloc: Global,
-        graph: &Graph,
-        plan: &Plan,
-        is_disjoint: bool,
-        most: Option<usize>,
-    ) -> Result<String, AllocError> {
-        prefixes_text_in_threads(self.rt, alloc, graph, plan, is_disjoint, most)
+        count: usize,
+        least: usize,
+        make: &(dyn Fn(usize) -> Result<NodeText, AllocError> + Sync),
+    ) -> Result<Vec<NodeText>, AllocError> {
+        self.several.node_texts(alloc, count, least, make)
     }
 }

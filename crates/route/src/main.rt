@@ -8,9 +8,10 @@
 //! calls itself so.
 #![tactic(auto)]
 
-ghost use Rattle.std.specs.Prelude.{◌≡◌, IfOk, length};
+ghost use Rattle.std.specs.Prelude.{◌≡◌, ◌∷◌, [], IfOk, codes, drop, length, map, string_bytes};
 ghost use Rattle.ir_answer.specs.Asked.{sources_of};
 ghost use Rattle.ir_cli.specs.Words.{FitsItsKind};
+ghost use Rattle.route.specs.Asked.{IsAskedBy};
 
 mod crew;
 mod input;
@@ -22,9 +23,10 @@ mod terminal;
 
 use crew::Shown;
 use input::{Input, open};
+use ir_answer::follow_by;
 use ir_cli::{Called, is_whole, read_words_as, status_of};
-use ir_explain::explanation_by;
-use ir_plan::Several;
+use ir_explain::explanation_kept;
+use ir_plan::{Alone, Several};
 use ir_shell::{RunOutcome, Source, Sub, Team, Words, WordsError, follow, sources_of};
 use naming::{called_by, said_by};
 use output::Output;
@@ -32,24 +34,39 @@ use piped::Piped;
 use progress::Progress;
 use std::alloc::{AllocError, Global};
 use std::cell::Cell;
-use std::io::{IsTerminal, Stderr, Write};
+use std::fs::File;
+use std::io::{IsTerminal, Stderr, Stdin, Stdout, Write};
 use std::process::ExitCode;
 use std::sync::Wait;
 use std::thread::Threads;
 use std::{env, io};
 use terminal::{are_sentences_wanted, tell};
 
-/// The words behind the program's name.
+/// How the program was called: by which name and with which words behind it. Threads are started by a runtime.
+#[derive(Drop)]
+struct Call<'a, T> {
+    rt: &'a HostRuntime,
+    threads: &'a T,
+    called: Called,
+    given: &'a [String],
+}
+
+/// The words of the command line, from the program's name on.
 fn words(rt: &HostRuntime) -> io::Result<Vec<String>> {
-    let mut words: Vec<String> = Vec::new(rt.alloc());
-    for word in env::args(rt)?.skip(1) {
-        words.push(word)?;
-    }
-    Ok(words)
+    Ok(env::args(rt)?.collect(rt.alloc())?)
+}
+
+/// The words behind the program's name.
+fn behind_the_name(words: &[String]) -> &[String]
+    ensures { result.now ≡ drop 1 words.now }
+{
+    if words.is_empty() { words } else { &words[1..] }
 }
 
 /// The words that stand for none: `sim -`. Where standard error is a terminal, it is told what is waited for.
-fn words_for_none(rt: &HostRuntime, name: &str) -> Result<Vec<String>, AllocError> {
+fn words_for_none(rt: &HostRuntime, name: &str) -> Result<Vec<String>, AllocError>
+    ensures { IfOk result (λ words. map string_bytes words.items ≡ codes "sim" ∷ codes "-" ∷ []) }
+{
     if rt.stderr().is_terminal() {
         let told = format!(in rt.alloc();
             "{name}: topology and script are read from standard input, with the line %% between them; see {name} --help\n"
@@ -63,7 +80,7 @@ fn words_for_none(rt: &HostRuntime, name: &str) -> Result<Vec<String>, AllocErro
 }
 
 /// The input of a text, of which is kept what is read where the words ask for sentences.
-fn input_of(rt: &HostRuntime, words: &Words, source: Source) -> Input {
+fn input_of(rt: &HostRuntime, words: &Words, source: Source) -> Input<File, Stdin> {
     let name = match source {
         Source::Input => "-",
         Source::Topology => words.file(0),
@@ -75,7 +92,7 @@ fn input_of(rt: &HostRuntime, words: &Words, source: Source) -> Input {
 }
 
 /// The inputs of all texts, opened in order.
-fn inputs_of(rt: &HostRuntime, words: &Words) -> Result<Vec<Input>, AllocError>
+fn inputs_of(rt: &HostRuntime, words: &Words) -> Result<Vec<Input<File, Stdin>>, AllocError>
     ensures { IfOk result (λ inputs. length inputs.items ≡ length (sources_of words.now)) }
 {
     let sources = sources_of(words);
@@ -88,11 +105,10 @@ fn inputs_of(rt: &HostRuntime, words: &Words) -> Result<Vec<Input>, AllocError>
 
 /// Sentences on a run that came to this; none where the words do not ask for them. Refused where there is no memory
 /// for all of it.
-fn sentences<T: Threads + Sync>(
+fn sentences(
     alloc: Global,
-    threads: &T,
     words: &Words,
-    inputs: &[Input],
+    inputs: &[Input<File, Stdin>],
     outcome: &RunOutcome,
     is_kept: bool,
 ) -> Result<String, AllocError> {
@@ -100,8 +116,7 @@ fn sentences<T: Threads + Sync>(
     for input in inputs {
         given.push(input.given().ok_or(AllocError)?)?;
     }
-    let crew = Several { rt: threads };
-    explanation_by(&crew, alloc, words, given.as_slice(), outcome, is_kept)
+    explanation_kept(alloc, words, given.as_slice(), outcome, is_kept)
 }
 
 /// Prints sentences behind the faults of a run, by the program's name, where there is memory for them.
@@ -113,7 +128,11 @@ fn explain(rt: &HostRuntime, name: &str, text: &str) {
 
 /// Ends the output of a run with a status, and answers whether it came to its place: a file takes its place where all
 /// of the output is written, and else stays as it is.
-fn end_output(output: &mut Piped<'_, Output>, faults: &mut Piped<'_, Stderr>, status: u8) -> bool {
+fn end_output(
+    output: &mut Piped<'_, Output<'_, HostRuntime, Stdout>>,
+    faults: &mut Piped<'_, Stderr>,
+    status: u8,
+) -> bool {
     let is_whole = is_whole(status, faults.is_used);
     let is_kept = is_whole && output.writer.keep().is_ok();
     output.writer.discard();
@@ -124,60 +143,84 @@ fn end_output(output: &mut Piped<'_, Output>, faults: &mut Piped<'_, Stderr>, st
     true
 }
 
-/// Does what the words ask for, by a crew and the runtime that it starts its threads by.
-fn follow_with_crew<T: Threads + Wait + Sync, W: Write, F: Write>(
-    crew: &Shown<'_, T>,
-    alloc: Global,
+/// Ends a run that came to this: the output comes to its place, sentences are said, and the status is answered.
+fn end_run<T: Threads + Sync>(
+    call: &Call<'_, T>,
     words: &Words,
-    inputs: &mut [Input],
-    output: &mut W,
-    faults: &mut F,
-) -> RunOutcome
-    requires kind { FitsItsKind words.now }
-    requires inputs { length inputs.old ≡ length (sources_of words.now) }
-{
-    let team = Team { rt: crew.rt, crew };
-    follow(&team, alloc, words, inputs, output, faults)
-}
-
-/// Does what the words ask for over the inputs, and writes to this output.
-fn run_over<T: Threads + Wait + Sync>(
-    rt: &HostRuntime,
-    threads: &T,
-    name: &'static str,
-    words: &Words,
-    inputs: &mut [Input],
-    output: Output,
-) -> u8
-    requires kind { FitsItsKind words.now }
-    requires inputs { length inputs.old ≡ length (sources_of words.now) }
-{
-    let is_quiet = Cell::new(words.quiet);
-    let is_plan_shown = !matches!(words.sub, Sub::Sim | Sub::Live | Sub::Check);
-    let is_counted = matches!(words.sub, Sub::Stats | Sub::Compare);
-    let progress = Progress::new(rt, name, is_plan_shown && !words.quiet, is_counted);
-    let mut output = Piped::new(output, true, &is_quiet, &progress);
-    let mut faults = Piped::new(rt.stderr(), false, &is_quiet, &progress);
-    let crew = Shown {
-        rt: threads,
-        progress: &progress,
-    };
-    let alloc = rt.alloc();
-    let outcome = follow_with_crew(&crew, alloc, words, inputs, &mut output, &mut faults);
-    progress.clear();
+    inputs: &[Input<File, Stdin>],
+    outcome: &RunOutcome,
+    output: &mut Piped<'_, Output<'_, HostRuntime, Stdout>>,
+    faults: &mut Piped<'_, Stderr>,
+) -> u8 {
     let status = status_of(outcome.ending);
-    let is_kept = end_output(&mut output, &mut faults, status);
-    if words.explain && !is_quiet.get() {
-        if let Ok(text) = sentences(alloc, threads, words, inputs, &outcome, is_kept) {
-            explain(rt, name, text.as_str());
+    let is_kept = end_output(output, faults, status);
+    if words.explain && !output.is_quiet() {
+        if let Ok(text) = sentences(call.rt.alloc(), words, inputs, outcome, is_kept) {
+            explain(call.rt, call.called.name(), text.as_str());
         }
     }
     if is_kept { status } else { 1 }
 }
 
+/// Does what words other than those of `live` ask for over the inputs, and writes to this output. It waits for no
+/// thread but those that it starts.
+fn run_over<T: Threads + Sync>(
+    call: &Call<'_, T>,
+    words: &Words,
+    inputs: &mut [Input<File, Stdin>],
+    output: Output<'_, HostRuntime, Stdout>,
+) -> u8
+    requires kind { FitsItsKind words.now }
+    requires asks { IsAskedBy call.now.called call.now.given.now words.now }
+    requires inputs { length inputs.old ≡ length (sources_of words.now) }
+{
+    let is_quiet = Cell::new(words.quiet);
+    let is_plan_shown = !words.quiet && !matches!(words.sub, Sub::Sim | Sub::Check);
+    let is_counted = matches!(words.sub, Sub::Stats | Sub::Compare);
+    let progress = Progress::new(call.rt, call.called.name(), is_plan_shown, is_counted);
+    let mut output = Piped::new(output, true, &is_quiet, &progress);
+    let mut faults = Piped::new(call.rt.stderr(), false, &is_quiet, &progress);
+    let crew = Shown {
+        several: Several {
+            rt: call.threads,
+            most: words.threads,
+        },
+        progress: &progress,
+    };
+    let alloc = call.rt.alloc();
+    let outcome = follow_by(&crew, alloc, words, inputs, &mut output, &mut faults);
+    progress.clear();
+    end_run(call, words, inputs, &outcome, &mut output, &mut faults)
+}
+
+/// Does what the words of `live` ask for over the inputs, and writes to this output. Each node has a thread.
+fn run_live<T: Threads + Wait + Sync>(
+    call: &Call<'_, T>,
+    words: &Words,
+    inputs: &mut [Input<File, Stdin>],
+    output: Output<'_, HostRuntime, Stdout>,
+) -> u8
+    requires kind { FitsItsKind words.now }
+    requires asks { IsAskedBy call.now.called call.now.given.now words.now }
+    requires inputs { length inputs.old ≡ length (sources_of words.now) }
+{
+    let is_quiet = Cell::new(words.quiet);
+    let progress = Progress::new(call.rt, call.called.name(), false, false);
+    let mut output = Piped::new(output, true, &is_quiet, &progress);
+    let mut faults = Piped::new(call.rt.stderr(), false, &is_quiet, &progress);
+    let team = Team {
+        rt: call.threads,
+        crew: &Alone,
+    };
+    let alloc = call.rt.alloc();
+    let outcome = follow(&team, alloc, words, inputs, &mut output, &mut faults);
+    end_run(call, words, inputs, &outcome, &mut output, &mut faults)
+}
+
 /// What the words behind the program's name ask for, with sentences where standard error is a terminal too.
 fn asked(rt: &HostRuntime, called: Called, given: &[String]) -> Result<Words, WordsError>
-    ensures { IfOk result (λ words. FitsItsKind words) }
+    ensures kind { IfOk result (λ words. FitsItsKind words) }
+    ensures asks { IfOk result (λ words. IsAskedBy called given.now words) }
 {
     let mut words = read_words_as(rt.alloc(), called, given)?;
     let is_terminal = rt.stderr().is_terminal();
@@ -191,29 +234,26 @@ fn out_of_memory(rt: &HostRuntime) -> u8 {
     3
 }
 
-/// Opens what the words name, and does what they ask for.
-fn run_words<T: Threads + Wait + Sync>(
-    rt: &HostRuntime,
-    threads: &T,
-    name: &'static str,
-    words: &Words,
-) -> Result<u8, AllocError>
-    requires { FitsItsKind words.now }
+/// Opens what the words name, and does what they ask for. Only `live` may wait.
+fn run_words<T: Threads + Wait + Sync>(call: &Call<'_, T>, words: &Words) -> Result<u8, AllocError>
+    requires kind { FitsItsKind words.now }
+    requires asks { IsAskedBy call.now.called call.now.given.now words.now }
 {
-    let output = Output::new(rt, words.output.as_ref())?;
+    let rt = call.rt;
+    let output = Output::new(rt, rt.alloc(), words.output.as_ref(), rt.stdout())?;
     let mut inputs = inputs_of(rt, words)?;
-    Ok(run_over(rt, threads, name, words, inputs.as_mut_slice(), output))
+    if words.sub == Sub::Live {
+        Ok(run_live(call, words, inputs.as_mut_slice(), output))
+    } else {
+        Ok(run_over(call, words, inputs.as_mut_slice(), output))
+    }
 }
 
-/// Does what the words ask for.
-fn follow_words<T: Threads + Wait + Sync>(
-    rt: &HostRuntime,
-    threads: &T,
-    called: Called,
-    words: &[String],
-) -> u8 {
-    match asked(rt, called, words) {
-        Ok(words) => match run_words(rt, threads, called.name(), &words) {
+/// Does what the words behind the program's name ask for.
+fn follow_words<T: Threads + Wait + Sync>(call: &Call<'_, T>) -> u8 {
+    let rt = call.rt;
+    match asked(rt, call.called, call.given) {
+        Ok(words) => match run_words(call, &words) {
             Ok(status) => status,
             Err(_) if words.quiet => 3,
             Err(_) => out_of_memory(rt),
@@ -243,7 +283,13 @@ fn follow_none<T: Threads + Wait + Sync>(
 ) -> Result<u8, AllocError> {
     if !rt.stdin().is_terminal() {
         let words = words_for_none(rt, called.name())?;
-        return Ok(follow_words(rt, threads, called, words.as_slice()));
+        let given = words.as_slice();
+        return Ok(follow_words(&Call {
+            rt,
+            threads,
+            called,
+            given,
+        }));
     }
     let mut help = Vec::new(rt.alloc());
     help.push(String::from_str(rt.alloc(), "--help")?)?;
@@ -253,14 +299,31 @@ fn follow_none<T: Threads + Wait + Sync>(
     Ok(2)
 }
 
+/// Does what the words behind the program's name ask for, if there are any.
+fn follow_given<T: Threads + Wait + Sync>(
+    rt: &HostRuntime,
+    threads: &T,
+    called: Called,
+    given: &[String],
+) -> u8 {
+    if given.is_empty() {
+        return match follow_none(rt, threads, called) {
+            Ok(status) => status,
+            Err(_) => out_of_memory(rt),
+        };
+    }
+    follow_words(&Call {
+        rt,
+        threads,
+        called,
+        given,
+    })
+}
+
 fn main(rt: HostRuntime) -> ExitCode {
     let called = called_by(&rt);
     let status = match words(&rt) {
-        Ok(words) if words.is_empty() => match follow_none(&rt, &rt, called) {
-            Ok(status) => status,
-            Err(_) => out_of_memory(&rt),
-        },
-        Ok(words) => follow_words(&rt, &rt, called, words.as_slice()),
+        Ok(words) => follow_given(&rt, &rt, called, behind_the_name(words.as_slice())),
         Err(error) if error.kind() == io::ErrorKind::OutOfMemory => out_of_memory(&rt),
         Err(_) => {
             let _told = eprintln!(rt; "{}: the words are no text", called.name());

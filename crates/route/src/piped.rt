@@ -1,4 +1,6 @@
 //! The writers of the program.
+ghost use Rattle.std.specs.Prelude.{None, cond};
+
 use crate::progress::Progress;
 use std::cell::Cell;
 use std::io;
@@ -34,6 +36,11 @@ impl<'a, W> Piped<'a, W> {
         }
     }
 
+    /// Whether nothing more is to be said: from the first, or since the reader of the output went away.
+    pub fn is_quiet(&self) -> bool {
+        self.is_quiet.get()
+    }
+
     /// Notes a call of the output that failed because its reader went away.
     fn note(&self, error: &io::Error) {
         if self.is_output && error.kind() == io::ErrorKind::BrokenPipe {
@@ -43,6 +50,9 @@ impl<'a, W> Piped<'a, W> {
 }
 
 impl<W: Write> Write for Piped<'_, W> {
+    // What the writer of the output holds. Of the faults nothing is known, since those of a quiet run are not written.
+    ghost contents = { λ piped. cond piped.is_output (W.contents piped.writer) None };
+
     fn write(&mut self, bytes: &[u8]) -> io::Result<usize> {
         self.is_used = true;
         self.progress.clear();

@@ -1,6 +1,5 @@
 //! How far a plan is, on a terminal.
 use crate::terminal::tell;
-use ir_plan::Watch;
 use std::alloc::AllocError;
 use std::io::IsTerminal;
 use std::sync::atomic::{AtomicBool, AtomicU64, Ordering};
@@ -124,22 +123,23 @@ impl Progress<'_> {
             self.close(all);
         }
     }
-}
 
-impl Watch for Progress<'_> {
-    fn row_made(&self, all: usize) {
+    /// So many more rows are made, of a plan with `all` rows, which are made in no order. It is called by the threads
+    /// that make them.
+    pub fn rows_made(&self, count: usize, all: usize) {
         let Some(begun) = &self.begun else {
             return;
         };
         if all == 0 {
             return;
         }
-        let made = self.rows.fetch_add(1, Ordering::SeqCst) % all as u64 + 1;
-        if made == 1 {
+        let before = self.rows.fetch_add(count as u64, Ordering::SeqCst) % all as u64;
+        if before == 0 {
             self.is_over.store(false, Ordering::SeqCst);
             self.clear();
         }
-        if made == all as u64 {
+        let made = before.saturating_add(count as u64);
+        if made >= all as u64 {
             self.end(all);
         } else if self.is_due(begun) {
             self.tell(made, all);

@@ -183,7 +183,7 @@ fn status<T: Threads + Wait + Sync>(
     if inputs.len() != sources_of(words).len() {
         return 255;
     }
-    let crew = Several { rt };
+    let crew = Several { rt, most: None };
     let team = Team { rt, crew: &crew };
     status_of(follow(&team, alloc, words, &mut inputs, output, faults).ending)
 }

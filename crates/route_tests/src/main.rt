@@ -50,7 +50,7 @@ fn run_over<T: Threads + Wait + Sync>(
     let mut output: Vec<u8> = Vec::new(alloc);
     let mut faults: Vec<u8> = Vec::new(alloc);
     let status = if inputs.len() == sources_of(words).len() {
-        let crew = Several { rt };
+        let crew = Several { rt, most: None };
         let team = Team { rt, crew: &crew };
         status_of(follow(&team, alloc, words, inputs, &mut output, &mut faults).ending)
     } else {

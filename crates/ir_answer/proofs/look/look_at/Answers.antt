@@ -1,7 +1,10 @@
-use Rattle.std.proofs.Common.{ℕ, List}
+use Rattle.std.proofs.Common.{ℕ, List, length, subst}
 use Rattle.std.proofs.lemmas.Result.{err_from_is_err_and}
 use Rattle.ir_cli.specs.Answer.{Refused}
+use Rattle.ir_cli.specs.Openings.{kind_asked}
 use Rattle.ir_cli.specs.Reading.{texts_of}
+use Rattle.ir_model.specs.declared.Kind.{Kind}
+use Rattle.ir_answer.specs.Stops.{Gives}
 use Rattle.ir_answer.specs.Looks.{order_in, AnswersShow, RefusesLabels, RefusesShow, LookAnswers}
 use Rattle.ir_plan.specs.Building.{labelling_of}
 use Rattle.ir_answer.proofs.Answering.{stops_more, gives_more}
@@ -27,10 +30,10 @@ returns-in-Ok g c =
     let texts : List (List ℕ) = texts_of c.args.texts.now in
     let graph = c.in_ok-graph.graph in
     let labels = labelling_of c.in_ok-labels.labels in
-    gives_more (AnswersShow w graph labels c.in-Ok.show) (LookAnswers look w texts)
+    gives_more (AnswersShow (kind_asked w (length graph)) graph labels c.in-Ok.show) (LookAnswers look w texts)
     (with_show look w texts c.look_texts.result.0.now (order_in c.look_texts.result.1) c.look_texts.ensures.texts graph c.in_ok-graph.ensures.sound c.in_ok-graph.ensures.graph
     labels c.in_ok-labels.ensures.labels c.in-Ok.show c.in-Ok.ensures.show)
-    c.show_plan.result c.show_plan.ensures
+    c.show_plan.result (subst (λ (kind : Kind). Gives (AnswersShow kind graph labels c.in-Ok.show) c.show_plan.result) c.kind_over-kind.ensures c.show_plan.ensures)
 
 pub returns-in-Err : goal.returns-in-Err
 returns-in-Err g c =

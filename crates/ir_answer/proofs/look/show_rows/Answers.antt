@@ -12,10 +12,9 @@ use Rattle.ir_answer.proofs.look.show_rows.Goals as goal
 pub returns-in-Ok : goal.returns-in-Ok
 returns-in-Ok g c =
     let graph = c.args.graph in
-    let words = c.args.words.now in
     let labels = labelling_of c.args.labels in
-    gives_more (AnswerShows Rows (names graph) c.in-Ok.plan) (AnswersShow words graph labels Rows)
-    (shown_plan graph words.kind labels Rows c.in-Ok.plan c.in-Ok.ensures.plan) c.rows_reply.result c.rows_reply.ensures
+    gives_more (AnswerShows Rows (names graph) c.in-Ok.plan) (AnswersShow c.args.kind graph labels Rows)
+    (shown_plan graph c.args.kind labels Rows c.in-Ok.plan c.in-Ok.ensures.plan) c.rows_reply.result c.rows_reply.ensures
 
 pub returns-in-Err : goal.returns-in-Err
 returns-in-Err g c = c.in-Err.ensures.stop

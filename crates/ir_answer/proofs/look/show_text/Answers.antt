@@ -14,14 +14,13 @@ use Rattle.ir_answer.proofs.look.show_text.Goals as goal
 pub returns-in-Ok : goal.returns-in-Ok
 returns-in-Ok g c =
     let graph = c.args.graph.now in
-    let words = c.args.words.now in
     let labels = labelling_of c.args.labels in
-    gives_more (AnswerShows c.args.show (names graph) c.in-Ok.plan) (AnswersShow words graph labels c.args.show)
-    (shown_plan graph words.kind labels c.args.show c.in-Ok.plan c.in-Ok.ensures.plan) c.text_reply.result c.text_reply.ensures
+    gives_more (AnswerShows c.args.show (names graph) c.in-Ok.plan) (AnswersShow c.args.kind graph labels c.args.show)
+    (shown_plan graph c.args.kind labels c.args.show c.in-Ok.plan c.in-Ok.ensures.plan) c.text_reply.result c.text_reply.ensures
 
 pub returns-in-Some : goal.returns-in-Some
 returns-in-Some g c =
-    subst (λ (show : Show). Gives (AnswersShow c.args.words.now c.args.graph.now (labelling_of c.args.labels) show) c.show_walk.result) (sym c.in-Some.ensures.shown) c.show_walk.ensures
+    subst (λ (show : Show). Gives (AnswersShow c.args.kind c.args.graph.now (labelling_of c.args.labels) show) c.show_walk.result) (sym c.in-Some.ensures.shown) c.show_walk.ensures
 
 pub show_walk-requires-clause-ends : goal.show_walk-requires-clause-ends
 show_walk-requires-clause-ends g c some = subst (λ (show : Show). AreAmong (length c.args.graph.now) show) c.in-Some.ensures.shown (c.requires.ends some)

@@ -16,6 +16,7 @@ returns c = λ name are.
       sub = are.sub;
       format = are.format;
       kind = are.kind;
+      detour = are.detour;
       root = c.in_ok-root.ensures;
       numbering = c.in_ok-numbering.ensures;
       capacity = are.capacity;

@@ -1,9 +1,9 @@
 use Rattle.std.proofs.Common.{◌≡◌, ◌++◌, ◌∙◌, ℕ, List, [], ◌∷◌, option_map, flat_map, ap, refl, string_bytes}
 use Rattle.ir_model.specs.Topology.{node_count}
 use Rattle.ir_trace.specs.Rows.{spaced}
-use Rattle.ir_show.specs.PlanText.{kind_text}
+use Rattle.ir_model.specs.declared.Kind.{Kind}
 use Rattle.ir_show.specs.Words.{line_text}
-use Rattle.ir_figures.specs.Compared.{order_word, ring_word, count_words, stretch_words}
+use Rattle.ir_figures.specs.Compared.{compared_kind, labels_word, ring_word, count_words, stretch_words}
 use Rattle.ir_figures.specs.Waits.{Waits}
 use Rattle.ir_figures.proofs.Results.{ring_told}
 use Rattle.ir_figures.proofs.Rows.{row_told, figures_stretches}
@@ -22,7 +22,7 @@ returns-clause-row c =
     let old = string_bytes c.args.text.now in
     let counts : List (List ℕ) = count_words s greatest bits.rows in
     let stretches : List (List ℕ) = stretch_words n are.walk are.distance worst in (
-      line_text (kind_text s.kind ∷ order_word c.args.order ∷ counts ++ stretches ++ ring_word ring ∷ []),
+      line_text (compared_kind s.kind ∷ labels_word s.kind c.args.order ∷ counts ++ stretches ++ ring_word ring ∷ []),
       record {
         greatest = greatest;
         greatest_row = c.greatest_row.ensures;
@@ -39,14 +39,14 @@ returns-clause-row c =
         ring_is = ring_told (Waits s) c.in_ok-ring.ring c.in_ok-ring.ensures.acyclic c.in_ok-ring.ensures.ring;
         whole = refl;
       },
-      row_told old (string_bytes c.push_str.new.self) (string_bytes c.push_word.new.text) (string_bytes c.push_counts.new.text) (string_bytes c.push_stretches.new.text)
-          (string_bytes c.push_word-2.new.text) (string_bytes c.push_str-2.new.self) (kind_text s.kind) (order_word c.args.order) counts stretches (ring_word ring)
-          (c.in_ok-push_str.ensures.bytes ∙ ap (λ (t : List ℕ). old ++ t) (c.kind_text.ensures ∙ ap kind_text c.kind.ensures))
-          (c.in_ok-push_word.ensures ∙ ap (λ (t : List ℕ). string_bytes c.push_str.new.self ++ spaced t) c.order_word.ensures)
+      row_told old (string_bytes c.push_kind.new.text) (string_bytes c.push_word.new.text) (string_bytes c.push_counts.new.text) (string_bytes c.push_stretches.new.text)
+          (string_bytes c.push_word-2.new.text) (string_bytes c.push_str.new.self) (compared_kind s.kind) (labels_word s.kind c.args.order) counts stretches (ring_word ring)
+          (c.in_ok-push_kind.ensures ∙ ap (λ (k : Kind). old ++ compared_kind k) c.kind-kind.ensures)
+          (c.in_ok-push_word.ensures ∙ ap (λ (t : List ℕ). string_bytes c.push_kind.new.text ++ spaced t) (c.labels_word.ensures ∙ ap (λ (k : Kind). labels_word k c.args.order) c.kind-kind.ensures))
           c.in_ok-push_counts.ensures
           (c.in_ok-push_stretches.ensures ∙ ap (λ (t : List (List ℕ)). string_bytes c.push_counts.new.text ++ flat_map spaced t) (figures_stretches s figures are))
           (c.in_ok-push_word-2.ensures ∙ ap (λ (t : List ℕ). string_bytes c.push_stretches.new.text ++ spaced t) c.ring_word.ensures)
-          c.in_ok-push_str-2.ensures.bytes,
+          c.in_ok-push_str.ensures.bytes,
     )
 
 pub returns-clause-tables : goal.returns-clause-tables

@@ -17,7 +17,7 @@ returns-then-eq-clause-ends g c =
     let words = c.args.words.now in
     let io : RunIo = io_of g.R.Reader g.W.Writer g.F.Writer c.args.inputs.now c.follow_live.new.inputs c.args.output.now c.follow_live.new.output c.args.faults.now c.follow_live.new.faults in
     let is : words.sub ≡ Live = same_true the_type tt _ _ (sym c.if-eq.ensures) in
-    subst (λ (sub : Sub). RunEndsAs (LiveAnswers g.T.Moments g.T.Starter c.args.team.now.rt.now) sub words c.follow_live.result.ending io) (sym is) c.follow_live.ensures.ends
+    subst (λ (sub : Sub). RunEndsAs (LiveAnswers g.T.Moments g.T.Looks g.T.Starter c.args.team.now.rt.now) sub words c.follow_live.result.ending io) (sym is) c.follow_live.ensures.ends
 
 pub returns-then-eq-clause-found : goal.returns-then-eq-clause-found
 returns-then-eq-clause-found g c =
@@ -29,7 +29,7 @@ returns-then-eq-clause-found g c =
 pub returns-else-eq-clause-ends : goal.returns-else-eq-clause-ends
 returns-else-eq-clause-ends g c =
     let words = c.args.words.now in
-    let live = LiveAnswers g.T.Moments g.T.Starter c.args.team.now.rt.now in
+    let live = LiveAnswers g.T.Moments g.T.Looks g.T.Starter c.args.team.now.rt.now in
     let io : RunIo = io_of g.R.Reader g.W.Writer g.F.Writer c.args.inputs.now c.follow_by.new.inputs c.args.output.now c.follow_by.new.output c.args.faults.now c.follow_by.new.faults in
     let other : words.sub ≢ Live = same_false the_type _ _ (sym c.if-eq.ensures) in
     ends_as_more (AnswersBy NoThreads words.sub words) (AnswersBy live words.sub words) (without_live live words.sub other words)

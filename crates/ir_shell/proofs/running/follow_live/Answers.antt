@@ -19,7 +19,7 @@ returns-in-Ok-clause-ends g c =
     let old = c.args.inputs.now in
     let new = c.read_inputs.new.inputs in
     let io : RunIo = io_of g.R.Reader g.W.Writer g.F.Writer old new c.args.output.now c.write_live.new.output c.args.faults.now c.write_live.new.faults in
-    ends_read (AnswersBy (LiveAnswers g.T.Moments g.T.Starter c.args.rt.now) Live words) (texts_of c.as_slice.result.now) io.read
+    ends_read (AnswersBy (LiveAnswers g.T.Moments g.T.Looks g.T.Starter c.args.rt.now) Live words) (texts_of c.as_slice.result.now) io.read
     (subst (λ (texts : List (Vec ℕ)). AreRead g.R.Reader.remaining g.R.Reader.gave old (texts_of texts) new) (sym c.as_slice.ensures.value) c.in-Ok.ensures.read)
     (io.stops (sim_sources words)) io.written.out io.written.unused io.written.told
     c.write_live.result.ending c.write_live.ensures.ends
@@ -31,7 +31,7 @@ returns-in-Err-clause-ends g c =
     let new = c.read_inputs.new.inputs in
     let output = c.args.output.now in
     let io : RunIo = io_of g.R.Reader g.W.Writer g.F.Writer old new output output c.args.faults.now c.tell_unread.new.faults in
-    given_up (AnswersBy (LiveAnswers g.T.Moments g.T.Starter c.args.rt.now) Live words) c.tell_unread.result.ending io.read (io.stops (sim_sources words)) io.written.out io.written.unused io.written.told
+    given_up (AnswersBy (LiveAnswers g.T.Moments g.T.Looks g.T.Starter c.args.rt.now) Live words) c.tell_unread.result.ending io.read (io.stops (sim_sources words)) io.written.out io.written.unused io.written.told
     c.in-Err.unread.source c.in-Err.unread.why c.tell_unread.ensures.ends
     (subst (λ (sources : List Source). IsUnread g.R.Reader.remaining g.R.Reader.gave sources old new c.in-Err.unread.source c.in-Err.unread.why) c.sources_by.ensures c.in-Err.ensures.unread) refl
 

@@ -22,10 +22,10 @@ returns-clause-ends g c =
     let script = c.two_texts.result.1.now in
     let rt = c.args.rt.now in
     let to : Written = written_of g.W.Writer g.F.Writer c.args.output.now c.write_given.new.output c.args.faults.now c.write_given.new.faults in
-    ends_given (LiveAnswers g.T.Moments g.T.Starter rt words) Live words texts to
+    ends_given (LiveAnswers g.T.Moments g.T.Looks g.T.Starter rt words) Live words texts to
     c.run_commands-plain.result c.write_given.result.ending
-    (gives_more (AnswersTopology words.format (lines topology) (AnswersLiveScript g.T.Moments g.T.Starter rt words (lines script)))
-    (LiveAnswers g.T.Moments g.T.Starter rt words texts) (λ answer holds. (topology, script, c.two_texts.ensures, holds)) c.run_commands-plain.result c.run_commands-plain.ensures)
+    (gives_more (AnswersTopology words.format (lines topology) (AnswersLiveScript g.T.Moments g.T.Looks g.T.Starter rt words (lines script)))
+    (LiveAnswers g.T.Moments g.T.Looks g.T.Starter rt words texts) (λ answer holds. (topology, script, c.two_texts.ensures, holds)) c.run_commands-plain.result c.run_commands-plain.ensures)
     (subst (λ (shape : Option Shape). GivenAs (in_shape shape) c.run_commands-plain.result c.write_given.result.ending to) c.form_of-form.ensures c.write_given.ensures.ends)
 
 pub returns-clause-found : goal.returns-clause-found

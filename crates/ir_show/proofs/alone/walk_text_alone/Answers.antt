@@ -22,6 +22,6 @@ returns-clause-walk c =
     let some : 0 < length c.args.graph.now = omega (arith, c.in_ok-numbering.ensures.some, c.requires.nodes) in
     record {
       plan = made.0;
-      built = plan_by c.args.topology.now c.args.kind c.in_ok-numbering.numbering made.0 made.1 (labelling_of c.args.labels) c.requires.alone c.in_ok-numbering.ensures.order;
+      built = plan_by c.args.topology.now c.args.kind c.in_ok-numbering.numbering made.0 made.1 c.requires.kind (labelling_of c.args.labels) c.requires.alone c.in_ok-numbering.ensures.order;
       walks = walk_told (names c.args.graph.now) made.0 c.args.ends.1 made.1.valid (omega (arith, c.requires.to some, n)) c.args.ends.0 c.in_ok-walk.walk made.2 (string_bytes c.in_ok-text_of.field-0) c.in_ok-text_of.ensures;
     }

@@ -1,0 +1,2 @@
+-- what contracts promise
+pub mod Verdicts
