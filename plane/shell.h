@@ -1,0 +1,223 @@
+/* shell.h: the way of a packet through a node, for XDP and for tc.
+ *
+ * Programs know label L as fd00::L. Under way the second group of the address is the epoch, fd00:E::L. The node of the source
+ * writes it, and that of the destination takes it off, so sums of UDP and TCP stay right. An epoch's table is read once for a
+ * packet, so each packet sees one table at a node. */
+#include <linux/bpf.h>
+#include <linux/if_ether.h>
+#include <linux/in.h>
+#include <linux/ipv6.h>
+#include <linux/pkt_cls.h>
+#include <bpf/bpf_endian.h>
+#include <bpf/bpf_helpers.h>
+
+#include "plane.h"
+#include "place.h"
+
+#ifndef SLOTS
+#define SLOTS EPOCHS
+#endif
+
+#ifndef TABLE_TYPE /* bench/plane has others, and a ruling for each */
+#define TABLE_TYPE BPF_MAP_TYPE_ARRAY
+#define TABLE_ENTRIES 2
+#define TABLE_FLAGS BPF_F_INNER_MAP /* each table has its own number of lines */
+#define TABLE_KEY sizeof(__u32)
+#define TABLE_VALUE sizeof(struct line)
+#endif
+
+struct table {
+    __uint(type, TABLE_TYPE);
+    __uint(max_entries, TABLE_ENTRIES);
+    __uint(map_flags, TABLE_FLAGS);
+    __uint(key_size, TABLE_KEY);
+    __uint(value_size, TABLE_VALUE);
+};
+struct {
+    __uint(type, BPF_MAP_TYPE_ARRAY_OF_MAPS);
+    __uint(max_entries, SLOTS);
+    __type(key, __u32);
+    __array(values, struct table);
+} epochs SEC(".maps");
+struct {
+    __uint(type, BPF_MAP_TYPE_ARRAY);
+    __uint(max_entries, 1);
+    __type(key, __u32);
+    __type(value, struct node);
+} node SEC(".maps");
+struct {
+    __uint(type, BPF_MAP_TYPE_ARRAY);
+    __uint(max_entries, PORTS);
+    __type(key, __u32);
+    __type(value, struct port);
+} ports SEC(".maps");
+struct {
+    __uint(type, BPF_MAP_TYPE_DEVMAP);
+    __uint(max_entries, PORTS);
+    __type(key, __u32);
+    __type(value, __u32);
+} devs SEC(".maps");
+struct {
+    __uint(type, BPF_MAP_TYPE_PERCPU_ARRAY);
+    __uint(max_entries, SLOTS * VERDICTS);
+    __type(key, __u32);
+    __type(value, __u64);
+} counts SEC(".maps");
+
+/* How a packet came: over a link, from the node itself, or as a question by BPF_PROG_TEST_RUN, which counts nothing. */
+enum origin { FROM_LINK, FROM_HOST, ASKED };
+
+static __always_inline void count(enum origin origin, __u32 epoch, __u32 verdict) {
+    if (origin == ASKED)
+        return;
+    __u32 key = (epoch & (SLOTS - 1)) * VERDICTS + verdict;
+    __u64 *it = bpf_map_lookup_elem(&counts, &key);
+    if (it)
+        *it += 1;
+}
+
+#ifdef WATCH
+/* Packets of the lab: UDP to this port, whose first word is their number. */
+#define LAB_PORT 7777
+struct {
+    __uint(type, BPF_MAP_TYPE_RINGBUF);
+    __uint(max_entries, 1 << 20);
+} events SEC(".maps");
+struct {
+    __uint(type, BPF_MAP_TYPE_PERCPU_ARRAY);
+    __uint(max_entries, 1);
+    __type(key, __u32);
+    __type(value, __u64);
+} missed SEC(".maps"); /* events for which there was no room */
+
+static __always_inline void report(enum origin origin, struct ipv6hdr *ip, void *end, __u32 epoch, __u32 port, __u32 verdict) {
+    __u32 zero = 0;
+    __u16 *udp = (void *)(ip + 1);
+    __u32 *body = (void *)udp + 8;
+    struct node *me = bpf_map_lookup_elem(&node, &zero);
+    if (origin == ASKED || !me || ip->nexthdr != IPPROTO_UDP || (void *)(body + 1) > end || udp[1] != bpf_htons(LAB_PORT))
+        return;
+    struct event it = {
+        .number = bpf_ntohl(*body), .epoch = epoch, .node = me->number, .port = port, .hops = ip->hop_limit, .verdict = verdict,
+    };
+    __u64 *lost = bpf_ringbuf_output(&events, &it, sizeof it, 0) ? bpf_map_lookup_elem(&missed, &zero) : 0;
+    if (lost)
+        *lost += 1;
+}
+#else
+#define report(origin, ip, end, epoch, port, verdict) ((void)0)
+#endif
+
+/* What an epoch's table says of a label: FORWARDED with the port, or why not. */
+#ifdef OTHER_RULING
+static __always_inline enum verdict ruling(__u32 epoch, __u32 label, __u32 *port);
+#else
+static __always_inline enum verdict ruling(__u32 epoch, __u32 label, __u32 *port) {
+    __u32 at = epoch & (SLOTS - 1);
+    void *table = bpf_map_lookup_elem(&epochs, &at);
+    if (!table)
+        return NO_EPOCH;
+    at = 0;
+    struct line *line = bpf_map_lookup_elem(table, &at);
+    if (!line)
+        return NO_EPOCH;
+    __u32 verdict = bz_head(line->word, WORDS, epoch, label);
+    if (verdict)
+        return verdict;
+    __u32 depth = line->word[HEAD_DEPTH], key = label << 16 | 0xFFFF;
+    if (depth == BYTES) {
+        at = 1 + label / (4 * WORDS);
+        line = bpf_map_lookup_elem(table, &at);
+        if (!line)
+            return NO_EPOCH;
+        *port = ((__u8 *)line->word)[label & (4 * WORDS - 1)];
+        return FORWARDED;
+    }
+    __u64 place = bz_place_16(line->word + HEAD_WORDS, HEAD_WORDS, key);
+    if (!depth) {
+        *port = line->word[HEAD_WORDS + place] & 0xFFFF;
+        return FORWARDED;
+    }
+    __u32 below = line->word[HEAD_BASE] + place * WORDS;
+    at = 1 + place;
+    line = bpf_map_lookup_elem(table, &at);
+    if (!line)
+        return NO_EPOCH;
+    place = bz_place_32(line->word, WORDS, key);
+    if (depth > 1) {
+        at = below + place;
+        line = bpf_map_lookup_elem(table, &at);
+        if (!line)
+            return NO_EPOCH;
+        place = bz_place_32(line->word, WORDS, key);
+    }
+    *port = line->word[place] & 0xFFFF;
+    return FORWARDED;
+}
+#endif
+
+/* What is done with a packet. */
+enum action { PASS, DROP, SEND };
+
+/* One packet, from its first byte to its end; where it is sent on, `to` gets the port. */
+static __always_inline enum action through(void *data, void *end, enum origin origin, __u32 *to) {
+    struct ethhdr *ethernet = data;
+    struct ipv6hdr *ip = (void *)(ethernet + 1);
+    if ((void *)(ip + 1) > end || ethernet->h_proto != bpf_htons(ETH_P_IPV6) || ip->daddr.s6_addr16[0] != bpf_htons(GROUP))
+        return PASS;
+    __u32 epoch = bpf_ntohs(ip->daddr.s6_addr16[1]), label = bpf_ntohs(ip->daddr.s6_addr16[7]), zero = 0;
+    if (origin == FROM_HOST) {
+        struct node *me = bpf_map_lookup_elem(&node, &zero);
+        if (!me)
+            return DROP;
+        epoch = me->stamp;
+        ip->daddr.s6_addr16[1] = bpf_htons(epoch);
+        count(origin, epoch, STAMPED);
+    }
+    __u32 found = 0;
+    enum verdict verdict = ruling(epoch, label, &found);
+    struct port *port = verdict == FORWARDED ? bpf_map_lookup_elem(&ports, &found) : 0;
+    if (verdict == FORWARDED && ip->hop_limit <= (origin != FROM_HOST))
+        verdict = HOPS;
+    else if (verdict == FORWARDED && (!port || !port->ifindex))
+        verdict = NO_PORT;
+    count(origin, epoch, verdict);
+    if (verdict != FORWARDED) {
+        report(origin, ip, end, epoch, 0, verdict);
+        if (verdict != DELIVERED && verdict != HOPS)
+            return DROP;
+        ip->daddr.s6_addr16[1] = 0; /* the host knows no epochs; at the last hop the kernel reports to the source */
+        return PASS;
+    }
+    if (!port) /* which the verifier does not know */
+        return DROP;
+    ip->hop_limit--;
+    __builtin_memcpy(ethernet->h_dest, port->there, 6);
+    __builtin_memcpy(ethernet->h_source, port->here, 6);
+    report(origin, ip, end, epoch, found, FORWARDED);
+    *to = found;
+    return SEND;
+}
+
+static __always_inline int by_xdp(struct xdp_md *ctx, enum origin origin) {
+    __u32 to = 0;
+    switch (through((void *)(long)ctx->data, (void *)(long)ctx->data_end, origin, &to)) {
+    case PASS:
+        return XDP_PASS;
+    case SEND:
+        return bpf_redirect_map(&devs, to, XDP_DROP);
+    default:
+        return XDP_DROP;
+    }
+}
+
+static __always_inline int by_tc(struct __sk_buff *skb, enum origin origin) {
+    __u32 to = 0;
+    if (bpf_skb_pull_data(skb, sizeof(struct ethhdr) + sizeof(struct ipv6hdr)))
+        return TC_ACT_OK;
+    enum action action = through((void *)(long)skb->data, (void *)(long)skb->data_end, origin, &to);
+    if (action == PASS)
+        return TC_ACT_OK;
+    struct port *port = action == SEND ? bpf_map_lookup_elem(&ports, &to) : 0;
+    return port ? bpf_redirect(port->ifindex, 0) : TC_ACT_SHOT;
+}
